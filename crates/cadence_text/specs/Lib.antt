@@ -1,0 +1,4 @@
+pub mod Errors
+pub mod Number
+pub mod Metric
+pub mod Line

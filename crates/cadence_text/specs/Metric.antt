@@ -1,0 +1,18 @@
+-- A metric.
+use Rattle.std.specs.Prelude.{ℕ, Option, List}
+use Rattle.cadence_text.specs.declared.line.MetricType.{MetricType}
+use Rattle.cadence_text.specs.Number.{Number}
+
+-- a tag: its key, where it has one, and its text
+pub record Tag : Type 0 where
+  pub key : Option (List ℕ)
+  pub text : List ℕ
+
+pub record Metric : Type 0 where
+  pub name : List ℕ
+  pub numbers : List Number
+  pub kind : MetricType
+  pub rate : Option Number
+  pub tags : List Tag
+  pub container : Option (List ℕ)
+  pub time : Option ℕ

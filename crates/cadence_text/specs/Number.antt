@@ -1,0 +1,41 @@
+-- A number: a whole number over a power of ten, in lowest form, and its text.
+use Rattle.std.specs.Prelude.{◌≡◌, ℕ, ◌-◌, ◌/◌, ◌%◌, ◌^◌, ◌≤◌, ◌==◌, Bool, true, not, ◌||◌, if◌then◌else◌, List, [], ◌++◌, length, replicate, ℤ, pos, ◌*ℤ◌, unsigned_abs, codes}
+use Rattle.std.specs.Int.{is_negative}
+use Rattle.std.specs.Fmt.{decimal}
+
+-- `mantissa` over 10 to the power `places`
+pub record Number : Type 0 where
+  pub mantissa : ℤ
+  pub places : ℕ
+
+abbrev pub number : ℤ → ℕ → Number
+number m p = record { mantissa = m; places = p }
+
+-- a whole number, signed and unsigned
+abbrev pub whole : ℤ → Number
+whole n = number n 0
+
+abbrev pub natural : ℕ → Number
+natural n = whole (pos n)
+
+-- no digit after the dot, or the last of them is not 0
+abbrev pub is_lowest : ℤ → ℕ → Bool
+is_lowest m p = p == 0 || not (unsigned_abs m % 10 == 0)
+
+-- n is m over 10 to the power p, with as few places as can be
+pub record IsLowestForm (m : ℤ) (p : ℕ) (n : Number) : Type 0 where
+  pub fewer : n.places ≤ p
+  pub same : m ≡ n.mantissa *ℤ pos (10 ^ (p - n.places))
+  pub lowest : is_lowest n.mantissa n.places ≡ true
+
+-- the digits, with zeros before them up to p digits
+abbrev pub filled_to : ℕ → List ℕ → List ℕ
+filled_to p digits = replicate (p - length digits) 48 ++ digits
+
+-- a dot and exactly p digits, or nothing where p is 0
+abbrev pub places_text : ℕ → ℕ → List ℕ
+places_text n p = if p == 0 then [] else codes "." ++ filled_to p (decimal (n % 10 ^ p))
+
+-- a minus where it is below zero, the digits of the whole part, and the places
+abbrev pub number_text : Number → List ℕ
+number_text n = (if is_negative n.mantissa then codes "-" else []) ++ (decimal (unsigned_abs n.mantissa / 10 ^ n.places) ++ places_text (unsigned_abs n.mantissa) n.places)

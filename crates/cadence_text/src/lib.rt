@@ -1,0 +1,5 @@
+//! Numbers, values, lines, metric types and errors of a Statsd client.
+#![tactic(auto)]
+
+pub mod line;
+pub mod types;

@@ -1,0 +1,34 @@
+//! The kinds of metrics and the line of a record.
+
+use std::fmt;
+
+/// The kind of a metric. It prints its type text.
+#[derive(Clone, Copy, Debug, PartialEq, Eq, Hash)]
+pub enum MetricType {
+    Counter,
+    Timer,
+    Gauge,
+    Meter,
+    Histogram,
+    Set,
+    Distribution,
+}
+
+impl fmt::Display for MetricType {
+    ghost use Rattle.std.specs.Prelude.{Some};
+    ghost use Rattle.cadence_text.specs.Line.{kind_text};
+
+    ghost output = { λ kind. Some (kind_text kind) };
+
+    fn fmt<W: fmt::Write>(&self, f: &mut fmt::Formatter<W>) -> fmt::Result {
+        match self {
+            MetricType::Counter => f.write_str("c"),
+            MetricType::Timer => f.write_str("ms"),
+            MetricType::Gauge => f.write_str("g"),
+            MetricType::Meter => f.write_str("m"),
+            MetricType::Histogram => f.write_str("h"),
+            MetricType::Set => f.write_str("s"),
+            MetricType::Distribution => f.write_str("d"),
+        }
+    }
+}
