@@ -4,3 +4,4 @@
 pub mod decimal;
 pub mod line;
 pub mod types;
+pub mod value;
