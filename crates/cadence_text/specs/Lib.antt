@@ -2,4 +2,5 @@ pub mod Errors
 pub mod Number
 pub mod Metric
 pub mod Line
+pub mod Values
 pub mod OneReading
