@@ -310,12 +310,12 @@ line_once a b ha hb e =
     λ i. record { name = name i; numbers = numbers i; kind = kind i; rate = rate i; tags = tag i; container = container i; time = time i }
 
 -- a line isn't empty
-pub length-line_of : (m : Metric) → 0 < length (line_of m)
-length-line_of m =
+pub line_is_not_empty : (m : Metric) → 0 < length (line_of m)
+line_is_not_empty m =
     omega (arith, ap (λ t. length t) (line_of-joined m), ap (λ t. length t) (joined-barred (front_of m) (kind_text m.kind ∷ last_of m)), length-append (front_of m) (barred (kind_text m.kind ∷ last_of m)), length-append m.name (58 ∷ join_with_byte 58 (map number_text m.numbers)))
 
 line_some : (m : Metric) → line_of m ≡ [] → ⊥
-line_some m e = absurd (omega (arith, ap (λ t. length t) e, length-line_of m))
+line_some m e = absurd (omega (arith, ap (λ t. length t) e, line_is_not_empty m))
 
 -- a line has no newline
 line_lacks : (m : Metric) → IsReadable m → Lacks 10 (line_of m)

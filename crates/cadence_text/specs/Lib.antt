@@ -4,3 +4,5 @@ pub mod Metric
 pub mod Line
 pub mod Values
 pub mod OneReading
+pub mod Record
+pub mod Sink
