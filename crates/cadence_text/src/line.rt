@@ -5,7 +5,6 @@ mod record;
 mod sink;
 
 pub use record::{Record, Tag};
-
 use std::fmt;
 
 /// The kind of a metric. It prints its type text.

@@ -56,7 +56,10 @@ pub(crate) fn push_tags<S: LineSink>(line: &mut S, tags: &[Tag<'_>]) -> Result<(
     Ok(())
 }
 
-pub(crate) fn push_container<S: LineSink>(line: &mut S, container: Option<&str>) -> Result<(), S::Refusal>
+pub(crate) fn push_container<S: LineSink>(
+    line: &mut S,
+    container: Option<&str>,
+) -> Result<(), S::Refusal>
     ensures { OnOk result (Takes S.ends_as line.old (container_field (option_copied container.entry)) line.new) }
 {
     if let Some(container) = container {
@@ -144,7 +147,12 @@ fn push_magnitude<S: LineSink>(line: &mut S, magnitude: u128, places: u8) -> Res
 }
 
 // A whole number, and where there are places a dot and so many digits.
-fn push_parts<S: LineSink, I: Integer>(line: &mut S, whole: I, fraction: I, places: u8) -> Result<(), S::Refusal>
+fn push_parts<S: LineSink, I: Integer>(
+    line: &mut S,
+    whole: I,
+    fraction: I,
+    places: u8,
+) -> Result<(), S::Refusal>
     ensures { OnOk result (Takes S.ends_as line.old (I.text whole ++ (if places == 0 then [] else codes "." ++ filled_to places (I.text fraction))) line.new) }
 {
     let mut buffer = Buffer::new();
@@ -182,7 +190,10 @@ fn push_list<S: LineSink, T: Printed>(line: &mut S, numbers: &[T]) -> Result<(),
 }
 
 #[inline]
-pub(crate) fn push_value<S: LineSink, A: Allocator>(line: &mut S, value: &MetricValue<A>) -> Result<(), S::Refusal>
+pub(crate) fn push_value<S: LineSink, A: Allocator>(
+    line: &mut S,
+    value: &MetricValue<A>,
+) -> Result<(), S::Refusal>
     ensures { OnOk result (Takes S.ends_as line.old (numbers_text (numbers_of value.now)) line.new) }
 {
     match value {
