@@ -1,5 +1,5 @@
 //! Decimal numbers, exact.
-ghost use Rattle.std.specs.Prelude.{◌≡◌, ◌^◌, ◌≤◌, ◌↔◌, ◌<◌, ◌++◌, Some, true, IsOk, IfOk, IfErr, MatchResult, codes};
+ghost use Rattle.std.specs.Prelude.{◌≡◌, ◌^◌, ◌≤◌, ◌↔◌, ◌<◌, ◌++◌, Some, true, IsOk, IfOk, IfErr, IsTrue, codes};
 ghost use Rattle.std.specs.Fmt.{DisplaysOnOk, decimal};
 ghost use Rattle.cadence_text.specs.Errors.{IsInvalid};
 ghost use Rattle.cadence_text.specs.Number.{IsLowestForm, Number, filled_to, is_lowest, number, number_text};
@@ -67,6 +67,13 @@ impl Decimal {
     }
 }
 
+// What `==` says of two decimals, as a law: that their lowest forms are equal.
+fn is_same(one: &Decimal, other: &Decimal) -> bool
+    ensures { IsTrue result ↔ (one.now ≡ other.now) }
+{
+    one == other
+}
+
 pub(crate) fn power_of_ten(places: u8) -> u128
     requires { places ≤ 30 }
     ensures value { result ≡ 10 ^ places }
@@ -103,3 +110,6 @@ impl fmt::Display for Decimal {
         Ok(())
     }
 }
+
+#[cfg(test)]
+mod tests;

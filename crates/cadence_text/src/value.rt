@@ -3,7 +3,14 @@ ghost use Rattle.std.specs.Prelude.{◌≡◌, ℕ, List, Some, codes};
 ghost use Rattle.std.specs.Fmt.{DisplaysOnOk};
 ghost use Rattle.cadence_text.specs.Line.{separated};
 
+mod convert;
+mod durations;
+
 use crate::decimal::Decimal;
+pub use convert::{
+    ToCounterValue, ToDistributionValue, ToGaugeValue, ToHistogramValue, ToMeterValue, ToSetValue,
+    ToTimerValue,
+};
 use std::alloc::{Allocator, Global};
 use std::fmt;
 
