@@ -45,6 +45,7 @@ impl<'a, A: Allocator> Record<'a, A> {
     ghost use Rattle.cadence_text.specs.Line.{line_of};
     ghost use Rattle.cadence_text.specs.Metric.{Metric, plain_metric, with_tag};
     ghost use Rattle.cadence_text.specs.Record.{tag_of};
+    ghost use Rattle.cadence_text.specs.RecordMetric.{IsRecordMetric};
     ghost use Rattle.cadence_text.specs.Sink.{Takes};
     ghost use Rattle.cadence_text.specs.Values.{numbers_of};
 
@@ -111,7 +112,8 @@ impl<'a, A: Allocator> Record<'a, A> {
     #[inline]
     #[tactic(auto, using(std::proofs::lemmas::Grind::common_steps), unfolding(crate::specs::Line::line_of))]
     fn push_line<S: LineSink>(&self, line: &mut S) -> Result<(), S::Refusal>
-        ensures { OnOk result (Takes S.ends_as line.old (line_of self.now) line.new) }
+        ensures taken { OnOk result (Takes S.ends_as line.old (line_of self.now) line.new) }
+        ensures sized { OnOk result (IsRecordMetric self.now) }
     {
         line.take_piece(self.prefix)?;
         line.take_piece(self.key)?;
@@ -131,6 +133,7 @@ impl<'a, A: Allocator> Record<'a, A> {
     pub fn format<B: Allocator>(&self, alloc: B) -> MetricResult<String<B>>
         ensures line { IfOk result (λ line. string_bytes line ≡ line_of self.now) }
         ensures refused { IfErr result (λ e. e ≡ out_of_memory) }
+        ensures sized { OnOk result (IsRecordMetric self.now) }
         ensures not_empty { 0 < length (line_of self.now) }
     {
         let mut line = String::with_capacity(alloc, self.size_hint())?;
