@@ -2,7 +2,9 @@
 
 mod pieces;
 mod record;
+mod same;
 mod sink;
+mod window;
 
 pub use record::{Record, Tag};
 use std::fmt;

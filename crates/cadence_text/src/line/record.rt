@@ -111,7 +111,7 @@ impl<'a, A: Allocator> Record<'a, A> {
 
     #[inline]
     #[tactic(auto, using(std::proofs::lemmas::Grind::common_steps), unfolding(crate::specs::Line::line_of))]
-    fn push_line<S: LineSink>(&self, line: &mut S) -> Result<(), S::Refusal>
+    pub(crate) fn push_line<S: LineSink>(&self, line: &mut S) -> Result<(), S::Refusal>
         ensures taken { OnOk result (Takes S.ends_as line.old (line_of self.now) line.new) }
         ensures sized { OnOk result (IsRecordMetric self.now) }
     {

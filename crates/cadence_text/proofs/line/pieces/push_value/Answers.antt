@@ -1,8 +1,6 @@
-use Rattle.std.proofs.Common.{◌≡◌, map, sym, ap, ◌∙◌, subst}
+use Rattle.std.proofs.Common.{◌≡◌, map, sym, ap, ◌∙◌}
 use Rattle.std.proofs.lemmas.List.{map-id}
-use Rattle.cadence_text.specs.Line.{numbers_text}
 use Rattle.cadence_text.specs.Number.{Number}
-use Rattle.cadence_text.specs.RecordMetric.{AreRecordNumbers}
 use Rattle.cadence_text.specs.Values.{numbers_of}
 use Rattle.cadence_text.proofs.line.pieces.push_value.Goals as goal
 
