@@ -63,3 +63,6 @@ impl<A: Allocator> fmt::Display for MetricValue<A> {
         }
     }
 }
+
+#[cfg(test)]
+mod tests;
