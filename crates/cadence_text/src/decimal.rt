@@ -97,15 +97,16 @@ impl fmt::Display for Decimal {
     ghost output = { λ n. Some (number_text n) };
 
     fn fmt<W: fmt::Write>(&self, f: &mut fmt::Formatter<W>) -> fmt::Result {
-        let magnitude = self.mantissa.unsigned_abs();
-        let scale = power_of_ten(self.places);
-        if self.mantissa < 0 {
+        let Decimal { mantissa, places } = *self;
+        let magnitude = mantissa.unsigned_abs();
+        let scale = power_of_ten(places);
+        if mantissa < 0 {
             f.write_str("-")?;
         }
         let whole = magnitude / scale;
         write!(f, "{whole}")?;
-        if self.places > 0 {
-            write_places(f, magnitude % scale, self.places)?;
+        if places > 0 {
+            write_places(f, magnitude % scale, places)?;
         }
         Ok(())
     }

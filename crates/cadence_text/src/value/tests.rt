@@ -194,7 +194,7 @@ fn a_copy_prints_the_same(rt: HostRuntime) -> Result<(), Fail> {
     for (granted, text) in [(1, None), (2, Some("1:2"))] {
         let heap = Refusing::after(rt.alloc(), rt.alloc(), granted)?;
         let value = MetricValue::PackedSigned(vec![in heap; 1i64, 2]?);
-        match value.clone() {
+        match copied(&value) {
             Ok(copy) => {
                 let printed = format!(in rt.alloc(); "{copy}")?;
                 assert_eq!(rt; Some(printed.as_str()), text);
