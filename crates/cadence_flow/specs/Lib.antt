@@ -1,2 +1,3 @@
 pub mod QueueState
 pub mod Queue
+pub mod QueueModel

@@ -3,6 +3,7 @@ ghost use Rattle.std.specs.Prelude.{◌≡◌, ◌+◌, ◌-◌, ◌%◌, ◌^�
 ghost use Rattle.cadence_text.specs.Errors.{out_of_memory};
 ghost use Rattle.cadence_flow.specs.QueueState.{IsWithin, IsCounted};
 ghost use Rattle.cadence_flow.specs.Queue.{IsRefusal, IsTaken, accepting, stopping, adding_handle, dropping_handle, new_queue, is_full, is_idle};
+ghost use Rattle.cadence_flow.specs.QueueModel.{IsQueueOf, IsAccepted, IsNext};
 
 use cadence_text::types::{MetricResult, SinkError};
 use std::alloc::{Allocator, Global};
@@ -48,6 +49,7 @@ impl<T, A: Allocator> QueueCore<T, A> {
     /// `OutOfMemory`.
     pub fn new(alloc: A, capacity: Option<usize>) -> MetricResult<Self>
         ensures made { IfOk result (λ q. q ≡ new_queue capacity) }
+        ensures past { IfOk result (IsQueueOf [] 0) }
         ensures refused { IfErr result (λ e. e ≡ out_of_memory) }
     {
         Ok(QueueCore {
@@ -75,6 +77,7 @@ impl<T, A: Allocator> QueueCore<T, A> {
     pub fn submit(&mut self, text: T) -> Result<(), (SinkError, T)>
         ensures accepted { OnOk result ((self.old.stopped ≡ false) × (is_full self.old ≡ false) × (self.new ≡ accepting self.old text)) }
         ensures refused { IfErr result (λ e. IsRefusal self.old e.0 × (e.1 ≡ text) × (self.new ≡ self.old)) }
+        ensures past { OnOk result (IsAccepted self.old text self.new) }
     {
         if self.stopped {
             return Err((SinkError::ChannelDisconnected, text));
@@ -93,7 +96,8 @@ impl<T, A: Allocator> QueueCore<T, A> {
 
     /// Takes the oldest text, without memory.
     pub fn take(&mut self) -> Taken<T>
-        ensures { IsTaken self.old result self.new }
+        ensures taken { IsTaken self.old result self.new }
+        ensures past { IsNext self.old result self.new }
     {
         match self.texts.pop_front() {
             Some(text) => {
