@@ -1,12 +1,12 @@
 //! A queue of texts with a stop mark, a capacity and a count of handles, which one thread works with.
-ghost use Rattle.std.specs.Prelude.{◌≡◌, ◌+◌, ◌-◌, ◌%◌, ◌^◌, ◌<◌, ◌≤◌, ◌==◌, [], ◌∷◌, ◌++◌, length, slice_get, option_copied, IfOk, IfErr, OnOk, true, false};
+ghost use Rattle.std.specs.Prelude.{◌≡◌, ◌+◌, ◌-◌, ◌%◌, ◌^◌, ◌<◌, ◌≤◌, ◌==◌, [], ◌∷◌, ◌++◌, length, slice_get, option_copied, IfOk, IfErr, OnOk, IsTrue, true, false};
 ghost use Rattle.cadence_text.specs.Errors.{out_of_memory};
 ghost use Rattle.cadence_flow.specs.QueueState.{IsWithin, IsCounted};
-ghost use Rattle.cadence_flow.specs.Queue.{IsRefusal, IsTaken, accepting, stopping, adding_handle, dropping_handle, new_queue, is_full, is_idle};
+ghost use Rattle.cadence_flow.specs.Queue.{IsRefusal, is_open, IsTaken, accepting, stopping, adding_handle, dropping_handle, new_queue, is_full, is_idle};
 ghost use Rattle.cadence_flow.specs.QueueModel.{IsQueueOf, IsAccepted, IsNext};
 
 use cadence_text::types::{MetricResult, SinkError};
-use std::alloc::{Allocator, Global};
+use std::alloc::{AllocError, Allocator, Global};
 use std::collections::VecDeque;
 use std::marker::Model;
 
@@ -72,6 +72,35 @@ impl<T, A: Allocator> QueueCore<T, A> {
         }
     }
 
+    // Why a text would be refused whatever the memory.
+    fn admit(&self) -> Result<(), SinkError>
+        ensures open { OnOk result (IsTrue (is_open self.now)) }
+        ensures closed { IfErr result (λ e. IsRefusal self.now e × (is_open self.now ≡ false)) }
+    {
+        if self.stopped {
+            return Err(SinkError::ChannelDisconnected);
+        }
+        if self.is_full() {
+            return Err(SinkError::ChannelFull);
+        }
+        Ok(())
+    }
+
+    // Puts a text last in an open queue, or gives it back where memory ran out.
+    fn push(&mut self, text: T) -> Result<(), T>
+        requires { IsTrue (is_open self.old) }
+        ensures pushed { OnOk result (self.new ≡ accepting self.old text) }
+        ensures refused { IfErr result (λ back. (back ≡ text) × (self.new ≡ self.old)) }
+    {
+        match self.texts.push_back(text) {
+            Ok(()) => {
+                self.submitted = self.submitted.wrapping_add(1);
+                Ok(())
+            }
+            Err(failed) => Err(failed.value),
+        }
+    }
+
     /// Puts a text last. A stopped queue answers `ChannelDisconnected`, else a full one `ChannelFull`, else one for
     /// which memory ran out `OutOfMemory`; the text comes back and nothing has changed then.
     pub fn submit(&mut self, text: T) -> Result<(), (SinkError, T)>
@@ -79,18 +108,12 @@ impl<T, A: Allocator> QueueCore<T, A> {
         ensures refused { IfErr result (λ e. IsRefusal self.old e.0 × (e.1 ≡ text) × (self.new ≡ self.old)) }
         ensures past { OnOk result (IsAccepted self.old text self.new) }
     {
-        if self.stopped {
-            return Err((SinkError::ChannelDisconnected, text));
+        if let Err(error) = self.admit() {
+            return Err((error, text));
         }
-        if self.is_full() {
-            return Err((SinkError::ChannelFull, text));
-        }
-        match self.texts.push_back(text) {
-            Ok(()) => {
-                self.submitted = self.submitted.wrapping_add(1);
-                Ok(())
-            }
-            Err(failed) => Err((SinkError::OutOfMemory, failed.value)),
+        match self.push(text) {
+            Ok(()) => Ok(()),
+            Err(text) => Err((SinkError::OutOfMemory, text)),
         }
     }
 
@@ -172,5 +195,28 @@ impl<T, A: Allocator> QueueCore<T, A> {
         ensures { result ≡ self.now.drained }
     {
         self.drained
+    }
+}
+
+impl<T: Drop, A: Allocator> QueueCore<T, A> {
+    ghost use Rattle.std.specs.Prelude.{Ok};
+
+    /// Puts last the text that `make` makes. It is called only where the queue is neither stopped nor full, so these
+    /// two refusals take no memory. The errors are those of `submit`, `OutOfMemory` also where `make` was refused;
+    /// nothing has changed then.
+    pub fn submit_with<F: FnOnce() -> Result<T, AllocError>>(
+        &mut self,
+        make: F,
+    ) -> Result<(), SinkError>
+        requires { F.IsAlwaysCallable make }
+        ensures accepted { OnOk result ((self.old.stopped ≡ false) × (is_full self.old ≡ false) × ((text : T) × F.post make (Ok text) × (self.new ≡ accepting self.old text))) }
+        ensures refused { IfErr result (λ e. IsRefusal self.old e × (self.new ≡ self.old)) }
+    {
+        self.admit()?;
+        let text = make()?;
+        match self.push(text) {
+            Ok(()) => Ok(()),
+            Err(_) => Err(SinkError::OutOfMemory),
+        }
     }
 }
