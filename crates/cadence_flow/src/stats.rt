@@ -1,5 +1,9 @@
 //! Counts of what was sent and dropped.
 
+mod socket;
+
+pub use socket::SocketStats;
+
 /// How many bytes and packets were sent and dropped, each modulo 2 to the 64. As in cadence; the two `add_` calls
 /// are this project's own. A packet that is refused and sent later counts in both.
 #[derive(Clone, Copy, Debug, Default, PartialEq, Eq)]
