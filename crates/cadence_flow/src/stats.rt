@@ -1,6 +1,8 @@
 //! Counts of what was sent and dropped.
 
 mod socket;
+#[cfg(test)]
+mod tests;
 
 pub use socket::SocketStats;
 
