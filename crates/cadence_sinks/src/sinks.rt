@@ -5,5 +5,3 @@ mod spy;
 
 pub use metric_sink::{MetricSink, NopMetricSink};
 pub use spy::{BufferedSpyMetricSink, SpyMetricSink, SpyReceiver};
-#[cfg(test)]
-mod tests;

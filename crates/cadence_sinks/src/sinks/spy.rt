@@ -1,7 +1,8 @@
-//! Sinks whose lines a test reads back.
+//! Sinks whose lines a test reads back, as in cadence.
 
 mod buffered;
 mod receiver;
+mod sender;
 mod unbuffered;
 
 pub use buffered::BufferedSpyMetricSink;
