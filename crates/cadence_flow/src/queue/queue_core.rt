@@ -1,5 +1,5 @@
 //! A queue of texts with a stop mark, a capacity and a count of handles, which one thread works with.
-ghost use Rattle.std.specs.Prelude.{◌≡◌, ◌+◌, ◌-◌, ◌%◌, ◌^◌, ◌<◌, ◌≤◌, ◌==◌, [], ◌∷◌, ◌++◌, length, slice_get, option_copied, IfOk, IfErr, OnOk, IsTrue, true, false};
+ghost use Rattle.std.specs.Prelude.{◌≡◌, ◌+◌, ◌-◌, ◌%◌, ◌^◌, ◌<◌, ◌≤◌, ◌==◌, [], ◌∷◌, ◌++◌, length, slice_get, option_copied, IfOk, IfErr, OnOk, IsTrue, Ok, true, false};
 ghost use Rattle.cadence_text.specs.Errors.{out_of_memory};
 ghost use Rattle.cadence_flow.specs.QueueState.{IsWithin, IsCounted};
 ghost use Rattle.cadence_flow.specs.Queue.{IsRefusal, is_open, IsTaken, accepting, stopping, adding_handle, dropping_handle, new_queue, is_full, is_idle};
@@ -44,7 +44,7 @@ impl<T, A: Allocator> Model for QueueCore<T, A> {
     ghost invariant = { λ q. IsWithin q.capacity q.texts.items × IsCounted q.texts.items q.submitted q.drained };
 }
 
-impl<T, A: Allocator> QueueCore<T, A> {
+impl<T: Drop, A: Allocator> QueueCore<T, A> {
     /// An empty queue with one handle, which holds at most `capacity` texts; `None` is no bound. The only error is
     /// `OutOfMemory`.
     pub fn new(alloc: A, capacity: Option<usize>) -> MetricResult<Self>
@@ -117,6 +117,25 @@ impl<T, A: Allocator> QueueCore<T, A> {
         }
     }
 
+    /// Puts last the text that `make` makes. It is called only where the queue is neither stopped nor full, so these
+    /// two refusals take no memory. The errors are those of `submit`, `OutOfMemory` also where `make` was refused;
+    /// nothing has changed then.
+    pub fn submit_with<F: FnOnce() -> Result<T, AllocError>>(
+        &mut self,
+        make: F,
+    ) -> Result<(), SinkError>
+        requires { F.IsAlwaysCallable make }
+        ensures accepted { OnOk result ((self.old.stopped ≡ false) × (is_full self.old ≡ false) × ((text : T) × F.post make (Ok text) × (self.new ≡ accepting self.old text))) }
+        ensures refused { IfErr result (λ e. IsRefusal self.old e × (self.new ≡ self.old)) }
+    {
+        self.admit()?;
+        let text = make()?;
+        match self.push(text) {
+            Ok(()) => Ok(()),
+            Err(_) => Err(SinkError::OutOfMemory),
+        }
+    }
+
     /// Takes the oldest text, without memory.
     pub fn take(&mut self) -> Taken<T>
         ensures taken { IsTaken self.old result self.new }
@@ -155,7 +174,7 @@ impl<T, A: Allocator> QueueCore<T, A> {
         }
         self.handles -= 1;
         if self.handles == 0 {
-            self.stopped = true;
+            self.stop();
         }
     }
 
@@ -195,28 +214,5 @@ impl<T, A: Allocator> QueueCore<T, A> {
         ensures { result ≡ self.now.drained }
     {
         self.drained
-    }
-}
-
-impl<T: Drop, A: Allocator> QueueCore<T, A> {
-    ghost use Rattle.std.specs.Prelude.{Ok};
-
-    /// Puts last the text that `make` makes. It is called only where the queue is neither stopped nor full, so these
-    /// two refusals take no memory. The errors are those of `submit`, `OutOfMemory` also where `make` was refused;
-    /// nothing has changed then.
-    pub fn submit_with<F: FnOnce() -> Result<T, AllocError>>(
-        &mut self,
-        make: F,
-    ) -> Result<(), SinkError>
-        requires { F.IsAlwaysCallable make }
-        ensures accepted { OnOk result ((self.old.stopped ≡ false) × (is_full self.old ≡ false) × ((text : T) × F.post make (Ok text) × (self.new ≡ accepting self.old text))) }
-        ensures refused { IfErr result (λ e. IsRefusal self.old e × (self.new ≡ self.old)) }
-    {
-        self.admit()?;
-        let text = make()?;
-        match self.push(text) {
-            Ok(()) => Ok(()),
-            Err(_) => Err(SinkError::OutOfMemory),
-        }
     }
 }

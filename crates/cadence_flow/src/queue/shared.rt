@@ -32,7 +32,7 @@ pub struct SharedQueue<T, A: Allocator = Global> {
     changed: Condvar,
 }
 
-impl<T, A: Allocator> SharedQueue<T, A> {
+impl<T: Drop, A: Allocator> SharedQueue<T, A> {
     /// An empty queue with one handle, which holds at most `capacity` texts; `None` is no bound. The only error is
     /// `OutOfMemory`.
     pub fn new(alloc: A, capacity: Option<usize>) -> MetricResult<Self>
@@ -51,6 +51,24 @@ impl<T, A: Allocator> SharedQueue<T, A> {
         ensures { IfErr result (λ e. IsQueueRefusal e.0 × (e.1 ≡ text)) }
     {
         let answer = self.guarded.lock(rt).core.submit(text);
+        if answer.is_ok() {
+            self.changed.notify_all();
+        }
+        answer
+    }
+
+    /// Puts last the text that `make` makes, and wakes those who wait for one. The lock is taken once, and `make` is
+    /// called under it, only where the queue is neither stopped nor full. The errors are those of
+    /// `QueueCore::submit_with`; the queue has not changed then.
+    pub fn submit_with<F: FnOnce() -> Result<T, AllocError>>(
+        &self,
+        rt: &impl Wait,
+        make: F,
+    ) -> Result<(), SinkError>
+        requires { F.IsAlwaysCallable make }
+        ensures { IfErr result IsQueueRefusal }
+    {
+        let answer = self.guarded.lock(rt).core.submit_with(make);
         if answer.is_ok() {
             self.changed.notify_all();
         }
@@ -116,25 +134,5 @@ impl<T, A: Allocator> SharedQueue<T, A> {
     /// The number of texts taken, modulo 2 to the 64.
     pub fn drained(&self, rt: &impl Wait) -> u64 {
         self.guarded.lock(rt).core.drained()
-    }
-}
-
-impl<T: Drop, A: Allocator> SharedQueue<T, A> {
-    /// Puts last the text that `make` makes, and wakes those who wait for one. The lock is taken once, and `make` is
-    /// called under it, only where the queue is neither stopped nor full. The errors are those of
-    /// `QueueCore::submit_with`; the queue has not changed then.
-    pub fn submit_with<F: FnOnce() -> Result<T, AllocError>>(
-        &self,
-        rt: &impl Wait,
-        make: F,
-    ) -> Result<(), SinkError>
-        requires { F.IsAlwaysCallable make }
-        ensures { IfErr result IsQueueRefusal }
-    {
-        let answer = self.guarded.lock(rt).core.submit_with(make);
-        if answer.is_ok() {
-            self.changed.notify_all();
-        }
-        answer
     }
 }

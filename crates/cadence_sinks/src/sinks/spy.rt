@@ -1,10 +1,12 @@
 //! Sinks whose lines a test reads back, as in cadence.
 
 mod buffered;
-mod receiver;
-mod sender;
+mod channel;
 mod unbuffered;
 
 pub use buffered::BufferedSpyMetricSink;
-pub use receiver::SpyReceiver;
+pub use channel::SpyReceiver;
 pub use unbuffered::SpyMetricSink;
+
+#[cfg(test)]
+mod tests;

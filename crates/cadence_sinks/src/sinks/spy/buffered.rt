@@ -2,16 +2,12 @@
 ghost use Rattle.std.specs.Prelude.{◌≡◌, IfErr};
 ghost use Rattle.cadence_text.specs.Errors.{out_of_memory};
 
-use super::receiver::SpyReceiver;
-use super::sender::{Sender, new_channel};
-use crate::sinks::MetricSink;
+use super::channel::{Sender, SpyReceiver, new_channel};
+use crate::sinks::{DEFAULT_BUFFER_SIZE, MetricSink};
 use cadence_flow::io::{MultiLineWriter, PacketWriter};
 use cadence_text::types::{MetricError, MetricResult, SinkError};
 use std::alloc::{Allocator, Global};
 use std::sync::{Mutex, Wait};
-
-/// The buffer of a buffered sink, in bytes, where none is given. As in cadence.
-pub const DEFAULT_BUFFER_SIZE: usize = 512;
 
 // Makes each packet a message. It takes a packet whole or refuses it, and doesn't tell its packets.
 #[derive(Drop)]
@@ -51,7 +47,7 @@ pub struct BufferedSpyMetricSink<R: Wait + Drop, A: Allocator + Clone = Global> 
 }
 
 impl<R: Wait + Clone + Drop, A: Allocator + Clone> BufferedSpyMetricSink<R, A> {
-    /// A spy with a buffer of `DEFAULT_BUFFER_SIZE` for any number of messages, and its receiver. The only error is
+    /// A spy with a buffer of 512 bytes for any number of messages, and its receiver. The only error is
     /// `OutOfMemory`.
     pub fn new(rt: R, alloc: A) -> MetricResult<(SpyReceiver<R, A>, Self)>
         ensures { IfErr result (λ e. e ≡ out_of_memory) }
@@ -60,7 +56,7 @@ impl<R: Wait + Clone + Drop, A: Allocator + Clone> BufferedSpyMetricSink<R, A> {
     }
 
     /// A spy whose queue holds at most `queue` messages (`None` is no bound) and whose buffer has `buffer` bytes
-    /// (`None` is `DEFAULT_BUFFER_SIZE`), and its receiver. The only error is `OutOfMemory`.
+    /// (`None` is 512), and its receiver. The only error is `OutOfMemory`.
     pub fn with_capacity(
         rt: R,
         alloc: A,

@@ -2,8 +2,7 @@
 ghost use Rattle.std.specs.Prelude.{◌≡◌, IfErr};
 ghost use Rattle.cadence_text.specs.Errors.{out_of_memory};
 
-use super::receiver::SpyReceiver;
-use super::sender::{Sender, new_channel};
+use super::channel::{Sender, SpyReceiver, new_channel};
 use crate::sinks::MetricSink;
 use cadence_text::types::{MetricResult, SinkError};
 use std::alloc::{Allocator, Global};

@@ -1,13 +1,49 @@
-//! The end of a spy that its sink writes to.
+//! The queue between a spy and its receiver.
 ghost use Rattle.std.specs.Prelude.{◌≡◌, IfErr};
 ghost use Rattle.cadence_text.specs.Errors.{out_of_memory};
 ghost use Rattle.cadence_sinks.specs.Answers.{IsQueueAnswer};
 
-use super::receiver::{Messages, SpyReceiver};
-use cadence_flow::queue::SharedQueue;
+use cadence_flow::queue::{SharedQueue, Taken};
 use cadence_text::types::{MetricResult, SinkError};
 use std::alloc::{Allocator, Global};
 use std::sync::{Arc, Wait};
+
+type Messages<A> = Arc<SharedQueue<Vec<u8, A>, A>, A>;
+
+/// Gives the messages that a spy was sent, the oldest first. Once it is dropped its spy answers
+/// `ChannelDisconnected`. It stands for the receiver of a channel in cadence.
+pub struct SpyReceiver<R: Wait + Drop, A: Allocator = Global> {
+    rt: R,
+    messages: Messages<A>,
+}
+
+impl<R: Wait + Drop, A: Allocator> SpyReceiver<R, A> {
+    /// Waits for a message. `None` once the sink is gone and nothing is left.
+    pub fn recv(&self) -> Option<Vec<u8, A>> {
+        self.messages.take_wait(&self.rt)
+    }
+
+    /// The oldest message, if there is one.
+    pub fn try_recv(&self) -> Option<Vec<u8, A>> {
+        match self.messages.try_take(&self.rt) {
+            Taken::Text(message) => Some(message),
+            Taken::Empty => None,
+            Taken::Ended => None,
+        }
+    }
+
+    /// Whether no message waits.
+    pub fn is_empty(&self) -> bool {
+        self.messages.waiting(&self.rt) == 0
+    }
+}
+
+impl<R: Wait + Drop, A: Allocator> Drop for SpyReceiver<R, A> {
+    fn drop(self) {
+        self.messages.stop(&self.rt);
+        let SpyReceiver { rt: _, messages: _ } = self;
+    }
+}
 
 /// Puts messages into a queue of which it is the one handle.
 pub struct Sender<R: Wait + Drop, A: Allocator = Global> {
@@ -26,7 +62,10 @@ pub fn new_channel<R: Wait + Clone + Drop, A: Allocator + Clone>(
 {
     let queue = SharedQueue::new(alloc.clone()?, capacity)?;
     let messages = Arc::new(alloc.clone()?, queue)?;
-    let receiver = SpyReceiver::of(rt.clone()?, messages.clone()?);
+    let receiver = SpyReceiver {
+        rt: rt.clone()?,
+        messages: messages.clone()?,
+    };
     let sender = Sender {
         rt,
         alloc,
