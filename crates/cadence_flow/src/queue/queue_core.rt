@@ -72,18 +72,23 @@ impl<T: Drop, A: Allocator> QueueCore<T, A> {
         }
     }
 
-    // Why a text would be refused whatever the memory.
-    fn admit(&self) -> Result<(), SinkError>
-        ensures open { OnOk result (IsTrue (is_open self.now)) }
-        ensures closed { IfErr result (λ e. IsRefusal self.now e × (is_open self.now ≡ false)) }
+    // Whether a text would be taken if memory allows.
+    fn is_open(&self) -> bool
+        ensures { result ≡ is_open self.now }
+    {
+        !self.stopped && !self.is_full()
+    }
+
+    // Why a queue that isn't open refuses a text.
+    fn why_closed(&self) -> SinkError
+        requires { is_open self.now ≡ false }
+        ensures { IsRefusal self.now result }
     {
         if self.stopped {
-            return Err(SinkError::ChannelDisconnected);
+            SinkError::ChannelDisconnected
+        } else {
+            SinkError::ChannelFull
         }
-        if self.is_full() {
-            return Err(SinkError::ChannelFull);
-        }
-        Ok(())
     }
 
     // Puts a text last in an open queue, or gives it back where memory ran out.
@@ -108,8 +113,8 @@ impl<T: Drop, A: Allocator> QueueCore<T, A> {
         ensures refused { IfErr result (λ e. IsRefusal self.old e.0 × (e.1 ≡ text) × (self.new ≡ self.old)) }
         ensures past { OnOk result (IsAccepted self.old text self.new) }
     {
-        if let Err(error) = self.admit() {
-            return Err((error, text));
+        if !self.is_open() {
+            return Err((self.why_closed(), text));
         }
         match self.push(text) {
             Ok(()) => Ok(()),
@@ -128,7 +133,9 @@ impl<T: Drop, A: Allocator> QueueCore<T, A> {
         ensures accepted { OnOk result ((self.old.stopped ≡ false) × (is_full self.old ≡ false) × ((text : T) × F.post make (Ok text) × (self.new ≡ accepting self.old text))) }
         ensures refused { IfErr result (λ e. IsRefusal self.old e × (self.new ≡ self.old)) }
     {
-        self.admit()?;
+        if !self.is_open() {
+            return Err(self.why_closed());
+        }
         let text = make()?;
         match self.push(text) {
             Ok(()) => Ok(()),
