@@ -66,35 +66,6 @@ impl<T: Drop, A: Allocator + Clone> QueueCore<T, A> {
         })
     }
 
-    /// Whether as many texts wait as the capacity.
-    pub fn is_full(&self) -> bool
-        ensures { result ≡ is_full self.now }
-    {
-        match self.capacity {
-            Some(capacity) => self.texts.len() >= capacity,
-            None => false,
-        }
-    }
-
-    // Whether a text would be taken if memory allows.
-    fn is_open(&self) -> bool
-        ensures { result ≡ is_open self.now }
-    {
-        !self.stopped && !self.is_full()
-    }
-
-    // Why a queue that isn't open refuses a text.
-    fn why_closed(&self) -> SinkError
-        requires { is_open self.now ≡ false }
-        ensures { IsRefusal self.now result }
-    {
-        if self.stopped {
-            SinkError::ChannelDisconnected
-        } else {
-            SinkError::ChannelFull
-        }
-    }
-
     // Puts a text last in an open queue, or gives it back where memory ran out.
     fn push(&mut self, text: T) -> Result<(), T>
         requires { IsTrue (is_open self.old) }
@@ -144,6 +115,37 @@ impl<T: Drop, A: Allocator + Clone> QueueCore<T, A> {
         match self.push(text) {
             Ok(()) => Ok(()),
             Err(_) => Err(SinkError::OutOfMemory),
+        }
+    }
+}
+
+impl<T: Drop, A: Allocator> QueueCore<T, A> {
+    /// Whether as many texts wait as the capacity.
+    pub fn is_full(&self) -> bool
+        ensures { result ≡ is_full self.now }
+    {
+        match self.capacity {
+            Some(capacity) => self.texts.len() >= capacity,
+            None => false,
+        }
+    }
+
+    // Whether a text would be taken if memory allows.
+    fn is_open(&self) -> bool
+        ensures { result ≡ is_open self.now }
+    {
+        !self.stopped && !self.is_full()
+    }
+
+    // Why a queue that isn't open refuses a text.
+    fn why_closed(&self) -> SinkError
+        requires { is_open self.now ≡ false }
+        ensures { IsRefusal self.now result }
+    {
+        if self.stopped {
+            SinkError::ChannelDisconnected
+        } else {
+            SinkError::ChannelFull
         }
     }
 

@@ -75,7 +75,9 @@ impl<T: Drop, A: Allocator + Clone> SharedQueue<T, A> {
         }
         answer
     }
+}
 
+impl<T: Drop, A: Allocator> SharedQueue<T, A> {
     /// Takes the oldest text, if there is one.
     pub fn try_take(&self, rt: &impl Wait) -> Taken<T> {
         self.guarded.lock(rt).core.take()

@@ -43,6 +43,45 @@ impl<T: Drop, A: Allocator + Clone> TextRing<T, A> {
         })
     }
 
+    // Makes the room twice as large.
+    fn grow(&mut self) -> Result<(), AllocError>
+        ensures items { self.new.items ≡ self.old.items }
+        ensures room { OnOk result (length self.new.items < self.new.capacity) }
+        ensures err { OnErr result (self.new ≡ self.old) }
+    {
+        match &mut self.block {
+            Some(block) => {
+                let room = block.capacity() * 2;
+                block.resize(room.max(LEAST_ROOM))
+            }
+            None => {
+                let alloc = self.alloc.clone()?;
+                self.block = Some(HeapCircularBuffer::with_capacity(alloc, LEAST_ROOM)?);
+                Ok(())
+            }
+        }
+    }
+
+    /// Puts a text last. A ring that is full grows to twice its room; where memory ran out the text comes back, and
+    /// nothing has changed. One with room left takes no memory.
+    pub fn push_back(&mut self, text: T) -> Result<(), T>
+        ensures pushed { OnOk result (self.new.items ≡ self.old.items ++ text ∷ []) }
+        ensures same { IfErr result (λ back. (back ≡ text) × (self.new ≡ self.old)) }
+        ensures room { length self.old.items < self.old.capacity → IsOk result × (self.new.capacity ≡ self.old.capacity) }
+    {
+        match self.put(text) {
+            Ok(()) => Ok(()),
+            Err(text) => {
+                if self.grow().is_err() {
+                    return Err(text);
+                }
+                self.put(text)
+            }
+        }
+    }
+}
+
+impl<T: Drop, A: Allocator> TextRing<T, A> {
     /// The number of texts.
     pub fn len(&self) -> usize
         ensures { result ≡ length self.now.items }
@@ -74,25 +113,6 @@ impl<T: Drop, A: Allocator + Clone> TextRing<T, A> {
         }
     }
 
-    // Makes the room twice as large.
-    fn grow(&mut self) -> Result<(), AllocError>
-        ensures items { self.new.items ≡ self.old.items }
-        ensures room { OnOk result (length self.new.items < self.new.capacity) }
-        ensures err { OnErr result (self.new ≡ self.old) }
-    {
-        match &mut self.block {
-            Some(block) => {
-                let room = block.capacity() * 2;
-                block.resize(room.max(LEAST_ROOM))
-            }
-            None => {
-                let alloc = self.alloc.clone()?;
-                self.block = Some(HeapCircularBuffer::with_capacity(alloc, LEAST_ROOM)?);
-                Ok(())
-            }
-        }
-    }
-
     // Puts a text last, or gives it back where there is no room.
     fn put(&mut self, text: T) -> Result<(), T>
         ensures pushed { OnOk result (self.new ≡ buffer (self.old.items ++ text ∷ []) self.old.capacity) }
@@ -102,24 +122,6 @@ impl<T: Drop, A: Allocator + Clone> TextRing<T, A> {
         match &mut self.block {
             Some(block) => block.try_push_back(text),
             None => Err(text),
-        }
-    }
-
-    /// Puts a text last. A ring that is full grows to twice its room; where memory ran out the text comes back, and
-    /// nothing has changed. One with room left takes no memory.
-    pub fn push_back(&mut self, text: T) -> Result<(), T>
-        ensures pushed { OnOk result (self.new.items ≡ self.old.items ++ text ∷ []) }
-        ensures same { IfErr result (λ back. (back ≡ text) × (self.new ≡ self.old)) }
-        ensures room { length self.old.items < self.old.capacity → IsOk result × (self.new.capacity ≡ self.old.capacity) }
-    {
-        match self.put(text) {
-            Ok(()) => Ok(()),
-            Err(text) => {
-                if self.grow().is_err() {
-                    return Err(text);
-                }
-                self.put(text)
-            }
         }
     }
 }
