@@ -1,8 +1,6 @@
 //! Counts of what was sent and dropped.
 
 mod socket;
-#[cfg(test)]
-mod tests;
 
 pub use socket::SocketStats;
 
