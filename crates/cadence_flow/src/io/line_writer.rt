@@ -134,7 +134,7 @@ impl<T: PacketWriter, A: Allocator> MultiLineWriter<T, A> {
         ensures text { result.now ≡ self.now.held }
         ensures bound { length self.now.held ≤ self.now.format.capacity }
     {
-        self.held.as_slice()
+        &self.held[..]
     }
 
     /// The writer.
@@ -177,12 +177,12 @@ impl<T: PacketWriter, A: Allocator> MultiLineWriter<T, A> {
         ensures text { result.1.items ≡ self.held }
     {
         let MultiLineWriter {
-            inner,
-            held,
+            inner: writer,
+            held: text,
             capacity: _,
             ending: _,
         } = self;
-        (inner, held)
+        (writer, text)
     }
 }
 
