@@ -1,0 +1,4 @@
+pub mod Settings
+pub mod Call
+pub mod Calls
+pub mod SettingsParts
