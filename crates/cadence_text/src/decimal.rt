@@ -1,5 +1,5 @@
 //! Decimal numbers, exact.
-ghost use Rattle.std.specs.Prelude.{◌≡◌, ◌^◌, ◌≤◌, ◌↔◌, ◌<◌, ◌++◌, Some, true, IsOk, IfOk, IfErr, MatchResult, codes};
+ghost use Rattle.std.specs.Prelude.{◌≡◌, ◌^◌, ◌≤◌, ◌↔◌, ◌<◌, ◌++◌, Some, true, IsOk, IfOk, IfErr, IsTrue, codes};
 ghost use Rattle.std.specs.Fmt.{DisplaysOnOk, decimal};
 ghost use Rattle.cadence_text.specs.Errors.{IsInvalid};
 ghost use Rattle.cadence_text.specs.Number.{IsLowestForm, Number, filled_to, is_lowest, number, number_text};
@@ -67,6 +67,13 @@ impl Decimal {
     }
 }
 
+// What `==` says of two decimals, as a law: that their lowest forms are equal.
+fn is_same(one: &Decimal, other: &Decimal) -> bool
+    ensures { IsTrue result ↔ (one.now ≡ other.now) }
+{
+    one == other
+}
+
 fn power_of_ten(places: u8) -> u128
     requires { places ≤ 30 }
     ensures value { result ≡ 10 ^ places }
@@ -90,16 +97,20 @@ impl fmt::Display for Decimal {
     ghost output = { λ n. Some (number_text n) };
 
     fn fmt<W: fmt::Write>(&self, f: &mut fmt::Formatter<W>) -> fmt::Result {
-        let magnitude = self.mantissa.unsigned_abs();
-        let scale = power_of_ten(self.places);
-        if self.mantissa < 0 {
+        let Decimal { mantissa, places } = *self;
+        let magnitude = mantissa.unsigned_abs();
+        let scale = power_of_ten(places);
+        if mantissa < 0 {
             f.write_str("-")?;
         }
         let whole = magnitude / scale;
         write!(f, "{whole}")?;
-        if self.places > 0 {
-            write_places(f, magnitude % scale, self.places)?;
+        if places > 0 {
+            write_places(f, magnitude % scale, places)?;
         }
         Ok(())
     }
 }
+
+#[cfg(test)]
+mod tests;

@@ -1,11 +1,28 @@
 //! Values of metrics.
-ghost use Rattle.std.specs.Prelude.{◌≡◌, ℕ, List, Some, codes};
+ghost use Rattle.std.specs.Prelude.{◌≡◌, ℕ, List, Some, IfOk, codes};
 ghost use Rattle.std.specs.Fmt.{DisplaysOnOk};
 ghost use Rattle.cadence_text.specs.Line.{separated};
+ghost use Rattle.cadence_text.specs.Values.{numbers_of};
+
+mod counters;
+mod distributions;
+mod durations;
+mod gauges;
+mod histograms;
+mod meters;
+mod sets;
+mod timers;
 
 use crate::decimal::Decimal;
-use std::alloc::{Allocator, Global};
+pub use counters::ToCounterValue;
+pub use distributions::ToDistributionValue;
+pub use gauges::ToGaugeValue;
+pub use histograms::ToHistogramValue;
+pub use meters::ToMeterValue;
+pub use sets::ToSetValue;
+use std::alloc::{AllocError, Allocator, Global};
 use std::fmt;
+pub use timers::ToTimerValue;
 
 /// The value of a metric: one number, or a list of them, in the form that a caller has them in.
 #[derive(Drop)]
@@ -18,6 +35,13 @@ pub enum MetricValue<A: Allocator = Global> {
     PackedUnsigned(Vec<u64, A>),
     Decimal(Decimal),
     PackedDecimal(Vec<Decimal, A>),
+}
+
+// What a copy says, as a law: the same numbers.
+fn copied<A: Allocator + Clone>(value: &MetricValue<A>) -> Result<MetricValue<A>, AllocError>
+    ensures { IfOk result (λ copy. numbers_of copy ≡ numbers_of value.now) }
+{
+    value.clone()
 }
 
 // The texts of the numbers, with a colon between each two.
@@ -56,3 +80,6 @@ impl<A: Allocator> fmt::Display for MetricValue<A> {
         }
     }
 }
+
+#[cfg(test)]
+mod tests;
