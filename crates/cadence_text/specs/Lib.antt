@@ -3,3 +3,6 @@ pub mod Number
 pub mod Metric
 pub mod Line
 pub mod Values
+pub mod OneReading
+pub mod Record
+pub mod Sink

@@ -74,7 +74,7 @@ fn is_same(one: &Decimal, other: &Decimal) -> bool
     one == other
 }
 
-fn power_of_ten(places: u8) -> u128
+pub(crate) fn power_of_ten(places: u8) -> u128
     requires { places ≤ 30 }
     ensures value { result ≡ 10 ^ places }
     ensures positive { 0 < result }
