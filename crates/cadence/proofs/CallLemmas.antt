@@ -1,5 +1,5 @@
 -- One more option of a call, and its metric.
-use Rattle.std.proofs.Common.{◌≡◌, ℕ, List, [], ◌∷◌, ◌++◌, Option, Some, None, Result, Ok, Err, refl, ap, ◌∙◌, sym, append_assoc}
+use Rattle.std.proofs.Common.{◌≡◌, ℕ, List, [], ◌∷◌, ◌++◌, Option, Some, None, Result, Ok, Err, refl, ap, ◌∙◌, sym, subst, append_assoc}
 use Rattle.std.proofs.lemmas.List.{append-nil}
 use Rattle.std.proofs.lemmas.List.Elements.{filter_map-append}
 use Rattle.std.proofs.lemmas.List.Sums.{fold-append}
@@ -10,6 +10,8 @@ use Rattle.cadence_text.specs.declared.value.MetricValue.{MetricValue}
 use Rattle.cadence_text.specs.Metric.{Metric}
 use Rattle.cadence_text.specs.Number.{Number}
 use Rattle.cadence_text.specs.Values.{Converts, numbers_of}
+use Rattle.cadence_text.specs.declared.types.errors.MetricError.{MetricError}
+use Rattle.cadence.specs.Sending.{Chooses, ChoosesOrHolds, StandsFor, StandsForMore}
 use Rattle.cadence.specs.Settings.{Settings}
 use Rattle.cadence.specs.Call.{Choice, tagged, contained, timed, rated, MetricCall, plain_call, with_choice, chosen, metric_of_call, MakesMetric}
 
@@ -36,3 +38,14 @@ pub makes_metric-fold : {Z : Type 0} (s : Settings) (kind : MetricType) (key : L
 makes_metric-fold s kind key os (Some ns) v m n same made all =
     all ∙ (ap (λ (d : Metric). fold chosen d os) (made ∙ ap (λ (k : List Number). metric_of_call s (plain_call kind key k)) same) ∙ fold-chosen s (plain_call kind key ns) os)
 makes_metric-fold s kind key os None v m n same made all = absurd same
+
+-- a builder that stood for a call stands for it with one more option, where the option was chosen
+pub stands_for_more : (old new : Result Metric MetricError) (o : Choice) → Chooses old o new → StandsForMore old o new
+stands_for_more (Ok m) new o h = record { for_each = λ s c e. subst (λ (n : Result Metric MetricError). StandsFor s (with_choice c o) n) (sym h) (ap (λ (d : Metric). chosen d o) e ∙ chosen-metric_of_call s c o) }
+stands_for_more (Err k) new o h = record { for_each = λ s c e. subst (λ (n : Result Metric MetricError). StandsFor s (with_choice c o) n) (sym h) tt }
+
+-- the same where memory may be missing
+pub stands_for_more_or_holds : (old new : Result Metric MetricError) (o : Choice) → ChoosesOrHolds old o new → StandsForMore old o new
+stands_for_more_or_holds (Ok m) (Ok n) o h = stands_for_more (Ok m) (Ok n) o (ap (λ (d : Metric). Ok d) h)
+stands_for_more_or_holds (Ok m) (Err e) o h = record { for_each = λ s c f. tt }
+stands_for_more_or_holds (Err k) new o h = stands_for_more (Err k) new o h

@@ -16,29 +16,29 @@ pub data Choice : Type 0 where
   timed : ℕ → Choice
   rated : Number → Choice
 
-abbrev pub tag_of : Choice → Option Tag
-tag_of (tagged t) = Some t
-tag_of (contained c) = None
-tag_of (timed n) = None
-tag_of (rated r) = None
+abbrev pub chosen_tag : Choice → Option Tag
+chosen_tag (tagged t) = Some t
+chosen_tag (contained c) = None
+chosen_tag (timed n) = None
+chosen_tag (rated r) = None
 
-abbrev pub container_of : Choice → Option (List ℕ)
-container_of (tagged t) = None
-container_of (contained c) = Some c
-container_of (timed n) = None
-container_of (rated r) = None
+abbrev pub chosen_container : Choice → Option (List ℕ)
+chosen_container (tagged t) = None
+chosen_container (contained c) = Some c
+chosen_container (timed n) = None
+chosen_container (rated r) = None
 
-abbrev pub time_of : Choice → Option ℕ
-time_of (tagged t) = None
-time_of (contained c) = None
-time_of (timed n) = Some n
-time_of (rated r) = None
+abbrev pub chosen_time : Choice → Option ℕ
+chosen_time (tagged t) = None
+chosen_time (contained c) = None
+chosen_time (timed n) = Some n
+chosen_time (rated r) = None
 
-abbrev pub rate_of : Choice → Option Number
-rate_of (tagged t) = None
-rate_of (contained c) = None
-rate_of (timed n) = None
-rate_of (rated r) = Some r
+abbrev pub chosen_rate : Choice → Option Number
+chosen_rate (tagged t) = None
+chosen_rate (contained c) = None
+chosen_rate (timed n) = None
+chosen_rate (rated r) = Some r
 
 -- the last of what they give, or else the default
 abbrev pub last_or : {X Y : Type 0} → (X → Option Y) → Option Y → List X → Option Y
@@ -65,10 +65,10 @@ metric_of_call s c = record {
   name = s.prefix ++ c.key;
   numbers = c.numbers;
   kind = c.kind;
-  rate = last_or rate_of None c.choices;
-  tags = s.tags ++ filter_map tag_of c.choices;
-  container = last_or container_of s.container c.choices;
-  time = last_or time_of None c.choices;
+  rate = last_or chosen_rate None c.choices;
+  tags = s.tags ++ filter_map chosen_tag c.choices;
+  container = last_or chosen_container s.container c.choices;
+  time = last_or chosen_time None c.choices;
 }
 
 -- the metric with what an option chooses

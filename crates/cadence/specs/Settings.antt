@@ -1,5 +1,5 @@
 -- The settings of a client: what it adds to each call.
-use Rattle.std.specs.Prelude.{◌≡◌, ℕ, ◌==◌, if◌then◌else◌, Option, None, Some, List, [], ◌∷◌, ◌++◌, Result, Ok, Err, codes}
+use Rattle.std.specs.Prelude.{◌≡◌, ℕ, ◌==◌, if◌then◌else◌, Option, None, Some, List, [], ◌∷◌, ◌++◌, Result, Ok, Err, IfSome, codes}
 use Rattle.cadence_text.specs.declared.types.errors.MetricError.{MetricError}
 use Rattle.cadence_text.specs.Errors.{out_of_memory}
 use Rattle.cadence_text.specs.Metric.{Tag}
@@ -41,3 +41,8 @@ with_default_container s container = record s { container = Some container }
 abbrev pub Makes : {X : Type 0} → X → Result X MetricError → Type 0
 Makes x (Ok y) = y ≡ x
 Makes x (Err e) = e ≡ out_of_memory
+
+-- settings that may be missing, since a growth was refused, after a change of them: what is missing stays so
+abbrev pub Changes : Option Settings → (Settings → Settings) → Option Settings → Type 0
+Changes None change new = new ≡ None
+Changes (Some s) change new = IfSome new (λ t. t ≡ change s)

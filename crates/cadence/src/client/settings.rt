@@ -21,11 +21,11 @@ struct OwnedTag<A: Allocator = Global> {
 }
 
 impl<A: Allocator> OwnedTag<A> {
-    ghost use Rattle.cadence_text.specs.Records.{tag_seen};
+    ghost use Rattle.cadence_text.specs.Record.{tag_of};
     ghost use Rattle.cadence.specs.SettingsParts.{owned_tag};
 
     fn lend(&self) -> Tag<'_>
-        ensures { tag_seen result ≡ owned_tag self.now }
+        ensures { tag_of result ≡ owned_tag self.now }
     {
         let key = match &self.key {
             Some(key) => Some(key.as_str()),
