@@ -6,7 +6,7 @@ ghost use Rattle.cadence_text.specs.Values.{numbers_of};
 
 mod counters;
 mod distributions;
-mod durations;
+pub mod durations;
 mod gauges;
 mod histograms;
 mod meters;

@@ -72,6 +72,12 @@ impl<'a, A: Allocator> Record<'a, A> {
         }
     }
 
+    /// Where its tags take memory.
+    #[inline]
+    pub fn allocator(&self) -> &A {
+        self.tags.allocator()
+    }
+
     /// Makes room for so many more tags. Refused, the record is as it was.
     pub fn reserve_tags(&mut self, additional: usize) -> Result<(), AllocError>
         ensures { self.new ≡ self.old }

@@ -1,0 +1,3 @@
+pub mod CallLemmas
+pub mod PrefixLemmas
+pub mod SendingLemmas

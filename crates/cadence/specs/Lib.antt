@@ -1,0 +1,6 @@
+pub mod Settings
+pub mod SettingsParts
+pub mod Call
+pub mod Calls
+pub mod Sending
+pub mod Shown
