@@ -39,3 +39,6 @@ impl fmt::Display for MetricType {
         }
     }
 }
+
+#[cfg(test)]
+mod tests;

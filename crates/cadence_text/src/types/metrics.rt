@@ -342,3 +342,6 @@ impl<K, A: Allocator> Hash for MetricText<K, A> {
 pub fn metrics_equal_by_text<K, A: Allocator>()
     ensures { (a b : List ℕ) → IsTrue (⟦<MetricText<K, A> as PartialEq>⟧.eq a b) ↔ (a ≡ b) }
 {}
+
+#[cfg(test)]
+mod tests;
