@@ -2,7 +2,6 @@
 
 mod pieces;
 mod record;
-mod same;
 mod sink;
 mod window;
 

@@ -1,4 +1,6 @@
 //! A metric before it is text.
+mod same;
+
 use crate::decimal::Decimal;
 use crate::line::MetricType;
 use crate::line::pieces::{kind_end, push_container, push_rate, push_tags, push_time, push_value};
@@ -112,7 +114,7 @@ impl<'a, A: Allocator> Record<'a, A> {
 
     #[inline]
     #[tactic(auto, using(std::proofs::lemmas::Grind::common_steps), unfolding(crate::specs::Line::line_of))]
-    pub(crate) fn push_line<S: LineSink>(&self, line: &mut S) -> Result<(), S::Refusal>
+    fn push_line<S: LineSink>(&self, line: &mut S) -> Result<(), S::Refusal>
         ensures taken { OnOk result (Takes S.ends_as line.old (line_of self.now) line.new) }
         ensures sized { OnOk result (IsRecordMetric self.now) }
     {
