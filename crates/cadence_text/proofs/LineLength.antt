@@ -4,7 +4,7 @@ use Rattle.std.specs.Prelude.{IfSome}
 use Rattle.std.specs.List.{AllByRecursion, flat_map}
 use Rattle.std.specs.Fmt.{decimal}
 use Rattle.std.proofs.lemmas.List.{length-append}
-use Rattle.std.proofs.lemmas.List.Elements.{recursion_from_All}
+use Rattle.std.proofs.lemmas.List.Elements.{All-weaker, recursion_from_All}
 use Rattle.std.proofs.lemmas.Fmt.{length-decimal-le_wide}
 use Rattle.std.proofs.Math.Nat.{div-le_self}
 use Rattle.cadence_text.specs.declared.line.MetricType.{MetricType}
@@ -13,6 +13,7 @@ use Rattle.cadence_text.specs.Number.{Number, number_text, places_text}
 use Rattle.cadence_text.specs.Metric.{Metric, Tag}
 use Rattle.cadence_text.specs.Line.{separated, numbers_text, kind_text, rate_field, key_text, tag_text, tags_field, container_field, time_field, line_of}
 use Rattle.cadence_text.specs.RecordMetric.{IsRecordNumber, IsRecordTag, IsRecordMetric, IsRecordTime, FitsMemory, AreRecordNumbers, AreRecordTags}
+use Rattle.cadence_text.specs.OneReading.{HasWidth, HasWidths}
 use Rattle.cadence_text.proofs.Cut.{each_weaker}
 use Rattle.cadence_text.proofs.NumberText.{sign, unsigned_text, sign-pos, places_text-suc, length-places_of, fits_wide, quotient_below}
 
@@ -103,3 +104,15 @@ line_is_short m h =
       length-append (tags_field m.tags) last,
       length-append (container_field m.container) (time_field m.time),
     )
+
+-- what a record means has numbers and a time of these widths
+pub record_widths : (m : Metric) → IsRecordMetric m → HasWidths m
+record_widths m h = record {
+  numbers = All-weaker IsRecordNumber HasWidth (λ n p. p.mantissa) m.numbers h.numbers.each;
+  rate = rate_width m.rate h.rate;
+  time = h.time;
+}
+  where
+    rate_width : (o : Option Number) → IfSome o IsRecordNumber → IfSome o HasWidth
+    rate_width (Some r) h = h.mantissa
+    rate_width None h = tt

@@ -12,7 +12,7 @@ use Rattle.std.proofs.lemmas.Bool.{lt-ltb, ne_eqb}
 use Rattle.std.proofs.lemmas.Grind.{common_steps}
 use Rattle.std.proofs.Math.Nat.{div-le_self, div-add-mod, mod-le, mod-lt, one-le-pow}
 use Rattle.cadence_text.specs.Number.{Number, number_text, places_text, filled_to}
-use Rattle.cadence_text.specs.RecordMetric.{IsRecordNumber}
+use Rattle.cadence_text.specs.OneReading.{HasWidth}
 use Rattle.cadence_text.proofs.Cut.{cut_once, each_append, Stops, Passes}
 
 -- zeros before digits leave their value
@@ -117,9 +117,9 @@ pub fits_wide : (z : ℤ) → unsigned_abs z ≤ 2 ^ 127 → unsigned_abs z < 10
 fits_wide z h = omega arith
 
 -- numbers with one text are one number
-pub number_once : (a b : Number) → IsRecordNumber a → IsRecordNumber b → number_text a ≡ number_text b → a ≡ b
+pub number_once : (a b : Number) → HasWidth a → HasWidth b → number_text a ≡ number_text b → a ≡ b
 number_once a b ha hb e =
-    let (mantissa, places) = signed_once a.mantissa b.mantissa a.places b.places (fits_wide a.mantissa ha.mantissa) (fits_wide b.mantissa hb.mantissa) e in
+    let (mantissa, places) = signed_once a.mantissa b.mantissa a.places b.places (fits_wide a.mantissa ha) (fits_wide b.mantissa hb) e in
     λ i. record { mantissa = mantissa i; places = places i }
 
 -- each byte of a number's text is a digit, a minus or a dot
@@ -143,15 +143,15 @@ sign_bytes (negsuc n) = ((lit< tt, lit< tt), tt)
 pub decimal_bytes : (n : ℕ) → n < 10 ^ 64 → AllByRecursion IsNumberByte (decimal n)
 decimal_bytes n h = digits_bytes (decimal n) (numeral n h).1
 
-pub number_bytes : (a : Number) → IsRecordNumber a → AllByRecursion IsNumberByte (number_text a)
+pub number_bytes : (a : Number) → HasWidth a → AllByRecursion IsNumberByte (number_text a)
 number_bytes a h =
     let n = unsigned_abs a.mantissa in
-    let wide : n < 10 ^ 64 = fits_wide a.mantissa h.mantissa in
+    let wide : n < 10 ^ 64 = fits_wide a.mantissa h in
     each_append IsNumberByte (sign a.mantissa) (unsigned_text n a.places) (sign_bytes a.mantissa)
     (each_append IsNumberByte (decimal (n / 10 ^ a.places)) (places_text n a.places) (decimal_bytes (n / 10 ^ a.places) (quotient_below n a.places wide)) (places_bytes n a.places wide))
 
-pub number_some : (a : Number) → IsRecordNumber a → 0 < length (number_text a)
+pub number_some : (a : Number) → HasWidth a → 0 < length (number_text a)
 number_some a h =
     let n = unsigned_abs a.mantissa in
-    let some : 0 < length (decimal (n / 10 ^ a.places)) = (numeral (n / 10 ^ a.places) (quotient_below n a.places (fits_wide a.mantissa h.mantissa))).0 in
+    let some : 0 < length (decimal (n / 10 ^ a.places)) = (numeral (n / 10 ^ a.places) (quotient_below n a.places (fits_wide a.mantissa h))).0 in
     omega (arith, length-append (sign a.mantissa) (unsigned_text n a.places), length-append (decimal (n / 10 ^ a.places)) (places_text n a.places))

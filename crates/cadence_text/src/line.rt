@@ -2,7 +2,6 @@
 
 mod pieces;
 mod record;
-mod same;
 mod sink;
 mod window;
 
@@ -39,3 +38,6 @@ impl fmt::Display for MetricType {
         }
     }
 }
+
+#[cfg(test)]
+mod tests;

@@ -1,4 +1,6 @@
 //! A metric before it is text.
+mod same;
+
 use crate::decimal::Decimal;
 use crate::line::MetricType;
 use crate::line::pieces::{kind_end, push_container, push_rate, push_tags, push_time, push_value};
@@ -45,6 +47,7 @@ impl<'a, A: Allocator> Record<'a, A> {
     ghost use Rattle.cadence_text.specs.Line.{line_of};
     ghost use Rattle.cadence_text.specs.Metric.{Metric, plain_metric, with_tag};
     ghost use Rattle.cadence_text.specs.Record.{tag_of};
+    ghost use Rattle.cadence_text.specs.OneReading.{HasWidths};
     ghost use Rattle.cadence_text.specs.RecordMetric.{IsRecordMetric};
     ghost use Rattle.cadence_text.specs.Sink.{Takes};
     ghost use Rattle.cadence_text.specs.Values.{numbers_of};
@@ -117,7 +120,7 @@ impl<'a, A: Allocator> Record<'a, A> {
 
     #[inline]
     #[tactic(auto, using(std::proofs::lemmas::Grind::common_steps), unfolding(crate::specs::Line::line_of))]
-    pub(crate) fn push_line<S: LineSink>(&self, line: &mut S) -> Result<(), S::Refusal>
+    fn push_line<S: LineSink>(&self, line: &mut S) -> Result<(), S::Refusal>
         ensures taken { OnOk result (Takes S.ends_as line.old (line_of self.now) line.new) }
         ensures sized { OnOk result (IsRecordMetric self.now) }
     {
@@ -135,11 +138,11 @@ impl<'a, A: Allocator> Record<'a, A> {
     /// The line of the record's metric. Takes memory for the line alone, mostly by one request.
     ///
     /// Refuses with `SinkError::OutOfMemory` alone.
-    #[tactic(auto, using(crate::proofs::LineText::line_is_not_empty))]
+    #[tactic(auto, using(crate::proofs::LineText::line_is_not_empty, crate::proofs::LineLength::record_widths))]
     pub fn format<B: Allocator>(&self, alloc: B) -> MetricResult<String<B>>
         ensures line { IfOk result (λ line. string_bytes line ≡ line_of self.now) }
         ensures refused { IfErr result (λ e. e ≡ out_of_memory) }
-        ensures sized { OnOk result (IsRecordMetric self.now) }
+        ensures widths { OnOk result (HasWidths self.now) }
         ensures not_empty { 0 < length (line_of self.now) }
     {
         let mut line = String::with_capacity(alloc, self.size_hint())?;

@@ -5,7 +5,7 @@ ghost use Rattle.cadence_text.specs.OneReading.{IsFreeOfSeparators};
 ghost use Rattle.cadence_text.specs.RecordMetric.{IsRecordMetric};
 ghost use Rattle.cadence_text.specs.Sink.{window_text};
 
-use crate::line::record::Record;
+use super::Record;
 use crate::line::window::{WINDOW, Window};
 use std::alloc::Allocator;
 
