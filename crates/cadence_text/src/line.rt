@@ -11,12 +11,19 @@ use std::fmt;
 /// The kind of a metric. It prints its type text.
 #[derive(Clone, Copy, Debug, PartialEq, Eq, Hash)]
 pub enum MetricType {
+    /// A count of events, `c`.
     Counter,
+    /// A time in milliseconds, `ms`.
     Timer,
+    /// A value as it stands, `g`.
     Gauge,
+    /// A rate of events that the server counts, `m`.
     Meter,
+    /// A value whose spread one server counts, `h`.
     Histogram,
+    /// A value of which the different ones are counted, `s`.
     Set,
+    /// A value whose spread is counted over all servers (DogStatsD), `d`.
     Distribution,
 }
 

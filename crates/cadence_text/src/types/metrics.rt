@@ -11,7 +11,7 @@ use crate::decimal::Decimal;
 use crate::line::{MetricType, Record};
 use crate::types::MetricResult;
 use crate::value::MetricValue;
-use std::alloc::{Allocator, Global};
+use std::alloc::{AllocError, Allocator, Global};
 use std::fmt;
 use std::hash::{Hash, Hasher};
 use std::marker::{Model, PhantomData};
@@ -336,6 +336,28 @@ impl<K, A: Allocator> Hash for MetricText<K, A> {
     fn hash<H: Hasher>(&self, state: &mut H) {
         self.line.hash(state);
     }
+}
+
+// What a copy is, as a law: it has the same text.
+fn copy_of<K, A: Allocator + Clone>(
+    metric: &MetricText<K, A>,
+) -> Result<MetricText<K, A>, AllocError>
+    ensures { IfOk result (λ copy. copy ≡ metric.now) }
+{
+    metric.clone()
+}
+
+// What hashing says of two metrics, as a law: equal ones leave equal hashers equal.
+fn hash_both<K, A: Allocator, H: Hasher>(
+    one: &MetricText<K, A>,
+    other: &MetricText<K, A>,
+    first: &mut H,
+    second: &mut H,
+)
+    ensures { one.now ≡ other.now → first.old ≡ second.old → first.new ≡ second.new }
+{
+    one.hash(first);
+    other.hash(second);
 }
 
 /// Two metrics of one kind are equal exactly where their texts are.

@@ -14,10 +14,6 @@ fn text_of<M: Metric>(metric: &M) -> &str
     metric.as_metric_str()
 }
 
-fn copy_of<M: Clone>(metric: &M) -> MetricResult<M> {
-    Ok(metric.clone()?)
-}
-
 fn hash_of<M: Hash>(metric: &M) -> u64 {
     let mut hasher = DefaultHasher::new();
     metric.hash(&mut hasher);
