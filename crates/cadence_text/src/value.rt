@@ -6,9 +6,10 @@ ghost use Rattle.cadence_text.specs.Values.{numbers_of};
 
 mod counters;
 mod distributions;
-pub mod durations;
+mod durations;
 mod gauges;
 mod histograms;
+mod lent;
 mod meters;
 mod sets;
 mod timers;

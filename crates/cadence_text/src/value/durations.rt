@@ -10,7 +10,7 @@ use std::time::Duration;
 
 // What durations are counted in.
 #[derive(Clone, Copy)]
-pub enum TimeUnit {
+pub(crate) enum TimeUnit {
     Millisecond,
     Nanosecond,
 }
@@ -36,7 +36,7 @@ fn overflow() -> MetricError
 
 // The count of one duration.
 #[inline]
-pub fn number_in<A: Allocator>(
+pub(crate) fn number_in<A: Allocator>(
     unit: TimeUnit,
     duration: Duration,
 ) -> MetricResult<MetricValue<A>>
@@ -72,8 +72,8 @@ fn counts<A: Allocator + Clone>(
     Ok(numbers)
 }
 
-/// The counts of a list of durations. That one of them passes `u64::MAX` is told before any memory is taken.
-pub fn numbers_in<A: Allocator + Clone>(
+// The counts of a list of durations. That one of them passes `u64::MAX` is told before want of memory.
+pub(crate) fn numbers_in<A: Allocator + Clone>(
     unit: TimeUnit,
     durations: &Vec<Duration, A>,
 ) -> MetricResult<MetricValue<A>>
