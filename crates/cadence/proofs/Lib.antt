@@ -1,0 +1,3 @@
+pub mod PlanSteps
+pub mod PlanAhead
+pub mod PlanChecks

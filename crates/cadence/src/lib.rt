@@ -1,0 +1,4 @@
+//! A Statsd client whose lines, order and packets are proved.
+#![tactic(auto)]
+
+pub mod schedule;
