@@ -1,0 +1,2 @@
+pub mod QueueState
+pub mod Queue

@@ -1,0 +1,4 @@
+//! The packer, the counts and the queue of a Statsd client.
+#![tactic(auto)]
+
+pub mod queue;

@@ -1,0 +1,172 @@
+//! A queue of texts with a stop mark, a capacity and a count of handles, which one thread works with.
+ghost use Rattle.std.specs.Prelude.{◌≡◌, ◌+◌, ◌-◌, ◌%◌, ◌^◌, ◌<◌, ◌≤◌, ◌==◌, [], ◌∷◌, ◌++◌, length, slice_get, option_copied, IfOk, IfErr, OnOk, true, false};
+ghost use Rattle.cadence_text.specs.Errors.{out_of_memory};
+ghost use Rattle.cadence_flow.specs.QueueState.{IsWithin, IsCounted};
+ghost use Rattle.cadence_flow.specs.Queue.{IsRefusal, IsTaken, accepting, stopping, adding_handle, dropping_handle, new_queue, is_full, is_idle};
+
+use cadence_text::types::{MetricResult, SinkError};
+use std::alloc::{Allocator, Global};
+use std::collections::VecDeque;
+use std::marker::Model;
+
+/// What a queue answers to a request for its oldest text.
+#[derive(Drop)]
+pub enum Taken<T> {
+    /// The oldest text.
+    Text(T),
+    /// No text waits, and more may come.
+    Empty,
+    /// The queue is stopped, and no text waits.
+    Ended,
+}
+
+/// A queue of texts: a submit puts one last, a take gets the oldest. This project's own; cadence has channels.
+#[derive(Drop)]
+pub struct QueueCore<T, A: Allocator = Global> {
+    texts: VecDeque<T, A>,
+    capacity: Option<usize>,
+    stopped: bool,
+    handles: u64,
+    submitted: u64,
+    drained: u64,
+}
+
+impl<T, A: Allocator> Model for QueueCore<T, A> {
+    ghost use Rattle.cadence_flow.specs.QueueState.{Queue, queue_code, IsWithin, IsCounted};
+
+    ghost Value = { Queue T };
+
+    ghost coded = { queue_code T.code };
+
+    ghost view = { λ q. record { waiting = q.texts.items; capacity = q.capacity; stopped = q.stopped; handles = q.handles; submitted = q.submitted; drained = q.drained } };
+
+    ghost invariant = { λ q. IsWithin q.capacity q.texts.items × IsCounted q.texts.items q.submitted q.drained };
+}
+
+impl<T, A: Allocator> QueueCore<T, A> {
+    /// An empty queue with one handle, which holds at most `capacity` texts; `None` is no bound. The only error is
+    /// `OutOfMemory`.
+    pub fn new(alloc: A, capacity: Option<usize>) -> MetricResult<Self>
+        ensures made { IfOk result (λ q. q ≡ new_queue capacity) }
+        ensures refused { IfErr result (λ e. e ≡ out_of_memory) }
+    {
+        Ok(QueueCore {
+            texts: VecDeque::new(alloc),
+            capacity,
+            stopped: false,
+            handles: 1,
+            submitted: 0,
+            drained: 0,
+        })
+    }
+
+    /// Whether as many texts wait as the capacity.
+    pub fn is_full(&self) -> bool
+        ensures { result ≡ is_full self.now }
+    {
+        match self.capacity {
+            Some(capacity) => self.texts.len() >= capacity,
+            None => false,
+        }
+    }
+
+    /// Puts a text last. A stopped queue answers `ChannelDisconnected`, else a full one `ChannelFull`, else one for
+    /// which memory ran out `OutOfMemory`; the text comes back and nothing has changed then.
+    pub fn submit(&mut self, text: T) -> Result<(), (SinkError, T)>
+        ensures accepted { OnOk result ((self.old.stopped ≡ false) × (is_full self.old ≡ false) × (self.new ≡ accepting self.old text)) }
+        ensures refused { IfErr result (λ e. IsRefusal self.old e.0 × (e.1 ≡ text) × (self.new ≡ self.old)) }
+    {
+        if self.stopped {
+            return Err((SinkError::ChannelDisconnected, text));
+        }
+        if self.is_full() {
+            return Err((SinkError::ChannelFull, text));
+        }
+        match self.texts.push_back(text) {
+            Ok(()) => {
+                self.submitted = self.submitted.wrapping_add(1);
+                Ok(())
+            }
+            Err(failed) => Err((SinkError::OutOfMemory, failed.value)),
+        }
+    }
+
+    /// Takes the oldest text, without memory.
+    pub fn take(&mut self) -> Taken<T>
+        ensures { IsTaken self.old result self.new }
+    {
+        match self.texts.pop_front() {
+            Some(text) => {
+                self.drained = self.drained.wrapping_add(1);
+                Taken::Text(text)
+            }
+            None if self.stopped => Taken::Ended,
+            None => Taken::Empty,
+        }
+    }
+
+    /// Sets the stop mark. Texts that wait can still be taken. A second stop changes nothing.
+    pub fn stop(&mut self)
+        ensures { self.new ≡ stopping self.old }
+    {
+        self.stopped = true;
+    }
+
+    /// Counts one more handle. A count that reached `u64::MAX` stays there for good.
+    pub fn add_handle(&mut self)
+        ensures { self.new ≡ adding_handle self.old }
+    {
+        self.handles = self.handles.saturating_add(1);
+    }
+
+    /// Counts one handle less. The last one stops the queue; without a handle nothing happens.
+    pub fn drop_handle(&mut self)
+        ensures { self.new ≡ dropping_handle self.old }
+    {
+        if self.handles == 0 || self.handles == u64::MAX {
+            return;
+        }
+        self.handles -= 1;
+        if self.handles == 0 {
+            self.stopped = true;
+        }
+    }
+
+    /// Whether no text waits and more may come.
+    pub fn is_idle(&self) -> bool
+        ensures { result ≡ is_idle self.now }
+    {
+        !self.stopped && self.texts.is_empty()
+    }
+
+    /// The number of texts that wait. It is within the capacity, and the texts submitted less those drained, modulo
+    /// 2 to the 64.
+    pub fn waiting(&self) -> usize
+        ensures waiting { result ≡ length self.now.waiting }
+        ensures within { IsWithin self.now.capacity self.now.waiting }
+        ensures counted { IsCounted self.now.waiting self.now.submitted self.now.drained }
+    {
+        self.texts.len()
+    }
+
+    /// The text at a place, counted from the oldest.
+    pub fn get(&self, index: usize) -> Option<&T>
+        ensures { option_copied result ≡ slice_get self.now.waiting index }
+    {
+        self.texts.get(index)
+    }
+
+    /// The number of texts accepted, modulo 2 to the 64.
+    pub fn submitted(&self) -> u64
+        ensures { result ≡ self.now.submitted }
+    {
+        self.submitted
+    }
+
+    /// The number of texts taken, modulo 2 to the 64.
+    pub fn drained(&self) -> u64
+        ensures { result ≡ self.now.drained }
+    {
+        self.drained
+    }
+}
