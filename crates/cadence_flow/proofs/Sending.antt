@@ -1,10 +1,8 @@
 -- How far a text is sent.
-use Rattle.std.proofs.Common.{◌≡◌, ℕ, ◌+◌, ◌-◌, ◌<◌, ◌≤◌, true, [], ◌∷◌, ◌++◌, List, length, take, drop, ap, ◌∙◌, sym, subst, arith, length-drop, append_assoc, take_all, refl, zero, suc}
+use Rattle.std.proofs.Common.{◌≡◌, ℕ, ◌+◌, ◌-◌, ◌<◌, ◌≤◌, true, [], ◌∷◌, ◌++◌, List, length, take, drop, ap, ◌∙◌, sym, arith, length-drop, append_assoc, take_all, refl, zero, suc}
 use Rattle.std.proofs.lemmas.List.{append-nil}
 use Rattle.std.proofs.lemmas.List.Elements.{All-push}
-use Rattle.std.specs.Prelude.{All}
 use lib.Seq.{take-add}
-use Rattle.std.specs.List.{concat}
 use Rattle.cadence_flow.specs.Writer.{History, Kind, RefusedNothing, Sends, after_packet}
 use Rattle.cadence_flow.proofs.Histories.{concat-push}
 

@@ -1,5 +1,5 @@
-use Rattle.std.proofs.Common.{◌-◌, ◌++◌, ◌∷◌, [], length, take, drop, ap, ◌∙◌, arith, ℕ, List}
-use Rattle.cadence_flow.specs.Writer.{after_packet, History, Kind, WritesPacket}
+use Rattle.std.proofs.Common.{length, take, ap, ◌∙◌, arith, ℕ, List}
+use Rattle.cadence_flow.specs.Writer.{after_packet, Kind}
 use Rattle.cadence_flow.proofs.Sending.{SentSoFar-more, rest_is}
 use Rattle.cadence_flow.proofs.io.buffer.send.Goals as goal
 
