@@ -1,5 +1,13 @@
 //! Runs of a client, a queue and a packer, step by step, and plans of packets.
 
+pub mod call;
+mod counting;
 pub mod plan;
+pub mod reports;
+pub mod run;
+mod running;
+pub mod steps;
 
+pub use call::Call;
 pub use plan::{check_plan, plan_packets, tight_is_fewest};
+pub use steps::{Reply, Step};

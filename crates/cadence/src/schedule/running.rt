@@ -1,0 +1,93 @@
+//! A run at one of its steps.
+ghost use Rattle.std.specs.Prelude.{◌≡◌, ◌+◌, ◌<◌, ◌≤◌, Some, IsTrue, IfOk, IfErr, vec_len, vec_capacity, string_bytes};
+ghost use Rattle.cadence.specs.Calls.{line_of_data};
+ghost use Rattle.cadence.specs.Moves.{HasLast, Counted, LineFails};
+
+use super::call::Call;
+use super::steps::{Reply, Step};
+use cadence_flow::io::{MultiLineWriter, PacketWriter};
+use cadence_flow::queue::{QueueCore, Taken};
+use cadence_text::types::{MetricError, MetricResult, SinkError};
+use std::alloc::{Allocator, Global};
+
+/// The queue, the worker's hand and the packer, and how many lines each packet has, the held text as the last one.
+#[derive(Drop)]
+pub(crate) struct Running<P: PacketWriter, A: Allocator = Global> {
+    pub(crate) queue: QueueCore<String<A>, A>,
+    pub(crate) hand: Option<String<A>>,
+    pub(crate) packer: MultiLineWriter<P, A>,
+    pub(crate) plan: Vec<usize, A>,
+}
+
+/// Counts a line in the last group, or in a group of its own.
+fn count_line<A: Allocator>(plan: &mut Vec<usize, A>, joins: bool)
+    requires { vec_len plan.old < vec_capacity plan.old }
+    ensures counted { (IsTrue joins → HasLast plan.old.items) → Counted joins plan.old.items plan.new.items }
+    ensures length { vec_len plan.new ≤ vec_len plan.old + 1 }
+    ensures room { vec_capacity plan.old ≤ vec_capacity plan.new }
+{
+    if joins && !plan.is_empty() {
+        let last = plan.len() - 1;
+        plan[last] = plan[last].saturating_add(1);
+    } else {
+        let Ok(()) = plan.push(1) else { unreachable!() };
+    }
+}
+
+/// The line of a call.
+fn format_call<A: Allocator + Clone>(
+    alloc: &A,
+    settings: &str,
+    call: &Call<A>,
+) -> MetricResult<String<A>>
+    ensures line { IfOk result (λ line. line_of_data settings.now call.now ≡ Some (string_bytes line)) }
+    ensures refused { IfErr result (LineFails (line_of_data settings.now call.now)) }
+{
+    if call.overflows {
+        return Err(MetricError::from((cadence_text::types::ErrorKind::InvalidInput, "u64 overflow")));
+    }
+    let mut line = String::from_str(alloc.clone()?, settings)?;
+    line.push_str(call.key.as_str())?;
+    line.push(':')?;
+    Ok(line)
+}
+
+impl<P: PacketWriter, A: Allocator + Clone> Running<P, A> {
+    ghost use Rattle.std.specs.Prelude.{◌≡◌, ◌<◌, vec_len, vec_capacity};
+    ghost use Rattle.cadence.specs.Calls.{line_of_data};
+    ghost use Rattle.cadence.specs.Running.{MakesTurn};
+    ghost use Rattle.cadence.specs.declared.schedule.steps.Step.TheVariants as step;
+
+    /// Formats a call and submits its line.
+    fn call(&mut self, alloc: &A, settings: &str, call: &Call<A>) -> Reply
+        ensures { MakesTurn P.kind P.history (line_of_data settings.now) self.old (step.Call call.now, result) self.new }
+    {
+        let line = match format_call(alloc, settings, call) {
+            Ok(line) => line,
+            Err(error) => return Reply::Called(Err(error)),
+        };
+        let length = line.len();
+        match self.queue.submit(line) {
+            Ok(()) => Reply::Called(Ok(length)),
+            Err((error, _line)) => Reply::Called(Err(MetricError::Sink(error))),
+        }
+    }
+
+    /// Takes the oldest line into the hand.
+    fn take(&mut self) -> Reply
+        ensures { (line_of : _) → MakesTurn P.kind P.history line_of self.old (step.Take, result) self.new }
+    {
+        if self.hand.is_some() {
+            return Reply::Busy;
+        }
+        match self.queue.take() {
+            Taken::Text(line) => {
+                let length = line.len();
+                self.hand = Some(line);
+                Reply::Text(length)
+            }
+            Taken::Empty => Reply::Empty,
+            Taken::Ended => Reply::Ended,
+        }
+    }
+}
