@@ -55,6 +55,7 @@ fn format_call<A: Allocator + Clone>(
 impl<P: PacketWriter, A: Allocator + Clone> Running<P, A> {
     ghost use Rattle.std.specs.Prelude.{◌≡◌, ◌<◌, vec_len, vec_capacity};
     ghost use Rattle.cadence.specs.Calls.{line_of_data};
+    ghost use Rattle.cadence.specs.Moves.{joins_held};
     ghost use Rattle.cadence.specs.Running.{MakesTurn};
     ghost use Rattle.cadence.specs.declared.schedule.steps.Step.TheVariants as step;
 
@@ -88,6 +89,72 @@ impl<P: PacketWriter, A: Allocator + Clone> Running<P, A> {
             }
             Taken::Empty => Reply::Empty,
             Taken::Ended => Reply::Ended,
+        }
+    }
+
+    /// Whether a line would join the text that the packer holds.
+    fn joins_held(&self, capacity: usize, ending: &str, line: &str) -> bool
+        requires { self.now.packer.format ≡ record { capacity = capacity; ending = ending.now } }
+        ensures { result ≡ joins_held self.now.packer.format self.now.packer.held line.now }
+    {
+        let held = self.packer.held().len();
+        let size = line.len() + ending.len();
+        held > 0 && size <= capacity - held
+    }
+
+    /// Hands the line in hand to the packer, and counts it where it was kept.
+    fn hand(&mut self, capacity: usize, ending: &str) -> Reply
+        requires format { self.old.packer.format ≡ record { capacity = capacity; ending = ending.now } }
+        requires room { vec_len self.old.plan < vec_capacity self.old.plan }
+        ensures { (line_of : _) → MakesTurn P.kind P.history line_of self.old (step.Hand, result) self.new }
+    {
+        let Some(line) = self.hand.take() else {
+            return Reply::Nothing;
+        };
+        let joins = self.joins_held(capacity, ending, line.as_str());
+        match self.packer.write(line.as_bytes()) {
+            Ok(count) => {
+                count_line(&mut self.plan, joins);
+                Reply::Handed(Ok(count))
+            }
+            Err(error) => Reply::Handed(Err(error)),
+        }
+    }
+
+    /// Has the packer send what it holds.
+    fn flush(&mut self) -> Reply
+        ensures { (line_of : _) → MakesTurn P.kind P.history line_of self.old (step.Flush, result) self.new }
+    {
+        Reply::Flushed(self.packer.flush())
+    }
+
+    /// Stops the queue.
+    fn stop(&mut self) -> Reply
+        ensures { (line_of : _) → MakesTurn P.kind P.history line_of self.old (step.Stop, result) self.new }
+    {
+        self.queue.stop();
+        Reply::Stopped
+    }
+
+    /// Makes one step.
+    fn step(
+        &mut self,
+        alloc: &A,
+        settings: &str,
+        capacity: usize,
+        ending: &str,
+        step: &Step<A>,
+    ) -> Reply
+        requires format { self.old.packer.format ≡ record { capacity = capacity; ending = ending.now } }
+        requires room { vec_len self.old.plan < vec_capacity self.old.plan }
+        ensures { MakesTurn P.kind P.history (line_of_data settings.now) self.old (step.now, result) self.new }
+    {
+        match step {
+            Step::Call(call) => self.call(alloc, settings, call),
+            Step::Take => self.take(),
+            Step::Hand => self.hand(capacity, ending),
+            Step::Flush => self.flush(),
+            Step::Stop => self.stop(),
         }
     }
 }
