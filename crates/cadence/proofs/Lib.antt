@@ -6,3 +6,6 @@ pub mod Cutting
 pub mod Shown
 pub mod Growing
 pub mod QueueTurns
+pub mod KeptLines
+pub mod PacketTurns
+pub mod Turns

@@ -6,3 +6,4 @@ pub mod Plan
 pub mod PlanGroup
 pub mod Replies
 pub mod Running
+pub mod Stream
