@@ -9,3 +9,4 @@ pub mod QueueTurns
 pub mod KeptLines
 pub mod PacketTurns
 pub mod Turns
+pub mod Sums

@@ -5,5 +5,6 @@ pub mod Packets
 pub mod Plan
 pub mod PlanGroup
 pub mod Replies
+pub mod Report
 pub mod Running
 pub mod Stream

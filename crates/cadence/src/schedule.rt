@@ -10,4 +10,5 @@ pub mod steps;
 
 pub use call::Call;
 pub use plan::{check_plan, plan_packets, tight_is_fewest};
+pub use reports::Report;
 pub use steps::{Reply, Step};
