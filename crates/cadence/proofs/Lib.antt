@@ -10,3 +10,4 @@ pub mod KeptLines
 pub mod PacketTurns
 pub mod Turns
 pub mod Sums
+pub mod RunTurns

@@ -1,4 +1,5 @@
 pub mod Calls
+pub mod Headline
 pub mod History
 pub mod Moves
 pub mod Packets

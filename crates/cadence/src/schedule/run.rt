@@ -1,1 +1,62 @@
-//! run
+//! Runs of schedules.
+ghost use Rattle.std.specs.Prelude.{◌≡◌, ◌+◌, ◌≤◌, [], true, length, vec_len, vec_capacity, IfOk, IfErr};
+ghost use Rattle.std.specs.List.{zip};
+ghost use Rattle.cadence_flow.specs.Queue.{new_queue};
+ghost use Rattle.cadence.specs.Calls.{line_of_data};
+ghost use Rattle.cadence.specs.Headline.{TellsWhole, HasStream, HasCut, HasReplies, HasFewest, HasErrors, IsLate, HasTaken, HasSums, KeepsPackets};
+ghost use Rattle.cadence.specs.Moves.{Runs};
+ghost use Rattle.cadence.specs.Running.{state_of};
+
+use super::counting::CountingWriter;
+use super::plan::tight_is_fewest;
+use super::reports::Report;
+use super::running::Running;
+use super::steps::{Reply, Step};
+use cadence_flow::io::{MultiLineWriter, PacketWriter};
+use cadence_flow::queue::QueueCore;
+use cadence_flow::stats::SinkStats;
+use cadence_text::types::MetricResult;
+use std::alloc::Allocator;
+
+/// The lists of a run: a queue, and room for the replies and for the cut.
+fn own_lists<A: Allocator + Clone>(
+    alloc: &A,
+    steps: usize,
+    queue: Option<usize>,
+) -> MetricResult<(Vec<Reply, A>, Vec<usize, A>, QueueCore<String<A>, A>)>
+    ensures replies { IfOk result (λ lists. (lists.0.items ≡ []) × (steps ≤ vec_capacity lists.0)) }
+    ensures plan { IfOk result (λ lists. (lists.1.items ≡ []) × (steps ≤ vec_capacity lists.1)) }
+    ensures queue { IfOk result (λ lists. lists.2 ≡ new_queue queue) }
+{
+    let replies = Vec::with_capacity(alloc.clone()?, steps)?;
+    let plan = Vec::with_capacity(alloc.clone()?, steps)?;
+    let queue = QueueCore::new(alloc.clone()?, queue)?;
+    Ok((replies, plan, queue))
+}
+
+/// Makes the steps in order, and keeps their replies.
+fn run_steps<P: PacketWriter, A: Allocator + Clone>(
+    alloc: &A,
+    settings: &str,
+    capacity: usize,
+    ending: &str,
+    steps: &[Step<A>],
+    running: &mut Running<P, A>,
+    replies: &mut Vec<Reply, A>,
+)
+    requires format { running.old.packer.format ≡ record { capacity = capacity; ending = ending.now } }
+    requires plan { vec_len running.old.plan + length steps.now ≤ vec_capacity running.old.plan }
+    requires replies { (replies.old.items ≡ []) × (length steps.now ≤ vec_capacity replies.old) }
+    ensures runs { Runs (line_of_data settings.now) (P.kind running.old.packer.writer) running.old.packer.format running.old.queue.capacity
+        (state_of P.history running.old) (zip steps.now replies.new.items) (state_of P.history running.new) }
+    ensures one_each { length replies.new.items ≡ length steps.now }
+    ensures same_kind { P.kind running.new.packer.writer ≡ P.kind running.old.packer.writer }
+    ensures same_format { running.new.packer.format ≡ running.old.packer.format }
+{
+    for step in steps {
+        let reply = running.step(alloc, settings, capacity, ending, step);
+        let Ok(()) = replies.push(reply) else {
+            unreachable!()
+        };
+    }
+}

@@ -137,7 +137,7 @@ impl<P: PacketWriter, A: Allocator + Clone> Running<P, A> {
     }
 
     /// Makes one step.
-    fn step(
+    pub(crate) fn step(
         &mut self,
         alloc: &A,
         settings: &str,
