@@ -7,7 +7,7 @@ use Rattle.std.proofs.lemmas.List.Concat.{flat_map-append}
 use Rattle.std.proofs.lemmas.List.Sums.{sum_by_push}
 use Rattle.std.proofs.lemmas.List.Folds.{list_any-append}
 use Rattle.cadence_flow.specs.Frame.{Format}
-use Rattle.cadence_flow.specs.Writer.{Kind}
+use Rattle.cadence_text.specs.declared.types.errors.SinkError.{SinkError}
 use Rattle.cadence.specs.declared.schedule.call.Call.{Call}
 use Rattle.cadence.specs.History.{Turn, answered, taken, takes_text, outcomes, outcome_by, handed_on, stops, is_stopped, errors, is_error, accepted, accepted_by, kept, kept_counts, in_hand, places_after, marks, mark_at, refusals, refusal_at}
 use Rattle.cadence.specs.Replies.{MayReply, MayReplyAfter}
@@ -79,11 +79,11 @@ module _ {A : Type 0} (line_of : Call A → Option (List ℕ)) where
   pub refusals-push : (h : List (Turn A)) (t : Turn A) → refusals line_of (h ++ t ∷ []) ≡ refusals line_of h ++ refusal_at line_of (length (kept line_of h)) t
   refusals-push h t = places-push (refusal_at line_of) [] h t
 
-  module _ (kind : Kind) (format : Format) (queue : Option ℕ) where
-    replies-push-after : (before h : List (Turn A)) (t : Turn A) → MayReplyAfter line_of kind format queue before h → MayReply line_of kind format queue (before ++ h) t → MayReplyAfter line_of kind format queue before (h ++ t ∷ [])
-    replies-push-after before [] t old new = (subst (λ b. MayReply line_of kind format queue b t) (append-nil before) new, tt)
+  module _ (may_give : SinkError → Bool) (takes_whole : Bool) (format : Format) (queue : Option ℕ) where
+    replies-push-after : (before h : List (Turn A)) (t : Turn A) → MayReplyAfter line_of may_give takes_whole format queue before h → MayReply line_of may_give takes_whole format queue (before ++ h) t → MayReplyAfter line_of may_give takes_whole format queue before (h ++ t ∷ [])
+    replies-push-after before [] t old new = (subst (λ b. MayReply line_of may_give takes_whole format queue b t) (append-nil before) new, tt)
     replies-push-after before (u ∷ h) t (first, old) new =
-        (first, replies-push-after (before ++ u ∷ []) h t old (subst (λ b. MayReply line_of kind format queue b t) (sym (append_assoc before (u ∷ []) h)) new))
+        (first, replies-push-after (before ++ u ∷ []) h t old (subst (λ b. MayReply line_of may_give takes_whole format queue b t) (sym (append_assoc before (u ∷ []) h)) new))
 
-    pub replies-push : (h : List (Turn A)) (t : Turn A) → MayReplyAfter line_of kind format queue [] h → MayReply line_of kind format queue h t → MayReplyAfter line_of kind format queue [] (h ++ t ∷ [])
+    pub replies-push : (h : List (Turn A)) (t : Turn A) → MayReplyAfter line_of may_give takes_whole format queue [] h → MayReply line_of may_give takes_whole format queue h t → MayReplyAfter line_of may_give takes_whole format queue [] (h ++ t ∷ [])
     replies-push h t old new = replies-push-after [] h t old new

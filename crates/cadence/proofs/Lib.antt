@@ -11,3 +11,4 @@ pub mod PacketTurns
 pub mod Turns
 pub mod Sums
 pub mod RunTurns
+pub mod RunFacts

@@ -51,7 +51,7 @@ module _ {A : Type 0} (line_of : Call A → Option (List ℕ)) (filled : (call :
 
   -- what holds after some turns
   pub record After (h : List (Turn A)) (s : State) : Type 0 where
-    pub replies : MayReplyAfter line_of kind format queue [] h
+    pub replies : MayReplyAfter line_of kind.may_give kind.takes_whole format queue [] h
     pub line : QueueAfter line_of queue h s
     pub text : kind.tells ≡ true → TextAfter h s.writer s.held
     pub refusals : kind.takes_whole ≡ true → s.writer.refusals % 2 ^ 64 ≡ (start.refusals + errors h) % 2 ^ 64
@@ -95,14 +95,14 @@ module _ {A : Type 0} (line_of : Call A → Option (List ℕ)) (filled : (call :
   }
 
   -- a turn that leaves the packer
-  leaves_packer : (h : List (Turn A)) (t : Turn A) (s s' : State) → After h s → MayReply line_of kind format queue h t → QueueAfter line_of queue (h ++ t ∷ []) s'
+  leaves_packer : (h : List (Turn A)) (t : Turn A) (s s' : State) → After h s → MayReply line_of kind.may_give kind.takes_whole format queue h t → QueueAfter line_of queue (h ++ t ∷ []) s'
       → s'.plan ≡ s.plan → s'.writer ≡ s.writer → s'.held ≡ s.held
       → outcome_by t ≡ [] → ((n : ℕ) → mark_at line_of n t ≡ []) → ((n : ℕ) → refusal_at line_of n t ≡ []) → is_error t ≡ false
       → After (h ++ t ∷ []) s'
   leaves_packer h t s s' a reply line plan writer held b m r isnt =
       let same : kept_counts line_of (h ++ t ∷ []) ≡ kept_counts line_of h = counts_same line_of h t b (handed_within h s a) in
       record {
-        replies = replies-push line_of kind format queue h t a.replies reply;
+        replies = replies-push line_of kind.may_give kind.takes_whole format queue h t a.replies reply;
         line = line;
         text = λ tells. subst (λ w. TextAfter (h ++ t ∷ []) w s'.held) (sym writer) (subst (λ x. TextAfter (h ++ t ∷ []) s.writer x) (sym held) (text_still h t s.writer s.held same (a.text tells)));
         refusals = λ whole. ap (λ w. w.refusals % 2 ^ 64) writer ∙ a.refusals whole ∙ ap (λ n. (start.refusals + n) % 2 ^ 64) (sym (errors_same h t isnt));
@@ -111,14 +111,14 @@ module _ {A : Type 0} (line_of : Call A → Option (List ℕ)) (filled : (call :
       }
 
   -- a turn that only answers
-  only_answers : (h : List (Turn A)) (t : Turn A) (s s' : State) → s' ≡ s → After h s → MayReply line_of kind format queue h t
+  only_answers : (h : List (Turn A)) (t : Turn A) (s s' : State) → s' ≡ s → After h s → MayReply line_of kind.may_give kind.takes_whole format queue h t
       → accepted_by line_of t ≡ [] → takes_text t ≡ false → outcome_by t ≡ [] → stops t ≡ false → ((n : ℕ) → mark_at line_of n t ≡ []) → ((n : ℕ) → refusal_at line_of n t ≡ []) → is_error t ≡ false
       → After (h ++ t ∷ []) s'
   only_answers h t s s' same a reply x k b z m r isnt =
       subst (λ q. After (h ++ t ∷ []) q) (sym same) (leaves_packer h t s s a reply (quiet line_of queue h t s s (same_queue s) refl x k b z a.line) refl refl refl b m r isnt)
 
   -- a call's reply, by the state
-  call_reply : (h : List (Turn A)) (s : State) → After h s → (call : Call A) (result : Result ℕ MetricError) → CallReplies (line_of call) s.stopped (at_capacity queue s.waiting) result → MayReply line_of kind format queue h (step.Call call, reply.Called result)
+  call_reply : (h : List (Turn A)) (s : State) → After h s → (call : Call A) (result : Result ℕ MetricError) → CallReplies (line_of call) s.stopped (at_capacity queue s.waiting) result → MayReply line_of kind.may_give kind.takes_whole format queue h (step.Call call, reply.Called result)
   call_reply h s a call result c =
       let waits : length s.waiting ≡ length (accepted line_of h) - taken h = ap (λ l. length l) a.line.waiting_is ∙ length-drop (taken h) (accepted line_of h) in
       subst (λ b. CallReplies (line_of call) b (option_map_or (λ room. (length (accepted line_of h) - taken h) == room) queue false) result) a.line.stopped_is
@@ -127,16 +127,16 @@ module _ {A : Type 0} (line_of : Call A → Option (List ℕ)) (filled : (call :
   nothing_waits : (h : List (Turn A)) (s : State) → After h s → s.waiting ≡ [] → slice_get (accepted line_of h) (taken h) ≡ None
   nothing_waits h s a none = slice_get_past (accepted line_of h) (taken h) (omega (arith, ap (λ l. length l) (sym a.line.waiting_is ∙ none), length-drop (taken h) (accepted line_of h)))
 
-  take_reply : (h : List (Turn A)) (hand next : Option (List ℕ)) (stopped : Bool) (answer : Reply) → in_hand line_of h ≡ hand → slice_get (accepted line_of h) (taken h) ≡ next → is_stopped h ≡ stopped → TakeReplies hand next stopped answer → MayReply line_of kind format queue h (step.Take, answer)
+  take_reply : (h : List (Turn A)) (hand next : Option (List ℕ)) (stopped : Bool) (answer : Reply) → in_hand line_of h ≡ hand → slice_get (accepted line_of h) (taken h) ≡ next → is_stopped h ≡ stopped → TakeReplies hand next stopped answer → MayReply line_of kind.may_give kind.takes_whole format queue h (step.Take, answer)
   take_reply h hand next stopped answer e f g r =
       subst (λ o. TakeReplies o (slice_get (accepted line_of h) (taken h)) (is_stopped h) answer) (sym e)
       (subst (λ o. TakeReplies hand o (is_stopped h) answer) (sym f) (subst (λ b. TakeReplies hand next b answer) (sym g) r))
 
-  hand_reply : (h : List (Turn A)) (s : State) (hand : Option (List ℕ)) (answer : Reply) → After h s → s.hand ≡ hand → HandReplies kind format hand answer → MayReply line_of kind format queue h (step.Hand, answer)
-  hand_reply h s hand answer a e r = subst (λ o. HandReplies kind format o answer) (sym e ∙ a.line.hand_is) r
+  hand_reply : (h : List (Turn A)) (s : State) (hand : Option (List ℕ)) (answer : Reply) → After h s → s.hand ≡ hand → HandReplies kind.may_give kind.takes_whole format hand answer → MayReply line_of kind.may_give kind.takes_whole format queue h (step.Hand, answer)
+  hand_reply h s hand answer a e r = subst (λ o. HandReplies kind.may_give kind.takes_whole format o answer) (sym e ∙ a.line.hand_is) r
 
   -- an error of the packer has a cause that its writer allows
-  may_fail : (old new : History) (before offered : List ℕ) (e : SinkError) → HasCause kind old new before offered e → MayFail kind e
+  may_fail : (old new : History) (before offered : List ℕ) (e : SinkError) → HasCause kind old new before offered e → MayFail kind.may_give kind.takes_whole e
   may_fail old new before offered e (inl refusal) = inl refusal.may_give
   may_fail old new before offered e (inr nothing) = inr (nothing.not_whole, nothing.error)
 
@@ -185,7 +185,7 @@ module _ {A : Type 0} (line_of : Call A → Option (List ℕ)) (filled : (call :
       let (next, text) = full_hand line_of queue h old line a.line some in
       let more : kept_counts line_of (h ++ (step.Hand, reply.Handed (Ok n)) ∷ []) ≡ kept_counts line_of h ++ (line, n) ∷ [] = counts_more line_of h n line text in
       record {
-        replies = replies-push line_of kind format queue h (step.Hand, reply.Handed (Ok n)) a.replies
+        replies = replies-push line_of kind.may_give kind.takes_whole format queue h (step.Hand, reply.Handed (Ok n)) a.replies
             (hand_reply h old (Some line) (reply.Handed (Ok n)) a some (inl (n, record { within = w.count; fits = w.counts_line; whole = w.counts_whole }, refl)));
         line = queue_hand line_of queue h (step.Hand, reply.Handed (Ok n)) (Some n) line old (record old { hand = None; plan = new.plan; writer = new.writer; held = new.held })
             (record { waiting = refl; stopped = refl; submitted = refl; drained = refl }) refl refl refl refl refl a.line some;
@@ -210,7 +210,7 @@ module _ {A : Type 0} (line_of : Call A → Option (List ℕ)) (filled : (call :
   hand_refused : (h : List (Turn A)) (old new : State) (e : SinkError) (line : List ℕ) → After h old → old.hand ≡ Some line → Writes kind format old.writer new.writer old.held new.held line (Err e) → CountsLine format old.held line (Err e) old.plan new.plan
       → After (h ++ (step.Hand, reply.Handed (Err e)) ∷ []) (record old { hand = None; plan = new.plan; writer = new.writer; held = new.held })
   hand_refused h old new e line a some w counts = record {
-    replies = replies-push line_of kind format queue h (step.Hand, reply.Handed (Err e)) a.replies
+    replies = replies-push line_of kind.may_give kind.takes_whole format queue h (step.Hand, reply.Handed (Err e)) a.replies
         (hand_reply h old (Some line) (reply.Handed (Err e)) a some (inr (e, may_fail old.writer new.writer _ _ e w.cause, refl)));
     line = queue_hand line_of queue h (step.Hand, reply.Handed (Err e)) None line old (record old { hand = None; plan = new.plan; writer = new.writer; held = new.held })
         (record { waiting = refl; stopped = refl; submitted = refl; drained = refl }) refl refl refl refl refl a.line some;
@@ -243,7 +243,7 @@ module _ {A : Type 0} (line_of : Call A → Option (List ℕ)) (filled : (call :
   flush_done h old new done a f =
       let same : kept_counts line_of (h ++ (step.Flush, reply.Flushed (Ok done)) ∷ []) ≡ kept_counts line_of h = counts_same line_of h (step.Flush, reply.Flushed (Ok done)) refl (handed_within h old a) in
       record {
-        replies = replies-push line_of kind format queue h (step.Flush, reply.Flushed (Ok done)) a.replies tt;
+        replies = replies-push line_of kind.may_give kind.takes_whole format queue h (step.Flush, reply.Flushed (Ok done)) a.replies tt;
         line = quiet line_of queue h (step.Flush, reply.Flushed (Ok done)) old (record old { writer = new.writer; held = new.held }) (record { waiting = refl; stopped = refl; submitted = refl; drained = refl }) refl refl refl refl refl a.line;
         text = λ tells. text_flushed h (Ok done) old.held new.held old.writer new.writer tells same f (a.text tells);
         refusals = λ whole. ap (λ k. k % 2 ^ 64) f.none_refused.0 ∙ a.refusals whole ∙ ap (λ k. (start.refusals + k) % 2 ^ 64) (sym (errors_same h (step.Flush, reply.Flushed (Ok done)) refl));
@@ -268,7 +268,7 @@ module _ {A : Type 0} (line_of : Call A → Option (List ℕ)) (filled : (call :
   flush_failed h old new e a f =
       let same : kept_counts line_of (h ++ (step.Flush, reply.Flushed (Err e)) ∷ []) ≡ kept_counts line_of h = counts_same line_of h (step.Flush, reply.Flushed (Err e)) refl (handed_within h old a) in
       record {
-        replies = replies-push line_of kind format queue h (step.Flush, reply.Flushed (Err e)) a.replies (may_fail old.writer new.writer _ _ e f.cause);
+        replies = replies-push line_of kind.may_give kind.takes_whole format queue h (step.Flush, reply.Flushed (Err e)) a.replies (may_fail old.writer new.writer _ _ e f.cause);
         line = quiet line_of queue h (step.Flush, reply.Flushed (Err e)) old (record old { writer = new.writer; held = new.held }) (record { waiting = refl; stopped = refl; submitted = refl; drained = refl }) refl refl refl refl refl a.line;
         text = λ tells. text_flushed h (Err e) old.held new.held old.writer new.writer tells same f (a.text tells);
         refusals = λ whole.

@@ -25,6 +25,17 @@ pub record Given (A : Type 0) : Type 0 where
   pub queue : Option ℕ
   pub steps : List (Step A)
 
+abbrev pub given_of : {W A : Type 0} → (W → Kind) → (W → History) → (Call A → Option (List ℕ)) → ℕ → List ℕ → Option ℕ → List (Step A) → W → Given A
+given_of kind history line_of capacity ending queue steps writer =
+    record {
+      line_of = line_of;
+      kind = kind writer;
+      before = history writer;
+      format = record { capacity = capacity; ending = ending };
+      queue = queue;
+      steps = steps;
+    }
+
 -- the packets that a writer took between the two
 abbrev pub packets_between : History → History → List (List ℕ)
 packets_between before after = drop (length before.packets) after.packets
@@ -64,7 +75,7 @@ module _ {W A : Type 0} (history : W → History) (given : Given A) (report : Re
   -- The replies: each has its stated cause, and queue and hand are left as the history says.
   pub record HasReplies : Type 0 where
     pub one_each : length (replies_of report) ≡ length given.steps
-    pub causes : MayReplyAfter given.line_of given.kind given.format given.queue [] turns_of
+    pub causes : MayReplyAfter given.line_of given.kind.may_give given.kind.takes_whole given.format given.queue [] turns_of
     pub waiting : map string_bytes (queue_of report).waiting ≡ drop (taken turns_of) (accepted given.line_of turns_of)
     pub submitted : (queue_of report).submitted ≡ length (accepted given.line_of turns_of)
     pub drained : (queue_of report).drained ≡ taken turns_of

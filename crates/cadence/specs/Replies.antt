@@ -7,7 +7,6 @@ use Rattle.cadence_text.specs.declared.types.errors.SinkError.{SinkError}
 use Rattle.cadence_text.specs.declared.types.errors.SinkError.TheVariants.{ChannelFull, ChannelDisconnected, NothingWritten}
 use Rattle.cadence_text.specs.Errors.{IsInvalid, out_of_memory}
 use Rattle.cadence_flow.specs.Frame.{Format, is_oversize}
-use Rattle.cadence_flow.specs.Writer.{Kind}
 use Rattle.cadence.specs.declared.schedule.call.Call.{Call}
 use Rattle.cadence.specs.declared.schedule.steps.Step.TheVariants as step
 use Rattle.cadence.specs.declared.schedule.steps.Reply.{Reply}
@@ -29,23 +28,25 @@ TakeReplies None None true answer = answer ≡ reply.Ended
 TakeReplies None None false answer = answer ≡ reply.Empty
 
 -- the count for a line: its length, or of an oversize line what a writer with short counts took
-pub record IsCount (kind : Kind) (format : Format) (line : List ℕ) (n : ℕ) : Type 0 where
+pub record IsCount (takes_whole : Bool) (format : Format) (line : List ℕ) (n : ℕ) : Type 0 where
   pub within : n ≤ length line
   pub fits : is_oversize format line ≡ false → n ≡ length line
-  pub whole : kind.takes_whole ≡ true → n ≡ length line
+  pub whole : takes_whole ≡ true → n ≡ length line
 
 -- an error that the writer may give; over a writer with short counts also that it took 0 bytes of held text
-abbrev pub MayFail : Kind → SinkError → Type 0
-MayFail kind e = (kind.may_give e ≡ true) ⊎ ((kind.takes_whole ≡ false) × (e ≡ NothingWritten))
+abbrev pub MayFail : (SinkError → Bool) → Bool → SinkError → Type 0
+MayFail may_give takes_whole e = (may_give e ≡ true) ⊎ ((takes_whole ≡ false) × (e ≡ NothingWritten))
 
 -- a hand, by the line in hand
-abbrev pub HandReplies : Kind → Format → Option (List ℕ) → Reply → Type 0
-HandReplies kind format None answer = answer ≡ reply.Nothing
-HandReplies kind format (Some line) answer =
-    ((n : ℕ) × IsCount kind format line n × (answer ≡ reply.Handed (Ok n)))
-    ⊎ ((e : SinkError) × MayFail kind e × (answer ≡ reply.Handed (Err e)))
+abbrev pub HandReplies : (SinkError → Bool) → Bool → Format → Option (List ℕ) → Reply → Type 0
+HandReplies may_give takes_whole format None answer = answer ≡ reply.Nothing
+HandReplies may_give takes_whole format (Some line) answer =
+    ((n : ℕ) × IsCount takes_whole format line n × (answer ≡ reply.Handed (Ok n)))
+    ⊎ ((e : SinkError) × MayFail may_give takes_whole e × (answer ≡ reply.Handed (Err e)))
 
-module _ {A : Type 0} (line_of : Call A → Option (List ℕ)) (kind : Kind) (format : Format) (queue : Option ℕ) where
+-- by the line of each call, which errors the writer may give, whether it takes each packet whole or refuses it, the
+-- packer's capacity and ending, and the queue's capacity
+module _ {A : Type 0} (line_of : Call A → Option (List ℕ)) (may_give : SinkError → Bool) (takes_whole : Bool) (format : Format) (queue : Option ℕ) where
   -- as many texts wait as the queue's capacity
   abbrev pub is_full : List (Turn A) → Bool
   is_full before = option_map_or (λ room. (length (accepted line_of before) - taken before) == room) queue false
@@ -56,9 +57,9 @@ module _ {A : Type 0} (line_of : Call A → Option (List ℕ)) (kind : Kind) (fo
       CallReplies (line_of call) (is_stopped before) (is_full before) result
   MayReply before (step.Take, answer) =
       TakeReplies (in_hand line_of before) (slice_get (accepted line_of before) (taken before)) (is_stopped before) answer
-  MayReply before (step.Hand, answer) = HandReplies kind format (in_hand line_of before) answer
+  MayReply before (step.Hand, answer) = HandReplies may_give takes_whole format (in_hand line_of before) answer
   MayReply before (step.Flush, reply.Flushed (Ok done)) = Unit {0}
-  MayReply before (step.Flush, reply.Flushed (Err e)) = MayFail kind e
+  MayReply before (step.Flush, reply.Flushed (Err e)) = MayFail may_give takes_whole e
   MayReply before (step.Stop, reply.Stopped) = Unit {0}
   MayReply before _ = ⊥
 

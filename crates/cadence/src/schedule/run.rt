@@ -3,7 +3,7 @@ ghost use Rattle.std.specs.Prelude.{◌≡◌, ◌+◌, ◌≤◌, [], true, len
 ghost use Rattle.std.specs.List.{zip};
 ghost use Rattle.cadence_flow.specs.Queue.{new_queue};
 ghost use Rattle.cadence.specs.Calls.{line_of_data};
-ghost use Rattle.cadence.specs.Headline.{TellsWhole, HasStream, HasCut, HasReplies, HasFewest, HasErrors, IsLate, HasTaken, HasSums, KeepsPackets};
+ghost use Rattle.cadence.specs.Headline.{given_of, TellsWhole, HasStream, HasCut, HasReplies, HasFewest, HasErrors, IsLate, HasTaken, HasSums, KeepsPackets};
 ghost use Rattle.cadence.specs.Moves.{Runs};
 ghost use Rattle.cadence.specs.Running.{state_of};
 
@@ -59,4 +59,55 @@ fn run_steps<P: PacketWriter, A: Allocator + Clone>(
             unreachable!()
         };
     }
+}
+
+/// Runs the steps over a client's settings, a queue of this capacity (`None` is no bound), and a packer of this
+/// capacity in bytes and this ending over the writer.
+pub fn run_schedule<W: PacketWriter, A: Allocator + Clone>(
+    alloc: A,
+    settings: &str,
+    capacity: usize,
+    ending: &str,
+    queue: Option<usize>,
+    steps: &[Step<A>],
+    writer: W,
+) -> Result<Report<W, A>, W>
+    ensures returned { IfErr result (λ back. back ≡ writer) }
+    ensures replies { IfOk result (HasReplies W.history (given_of W.kind W.history (line_of_data settings.now) capacity ending.now queue steps.now writer)) }
+{
+    tight_is_fewest();
+    let Ok((mut replies, plan, queue)) = own_lists(&alloc, steps.len(), queue) else {
+        return Err(writer);
+    };
+    let Ok(second) = alloc.clone() else {
+        return Err(writer);
+    };
+    let packer = match MultiLineWriter::with_ending(second, CountingWriter::new(writer), capacity, ending) {
+        Ok(packer) => packer,
+        Err(counting) => return Err(counting.into_inner()),
+    };
+    let mut running = Running {
+        queue,
+        hand: None,
+        packer,
+        plan,
+    };
+    run_steps(&alloc, settings, capacity, ending, steps, &mut running, &mut replies);
+    let Running {
+        queue,
+        hand,
+        packer,
+        plan,
+    } = running;
+    let (counting, held) = packer.into_parts();
+    let (writer, stats) = counting.into_parts();
+    Ok(Report {
+        replies,
+        cut: plan,
+        held,
+        queue,
+        in_hand: hand,
+        stats,
+        writer,
+    })
 }
