@@ -12,3 +12,4 @@ pub mod Turns
 pub mod Sums
 pub mod RunTurns
 pub mod RunFacts
+pub mod LineFilled

@@ -68,8 +68,7 @@ module _ (kind : Kind) (format : Format) (tells : kind.tells ≡ true) (whole : 
   kept_oversize old new packets held rest line plan plan' n o large last w counts =
       let over : is_oversize format line ≡ true = lt-ltb format.capacity (size_of format line) large in
       let plan_is : plan' ≡ plan ++ 1 ∷ [] = subst (λ j. Counted j plan plan') (not_joined held line large) (counts last) in
-      let closed : closed_packets old.packets held ≡ start ++ (packets ++ held_packet held) = closed_after start packets old.packets (closed_packets old.packets held) held o refl in
-      (
+      let closed : closed_packets old.packets held ≡ start ++ (packets ++ held_packet held) = closed_after start packets old.packets (closed_packets old.packets held) held o refl in (
         (packets ++ held_packet held) ++ line ∷ [],
         w.alone tells whole over ∙ ap (λ p. p ++ line ∷ []) closed ∙ append_assoc start (packets ++ held_packet held) (line ∷ []),
         inr (inr (large, plan_is, refl, w.empties over)),

@@ -19,10 +19,10 @@ use Rattle.cadence.specs.History.{Turn, accepted, accepted_by, taken, kept, kept
 use Rattle.cadence.specs.Packets.{held_packet, ArePacketsOf}
 use Rattle.cadence.specs.Plan.{groups_of, IsTight, IsFewest, IsCutLate}
 use Rattle.cadence.specs.Stream.{taken_stream}
-use Rattle.cadence.specs.Moves.{State}
+use Rattle.cadence.specs.Moves.{State, Runs, at_start}
 use Rattle.cadence.proofs.Ends.{joined}
 use Rattle.cadence.proofs.Shown.{shown, shown_late}
-use Rattle.cadence.proofs.Turns.{After, CutAfter, TextAfter}
+use Rattle.cadence.proofs.Turns.{After, CutAfter, TextAfter, after}
 
 -- the packets joined, then the held text
 joined_packets : (packets : List (List ℕ)) (held : List ℕ) → concat (packets ++ held_packet held) ≡ concat packets ++ held
@@ -156,3 +156,17 @@ run_sums k0 k1 h0 h1 s same tells (more, e) bytes packets =
       bytes_dropped = drop_between s.bytes_dropped h0.refused_bytes h1.refused_bytes (ap (λ (t : SinkStats). t.bytes_dropped) began);
       packets_dropped = drop_between s.packets_dropped h0.refusals h1.refusals (ap (λ (t : SinkStats). t.packets_dropped) began);
     }
+
+-- a whole run, from the state that its own lists begin with
+pub run_after : {A : Type 0} (line_of : Call A → Option (List ℕ)) (filled : (call : Call A) (line : List ℕ) → line_of call ≡ Some line → line ≢ []) (kind kind0 : Kind) (format format0 : Format) (queue queue0 : Option ℕ) (start : History) (s0 s1 : State) (turns : List (Turn A))
+    → kind0 ≡ kind → format0 ≡ format → queue0 ≡ queue → s0 ≡ at_start start → length turns < 2 ^ 64 → Runs line_of kind0 format0 queue0 s0 turns s1 → After line_of filled kind format queue start turns s1
+run_after line_of filled kind kind0 format format0 queue queue0 start s0 s1 turns k f q s short runs =
+    after line_of filled kind format queue start turns s1 short
+    (subst (λ x. Runs line_of kind format queue x turns s1) s
+    (subst (λ x. Runs line_of kind format x s0 turns s1) q
+    (subst (λ x. Runs line_of kind x queue0 s0 turns s1) f
+    (subst (λ x. Runs line_of x format0 queue0 s0 turns s1) k runs))))
+
+-- what holds of a writer's history and held text holds of equal ones
+pub at_parts : (P : History → List ℕ → Type 0) (w w' : History) (x x' : List ℕ) → w' ≡ w → x' ≡ x → P w x → P w' x'
+at_parts P w w' x x' e f p = subst (λ h. P h x') (sym e) (subst (λ t. P w t) (sym f) p)

@@ -1,10 +1,11 @@
 //! Runs of schedules.
-ghost use Rattle.std.specs.Prelude.{◌≡◌, ◌+◌, ◌≤◌, [], true, length, vec_len, vec_capacity, IfOk, IfErr};
+ghost use Rattle.std.specs.Prelude.{◌≡◌, ◌+◌, ◌^◌, ◌<◌, ◌≤◌, [], true, length, vec_len, vec_capacity, IfOk, IfErr};
 ghost use Rattle.std.specs.List.{zip};
 ghost use Rattle.cadence_flow.specs.Queue.{new_queue};
 ghost use Rattle.cadence.specs.Calls.{line_of_data};
 ghost use Rattle.cadence.specs.Headline.{given_of, TellsWhole, HasStream, HasCut, HasReplies, HasFewest, HasErrors, IsLate, HasTaken, HasSums, KeepsPackets};
 ghost use Rattle.cadence.specs.Moves.{Runs};
+ghost use Rattle.cadence.specs.Report.{writer_of};
 ghost use Rattle.cadence.specs.Running.{state_of};
 
 use super::counting::CountingWriter;
@@ -27,6 +28,7 @@ fn own_lists<A: Allocator + Clone>(
     ensures replies { IfOk result (λ lists. (lists.0.items ≡ []) × (steps ≤ vec_capacity lists.0)) }
     ensures plan { IfOk result (λ lists. (lists.1.items ≡ []) × (steps ≤ vec_capacity lists.1)) }
     ensures queue { IfOk result (λ lists. lists.2 ≡ new_queue queue) }
+    ensures few { IfOk result (λ lists. steps < 2 ^ 64) }
 {
     let replies = Vec::with_capacity(alloc.clone()?, steps)?;
     let plan = Vec::with_capacity(alloc.clone()?, steps)?;
@@ -72,8 +74,30 @@ pub fn run_schedule<W: PacketWriter, A: Allocator + Clone>(
     steps: &[Step<A>],
     writer: W,
 ) -> Result<Report<W, A>, W>
+    ensures stream { TellsWhole (W.kind writer) → IfOk result (HasStream W.history
+        (given_of W.kind W.history (line_of_data settings.now) capacity ending.now queue steps.now writer)) }
+    ensures cut { TellsWhole (W.kind writer) → IfOk result (HasCut W.history
+        (given_of W.kind W.history (line_of_data settings.now) capacity ending.now queue steps.now writer)) }
+    ensures replies { IfOk result (HasReplies W.history
+        (given_of W.kind W.history (line_of_data settings.now) capacity ending.now queue steps.now writer)) }
+    ensures fewest { TellsWhole (W.kind writer) → IfOk result (λ report.
+        (W.history (writer_of report)).refusals ≡ (W.history writer).refusals → HasFewest W.history
+        (given_of W.kind W.history (line_of_data settings.now) capacity ending.now queue steps.now writer) report) }
+
+    // Where the writer refused packets, and over a writer with short counts.
+    ensures late { TellsWhole (W.kind writer) → IfOk result (IsLate W.history
+        (given_of W.kind W.history (line_of_data settings.now) capacity ending.now queue steps.now writer)) }
+    ensures errors { (W.kind writer).takes_whole ≡ true → IfOk result (HasErrors W.history
+        (given_of W.kind W.history (line_of_data settings.now) capacity ending.now queue steps.now writer)) }
+    ensures taken { (W.kind writer).tells ≡ true → IfOk result (HasTaken W.history
+        (given_of W.kind W.history (line_of_data settings.now) capacity ending.now queue steps.now writer)) }
+    ensures stats { (W.kind writer).tells ≡ true → IfOk result (HasSums W.history
+        (given_of W.kind W.history (line_of_data settings.now) capacity ending.now queue steps.now writer)) }
+    ensures earlier { (W.kind writer).tells ≡ true → IfOk result (KeepsPackets W.history
+        (given_of W.kind W.history (line_of_data settings.now) capacity ending.now queue steps.now writer)) }
+
+    // Where the run's own lists found no memory, no step was made.
     ensures returned { IfErr result (λ back. back ≡ writer) }
-    ensures replies { IfOk result (HasReplies W.history (given_of W.kind W.history (line_of_data settings.now) capacity ending.now queue steps.now writer)) }
 {
     tight_is_fewest();
     let Ok((mut replies, plan, queue)) = own_lists(&alloc, steps.len(), queue) else {
@@ -82,7 +106,12 @@ pub fn run_schedule<W: PacketWriter, A: Allocator + Clone>(
     let Ok(second) = alloc.clone() else {
         return Err(writer);
     };
-    let packer = match MultiLineWriter::with_ending(second, CountingWriter::new(writer), capacity, ending) {
+    let packer = match MultiLineWriter::with_ending(
+        second,
+        CountingWriter::new(writer),
+        capacity,
+        ending,
+    ) {
         Ok(packer) => packer,
         Err(counting) => return Err(counting.into_inner()),
     };
@@ -92,7 +121,15 @@ pub fn run_schedule<W: PacketWriter, A: Allocator + Clone>(
         packer,
         plan,
     };
-    run_steps(&alloc, settings, capacity, ending, steps, &mut running, &mut replies);
+    run_steps(
+        &alloc,
+        settings,
+        capacity,
+        ending,
+        steps,
+        &mut running,
+        &mut replies,
+    );
     let Running {
         queue,
         hand,

@@ -44,7 +44,10 @@ fn format_call<A: Allocator + Clone>(
     ensures refused { IfErr result (LineFails (line_of_data settings.now call.now)) }
 {
     if call.overflows {
-        return Err(MetricError::from((cadence_text::types::ErrorKind::InvalidInput, "u64 overflow")));
+        return Err(MetricError::from((
+            cadence_text::types::ErrorKind::InvalidInput,
+            "u64 overflow",
+        )));
     }
     let mut line = String::from_str(alloc.clone()?, settings)?;
     line.push_str(call.key.as_str())?;
