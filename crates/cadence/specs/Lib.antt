@@ -1,3 +1,4 @@
+pub mod Call
 pub mod Calls
 pub mod Headline
 pub mod History
@@ -8,4 +9,8 @@ pub mod PlanGroup
 pub mod Replies
 pub mod Report
 pub mod Running
+pub mod Sending
+pub mod Settings
+pub mod SettingsParts
+pub mod Shown
 pub mod Stream

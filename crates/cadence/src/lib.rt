@@ -1,4 +1,6 @@
 //! A Statsd client whose lines, order and packets are proved.
 #![tactic(auto)]
 
+pub mod client;
 pub mod schedule;
+mod sealed;

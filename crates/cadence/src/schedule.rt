@@ -8,7 +8,8 @@ pub mod run;
 mod running;
 pub mod steps;
 
-pub use call::Call;
+pub use call::{Call, CallOption, CallValue};
 pub use plan::{check_plan, plan_packets, tight_is_fewest};
 pub use reports::Report;
+pub use run::run_schedule;
 pub use steps::{Reply, Step};

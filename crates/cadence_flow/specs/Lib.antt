@@ -2,6 +2,7 @@ pub mod Frame
 pub mod Log
 pub mod Packer
 pub mod Queue
+pub mod QueueModel
 pub mod QueueState
 pub mod Sums
 pub mod Tests

@@ -1,6 +1,7 @@
 -- Sums of sent and dropped bytes and packets, modulo 2^64.
-use Rattle.std.specs.Prelude.{ℕ, ◌+◌, ◌*◌, ◌%◌, ◌^◌, Bool, true, false, length}
+use Rattle.std.specs.Prelude.{ℕ, ◌+◌, ◌*◌, ◌%◌, ◌^◌, Bool, true, false, length, Result, Ok, Err}
 use Rattle.std.specs.List.{concat}
+use Rattle.cadence_text.specs.declared.types.errors.SinkError.{SinkError}
 use Rattle.cadence_flow.specs.Writer.{History, Kind}
 use Rattle.cadence_flow.specs.declared.stats.SinkStats.{SinkStats}
 
@@ -16,6 +17,11 @@ after_taken sums n =
 abbrev pub after_refused : SinkStats → ℕ → SinkStats
 after_refused sums n =
     record sums { bytes_dropped = (sums.bytes_dropped + n) % 2 ^ 64; packets_dropped = (sums.packets_dropped + 1) % 2 ^ 64 }
+
+-- the sums with one more answer to a packet of this length
+abbrev pub after_answer : SinkStats → Result ℕ SinkError → ℕ → SinkStats
+after_answer sums (Ok n) len = after_taken sums n
+after_answer sums (Err e) len = after_refused sums len
 
 -- the sums of all that a writer took and refused, with those at the start
 abbrev pub sums_since : SinkStats → History → SinkStats

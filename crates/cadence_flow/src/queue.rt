@@ -1,5 +1,9 @@
 //! The queue between the callers of a sink and its worker.
 
 pub mod queue_core;
+pub mod shared;
+#[cfg(test)]
+mod tests;
 
 pub use queue_core::{QueueCore, Taken};
+pub use shared::SharedQueue;

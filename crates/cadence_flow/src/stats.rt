@@ -1,5 +1,11 @@
 //! Counts of what was sent and dropped.
 
+mod socket;
+#[cfg(test)]
+mod tests;
+
+pub use socket::SocketStats;
+
 /// How many bytes and packets were sent and dropped, each modulo 2 to the 64. As in cadence; the two `add_` calls
 /// are this project's own. A packet that is refused and sent later counts in both.
 #[derive(Clone, Copy, Debug, Default, PartialEq, Eq)]

@@ -2,3 +2,7 @@ pub mod Errors
 pub mod Number
 pub mod Metric
 pub mod Line
+pub mod Values
+pub mod OneReading
+pub mod Record
+pub mod Sink

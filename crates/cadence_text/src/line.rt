@@ -1,5 +1,10 @@
 //! The kinds of metrics and the line of a record.
 
+mod pieces;
+mod record;
+mod sink;
+
+pub use record::{Record, Tag};
 use std::fmt;
 
 /// The kind of a metric. It prints its type text.

@@ -13,6 +13,7 @@ use super::plan::tight_is_fewest;
 use super::reports::Report;
 use super::running::Running;
 use super::steps::{Reply, Step};
+use crate::client::ClientSettings;
 use cadence_flow::io::{MultiLineWriter, PacketWriter};
 use cadence_flow::queue::QueueCore;
 use cadence_flow::stats::SinkStats;
@@ -39,7 +40,7 @@ fn own_lists<A: Allocator + Clone>(
 /// Makes the steps in order, and keeps their replies.
 fn run_steps<P: PacketWriter, A: Allocator + Clone>(
     alloc: &A,
-    settings: &str,
+    settings: &ClientSettings<A>,
     capacity: usize,
     ending: &str,
     steps: &[Step<A>],
@@ -67,7 +68,7 @@ fn run_steps<P: PacketWriter, A: Allocator + Clone>(
 /// capacity in bytes and this ending over the writer.
 pub fn run_schedule<W: PacketWriter, A: Allocator + Clone>(
     alloc: A,
-    settings: &str,
+    settings: &ClientSettings<A>,
     capacity: usize,
     ending: &str,
     queue: Option<usize>,

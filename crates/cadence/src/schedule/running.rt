@@ -5,6 +5,7 @@ ghost use Rattle.cadence.specs.Moves.{HasLast, Counted, LineFails};
 
 use super::call::Call;
 use super::steps::{Reply, Step};
+use crate::client::ClientSettings;
 use cadence_flow::io::{MultiLineWriter, PacketWriter};
 use cadence_flow::queue::{QueueCore, Taken};
 use cadence_text::types::{MetricError, MetricResult, SinkError};
@@ -37,22 +38,14 @@ fn count_line<A: Allocator>(plan: &mut Vec<usize, A>, joins: bool)
 /// The line of a call.
 fn format_call<A: Allocator + Clone>(
     alloc: &A,
-    settings: &str,
+    settings: &ClientSettings<A>,
     call: &Call<A>,
 ) -> MetricResult<String<A>>
     ensures line { IfOk result (λ line. line_of_data settings.now call.now ≡ Some (string_bytes line)) }
     ensures refused { IfErr result (LineFails (line_of_data settings.now call.now)) }
 {
-    if call.overflows {
-        return Err(MetricError::from((
-            cadence_text::types::ErrorKind::InvalidInput,
-            "u64 overflow",
-        )));
-    }
-    let mut line = String::from_str(alloc.clone()?, settings)?;
-    line.push_str(call.key.as_str())?;
-    line.push(':')?;
-    Ok(line)
+    let record = settings.record_of(call)?;
+    record.format(alloc.clone()?)
 }
 
 impl<P: PacketWriter, A: Allocator + Clone> Running<P, A> {
@@ -63,7 +56,7 @@ impl<P: PacketWriter, A: Allocator + Clone> Running<P, A> {
     ghost use Rattle.cadence.specs.declared.schedule.steps.Step.TheVariants as step;
 
     /// Formats a call and submits its line.
-    fn call(&mut self, alloc: &A, settings: &str, call: &Call<A>) -> Reply
+    fn call(&mut self, alloc: &A, settings: &ClientSettings<A>, call: &Call<A>) -> Reply
         ensures { MakesTurn P.kind P.history (line_of_data settings.now) self.old (step.Call call.now, result) self.new }
     {
         let line = match format_call(alloc, settings, call) {
@@ -143,7 +136,7 @@ impl<P: PacketWriter, A: Allocator + Clone> Running<P, A> {
     pub(crate) fn step(
         &mut self,
         alloc: &A,
-        settings: &str,
+        settings: &ClientSettings<A>,
         capacity: usize,
         ending: &str,
         step: &Step<A>,

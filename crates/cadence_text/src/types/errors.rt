@@ -175,3 +175,6 @@ impl From<AllocError> for SinkError {
         SinkError::OutOfMemory
     }
 }
+
+#[cfg(test)]
+mod tests;

@@ -11,7 +11,7 @@ returns-in-Text g c = λ line_of.
     let none : c.args.self.now.hand ≡ None = grind (arith, common_steps) in
     let q = c.args.self.now.queue in
     let r = c.take.new.self in
-    let queues = c.in-Text.ensures in
+    let queues = c.in-Text.ensures.taken in
     record {
       moves = (
         ap (option_map string_bytes) none,
