@@ -8,3 +8,6 @@ pub use spy::{BufferedSpyMetricSink, SpyMetricSink, SpyReceiver};
 
 // The bytes that a buffered sink holds where none are given, as in cadence.
 const DEFAULT_BUFFER_SIZE: usize = 512;
+
+#[cfg(test)]
+mod tests;

@@ -1,6 +1,7 @@
 use super::{QueueCore, SharedQueue, Taken};
-use cadence_text::types::{MetricError, SinkError};
+use cadence_text::types::{MetricResult, SinkError};
 use refusing::Refusing;
+use std::alloc::Global;
 use std::test::Fail;
 use std::thread;
 
@@ -93,6 +94,20 @@ fn refused_memory(rt: HostRuntime) -> Result<(), Fail> {
     assert!(rt; queue.submit('B').is_ok());
     assert_eq!(rt; (queue.submitted(), queue.waiting()), (1, 1));
     assert_eq!(rt; queue.get(0), Some(&'B'));
+    Ok(())
+}
+
+#[test]
+fn bounded_queue_reserves(rt: HostRuntime) -> Result<(), Fail> {
+    let heap = Refusing::after(rt.alloc(), rt.alloc(), 1)?;
+    let mut queue = QueueCore::new(heap.clone()?, Some(2))?;
+    assert!(rt; queue.submit('A').is_ok());
+    assert!(rt; queue.submit('B').is_ok());
+    assert_eq!(rt; heap.left(), 0);
+    let refused: MetricResult<QueueCore<char, Refusing<Global>>> = QueueCore::new(heap, Some(2));
+    assert!(rt; refused.is_err());
+    let too_large: MetricResult<QueueCore<char>> = QueueCore::new(rt.alloc(), Some(usize::MAX));
+    assert!(rt; too_large.is_err());
     Ok(())
 }
 

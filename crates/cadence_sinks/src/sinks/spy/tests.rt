@@ -34,6 +34,7 @@ fn receiver_outlives_its_sink(rt: HostRuntime) -> Result<(), Fail> {
 #[test]
 fn two_threads_fill_a_spy(rt: HostRuntime) -> Result<(), Fail> {
     let (receiver, sink) = SpyMetricSink::new(rt.clone()?, rt.alloc())?;
+    let sink: Box<dyn MetricSink + Send + Sync> = Box::new(rt.alloc(), sink)?;
     let (first, second) = thread::join(
         &rt,
         || sink.emit("a:1|c").is_ok(),
