@@ -64,8 +64,21 @@ fn run_steps<P: PacketWriter, A: Allocator + Clone>(
     }
 }
 
-/// Runs the steps over a client's settings, a queue of this capacity (`None` is no bound), and a packer of this
-/// capacity in bytes and this ending over the writer.
+/// Runs the steps, in order, over a client of these settings, a queue of this capacity in lines (`None` is no bound),
+/// and a packer of this capacity in bytes and this ending over the writer. One worker has at most one line in hand.
+/// Whatever callers and one worker do, each in steps of its own, is such a list. A rule of this project's own.
+///
+/// After any list of metric calls, worker steps, flushes and stops, packets then held text are, in acceptance order,
+/// the grammar's lines of the accepted calls handed on and taken, each with its ending, oversize ones alone without;
+/// none is split, a refusal has its stated cause and leaves no byte, and where the writer refused nothing, no cut that
+/// ends at every flush has fewer packets.
+///
+/// This is proved in four clauses: `stream`, `cut`, `replies` and `fewest`, for a writer that tells its packets and
+/// takes each whole or refuses it. `replies` holds for every writer, and `taken` says what becomes of the stream over
+/// a writer that tells its packets and takes parts of them: of an oversize line as many bytes as were counted.
+///
+/// # Errors
+/// The writer comes back where the run's own lists or the packer's room found no memory. No step was made then.
 pub fn run_schedule<W: PacketWriter, A: Allocator + Clone>(
     alloc: A,
     settings: &ClientSettings<A>,
@@ -149,3 +162,6 @@ pub fn run_schedule<W: PacketWriter, A: Allocator + Clone>(
         writer,
     })
 }
+
+#[cfg(test)]
+mod tests;
