@@ -10,6 +10,8 @@ mod metrics;
 mod pending;
 mod settings;
 mod statsd_client;
+#[cfg(test)]
+mod tests;
 
 pub use backend::MetricBackend;
 pub use builder::MetricBuilder;

@@ -11,7 +11,7 @@ use Rattle.cadence_text.specs.declared.line.MetricType.TheVariants.{Counter, Tim
 use Rattle.cadence_text.specs.Number.{Number, number_text}
 use Rattle.cadence_text.specs.Metric.{Metric, Tag}
 use Rattle.cadence_text.specs.Line.{separated, numbers_text, kind_text, rate_field, key_text, tag_text, tags_field, container_field, time_field, line_of}
-use Rattle.cadence_text.specs.OneReading.{IsNoSeparator, IsFreeText, IsFreeTag, IsInRange, IsReadable, lines_of, IsPacketOf}
+use Rattle.cadence_text.specs.OneReading.{IsNoSeparator, IsFreeText, IsFreeTag, HasWidth, IsReadable, lines_of, IsPacketOf}
 use Rattle.cadence_text.proofs.Cut.{Lacks, cut_at, join_once, map_once, each_weaker, each_mapped, each_append, each_joined, cut_once, Stops, Passes}
 use Rattle.cadence_text.proofs.NumberText.{number_once, number_bytes, IsNumberByte, number_some, decimal_bytes, decimal_once}
 
@@ -101,7 +101,7 @@ plain_lacks_colon text h = each_weaker IsNoSeparator (λ b. b ≢ 58) (λ b p. p
 plain_part : (text : List ℕ) → IsFreeText text → AllByRecursion PartByte text
 plain_part text h = each_weaker IsNoSeparator PartByte (λ b p. (p.2, p.3)) text (plain text h)
 
-number_plain : (a : Number) → IsInRange a → AllByRecursion IsNoSeparator (number_text a)
+number_plain : (a : Number) → HasWidth a → AllByRecursion IsNoSeparator (number_text a)
 number_plain a h = each_weaker IsNumberByte IsNoSeparator (λ b p. let (low, high) = p in (λ e. absurd (omega arith), λ e. absurd (omega arith), λ e. absurd (omega arith), λ e. absurd (omega arith))) (number_text a) (number_bytes a h)
 
 -- `key:text`, or the text alone
@@ -158,17 +158,17 @@ joined_some c x [] some e = absurd (omega (arith, ap (λ t. length t) e))
 joined_some c x (y ∷ xs) some e = absurd (omega (arith, ap (λ t. length t) e, length-append x (c ∷ join_with_byte c (y ∷ xs))))
 
 -- numbers joined by colons
-number_lacks : (a : Number) → IsInRange a → Lacks 58 (number_text a)
+number_lacks : (a : Number) → HasWidth a → Lacks 58 (number_text a)
 number_lacks a h = each_weaker IsNoSeparator (λ b. b ≢ 58) (λ b p. p.0) (number_text a) (number_plain a h)
 
-numbers_once : (xs ys : List Number) → AllByRecursion IsInRange xs → AllByRecursion IsInRange ys → join_with_byte 58 (map number_text xs) ≡ join_with_byte 58 (map number_text ys) → xs ≡ ys
+numbers_once : (xs ys : List Number) → AllByRecursion HasWidth xs → AllByRecursion HasWidth ys → join_with_byte 58 (map number_text xs) ≡ join_with_byte 58 (map number_text ys) → xs ≡ ys
 numbers_once [] [] hx hy e = refl
 numbers_once [] (y ∷ ys) hx (hy, hys) e = absurd (joined_some 58 (number_text y) (map number_text ys) (number_some y hy) (sym e))
 numbers_once (x ∷ xs) [] (hx, hxs) hy e = absurd (joined_some 58 (number_text x) (map number_text xs) (number_some x hx) e)
 numbers_once (x ∷ xs) (y ∷ ys) hx hy e =
-    map_once IsInRange number_text number_once (x ∷ xs) (y ∷ ys) hx hy
+    map_once HasWidth number_text number_once (x ∷ xs) (y ∷ ys) hx hy
     (join_once 58 (number_text x) (number_text y) (map number_text xs) (map number_text ys)
-    (each_mapped number_text IsInRange (Lacks 58) number_lacks (x ∷ xs) hx) (each_mapped number_text IsInRange (Lacks 58) number_lacks (y ∷ ys) hy) e)
+    (each_mapped number_text HasWidth (Lacks 58) number_lacks (x ∷ xs) hx) (each_mapped number_text HasWidth (Lacks 58) number_lacks (y ∷ ys) hy) e)
 
 -- the parts that may be missing, each known by its first byte
 abbrev marked : ℕ → List ℕ → Bool
@@ -201,7 +201,7 @@ stops_rate [] (Some c) t = refl
 stops_rate [] None (Some t) = refl
 stops_rate [] None None = tt
 
-rate_once : (a b : Option Number) → IfSome a IsInRange → IfSome b IsInRange → rate_part a ≡ rate_part b → a ≡ b
+rate_once : (a b : Option Number) → IfSome a HasWidth → IfSome b HasWidth → rate_part a ≡ rate_part b → a ≡ b
 rate_once (Some a) (Some b) ha hb e = let text : number_text a ≡ number_text b = cc in ap Some (number_once a b ha hb text)
 rate_once (Some a) None ha hb e = absurd cc
 rate_once None (Some b) ha hb e = absurd cc
@@ -245,7 +245,7 @@ kind_part Histogram = (letter 104 (lit< tt) (lit< tt), tt)
 kind_part Set = (letter 115 (lit< tt) (lit< tt), tt)
 kind_part Distribution = (letter 100 (lit< tt) (lit< tt), tt)
 
-number_part : (a : Number) → IsInRange a → AllByRecursion PartByte (number_text a)
+number_part : (a : Number) → HasWidth a → AllByRecursion PartByte (number_text a)
 number_part a h = each_weaker IsNoSeparator PartByte (λ b p. (p.2, p.3)) (number_text a) (number_plain a h)
 
 tag_part : (a : Tag) → IsFreeTag a → AllByRecursion PartByte (tag_text a)
@@ -254,7 +254,7 @@ tag_part a h = each_weaker TagByte PartByte (λ b p. (p.1, p.2)) (tag_text a) (t
 abbrev PlainParts : List (List ℕ) → Type 0
 PlainParts parts = AllByRecursion (AllByRecursion PartByte) parts
 
-rate_bytes : (o : Option Number) → IfSome o IsInRange → PlainParts (rate_part o)
+rate_bytes : (o : Option Number) → IfSome o HasWidth → PlainParts (rate_part o)
 rate_bytes (Some r) h = ((letter 64 (lit< tt) (lit< tt), number_part r h), tt)
 rate_bytes None h = tt
 
@@ -273,7 +273,7 @@ time_bytes None h = tt
 front_bytes : (m : Metric) → IsReadable m → AllByRecursion PartByte (front_of m)
 front_bytes m h =
     each_append PartByte m.name (58 ∷ join_with_byte 58 (map number_text m.numbers)) (plain_part m.name h.free.name)
-    (letter 58 (lit< tt) (lit< tt), each_joined PartByte 58 (letter 58 (lit< tt) (lit< tt)) (map number_text m.numbers) (each_mapped number_text IsInRange (AllByRecursion PartByte) number_part m.numbers (recursion_from_All IsInRange m.numbers h.widths.numbers)))
+    (letter 58 (lit< tt) (lit< tt), each_joined PartByte 58 (letter 58 (lit< tt) (lit< tt)) (map number_text m.numbers) (each_mapped number_text HasWidth (AllByRecursion PartByte) number_part m.numbers (recursion_from_All HasWidth m.numbers h.widths.numbers)))
 
 parts_bytes : (m : Metric) → IsReadable m → PlainParts (parts_of m)
 parts_bytes m h = (
@@ -298,7 +298,7 @@ line_once a b ha hb e =
     let tail : last_of a ≡ last_of b = cc parts in
     let (name, values) = cut_at 58 a.name b.name (58 ∷ join_with_byte 58 (map number_text a.numbers)) (58 ∷ join_with_byte 58 (map number_text b.numbers)) (plain_lacks_colon a.name ha.free.name) (plain_lacks_colon b.name hb.free.name) refl refl front in
     let texts : join_with_byte 58 (map number_text a.numbers) ≡ join_with_byte 58 (map number_text b.numbers) = cc values in
-    let numbers : a.numbers ≡ b.numbers = numbers_once a.numbers b.numbers (recursion_from_All IsInRange a.numbers ha.widths.numbers) (recursion_from_All IsInRange b.numbers hb.widths.numbers) texts in
+    let numbers : a.numbers ≡ b.numbers = numbers_once a.numbers b.numbers (recursion_from_All HasWidth a.numbers ha.widths.numbers) (recursion_from_All HasWidth b.numbers hb.widths.numbers) texts in
     let kind : a.kind ≡ b.kind = kind_once a.kind b.kind kinds in
     let (rates, after_rate) = cut_once (marked 64) (rate_part a.rate) (rate_part b.rate) (tags_part a.tags ++ (container_part a.container ++ time_part a.time)) (tags_part b.tags ++ (container_part b.container ++ time_part b.time)) (passes_rate a.rate) (passes_rate b.rate) (stops_rate a.tags a.container a.time) (stops_rate b.tags b.container b.time) tail in
     let (tags, after_tags) = cut_once (marked 35) (tags_part a.tags) (tags_part b.tags) (container_part a.container ++ time_part a.time) (container_part b.container ++ time_part b.time) (passes_tags a.tags) (passes_tags b.tags) (stops_tags a.container a.time) (stops_tags b.container b.time) after_rate in

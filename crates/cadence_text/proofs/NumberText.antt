@@ -12,7 +12,7 @@ use Rattle.std.proofs.lemmas.Bool.{lt-ltb, ne_eqb}
 use Rattle.std.proofs.lemmas.Grind.{common_steps}
 use Rattle.std.proofs.Math.Nat.{div-le_self, div-add-mod, mod-le, mod-lt, one-le-pow}
 use Rattle.cadence_text.specs.Number.{Number, number_text, places_text, filled_to}
-use Rattle.cadence_text.specs.OneReading.{IsInRange}
+use Rattle.cadence_text.specs.OneReading.{HasWidth}
 use Rattle.cadence_text.proofs.Cut.{cut_once, each_append, Stops, Passes}
 
 -- zeros before digits leave their value
@@ -32,16 +32,16 @@ pub decimal_once : (m n : ℕ) → m < 10 ^ 64 → n < 10 ^ 64 → decimal m ≡
 decimal_once m n hm hn e = sym (decimal_is_IsNumeral_wide m hm).1 ∙ ap (digits_value 10) e ∙ (decimal_is_IsNumeral_wide n hn).1
 
 -- the digits after the dot
-abbrev places_of : ℕ → ℕ → List ℕ
+abbrev pub places_of : ℕ → ℕ → List ℕ
 places_of n p = filled_to p (decimal (n % 10 ^ p))
 
 ten_to_pos : (p : ℕ) → 0 < 10 ^ p
 ten_to_pos p = omega (arith, one-le-pow p 10 (lit< tt))
 
-rest_below : (n p : ℕ) → n < 10 ^ 64 → n % 10 ^ p < 10 ^ 64
+pub rest_below : (n p : ℕ) → n < 10 ^ 64 → n % 10 ^ p < 10 ^ 64
 rest_below n p h = omega (arith, mod-le n (10 ^ p))
 
-length-places_of : (n p : ℕ) → n < 10 ^ 64 → length (places_of n (suc p)) ≡ suc p
+pub length-places_of : (n p : ℕ) → n < 10 ^ 64 → length (places_of n (suc p)) ≡ suc p
 length-places_of n p h =
     let r = n % 10 ^ suc p in
     let short : length (decimal r) ≤ suc p = length-decimal-le_wide (suc p) r (omega arith) (mod-lt n (ten_to_pos (suc p))) (rest_below n (suc p) h) in
@@ -51,7 +51,7 @@ places_value : (n p : ℕ) → n < 10 ^ 64 → digits_value 10 (places_of n p) �
 places_value n p h =
     digits_value-zeros (p - length (decimal (n % 10 ^ p))) (decimal (n % 10 ^ p)) ∙ (decimal_is_IsNumeral_wide (n % 10 ^ p) (rest_below n p h)).1
 
-places_text-suc : (n p : ℕ) → places_text n (suc p) ≡ 46 ∷ places_of n (suc p)
+pub places_text-suc : (n p : ℕ) → places_text n (suc p) ≡ 46 ∷ places_of n (suc p)
 places_text-suc n p = let some : eqb (suc p) 0 ≡ false = ne_eqb (suc p) 0 (λ e. omega arith) in rw some
 
 -- a text of digits alone passes the test for digits
@@ -72,11 +72,11 @@ places_once m n (suc p) (suc q) hm hn e =
     let same : places_of m (suc p) ≡ places_of n (suc q) = cc in
     (omega (arith, ap length same, length-places_of m p hm, length-places_of n q hn), sym (places_value m (suc p) hm) ∙ ap (digits_value 10) same ∙ places_value n (suc q) hn)
 
-quotient_below : (n p : ℕ) → n < 10 ^ 64 → n / 10 ^ p < 10 ^ 64
+pub quotient_below : (n p : ℕ) → n < 10 ^ 64 → n / 10 ^ p < 10 ^ 64
 quotient_below n p h = omega (arith, div-le_self n (10 ^ p))
 
 -- the text of a magnitude and its places
-abbrev unsigned_text : ℕ → ℕ → List ℕ
+abbrev pub unsigned_text : ℕ → ℕ → List ℕ
 unsigned_text n p = decimal (n / 10 ^ p) ++ places_text n p
 
 unsigned_once : (m n p q : ℕ) → m < 10 ^ 64 → n < 10 ^ 64 → unsigned_text m p ≡ unsigned_text n q → (m ≡ n) × (p ≡ q)
@@ -88,10 +88,10 @@ unsigned_once m n p q hm hn e =
     (sym (div-add-mod m (10 ^ p)) ∙ cc (scales, quotients, rests) ∙ div-add-mod n (10 ^ q), places)
 
 -- a minus, where it is below zero
-abbrev sign : ℤ → List ℕ
+abbrev pub sign : ℤ → List ℕ
 sign z = if is_negative z then codes "-" else []
 
-sign-pos : (n : ℕ) → sign (pos n) ≡ []
+pub sign-pos : (n : ℕ) → sign (pos n) ≡ []
 sign-pos n = grind (arith, common_steps)
 
 after_sign : (n p : ℕ) → unsigned_text n p ≡ sign (pos n) ++ unsigned_text n p
@@ -113,11 +113,11 @@ signed_once (negsuc m) (negsuc n) p q hm hn e =
     let rest : unsigned_text (suc m) p ≡ unsigned_text (suc n) q = cc in
     let (size, places) = unsigned_once (suc m) (suc n) p q hm hn rest in (ap negsuc (omega arith), places)
 
-fits_wide : (z : ℤ) → unsigned_abs z ≤ 2 ^ 127 → unsigned_abs z < 10 ^ 64
+pub fits_wide : (z : ℤ) → unsigned_abs z ≤ 2 ^ 127 → unsigned_abs z < 10 ^ 64
 fits_wide z h = omega arith
 
 -- numbers with one text are one number
-pub number_once : (a b : Number) → IsInRange a → IsInRange b → number_text a ≡ number_text b → a ≡ b
+pub number_once : (a b : Number) → HasWidth a → HasWidth b → number_text a ≡ number_text b → a ≡ b
 number_once a b ha hb e =
     let (mantissa, places) = signed_once a.mantissa b.mantissa a.places b.places (fits_wide a.mantissa ha) (fits_wide b.mantissa hb) e in
     λ i. record { mantissa = mantissa i; places = places i }
@@ -143,14 +143,14 @@ sign_bytes (negsuc n) = ((lit< tt, lit< tt), tt)
 pub decimal_bytes : (n : ℕ) → n < 10 ^ 64 → AllByRecursion IsNumberByte (decimal n)
 decimal_bytes n h = digits_bytes (decimal n) (numeral n h).1
 
-pub number_bytes : (a : Number) → IsInRange a → AllByRecursion IsNumberByte (number_text a)
+pub number_bytes : (a : Number) → HasWidth a → AllByRecursion IsNumberByte (number_text a)
 number_bytes a h =
     let n = unsigned_abs a.mantissa in
     let wide : n < 10 ^ 64 = fits_wide a.mantissa h in
     each_append IsNumberByte (sign a.mantissa) (unsigned_text n a.places) (sign_bytes a.mantissa)
     (each_append IsNumberByte (decimal (n / 10 ^ a.places)) (places_text n a.places) (decimal_bytes (n / 10 ^ a.places) (quotient_below n a.places wide)) (places_bytes n a.places wide))
 
-pub number_some : (a : Number) → IsInRange a → 0 < length (number_text a)
+pub number_some : (a : Number) → HasWidth a → 0 < length (number_text a)
 number_some a h =
     let n = unsigned_abs a.mantissa in
     let some : 0 < length (decimal (n / 10 ^ a.places)) = (numeral (n / 10 ^ a.places) (quotient_below n a.places (fits_wide a.mantissa h))).0 in

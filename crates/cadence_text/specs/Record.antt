@@ -1,10 +1,8 @@
 -- The metric that a record means, and what each call makes of it.
-use Rattle.std.specs.Prelude.{ℕ, Option, None, Some, List, [], ◌∷◌, ◌++◌, map}
+use Rattle.std.specs.Prelude.{◌++◌, map}
 use Rattle.std.specs.Option.{option_copied}
-use Rattle.cadence_text.specs.declared.line.MetricType.{MetricType}
 use Rattle.cadence_text.specs.declared.line.record.Tag.{Tag as TagParts}
 use Rattle.cadence_text.specs.declared.line.record.Record.TheInside.{Inside}
-use Rattle.cadence_text.specs.Number.{Number}
 use Rattle.cadence_text.specs.Metric.{Metric, Tag}
 use Rattle.cadence_text.specs.Values.{numbers_of}
 

@@ -6,6 +6,7 @@ ghost use Rattle.cadence_text.specs.Number.{IsLowestForm, Number, filled_to, is_
 
 use crate::types::{ErrorKind, MetricError, MetricResult};
 use std::fmt;
+use std::hash::{Hash, Hasher};
 use std::marker::Model;
 
 /// The most digits that a `Decimal` has after the dot. A limit of this project's own.
@@ -14,7 +15,8 @@ pub const MAX_PLACES: u8 = 30;
 /// A signed whole number over 10 to the power of 0 to `MAX_PLACES`. It stands in the place of the crate's `f64`, and
 /// what it prints is exact.
 ///
-/// It is kept in lowest form, so two of them are equal exactly where they are the same number.
+/// It is kept in lowest form: it has no digit after the dot, or the last of them is not 0. Two of them are equal exactly
+/// where their lowest forms are.
 #[derive(Clone, Copy, Debug, PartialEq, Eq, Hash)]
 pub struct Decimal {
     mantissa: i128,
@@ -52,6 +54,7 @@ impl Decimal {
     }
 
     /// The whole number of the lowest form.
+    #[inline]
     pub fn mantissa(&self) -> i128
         ensures { result ≡ self.now.mantissa }
     {
@@ -59,6 +62,7 @@ impl Decimal {
     }
 
     /// The digits after the dot in the lowest form.
+    #[inline]
     pub fn places(&self) -> u8
         ensures value { result ≡ self.now.places }
         ensures most { result ≤ 30 }
@@ -72,6 +76,14 @@ fn is_same(one: &Decimal, other: &Decimal) -> bool
     ensures { IsTrue result ↔ (one.now ≡ other.now) }
 {
     one == other
+}
+
+// What hashing says of two decimals, as a law: equal ones leave equal hashers equal.
+fn hash_both<H: Hasher>(one: &Decimal, other: &Decimal, first: &mut H, second: &mut H)
+    ensures { one.now ≡ other.now → first.old ≡ second.old → first.new ≡ second.new }
+{
+    one.hash(first);
+    other.hash(second);
 }
 
 pub(crate) fn power_of_ten(places: u8) -> u128

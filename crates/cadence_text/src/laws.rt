@@ -1,5 +1,5 @@
 //! What the definitions imply, as laws that proofs of other crates may cite.
-ghost use Rattle.std.specs.Prelude.{◌≡◌, List, ℕ, All};
+ghost use Rattle.std.specs.Prelude.{◌≡◌, ◌<◌, List, ℕ, All, length};
 ghost use Rattle.cadence_text.specs.Line.{line_of};
 ghost use Rattle.cadence_text.specs.Metric.{Metric};
 ghost use Rattle.cadence_text.specs.OneReading.{IsPacketOf, IsReadable};
@@ -12,4 +12,10 @@ pub fn line_reads_one_way()
 /// A packet of lines, each with its newline, is of one list of such metrics at the most.
 pub fn packet_reads_one_way()
     ensures { (xs ys : List Metric) (packet : List ℕ) → All IsReadable xs → All IsReadable ys → IsPacketOf xs packet → IsPacketOf ys packet → xs ≡ ys }
+{}
+
+/// No line is empty.
+#[tactic(auto, using(crate::proofs::LineText::line_is_not_empty))]
+pub fn no_line_is_empty()
+    ensures { (metric : Metric) → 0 < length (line_of metric) }
 {}

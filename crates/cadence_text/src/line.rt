@@ -3,6 +3,7 @@
 mod pieces;
 mod record;
 mod sink;
+mod window;
 
 pub use record::{Record, Tag};
 use std::fmt;
@@ -10,12 +11,19 @@ use std::fmt;
 /// The kind of a metric. It prints its type text.
 #[derive(Clone, Copy, Debug, PartialEq, Eq, Hash)]
 pub enum MetricType {
+    /// A count of events, `c`.
     Counter,
+    /// A time in milliseconds, `ms`.
     Timer,
+    /// A value as it stands, `g`.
     Gauge,
+    /// A rate of events that the server counts, `m`.
     Meter,
+    /// A value whose spread one server counts, `h`.
     Histogram,
+    /// A value of which the different ones are counted, `s`.
     Set,
+    /// A value whose spread is counted over all servers (DogStatsD), `d`.
     Distribution,
 }
 
@@ -37,3 +45,6 @@ impl fmt::Display for MetricType {
         }
     }
 }
+
+#[cfg(test)]
+mod tests;

@@ -6,9 +6,10 @@ ghost use Rattle.cadence_text.specs.Values.{numbers_of};
 
 mod counters;
 mod distributions;
-pub mod durations;
+mod durations;
 mod gauges;
 mod histograms;
+mod lent;
 mod meters;
 mod sets;
 mod timers;
@@ -24,16 +25,25 @@ use std::alloc::{AllocError, Allocator, Global};
 use std::fmt;
 pub use timers::ToTimerValue;
 
-/// The value of a metric: one number, or a list of them, in the form that a caller has them in.
+/// The value of a metric, in the form that a caller has it in: one number, or a list of them. The form says nothing of
+/// the line, only the numbers do.
+///
+/// A clone takes memory for a list alone, and answers want of it.
 #[derive(Drop)]
 #[derive_where(Clone; A)]
 #[derive_where(Debug)]
 pub enum MetricValue<A: Allocator = Global> {
+    /// A signed whole number.
     Signed(i64),
+    /// Signed whole numbers. No type of this crate is converted to it.
     PackedSigned(Vec<i64, A>),
+    /// An unsigned whole number.
     Unsigned(u64),
+    /// Unsigned whole numbers.
     PackedUnsigned(Vec<u64, A>),
+    /// A decimal number, of this project's own.
     Decimal(Decimal),
+    /// Decimal numbers.
     PackedDecimal(Vec<Decimal, A>),
 }
 

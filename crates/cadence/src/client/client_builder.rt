@@ -1,5 +1,6 @@
 //! The builder of a client.
 ghost use Rattle.std.specs.Prelude.{◌≡◌, Some, None, IfOk, IfErr};
+ghost use Rattle.std.specs.Option.{option_copied};
 ghost use Rattle.cadence_text.specs.Errors.{out_of_memory};
 ghost use Rattle.cadence.specs.Settings.{Changes, with_default_tag, with_default_container};
 
@@ -31,8 +32,6 @@ fn with_tag<A: Allocator + Clone>(
         Err(_) => None,
     }
 }
-
-ghost use Rattle.std.specs.Option.{option_copied};
 
 fn with_container<A: Allocator + Clone>(
     settings: Option<ClientSettings<A>>,

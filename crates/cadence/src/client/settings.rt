@@ -5,6 +5,7 @@ ghost use Rattle.cadence_text.specs.Errors.{out_of_memory};
 ghost use Rattle.cadence_text.specs.Values.{numbers_of};
 ghost use Rattle.cadence.specs.Settings.{client_prefix, without_dots, settings_of, with_default_tag, with_default_container};
 ghost use Rattle.cadence.specs.Call.{metric_of_call, plain_call};
+ghost use Rattle.cadence.specs.SettingsParts.{owned_tag};
 
 use crate::schedule::call::{Call, choose_all};
 use cadence_text::line::{MetricType, Record, Tag};
@@ -38,20 +39,25 @@ impl<A: Allocator> OwnedTag<A> {
     }
 }
 
-// Adds the default tags to a record without tags.
-fn lend_all<'a, A: Allocator>(
+// The room for a call's own tags that is reserved beside the default ones.
+const OWN_TAGS: usize = 4;
+
+// Adds the default tags to a record without tags, in room that is reserved once.
+fn add_defaults<'a, A: Allocator>(
     tags: &'a [OwnedTag<A>],
     metric: &mut Record<'a, A>,
 ) -> Result<(), AllocError>
     ensures { OnOk result (metric.new ≡ record metric.old { tags = metric.old.tags ++ map owned_tag tags.now }) }
 {
+    if tags.is_empty() {
+        return Ok(());
+    }
+    metric.reserve_tags(tags.len().saturating_add(OWN_TAGS))?;
     for tag in tags {
         metric.add_tag(tag.lend())?;
     }
     Ok(())
 }
-
-ghost use Rattle.cadence.specs.SettingsParts.{owned_tag};
 
 // The text without its trailing dots.
 fn without_trailing_dots(prefix: &str) -> &str
@@ -155,7 +161,7 @@ impl<A: Allocator + Clone> ClientSettings<A> {
     {
         let alloc = self.tags.allocator().clone()?;
         let mut metric = Record::new(alloc, &self.prefix, key, kind, value);
-        lend_all(&self.tags, &mut metric)?;
+        add_defaults(&self.tags, &mut metric)?;
         if let Some(container) = &self.container {
             metric.set_container(container.as_str());
         }

@@ -8,8 +8,7 @@ ghost use Rattle.cadence.specs.Calls.{choice_of, kind_of_value, numbers_of_value
 use cadence_text::decimal::Decimal;
 use cadence_text::line::{MetricType, Record, Tag};
 use cadence_text::types::MetricResult;
-use cadence_text::value::MetricValue;
-use cadence_text::value::durations::{TimeUnit, number_in, numbers_in};
+use cadence_text::value::{MetricValue, ToHistogramValue, ToTimerValue};
 use std::alloc::{AllocError, Allocator, Global};
 use std::time::Duration;
 
@@ -117,10 +116,10 @@ impl<A: Allocator + Clone> CallValue<A> {
             CallValue::HistogramVecDecimal(ds) | CallValue::DistributionVecDecimal(ds) => {
                 Ok(MetricValue::PackedDecimal(ds.clone()?))
             }
-            CallValue::TimeDuration(d) => number_in(TimeUnit::Millisecond, *d),
-            CallValue::HistogramDuration(d) => number_in(TimeUnit::Nanosecond, *d),
-            CallValue::TimeVecDuration(ds) => numbers_in(TimeUnit::Millisecond, ds),
-            CallValue::HistogramVecDuration(ds) => numbers_in(TimeUnit::Nanosecond, ds),
+            CallValue::TimeDuration(d) => ToTimerValue::try_to_value(*d),
+            CallValue::HistogramDuration(d) => ToHistogramValue::try_to_value(*d),
+            CallValue::TimeVecDuration(ds) => ToTimerValue::try_to_value(ds),
+            CallValue::HistogramVecDuration(ds) => ToHistogramValue::try_to_value(ds),
         }
     }
 }

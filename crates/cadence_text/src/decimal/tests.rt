@@ -3,7 +3,7 @@ ghost use Rattle.std.specs.Prelude.{IfOk};
 ghost use Rattle.cadence_text.specs.Number.{IsLowestForm};
 
 use super::*;
-use std::hash::{DefaultHasher, Hash, Hasher};
+use std::hash::DefaultHasher;
 use std::test::Fail;
 
 // A caller that hands a refusal on.
@@ -12,12 +12,6 @@ fn tenths(mantissa: i128) -> MetricResult<Decimal>
 {
     let decimal = Decimal::new(mantissa, 1)?;
     Ok(decimal)
-}
-
-fn hash_of(decimal: &Decimal) -> u64 {
-    let mut hasher = DefaultHasher::new();
-    decimal.hash(&mut hasher);
-    hasher.finish()
 }
 
 #[test]
@@ -57,7 +51,9 @@ fn is_equal_in_lowest_form(rt: HostRuntime) -> Result<(), Fail> {
     assert_eq!(rt; same_half.mantissa(), 5);
     assert_eq!(rt; same_half.places(), 1);
     assert!(rt; is_same(&copy, &same_half));
-    assert_eq!(rt; hash_of(&half), hash_of(&same_half));
+    let (mut first, mut second) = (DefaultHasher::new(), DefaultHasher::new());
+    hash_both(&half, &same_half, &mut first, &mut second);
+    assert_eq!(rt; first.finish(), second.finish());
     assert!(rt; !is_same(&half, &Decimal::new(5, 2)?));
     let shown = format!(in rt.alloc(); "{half:?}")?;
     assert!(rt; !shown.is_empty());

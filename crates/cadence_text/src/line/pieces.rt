@@ -1,11 +1,12 @@
 //! The pieces of a line, in order.
-ghost use Rattle.std.specs.Prelude.{◌≡◌, ◌++◌, ◌/◌, ◌%◌, ◌^◌, ◌<◌, ◌≤◌, ◌==◌, if◌then◌else◌, [], OnOk, codes, map, replicate};
+ghost use Rattle.std.specs.Prelude.{◌≡◌, ◌++◌, ◌/◌, ◌%◌, ◌^◌, ◌<◌, ◌≤◌, ◌==◌, if◌then◌else◌, [], IfSome, OnOk, codes, map, replicate};
 ghost use Rattle.std.specs.Fmt.{decimal};
 ghost use Rattle.std.specs.Option.{option_copied};
 ghost use Rattle.cadence_text.specs.Line.{container_field, kind_text, numbers_text, rate_field, tag_text, tags_field, time_field};
 ghost use Rattle.cadence_text.specs.Number.{Number, filled_to, number_text, places_text};
 ghost use Rattle.cadence_text.specs.Values.{numbers_of};
 ghost use Rattle.cadence_text.specs.Record.{tag_of};
+ghost use Rattle.cadence_text.specs.RecordMetric.{AreRecordNumbers, AreRecordTags, FitsMemory, IsRecordNumber, IsRecordTag, IsRecordTime};
 ghost use Rattle.cadence_text.specs.Sink.{Takes};
 
 use crate::decimal::Decimal;
@@ -32,7 +33,8 @@ pub(crate) fn kind_end(kind: MetricType) -> &'static str
 }
 
 fn push_tag<S: LineSink>(line: &mut S, tag: &Tag<'_>) -> Result<(), S::Refusal>
-    ensures { OnOk result (Takes S.ends_as line.old (tag_text (tag_of tag.now)) line.new) }
+    ensures taken { OnOk result (Takes S.ends_as line.old (tag_text (tag_of tag.now)) line.new) }
+    ensures sized { OnOk result (IsRecordTag (tag_of tag.now)) }
 {
     if let Some(key) = tag.key {
         line.take_piece(key)?;
@@ -42,7 +44,8 @@ fn push_tag<S: LineSink>(line: &mut S, tag: &Tag<'_>) -> Result<(), S::Refusal>
 }
 
 pub(crate) fn push_tags<S: LineSink>(line: &mut S, tags: &[Tag<'_>]) -> Result<(), S::Refusal>
-    ensures { OnOk result (Takes S.ends_as line.old (tags_field (map tag_of tags.now)) line.new) }
+    ensures taken { OnOk result (Takes S.ends_as line.old (tags_field (map tag_of tags.now)) line.new) }
+    ensures sized { OnOk result (AreRecordTags (map tag_of tags.now)) }
 {
     let Some((first, others)) = tags.split_first() else {
         return Ok(());
@@ -60,7 +63,8 @@ pub(crate) fn push_container<S: LineSink>(
     line: &mut S,
     container: Option<&str>,
 ) -> Result<(), S::Refusal>
-    ensures { OnOk result (Takes S.ends_as line.old (container_field (option_copied container.entry)) line.new) }
+    ensures taken { OnOk result (Takes S.ends_as line.old (container_field (option_copied container.entry)) line.new) }
+    ensures sized { OnOk result (IfSome (option_copied container.entry) FitsMemory) }
 {
     if let Some(container) = container {
         line.take_piece("|c:")?;
@@ -70,7 +74,8 @@ pub(crate) fn push_container<S: LineSink>(
 }
 
 pub(crate) fn push_time<S: LineSink>(line: &mut S, time: Option<u64>) -> Result<(), S::Refusal>
-    ensures { OnOk result (Takes S.ends_as line.old (time_field time) line.new) }
+    ensures taken { OnOk result (Takes S.ends_as line.old (time_field time) line.new) }
+    ensures sized { OnOk result (IsRecordTime time) }
 {
     if let Some(time) = time {
         let mut buffer = Buffer::new();
@@ -85,7 +90,8 @@ trait Printed {
     ghost number: { Self → Number };
 
     fn push_to<S: LineSink>(&self, line: &mut S) -> Result<(), S::Refusal>
-        ensures { OnOk result (Takes S.ends_as line.old (number_text (number self.now)) line.new) };
+        ensures taken { OnOk result (Takes S.ends_as line.old (number_text (number self.now)) line.new) }
+        ensures sized { OnOk result (IsRecordNumber (number self.now)) };
 }
 
 impl Printed for i64 {
@@ -176,7 +182,8 @@ fn push_zeros<S: LineSink>(line: &mut S, count: usize) -> Result<(), S::Refusal>
 }
 
 fn push_list<S: LineSink, T: Printed>(line: &mut S, numbers: &[T]) -> Result<(), S::Refusal>
-    ensures { OnOk result (Takes S.ends_as line.old (numbers_text (map T.number numbers.now)) line.new) }
+    ensures taken { OnOk result (Takes S.ends_as line.old (numbers_text (map T.number numbers.now)) line.new) }
+    ensures sized { OnOk result (AreRecordNumbers (map T.number numbers.now)) }
 {
     let Some((first, others)) = numbers.split_first() else {
         return Ok(());
@@ -194,7 +201,8 @@ pub(crate) fn push_value<S: LineSink, A: Allocator>(
     line: &mut S,
     value: &MetricValue<A>,
 ) -> Result<(), S::Refusal>
-    ensures { OnOk result (Takes S.ends_as line.old (numbers_text (numbers_of value.now)) line.new) }
+    ensures taken { OnOk result (Takes S.ends_as line.old (numbers_text (numbers_of value.now)) line.new) }
+    ensures sized { OnOk result (AreRecordNumbers (numbers_of value.now)) }
 {
     match value {
         MetricValue::Signed(n) => n.push_to(line),
@@ -208,7 +216,8 @@ pub(crate) fn push_value<S: LineSink, A: Allocator>(
 
 #[inline]
 pub(crate) fn push_rate<S: LineSink>(line: &mut S, rate: Option<Decimal>) -> Result<(), S::Refusal>
-    ensures { OnOk result (Takes S.ends_as line.old (rate_field rate) line.new) }
+    ensures taken { OnOk result (Takes S.ends_as line.old (rate_field rate) line.new) }
+    ensures sized { OnOk result (IfSome rate IsRecordNumber) }
 {
     if let Some(rate) = rate {
         line.take_piece("|@")?;

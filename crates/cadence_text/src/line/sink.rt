@@ -1,6 +1,7 @@
 //! What takes the pieces of a line.
 ghost use Rattle.std.specs.Prelude.{List, ℕ, ◌++◌, OnOk};
 ghost use Rattle.std.specs.Char.{encode_utf8};
+ghost use Rattle.cadence_text.specs.RecordMetric.{FitsMemory};
 ghost use Rattle.cadence_text.specs.Sink.{Takes};
 
 use std::alloc::{AllocError, Allocator};
@@ -13,7 +14,8 @@ pub(crate) trait LineSink {
     ghost ends_as: { Self → List ℕ → List ℕ };
 
     fn take_piece(&mut self, piece: &str) -> Result<(), Self::Refusal>
-        ensures { OnOk result (Takes ends_as self.old piece.now self.new) };
+        ensures taken { OnOk result (Takes ends_as self.old piece.now self.new) }
+        ensures sized { FitsMemory piece.now };
 
     fn take_char(&mut self, piece: char) -> Result<(), Self::Refusal>
         ensures { OnOk result (Takes ends_as self.old (encode_utf8 piece) self.new) };

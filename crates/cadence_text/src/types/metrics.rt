@@ -171,8 +171,8 @@ impl<A: Allocator + Clone> Gauge<A> {
 
 impl<A: Allocator + Clone> Meter<A> {
     /// The line of one number, with the prefix as it stands. Refuses with `SinkError::OutOfMemory` alone.
-    pub fn new(alloc: A, prefix: &str, key: &str, value: u64) -> MetricResult<Meter<A>>
-        ensures line { IfOk result (λ text. text ≡ line_of (plain_metric (prefix.now ++ key.now) (natural value ∷ []) kind.Meter)) }
+    pub fn new(alloc: A, prefix: &str, key: &str, marks: u64) -> MetricResult<Meter<A>>
+        ensures line { IfOk result (λ text. text ≡ line_of (plain_metric (prefix.now ++ key.now) (natural marks ∷ []) kind.Meter)) }
         ensures refused { IfErr result (λ e. e ≡ out_of_memory) }
     {
         Meter::plain(
@@ -180,15 +180,15 @@ impl<A: Allocator + Clone> Meter<A> {
             prefix,
             key,
             MetricType::Meter,
-            MetricValue::Unsigned(value),
+            MetricValue::Unsigned(marks),
         )
     }
 }
 
 impl<A: Allocator + Clone> Histogram<A> {
     /// The line of one number, with the prefix as it stands. Refuses with `SinkError::OutOfMemory` alone.
-    pub fn new(alloc: A, prefix: &str, key: &str, value: u64) -> MetricResult<Histogram<A>>
-        ensures line { IfOk result (λ text. text ≡ line_of (plain_metric (prefix.now ++ key.now) (natural value ∷ []) kind.Histogram)) }
+    pub fn new(alloc: A, prefix: &str, key: &str, sample: u64) -> MetricResult<Histogram<A>>
+        ensures line { IfOk result (λ text. text ≡ line_of (plain_metric (prefix.now ++ key.now) (natural sample ∷ []) kind.Histogram)) }
         ensures refused { IfErr result (λ e. e ≡ out_of_memory) }
     {
         Histogram::plain(
@@ -196,7 +196,7 @@ impl<A: Allocator + Clone> Histogram<A> {
             prefix,
             key,
             MetricType::Histogram,
-            MetricValue::Unsigned(value),
+            MetricValue::Unsigned(sample),
         )
     }
 
@@ -205,9 +205,9 @@ impl<A: Allocator + Clone> Histogram<A> {
         alloc: A,
         prefix: &str,
         key: &str,
-        value: Decimal,
+        sample: Decimal,
     ) -> MetricResult<Histogram<A>>
-        ensures line { IfOk result (λ text. text ≡ line_of (plain_metric (prefix.now ++ key.now) (value ∷ []) kind.Histogram)) }
+        ensures line { IfOk result (λ text. text ≡ line_of (plain_metric (prefix.now ++ key.now) (sample ∷ []) kind.Histogram)) }
         ensures refused { IfErr result (λ e. e ≡ out_of_memory) }
     {
         Histogram::plain(
@@ -215,15 +215,15 @@ impl<A: Allocator + Clone> Histogram<A> {
             prefix,
             key,
             MetricType::Histogram,
-            MetricValue::Decimal(value),
+            MetricValue::Decimal(sample),
         )
     }
 }
 
 impl<A: Allocator + Clone> Distribution<A> {
     /// The line of one number, with the prefix as it stands. Refuses with `SinkError::OutOfMemory` alone.
-    pub fn new(alloc: A, prefix: &str, key: &str, value: u64) -> MetricResult<Distribution<A>>
-        ensures line { IfOk result (λ text. text ≡ line_of (plain_metric (prefix.now ++ key.now) (natural value ∷ []) kind.Distribution)) }
+    pub fn new(alloc: A, prefix: &str, key: &str, observation: u64) -> MetricResult<Distribution<A>>
+        ensures line { IfOk result (λ text. text ≡ line_of (plain_metric (prefix.now ++ key.now) (natural observation ∷ []) kind.Distribution)) }
         ensures refused { IfErr result (λ e. e ≡ out_of_memory) }
     {
         Distribution::plain(
@@ -231,7 +231,7 @@ impl<A: Allocator + Clone> Distribution<A> {
             prefix,
             key,
             MetricType::Distribution,
-            MetricValue::Unsigned(value),
+            MetricValue::Unsigned(observation),
         )
     }
 
@@ -240,9 +240,9 @@ impl<A: Allocator + Clone> Distribution<A> {
         alloc: A,
         prefix: &str,
         key: &str,
-        value: Decimal,
+        observation: Decimal,
     ) -> MetricResult<Distribution<A>>
-        ensures line { IfOk result (λ text. text ≡ line_of (plain_metric (prefix.now ++ key.now) (value ∷ []) kind.Distribution)) }
+        ensures line { IfOk result (λ text. text ≡ line_of (plain_metric (prefix.now ++ key.now) (observation ∷ []) kind.Distribution)) }
         ensures refused { IfErr result (λ e. e ≡ out_of_memory) }
     {
         Distribution::plain(
@@ -250,15 +250,15 @@ impl<A: Allocator + Clone> Distribution<A> {
             prefix,
             key,
             MetricType::Distribution,
-            MetricValue::Decimal(value),
+            MetricValue::Decimal(observation),
         )
     }
 }
 
 impl<A: Allocator + Clone> Set<A> {
     /// The line of one number, with the prefix as it stands. Refuses with `SinkError::OutOfMemory` alone.
-    pub fn new(alloc: A, prefix: &str, key: &str, value: i64) -> MetricResult<Set<A>>
-        ensures line { IfOk result (λ text. text ≡ line_of (plain_metric (prefix.now ++ key.now) (whole value ∷ []) kind.Set)) }
+    pub fn new(alloc: A, prefix: &str, key: &str, member: i64) -> MetricResult<Set<A>>
+        ensures line { IfOk result (λ text. text ≡ line_of (plain_metric (prefix.now ++ key.now) (whole member ∷ []) kind.Set)) }
         ensures refused { IfErr result (λ e. e ≡ out_of_memory) }
     {
         Set::plain(
@@ -266,7 +266,7 @@ impl<A: Allocator + Clone> Set<A> {
             prefix,
             key,
             MetricType::Set,
-            MetricValue::Signed(value),
+            MetricValue::Signed(member),
         )
     }
 }
@@ -342,3 +342,6 @@ impl<K, A: Allocator> Hash for MetricText<K, A> {
 pub fn metrics_equal_by_text<K, A: Allocator>()
     ensures { (a b : List ℕ) → IsTrue (⟦<MetricText<K, A> as PartialEq>⟧.eq a b) ↔ (a ≡ b) }
 {}
+
+#[cfg(test)]
+mod tests;

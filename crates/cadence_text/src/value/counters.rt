@@ -1,7 +1,7 @@
 //! What a counter takes as its value.
-ghost use Rattle.std.specs.Prelude.{[], ◌∷◌, List, Option, Some};
+ghost use Rattle.std.specs.Prelude.{◌≡◌, [], ◌∷◌, List, Option, Some};
 ghost use Rattle.cadence_text.specs.Number.{Number, natural, whole};
-ghost use Rattle.cadence_text.specs.Values.{Converts, ConvertsInPlace};
+ghost use Rattle.cadence_text.specs.Values.{Converts, ConvertsInPlace, numbers_of};
 
 use crate::types::MetricResult;
 use crate::value::MetricValue;
@@ -20,46 +20,61 @@ pub trait ToCounterValue<A: Allocator> {
         ensures converts { Converts (counted self) result };
 }
 
-impl<A: Allocator> ToCounterValue<A> for i64 {
-    ghost counted = { λ n. Some (whole n ∷ []) };
+/// A whole number that a counter takes as it is, of no allocator's making, so that a number without a type, as in
+/// `client.count("key", 3)`, has its usual type.
+pub trait WholeNumber {
+    // The number.
+    ghost number: { Self → Number };
+
+    /// The value of this number alone.
+    fn to_value<A: Allocator>(self) -> MetricValue<A>
+        ensures { numbers_of result ≡ number self ∷ [] };
+}
+
+/// `i64`, `i32`, `u64` and `u32`. Always succeeds.
+impl<A: Allocator, T: WholeNumber> ToCounterValue<A> for T {
+    ghost counted = { λ n. Some (T.number n ∷ []) };
 
     #[inline]
     fn try_to_value(self) -> MetricResult<MetricValue<A>>
-        ensures in_place { ConvertsInPlace (Some (whole self ∷ [])) result }
+        ensures in_place { ConvertsInPlace (Some (T.number self ∷ [])) result }
     {
-        Ok(MetricValue::Signed(self))
+        Ok(self.to_value())
     }
 }
 
-impl<A: Allocator> ToCounterValue<A> for i32 {
-    ghost counted = { λ n. Some (whole n ∷ []) };
+impl WholeNumber for i64 {
+    ghost number = { whole };
 
     #[inline]
-    fn try_to_value(self) -> MetricResult<MetricValue<A>>
-        ensures in_place { ConvertsInPlace (Some (whole self ∷ [])) result }
-    {
-        Ok(MetricValue::Signed(i64::from(self)))
+    fn to_value<A: Allocator>(self) -> MetricValue<A> {
+        MetricValue::Signed(self)
     }
 }
 
-impl<A: Allocator> ToCounterValue<A> for u64 {
-    ghost counted = { λ n. Some (natural n ∷ []) };
+impl WholeNumber for i32 {
+    ghost number = { whole };
 
     #[inline]
-    fn try_to_value(self) -> MetricResult<MetricValue<A>>
-        ensures in_place { ConvertsInPlace (Some (natural self ∷ [])) result }
-    {
-        Ok(MetricValue::Unsigned(self))
+    fn to_value<A: Allocator>(self) -> MetricValue<A> {
+        MetricValue::Signed(i64::from(self))
     }
 }
 
-impl<A: Allocator> ToCounterValue<A> for u32 {
-    ghost counted = { λ n. Some (natural n ∷ []) };
+impl WholeNumber for u64 {
+    ghost number = { natural };
 
     #[inline]
-    fn try_to_value(self) -> MetricResult<MetricValue<A>>
-        ensures in_place { ConvertsInPlace (Some (natural self ∷ [])) result }
-    {
-        Ok(MetricValue::Unsigned(u64::from(self)))
+    fn to_value<A: Allocator>(self) -> MetricValue<A> {
+        MetricValue::Unsigned(self)
+    }
+}
+
+impl WholeNumber for u32 {
+    ghost number = { natural };
+
+    #[inline]
+    fn to_value<A: Allocator>(self) -> MetricValue<A> {
+        MetricValue::Unsigned(u64::from(self))
     }
 }

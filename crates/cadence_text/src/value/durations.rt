@@ -8,9 +8,9 @@ use crate::value::MetricValue;
 use std::alloc::{AllocError, Allocator};
 use std::time::Duration;
 
-/// What durations are counted in.
+// What durations are counted in.
 #[derive(Clone, Copy)]
-pub enum TimeUnit {
+pub(crate) enum TimeUnit {
     Millisecond,
     Nanosecond,
 }
@@ -34,9 +34,12 @@ fn overflow() -> MetricError
     MetricError::from((ErrorKind::InvalidInput, "u64 overflow"))
 }
 
-/// The count of one duration. Refused with the text `u64 overflow` exactly where it passes `u64::MAX`.
+// The count of one duration.
 #[inline]
-pub fn number_in<A: Allocator>(unit: TimeUnit, duration: Duration) -> MetricResult<MetricValue<A>>
+pub(crate) fn number_in<A: Allocator>(
+    unit: TimeUnit,
+    duration: Duration,
+) -> MetricResult<MetricValue<A>>
     ensures { ConvertsInPlace (numbers_in_u64 (count_in unit duration ∷ [])) result }
 {
     match u64::try_from(unit.count(duration)) {
@@ -69,8 +72,8 @@ fn counts<A: Allocator + Clone>(
     Ok(numbers)
 }
 
-/// The counts of a list of durations. That one of them passes `u64::MAX` is told before any memory is taken.
-pub fn numbers_in<A: Allocator + Clone>(
+// The counts of a list of durations. That one of them passes `u64::MAX` is told before want of memory.
+pub(crate) fn numbers_in<A: Allocator + Clone>(
     unit: TimeUnit,
     durations: &Vec<Duration, A>,
 ) -> MetricResult<MetricValue<A>>

@@ -5,4 +5,4 @@ use Rattle.cadence_text.proofs.line.record.Record.format.Goals as goal
 
 pub returns-clause-line : goal.returns-clause-line
 returns-clause-line g c =
-    added_to_none (string_bytes c.in_ok-line.line) (string_bytes c.push_line.new.line) (line_of c.args.self.now) c.in_ok-line.ensures.bytes c.in_ok-push_line.ensures
+    added_to_none (string_bytes c.in_ok-line.line) (string_bytes c.push_line.new.line) (line_of c.args.self.now) c.in_ok-line.ensures.bytes c.in_ok-push_line.ensures.taken
