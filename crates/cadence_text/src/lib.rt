@@ -1,5 +1,7 @@
 //! Numbers, values, lines, metric types and errors of a Statsd client.
 #![tactic(auto)]
 
+pub mod decimal;
 pub mod line;
 pub mod types;
+pub mod value;

@@ -1,0 +1,105 @@
+//! Decimal numbers, exact.
+ghost use Rattle.std.specs.Prelude.{◌≡◌, ◌^◌, ◌≤◌, ◌↔◌, ◌<◌, ◌++◌, Some, true, IsOk, IfOk, IfErr, MatchResult, codes};
+ghost use Rattle.std.specs.Fmt.{DisplaysOnOk, decimal};
+ghost use Rattle.cadence_text.specs.Errors.{IsInvalid};
+ghost use Rattle.cadence_text.specs.Number.{IsLowestForm, Number, filled_to, is_lowest, number, number_text};
+
+use crate::types::{ErrorKind, MetricError, MetricResult};
+use std::fmt;
+use std::marker::Model;
+
+/// The most digits that a `Decimal` has after the dot. A limit of this project's own.
+pub const MAX_PLACES: u8 = 30;
+
+/// A signed whole number over 10 to the power of 0 to `MAX_PLACES`. It stands in the place of the crate's `f64`, and
+/// what it prints is exact.
+///
+/// It is kept in lowest form, so two of them are equal exactly where they are the same number.
+#[derive(Clone, Copy, Debug, PartialEq, Eq, Hash)]
+pub struct Decimal {
+    mantissa: i128,
+    places: u8,
+}
+
+impl Model for Decimal {
+    ghost Value = { Number };
+
+    ghost view = { λ d. number d.mantissa d.places };
+
+    ghost invariant = { λ d. (d.places ≤ 30) × (is_lowest d.mantissa d.places ≡ true) };
+
+    ghost inverse = { λ n. record { mantissa = n.mantissa; places = n.places } };
+}
+
+impl Decimal {
+    /// `mantissa` over 10 to the power of `places`, in lowest form. Takes no memory.
+    ///
+    /// Refuses with kind `InvalidInput` and the text `too many decimal places` where `places` pass `MAX_PLACES`.
+    pub fn new(mantissa: i128, places: u8) -> MetricResult<Decimal>
+        ensures ok { IsOk result ↔ (places ≤ 30) }
+        ensures value { IfOk result (IsLowestForm mantissa places) }
+        ensures refused { IfErr result IsInvalid }
+    {
+        if places > MAX_PLACES {
+            return Err(MetricError::from((ErrorKind::InvalidInput, "too many decimal places")));
+        }
+        let (mut mantissa, mut places) = (mantissa, places);
+        while places > 0 && mantissa % 10 == 0 {
+            mantissa /= 10;
+            places -= 1;
+        }
+        Ok(Decimal { mantissa, places })
+    }
+
+    /// The whole number of the lowest form.
+    pub fn mantissa(&self) -> i128
+        ensures { result ≡ self.now.mantissa }
+    {
+        self.mantissa
+    }
+
+    /// The digits after the dot in the lowest form.
+    pub fn places(&self) -> u8
+        ensures value { result ≡ self.now.places }
+        ensures most { result ≤ 30 }
+    {
+        self.places
+    }
+}
+
+fn power_of_ten(places: u8) -> u128
+    requires { places ≤ 30 }
+    ensures value { result ≡ 10 ^ places }
+    ensures positive { 0 < result }
+{
+    10u128.pow(u32::from(places))
+}
+
+// A dot, and `fraction` with zeros before it up to `places` digits.
+fn write_places<W: fmt::Write>(f: &mut fmt::Formatter<W>, fraction: u128, places: u8) -> fmt::Result
+    requires { 0 < places }
+    ensures { DisplaysOnOk W.write_str_gives f.old result (Some (codes "." ++ filled_to places (decimal fraction))) f.new }
+{
+    let width = usize::from(places);
+    write!(f, ".{fraction:0width$}")
+}
+
+/// An optional minus, the digits of the whole part without leading zeros, and, where places are above 0, a dot and
+/// exactly that many digits. There is no minus before zero.
+impl fmt::Display for Decimal {
+    ghost output = { λ n. Some (number_text n) };
+
+    fn fmt<W: fmt::Write>(&self, f: &mut fmt::Formatter<W>) -> fmt::Result {
+        let magnitude = self.mantissa.unsigned_abs();
+        let scale = power_of_ten(self.places);
+        if self.mantissa < 0 {
+            f.write_str("-")?;
+        }
+        let whole = magnitude / scale;
+        write!(f, "{whole}")?;
+        if self.places > 0 {
+            write_places(f, magnitude % scale, self.places)?;
+        }
+        Ok(())
+    }
+}
