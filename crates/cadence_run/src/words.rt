@@ -1,5 +1,5 @@
 //! The words of a line, and the texts and numbers that they stand for.
-ghost use Rattle.std.specs.Prelude.{◌<◌, IfOk, IsSome};
+ghost use Rattle.std.specs.Prelude.{◌<◌, ◌≤◌, IfOk, IsSome};
 ghost use Rattle.cadence_run.specs.Words.{bytes_left};
 
 use std::alloc::{AllocError, AllocFailed, Allocator};
@@ -40,7 +40,8 @@ impl<'a> Words<'a> {
 
     /// The next word, where there is one. An empty word makes the line unreadable.
     pub fn next(&mut self) -> Result<Option<&'a str>, LineError>
-        ensures { IfOk result (λ word. IsSome word → bytes_left self.new < bytes_left self.old) }
+        ensures fewer { IfOk result (λ word. IsSome word → bytes_left self.new < bytes_left self.old) }
+        ensures no_more { bytes_left self.new ≤ bytes_left self.old }
     {
         let Some(rest) = self.rest else {
             return Ok(None);
@@ -62,7 +63,9 @@ impl<'a> Words<'a> {
     }
 
     /// The next word, which has to be there.
-    pub fn word(&mut self) -> Result<&'a str, LineError> {
+    pub fn word(&mut self) -> Result<&'a str, LineError>
+        ensures { bytes_left self.new ≤ bytes_left self.old }
+    {
         match self.next()? {
             Some(word) => Ok(word),
             None => Err(LineError::Unreadable),
