@@ -92,10 +92,7 @@ fn settings_of<A: Allocator + Clone>(
 }
 
 // The report of the script that the input holds.
-fn report_of<A: Allocator + Clone, I: Read>(
-    alloc: A,
-    input: &mut I,
-) -> Result<String<A>, Failure> {
+fn report_of<A: Allocator + Clone, I: Read>(alloc: A, input: &mut I) -> Result<String<A>, Failure> {
     let bytes = read_all(alloc.clone()?, input)?;
     let Ok(text) = str::from_utf8(&bytes) else {
         return Err(Failure::NotUtf8);

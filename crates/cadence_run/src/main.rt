@@ -5,6 +5,8 @@ mod calls;
 mod engine;
 mod print;
 mod script;
+#[cfg(test)]
+mod tests;
 mod words;
 
 use engine::run_script;

@@ -55,7 +55,10 @@ fn push_cut<A: Allocator>(
     cut: &[usize],
     answers: &[Answer],
 ) -> Result<(), AllocError> {
-    if answers.iter().any(|answer| matches!(answer, Answer::Short(_))) {
+    if answers
+        .iter()
+        .any(|answer| matches!(answer, Answer::Short(_)))
+    {
         return out.push_str("cut unknown\n");
     }
     out.push_str("cut")?;
