@@ -1,5 +1,6 @@
 -- What an error says: its kind, and the sink's error in it.
-use Rattle.std.specs.Prelude.{◌≡◌, Option, None, Some}
+use Rattle.std.specs.Prelude.{◌≡◌, ℕ, List, Option, None, Some}
+use Rattle.std.specs.Fmt.InlineText.{inline_text}
 use Rattle.cadence_text.specs.declared.types.errors.Description.{Description}
 use Rattle.cadence_text.specs.declared.types.errors.ErrorKind.{ErrorKind}
 use Rattle.cadence_text.specs.declared.types.errors.ErrorKind.TheVariants.{IoError, InvalidInput}
@@ -32,6 +33,10 @@ sink_error_of (Sink e) = Some e
 -- the error for a growth that was refused
 abbrev pub out_of_memory : MetricError
 out_of_memory = Sink OutOfMemory
+
+-- the text that a described error kept
+abbrev pub description_text : Description → List ℕ
+description_text d = inline_text d.text
 
 -- an error of this kind with some text
 abbrev pub IsDescribed : ErrorKind → MetricError → Type 0

@@ -3,3 +3,7 @@ pub mod Number
 pub mod Metric
 pub mod Line
 pub mod Values
+pub mod RecordMetric
+pub mod OneReading
+pub mod Record
+pub mod Sink

@@ -1,5 +1,5 @@
 -- A metric.
-use Rattle.std.specs.Prelude.{ℕ, Option, List}
+use Rattle.std.specs.Prelude.{ℕ, Option, None, List, [], ◌∷◌, ◌++◌}
 use Rattle.cadence_text.specs.declared.line.MetricType.{MetricType}
 use Rattle.cadence_text.specs.Number.{Number}
 
@@ -16,3 +16,11 @@ pub record Metric : Type 0 where
   pub tags : List Tag
   pub container : Option (List ℕ)
   pub time : Option ℕ
+
+-- a metric without rate, tags, container and time
+abbrev pub plain_metric : List ℕ → List Number → MetricType → Metric
+plain_metric name numbers kind = record { name = name; numbers = numbers; kind = kind; rate = None; tags = []; container = None; time = None }
+
+-- the metric with one more tag, at the end
+abbrev pub with_tag : Metric → Tag → Metric
+with_tag m tag = record m { tags = m.tags ++ tag ∷ [] }

@@ -1,11 +1,12 @@
 //! Decimal numbers, exact.
-ghost use Rattle.std.specs.Prelude.{◌≡◌, ◌^◌, ◌≤◌, ◌↔◌, ◌<◌, ◌++◌, Some, true, IsOk, IfOk, IfErr, MatchResult, codes};
+ghost use Rattle.std.specs.Prelude.{◌≡◌, ◌^◌, ◌≤◌, ◌↔◌, ◌<◌, ◌++◌, Some, true, IsOk, IfOk, IfErr, IsTrue, codes};
 ghost use Rattle.std.specs.Fmt.{DisplaysOnOk, decimal};
 ghost use Rattle.cadence_text.specs.Errors.{IsInvalid};
 ghost use Rattle.cadence_text.specs.Number.{IsLowestForm, Number, filled_to, is_lowest, number, number_text};
 
 use crate::types::{ErrorKind, MetricError, MetricResult};
 use std::fmt;
+use std::hash::{Hash, Hasher};
 use std::marker::Model;
 
 /// The most digits that a `Decimal` has after the dot. A limit of this project's own.
@@ -14,7 +15,8 @@ pub const MAX_PLACES: u8 = 30;
 /// A signed whole number over 10 to the power of 0 to `MAX_PLACES`. It stands in the place of the crate's `f64`, and
 /// what it prints is exact.
 ///
-/// It is kept in lowest form, so two of them are equal exactly where they are the same number.
+/// It is kept in lowest form: it has no digit after the dot, or the last of them is not 0. Two of them are equal exactly
+/// where their lowest forms are.
 #[derive(Clone, Copy, Debug, PartialEq, Eq, Hash)]
 pub struct Decimal {
     mantissa: i128,
@@ -52,6 +54,7 @@ impl Decimal {
     }
 
     /// The whole number of the lowest form.
+    #[inline]
     pub fn mantissa(&self) -> i128
         ensures { result ≡ self.now.mantissa }
     {
@@ -59,6 +62,7 @@ impl Decimal {
     }
 
     /// The digits after the dot in the lowest form.
+    #[inline]
     pub fn places(&self) -> u8
         ensures value { result ≡ self.now.places }
         ensures most { result ≤ 30 }
@@ -67,7 +71,22 @@ impl Decimal {
     }
 }
 
-fn power_of_ten(places: u8) -> u128
+// What `==` says of two decimals, as a law: that their lowest forms are equal.
+fn is_same(one: &Decimal, other: &Decimal) -> bool
+    ensures { IsTrue result ↔ (one.now ≡ other.now) }
+{
+    one == other
+}
+
+// What hashing says of two decimals, as a law: equal ones leave equal hashers equal.
+fn hash_both<H: Hasher>(one: &Decimal, other: &Decimal, first: &mut H, second: &mut H)
+    ensures { one.now ≡ other.now → first.old ≡ second.old → first.new ≡ second.new }
+{
+    one.hash(first);
+    other.hash(second);
+}
+
+pub(crate) fn power_of_ten(places: u8) -> u128
     requires { places ≤ 30 }
     ensures value { result ≡ 10 ^ places }
     ensures positive { 0 < result }
@@ -90,16 +109,20 @@ impl fmt::Display for Decimal {
     ghost output = { λ n. Some (number_text n) };
 
     fn fmt<W: fmt::Write>(&self, f: &mut fmt::Formatter<W>) -> fmt::Result {
-        let magnitude = self.mantissa.unsigned_abs();
-        let scale = power_of_ten(self.places);
-        if self.mantissa < 0 {
+        let Decimal { mantissa, places } = *self;
+        let magnitude = mantissa.unsigned_abs();
+        let scale = power_of_ten(places);
+        if mantissa < 0 {
             f.write_str("-")?;
         }
         let whole = magnitude / scale;
         write!(f, "{whole}")?;
-        if self.places > 0 {
-            write_places(f, magnitude % scale, self.places)?;
+        if places > 0 {
+            write_places(f, magnitude % scale, places)?;
         }
         Ok(())
     }
 }
+
+#[cfg(test)]
+mod tests;

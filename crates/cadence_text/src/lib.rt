@@ -2,6 +2,7 @@
 #![tactic(auto)]
 
 pub mod decimal;
+pub mod laws;
 pub mod line;
 pub mod types;
 pub mod value;

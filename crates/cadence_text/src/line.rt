@@ -1,16 +1,29 @@
 //! The kinds of metrics and the line of a record.
 
+mod pieces;
+mod record;
+mod sink;
+mod window;
+
+pub use record::{Record, Tag};
 use std::fmt;
 
 /// The kind of a metric. It prints its type text.
 #[derive(Clone, Copy, Debug, PartialEq, Eq, Hash)]
 pub enum MetricType {
+    /// A count of events, `c`.
     Counter,
+    /// A time in milliseconds, `ms`.
     Timer,
+    /// A value as it stands, `g`.
     Gauge,
+    /// A rate of events that the server counts, `m`.
     Meter,
+    /// A value whose spread one server counts, `h`.
     Histogram,
+    /// A value of which the different ones are counted, `s`.
     Set,
+    /// A value whose spread is counted over all servers (DogStatsD), `d`.
     Distribution,
 }
 
@@ -32,3 +45,6 @@ impl fmt::Display for MetricType {
         }
     }
 }
+
+#[cfg(test)]
+mod tests;

@@ -1,23 +1,57 @@
 //! Values of metrics.
-ghost use Rattle.std.specs.Prelude.{◌≡◌, ℕ, List, Some, codes};
+ghost use Rattle.std.specs.Prelude.{◌≡◌, ℕ, List, Some, IfOk, codes};
 ghost use Rattle.std.specs.Fmt.{DisplaysOnOk};
 ghost use Rattle.cadence_text.specs.Line.{separated};
+ghost use Rattle.cadence_text.specs.Values.{numbers_of};
+
+mod counters;
+mod distributions;
+mod durations;
+mod gauges;
+mod histograms;
+mod lent;
+mod meters;
+mod sets;
+mod timers;
 
 use crate::decimal::Decimal;
-use std::alloc::{Allocator, Global};
+pub use counters::ToCounterValue;
+pub use distributions::ToDistributionValue;
+pub use gauges::ToGaugeValue;
+pub use histograms::ToHistogramValue;
+pub use meters::ToMeterValue;
+pub use sets::ToSetValue;
+use std::alloc::{AllocError, Allocator, Global};
 use std::fmt;
+pub use timers::ToTimerValue;
 
-/// The value of a metric: one number, or a list of them, in the form that a caller has them in.
+/// The value of a metric, in the form that a caller has it in: one number, or a list of them. The form says nothing of
+/// the line, only the numbers do.
+///
+/// A clone takes memory for a list alone, and answers want of it.
 #[derive(Drop)]
 #[derive_where(Clone; A)]
 #[derive_where(Debug)]
 pub enum MetricValue<A: Allocator = Global> {
+    /// A signed whole number.
     Signed(i64),
+    /// Signed whole numbers. No type of this crate is converted to it.
     PackedSigned(Vec<i64, A>),
+    /// An unsigned whole number.
     Unsigned(u64),
+    /// Unsigned whole numbers.
     PackedUnsigned(Vec<u64, A>),
+    /// A decimal number, of this project's own.
     Decimal(Decimal),
+    /// Decimal numbers.
     PackedDecimal(Vec<Decimal, A>),
+}
+
+// What a copy says, as a law: the same numbers.
+fn copied<A: Allocator + Clone>(value: &MetricValue<A>) -> Result<MetricValue<A>, AllocError>
+    ensures { IfOk result (λ copy. numbers_of copy ≡ numbers_of value.now) }
+{
+    value.clone()
 }
 
 // The texts of the numbers, with a colon between each two.
@@ -56,3 +90,6 @@ impl<A: Allocator> fmt::Display for MetricValue<A> {
         }
     }
 }
+
+#[cfg(test)]
+mod tests;

@@ -65,7 +65,13 @@ impl Description {
     }
 }
 
+/// The text that was kept.
 impl fmt::Display for Description {
+    ghost use Rattle.std.specs.Prelude.{Some};
+    ghost use Rattle.cadence_text.specs.Errors.{description_text};
+
+    ghost output = { λ d. Some (description_text d) };
+
     fn fmt<W: fmt::Write>(&self, f: &mut fmt::Formatter<W>) -> fmt::Result {
         f.write_str(self.text.as_str())
     }
@@ -175,3 +181,6 @@ impl From<AllocError> for SinkError {
         SinkError::OutOfMemory
     }
 }
+
+#[cfg(test)]
+mod tests;

@@ -1,0 +1,23 @@
+-- What a builder may answer.
+use Rattle.std.proofs.Common.{◌≡◌, ℕ, List, Result, Ok, Err, subst, string_bytes, String}
+use Rattle.cadence_text.specs.declared.types.errors.MetricError.{MetricError}
+use Rattle.cadence_text.specs.Line.{line_of}
+use Rattle.cadence_text.specs.Metric.{Metric}
+use Rattle.cadence.specs.Sending.{Answers, Formats, Handed, HasLine, MadeFrom, SentPending}
+
+-- a line that was made of what a builder holds, and that the sink took, is answered
+pub sent_pending : {M Z U : Type 0} (may : Answers) (gives : String Z → M → Type 0) (pending : Result Metric MetricError) (text : String Z) (line : List ℕ) (m : M) (u : U)
+    → line ≡ string_bytes text → Formats pending (Ok text) → Handed {U = U} may line (Ok u) → gives text m
+    → SentPending may (MadeFrom gives) pending (Ok m)
+sent_pending may gives (Ok d) text line m u same formats handed made =
+    let e : line ≡ line_of d = cc in
+    ((text, formats, made), (handed.0, subst (λ (t : List ℕ). may t (Ok handed.0)) e handed.1))
+sent_pending may gives (Err e) text line m u same formats handed made = cc
+
+-- the text of an answer is the line of the call that the builder stands for
+pub has_line : {M : Type 0} (may : Answers) (made : List ℕ → M → Type 0) (pending : Result Metric MetricError) (answer : Result M MetricError)
+    → SentPending may made pending answer → HasLine made pending answer
+has_line may made (Ok d) (Ok m) h = record { for_each = λ s c e. subst (λ (x : Metric). made (line_of x) m) e h.0 }
+has_line may made (Ok d) (Err m) h = record { for_each = λ s c e. tt }
+has_line may made (Err d) (Ok m) h = cc
+has_line may made (Err d) (Err m) h = record { for_each = λ s c e. tt }

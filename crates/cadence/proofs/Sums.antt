@@ -1,0 +1,49 @@
+-- Sums modulo 2^64.
+use Rattle.std.proofs.Common.{◌≡◌, ℕ, ◌+◌, ◌%◌, ◌^◌, ◌<◌, ◌≤◌, Bool, true, false, List, [], ◌∷◌, ◌++◌, length, take, ap, ◌∙◌, refl, arith, length-append, length-take}
+use Rattle.std.proofs.lemmas.List.Folds.{concat-append}
+use Rattle.std.proofs.lemmas.List.{append-nil}
+use Rattle.std.specs.List.{concat}
+use Rattle.cadence_flow.specs.Writer.{History, Kind, after_packet, after_refusal}
+use Rattle.cadence_flow.specs.declared.stats.SinkStats.{SinkStats}
+use Rattle.cadence_flow.specs.Sums.{less, sums_since, start_of, start_if, counted_kind, after_taken, after_refused}
+
+-- n more on both sides
+less_more : (s b n : ℕ) → less ((s + n) % 2 ^ 64) (b + n) ≡ less s b
+less_more s b n = omega arith
+
+-- what was taken off is put back
+less_back : (s b : ℕ) → s < 2 ^ 64 → s ≡ (less s b + b) % 2 ^ 64
+less_back s b h = omega arith
+
+pub sums_of_start : (s : SinkStats) (h : History) → s.bytes_sent < 2 ^ 64 → s.packets_sent < 2 ^ 64 → s.bytes_dropped < 2 ^ 64 → s.packets_dropped < 2 ^ 64 → s ≡ sums_since (start_of s h) h
+sums_of_start s h a b c d = λ i.
+    record {
+      bytes_sent = less_back s.bytes_sent (length (concat h.packets)) a i;
+      packets_sent = less_back s.packets_sent (length h.packets) b i;
+      bytes_dropped = less_back s.bytes_dropped h.refused_bytes c i;
+      packets_dropped = less_back s.packets_dropped h.refusals d i;
+    }
+
+length_concat_push : (ps : List (List ℕ)) (p : List ℕ) → length (concat (ps ++ p ∷ [])) ≡ length (concat ps) + length p
+length_concat_push ps p = ap length (concat-append ps (p ∷ [])) ∙ length-append (concat ps) (p ++ []) ∙ ap (λ (l : List ℕ). length (concat ps) + length l) (append-nil p)
+
+-- a packet of n bytes taken leaves the start
+pub start_stays : (s : SinkStats) (h : History) (packet : List ℕ) (n : ℕ) → n ≤ length packet → start_of (record s { bytes_sent = (s.bytes_sent + n) % 2 ^ 64; packets_sent = (s.packets_sent + 1) % 2 ^ 64 }) (after_packet h (take n packet)) ≡ start_of s h
+start_stays s h packet n fits = λ i.
+    let bytes : length (concat (h.packets ++ take n packet ∷ [])) ≡ length (concat h.packets) + n = length_concat_push h.packets (take n packet) ∙ ap (λ (k : ℕ). length (concat h.packets) + k) (length-take n packet ∙ omega arith) in
+    record {
+      bytes_sent = (ap (less ((s.bytes_sent + n) % 2 ^ 64)) bytes ∙ less_more s.bytes_sent (length (concat h.packets)) n) i;
+      packets_sent = (ap (less ((s.packets_sent + 1) % 2 ^ 64)) (length-append h.packets (take n packet ∷ [])) ∙ less_more s.packets_sent (length h.packets) 1) i;
+      bytes_dropped = less s.bytes_dropped h.refused_bytes;
+      packets_dropped = less s.packets_dropped h.refusals;
+    }
+
+start_if_stays : (tells : Bool) (s s' : SinkStats) (h h' : History) → (tells ≡ true → start_of s' h' ≡ start_of s h) → start_if tells s' h' ≡ start_if tells s h
+start_if_stays true s s' h h' e = e refl
+start_if_stays false s s' h h' e = refl
+
+pub counted_stays : (k k' : Kind) (s s' : SinkStats) (h h' : History) (packet : List ℕ) (n : ℕ) → k' ≡ k → n ≤ length packet → s' ≡ record s { bytes_sent = (s.bytes_sent + n) % 2 ^ 64; packets_sent = (s.packets_sent + 1) % 2 ^ 64 } → (k.tells ≡ true → h' ≡ after_packet h (take n packet)) → counted_kind k' h' s' ≡ counted_kind k h s
+counted_stays k k' s s' h h' packet n same fits es taken =
+    ap (λ (j : Kind). counted_kind j h' s') same
+    ∙ ap (λ (t : SinkStats). record { may_give = k.may_give; tells = k.tells; takes_whole = k.takes_whole; start = t })
+    (start_if_stays k.tells s s' h h' (λ t. ap (λ (u : SinkStats). start_of u h') es ∙ ap (start_of (record s { bytes_sent = (s.bytes_sent + n) % 2 ^ 64; packets_sent = (s.packets_sent + 1) % 2 ^ 64 })) (taken t) ∙ start_stays s h packet n fits))

@@ -1,0 +1,51 @@
+-- What contracts show of a client and of its builders.
+use Rattle.std.specs.Prelude.{◌≡◌, Option, None, Some, Result}
+use Rattle.std.specs.Option.{option_map}
+use Rattle.std.specs.declared.dyn_box.DynBox.{DynBox}
+use Rattle.cadence_text.specs.declared.types.errors.MetricError.{MetricError}
+use Rattle.cadence_text.specs.Metric.{Metric}
+use Rattle.cadence.specs.declared.client.builder.MetricBuilder.{MetricBuilder}
+use Rattle.cadence.specs.declared.client.statsd_client.StatsdClient.{StatsdClient}
+use Rattle.cadence.specs.declared.client.client_builder.StatsdClientBuilder.{StatsdClientBuilder}
+use Rattle.cadence.specs.Settings.{Settings}
+
+module _ {T C Z : Type 0} where
+  -- what a builder of a metric holds: the metric so far, or an error
+  abbrev pub pending_of : MetricBuilder T C Z → Result Metric MetricError
+  pending_of b = b.record
+
+  -- the client that it sends by
+  abbrev pub backend_of : MetricBuilder T C Z → C
+  backend_of b = b.client.now
+
+module _ {Z X Y : Type 0} {F : X → Type 0} {G : Y → Type 0} {g : _} where
+  abbrev pub settings_of_client : StatsdClient Z X Y F G g → Settings
+  settings_of_client c = c.settings
+
+  abbrev pub sink_of_client : StatsdClient Z X Y F G g → DynBox X Z F
+  sink_of_client c = c.sink
+
+  -- the error handler, where there is one
+  abbrev pub handler_of_client : StatsdClient Z X Y F G g → Option (DynBox Y Z G)
+  handler_of_client c = option_map (λ h. h.call) c.handler
+
+  -- the settings that a client's builder has so far, or none where a growth was refused
+  abbrev pub settings_of_builder : StatsdClientBuilder Z X Y F G g → Option Settings
+  settings_of_builder b = b.settings
+
+  abbrev pub sink_of_builder : StatsdClientBuilder Z X Y F G g → DynBox X Z F
+  sink_of_builder b = b.sink
+
+  abbrev pub handler_of_builder : StatsdClientBuilder Z X Y F G g → Option (DynBox Y Z G)
+  handler_of_builder b = option_map (λ h. h.call) b.handler
+
+  -- the builder keeps its sink and its handler
+  pub record KeepsSinkAndHandler (old new : StatsdClientBuilder Z X Y F G g) : Type 0 where
+    pub sink : sink_of_builder new ≡ sink_of_builder old
+    pub handler : handler_of_builder new ≡ handler_of_builder old
+
+  -- the client has the builder's settings, sink and handler
+  pub record IsBuiltFrom (b : StatsdClientBuilder Z X Y F G g) (c : StatsdClient Z X Y F G g) : Type 0 where
+    pub settings : settings_of_builder b ≡ Some (settings_of_client c)
+    pub sink : sink_of_client c ≡ sink_of_builder b
+    pub handler : handler_of_client c ≡ handler_of_builder b

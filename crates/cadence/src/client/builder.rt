@@ -1,0 +1,171 @@
+//! A metric that is being built.
+ghost use Rattle.std.specs.Prelude.{◌≡◌, Some, None};
+ghost use Rattle.cadence.specs.Call.{tagged, contained, timed, rated};
+ghost use Rattle.cadence.specs.Sending.{Chooses, ChoosesOrHolds, HasLine, MadeFrom, SentPending, StandsForMore};
+
+use crate::client::backend::MetricBackend;
+use crate::client::pending;
+use crate::client::statsd_client::StatsdClient;
+use cadence_text::decimal::Decimal;
+use cadence_text::line::{Record, Tag};
+use cadence_text::types::{Metric, MetricResult};
+use std::marker::PhantomData;
+
+// A line as a metric.
+#[derive(Clone, Copy)]
+struct Line<'a> {
+    text: &'a str,
+}
+
+impl Metric for Line<'_> {
+    ghost metric_text = { λ line. line.text.now };
+
+    fn as_metric_str(&self) -> &str {
+        self.text
+    }
+}
+
+/// A metric that is being built, as in cadence. It holds the metric so far, or the first error of the call; a held
+/// error stays, and later calls change nothing. It has to be sent: one that is let go doesn't compile.
+pub struct MetricBuilder<
+    'm,
+    'c,
+    T: Metric + From<String<C::Memory>>,
+    C: MetricBackend = StatsdClient,
+> {
+    record: MetricResult<Record<'m, C::Memory>>,
+    client: &'c C,
+    of: PhantomData<T>,
+}
+
+impl<'m, 'c, T: Metric + From<String<C::Memory>>, C: MetricBackend> MetricBuilder<'m, 'c, T, C> {
+    ghost use Rattle.cadence.specs.Shown.{pending_of, backend_of};
+
+    #[inline]
+    pub(crate) fn new(client: &'c C, pending: MetricResult<Record<'m, C::Memory>>) -> Self
+        ensures pending { pending_of result ≡ pending.entry }
+        ensures client { backend_of result ≡ client.now }
+    {
+        MetricBuilder {
+            record: pending,
+            client,
+            of: PhantomData,
+        }
+    }
+
+    /// Adds a tag with a key, after the default tags and the earlier ones. Holds want of memory where the list of
+    /// tags can't grow.
+    pub fn with_tag(self, key: &'m str, value: &'m str) -> Self
+        ensures pending { ChoosesOrHolds (pending_of self.entry) (tagged (record { key = Some key.now; text = value.now })) (pending_of result) }
+        ensures call { StandsForMore (pending_of self.entry) (tagged (record { key = Some key.now; text = value.now })) (pending_of result) }
+        ensures client { backend_of result ≡ backend_of self.entry }
+    {
+        let MetricBuilder {
+            record,
+            client,
+            of: _,
+        } = self;
+        let tag = Tag {
+            key: Some(key),
+            text: value,
+        };
+        MetricBuilder::new(client, pending::with_tag(record, tag))
+    }
+
+    /// Adds a tag without a key, as `with_tag`.
+    pub fn with_tag_value(self, value: &'m str) -> Self
+        ensures pending { ChoosesOrHolds (pending_of self.entry) (tagged (record { key = None; text = value.now })) (pending_of result) }
+        ensures call { StandsForMore (pending_of self.entry) (tagged (record { key = None; text = value.now })) (pending_of result) }
+        ensures client { backend_of result ≡ backend_of self.entry }
+    {
+        let MetricBuilder {
+            record,
+            client,
+            of: _,
+        } = self;
+        let tag = Tag {
+            key: None,
+            text: value,
+        };
+        MetricBuilder::new(client, pending::with_tag(record, tag))
+    }
+
+    /// Sets the container, in the place of the default one or an earlier one.
+    pub fn with_container_id(self, container_id: &'m str) -> Self
+        ensures pending { Chooses (pending_of self.entry) (contained container_id.now) (pending_of result) }
+        ensures call { StandsForMore (pending_of self.entry) (contained container_id.now) (pending_of result) }
+        ensures client { backend_of result ≡ backend_of self.entry }
+    {
+        let MetricBuilder {
+            record,
+            client,
+            of: _,
+        } = self;
+        MetricBuilder::new(client, pending::with_container(record, container_id))
+    }
+
+    /// Sets the time, in the place of an earlier one. DogStatsD reads it as seconds.
+    pub fn with_timestamp(self, timestamp: u64) -> Self
+        ensures pending { Chooses (pending_of self.entry) (timed timestamp) (pending_of result) }
+        ensures call { StandsForMore (pending_of self.entry) (timed timestamp) (pending_of result) }
+        ensures client { backend_of result ≡ backend_of self.entry }
+    {
+        let MetricBuilder {
+            record,
+            client,
+            of: _,
+        } = self;
+        MetricBuilder::new(client, pending::with_time(record, timestamp))
+    }
+
+    /// Sets the sampling rate, in the place of an earlier one. It isn't checked to lie between 0 and 1, and nothing is
+    /// sampled here.
+    pub fn with_sampling_rate(self, rate: Decimal) -> Self
+        ensures pending { Chooses (pending_of self.entry) (rated rate) (pending_of result) }
+        ensures call { StandsForMore (pending_of self.entry) (rated rate) (pending_of result) }
+        ensures client { backend_of result ≡ backend_of self.entry }
+    {
+        let MetricBuilder {
+            record,
+            client,
+            of: _,
+        } = self;
+        MetricBuilder::new(client, pending::with_rate(record, rate))
+    }
+
+    /// Sends the metric's line, and answers a metric with just this text.
+    ///
+    /// A held error is answered without a call of the sink: kind `InvalidInput` where the call's value has no numbers,
+    /// kind `OutOfMemory` where a growth was refused. Else refuses with kind `OutOfMemory` where there is no room for
+    /// the line, or with what the sink refuses the line with.
+    pub fn try_send(self) -> MetricResult<T>
+        ensures answers { SentPending (C.line_may_get (backend_of self.entry)) (MadeFrom T.from_gives) (pending_of self.entry) result }
+        ensures line { HasLine (MadeFrom T.from_gives) (pending_of self.entry) result }
+    {
+        let MetricBuilder {
+            record,
+            client,
+            of: _,
+        } = self;
+        let text = pending::line(record)?;
+        client.send_metric(&Line { text: &text })?;
+        Ok(T::from(text))
+    }
+
+    /// Sends the metric's line as `try_send` does, and gives an error to the client's handler once. Without a handler
+    /// the error is dropped.
+    pub fn send(self) {
+        let MetricBuilder {
+            record,
+            client,
+            of: _,
+        } = self;
+        let sent = match pending::line(record) {
+            Ok(text) => client.send_metric(&Line { text: &text }),
+            Err(e) => Err(e),
+        };
+        if let Err(e) = sent {
+            client.consume_error(e);
+        }
+    }
+}

@@ -1,0 +1,142 @@
+//! The builder of a client.
+ghost use Rattle.std.specs.Prelude.{◌≡◌, Some, None, IfOk, IfErr};
+ghost use Rattle.std.specs.Option.{option_copied};
+ghost use Rattle.cadence_text.specs.Errors.{out_of_memory};
+ghost use Rattle.cadence.specs.Settings.{Changes, with_default_tag, with_default_container};
+
+use crate::client::handler::ErrorHandler;
+use crate::client::settings::ClientSettings;
+use crate::client::statsd_client::StatsdClient;
+use cadence_sinks::sinks::MetricSink;
+use cadence_text::types::{MetricError, MetricResult};
+use std::alloc::{AllocError, Allocator, Global};
+
+/// Makes a client, as in cadence. Where a growth is refused it has no settings from then on, and `build` tells it.
+#[derive(Drop)]
+pub struct StatsdClientBuilder<A: Allocator = Global> {
+    pub(crate) settings: Option<ClientSettings<A>>,
+    pub(crate) sink: Box<dyn MetricSink + Send + Sync, A>,
+    pub(crate) handler: Option<ErrorHandler<A>>,
+}
+
+fn with_tag<A: Allocator + Clone>(
+    settings: Option<ClientSettings<A>>,
+    key: Option<&str>,
+    text: &str,
+) -> Option<ClientSettings<A>>
+    ensures { Changes settings (λ s. with_default_tag s (record { key = option_copied key.entry; text = text.now })) result }
+{
+    let mut settings = settings?;
+    match settings.add_tag(key, text) {
+        Ok(()) => Some(settings),
+        Err(_) => None,
+    }
+}
+
+fn with_container<A: Allocator + Clone>(
+    settings: Option<ClientSettings<A>>,
+    container: &str,
+) -> Option<ClientSettings<A>>
+    ensures { Changes settings (λ s. with_default_container s container.now) result }
+{
+    let mut settings = settings?;
+    match settings.set_container(container) {
+        Ok(()) => Some(settings),
+        Err(_) => None,
+    }
+}
+
+impl<A: Allocator + Clone> StatsdClientBuilder<A> {
+    ghost use Rattle.cadence.specs.Shown.{settings_of_builder, sink_of_builder, handler_of_builder, KeepsSinkAndHandler, IsBuiltFrom};
+
+    /// Sets the handler of the errors that `send` and `consume_error` meet, in the place of an earlier one.
+    pub fn with_error_handler(self, handler: Box<dyn Fn(MetricError) + Send + Sync, A>) -> Self
+        requires { IsAlwaysCallable handler }
+        ensures handler { handler_of_builder result ≡ Some handler }
+        ensures settings { settings_of_builder result ≡ settings_of_builder self }
+        ensures sink { sink_of_builder result ≡ sink_of_builder self }
+    {
+        let StatsdClientBuilder {
+            settings,
+            sink,
+            handler: _,
+        } = self;
+        StatsdClientBuilder {
+            settings,
+            sink,
+            handler: Some(ErrorHandler { call: handler }),
+        }
+    }
+
+    /// Adds a default tag with a key, after the others.
+    pub fn with_tag(self, key: &str, value: &str) -> Self
+        ensures settings { Changes (settings_of_builder self) (λ s. with_default_tag s (record { key = Some key.now; text = value.now })) (settings_of_builder result) }
+        ensures rest { KeepsSinkAndHandler self result }
+    {
+        let StatsdClientBuilder {
+            settings,
+            sink,
+            handler,
+        } = self;
+        StatsdClientBuilder {
+            settings: with_tag(settings, Some(key), value),
+            sink,
+            handler,
+        }
+    }
+
+    /// Adds a default tag without a key, after the others.
+    pub fn with_tag_value(self, value: &str) -> Self
+        ensures settings { Changes (settings_of_builder self) (λ s. with_default_tag s (record { key = None; text = value.now })) (settings_of_builder result) }
+        ensures rest { KeepsSinkAndHandler self result }
+    {
+        let StatsdClientBuilder {
+            settings,
+            sink,
+            handler,
+        } = self;
+        StatsdClientBuilder {
+            settings: with_tag(settings, None, value),
+            sink,
+            handler,
+        }
+    }
+
+    /// Sets the default container, in the place of an earlier one.
+    pub fn with_container_id(self, container_id: &str) -> Self
+        ensures settings { Changes (settings_of_builder self) (λ s. with_default_container s container_id.now) (settings_of_builder result) }
+        ensures rest { KeepsSinkAndHandler self result }
+    {
+        let StatsdClientBuilder {
+            settings,
+            sink,
+            handler,
+        } = self;
+        StatsdClientBuilder {
+            settings: with_container(settings, container_id),
+            sink,
+            handler,
+        }
+    }
+
+    /// Makes the client. Refuses with kind `OutOfMemory` alone, exactly where a growth was refused so far; the sink
+    /// and the handler are dropped then.
+    pub fn build(self) -> MetricResult<StatsdClient<A>>
+        ensures ok { IfOk result (IsBuiltFrom self) }
+        ensures refused { IfErr result (λ e. (e ≡ out_of_memory) × (settings_of_builder self ≡ None)) }
+    {
+        let StatsdClientBuilder {
+            settings,
+            sink,
+            handler,
+        } = self;
+        let Some(settings) = settings else {
+            return Err(MetricError::from(AllocError));
+        };
+        Ok(StatsdClient {
+            settings,
+            sink,
+            handler,
+        })
+    }
+}

@@ -1,0 +1,62 @@
+//! All metrics as one bound.
+
+use crate::client::backend::MetricBackend;
+use crate::client::metrics::{
+    Counted, CountedExt, Distributed, Gauged, Histogrammed, Metered, Setted, Timed,
+};
+use cadence_text::decimal::Decimal;
+use std::time::Duration;
+
+/// Sends metrics of every kind and of every type of values: the bound of code that is generic over its client.
+pub trait MetricClient: MetricBackend
+    + Counted<i64>
+    + Counted<i32>
+    + Counted<u64>
+    + Counted<u32>
+    + CountedExt
+    + Timed<u64>
+    + Timed<Duration>
+    + Timed<Vec<u64, <Self as MetricBackend>::Memory>>
+    + Timed<Vec<Duration, <Self as MetricBackend>::Memory>>
+    + Gauged<u64>
+    + Gauged<Decimal>
+    + Metered<u64>
+    + Histogrammed<u64>
+    + Histogrammed<Decimal>
+    + Histogrammed<Duration>
+    + Histogrammed<Vec<u64, <Self as MetricBackend>::Memory>>
+    + Histogrammed<Vec<Decimal, <Self as MetricBackend>::Memory>>
+    + Histogrammed<Vec<Duration, <Self as MetricBackend>::Memory>>
+    + Distributed<u64>
+    + Distributed<Decimal>
+    + Distributed<Vec<u64, <Self as MetricBackend>::Memory>>
+    + Distributed<Vec<Decimal, <Self as MetricBackend>::Memory>>
+    + Setted<i64> {}
+
+impl<C> MetricClient for C
+where
+    C: MetricBackend
+        + Counted<i64>
+        + Counted<i32>
+        + Counted<u64>
+        + Counted<u32>
+        + CountedExt
+        + Timed<u64>
+        + Timed<Duration>
+        + Timed<Vec<u64, <C as MetricBackend>::Memory>>
+        + Timed<Vec<Duration, <C as MetricBackend>::Memory>>
+        + Gauged<u64>
+        + Gauged<Decimal>
+        + Metered<u64>
+        + Histogrammed<u64>
+        + Histogrammed<Decimal>
+        + Histogrammed<Duration>
+        + Histogrammed<Vec<u64, <C as MetricBackend>::Memory>>
+        + Histogrammed<Vec<Decimal, <C as MetricBackend>::Memory>>
+        + Histogrammed<Vec<Duration, <C as MetricBackend>::Memory>>
+        + Distributed<u64>
+        + Distributed<Decimal>
+        + Distributed<Vec<u64, <C as MetricBackend>::Memory>>
+        + Distributed<Vec<Decimal, <C as MetricBackend>::Memory>>
+        + Setted<i64>,
+{}

@@ -1,0 +1,343 @@
+//! The metrics that a client sends, a trait for each kind.
+
+use crate::client::backend::MetricBackend;
+use crate::client::builder::MetricBuilder;
+use crate::client::pending;
+use crate::client::statsd_client::StatsdClient;
+use cadence_text::line::MetricType;
+use cadence_text::types::{
+    Counter, Distribution, Gauge, Histogram, Meter, MetricResult, Set, Timer,
+};
+use cadence_text::value::{
+    ToCounterValue, ToDistributionValue, ToGaugeValue, ToHistogramValue, ToMeterValue, ToSetValue,
+    ToTimerValue,
+};
+use std::alloc::Allocator;
+
+/// Counts things that happened, as in cadence. A server adds the counts up.
+pub trait Counted<T: ToCounterValue<Self::Memory>>: MetricBackend {
+    ghost use Rattle.std.specs.Prelude.{◌≡◌};
+    ghost use Rattle.cadence.specs.Call.{MakesMetric};
+    ghost use Rattle.cadence.specs.Sending.{IsText, SentCall, plain_metric_of};
+    ghost use Rattle.cadence.specs.Shown.{pending_of, backend_of};
+
+    /// Adds to a counter: `count_with_tags` and then `try_send`.
+    fn count(&self, key: &str, value: T) -> MetricResult<Counter<Self::Memory>>
+        ensures { SentCall (Self.line_may_get self.now) IsText (plain_metric_of (Self.settings self.now) MetricType.Counter key.now (T.counted value)) result }
+    {
+        self.count_with_tags(key, value).try_send()
+    }
+
+    /// The same, to be sent with tags and other options of its own.
+    fn count_with_tags<'a>(
+        &'a self,
+        key: &'a str,
+        value: T,
+    ) -> MetricBuilder<'a, 'a, Counter<Self::Memory>, Self>
+        ensures pending { MakesMetric (plain_metric_of (Self.settings self.now) MetricType.Counter key.now (T.counted value)) (pending_of result) }
+        ensures client { backend_of result ≡ self.now };
+}
+
+impl<A: Allocator + Clone, T: ToCounterValue<A>> Counted<T> for StatsdClient<A> {
+    #[inline]
+    fn count_with_tags<'a>(
+        &'a self,
+        key: &'a str,
+        value: T,
+    ) -> MetricBuilder<'a, 'a, Counter<A>, StatsdClient<A>> {
+        MetricBuilder::new(
+            self,
+            pending::start(
+                &self.settings,
+                key,
+                MetricType::Counter,
+                value.try_to_value(),
+            ),
+        )
+    }
+}
+
+/// Counts one up or down, as in cadence.
+pub trait CountedExt: Counted<i64> {
+    ghost use Rattle.std.specs.Prelude.{◌≡◌, Some, ◌∷◌, [], pos, negsuc};
+    ghost use Rattle.cadence_text.specs.Number.{whole};
+    ghost use Rattle.cadence.specs.Call.{MakesMetric};
+    ghost use Rattle.cadence.specs.Sending.{IsText, SentCall, plain_metric_of};
+    ghost use Rattle.cadence.specs.Shown.{pending_of, backend_of};
+
+    /// Adds 1 to a counter: `incr_with_tags` and then `try_send`.
+    fn incr(&self, key: &str) -> MetricResult<Counter<Self::Memory>>
+        ensures { SentCall (Self.line_may_get self.now) IsText (plain_metric_of (Self.settings self.now) MetricType.Counter key.now (Some (whole (pos 1) ∷ []))) result }
+    {
+        self.incr_with_tags(key).try_send()
+    }
+
+    /// The same, to be sent with tags and other options of its own.
+    fn incr_with_tags<'a>(
+        &'a self,
+        key: &'a str,
+    ) -> MetricBuilder<'a, 'a, Counter<Self::Memory>, Self>
+        ensures pending { MakesMetric (plain_metric_of (Self.settings self.now) MetricType.Counter key.now (Some (whole (pos 1) ∷ []))) (pending_of result) }
+        ensures client { backend_of result ≡ self.now }
+    {
+        self.count_with_tags(key, 1)
+    }
+
+    /// Adds -1 to a counter: `decr_with_tags` and then `try_send`.
+    fn decr(&self, key: &str) -> MetricResult<Counter<Self::Memory>>
+        ensures { SentCall (Self.line_may_get self.now) IsText (plain_metric_of (Self.settings self.now) MetricType.Counter key.now (Some (whole (negsuc 0) ∷ []))) result }
+    {
+        self.decr_with_tags(key).try_send()
+    }
+
+    /// The same, to be sent with tags and other options of its own.
+    fn decr_with_tags<'a>(
+        &'a self,
+        key: &'a str,
+    ) -> MetricBuilder<'a, 'a, Counter<Self::Memory>, Self>
+        ensures pending { MakesMetric (plain_metric_of (Self.settings self.now) MetricType.Counter key.now (Some (whole (negsuc 0) ∷ []))) (pending_of result) }
+        ensures client { backend_of result ≡ self.now }
+    {
+        self.count_with_tags(key, -1)
+    }
+}
+
+impl<A: Allocator + Clone> CountedExt for StatsdClient<A> {}
+
+/// Tells how long things took, in milliseconds, as in cadence. A `Duration` is cut off to whole milliseconds.
+pub trait Timed<T: ToTimerValue<Self::Memory>>: MetricBackend {
+    ghost use Rattle.std.specs.Prelude.{◌≡◌};
+    ghost use Rattle.cadence.specs.Call.{MakesMetric};
+    ghost use Rattle.cadence.specs.Sending.{IsText, SentCall, plain_metric_of};
+    ghost use Rattle.cadence.specs.Shown.{pending_of, backend_of};
+
+    /// Tells a time, in milliseconds: `time_with_tags` and then `try_send`.
+    fn time(&self, key: &str, value: T) -> MetricResult<Timer<Self::Memory>>
+        ensures { SentCall (Self.line_may_get self.now) IsText (plain_metric_of (Self.settings self.now) MetricType.Timer key.now (T.timed value)) result }
+    {
+        self.time_with_tags(key, value).try_send()
+    }
+
+    /// The same, to be sent with tags and other options of its own.
+    fn time_with_tags<'a>(
+        &'a self,
+        key: &'a str,
+        value: T,
+    ) -> MetricBuilder<'a, 'a, Timer<Self::Memory>, Self>
+        ensures pending { MakesMetric (plain_metric_of (Self.settings self.now) MetricType.Timer key.now (T.timed value)) (pending_of result) }
+        ensures client { backend_of result ≡ self.now };
+}
+
+impl<A: Allocator + Clone, T: ToTimerValue<A>> Timed<T> for StatsdClient<A> {
+    #[inline]
+    fn time_with_tags<'a>(
+        &'a self,
+        key: &'a str,
+        value: T,
+    ) -> MetricBuilder<'a, 'a, Timer<A>, StatsdClient<A>> {
+        MetricBuilder::new(
+            self,
+            pending::start(&self.settings, key, MetricType::Timer, value.try_to_value()),
+        )
+    }
+}
+
+/// Tells values that stand until they are told again, as in cadence.
+pub trait Gauged<T: ToGaugeValue<Self::Memory>>: MetricBackend {
+    ghost use Rattle.std.specs.Prelude.{◌≡◌};
+    ghost use Rattle.cadence.specs.Call.{MakesMetric};
+    ghost use Rattle.cadence.specs.Sending.{IsText, SentCall, plain_metric_of};
+    ghost use Rattle.cadence.specs.Shown.{pending_of, backend_of};
+
+    /// Tells the value of a gauge: `gauge_with_tags` and then `try_send`.
+    fn gauge(&self, key: &str, value: T) -> MetricResult<Gauge<Self::Memory>>
+        ensures { SentCall (Self.line_may_get self.now) IsText (plain_metric_of (Self.settings self.now) MetricType.Gauge key.now (T.gauged value)) result }
+    {
+        self.gauge_with_tags(key, value).try_send()
+    }
+
+    /// The same, to be sent with tags and other options of its own.
+    fn gauge_with_tags<'a>(
+        &'a self,
+        key: &'a str,
+        value: T,
+    ) -> MetricBuilder<'a, 'a, Gauge<Self::Memory>, Self>
+        ensures pending { MakesMetric (plain_metric_of (Self.settings self.now) MetricType.Gauge key.now (T.gauged value)) (pending_of result) }
+        ensures client { backend_of result ≡ self.now };
+}
+
+impl<A: Allocator + Clone, T: ToGaugeValue<A>> Gauged<T> for StatsdClient<A> {
+    #[inline]
+    fn gauge_with_tags<'a>(
+        &'a self,
+        key: &'a str,
+        value: T,
+    ) -> MetricBuilder<'a, 'a, Gauge<A>, StatsdClient<A>> {
+        MetricBuilder::new(
+            self,
+            pending::start(&self.settings, key, MetricType::Gauge, value.try_to_value()),
+        )
+    }
+}
+
+/// Tells how often things happen, as in cadence. A server makes a rate of it.
+pub trait Metered<T: ToMeterValue<Self::Memory>>: MetricBackend {
+    ghost use Rattle.std.specs.Prelude.{◌≡◌};
+    ghost use Rattle.cadence.specs.Call.{MakesMetric};
+    ghost use Rattle.cadence.specs.Sending.{IsText, SentCall, plain_metric_of};
+    ghost use Rattle.cadence.specs.Shown.{pending_of, backend_of};
+
+    /// Adds to a meter: `meter_with_tags` and then `try_send`.
+    fn meter(&self, key: &str, value: T) -> MetricResult<Meter<Self::Memory>>
+        ensures { SentCall (Self.line_may_get self.now) IsText (plain_metric_of (Self.settings self.now) MetricType.Meter key.now (T.metered value)) result }
+    {
+        self.meter_with_tags(key, value).try_send()
+    }
+
+    /// The same, to be sent with tags and other options of its own.
+    fn meter_with_tags<'a>(
+        &'a self,
+        key: &'a str,
+        value: T,
+    ) -> MetricBuilder<'a, 'a, Meter<Self::Memory>, Self>
+        ensures pending { MakesMetric (plain_metric_of (Self.settings self.now) MetricType.Meter key.now (T.metered value)) (pending_of result) }
+        ensures client { backend_of result ≡ self.now };
+}
+
+impl<A: Allocator + Clone, T: ToMeterValue<A>> Metered<T> for StatsdClient<A> {
+    #[inline]
+    fn meter_with_tags<'a>(
+        &'a self,
+        key: &'a str,
+        value: T,
+    ) -> MetricBuilder<'a, 'a, Meter<A>, StatsdClient<A>> {
+        MetricBuilder::new(
+            self,
+            pending::start(&self.settings, key, MetricType::Meter, value.try_to_value()),
+        )
+    }
+}
+
+/// Tells values whose distribution a server reckons, as in cadence. A `Duration` is cut off to whole nanoseconds.
+pub trait Histogrammed<T: ToHistogramValue<Self::Memory>>: MetricBackend {
+    ghost use Rattle.std.specs.Prelude.{◌≡◌};
+    ghost use Rattle.cadence.specs.Call.{MakesMetric};
+    ghost use Rattle.cadence.specs.Sending.{IsText, SentCall, plain_metric_of};
+    ghost use Rattle.cadence.specs.Shown.{pending_of, backend_of};
+
+    /// Tells a value of a histogram: `histogram_with_tags` and then `try_send`.
+    fn histogram(&self, key: &str, value: T) -> MetricResult<Histogram<Self::Memory>>
+        ensures { SentCall (Self.line_may_get self.now) IsText (plain_metric_of (Self.settings self.now) MetricType.Histogram key.now (T.histogrammed value)) result }
+    {
+        self.histogram_with_tags(key, value).try_send()
+    }
+
+    /// The same, to be sent with tags and other options of its own.
+    fn histogram_with_tags<'a>(
+        &'a self,
+        key: &'a str,
+        value: T,
+    ) -> MetricBuilder<'a, 'a, Histogram<Self::Memory>, Self>
+        ensures pending { MakesMetric (plain_metric_of (Self.settings self.now) MetricType.Histogram key.now (T.histogrammed value)) (pending_of result) }
+        ensures client { backend_of result ≡ self.now };
+}
+
+impl<A: Allocator + Clone, T: ToHistogramValue<A>> Histogrammed<T> for StatsdClient<A> {
+    #[inline]
+    fn histogram_with_tags<'a>(
+        &'a self,
+        key: &'a str,
+        value: T,
+    ) -> MetricBuilder<'a, 'a, Histogram<A>, StatsdClient<A>> {
+        MetricBuilder::new(
+            self,
+            pending::start(
+                &self.settings,
+                key,
+                MetricType::Histogram,
+                value.try_to_value(),
+            ),
+        )
+    }
+}
+
+/// Tells values whose distribution a server reckons over all its clients, as in cadence.
+pub trait Distributed<T: ToDistributionValue<Self::Memory>>: MetricBackend {
+    ghost use Rattle.std.specs.Prelude.{◌≡◌};
+    ghost use Rattle.cadence.specs.Call.{MakesMetric};
+    ghost use Rattle.cadence.specs.Sending.{IsText, SentCall, plain_metric_of};
+    ghost use Rattle.cadence.specs.Shown.{pending_of, backend_of};
+
+    /// Tells a value of a distribution: `distribution_with_tags` and then `try_send`.
+    fn distribution(&self, key: &str, value: T) -> MetricResult<Distribution<Self::Memory>>
+        ensures { SentCall (Self.line_may_get self.now) IsText (plain_metric_of (Self.settings self.now) MetricType.Distribution key.now (T.distributed value)) result }
+    {
+        self.distribution_with_tags(key, value).try_send()
+    }
+
+    /// The same, to be sent with tags and other options of its own.
+    fn distribution_with_tags<'a>(
+        &'a self,
+        key: &'a str,
+        value: T,
+    ) -> MetricBuilder<'a, 'a, Distribution<Self::Memory>, Self>
+        ensures pending { MakesMetric (plain_metric_of (Self.settings self.now) MetricType.Distribution key.now (T.distributed value)) (pending_of result) }
+        ensures client { backend_of result ≡ self.now };
+}
+
+impl<A: Allocator + Clone, T: ToDistributionValue<A>> Distributed<T> for StatsdClient<A> {
+    #[inline]
+    fn distribution_with_tags<'a>(
+        &'a self,
+        key: &'a str,
+        value: T,
+    ) -> MetricBuilder<'a, 'a, Distribution<A>, StatsdClient<A>> {
+        MetricBuilder::new(
+            self,
+            pending::start(
+                &self.settings,
+                key,
+                MetricType::Distribution,
+                value.try_to_value(),
+            ),
+        )
+    }
+}
+
+/// Tells members of a set, as in cadence. A server counts the different ones.
+pub trait Setted<T: ToSetValue<Self::Memory>>: MetricBackend {
+    ghost use Rattle.std.specs.Prelude.{◌≡◌};
+    ghost use Rattle.cadence.specs.Call.{MakesMetric};
+    ghost use Rattle.cadence.specs.Sending.{IsText, SentCall, plain_metric_of};
+    ghost use Rattle.cadence.specs.Shown.{pending_of, backend_of};
+
+    /// Tells a member of a set: `set_with_tags` and then `try_send`.
+    fn set(&self, key: &str, value: T) -> MetricResult<Set<Self::Memory>>
+        ensures { SentCall (Self.line_may_get self.now) IsText (plain_metric_of (Self.settings self.now) MetricType.Set key.now (T.set_as value)) result }
+    {
+        self.set_with_tags(key, value).try_send()
+    }
+
+    /// The same, to be sent with tags and other options of its own.
+    fn set_with_tags<'a>(
+        &'a self,
+        key: &'a str,
+        value: T,
+    ) -> MetricBuilder<'a, 'a, Set<Self::Memory>, Self>
+        ensures pending { MakesMetric (plain_metric_of (Self.settings self.now) MetricType.Set key.now (T.set_as value)) (pending_of result) }
+        ensures client { backend_of result ≡ self.now };
+}
+
+impl<A: Allocator + Clone, T: ToSetValue<A>> Setted<T> for StatsdClient<A> {
+    #[inline]
+    fn set_with_tags<'a>(
+        &'a self,
+        key: &'a str,
+        value: T,
+    ) -> MetricBuilder<'a, 'a, Set<A>, StatsdClient<A>> {
+        MetricBuilder::new(
+            self,
+            pending::start(&self.settings, key, MetricType::Set, value.try_to_value()),
+        )
+    }
+}

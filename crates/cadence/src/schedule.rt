@@ -1,0 +1,15 @@
+//! Runs of a client, a queue and a packer, step by step, and plans of packets.
+
+pub mod call;
+mod counting;
+pub mod plan;
+pub mod reports;
+pub mod run;
+mod running;
+pub mod steps;
+
+pub use call::{Call, CallOption, CallValue};
+pub use plan::{check_plan, plan_packets, tight_is_fewest};
+pub use reports::Report;
+pub use run::run_schedule;
+pub use steps::{Reply, Step};

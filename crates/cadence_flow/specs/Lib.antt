@@ -1,0 +1,10 @@
+pub mod Frame
+pub mod Log
+pub mod Packer
+pub mod Queue
+pub mod QueueModel
+pub mod QueueRoom
+pub mod QueueState
+pub mod Sums
+pub mod Tests
+pub mod Writer

@@ -1,0 +1,68 @@
+-- What each call of a queue does.
+use Rattle.std.specs.Prelude.{◌≡◌, ℕ, ◌+◌, ◌-◌, ◌%◌, ◌^◌, ◌==◌, ◌||◌, ◌&&◌, not, Bool, true, false, cond, leb, List, [], ◌∷◌, ◌++◌, length, Option, Some, None}
+use Rattle.cadence_text.specs.declared.types.errors.SinkError.{SinkError}
+use Rattle.cadence_text.specs.declared.types.errors.SinkError.TheVariants.{ChannelFull, ChannelDisconnected, OutOfMemory}
+use Rattle.cadence_flow.specs.QueueState.{Queue}
+use Rattle.cadence_flow.specs.declared.queue.queue_core.Taken.{Taken}
+use Rattle.cadence_flow.specs.declared.queue.queue_core.Taken.TheVariants.{Text, Empty, Ended}
+
+module _ {T : Type 0} where
+  -- an empty queue with one handle
+  abbrev pub new_queue : Option ℕ → Queue T
+  new_queue capacity = record { waiting = []; capacity = capacity; stopped = false; handles = 1; submitted = 0; drained = 0 }
+
+  -- whether as many texts wait as the capacity
+  abbrev pub at_capacity : Option ℕ → List T → Bool
+  at_capacity (Some capacity) waiting = leb capacity (length waiting)
+  at_capacity None waiting = false
+
+  -- whether the queue has no room for a text
+  abbrev pub is_full : Queue T → Bool
+  is_full q = at_capacity q.capacity q.waiting
+
+  -- whether a text would be taken if memory allows
+  abbrev pub is_open : Queue T → Bool
+  is_open q = not q.stopped && not (is_full q)
+
+  -- the queue with a text put last
+  abbrev pub accepting : Queue T → T → Queue T
+  accepting q text = record q { waiting = q.waiting ++ text ∷ []; submitted = (q.submitted + 1) % 2 ^ 64 }
+
+  -- why a queue refuses a text: it is stopped; else it is full; else memory ran out
+  abbrev pub refusal : Queue T → SinkError
+  refusal q = cond q.stopped ChannelDisconnected (cond (is_full q) ChannelFull OutOfMemory)
+
+  -- a refusal of the queue
+  abbrev pub IsRefusal : Queue T → SinkError → Type 0
+  IsRefusal q e = e ≡ refusal q
+
+  -- the oldest text comes out; where none waits, the queue has ended if it is stopped, and else is empty
+  abbrev pub IsTaken : Queue T → Taken T → Queue T → Type 0
+  IsTaken q (Text text) r =
+      (q.waiting ≡ text ∷ r.waiting) × (r ≡ record q { waiting = r.waiting; drained = (q.drained + 1) % 2 ^ 64 })
+  IsTaken q Empty r = (q.waiting ≡ []) × (q.stopped ≡ false) × (r ≡ q)
+  IsTaken q Ended r = (q.waiting ≡ []) × (q.stopped ≡ true) × (r ≡ q)
+
+  -- whether no text waits and more may come
+  abbrev pub is_idle : Queue T → Bool
+  is_idle q = not q.stopped && (length q.waiting == 0)
+
+  -- the queue with its stop mark
+  abbrev pub stopping : Queue T → Queue T
+  stopping q = record q { stopped = true }
+
+  -- one handle more; a count at the greatest number of 64 bits stays there
+  abbrev pub adding_handle : Queue T → Queue T
+  adding_handle q = record q { handles = cond (q.handles == 18446744073709551615) q.handles (q.handles + 1) }
+
+  -- one handle less, and the stop mark where it was the last; a count of 0 or of the greatest number stays
+  abbrev pub dropping_handle : Queue T → Queue T
+  dropping_handle q =
+      cond (q.handles == 0 || q.handles == 18446744073709551615) q (record q { handles = q.handles - 1; stopped = cond (q.handles == 1) true q.stopped })
+
+-- what a queue may refuse with, whatever is known of it
+abbrev pub IsQueueRefusal : SinkError → Type 0
+IsQueueRefusal ChannelFull = Unit {0}
+IsQueueRefusal ChannelDisconnected = Unit {0}
+IsQueueRefusal OutOfMemory = Unit {0}
+IsQueueRefusal _ = ⊥

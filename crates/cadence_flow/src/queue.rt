@@ -1,0 +1,10 @@
+//! The queue between the callers of a sink and its worker.
+
+pub mod queue_core;
+pub mod shared;
+#[cfg(test)]
+mod tests;
+mod text_ring;
+
+pub use queue_core::{QueueCore, Taken};
+pub use shared::SharedQueue;

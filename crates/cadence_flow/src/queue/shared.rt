@@ -1,0 +1,141 @@
+//! A queue that threads share.
+ghost use Rattle.std.specs.Prelude.{◌≡◌, IfErr, true};
+ghost use Rattle.cadence_text.specs.Errors.{out_of_memory};
+ghost use Rattle.cadence_flow.specs.Queue.{IsQueueRefusal};
+ghost use Rattle.cadence_flow.specs.QueueRoom.{TakesRoom};
+
+use super::queue_core::{QueueCore, Taken};
+use cadence_text::types::{MetricResult, SinkError};
+use std::alloc::{AllocError, Allocator, Global};
+use std::sync::{Condvar, Mutex, Wait};
+
+// What lies under the lock: the queue, and whether its worker has ended.
+#[derive(Drop)]
+struct Guarded<T, A: Allocator> {
+    core: QueueCore<T, A>,
+    ended: bool,
+}
+
+impl<T, A: Allocator> Guarded<T, A> {
+    fn mark_end(&mut self)
+        ensures marked { self.new.ended ≡ true }
+        ensures queue { self.new.core ≡ self.old.core }
+    {
+        self.ended = true;
+    }
+}
+
+/// A `QueueCore` under a lock, which threads share by reference. Each call is one step of the core. This project's
+/// own; cadence has channels.
+#[derive(Drop)]
+pub struct SharedQueue<T, A: Allocator = Global> {
+    guarded: Mutex<Guarded<T, A>>,
+    changed: Condvar,
+}
+
+impl<T: Drop, A: Allocator + Clone> SharedQueue<T, A> {
+    /// An empty queue with one handle, which holds at most `capacity` texts; `None` is no bound. A bounded queue
+    /// makes room for all its texts at once. The only error is `OutOfMemory`.
+    pub fn new(alloc: A, capacity: Option<usize>) -> MetricResult<Self>
+        ensures { IfErr result (λ e. (e ≡ out_of_memory) × TakesRoom capacity) }
+    {
+        let core = QueueCore::new(alloc, capacity)?;
+        Ok(SharedQueue {
+            guarded: Mutex::new(Guarded { core, ended: false }),
+            changed: Condvar::new(),
+        })
+    }
+
+    /// Puts a text last, and wakes those who wait for one. The errors are those of `QueueCore::submit`; the text
+    /// comes back and the queue has not changed then.
+    pub fn submit(&self, rt: &impl Wait, text: T) -> Result<(), (SinkError, T)>
+        ensures { IfErr result (λ e. IsQueueRefusal e.0 × (e.1 ≡ text)) }
+    {
+        let answer = self.guarded.lock(rt).core.submit(text);
+        if answer.is_ok() {
+            self.changed.notify_all();
+        }
+        answer
+    }
+
+    /// Puts last the text that `make` makes, and wakes those who wait for one. The lock is taken once, and `make` is
+    /// called under it, only where the queue is neither stopped nor full. The errors are those of
+    /// `QueueCore::submit_with`; the queue has not changed then.
+    pub fn submit_with<F: FnOnce() -> Result<T, AllocError>>(
+        &self,
+        rt: &impl Wait,
+        make: F,
+    ) -> Result<(), SinkError>
+        requires { F.IsAlwaysCallable make }
+        ensures { IfErr result IsQueueRefusal }
+    {
+        let answer = self.guarded.lock(rt).core.submit_with(make);
+        if answer.is_ok() {
+            self.changed.notify_all();
+        }
+        answer
+    }
+}
+
+impl<T: Drop, A: Allocator> SharedQueue<T, A> {
+    /// Takes the oldest text, if there is one.
+    pub fn try_take(&self, rt: &impl Wait) -> Taken<T> {
+        self.guarded.lock(rt).core.take()
+    }
+
+    /// Takes the oldest text, and waits while there is none and the queue is not stopped. `None` is the end.
+    pub fn take_wait(&self, rt: &impl Wait) -> Option<T> {
+        let mut guard = self
+            .changed
+            .wait_while(rt, self.guarded.lock(rt), |g| g.core.is_idle());
+        match guard.core.take() {
+            Taken::Text(text) => Some(text),
+            Taken::Ended => None,
+            Taken::Empty => unreachable!(),
+        }
+    }
+
+    /// Sets the stop mark, and wakes those who wait.
+    pub fn stop(&self, rt: &impl Wait) {
+        self.guarded.lock(rt).core.stop();
+        self.changed.notify_all();
+    }
+
+    /// Counts one more handle.
+    pub fn add_handle(&self, rt: &impl Wait) {
+        self.guarded.lock(rt).core.add_handle();
+    }
+
+    /// Counts one handle less. The last one stops the queue, and wakes those who wait.
+    pub fn drop_handle(&self, rt: &impl Wait) {
+        self.guarded.lock(rt).core.drop_handle();
+        self.changed.notify_all();
+    }
+
+    /// Marks that the worker has ended, and wakes those who wait for it.
+    pub fn mark_end(&self, rt: &impl Wait) {
+        self.guarded.lock(rt).mark_end();
+        self.changed.notify_all();
+    }
+
+    /// Waits for the worker's end mark.
+    pub fn wait_end(&self, rt: &impl Wait) {
+        self.changed
+            .wait_while(rt, self.guarded.lock(rt), |g| !g.ended);
+    }
+
+    /// The number of texts that wait.
+    pub fn waiting(&self, rt: &impl Wait) -> usize {
+        self.guarded.lock(rt).core.waiting()
+    }
+
+    /// The number of texts accepted, modulo 2 to the 64.
+    pub fn submitted(&self, rt: &impl Wait) -> u64 {
+        self.guarded.lock(rt).core.submitted()
+    }
+
+    /// The number of texts taken, modulo 2 to the 64.
+    pub fn drained(&self, rt: &impl Wait) -> u64 {
+        self.guarded.lock(rt).core.drained()
+    }
+}

@@ -1,0 +1,118 @@
+-- No line of a record has 2 ^ 126 bytes.
+use Rattle.std.proofs.Common.{ℕ, zero, suc, ◌+◌, ◌*◌, ◌/◌, ◌^◌, ◌<◌, ◌≤◌, ℤ, pos, negsuc, List, [], ◌∷◌, ◌++◌, length, Option, Some, None, ap, arith, unsigned_abs, lit<}
+use Rattle.std.specs.Prelude.{IfSome}
+use Rattle.std.specs.List.{AllByRecursion, flat_map}
+use Rattle.std.specs.Fmt.{decimal}
+use Rattle.std.proofs.lemmas.List.{length-append}
+use Rattle.std.proofs.lemmas.List.Elements.{All-weaker, recursion_from_All}
+use Rattle.std.proofs.lemmas.Fmt.{length-decimal-le_wide}
+use Rattle.std.proofs.Math.Nat.{div-le_self}
+use Rattle.cadence_text.specs.declared.line.MetricType.{MetricType}
+use Rattle.cadence_text.specs.declared.line.MetricType.TheVariants.{Counter, Timer, Gauge, Meter, Histogram, Set, Distribution}
+use Rattle.cadence_text.specs.Number.{Number, number_text, places_text}
+use Rattle.cadence_text.specs.Metric.{Metric, Tag}
+use Rattle.cadence_text.specs.Line.{separated, numbers_text, kind_text, rate_field, key_text, tag_text, tags_field, container_field, time_field, line_of}
+use Rattle.cadence_text.specs.RecordMetric.{IsRecordNumber, IsRecordTag, IsRecordMetric, IsRecordTime, FitsMemory, AreRecordNumbers, AreRecordTags}
+use Rattle.cadence_text.specs.OneReading.{HasWidth, HasWidths}
+use Rattle.cadence_text.proofs.Cut.{each_weaker}
+use Rattle.cadence_text.proofs.NumberText.{sign, unsigned_text, sign-pos, places_text-suc, length-places_of, fits_wide, quotient_below}
+
+sign_short : (z : ℤ) → length (sign z) ≤ 1
+sign_short (pos n) = omega (arith, ap (λ t. length t) (sign-pos n))
+sign_short (negsuc n) = omega arith
+
+places_short : (n p : ℕ) → n < 10 ^ 64 → length (places_text n p) ≤ p + 1
+places_short n zero h = omega arith
+places_short n (suc p) h = omega (arith, ap (λ t. length t) (places_text-suc n p), length-places_of n p h)
+
+number_short : (a : Number) → IsRecordNumber a → length (number_text a) ≤ 71
+number_short a h =
+    let n = unsigned_abs a.mantissa in
+    let wide : n < 10 ^ 64 = fits_wide a.mantissa h.mantissa in
+    let low : n / 10 ^ a.places < 10 ^ 39 = omega (arith, div-le_self n (10 ^ a.places), h.mantissa) in
+    let whole : length (decimal (n / 10 ^ a.places)) ≤ 39 = length-decimal-le_wide 39 (n / 10 ^ a.places) (lit< tt) low (quotient_below n a.places wide) in
+    omega (arith, sign_short a.mantissa, whole, places_short n a.places wide, h.places, length-append (sign a.mantissa) (unsigned_text n a.places), length-append (decimal (n / 10 ^ a.places)) (places_text n a.places))
+
+rate_short : (o : Option Number) → IfSome o IsRecordNumber → length (rate_field o) ≤ 73
+rate_short (Some r) h = omega (arith, number_short r h)
+rate_short None h = omega arith
+
+key_short : (o : Option (List ℕ)) → IfSome o FitsMemory → length (key_text o) ≤ 2 ^ 63
+key_short (Some k) h = omega (arith, h, length-append k (58 ∷ []))
+key_short None h = omega arith
+
+tag_short : (a : Tag) → IsRecordTag a → length (tag_text a) ≤ 2 ^ 64
+tag_short a h = omega (arith, key_short a.key h.key, h.text, length-append (key_text a.key) a.text)
+
+flat_map_short : {X : Type 0} (k : ℕ) (f : X → List ℕ) (xs : List X) → AllByRecursion (λ x. length (f x) ≤ k) xs → length (flat_map f xs) ≤ k * length xs
+flat_map_short k f [] h = omega arith
+flat_map_short k f (x ∷ xs) (h, hs) = omega (arith, length-append (f x) (flat_map f xs), h, flat_map_short k f xs hs)
+
+separated_short : {X : Type 0} (k c : ℕ) (text : X → List ℕ) (xs : List X) → AllByRecursion (λ x. length (text x) ≤ k) xs → length (separated (c ∷ []) text xs) ≤ suc k * length xs
+separated_short k c text [] h = omega arith
+separated_short k c text (x ∷ xs) (h, hs) =
+    let rest : length (flat_map (λ y. c ∷ text y) xs) ≤ suc k * length xs = flat_map_short (suc k) (λ y. c ∷ text y) xs (each_weaker (λ y. length (text y) ≤ k) (λ y. length (c ∷ text y) ≤ suc k) (λ y p. omega arith) xs hs) in
+    omega (arith, length-append (text x) (flat_map (λ y. c ∷ text y) xs), h, rest)
+
+numbers_short : (ns : List Number) → AreRecordNumbers ns → length (numbers_text ns) ≤ 72 * 2 ^ 64
+numbers_short ns h =
+    omega (arith, h.few, separated_short 71 58 number_text ns (each_weaker IsRecordNumber (λ n. length (number_text n) ≤ 71) number_short ns (recursion_from_All IsRecordNumber ns h.each)))
+
+tags_short : (ts : List Tag) → AreRecordTags ts → length (tags_field ts) ≤ 2 ^ 125
+tags_short [] h = omega arith
+tags_short (t ∷ ts) h =
+    omega (arith, h.few, separated_short (2 ^ 64) 44 tag_text (t ∷ ts) (each_weaker IsRecordTag (λ a. length (tag_text a) ≤ 2 ^ 64) tag_short (t ∷ ts) (recursion_from_All IsRecordTag (t ∷ ts) h.each)))
+
+container_short : (o : Option (List ℕ)) → IfSome o FitsMemory → length (container_field o) ≤ 2 ^ 64
+container_short (Some c) h = omega (arith, h)
+container_short None h = omega arith
+
+time_short : (o : Option ℕ) → IsRecordTime o → length (time_field o) ≤ 22
+time_short (Some t) h = let digits : length (decimal t) ≤ 20 = length-decimal-le_wide 20 t (lit< tt) (omega (arith, h)) (omega (arith, h)) in omega arith
+time_short None h = omega arith
+
+kind_short : (k : MetricType) → length (kind_text k) ≤ 2
+kind_short Counter = omega arith
+kind_short Timer = omega arith
+kind_short Gauge = omega arith
+kind_short Meter = omega arith
+kind_short Histogram = omega arith
+kind_short Set = omega arith
+kind_short Distribution = omega arith
+
+pub line_is_short : (m : Metric) → IsRecordMetric m → length (line_of m) < 2 ^ 126
+unfolding line_of
+line_is_short m h =
+    let last = container_field m.container ++ time_field m.time in
+    let tagged = tags_field m.tags ++ last in
+    let rated = rate_field m.rate ++ tagged in
+    let kinded = kind_text m.kind ++ rated in
+    let numbered = numbers_text m.numbers ++ (124 ∷ kinded) in
+    omega (
+      arith,
+      h.name,
+      numbers_short m.numbers h.numbers,
+      kind_short m.kind,
+      rate_short m.rate h.rate,
+      tags_short m.tags h.tags,
+      container_short m.container h.container,
+      time_short m.time h.time,
+      length-append m.name (58 ∷ numbered),
+      length-append (numbers_text m.numbers) (124 ∷ kinded),
+      length-append (kind_text m.kind) rated,
+      length-append (rate_field m.rate) tagged,
+      length-append (tags_field m.tags) last,
+      length-append (container_field m.container) (time_field m.time),
+    )
+
+-- what a record means has numbers and a time of these widths
+pub record_widths : (m : Metric) → IsRecordMetric m → HasWidths m
+record_widths m h = record {
+  numbers = All-weaker IsRecordNumber HasWidth (λ n p. p.mantissa) m.numbers h.numbers.each;
+  rate = rate_width m.rate h.rate;
+  time = h.time;
+}
+  where
+    rate_width : (o : Option Number) → IfSome o IsRecordNumber → IfSome o HasWidth
+    rate_width (Some r) h = h.mantissa
+    rate_width None h = tt

@@ -1,0 +1,22 @@
+-- The metric that a record means, and what each call makes of it.
+use Rattle.std.specs.Prelude.{◌++◌, map}
+use Rattle.std.specs.Option.{option_copied}
+use Rattle.cadence_text.specs.declared.line.record.Tag.{Tag as TagParts}
+use Rattle.cadence_text.specs.declared.line.record.Record.TheInside.{Inside}
+use Rattle.cadence_text.specs.Metric.{Metric, Tag}
+use Rattle.cadence_text.specs.Values.{numbers_of}
+
+abbrev pub tag_of : TagParts → Tag
+tag_of tag = record { key = option_copied tag.key; text = tag.text.now }
+
+-- the name is the prefix, then the key; it doesn't matter in which form the numbers stand
+abbrev pub metric_of : {Z : Type 0} → Inside Z → Metric
+metric_of r = record {
+  name = r.prefix.now ++ r.key.now;
+  numbers = numbers_of r.value;
+  kind = r.kind;
+  rate = r.rate;
+  tags = map tag_of r.tags.items;
+  container = option_copied r.container;
+  time = r.time;
+}

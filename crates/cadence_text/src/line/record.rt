@@ -1,0 +1,198 @@
+//! A metric before it is text.
+mod same;
+
+use crate::decimal::Decimal;
+use crate::line::MetricType;
+use crate::line::pieces::{kind_end, push_container, push_rate, push_tags, push_time, push_value};
+use crate::line::sink::LineSink;
+use crate::types::MetricResult;
+use crate::value::MetricValue;
+use std::alloc::{AllocError, Allocator, Global};
+use std::marker::Model;
+
+/// A tag, as in DogStatsD: its key, where it has one, and its text. It prints as `key:text` or as its text alone.
+/// Neither is escaped or checked.
+#[derive(Clone, Copy, Debug)]
+pub struct Tag<'a> {
+    pub key: Option<&'a str>,
+    pub text: &'a str,
+}
+
+/// A metric before it is text. A type of this project's own.
+///
+/// It borrows its texts and keeps its numbers in the form that they came in. Contracts see it as its metric: the
+/// name is the prefix followed by the key.
+#[derive(Drop)]
+pub struct Record<'a, A: Allocator = Global> {
+    prefix: &'a str,
+    key: &'a str,
+    value: MetricValue<A>,
+    kind: MetricType,
+    rate: Option<Decimal>,
+    tags: Vec<Tag<'a>, A>,
+    container: Option<&'a str>,
+    time: Option<u64>,
+}
+
+impl<'a, A: Allocator> Model for Record<'a, A> {
+    ghost use Rattle.cadence_text.specs.Metric.{Metric};
+
+    ghost Value = { Metric };
+
+    ghost use Rattle.cadence_text.specs.Record.{metric_of};
+
+    ghost view = { metric_of };
+}
+
+impl<'a, A: Allocator> Record<'a, A> {
+    ghost use Rattle.std.specs.Prelude.{◌≡◌, ◌++◌, ◌<◌, Some, OnOk, OnErr, IfOk, IfErr, length};
+    ghost use Rattle.std.specs.String.{string_bytes};
+    ghost use Rattle.cadence_text.specs.Errors.{out_of_memory};
+    ghost use Rattle.cadence_text.specs.Line.{line_of};
+    ghost use Rattle.cadence_text.specs.Metric.{Metric, plain_metric, with_tag};
+    ghost use Rattle.cadence_text.specs.Record.{tag_of};
+    ghost use Rattle.cadence_text.specs.OneReading.{HasWidths};
+    ghost use Rattle.cadence_text.specs.RecordMetric.{IsRecordMetric};
+    ghost use Rattle.cadence_text.specs.Sink.{Takes};
+    ghost use Rattle.cadence_text.specs.Values.{numbers_of};
+
+    /// A record without rate, tags, container and time. The name is the prefix as it stands, followed by the key.
+    /// Takes no memory; `alloc` is for tags.
+    pub fn new(
+        alloc: A,
+        prefix: &'a str,
+        key: &'a str,
+        kind: MetricType,
+        value: MetricValue<A>,
+    ) -> Record<'a, A>
+        ensures { result ≡ plain_metric (prefix.now ++ key.now) (numbers_of value) kind }
+    {
+        Record {
+            prefix,
+            key,
+            value,
+            kind,
+            rate: None,
+            tags: Vec::new(alloc),
+            container: None,
+            time: None,
+        }
+    }
+
+    /// Where its tags take memory.
+    #[inline]
+    pub fn allocator(&self) -> &A {
+        self.tags.allocator()
+    }
+
+    /// Makes room for so many more tags, by one request. The record's metric stays as it was.
+    pub fn reserve_tags(&mut self, additional: usize) -> Result<(), AllocError>
+        ensures { self.new ≡ self.old }
+    {
+        self.tags.reserve(additional)
+    }
+
+    /// Adds a tag, after those that are there. Where memory is refused, the record is as it was.
+    pub fn add_tag(&mut self, tag: Tag<'a>) -> Result<(), AllocError>
+        ensures ok { OnOk result (self.new ≡ with_tag self.old (tag_of tag.entry)) }
+        ensures err { OnErr result (self.new ≡ self.old) }
+    {
+        self.tags.push(tag)?;
+        Ok(())
+    }
+
+    /// Sets the sampling rate, in place of an earlier one. It isn't checked to lie between 0 and 1.
+    pub fn set_rate(&mut self, rate: Decimal)
+        ensures { self.new ≡ record self.old { rate = Some rate } }
+    {
+        self.rate = Some(rate);
+    }
+
+    /// Sets the id of the container (DogStatsD), in place of an earlier one.
+    pub fn set_container(&mut self, container: &'a str)
+        ensures { self.new ≡ record self.old { container = Some container.now } }
+    {
+        self.container = Some(container);
+    }
+
+    /// Sets the timestamp (DogStatsD, in seconds since 1970), in place of an earlier one.
+    pub fn set_time(&mut self, time: u64)
+        ensures { self.new ≡ record self.old { time = Some time } }
+    {
+        self.time = Some(time);
+    }
+
+    #[inline]
+    #[tactic(auto, using(std::proofs::lemmas::Grind::common_steps), unfolding(crate::specs::Line::line_of))]
+    fn push_line<S: LineSink>(&self, line: &mut S) -> Result<(), S::Refusal>
+        ensures taken { OnOk result (Takes S.ends_as line.old (line_of self.now) line.new) }
+        ensures sized { OnOk result (IsRecordMetric self.now) }
+    {
+        line.take_piece(self.prefix)?;
+        line.take_piece(self.key)?;
+        line.take_char(':')?;
+        push_value(line, &self.value)?;
+        line.take_piece(kind_end(self.kind))?;
+        push_rate(line, self.rate)?;
+        push_tags(line, &self.tags)?;
+        push_container(line, self.container)?;
+        push_time(line, self.time)
+    }
+
+    /// The line of the record's metric, which is never empty. Takes memory for the line alone, mostly by one request.
+    ///
+    /// The fields stand in cadence's order: name, numbers, type text, rate, tags, container, time.
+    ///
+    /// Refuses with `SinkError::OutOfMemory` alone; the record stays as it was.
+    #[tactic(auto, using(crate::proofs::LineText::line_is_not_empty, crate::proofs::LineLength::record_widths))]
+    pub fn format<B: Allocator>(&self, alloc: B) -> MetricResult<String<B>>
+        ensures line { IfOk result (λ line. string_bytes line ≡ line_of self.now) }
+        ensures refused { IfErr result (λ e. e ≡ out_of_memory) }
+        ensures widths { OnOk result (HasWidths self.now) }
+        ensures not_empty { 0 < length (line_of self.now) }
+    {
+        let mut line = String::with_capacity(alloc, self.size_hint())?;
+        self.push_line(&mut line)?;
+        Ok(line)
+    }
+
+    // About the length of the line.
+    fn size_hint(&self) -> usize {
+        let mut size = self
+            .prefix
+            .len()
+            .saturating_add(self.key.len())
+            .saturating_add(numbers_hint(&self.value));
+        if self.rate.is_some() {
+            size = size.saturating_add(10);
+        }
+        if let Some(container) = self.container {
+            size = size.saturating_add(container.len()).saturating_add(3);
+        }
+        if self.time.is_some() {
+            size = size.saturating_add(22);
+        }
+        for tag in &self.tags {
+            let key = match tag.key {
+                Some(key) => key.len(),
+                None => 0,
+            };
+            size = size
+                .saturating_add(tag.text.len())
+                .saturating_add(key)
+                .saturating_add(2);
+        }
+        size
+    }
+}
+
+// About the length of the numbers and the kind, with what stands between.
+fn numbers_hint<A: Allocator>(value: &MetricValue<A>) -> usize {
+    match value {
+        MetricValue::Signed(_) | MetricValue::Unsigned(_) => 25,
+        MetricValue::PackedSigned(numbers) => numbers.len().saturating_mul(12).saturating_add(6),
+        MetricValue::PackedUnsigned(numbers) => numbers.len().saturating_mul(12).saturating_add(6),
+        MetricValue::Decimal(_) => 30,
+        MetricValue::PackedDecimal(numbers) => numbers.len().saturating_mul(18).saturating_add(6),
+    }
+}

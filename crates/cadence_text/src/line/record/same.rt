@@ -1,0 +1,45 @@
+//! Whether two records have the same line.
+ghost use Rattle.std.specs.Prelude.{◌≡◌, ◌↔◌, IsTrue, drop, take};
+ghost use Rattle.cadence_text.specs.Line.{line_of};
+ghost use Rattle.cadence_text.specs.OneReading.{IsFreeOfSeparators};
+ghost use Rattle.cadence_text.specs.RecordMetric.{IsRecordMetric};
+ghost use Rattle.cadence_text.specs.Sink.{window_text};
+
+use super::Record;
+use crate::line::window::{WINDOW, Window};
+use std::alloc::Allocator;
+
+// What a window shows of a record's line.
+fn window_of<A: Allocator>(record: &Record<'_, A>, skip: u128) -> Window
+    ensures shown { window_text result ≡ take 512 (drop skip (line_of record.now)) }
+    ensures sized { IsRecordMetric record.now }
+{
+    let mut window = Window::after(skip);
+    match record.push_line(&mut window) {
+        Ok(()) => window,
+        Err(never) => match never {},
+    }
+}
+
+impl<'a, A: Allocator> Record<'a, A> {
+    /// Whether the lines of both are the same. Takes no memory.
+    ///
+    /// Lines of up to 512 bytes are made once each, piece by piece, and longer ones once for each 512 bytes.
+    pub fn same_line<B: Allocator>(&self, other: &Record<'_, B>) -> bool
+        ensures lines { IsTrue result ↔ (line_of self.now ≡ line_of other.now) }
+        ensures metrics { IsFreeOfSeparators self.now → IsFreeOfSeparators other.now → (IsTrue result ↔ (self.now ≡ other.now)) }
+    {
+        let mut skip = 0;
+        loop {
+            let ours = window_of(self, skip);
+            let theirs = window_of(other, skip);
+            if ours.shown() != theirs.shown() {
+                return false;
+            }
+            if ours.shown().len() < WINDOW {
+                return true;
+            }
+            skip += WINDOW as u128;
+        }
+    }
+}

@@ -1,0 +1,85 @@
+//! A part of a line, made without memory.
+ghost use Rattle.std.specs.Prelude.{◌≡◌, ◌≤◌, []};
+
+use crate::line::sink::LineSink;
+
+/// The most bytes that a window shows.
+pub(crate) const WINDOW: usize = 512;
+
+/// No value is of this type: a window refuses nothing.
+#[derive(Clone, Copy)]
+pub(crate) enum Never {}
+
+/// The bytes of a line after those that it skips, up to `WINDOW` of them.
+#[derive(Clone, Copy)]
+pub(crate) struct Window {
+    bytes: [u8; WINDOW],
+    length: usize,
+    skip: u128,
+    ghost within: { length ≤ 512 },
+}
+
+impl Window {
+    ghost use Rattle.cadence_text.specs.Sink.{Takes, window_ends, window_text};
+
+    pub(crate) fn after(skip: u128) -> Window
+        ensures shown { window_text result ≡ [] }
+        ensures skip { result.skip ≡ skip }
+        ensures length { result.length ≡ 0 }
+    {
+        Window {
+            bytes: [0; WINDOW],
+            length: 0,
+            skip,
+        }
+    }
+
+    pub(crate) fn shown(&self) -> &[u8]
+        ensures { result.now ≡ window_text self.now }
+    {
+        &self.bytes[..self.length]
+    }
+
+    // Shows these bytes too, as far as there is room.
+    fn show(&mut self, text: &[u8])
+        requires { self.old.skip ≡ 0 }
+        ensures { Takes window_ends self.old text.now self.new }
+    {
+        let count = text.len().min(WINDOW - self.length);
+        let end = self.length + count;
+        self.bytes[self.length..end].copy_from_slice(&text[..count]);
+        self.length = end;
+    }
+
+    fn pass(&mut self, text: &[u8])
+        ensures { Takes window_ends self.old text.now self.new }
+    {
+        let length = text.len() as u128;
+        if length <= self.skip {
+            self.skip -= length;
+            return;
+        }
+        let from = self.skip as usize;
+        self.skip = 0;
+        self.show(&text[from..]);
+    }
+}
+
+impl LineSink for Window {
+    ghost use Rattle.cadence_text.specs.Sink.{window_ends};
+
+    type Refusal = Never;
+
+    ghost ends_as = { window_ends };
+
+    fn take_piece(&mut self, piece: &str) -> Result<(), Never> {
+        self.pass(piece.as_bytes());
+        Ok(())
+    }
+
+    fn take_char(&mut self, piece: char) -> Result<(), Never> {
+        let mut bytes = [0; 4];
+        self.pass(piece.encode_utf8(&mut bytes).as_bytes());
+        Ok(())
+    }
+}
