@@ -371,6 +371,13 @@ fn refusals(rt: HostRuntime) -> Result<(), Fail> {
         3,
         b"statsd_schedule: out of memory\n",
     )?;
+    // queue that memory cannot hold
+    refuses(
+        &rt,
+        b"queue 18446744073709551615\n",
+        3,
+        b"statsd_schedule: out of memory\n",
+    )?;
     Ok(())
 }
 
