@@ -1,5 +1,6 @@
 //! The queue between the callers of a sink and its worker.
 
+pub mod audited;
 pub mod queue_core;
 pub mod shared;
 
