@@ -1,5 +1,5 @@
 -- What a call leaves of the history and of the queue under the lock.
-use Rattle.std.proofs.Common.{◌≡◌, ℕ, zero, suc, ◌+◌, ◌%◌, ◌^◌, ◌<◌, ◌≤◌, ◌==◌, ◌||◌, ◌⊎◌, ◌≢◌, Bool, true, false, IsTrue, cond, List, [], ◌∷◌, ◌++◌, length, take, drop, set, Option, Some, Result, Ok, Err, OnOk, IfErr, slice_get, slice_index, get_or, replicate, count_by, refl, sym, ap, subst, inl, inr, arith, rules, ◌∙◌}
+use Rattle.std.proofs.Common.{◌≡◌, ℕ, zero, suc, ◌+◌, ◌<◌, ◌≤◌, ◌==◌, ◌||◌, ◌⊎◌, ◌≢◌, Bool, true, false, IsTrue, cond, List, [], ◌∷◌, ◌++◌, length, take, set, Option, Some, Result, Ok, Err, OnOk, IfErr, slice_get, slice_index, get_or, replicate, count_by, refl, sym, ap, subst, inl, inr, arith, ◌∙◌}
 use Rattle.std.proofs.lemmas.Grind.{common_steps, flat_map-append}
 use Rattle.std.proofs.lemmas.Bool.Decides.{nat_tests}
 use Rattle.std.proofs.lemmas.List.{get_or-set_same, get_or-set_other, length-set, take-append-le, append-nil}

@@ -9,6 +9,8 @@ use Rattle.cadence_flow.specs.declared.queue.audited.event.AuditCall.{AuditCall}
 use Rattle.cadence_flow.specs.declared.queue.audited.event.AuditReply.{AuditReply}
 use Rattle.cadence_flow.specs.declared.queue.audited.event.SubmitReply.{SubmitReply}
 use Rattle.cadence_flow.specs.declared.queue.audited.event.SubmitReply.TheVariants as submit
+use Rattle.cadence_flow.specs.declared.queue.audited.errors.AuditError.{AuditError}
+use Rattle.cadence_flow.specs.declared.queue.audited.errors.AuditError.TheVariants.{Stranger, OutOfMemory}
 use Rattle.cadence_flow.specs.AuditHistory.{IsLegal, accepted, taken_count, was_stopped, events_of}
 use Rattle.cadence_flow.specs.AuditSeats.{Held, next_event}
 
@@ -39,6 +41,11 @@ module _ {Z : Type 0} where
   -- the seat is one of the queue's, and has a receipt of each of its events
   abbrev pub IsKnown : Past Z → Held Z → Type 0
   IsKnown p s = (s.number < p.seats) × (length s.receipts ≡ events_of s.number p.events)
+
+  -- why a call does nothing: the queue does not know the seat; else memory ran out
+  abbrev pub IsAuditRefusal : Past Z → Held Z → AuditError → Type 0
+  IsAuditRefusal p s Stranger = IsKnown p s → ⊥
+  IsAuditRefusal p s OutOfMemory = IsKnown p s
 
 -- how the core's answer to a submit is told: a refusal for want of memory gives the text back
 abbrev pub IsToldRefusal : SinkError → List ℕ → Result SubmitReply (List ℕ) → Type 0

@@ -68,6 +68,10 @@ module _ {Z : Type 0} where
   abbrev pub events_of : ℕ → List (Event Z) → ℕ
   events_of seat events = count_by (λ e. e.seat == seat) events
 
+  -- each seat's events carry the counts 0, 1, 2, .. in order
+  abbrev pub AreCounted : List (Event Z) → Type 0
+  AreCounted events = (i : ℕ) (e : Event Z) → slice_get events i ≡ Some e → e.count ≡ events_of e.seat (take i events)
+
   -- the event has the reply that the queue gives after the events, and the seat's next count
   abbrev pub MayFollow : Option ℕ → List (Event Z) → Event Z → Type 0
   MayFollow capacity events e = (e.reply ≡ reply_after capacity events e.call) × (e.count ≡ events_of e.seat events)

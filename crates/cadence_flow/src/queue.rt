@@ -4,5 +4,9 @@ pub mod audited;
 pub mod queue_core;
 pub mod shared;
 
+pub use audited::{
+    AuditCall, AuditError, AuditReply, AuditedQueue, EndFault, Event, History, Seat, SubmitReply,
+    Text,
+};
 pub use queue_core::{QueueCore, Taken};
 pub use shared::SharedQueue;

@@ -1,12 +1,13 @@
 //! What lies under the lock of an audited queue: the queue, beside the history that leads to it.
-ghost use Rattle.std.specs.Prelude.{◌≡◌, ◌↔◌, ◌+◌, ◌<◌, ◌≤◌, [], ◌∷◌, ◌++◌, length, slice_index, vec_len, vec_capacity, IfOk, IfErr, OnOk, OnErr, IsTrue};
+ghost use Rattle.std.specs.Prelude.{◌≡◌, ◌↔◌, ◌+◌, ◌<◌, ◌≤◌, [], ◌∷◌, ◌++◌, length, slice_index, vec_len, vec_capacity, IfOk, IfErr, OnOk, IsTrue};
 ghost use Rattle.cadence_text.specs.Errors.{out_of_memory};
 ghost use Rattle.cadence_flow.specs.AuditHistory.{first_of, IsLegal};
 ghost use Rattle.cadence_flow.specs.AuditSeats.{receiving};
-ghost use Rattle.cadence_flow.specs.AuditDesk.{noting, IsKnown, IsTold};
+ghost use Rattle.cadence_flow.specs.AuditDesk.{noting, IsKnown, IsAuditRefusal, IsTold};
 ghost use Rattle.cadence_flow.specs.declared.queue.audited.event.AuditCall.TheVariants as call;
 ghost use Rattle.cadence_flow.specs.declared.queue.audited.event.AuditReply.TheVariants as reply;
 
+use super::errors::AuditError;
 use super::event::{AuditCall, AuditReply, Event, SubmitReply};
 use super::seat::Seat;
 use super::text::Text;
@@ -14,28 +15,6 @@ use crate::queue::queue_core::{QueueCore, Taken};
 use cadence_text::types::{MetricResult, SinkError};
 use std::alloc::{AllocError, Allocator, Global};
 use std::marker::Model;
-use thiserror::Error;
-
-/// Why an audited call did nothing. It comes before any change and is no event: queue and seat are as they were.
-#[derive(Clone, Copy, Debug, PartialEq, Eq, Error)]
-pub enum AuditError {
-    /// A growth was refused.
-    #[error("out of memory")]
-    OutOfMemory,
-    /// The seat's number or the number of its receipts is not the queue's: it belongs to another queue.
-    #[error("seat of another queue")]
-    Stranger,
-}
-
-impl From<AllocError> for AuditError {
-    ghost use Rattle.cadence_flow.specs.declared.queue.audited.desk.AuditError.TheVariants.{OutOfMemory};
-
-    ghost from_gives = { λ _ e. e ≡ OutOfMemory };
-
-    fn from(_: AllocError) -> AuditError {
-        AuditError::OutOfMemory
-    }
-}
 
 /// The queue and its history. A history that is not legal, or does not lead to the queue, is no `Desk`.
 #[derive(Drop)]
@@ -136,7 +115,7 @@ impl<A: Allocator> Desk<A> {
     /// Stops the queue for the seat.
     pub fn stop(&mut self, seat: &mut Seat<A>) -> Result<(), AuditError>
         ensures ok { OnOk result ((self.new ≡ noting self.old seat.old call.Stop reply.Stop) × (seat.new ≡ receiving seat.old call.Stop reply.Stop)) }
-        ensures err { OnErr result ((self.new ≡ self.old) × (seat.new ≡ seat.old)) }
+        ensures err { IfErr result (λ e. IsAuditRefusal self.old seat.old e × (self.new ≡ self.old) × (seat.new ≡ seat.old)) }
     {
         if !self.knows(seat) {
             return Err(AuditError::Stranger);
@@ -169,7 +148,7 @@ impl<A: Allocator + Clone> Desk<A> {
     /// Takes the oldest text for the seat.
     pub fn take(&mut self, seat: &mut Seat<A>) -> Result<Taken<Text<A>>, AuditError>
         ensures ok { IfOk result (λ t. (self.new ≡ noting self.old seat.old call.Take (reply.Take t)) × (seat.new ≡ receiving seat.old call.Take (reply.Take t))) }
-        ensures err { OnErr result ((self.new ≡ self.old) × (seat.new ≡ seat.old)) }
+        ensures err { IfErr result (λ e. IsAuditRefusal self.old seat.old e × (self.new ≡ self.old) × (seat.new ≡ seat.old)) }
     {
         if !self.knows(seat) {
             return Err(AuditError::Stranger);
@@ -193,7 +172,7 @@ impl<A: Allocator + Clone> Desk<A> {
         text: Text<A>,
     ) -> Result<SubmitReply, (AuditError, Text<A>)>
         ensures ok { IfOk result (λ r. (self.new ≡ noting self.old seat.old (call.Submit text) (reply.Submit r)) × (seat.new ≡ receiving seat.old (call.Submit text) (reply.Submit r))) }
-        ensures err { IfErr result (λ e. (e.1 ≡ text) × (self.new ≡ self.old) × (seat.new ≡ seat.old)) }
+        ensures err { IfErr result (λ e. IsAuditRefusal self.old seat.old e.0 × (e.1 ≡ text) × (self.new ≡ self.old) × (seat.new ≡ seat.old)) }
     {
         if !self.knows(seat) {
             return Err((AuditError::Stranger, text));

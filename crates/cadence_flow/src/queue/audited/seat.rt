@@ -1,9 +1,9 @@
 //! The place of a caller at an audited queue.
-ghost use Rattle.std.specs.Prelude.{◌≡◌, []};
-ghost use Rattle.cadence_flow.specs.AuditSeats.{next_event, AreReceiptsOf};
+ghost use Rattle.std.specs.Prelude.{◌≡◌, ◌↔◌, ◌==◌, [], IfOk, IsTrue, count_by};
+ghost use Rattle.cadence_flow.specs.AuditSeats.{next_event, AreReceiptsOf, AreNewSeats, HasAllSeats};
 
 use super::event::{AuditCall, AuditReply, Event};
-use std::alloc::{Allocator, Global};
+use std::alloc::{AllocError, Allocator, Global};
 use std::marker::Model;
 
 /// The place of one caller at an audited queue, with a receipt of each of its calls that is an event.
@@ -60,4 +60,40 @@ impl<A: Allocator> Seat<A> {
             reply,
         }
     }
+}
+
+/// The seats below `count`, in order, without receipts.
+pub(super) fn new_seats<A: Allocator + Clone>(
+    alloc: A,
+    count: usize,
+) -> Result<Vec<Seat<A>, A>, AllocError>
+    ensures { IfOk result (λ seats. AreNewSeats count seats.items) }
+{
+    let mut seats = Vec::with_capacity(alloc.clone()?, count)?;
+    for number in 0..count {
+        seats.push(Seat::new(alloc.clone()?, number))?;
+    }
+    Ok(seats)
+}
+
+// Whether just one of the seats has the number.
+fn is_once<A: Allocator>(number: usize, seats: &[Seat<A>]) -> bool
+    ensures { IsTrue result ↔ (count_by (λ s. s.number == number) seats.now ≡ 1) }
+{
+    seats.iter().filter(|s| s.number() == number).count() == 1
+}
+
+/// Whether the seats' numbers are those below `count`, each once.
+pub(super) fn has_all_seats<A: Allocator>(count: usize, seats: &[Seat<A>]) -> bool
+    ensures { IsTrue result ↔ HasAllSeats count seats.now }
+{
+    if seats.len() != count {
+        return false;
+    }
+    for number in 0..count {
+        if !is_once(number, seats) {
+            return false;
+        }
+    }
+    true
 }

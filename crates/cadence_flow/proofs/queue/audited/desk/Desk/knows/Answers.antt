@@ -1,4 +1,4 @@
-use Rattle.std.proofs.Common.{◌≡◌, ◌<◌, length, arith, ap, sym, ◌∙◌}
+use Rattle.std.proofs.Common.{◌≡◌, ◌<◌, length, arith, ap}
 use Rattle.cadence_flow.specs.AuditHistory.{events_of}
 use Rattle.cadence_flow.proofs.AuditSteps.{same_count, counted_get}
 use Rattle.cadence_flow.proofs.queue.audited.desk.Desk.knows.Goals as goal

@@ -1,4 +1,4 @@
-use Rattle.std.proofs.Common.{◌≡◌, ◌+◌, ◌<◌, length, arith, refl, ap}
+use Rattle.std.proofs.Common.{◌≡◌, ◌+◌, length, arith, refl, ap}
 use Rattle.cadence_flow.specs.AuditDesk.{IsKnown}
 use Rattle.cadence_flow.proofs.AuditSteps.{kept_stop, receipts_push}
 use Rattle.cadence_flow.proofs.queue.audited.desk.Desk.stop.Goals as goal

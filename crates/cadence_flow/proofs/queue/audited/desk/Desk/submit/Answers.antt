@@ -1,4 +1,4 @@
-use Rattle.std.proofs.Common.{◌≡◌, ◌+◌, ◌<◌, length, arith, refl, ap, rules}
+use Rattle.std.proofs.Common.{◌≡◌, ◌+◌, length, arith, refl, ap}
 use Rattle.cadence_flow.specs.AuditDesk.{IsKnown}
 use Rattle.cadence_flow.proofs.AuditSteps.{kept_submit, receipts_push}
 use Rattle.cadence_flow.proofs.queue.audited.desk.Desk.submit.Goals as goal

@@ -1,4 +1,4 @@
-use Rattle.std.proofs.Common.{◌≡◌, ◌+◌, ◌<◌, length, arith, refl, ap, sym, ◌∙◌}
+use Rattle.std.proofs.Common.{◌≡◌, ◌+◌, length, arith, refl, ap, sym, ◌∙◌}
 use Rattle.cadence_flow.specs.AuditDesk.{IsKnown}
 use Rattle.cadence_flow.proofs.AuditSteps.{kept_take, receipts_push, taken_is_first}
 use Rattle.cadence_flow.proofs.queue.audited.desk.Desk.take.Goals as goal
