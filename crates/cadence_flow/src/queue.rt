@@ -3,6 +3,9 @@
 pub mod audited;
 pub mod queue_core;
 pub mod shared;
+#[cfg(test)]
+mod tests;
+mod text_ring;
 
 pub use audited::{
     AuditCall, AuditError, AuditReply, AuditedQueue, EndFault, Event, History, Seat, SubmitReply,

@@ -1,0 +1,64 @@
+//! Counts of what was sent and dropped.
+
+mod socket;
+
+pub use socket::SocketStats;
+
+/// How many bytes and packets were sent and dropped, each modulo 2 to the 64. As in cadence; the two `add_` calls
+/// are this project's own. A packet that is refused and sent later counts in both.
+#[derive(Clone, Copy, Debug, Default, PartialEq, Eq)]
+pub struct SinkStats {
+    /// The bytes that were taken.
+    pub bytes_sent: u64,
+    /// The packets that were taken, an empty one included.
+    pub packets_sent: u64,
+    /// The bytes of the packets that were refused.
+    pub bytes_dropped: u64,
+    /// The packets that were refused.
+    pub packets_dropped: u64,
+}
+
+impl SinkStats {
+    ghost use Rattle.std.specs.Prelude.{◌≡◌};
+    ghost use Rattle.cadence_flow.specs.Sums.{after_refused, after_taken};
+
+    /// Adds one packet of which n bytes were taken.
+    pub fn add_taken(&mut self, n: usize)
+        ensures { self.new ≡ after_taken self.old n }
+    {
+        self.bytes_sent = self.bytes_sent.wrapping_add(n as u64);
+        self.packets_sent = self.packets_sent.wrapping_add(1);
+    }
+
+    /// Adds one refused packet of `len` bytes.
+    pub fn add_refused(&mut self, len: usize)
+        ensures { self.new ≡ after_refused self.old len }
+    {
+        self.bytes_dropped = self.bytes_dropped.wrapping_add(len as u64);
+        self.packets_dropped = self.packets_dropped.wrapping_add(1);
+    }
+}
+
+#[cfg(test)]
+mod tests {
+    use super::SinkStats;
+
+    #[test]
+    fn counts_and_wraps(rt: HostRuntime) {
+        let mut stats = SinkStats::default();
+        stats.add_taken(9);
+        stats.add_refused(7);
+        stats.add_taken(0);
+        let wanted = SinkStats {
+            bytes_sent: 9,
+            packets_sent: 2,
+            bytes_dropped: 7,
+            packets_dropped: 1,
+        };
+        assert_eq!(rt; stats, wanted);
+        stats.bytes_sent = u64::MAX;
+        stats.packets_sent = u64::MAX;
+        stats.add_taken(2);
+        assert_eq!(rt; (stats.bytes_sent, stats.packets_sent), (1, 0));
+    }
+}

@@ -1,0 +1,4 @@
+//! The sinks that a Statsd client sends its lines to.
+#![tactic(auto)]
+
+pub mod sinks;

@@ -1,0 +1,13 @@
+//! The sinks that a Statsd client sends its lines to.
+
+mod metric_sink;
+mod spy;
+
+pub use metric_sink::{MetricSink, NopMetricSink};
+pub use spy::{BufferedSpyMetricSink, SpyMetricSink, SpyReceiver};
+
+// The bytes that a buffered sink holds where none are given, as in cadence.
+const DEFAULT_BUFFER_SIZE: usize = 512;
+
+#[cfg(test)]
+mod tests;
