@@ -1,8 +1,9 @@
 -- What a call leaves of the history and of the queue under the lock.
-use Rattle.std.proofs.Common.{◌≡◌, ℕ, zero, suc, ◌+◌, ◌<◌, ◌≤◌, ◌==◌, ◌||◌, ◌⊎◌, ◌≢◌, Bool, true, false, IsTrue, cond, List, [], ◌∷◌, ◌++◌, length, take, set, Option, Some, Result, Ok, Err, OnOk, IfErr, slice_get, slice_index, get_or, replicate, count_by, refl, sym, ap, subst, inl, inr, arith, ◌∙◌}
+use Rattle.std.proofs.Common.{drop, ◌≡◌, ℕ, zero, suc, ◌+◌, ◌<◌, ◌≤◌, ◌==◌, ◌||◌, ◌⊎◌, ◌≢◌, Bool, true, false, IsTrue, cond, List, [], ◌∷◌, ◌++◌, length, take, set, Option, Some, Result, Ok, Err, OnOk, IfErr, slice_get, slice_index, get_or, replicate, count_by, refl, sym, ap, subst, inl, inr, arith, ◌∙◌}
 use Rattle.std.proofs.lemmas.Grind.{common_steps, flat_map-append}
 use Rattle.std.proofs.lemmas.Bool.Decides.{nat_tests}
-use Rattle.std.proofs.lemmas.List.{get_or-set_same, get_or-set_other, length-set, take-append-le, append-nil}
+use Rattle.std.proofs.lemmas.List.{get_or-set_same, get_or-set_other, length-set, take-append-le, append-nil, append_assoc, drop-append-le, drop_more, length-append}
+use Rattle.std.proofs.lemmas.Option.{slice_get_within, get_or_from_slice_get}
 use Rattle.std.proofs.Math.Bool.{or-false, or-true}
 use Rattle.std.proofs.lemmas.List.Sums.{sum_by-append}
 use Rattle.std.proofs.lemmas.List.Folds.{list_any-append}
@@ -18,9 +19,23 @@ use Rattle.cadence_flow.specs.declared.queue.audited.event.AuditCall.TheVariants
 use Rattle.cadence_flow.specs.declared.queue.audited.event.AuditReply.TheVariants as reply
 use Rattle.cadence_flow.specs.declared.queue.audited.event.SubmitReply.{SubmitReply}
 use Rattle.cadence_flow.specs.declared.queue.audited.event.SubmitReply.TheVariants as submit
-use Rattle.cadence_flow.specs.AuditHistory.{IsLegal, MayFollow, accepted, taken_count, was_stopped, waiting, events_of, texts_of, gave_text, is_stop, first_of, submit_reply}
+use Rattle.cadence_flow.specs.AuditHistory.{IsLegal, MayFollow, accepted, taken_texts, taken_count, was_stopped, waiting, events_of, texts_of, text_given, is_stop, first_of, submit_reply}
 use Rattle.cadence_flow.specs.AuditSeats.{AreReceiptsOf}
 use Rattle.cadence_flow.specs.AuditDesk.{IsKept, IsTold, IsToldRefusal}
+
+-- an accepted text waits last
+order_accepted : (accepted given : List (List ℕ)) (t : ℕ) (x : List ℕ) → t ≤ length accepted → accepted ≡ given ++ drop t accepted
+    → accepted ++ x ∷ [] ≡ (given ++ []) ++ drop t (accepted ++ x ∷ [])
+order_accepted accepted given t x front order =
+    rw (append-nil, drop-append-le t accepted (x ∷ []) front) (ap (λ l. l ++ x ∷ []) order ∙ append_assoc given (drop t accepted) (x ∷ []))
+
+-- a taken text was the first that waits
+order_taken : (accepted given : List (List ℕ)) (t : ℕ) (x : List ℕ) → accepted ≡ given ++ drop t accepted → slice_get accepted t ≡ Some x
+    → accepted ≡ (given ++ x ∷ []) ++ drop (t + 1) accepted
+order_taken accepted given t x order at =
+    let inside : t < length accepted = slice_get_within accepted t x at in
+    let first : drop t accepted ≡ x ∷ drop (t + 1) accepted = drop_more accepted t x inside ∙ ap (λ y. y ∷ drop (t + 1) accepted) (get_or_from_slice_get accepted t x x at) in
+    order ∙ ap (λ l. given ++ l) first ∙ sym (append_assoc given (x ∷ []) (drop (t + 1) accepted))
 
 -- a test of two counts says whether they are the same
 pub same_count : (a b c d : ℕ) → a ≡ c → b ≡ d → (IsTrue (a == b) → d ≡ c) × (d ≡ c → IsTrue (a == b))
@@ -87,18 +102,21 @@ module _ {Z : Type 0} where
   -- what a call leaves, given the past that it gives the queue
   pub kept_push : (capacity : Option ℕ) (es : List (Event Z)) (core after : Queue (List ℕ)) (counts : List ℕ) (e : Event Z) (n t : ℕ)
       → IsKept capacity es core counts → MayFollow capacity es e → n ≡ e.count + 1
-      → t ≡ taken_count es + cond (gave_text e.reply) 1 0
+      → t ≡ taken_count es + length (text_given e.reply)
+      → accepted es ++ texts_of e ≡ (taken_texts es ++ text_given e.reply) ++ drop t (accepted es ++ texts_of e)
       → IsQueueOf (accepted es ++ texts_of e) t after
       → after.capacity ≡ core.capacity
       → after.stopped ≡ (core.stopped || is_stop e.call)
       → IsKept capacity (es ++ e ∷ []) after (set counts e.seat n)
-  kept_push capacity es core after counts e n t k m more now past bound stop =
+  kept_push capacity es core after counts e n t k m more now order past bound stop =
       let a : accepted (es ++ e ∷ []) ≡ accepted es ++ texts_of e = flat_map-append texts_of es (e ∷ []) ∙ ap (λ l. accepted es ++ l) (append-nil (texts_of e)) in
-      let c : taken_count (es ++ e ∷ []) ≡ taken_count es + cond (gave_text e.reply) 1 0 = count_push (λ (f : Event Z). gave_text f.reply) es e in
+      let g : taken_texts (es ++ e ∷ []) ≡ taken_texts es ++ text_given e.reply = flat_map-append (λ (f : Event Z). text_given f.reply) es (e ∷ []) ∙ ap (λ l. taken_texts es ++ l) (append-nil (text_given e.reply)) in
+      let c : length (taken_texts es ++ text_given e.reply) ≡ t = length-append (taken_texts es) (text_given e.reply) ∙ sym now in
       let s : was_stopped (es ++ e ∷ []) ≡ (was_stopped es || is_stop e.call) = list_any-append (λ (f : Event Z). is_stop f.call) es (e ∷ []) ∙ ap (λ b. was_stopped es || b) (or-false (is_stop e.call)) in
       record {
         legal = legal_push capacity es e k.legal m;
-        past = rw (a, c, ← now) past;
+        order = rw (a, g, c) order;
+        past = rw (a, g, c) past;
         bound = bound ∙ k.bound;
         stop = stop ∙ ap (λ b. b || is_stop e.call) k.stop ∙ sym s;
         counted = λ j lt. counted_at es counts e n j (e.seat == j) refl k.counted m.1 more lt;
@@ -107,11 +125,12 @@ module _ {Z : Type 0} where
   -- an event that leaves the queue as it was
   pub kept_same : (capacity : Option ℕ) (es : List (Event Z)) (core : Queue (List ℕ)) (counts : List ℕ) (e : Event Z) (n : ℕ)
       → IsKept capacity es core counts → MayFollow capacity es e → n ≡ e.count + 1
-      → texts_of e ≡ [] → gave_text e.reply ≡ false → is_stop e.call ≡ false
+      → texts_of e ≡ [] → text_given e.reply ≡ [] → is_stop e.call ≡ false
       → IsKept capacity (es ++ e ∷ []) core (set counts e.seat n)
   kept_same capacity es core counts e n k may more none gave stop =
       kept_push capacity es core core counts e n (taken_count es) k may more
       (rw gave (omega arith))
+      (rw (none, gave, append-nil, append-nil) k.order)
       (rw (none, append-nil) k.past)
       refl
       (rw stop (sym (or-false core.stopped)))
@@ -125,7 +144,7 @@ module _ {Z : Type 0} where
       → IsKept capacity (es ++ stop_event seat n ∷ []) after (set counts seat (n + 1))
   kept_stop capacity es core after counts seat n k is h =
       let past : IsQueueOf (accepted es ++ []) (taken_count es) (stopping core) = rw append-nil (record { waits = k.past.waits; front = k.past.front; submitted = k.past.submitted; drained = k.past.drained }) in
-      rw h (kept_push capacity es core (stopping core) counts (stop_event seat n) (n + 1) (taken_count es) k (refl, is) refl (omega arith) past refl (sym (or-true core.stopped)))
+      rw h (kept_push capacity es core (stopping core) counts (stop_event seat n) (n + 1) (taken_count es) k (refl, is) refl (omega arith) (rw (append-nil, append-nil) k.order) past refl (sym (or-true core.stopped)))
 
   -- the event of a take
   abbrev take_event : ℕ → ℕ → Taken (List ℕ) → Event Z
@@ -136,6 +155,7 @@ module _ {Z : Type 0} where
       → IsKept capacity (es ++ take_event seat n t ∷ []) after (set counts seat (n + 1))
   kept_taken capacity es core after counts seat n (taken.Text x) k may h next =
       kept_push capacity es core after counts (take_event seat n (taken.Text x)) (n + 1) (taken_count es + 1) k may refl refl
+      (rw append-nil (order_taken (accepted es) (taken_texts es) (taken_count es) x k.order (next (accepted es) (taken_count es) k.past).0))
       (rw append-nil (next (accepted es) (taken_count es) k.past).1)
       (ap (λ q. q.capacity) h.1)
       (ap (λ q. q.stopped) h.1 ∙ sym (or-false core.stopped))
@@ -193,6 +213,7 @@ module _ {Z : Type 0} where
       let after_past : IsQueueOf (accepted es ++ x ∷ []) (taken_count es) after = past (accepted es) (taken_count es) k.past in
       rw here
       (kept_push capacity es core after counts (submit_event seat n x submit.Accepted) (n + 1) (taken_count es) k may refl (omega arith)
+      (order_accepted (accepted es) (taken_texts es) (taken_count es) x k.past.front k.order)
       after_past
       (ap (λ q. q.capacity) ok.2)
       (ap (λ q. q.stopped) ok.2 ∙ sym (or-false core.stopped)))

@@ -11,7 +11,7 @@ use Rattle.cadence_flow.specs.declared.queue.audited.event.SubmitReply.{SubmitRe
 use Rattle.cadence_flow.specs.declared.queue.audited.event.SubmitReply.TheVariants as submit
 use Rattle.cadence_flow.specs.declared.queue.audited.errors.AuditError.{AuditError}
 use Rattle.cadence_flow.specs.declared.queue.audited.errors.AuditError.TheVariants.{Stranger, OutOfMemory}
-use Rattle.cadence_flow.specs.AuditHistory.{IsLegal, accepted, taken_count, was_stopped, events_of}
+use Rattle.cadence_flow.specs.AuditHistory.{IsLegal, AreInOrder, accepted, taken_count, was_stopped, events_of}
 use Rattle.cadence_flow.specs.AuditSeats.{Held, next_event}
 
 -- an audited queue beside its lock: the capacity, and how many seats it has
@@ -28,6 +28,7 @@ pub record Past (Z : Type 0) : Type 0 where
 -- the history is legal, and the queue is the one to which it leads; each seat's events are counted
 pub record IsKept {Z : Type 0} (capacity : Option ℕ) (events : List (Event Z)) (core : Queue (List ℕ)) (counts : List ℕ) : Type 0 where
   pub legal : IsLegal capacity events
+  pub order : AreInOrder events
   pub past : IsQueueOf (accepted events) (taken_count events) core
   pub bound : core.capacity ≡ capacity
   pub stop : core.stopped ≡ was_stopped events

@@ -1,5 +1,6 @@
--- Which histories of a queue are legal. Nothing is replayed: a queue is what the events before a call say of it.
-use Rattle.std.specs.Prelude.{◌≡◌, ℕ, ◌==◌, Bool, true, false, cond, List, [], ◌∷◌, take, drop, slice_get, count_by, Option, Some}
+-- Which histories of a queue are legal. Nothing is replayed: a queue is what the events before a call say of it. Want
+-- of memory is no reply.
+use Rattle.std.specs.Prelude.{◌≡◌, ℕ, ◌==◌, Bool, true, false, cond, List, [], ◌∷◌, ◌++◌, length, take, drop, slice_get, count_by, Option, Some}
 use Rattle.std.specs.List.{list_any, flat_map}
 use Rattle.cadence_flow.specs.Queue.{at_capacity}
 use Rattle.cadence_flow.specs.declared.queue.queue_core.Taken.{Taken}
@@ -31,10 +32,10 @@ module _ {Z : Type 0} where
   abbrev pub texts_of : Event Z → List (List ℕ)
   texts_of e = put_by e.call e.reply
 
-  -- whether a reply gave a text
-  abbrev pub gave_text : AuditReply Z → Bool
-  gave_text (reply.Take (taken.Text text)) = true
-  gave_text _ = false
+  -- the text that a reply gave, if it gave one
+  abbrev pub text_given : AuditReply Z → List (List ℕ)
+  text_given (reply.Take (taken.Text text)) = text ∷ []
+  text_given _ = []
 
   -- whether a call is a stop
   abbrev pub is_stop : AuditCall Z → Bool
@@ -45,9 +46,13 @@ module _ {Z : Type 0} where
   abbrev pub accepted : List (Event Z) → List (List ℕ)
   accepted events = flat_map texts_of events
 
+  -- the texts that takes gave, in order
+  abbrev pub taken_texts : List (Event Z) → List (List ℕ)
+  taken_texts events = flat_map (λ e. text_given e.reply) events
+
   -- how many texts were taken
   abbrev pub taken_count : List (Event Z) → ℕ
-  taken_count events = count_by (λ e. gave_text e.reply) events
+  taken_count events = length (taken_texts events)
 
   -- whether there was a stop
   abbrev pub was_stopped : List (Event Z) → Bool
@@ -56,6 +61,10 @@ module _ {Z : Type 0} where
   -- the texts that wait: the accepted ones without the first taken ones
   abbrev pub waiting : List (Event Z) → List (List ℕ)
   waiting events = drop (taken_count events) (accepted events)
+
+  -- the accepted texts are those that were taken, then those that wait: none is lost, doubled or overtaken
+  abbrev pub AreInOrder : List (Event Z) → Type 0
+  AreInOrder events = accepted events ≡ taken_texts events ++ waiting events
 
   -- what a queue of the capacity replies to a call after the events
   abbrev pub reply_after : Option ℕ → List (Event Z) → AuditCall Z → AuditReply Z

@@ -3,7 +3,7 @@
 //! project's own; cadence has channels.
 ghost use Rattle.std.specs.Prelude.{◌≡◌, ◌↔◌, length, string_bytes, All, IfOk, IfErr, OnErr, OnOk, Err};
 ghost use Rattle.cadence_text.specs.Errors.{out_of_memory};
-ghost use Rattle.cadence_flow.specs.AuditHistory.{IsLegal};
+ghost use Rattle.cadence_flow.specs.AuditHistory.{IsLegal, AreInOrder};
 ghost use Rattle.cadence_flow.specs.AuditSeats.{receiving, AreNewSeats, HasAllSeats, StandsIn, receipt_count};
 ghost use Rattle.cadence_flow.specs.TakenText.{taken_bytes};
 ghost use Rattle.cadence_flow.specs.declared.queue.audited.event.AuditCall.TheVariants as call;
@@ -129,6 +129,7 @@ impl<A: Allocator> AuditedQueue<A> {
         ensures missing { (result ≡ Err fault.SeatsMissing) ↔ (HasAllSeats self.seats seats.items → ⊥) }
         ensures all { OnOk result (HasAllSeats self.seats seats.items) }
         ensures legal { IfOk result (λ h. IsLegal self.capacity h) }
+        ensures order { IfOk result (λ h. AreInOrder h) }
         ensures as_many { IfOk result (λ h. length h ≡ receipt_count seats.items) }
         ensures each { IfOk result (λ h. All (StandsIn h) seats.items) }
     {

@@ -1,7 +1,7 @@
 //! What lies under the lock of an audited queue: the queue, beside the history that leads to it.
 ghost use Rattle.std.specs.Prelude.{◌≡◌, ◌↔◌, ◌+◌, ◌<◌, ◌≤◌, [], ◌∷◌, ◌++◌, length, slice_index, vec_len, vec_capacity, IfOk, IfErr, OnOk, IsTrue};
 ghost use Rattle.cadence_text.specs.Errors.{out_of_memory};
-ghost use Rattle.cadence_flow.specs.AuditHistory.{first_of, IsLegal};
+ghost use Rattle.cadence_flow.specs.AuditHistory.{first_of, IsLegal, AreInOrder};
 ghost use Rattle.cadence_flow.specs.AuditSeats.{receiving};
 ghost use Rattle.cadence_flow.specs.AuditDesk.{noting, IsKnown, IsAuditRefusal, IsTold};
 ghost use Rattle.cadence_flow.specs.declared.queue.audited.event.AuditCall.TheVariants as call;
@@ -94,6 +94,7 @@ impl<A: Allocator> Desk<A> {
     pub fn into_events(self) -> Vec<Event<A>, A>
         ensures events { result.items ≡ self.events }
         ensures legal { IsLegal self.capacity result.items }
+        ensures order { AreInOrder result.items }
     {
         let Desk {
             core: _,

@@ -106,7 +106,7 @@ fn made(
 
 #[test]
 fn each_request_of_a_submit_refused(rt: HostRuntime) -> Result<(), Fail> {
-    let mut refusals = 0;
+    let mut refusals = 0u64;
     for granted in 0..16 {
         let heap = Refusing::after(rt.alloc(), rt.alloc(), granted)?;
         let Some((queue, mut seat, text)) = made(heap) else {
@@ -115,7 +115,7 @@ fn each_request_of_a_submit_refused(rt: HostRuntime) -> Result<(), Fail> {
         let Err((error, text)) = queue.submit(&rt, &mut seat, text) else {
             break;
         };
-        refusals += 1;
+        refusals = refusals.wrapping_add(1);
         assert!(rt; error == AuditError::OutOfMemory && text.as_str() == "a");
         assert!(rt; seat.receipts().is_empty());
         assert!(rt; queue.submit(&rt, &mut seat, text).is_ok());
@@ -126,7 +126,7 @@ fn each_request_of_a_submit_refused(rt: HostRuntime) -> Result<(), Fail> {
 
 #[test]
 fn each_request_of_a_take_refused(rt: HostRuntime) -> Result<(), Fail> {
-    let mut refusals = 0;
+    let mut refusals = 0u64;
     for granted in 0..24 {
         let heap = Refusing::after(rt.alloc(), rt.alloc(), granted)?;
         let Some((queue, mut seat, text)) = made(heap) else {
@@ -139,7 +139,7 @@ fn each_request_of_a_take_refused(rt: HostRuntime) -> Result<(), Fail> {
         if queue.take(&rt, &mut seat).is_ok() {
             break;
         }
-        refusals += 1;
+        refusals = refusals.wrapping_add(1);
         assert_eq!(rt; seat.receipts().len(), receipts);
         assert!(rt; matches!(queue.take(&rt, &mut seat), Ok(Taken::Text(_))));
     }

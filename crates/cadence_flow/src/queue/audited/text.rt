@@ -55,7 +55,7 @@ impl<A: Allocator> PartialEq for Text<A> {
     ghost laws = { Cmp.partial_equiv_from_equiv nat_list_eq_equiv };
 
     fn eq(&self, other: &Text<A>) -> bool {
-        self.text.as_str() == other.text.as_str()
+        self.as_str() == other.as_str()
     }
 }
 

@@ -32,6 +32,9 @@ returns-then-agrees-clause-legal g c =
     let same : c.capacity.result ≡ c.self.inside.capacity = same_capacity c.capacity.result c.self.inside.capacity c.if-ne.ensures in
     subst (λ es. IsLegal c.args.self.capacity es) (sym c.of-history.ensures) (subst (λ k. IsLegal k c.into_events.result.items) (sym c.capacity.ensures ∙ same ∙ mine) c.into_events.ensures.legal)
 
+pub returns-then-agrees-clause-order : goal.returns-then-agrees-clause-order
+returns-then-agrees-clause-order g c = rw c.of-history.ensures c.into_events.ensures.order
+
 pub returns-then-agrees-clause-as_many : goal.returns-then-agrees-clause-as_many
 returns-then-agrees-clause-as_many g c = (rw c.as_slice-2.ensures.value at (c.agrees.ensures.0 c.if-agrees.true)).0
 
