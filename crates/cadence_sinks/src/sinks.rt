@@ -1,0 +1,7 @@
+//! Where metrics go.
+
+pub mod handler;
+pub mod target;
+
+pub use handler::SinkErrorHandler;
+pub use target::Target;
