@@ -1,3 +1,9 @@
-pub mod QueueState
+pub mod Frame
+pub mod Log
+pub mod Packer
 pub mod Queue
 pub mod QueueModel
+pub mod QueueState
+pub mod Sums
+pub mod Tests
+pub mod Writer

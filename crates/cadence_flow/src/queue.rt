@@ -2,6 +2,8 @@
 
 pub mod queue_core;
 pub mod shared;
+#[cfg(test)]
+mod tests;
 
 pub use queue_core::{QueueCore, Taken};
 pub use shared::SharedQueue;

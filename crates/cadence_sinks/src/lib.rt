@@ -1,4 +1,4 @@
-//! The sinks of a Statsd client, and the resolvers of their targets.
+//! The sinks that a Statsd client sends its lines to, and the resolvers of their targets.
 #![tactic(auto)]
 
 pub mod resolve;

@@ -1,7 +1,17 @@
-//! Where metrics go.
+//! The sinks that a Statsd client sends its lines to.
 
-pub mod handler;
-pub mod target;
+mod handler;
+mod metric_sink;
+mod spy;
+mod target;
 
-pub use handler::SinkErrorHandler;
+pub use handler::{Handler, SinkErrorHandler};
+pub use metric_sink::{MetricSink, NopMetricSink};
+pub use spy::{BufferedSpyMetricSink, SpyMetricSink, SpyReceiver};
 pub use target::Target;
+
+// The bytes that a buffered sink holds where none are given, as in cadence.
+const DEFAULT_BUFFER_SIZE: usize = 512;
+
+#[cfg(test)]
+mod tests;

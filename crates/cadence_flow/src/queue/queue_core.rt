@@ -1,12 +1,12 @@
 //! A queue of texts with a stop mark, a capacity and a count of handles, which one thread works with.
-ghost use Rattle.std.specs.Prelude.{◌≡◌, ◌+◌, ◌-◌, ◌%◌, ◌^◌, ◌<◌, ◌≤◌, ◌==◌, [], ◌∷◌, ◌++◌, length, slice_get, option_copied, IfOk, IfErr, OnOk, true, false};
+ghost use Rattle.std.specs.Prelude.{◌≡◌, ◌+◌, ◌-◌, ◌%◌, ◌^◌, ◌<◌, ◌≤◌, ◌==◌, [], ◌∷◌, ◌++◌, length, slice_get, option_copied, IfOk, IfErr, OnOk, IsTrue, Ok, true, false};
 ghost use Rattle.cadence_text.specs.Errors.{out_of_memory};
 ghost use Rattle.cadence_flow.specs.QueueState.{IsWithin, IsCounted};
-ghost use Rattle.cadence_flow.specs.Queue.{IsRefusal, IsTaken, accepting, stopping, adding_handle, dropping_handle, new_queue, is_full, is_idle};
+ghost use Rattle.cadence_flow.specs.Queue.{IsRefusal, is_open, IsTaken, accepting, stopping, adding_handle, dropping_handle, new_queue, is_full, is_idle};
 ghost use Rattle.cadence_flow.specs.QueueModel.{IsQueueOf, IsAccepted, IsNext};
 
 use cadence_text::types::{MetricResult, SinkError};
-use std::alloc::{Allocator, Global};
+use std::alloc::{AllocError, Allocator, Global};
 use std::collections::VecDeque;
 use std::marker::Model;
 
@@ -44,7 +44,7 @@ impl<T, A: Allocator> Model for QueueCore<T, A> {
     ghost invariant = { λ q. IsWithin q.capacity q.texts.items × IsCounted q.texts.items q.submitted q.drained };
 }
 
-impl<T, A: Allocator> QueueCore<T, A> {
+impl<T: Drop, A: Allocator> QueueCore<T, A> {
     /// An empty queue with one handle, which holds at most `capacity` texts; `None` is no bound. The only error is
     /// `OutOfMemory`.
     pub fn new(alloc: A, capacity: Option<usize>) -> MetricResult<Self>
@@ -72,6 +72,40 @@ impl<T, A: Allocator> QueueCore<T, A> {
         }
     }
 
+    // Whether a text would be taken if memory allows.
+    fn is_open(&self) -> bool
+        ensures { result ≡ is_open self.now }
+    {
+        !self.stopped && !self.is_full()
+    }
+
+    // Why a queue that isn't open refuses a text.
+    fn why_closed(&self) -> SinkError
+        requires { is_open self.now ≡ false }
+        ensures { IsRefusal self.now result }
+    {
+        if self.stopped {
+            SinkError::ChannelDisconnected
+        } else {
+            SinkError::ChannelFull
+        }
+    }
+
+    // Puts a text last in an open queue, or gives it back where memory ran out.
+    fn push(&mut self, text: T) -> Result<(), T>
+        requires { IsTrue (is_open self.old) }
+        ensures pushed { OnOk result (self.new ≡ accepting self.old text) }
+        ensures refused { IfErr result (λ back. (back ≡ text) × (self.new ≡ self.old)) }
+    {
+        match self.texts.push_back(text) {
+            Ok(()) => {
+                self.submitted = self.submitted.wrapping_add(1);
+                Ok(())
+            }
+            Err(failed) => Err(failed.value),
+        }
+    }
+
     /// Puts a text last. A stopped queue answers `ChannelDisconnected`, else a full one `ChannelFull`, else one for
     /// which memory ran out `OutOfMemory`; the text comes back and nothing has changed then.
     pub fn submit(&mut self, text: T) -> Result<(), (SinkError, T)>
@@ -79,18 +113,33 @@ impl<T, A: Allocator> QueueCore<T, A> {
         ensures refused { IfErr result (λ e. IsRefusal self.old e.0 × (e.1 ≡ text) × (self.new ≡ self.old)) }
         ensures past { OnOk result (IsAccepted self.old text self.new) }
     {
-        if self.stopped {
-            return Err((SinkError::ChannelDisconnected, text));
+        if !self.is_open() {
+            return Err((self.why_closed(), text));
         }
-        if self.is_full() {
-            return Err((SinkError::ChannelFull, text));
+        match self.push(text) {
+            Ok(()) => Ok(()),
+            Err(text) => Err((SinkError::OutOfMemory, text)),
         }
-        match self.texts.push_back(text) {
-            Ok(()) => {
-                self.submitted = self.submitted.wrapping_add(1);
-                Ok(())
-            }
-            Err(failed) => Err((SinkError::OutOfMemory, failed.value)),
+    }
+
+    /// Puts last the text that `make` makes. It is called only where the queue is neither stopped nor full, so these
+    /// two refusals take no memory. The errors are those of `submit`, `OutOfMemory` also where `make` was refused;
+    /// nothing has changed then.
+    pub fn submit_with<F: FnOnce() -> Result<T, AllocError>>(
+        &mut self,
+        make: F,
+    ) -> Result<(), SinkError>
+        requires { F.IsAlwaysCallable make }
+        ensures accepted { OnOk result ((self.old.stopped ≡ false) × (is_full self.old ≡ false) × ((text : T) × F.post make (Ok text) × (self.new ≡ accepting self.old text))) }
+        ensures refused { IfErr result (λ e. IsRefusal self.old e × (self.new ≡ self.old)) }
+    {
+        if !self.is_open() {
+            return Err(self.why_closed());
+        }
+        let text = make()?;
+        match self.push(text) {
+            Ok(()) => Ok(()),
+            Err(_) => Err(SinkError::OutOfMemory),
         }
     }
 
@@ -132,7 +181,7 @@ impl<T, A: Allocator> QueueCore<T, A> {
         }
         self.handles -= 1;
         if self.handles == 0 {
-            self.stopped = true;
+            self.stop();
         }
     }
 

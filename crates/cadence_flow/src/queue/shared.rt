@@ -1,11 +1,11 @@
 //! A queue that threads share.
-ghost use Rattle.std.specs.Prelude.{◌≡◌, IfErr};
+ghost use Rattle.std.specs.Prelude.{◌≡◌, IfErr, true};
 ghost use Rattle.cadence_text.specs.Errors.{out_of_memory};
 ghost use Rattle.cadence_flow.specs.Queue.{IsQueueRefusal};
 
 use super::queue_core::{QueueCore, Taken};
 use cadence_text::types::{MetricResult, SinkError};
-use std::alloc::{Allocator, Global};
+use std::alloc::{AllocError, Allocator, Global};
 use std::sync::{Condvar, Mutex, Wait};
 
 // What lies under the lock: the queue, and whether its worker has ended.
@@ -13,6 +13,15 @@ use std::sync::{Condvar, Mutex, Wait};
 struct Guarded<T, A: Allocator> {
     core: QueueCore<T, A>,
     ended: bool,
+}
+
+impl<T, A: Allocator> Guarded<T, A> {
+    fn mark_end(&mut self)
+        ensures marked { self.new.ended ≡ true }
+        ensures queue { self.new.core ≡ self.old.core }
+    {
+        self.ended = true;
+    }
 }
 
 /// A `QueueCore` under a lock, which threads share by reference. Each call is one step of the core. This project's
@@ -23,7 +32,7 @@ pub struct SharedQueue<T, A: Allocator = Global> {
     changed: Condvar,
 }
 
-impl<T, A: Allocator> SharedQueue<T, A> {
+impl<T: Drop, A: Allocator> SharedQueue<T, A> {
     /// An empty queue with one handle, which holds at most `capacity` texts; `None` is no bound. The only error is
     /// `OutOfMemory`.
     pub fn new(alloc: A, capacity: Option<usize>) -> MetricResult<Self>
@@ -42,6 +51,24 @@ impl<T, A: Allocator> SharedQueue<T, A> {
         ensures { IfErr result (λ e. IsQueueRefusal e.0 × (e.1 ≡ text)) }
     {
         let answer = self.guarded.lock(rt).core.submit(text);
+        if answer.is_ok() {
+            self.changed.notify_all();
+        }
+        answer
+    }
+
+    /// Puts last the text that `make` makes, and wakes those who wait for one. The lock is taken once, and `make` is
+    /// called under it, only where the queue is neither stopped nor full. The errors are those of
+    /// `QueueCore::submit_with`; the queue has not changed then.
+    pub fn submit_with<F: FnOnce() -> Result<T, AllocError>>(
+        &self,
+        rt: &impl Wait,
+        make: F,
+    ) -> Result<(), SinkError>
+        requires { F.IsAlwaysCallable make }
+        ensures { IfErr result IsQueueRefusal }
+    {
+        let answer = self.guarded.lock(rt).core.submit_with(make);
         if answer.is_ok() {
             self.changed.notify_all();
         }
@@ -84,7 +111,7 @@ impl<T, A: Allocator> SharedQueue<T, A> {
 
     /// Marks that the worker has ended, and wakes those who wait for it.
     pub fn mark_end(&self, rt: &impl Wait) {
-        self.guarded.lock(rt).ended = true;
+        self.guarded.lock(rt).mark_end();
         self.changed.notify_all();
     }
 

@@ -1,5 +1,5 @@
 //! How a name is looked up, and how a resolver sleeps.
-use crate::sinks::target::Target;
+use crate::sinks::Target;
 use cadence_text::types::SinkError;
 use std::alloc::{Allocator, Global};
 use std::net::{Net, SocketAddr, ToSocketAddrs};

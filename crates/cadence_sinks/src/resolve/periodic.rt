@@ -1,7 +1,7 @@
 //! A resolver that looks up again and again.
 use super::resolver_core::ResolverCore;
 use super::{Lookup, NameLookup, Sleeper};
-use crate::sinks::handler::Handler;
+use crate::sinks::Handler;
 use cadence_text::types::{MetricResult, SinkError};
 use std::alloc::Allocator;
 use std::net::SocketAddr;

@@ -1,7 +1,7 @@
 //! An address that is looked up once.
 use super::lookup::host_addresses;
 use super::resolver_core::ResolverCore;
-use crate::sinks::target::Target;
+use crate::sinks::Target;
 use cadence_text::types::MetricResult;
 use std::alloc::Allocator;
 use std::marker::Model;

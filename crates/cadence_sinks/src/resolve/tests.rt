@@ -1,6 +1,6 @@
 use super::{Lookup, NameLookup, PeriodicResolver, ResolverCore, Sleeper, StaticResolver};
-use crate::sinks::handler::Handler;
-use crate::sinks::target::Target;
+use crate::sinks::Handler;
+use crate::sinks::Target;
 use cadence_text::types::{ErrorKind, MetricError, SinkError};
 use refusing::Refusing;
 use std::alloc::{AllocError, Global};

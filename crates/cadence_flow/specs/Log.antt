@@ -1,0 +1,66 @@
+-- A log of packets in memory, and its script of answers.
+use Rattle.std.specs.Prelude.{◌≡◌, ℕ, min, Bool, true, false, List, [], ◌∷◌, length, drop, IfOk, IfErr, Err}
+use Rattle.std.specs.declared.result.Result.{Result}
+use Rattle.cadence_text.specs.declared.types.errors.SinkError.{SinkError}
+use Rattle.cadence_text.specs.declared.types.errors.SinkError.TheVariants.{ChannelFull, ChannelDisconnected, Io, PacketRefused, NothingWritten, OutOfMemory, NoAddresses}
+use Rattle.cadence_flow.specs.Sums.{zero_sums}
+use Rattle.cadence_flow.specs.Writer.{History, Kind}
+use Rattle.cadence_flow.specs.declared.io.packet_log.Answer.{Answer}
+use Rattle.cadence_flow.specs.declared.io.packet_log.Answer.TheVariants.{Whole, Short, Refuse}
+
+-- the packets taken, the whole script, how much of it is used, and the refusals
+pub record LogState : Type 0 where
+  pub packets : List (List ℕ)
+  pub script : List Answer
+  pub used : ℕ
+  pub refusals : ℕ
+  pub refused_bytes : ℕ
+
+-- a log that took and refused nothing yet
+abbrev pub new_log : List Answer → LogState
+new_log script = record { packets = []; script = script; used = 0; refusals = 0; refused_bytes = 0 }
+
+-- the errors that a log may give
+abbrev pub log_may_give : SinkError → Bool
+log_may_give PacketRefused = true
+log_may_give OutOfMemory = true
+log_may_give ChannelFull = false
+log_may_give ChannelDisconnected = false
+log_may_give (Io e) = false
+log_may_give NothingWritten = false
+log_may_give NoAddresses = false
+
+-- no answer of the script is short
+abbrev pub has_no_short : List Answer → Bool
+has_no_short [] = true
+has_no_short (Whole ∷ rest) = has_no_short rest
+has_no_short (Short n ∷ rest) = false
+has_no_short (Refuse ∷ rest) = has_no_short rest
+
+-- what a log means as a writer
+abbrev pub log_history : LogState → History
+log_history l = record { packets = l.packets; refusals = l.refusals; refused_bytes = l.refused_bytes }
+
+abbrev pub log_kind : LogState → Kind
+log_kind l =
+    record {
+      may_give = log_may_give;
+      tells = true;
+      takes_whole = has_no_short l.script;
+      start = zero_sums;
+    }
+
+-- what is left of the script
+abbrev pub answers_left : LogState → List Answer
+answers_left l = drop l.used l.script
+
+-- the next answer; after the end of the script each packet is taken
+abbrev pub next_answer : List Answer → Answer
+next_answer [] = Whole
+next_answer (answer ∷ rest) = answer
+
+-- what is answered for a packet by the script, want of memory aside
+abbrev pub Follows : Answer → List ℕ → Result ℕ SinkError → Type 0
+Follows Whole packet result = IfOk result (λ n. n ≡ length packet) × IfErr result (λ e. e ≡ OutOfMemory)
+Follows (Short k) packet result = IfOk result (λ n. n ≡ min k (length packet)) × IfErr result (λ e. e ≡ OutOfMemory)
+Follows Refuse packet result = result ≡ Err PacketRefused

@@ -1,0 +1,122 @@
+-- What a packer keeps, and what its calls do.
+use Rattle.std.specs.Prelude.{◌≡◌, ℕ, ◌+◌, ◌<◌, ◌≤◌, ◌-◌, true, false, List, [], ◌∷◌, ◌++◌, length, take, drop, ◌⊎◌, IsOk, IfOk, IfErr, OnOk, OnErr, Ok, Err}
+use Rattle.std.specs.declared.result.Result.{Result}
+use Rattle.std.specs.List.{concat}
+use Rattle.std.specs.Coded.{Coded, coded×, coded_ℕ, coded_list, code_by}
+use Rattle.std.proofs.Common.{refl}
+use Rattle.cadence_text.specs.declared.types.errors.SinkError.{SinkError}
+use Rattle.cadence_text.specs.declared.types.errors.SinkError.TheVariants.{NothingWritten}
+use Rattle.cadence_flow.specs.Frame.{Format, size_of, is_oversize, frame_of}
+use Rattle.cadence_flow.specs.Writer.{History, Kind, RefusedNothing, RefusedOne, Extends, Sends, SendsThen}
+
+-- the writer, the text that waits for it, and the format
+pub record Packer (W : Type 0) : Type 0 where
+  pub writer : W
+  pub held : List ℕ
+  pub format : Format
+
+abbrev pub packer_code : {W : Type 0} → Coded W → Coded (Packer W)
+packer_code w =
+    code_by (_ × (List ℕ × (ℕ × List ℕ))) (coded× w (coded× (coded_list coded_ℕ) (coded× coded_ℕ (coded_list coded_ℕ)))) (λ p. (p.writer, (p.held, (p.format.capacity, p.format.ending)))) (λ p. record { writer = p.0; held = p.1.0; format = record { capacity = p.1.1.0; ending = p.1.1.1 } }) (λ _. refl)
+
+-- a packer that holds nothing
+abbrev pub new_packer : {W : Type 0} → W → ℕ → List ℕ → Packer W
+new_packer w capacity ending =
+    record { writer = w; held = []; format = record { capacity = capacity; ending = ending } }
+
+-- the same with another text that waits
+abbrev pub with_held : {W : Type 0} → Packer W → List ℕ → Packer W
+with_held p held = record { writer = p.writer; held = held; format = p.format }
+
+-- the same with another writer
+abbrev pub with_writer : {W : Type 0} → Packer W → W → Packer W
+with_writer p w = record { writer = w; held = p.held; format = p.format }
+
+-- the packets that a writer took, joined, and then the held text
+abbrev pub whole_text : History → List ℕ → List ℕ
+whole_text h held = concat h.packets ++ held
+
+-- what a write that was answered so gives to the whole text
+abbrev pub given_by : Format → List ℕ → Result ℕ SinkError → List ℕ
+given_by format line (Ok n) = frame_of format line n
+given_by format line (Err e) = []
+
+-- the packets with the held text as one more, where there is any
+abbrev pub closed_packets : List (List ℕ) → List ℕ → List (List ℕ)
+closed_packets packets [] = packets
+closed_packets packets (b ∷ bs) = packets ++ (b ∷ bs) ∷ []
+
+-- what was taken of the held text where the rest of it is left
+abbrev pub taken_of : List ℕ → List ℕ → List ℕ
+taken_of held rest = take (length held - length rest) held
+
+-- the text that waits, where there is any, else the line
+abbrev pub rest_or : List ℕ → List ℕ → List ℕ
+rest_or [] line = line
+rest_or (b ∷ bs) line = b ∷ bs
+
+-- the rest is an end of the held text
+abbrev pub IsEndOf : List ℕ → List ℕ → Type 0
+IsEndOf held rest = rest ≡ drop (length held - length rest) held
+
+-- the writer refused the offered text once, with an error that it may give, after it had taken the text before it
+pub record IsRefused (kind : Kind) (old new : History) (before offered : List ℕ) (e : SinkError) : Type 0 where
+  pub may_give : kind.may_give e ≡ true
+  pub once : RefusedOne old new (length offered)
+  pub sent : kind.tells ≡ true → Sends old new before
+
+-- the writer took 0 bytes of held text, after it had taken the text before it
+pub record IsNotWritten (kind : Kind) (old new : History) (before : List ℕ) (e : SinkError) : Type 0 where
+  pub error : e ≡ NothingWritten
+  pub none_refused : RefusedNothing old new
+  pub not_whole : kind.takes_whole ≡ false
+  pub sent : kind.tells ≡ true → SendsThen old new before []
+
+-- why a call failed: the writer refused the offered text, or took 0 bytes of held text
+abbrev pub HasCause : Kind → History → History → List ℕ → List ℕ → SinkError → Type 0
+HasCause kind old new before offered e = IsRefused kind old new before offered e ⊎ IsNotWritten kind old new before e
+
+-- what a flush does, for a writer of this kind with this history before and after, and the held text before and after
+pub record Flushes {A : Type 0} (kind : Kind) (old new : History) (held rest : List ℕ) (result : Result A SinkError) : Type 0 where
+  -- all is taken, or an end that isn't empty stays
+  pub empties : OnOk result (rest ≡ [])
+  pub keeps_end : OnErr result ((0 < length rest) × IsEndOf held rest)
+  -- nothing held, nothing written
+  pub idle : held ≡ [] → IsOk result × (new ≡ old)
+  -- an error has its cause
+  pub none_refused : OnOk result (RefusedNothing old new)
+  pub cause : IfErr result (HasCause kind old new (taken_of held rest) rest)
+  -- no byte is lost, added or moved, and no empty packet is written
+  pub text : kind.tells ≡ true → whole_text new rest ≡ whole_text old held
+  pub extends : kind.tells ≡ true → Extends old new
+  pub sent : kind.tells ≡ true → OnOk result (Sends old new held)
+  -- a writer that takes whole gets one packet, or refuses it
+  pub one_packet : kind.tells ≡ true → kind.takes_whole ≡ true → OnOk result (new.packets ≡ closed_packets old.packets held)
+  pub unchanged : kind.takes_whole ≡ true → OnErr result ((rest ≡ held) × (new.packets ≡ old.packets))
+
+-- what writing a line does
+pub record Writes (kind : Kind) (format : Format) (old new : History) (held rest line : List ℕ) (result : Result ℕ SinkError) : Type 0 where
+  -- the length of the line is answered, or what was taken of an oversize one
+  pub count : IfOk result (λ n. n ≤ length line)
+  pub counts_line : is_oversize format line ≡ false → IfOk result (λ n. n ≡ length line)
+  pub counts_whole : kind.takes_whole ≡ true → IfOk result (λ n. n ≡ length line)
+  -- a line that fits the free room is held, and no packet is written
+  pub fits : length held + size_of format line ≤ format.capacity → (result ≡ Ok (length line)) × (new ≡ old) × (rest ≡ held ++ (line ++ format.ending))
+  -- what is held after another one, and after a failure
+  pub begins : format.capacity < length held + size_of format line → is_oversize format line ≡ false → OnOk result (rest ≡ line ++ format.ending)
+  pub empties : is_oversize format line ≡ true → OnOk result (rest ≡ [])
+  pub keeps_end : OnErr result (IsEndOf held rest)
+  pub keeps_some : is_oversize format line ≡ false → OnErr result (0 < length rest)
+  -- an error has its cause
+  pub none_refused : OnOk result (RefusedNothing old new)
+  pub cause : IfErr result (HasCause kind old new (taken_of held rest) (rest_or rest line))
+  -- the line's frame comes last, or nothing of it
+  pub text : kind.tells ≡ true → whole_text new rest ≡ whole_text old held ++ given_by format line result
+  pub extends : kind.tells ≡ true → Extends old new
+  -- the held text goes out before a line that doesn't fit the free room, and then an oversize line as one packet
+  pub sent : kind.tells ≡ true → format.capacity < length held + size_of format line → is_oversize format line ≡ false → OnOk result (Sends old new held)
+  pub last : kind.tells ≡ true → is_oversize format line ≡ true → IfOk result (λ n. SendsThen old new held (take n line))
+  -- a writer that takes whole gets the held text as one packet, and an oversize line as another
+  pub closes : kind.tells ≡ true → kind.takes_whole ≡ true → format.capacity < length held + size_of format line → is_oversize format line ≡ false → OnOk result (new.packets ≡ closed_packets old.packets held)
+  pub alone : kind.tells ≡ true → kind.takes_whole ≡ true → is_oversize format line ≡ true → OnOk result (new.packets ≡ closed_packets old.packets held ++ line ∷ [])
+  pub refused : kind.tells ≡ true → kind.takes_whole ≡ true → OnErr result ((rest ≡ [] → new.packets ≡ closed_packets old.packets held) × (0 < length rest → (rest ≡ held) × (new.packets ≡ old.packets)))

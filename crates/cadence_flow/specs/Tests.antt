@@ -1,0 +1,13 @@
+-- A writer that doesn't tell its packets, takes them whole, and gives no error.
+use Rattle.std.specs.Prelude.{false, true}
+use Rattle.cadence_flow.specs.Sums.{zero_sums}
+use Rattle.cadence_flow.specs.Writer.{Kind}
+
+abbrev pub silent_kind : Kind
+silent_kind =
+    record {
+      may_give = λ _. false;
+      tells = false;
+      takes_whole = true;
+      start = zero_sums;
+    }

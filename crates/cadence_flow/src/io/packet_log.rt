@@ -1,0 +1,141 @@
+//! A writer in memory, for tests and for schedules.
+use super::PacketWriter;
+use cadence_text::types::SinkError;
+use std::alloc::{AllocError, Allocator, Global};
+use std::marker::Model;
+
+/// What a `PacketLog` does with one packet.
+#[derive(Clone, Copy, Debug, PartialEq, Eq)]
+pub enum Answer {
+    /// It takes the whole packet.
+    Whole,
+    /// It takes this many of the first bytes, or the whole packet where it is shorter.
+    Short(usize),
+    /// It refuses the packet with `SinkError::PacketRefused`.
+    Refuse,
+}
+
+/// A writer that keeps the packets that it takes, and answers by a script; after the script's end it takes each
+/// packet whole. A packet for which there is no memory is refused with `SinkError::OutOfMemory`, and the script's
+/// answer is used up. This project's own.
+#[derive(Drop)]
+pub struct PacketLog<A: Allocator = Global> {
+    packets: Vec<Vec<u8, A>, A>,
+    script: Vec<Answer, A>,
+    used: usize,
+    refusals: u64,
+    refused_bytes: u64,
+}
+
+impl<A: Allocator> Model for PacketLog<A> {
+    ghost use Rattle.std.specs.Prelude.{◌≤◌, length, map};
+    ghost use Rattle.cadence_flow.specs.Log.{LogState};
+
+    ghost Value = { LogState };
+
+    ghost view = { λ l. record {
+      packets = map (λ p. p.items) l.packets.items;
+      script = l.script.items;
+      used = l.used;
+      refusals = l.refusals;
+      refused_bytes = l.refused_bytes;
+    } };
+
+    ghost invariant = { λ l. l.used ≤ length l.script.items };
+}
+
+impl<A: Allocator> PacketLog<A> {
+    ghost use Rattle.std.specs.Prelude.{◌≡◌, map};
+    ghost use Rattle.cadence_flow.specs.Log.{new_log};
+
+    /// A log without packets that answers by the script.
+    pub fn new(alloc: A, script: Vec<Answer, A>) -> PacketLog<A>
+        ensures { result ≡ new_log script.items }
+    {
+        PacketLog {
+            packets: Vec::new(alloc),
+            script,
+            used: 0,
+            refusals: 0,
+            refused_bytes: 0,
+        }
+    }
+
+    /// The packets taken, the oldest first.
+    pub fn packets(&self) -> &[Vec<u8, A>]
+        ensures { map (λ p. p.items) result.now ≡ self.now.packets }
+    {
+        self.packets.as_slice()
+    }
+}
+
+impl<A: Allocator + Clone> PacketLog<A> {
+    ghost use Rattle.std.specs.Prelude.{◌≡◌, ◌+◌, ◌%◌, ◌^◌, [], ◌∷◌, ◌++◌, drop, OnOk, OnErr};
+    ghost use Rattle.cadence_flow.specs.Log.{next_answer, answers_left};
+
+    fn take_answer(&mut self) -> Answer
+        ensures answer { result ≡ next_answer (answers_left self.old) }
+        ensures left { answers_left self.new ≡ drop 1 (answers_left self.old) }
+        ensures rest { self.new ≡ record self.old { used = self.new.used } }
+    {
+        if self.used < self.script.len() {
+            let answer = self.script[self.used];
+            self.used += 1;
+            answer
+        } else {
+            Answer::Whole
+        }
+    }
+
+    fn keep(&mut self, packet: &[u8]) -> Result<(), AllocError>
+        ensures ok { OnOk result (self.new ≡ record self.old { packets = self.old.packets ++ packet.now ∷ [] }) }
+        ensures err { OnErr result (self.new ≡ self.old) }
+    {
+        let alloc = self.packets.allocator().clone()?;
+        let copy = Vec::from_slice(alloc, packet)?;
+        self.packets.push(copy)?;
+        Ok(())
+    }
+
+    fn refuse(&mut self, len: usize)
+        ensures { self.new ≡ record self.old {
+          refusals = (self.old.refusals + 1) % 2 ^ 64;
+          refused_bytes = (self.old.refused_bytes + len) % 2 ^ 64;
+        } }
+    {
+        self.refusals = self.refusals.wrapping_add(1);
+        self.refused_bytes = self.refused_bytes.wrapping_add(len as u64);
+    }
+}
+
+impl<A: Allocator + Clone> PacketWriter for PacketLog<A> {
+    ghost use Rattle.std.specs.Prelude.{◌≡◌, drop};
+    ghost use Rattle.cadence_flow.specs.Writer.{WritesPacket};
+    ghost use Rattle.cadence_flow.specs.Log.{next_answer, answers_left, Follows, log_history, log_kind};
+
+    ghost history = { log_history };
+
+    ghost kind = { log_kind };
+
+    fn write_packet(&mut self, packet: &[u8]) -> Result<usize, SinkError>
+        ensures same_kind { log_kind self.new ≡ log_kind self.old }
+        ensures writes { WritesPacket (log_kind self.old) (log_history self.old) (log_history self.new) packet.now result }
+        ensures follows { Follows (next_answer (answers_left self.old)) packet.now result }
+        ensures left { answers_left self.new ≡ drop 1 (answers_left self.old) }
+        ensures script { self.new.script ≡ self.old.script }
+    {
+        let count = match self.take_answer() {
+            Answer::Whole => packet.len(),
+            Answer::Short(n) => n.min(packet.len()),
+            Answer::Refuse => {
+                self.refuse(packet.len());
+                return Err(SinkError::PacketRefused);
+            }
+        };
+        if self.keep(&packet[..count]).is_err() {
+            self.refuse(packet.len());
+            return Err(SinkError::OutOfMemory);
+        }
+        Ok(count)
+    }
+}

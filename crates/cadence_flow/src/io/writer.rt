@@ -1,0 +1,21 @@
+//! What takes packets.
+ghost use Rattle.std.specs.Prelude.{◌≡◌};
+ghost use Rattle.cadence_flow.specs.Writer.{History, Kind, WritesPacket};
+
+use cadence_text::types::SinkError;
+
+/// A writer that takes packets one by one, as a socket does. This project's own, in place of `std::io::Write`. An
+/// impl states which packets it took and how often it refused (`history`), and what no call changes (`kind`).
+pub trait PacketWriter: Drop {
+    /// The packets taken, and the number and total length of the refusals.
+    ghost history: { Self → History };
+
+    /// The errors that it may give, whether it tells its packets and takes each whole, and the sums it began with.
+    ghost kind: { Self → Kind };
+
+    /// Offers one packet. Answers how many of its first bytes were taken as one packet. An error is one refusal, and
+    /// nothing was taken.
+    fn write_packet(&mut self, packet: &[u8]) -> Result<usize, SinkError>
+        ensures same_kind { kind self.new ≡ kind self.old }
+        ensures writes { WritesPacket (kind self.old) (history self.old) (history self.new) packet.now result };
+}
