@@ -1,6 +1,5 @@
 use super::{Lookup, NameLookup, PeriodicResolver, ResolverCore, Sleeper, StaticResolver};
-use crate::sinks::Handler;
-use crate::sinks::Target;
+use crate::sinks::{Handler, Target};
 use cadence_text::types::{ErrorKind, MetricError, SinkError};
 use refusing::Refusing;
 use std::alloc::{AllocError, Global};
