@@ -2,6 +2,7 @@
 
 pub mod lookup;
 pub mod periodic;
+mod resolver;
 pub mod resolver_core;
 pub mod static_resolver;
 #[cfg(test)]
@@ -9,5 +10,6 @@ mod tests;
 
 pub use lookup::{Lookup, NameLookup, Sleeper};
 pub use periodic::PeriodicResolver;
+pub(crate) use resolver::Resolver;
 pub use resolver_core::ResolverCore;
 pub use static_resolver::StaticResolver;

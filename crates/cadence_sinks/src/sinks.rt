@@ -5,12 +5,14 @@ mod handler;
 mod metric_sink;
 mod spy;
 mod target;
+mod udp;
 mod unix;
 
 pub use handler::{Handler, SinkErrorHandler};
 pub use metric_sink::{MetricSink, NopMetricSink};
 pub use spy::{BufferedSpyMetricSink, SpyMetricSink, SpyReceiver};
 pub use target::Target;
+pub use udp::{UdpMetricSink, UdpMetricSinkBuilder};
 pub use unix::{BufferedUnixMetricSink, PathSocket, UnixMetricSink};
 
 // The bytes that a buffered sink holds where none are given, as in cadence.

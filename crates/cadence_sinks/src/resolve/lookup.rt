@@ -1,4 +1,7 @@
 //! How a name is looked up, and how a resolver sleeps.
+ghost use Rattle.std.specs.Prelude.{IfErr};
+ghost use Rattle.cadence_sinks.specs.Sockets.{IsLookupFault};
+
 use crate::sinks::Target;
 use cadence_text::types::SinkError;
 use std::alloc::{Allocator, Global};
@@ -39,7 +42,9 @@ pub(super) fn host_addresses<A: Allocator>(
     alloc: A,
     host: &str,
     port: u16,
-) -> Lookup<A> {
+) -> Lookup<A>
+    ensures { IfErr result (λ e. IsLookupFault e) }
+{
     let found = match (host, port).to_socket_addrs(net) {
         Ok(found) => found,
         Err(fault) => return Err(SinkError::Io(fault)),
@@ -64,7 +69,8 @@ pub struct TargetLookup<R: Net + Drop, A: Allocator + Clone> {
 impl<R: Net + Drop, A: Allocator + Clone> TargetLookup<R, A> {
     ghost use Rattle.cadence_sinks.specs.Targets.{IsLookedUp};
 
-    /// The addresses of the target now. The errors are `Io` and `OutOfMemory`; for an address the latter alone.
+    /// The addresses of the target now. The errors are `Io` and `OutOfMemory`, for an address the latter
+    /// alone.
     pub fn addresses(&self) -> Lookup<A>
         ensures { IsLookedUp self.now.target result }
     {

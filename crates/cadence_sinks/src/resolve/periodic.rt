@@ -51,7 +51,7 @@ impl<R: Wait + Drop> PeriodicResolver<R> {
         &self,
         lookup: &L,
         sleeper: &S,
-        handler: &Option<Handler<A>>,
+        handler: &Option<Handler>,
     ) {
         for _ in self.rt.forever() {
             if !self.is_running() {

@@ -1,20 +1,19 @@
 //! Who is told of a sink's faults.
 use cadence_text::types::SinkError;
-use std::alloc::{Allocator, Global};
 
 /// What the caller wants done with each fault of a sink or a resolver. It runs in the thread that met the fault.
-pub type SinkErrorHandler<A = Global> = Box<dyn Fn(SinkError) + Send + Sync, A>;
+pub type SinkErrorHandler = Box<dyn Fn(SinkError) + Send + Sync>;
 
 /// A caller's closure that may be called at any time.
 #[derive(Drop)]
-pub struct Handler<A: Allocator = Global> {
-    call: SinkErrorHandler<A>,
+pub struct Handler {
+    call: SinkErrorHandler,
     ghost callable: { IsAlwaysCallable call },
 }
 
-impl<A: Allocator> Handler<A> {
+impl Handler {
     /// Keeps the caller's closure.
-    pub fn new(call: SinkErrorHandler<A>) -> Handler<A>
+    pub fn new(call: SinkErrorHandler) -> Handler
         requires { IsAlwaysCallable call }
     {
         Handler { call }
