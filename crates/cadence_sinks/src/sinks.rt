@@ -12,7 +12,9 @@ pub use handler::{Handler, SinkErrorHandler};
 pub use metric_sink::{MetricSink, NopMetricSink};
 pub use spy::{BufferedSpyMetricSink, SpyMetricSink, SpyReceiver};
 pub use target::Target;
-pub use udp::{UdpMetricSink, UdpMetricSinkBuilder};
+pub use udp::{
+    BufferedUdpMetricSink, BufferedUdpMetricSinkBuilder, UdpMetricSink, UdpMetricSinkBuilder,
+};
 pub use unix::{BufferedUnixMetricSink, PathSocket, UnixMetricSink};
 
 // The bytes that a buffered sink holds where none are given, as in cadence.
