@@ -9,7 +9,7 @@ use Rattle.cadence_text.specs.Errors.{out_of_memory}
 use Rattle.cadence_flow.specs.Sums.{zero_sums}
 use Rattle.cadence_flow.specs.Writer.{Kind}
 use Rattle.cadence_sinks.specs.declared.sinks.target.Target.{Target}
-use Rattle.cadence_sinks.specs.declared.sinks.target.Target.TheVariants.{Addr, Name}
+use Rattle.cadence_sinks.specs.declared.sinks.target.Target.TheVariants.{Addr}
 
 -- whether an error is an io::Error's
 abbrev pub is_io : SinkError → Bool

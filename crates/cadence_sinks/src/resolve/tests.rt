@@ -1,4 +1,6 @@
-use super::{Lookup, NameLookup, PeriodicResolver, ResolverCore, Sleeper, StaticResolver};
+use super::{
+    Lookup, NameLookup, PeriodicResolver, Resolver, ResolverCore, Sleeper, StaticResolver,
+};
 use crate::sinks::{Handler, Target};
 use cadence_text::types::{ErrorKind, MetricError, SinkError};
 use refusing::Refusing;
@@ -130,29 +132,26 @@ fn run_until<R: Wait + Drop>(
     rt: R,
     alloc: Global,
     sleeps: u64,
-) -> Result<(Arc<PeriodicResolver<R>>, u64, u64), &'static str> {
-    let made = PeriodicResolver::new(rt, found(alloc, &[loopback(8125)]), Duration::from_secs(1));
-    let made = made.ok().ok_or("refused")?;
-    let resolver = Arc::new(alloc, made).ok().ok_or("memory")?;
+) -> Result<(Arc<PeriodicResolver<R>>, u64, u64), Fail> {
+    let first = found(alloc, &[loopback(8125)]);
+    let made = PeriodicResolver::new(rt, first, Duration::from_secs(1))?;
+    let resolver = Arc::new(alloc, made)?;
     if sleeps == 0 {
         resolver.stop();
     }
-    let asked = Arc::new(alloc, AtomicU64::new(0)).ok().ok_or("memory")?;
-    let told = Arc::new(alloc, AtomicU64::new(0)).ok().ok_or("memory")?;
-    let handler = counting(alloc, told.clone().ok().ok_or("memory")?);
+    let asked = Arc::new(alloc, AtomicU64::new(0))?;
+    let told = Arc::new(alloc, AtomicU64::new(0))?;
+    let handler = counting(alloc, told.clone()?)?;
     let sleeper = Stopping {
-        resolver: resolver.clone().ok().ok_or("memory")?,
+        resolver: resolver.clone()?,
         left: AtomicU64::new(sleeps),
     };
     let lookup = Failing {
-        asked: asked.clone().ok().ok_or("memory")?,
+        asked: asked.clone()?,
     };
-    resolver.run(&lookup, &sleeper, &handler.ok());
-    Ok((
-        resolver,
-        asked.load(Ordering::SeqCst),
-        told.load(Ordering::SeqCst),
-    ))
+    resolver.run(&lookup, &sleeper, &Some(handler));
+    let asked = asked.load(Ordering::SeqCst);
+    Ok((resolver, asked, told.load(Ordering::SeqCst)))
 }
 
 #[test]
@@ -177,5 +176,27 @@ fn a_stop_before_the_run_allows_no_lookup(rt: HostRuntime) -> Result<(), Fail> {
     let (resolver, asked, told) = run_until(rt.clone()?, rt.alloc(), 0)?;
     assert_eq!(rt; (asked, told), (0, 0));
     assert_eq!(rt; resolver.failures(), 0);
+    Ok(())
+}
+
+#[test]
+fn a_dropped_resolver_ends_its_run(rt: HostRuntime) -> Result<(), Fail> {
+    let alloc = rt.alloc();
+    let first = found(alloc, &[loopback(8125)]);
+    let made = PeriodicResolver::new(rt.clone()?, first, Duration::from_secs(1))?;
+    let resolver = Arc::new(alloc, made)?;
+    let held = Resolver::Periodic(resolver.clone()?);
+    assert_eq!(rt; held.get_addr(), loopback(8125));
+    drop(held);
+    let sleeper = Stopping {
+        resolver: resolver.clone()?,
+        left: AtomicU64::new(1),
+    };
+    let asked = Arc::new(alloc, AtomicU64::new(0))?;
+    let lookup = Failing {
+        asked: asked.clone()?,
+    };
+    resolver.run(&lookup, &sleeper, &None);
+    assert_eq!(rt; asked.load(Ordering::SeqCst), 0);
     Ok(())
 }

@@ -11,6 +11,9 @@ use cadence_text::types::{MetricResult, SinkError};
 use std::alloc::{Allocator, Global};
 use std::sync::Wait;
 
+#[cfg(test)]
+mod tests;
+
 /// A datagram socket whose peers are paths. This project's own; cadence takes a `UnixDatagram`. An impl may state
 /// which errors it gives.
 pub trait PathSocket: Drop {
