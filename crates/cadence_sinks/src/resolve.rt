@@ -1,10 +1,10 @@
 //! The address that a target's name stands for.
 
-pub mod lookup;
-pub mod periodic;
+mod lookup;
+mod periodic;
 mod resolver;
-pub mod resolver_core;
-pub mod static_resolver;
+mod resolver_core;
+mod static_resolver;
 #[cfg(test)]
 mod tests;
 
