@@ -3,6 +3,7 @@ pub mod Log
 pub mod Packer
 pub mod Queue
 pub mod QueueModel
+pub mod QueueRoom
 pub mod QueueState
 pub mod Sums
 pub mod Tests

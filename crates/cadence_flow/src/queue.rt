@@ -4,6 +4,7 @@ pub mod queue_core;
 pub mod shared;
 #[cfg(test)]
 mod tests;
+mod text_ring;
 
 pub use queue_core::{QueueCore, Taken};
 pub use shared::SharedQueue;

@@ -85,7 +85,8 @@ impl<T: PacketWriter, A: Allocator> MultiLineWriter<T, A> {
     ///
     /// The line and its ending are held. Where they don't fit the free room, what is held is flushed first. Where
     /// they pass the capacity, what is held is flushed first, and then the line alone is one packet: the answer is
-    /// the writer's count, 0 included. Takes no memory.
+    /// the writer's count, 0 included. Takes no memory. A line that with its ending fills the capacity exactly is
+    /// held, with an empty ending too (this project's own rule; cadence then writes it at once).
     ///
     /// An error is the writer's own, or `NothingWritten` where it took 0 bytes of held text. Nothing of the line is
     /// kept then; what the writer didn't take of the held text stays.
@@ -113,7 +114,9 @@ impl<T: PacketWriter, A: Allocator> MultiLineWriter<T, A> {
     /// Writes what is held, what is left after a short count too, until all is taken. With nothing held it writes
     /// nothing. Takes no memory.
     ///
-    /// An error is the writer's own, or `NothingWritten` where it took 0 bytes. What it didn't take stays held.
+    /// An error is the writer's own, or `NothingWritten` where it took 0 bytes. What it didn't take stays held, and
+    /// the free room is what the held text leaves. An interrupted write is an error like any other (both are this
+    /// project's own rules).
     pub fn flush(&mut self) -> Result<(), SinkError>
         ensures same_kind { T.kind self.new.writer ≡ T.kind self.old.writer }
         ensures same_format { self.new.format ≡ self.old.format }
@@ -134,7 +137,7 @@ impl<T: PacketWriter, A: Allocator> MultiLineWriter<T, A> {
         ensures text { result.now ≡ self.now.held }
         ensures bound { length self.now.held ≤ self.now.format.capacity }
     {
-        self.held.as_slice()
+        &self.held[..]
     }
 
     /// The writer.
@@ -177,12 +180,12 @@ impl<T: PacketWriter, A: Allocator> MultiLineWriter<T, A> {
         ensures text { result.1.items ≡ self.held }
     {
         let MultiLineWriter {
-            inner,
-            held,
+            inner: writer,
+            held: text,
             capacity: _,
             ending: _,
         } = self;
-        (inner, held)
+        (writer, text)
     }
 }
 

@@ -1,13 +1,15 @@
 //! A queue of texts with a stop mark, a capacity and a count of handles, which one thread works with.
-ghost use Rattle.std.specs.Prelude.{◌≡◌, ◌+◌, ◌-◌, ◌%◌, ◌^◌, ◌<◌, ◌≤◌, ◌==◌, [], ◌∷◌, ◌++◌, length, slice_get, option_copied, IfOk, IfErr, OnOk, IsTrue, Ok, true, false};
+ghost use Rattle.std.specs.Prelude.{◌≡◌, [], length, slice_get, option_copied, IfOk, IfErr, OnOk, OnErr, IsOk, IsTrue, Ok, Err, true, false};
+ghost use Rattle.std.specs.declared.alloc.AllocError.{AllocError};
 ghost use Rattle.cadence_text.specs.Errors.{out_of_memory};
+ghost use Rattle.cadence_flow.specs.QueueRoom.{IsBounded, TakesRoom};
 ghost use Rattle.cadence_flow.specs.QueueState.{IsWithin, IsCounted};
 ghost use Rattle.cadence_flow.specs.Queue.{IsRefusal, is_open, IsTaken, accepting, stopping, adding_handle, dropping_handle, new_queue, is_full, is_idle};
 ghost use Rattle.cadence_flow.specs.QueueModel.{IsQueueOf, IsAccepted, IsNext};
 
+use super::text_ring::TextRing;
 use cadence_text::types::{MetricResult, SinkError};
 use std::alloc::{AllocError, Allocator, Global};
-use std::collections::VecDeque;
 use std::marker::Model;
 
 /// What a queue answers to a request for its oldest text.
@@ -24,7 +26,7 @@ pub enum Taken<T> {
 /// A queue of texts: a submit puts one last, a take gets the oldest. This project's own; cadence has channels.
 #[derive(Drop)]
 pub struct QueueCore<T, A: Allocator = Global> {
-    texts: VecDeque<T, A>,
+    texts: TextRing<T, A>,
     capacity: Option<usize>,
     stopped: bool,
     handles: u64,
@@ -34,6 +36,7 @@ pub struct QueueCore<T, A: Allocator = Global> {
 
 impl<T, A: Allocator> Model for QueueCore<T, A> {
     ghost use Rattle.cadence_flow.specs.QueueState.{Queue, queue_code, IsWithin, IsCounted};
+    ghost use Rattle.cadence_flow.specs.QueueRoom.{HasRoom};
 
     ghost Value = { Queue T };
 
@@ -41,19 +44,20 @@ impl<T, A: Allocator> Model for QueueCore<T, A> {
 
     ghost view = { λ q. record { waiting = q.texts.items; capacity = q.capacity; stopped = q.stopped; handles = q.handles; submitted = q.submitted; drained = q.drained } };
 
-    ghost invariant = { λ q. IsWithin q.capacity q.texts.items × IsCounted q.texts.items q.submitted q.drained };
+    ghost invariant = { λ q. IsWithin q.capacity q.texts.items × IsCounted q.texts.items q.submitted q.drained × HasRoom q.capacity q.texts.capacity };
 }
 
-impl<T: Drop, A: Allocator> QueueCore<T, A> {
-    /// An empty queue with one handle, which holds at most `capacity` texts; `None` is no bound. The only error is
-    /// `OutOfMemory`.
+impl<T: Drop, A: Allocator + Clone> QueueCore<T, A> {
+    /// An empty queue with one handle, which holds at most `capacity` texts; `None` is no bound. A bounded queue
+    /// makes room for all its texts at once. The only error is `OutOfMemory`.
     pub fn new(alloc: A, capacity: Option<usize>) -> MetricResult<Self>
         ensures made { IfOk result (λ q. q ≡ new_queue capacity) }
         ensures past { IfOk result (IsQueueOf [] 0) }
-        ensures refused { IfErr result (λ e. e ≡ out_of_memory) }
+        ensures refused { IfErr result (λ e. (e ≡ out_of_memory) × TakesRoom capacity) }
     {
+        let texts = TextRing::with_room(alloc, capacity.unwrap_or(0))?;
         Ok(QueueCore {
-            texts: VecDeque::new(alloc),
+            texts,
             capacity,
             stopped: false,
             handles: 1,
@@ -62,6 +66,60 @@ impl<T: Drop, A: Allocator> QueueCore<T, A> {
         })
     }
 
+    // Puts a text last in an open queue, or gives it back where memory ran out.
+    fn push(&mut self, text: T) -> Result<(), T>
+        requires { IsTrue (is_open self.old) }
+        ensures pushed { OnOk result (self.new ≡ accepting self.old text) }
+        ensures refused { IfErr result (λ back. (back ≡ text) × (self.new ≡ self.old)) }
+        ensures bounded { IsBounded self.old.capacity → IsOk result }
+    {
+        self.texts.push_back(text)?;
+        self.submitted = self.submitted.wrapping_add(1);
+        Ok(())
+    }
+
+    /// Puts a text last. A stopped queue answers `ChannelDisconnected`, else a full one `ChannelFull`, else one for
+    /// which memory ran out `OutOfMemory`; the text comes back and nothing has changed then. A bounded queue takes no
+    /// memory.
+    pub fn submit(&mut self, text: T) -> Result<(), (SinkError, T)>
+        ensures accepted { OnOk result ((self.old.stopped ≡ false) × (is_full self.old ≡ false) × (self.new ≡ accepting self.old text)) }
+        ensures refused { IfErr result (λ e. IsRefusal self.old e.0 × (e.1 ≡ text) × (self.new ≡ self.old)) }
+        ensures bounded { IsBounded self.old.capacity → IsTrue (is_open self.old) → IsOk result }
+        ensures past { OnOk result (IsAccepted self.old text self.new) }
+    {
+        if !self.is_open() {
+            return Err((self.why_closed(), text));
+        }
+        match self.push(text) {
+            Ok(()) => Ok(()),
+            Err(text) => Err((SinkError::OutOfMemory, text)),
+        }
+    }
+
+    /// Puts last the text that `make` makes. It is called only where the queue is neither stopped nor full, so these
+    /// two refusals take no memory. The errors are those of `submit`, `OutOfMemory` also where `make` was refused;
+    /// nothing has changed then.
+    pub fn submit_with<F: FnOnce() -> Result<T, AllocError>>(
+        &mut self,
+        make: F,
+    ) -> Result<(), SinkError>
+        requires { F.IsAlwaysCallable make }
+        ensures accepted { OnOk result ((self.old.stopped ≡ false) × (is_full self.old ≡ false) × ((text : T) × F.post make (Ok text) × (self.new ≡ accepting self.old text))) }
+        ensures refused { IfErr result (λ e. IsRefusal self.old e × (self.new ≡ self.old)) }
+        ensures bounded { IsBounded self.old.capacity → IsTrue (is_open self.old) → OnErr result ((error : AllocError) × F.post make (Err error)) }
+    {
+        if !self.is_open() {
+            return Err(self.why_closed());
+        }
+        let text = make()?;
+        match self.push(text) {
+            Ok(()) => Ok(()),
+            Err(_) => Err(SinkError::OutOfMemory),
+        }
+    }
+}
+
+impl<T: Drop, A: Allocator> QueueCore<T, A> {
     /// Whether as many texts wait as the capacity.
     pub fn is_full(&self) -> bool
         ensures { result ≡ is_full self.now }
@@ -88,58 +146,6 @@ impl<T: Drop, A: Allocator> QueueCore<T, A> {
             SinkError::ChannelDisconnected
         } else {
             SinkError::ChannelFull
-        }
-    }
-
-    // Puts a text last in an open queue, or gives it back where memory ran out.
-    fn push(&mut self, text: T) -> Result<(), T>
-        requires { IsTrue (is_open self.old) }
-        ensures pushed { OnOk result (self.new ≡ accepting self.old text) }
-        ensures refused { IfErr result (λ back. (back ≡ text) × (self.new ≡ self.old)) }
-    {
-        match self.texts.push_back(text) {
-            Ok(()) => {
-                self.submitted = self.submitted.wrapping_add(1);
-                Ok(())
-            }
-            Err(failed) => Err(failed.value),
-        }
-    }
-
-    /// Puts a text last. A stopped queue answers `ChannelDisconnected`, else a full one `ChannelFull`, else one for
-    /// which memory ran out `OutOfMemory`; the text comes back and nothing has changed then.
-    pub fn submit(&mut self, text: T) -> Result<(), (SinkError, T)>
-        ensures accepted { OnOk result ((self.old.stopped ≡ false) × (is_full self.old ≡ false) × (self.new ≡ accepting self.old text)) }
-        ensures refused { IfErr result (λ e. IsRefusal self.old e.0 × (e.1 ≡ text) × (self.new ≡ self.old)) }
-        ensures past { OnOk result (IsAccepted self.old text self.new) }
-    {
-        if !self.is_open() {
-            return Err((self.why_closed(), text));
-        }
-        match self.push(text) {
-            Ok(()) => Ok(()),
-            Err(text) => Err((SinkError::OutOfMemory, text)),
-        }
-    }
-
-    /// Puts last the text that `make` makes. It is called only where the queue is neither stopped nor full, so these
-    /// two refusals take no memory. The errors are those of `submit`, `OutOfMemory` also where `make` was refused;
-    /// nothing has changed then.
-    pub fn submit_with<F: FnOnce() -> Result<T, AllocError>>(
-        &mut self,
-        make: F,
-    ) -> Result<(), SinkError>
-        requires { F.IsAlwaysCallable make }
-        ensures accepted { OnOk result ((self.old.stopped ≡ false) × (is_full self.old ≡ false) × ((text : T) × F.post make (Ok text) × (self.new ≡ accepting self.old text))) }
-        ensures refused { IfErr result (λ e. IsRefusal self.old e × (self.new ≡ self.old)) }
-    {
-        if !self.is_open() {
-            return Err(self.why_closed());
-        }
-        let text = make()?;
-        match self.push(text) {
-            Ok(()) => Ok(()),
-            Err(_) => Err(SinkError::OutOfMemory),
         }
     }
 
@@ -189,7 +195,7 @@ impl<T: Drop, A: Allocator> QueueCore<T, A> {
     pub fn is_idle(&self) -> bool
         ensures { result ≡ is_idle self.now }
     {
-        !self.stopped && self.texts.is_empty()
+        !self.stopped && self.texts.len() == 0
     }
 
     /// The number of texts that wait. It is within the capacity, and the texts submitted less those drained, modulo

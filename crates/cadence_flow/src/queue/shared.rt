@@ -2,6 +2,7 @@
 ghost use Rattle.std.specs.Prelude.{◌≡◌, IfErr, true};
 ghost use Rattle.cadence_text.specs.Errors.{out_of_memory};
 ghost use Rattle.cadence_flow.specs.Queue.{IsQueueRefusal};
+ghost use Rattle.cadence_flow.specs.QueueRoom.{TakesRoom};
 
 use super::queue_core::{QueueCore, Taken};
 use cadence_text::types::{MetricResult, SinkError};
@@ -32,11 +33,11 @@ pub struct SharedQueue<T, A: Allocator = Global> {
     changed: Condvar,
 }
 
-impl<T: Drop, A: Allocator> SharedQueue<T, A> {
-    /// An empty queue with one handle, which holds at most `capacity` texts; `None` is no bound. The only error is
-    /// `OutOfMemory`.
+impl<T: Drop, A: Allocator + Clone> SharedQueue<T, A> {
+    /// An empty queue with one handle, which holds at most `capacity` texts; `None` is no bound. A bounded queue
+    /// makes room for all its texts at once. The only error is `OutOfMemory`.
     pub fn new(alloc: A, capacity: Option<usize>) -> MetricResult<Self>
-        ensures { IfErr result (λ e. e ≡ out_of_memory) }
+        ensures { IfErr result (λ e. (e ≡ out_of_memory) × TakesRoom capacity) }
     {
         let core = QueueCore::new(alloc, capacity)?;
         Ok(SharedQueue {
@@ -74,7 +75,9 @@ impl<T: Drop, A: Allocator> SharedQueue<T, A> {
         }
         answer
     }
+}
 
+impl<T: Drop, A: Allocator> SharedQueue<T, A> {
     /// Takes the oldest text, if there is one.
     pub fn try_take(&self, rt: &impl Wait) -> Taken<T> {
         self.guarded.lock(rt).core.take()

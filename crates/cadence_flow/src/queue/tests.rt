@@ -1,6 +1,7 @@
 use super::{QueueCore, SharedQueue, Taken};
-use cadence_text::types::{MetricError, SinkError};
+use cadence_text::types::{MetricResult, SinkError};
 use refusing::Refusing;
+use std::alloc::Global;
 use std::test::Fail;
 use std::thread;
 
@@ -97,6 +98,20 @@ fn refused_memory(rt: HostRuntime) -> Result<(), Fail> {
 }
 
 #[test]
+fn bounded_queue_reserves(rt: HostRuntime) -> Result<(), Fail> {
+    let heap = Refusing::after(rt.alloc(), rt.alloc(), 1)?;
+    let mut queue = QueueCore::new(heap.clone()?, Some(2))?;
+    assert!(rt; queue.submit('A').is_ok());
+    assert!(rt; queue.submit('B').is_ok());
+    assert_eq!(rt; heap.left(), 0);
+    let refused: MetricResult<QueueCore<char, Refusing<Global>>> = QueueCore::new(heap, Some(2));
+    assert!(rt; refused.is_err());
+    let too_large: MetricResult<QueueCore<char>> = QueueCore::new(rt.alloc(), Some(usize::MAX));
+    assert!(rt; too_large.is_err());
+    Ok(())
+}
+
+#[test]
 fn taker_gets_a_submit(rt: HostRuntime) -> Result<(), Fail> {
     let queue = SharedQueue::new(rt.alloc(), Some(1))?;
     let (got, answer) = thread::join(
@@ -110,6 +125,16 @@ fn taker_gets_a_submit(rt: HostRuntime) -> Result<(), Fail> {
         (queue.submitted(&rt), queue.drained(&rt), queue.waiting(&rt)),
         (1, 1, 0)
     );
+    Ok(())
+}
+
+#[test]
+fn shared_queue_keeps_its_capacity(rt: HostRuntime) -> Result<(), Fail> {
+    let queue = SharedQueue::new(rt.alloc(), Some(1))?;
+    assert!(rt; queue.submit_with(&rt, || Ok('A')).is_ok());
+    assert!(rt; matches!(queue.submit(&rt, 'B'), Err((SinkError::ChannelFull, 'B'))));
+    assert!(rt; matches!(queue.try_take(&rt), Taken::Text('A')));
+    assert!(rt; matches!(queue.try_take(&rt), Taken::Empty));
     Ok(())
 }
 

@@ -106,3 +106,6 @@ impl SinkStats {
         }
     }
 }
+
+#[cfg(test)]
+mod tests;

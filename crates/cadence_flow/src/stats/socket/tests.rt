@@ -1,4 +1,4 @@
-use super::{SinkStats, SocketStats};
+use crate::stats::{SinkStats, SocketStats};
 use cadence_text::types::SinkError;
 use refusing::Refusing;
 use std::test::Fail;

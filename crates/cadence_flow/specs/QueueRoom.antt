@@ -1,0 +1,23 @@
+-- The room of a queue's ring.
+use Rattle.std.specs.Prelude.{◌≡◌, ℕ, ◌<◌, [], Option, Some, None}
+use Rattle.circular_buffer.specs.Buffer.{Buffer, buffer}
+
+-- a ring without a block has no texts and no room
+abbrev pub ring_of : {T : Type 0} → Option (Buffer T) → Buffer T
+ring_of (Some block) = block
+ring_of None = buffer [] 0
+
+-- a bounded queue has all its room
+abbrev pub HasRoom : Option ℕ → ℕ → Type 0
+HasRoom (Some capacity) room = room ≡ capacity
+HasRoom None room = Unit {0}
+
+-- the queue has a bound
+abbrev pub IsBounded : Option ℕ → Type 0
+IsBounded (Some capacity) = Unit {0}
+IsBounded None = ⊥
+
+-- the queue has a bound above 0
+abbrev pub TakesRoom : Option ℕ → Type 0
+TakesRoom (Some capacity) = 0 < capacity
+TakesRoom None = ⊥
