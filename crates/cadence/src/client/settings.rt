@@ -63,10 +63,11 @@ fn add_defaults<'a, A: Allocator>(
 fn without_trailing_dots(prefix: &str) -> &str
     ensures { result.now ≡ without_dots prefix.now }
 {
-    match prefix.strip_suffix('.') {
-        Some(shorter) => without_trailing_dots(shorter),
-        None => prefix,
+    let mut kept = prefix;
+    while let Some(shorter) = kept.strip_suffix('.') {
+        kept = shorter;
     }
+    kept
 }
 
 // The prefix as it is printed.
