@@ -1,5 +1,5 @@
 -- Each group's packet is of its metrics.
-use Rattle.std.proofs.Common.{◌≡◌, ℕ, zero, suc, ◌+◌, ◌<◌, ◌≤◌, List, [], ◌∷◌, ◌++◌, length, take, drop, refl, sym, ap, ◌∙◌, arith, subst, map, sum, All, inl, inr, ⊎_elim, cond, ltb}
+use Rattle.std.proofs.Common.{◌≡◌, ℕ, ◌+◌, ◌<◌, ◌≤◌, List, [], ◌∷◌, ◌++◌, length, take, drop, refl, sym, ap, ◌∙◌, arith, subst, map, sum, All, inl, inr, ⊎_elim, ltb}
 use Rattle.std.specs.List.{flat_map, AllByRecursion, AllZip}
 use Rattle.std.proofs.lemmas.List.{length-drop, length-map, take-append-drop, take-map, drop-map, nil_from_length, append-nil}
 use Rattle.std.proofs.lemmas.List.Sums.{sum_by-cons}
@@ -10,7 +10,7 @@ use Rattle.cadence_text.specs.Metric.{Metric}
 use Rattle.cadence_text.specs.Line.{line_of}
 use Rattle.cadence_text.specs.OneReading.{lines_of, IsPacketOf, IsReadable}
 use Rattle.cadence_flow.specs.Frame.{Format, size_of, frame, stream}
-use Rattle.cadence.specs.Packets.{held_packet, ArePacketsOf}
+use Rattle.cadence.specs.Packets.{ArePacketsOf}
 use Rattle.cadence.specs.Reading.{IsPacketOfOnly, ReadsAs}
 
 -- the newline as ending

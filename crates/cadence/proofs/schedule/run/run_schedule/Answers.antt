@@ -1,14 +1,13 @@
-use Rattle.std.proofs.Common.{◌≡◌, ℕ, List, ◌+◌, ◌++◌, ◌%◌, ◌^◌, ◌<◌, length, sym, ap, ◌∙◌, refl, arith, subst, [], None, map}
+use Rattle.std.proofs.Common.{◌≡◌, ◌++◌, ◌%◌, ◌^◌, ◌<◌, length, sym, ap, ◌∙◌, arith, subst, None, map}
 use Rattle.std.specs.List.{zip, concat}
 use Rattle.std.specs.Prelude.{string_bytes}
 use Rattle.cadence_flow.specs.Frame.{Format, stream}
 use Rattle.cadence_flow.specs.Sums.{counted_kind, zero_sums}
 use Rattle.cadence_flow.specs.Writer.{History, Kind, Extends}
-use Rattle.cadence_flow.specs.declared.stats.SinkStats.{SinkStats}
 use Rattle.cadence_text.specs.Line.{line_of as line_of_metric}
 use Rattle.cadence.specs.Calls.{line_of_data, metric_of_data}
-use Rattle.cadence.specs.Headline.{packets_between, AreSumsBetween}
-use Rattle.cadence.specs.History.{kept, kept_counts, marks, refusals, errors}
+use Rattle.cadence.specs.Headline.{packets_between}
+use Rattle.cadence.specs.History.{kept, kept_counts, marks, refusals}
 use Rattle.cadence.specs.Moves.{State, at_start}
 use Rattle.cadence.specs.Packets.{ArePacketsOf}
 use Rattle.cadence.specs.Running.{state_of}
