@@ -2,12 +2,12 @@
 
 pub mod call;
 mod counting;
-pub mod laws;
-pub mod plan;
-pub mod reports;
-pub mod run;
+mod laws;
+mod plan;
+mod reports;
+mod run;
 mod running;
-pub mod steps;
+mod steps;
 
 pub use call::{Call, CallOption, CallValue};
 pub use laws::packets_read_one_way;
