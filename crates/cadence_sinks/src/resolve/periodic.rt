@@ -20,12 +20,13 @@ struct Running {
 #[derive(Drop)]
 pub struct PeriodicResolver<R: Wait + Drop> {
     rt: R,
-    period: Duration,
+    /// The time between two lookups.
+    pub period: Duration,
     state: Mutex<Running>,
 }
 
 impl<R: Wait + Drop> PeriodicResolver<R> {
-    ghost use Rattle.std.specs.Prelude.{◌↔◌, ◌≢◌, [], IsOk, IfErr};
+    ghost use Rattle.std.specs.Prelude.{◌≡◌, ◌↔◌, ◌≢◌, [], IsOk, IfOk, IfErr};
     ghost use Rattle.cadence_sinks.specs.Address.{addresses_of};
     ghost use Rattle.cadence_sinks.specs.Lookups.{IsStartRefusal};
 
@@ -33,6 +34,7 @@ impl<R: Wait + Drop> PeriodicResolver<R> {
     pub fn new<A: Allocator>(rt: R, first: Lookup<A>, period: Duration) -> MetricResult<Self>
         ensures made { IsOk result ↔ (addresses_of first ≢ []) }
         ensures refused { IfErr result (IsStartRefusal first) }
+        ensures period { IfOk result (λ r. r.period ≡ period) }
     {
         let core = ResolverCore::new(first)?;
         Ok(PeriodicResolver {

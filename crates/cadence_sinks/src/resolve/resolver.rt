@@ -1,5 +1,5 @@
 //! The resolver that a UDP sink holds.
-ghost use Rattle.std.specs.Prelude.{◌≡◌, IfErr, None};
+ghost use Rattle.std.specs.Prelude.{◌≡◌, IfErr, IfOk, None, is_some};
 ghost use Rattle.cadence_sinks.specs.Sockets.{IsSocketRefusal, IsTargetRefusal};
 
 use super::lookup::{ClockSleeper, TargetLookup};
@@ -52,6 +52,8 @@ impl<
         + 'static,
     A: Allocator + Clone + Send + Sync + 'static,
 > Resolver<R, A> {
+    ghost use Rattle.cadence_sinks.specs.Resolver.{is_periodic};
+
     /// A static resolver where there is no period, else a periodic one with its thread. The errors are those of the
     /// first lookup; `Io` where no thread can be started; `OutOfMemory`.
     pub fn new(
@@ -61,6 +63,7 @@ impl<
         period: Option<Duration>,
         handler: Option<Handler>,
     ) -> MetricResult<Self>
+        ensures made { IfOk result (λ r. is_periodic r ≡ is_some period) }
         ensures refused { IfErr result (λ e. IsSocketRefusal e) }
         ensures once { period ≡ None → IfErr result (λ e. IsTargetRefusal target e) }
     {

@@ -5,8 +5,10 @@ use crate::sinks::{MetricSink, SinkErrorHandler, Target};
 use cadence_text::types::{MetricError, SinkError};
 use refusing::Refusing;
 use std::net::{Ipv4Addr, Net, SocketAddr, UdpSocket};
+use std::sync::Arc;
+use std::sync::atomic::{AtomicU64, Ordering};
 use std::test::Fail;
-use std::time::Duration;
+use std::time::{Clock, Duration};
 use std::{io, thread};
 
 // A socket on the loopback address.
@@ -171,6 +173,45 @@ fn each_request_of_a_builder_refused(rt: HostRuntime) -> Result<(), Fail> {
             }
             Err(MetricError::Sink(SinkError::OutOfMemory)) => {}
             Err(_) => return Err(Fail::new("another error")),
+        }
+    }
+    Err(Fail::new("always refused"))
+}
+
+// Waits until a handler has counted a call, five seconds at most.
+fn wait_for_a_call<R: Clock>(rt: &R, calls: &AtomicU64) -> bool {
+    for _ in 0..5000u64 {
+        if calls.load(Ordering::SeqCst) > 0 {
+            return true;
+        }
+        thread::sleep(rt, Duration::from_millis(1));
+    }
+    false
+}
+
+#[test]
+fn a_handler_is_told_of_a_later_fault(rt: HostRuntime) -> Result<(), Fail> {
+    let target_of = on_loopback(&rt)?.local_addr()?;
+    for granted in 0..16u64 {
+        // the first request that is refused after the sink is made is that of a later lookup
+        let heap = Refusing::after(rt.alloc(), rt.alloc(), granted)?;
+        let calls = Arc::new(rt.alloc(), AtomicU64::new(0))?;
+        let theirs = calls.clone()?;
+        let handler: SinkErrorHandler = Box::new(rt.alloc(), move |_| {
+            theirs.fetch_add(1, Ordering::SeqCst);
+        })?;
+        let made = UdpMetricSinkBuilder::new()
+            .with_resolver_period(Duration::from_millis(1))
+            .with_resolver_error_handler(handler)
+            .build(
+                rt.clone()?,
+                heap,
+                Target::Addr(target_of),
+                on_loopback(&rt)?,
+            );
+        if made.is_ok() {
+            assert!(rt; wait_for_a_call(&rt, &calls));
+            return Ok(());
         }
     }
     Err(Fail::new("always refused"))
