@@ -4,3 +4,5 @@
 pub mod client;
 pub mod schedule;
 mod sealed;
+#[cfg(test)]
+mod threads_tests;
