@@ -8,6 +8,8 @@ pub mod ext;
 pub mod prelude;
 pub mod schedule;
 mod sealed;
+#[cfg(test)]
+mod threads_tests;
 
 pub use cadence_flow::{io, queue, stats};
 pub use cadence_sinks::{resolve, sinks};

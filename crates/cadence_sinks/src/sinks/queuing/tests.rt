@@ -4,7 +4,7 @@ use cadence_flow::stats::SinkStats;
 use cadence_text::types::{MetricError, SinkError};
 use refusing::Refusing;
 use std::sync::atomic::{AtomicBool, AtomicU64, Ordering};
-use std::sync::{Arc, Mutex, OnceLock, Wait};
+use std::sync::{Arc, OnceLock, Wait};
 use std::test::Fail;
 use std::thread;
 
@@ -49,19 +49,19 @@ fn is_set_in_time(flag: &AtomicBool) -> bool {
     false
 }
 
-// What a gated sink saw.
+// The gate of a gated sink, and whether the sink was flushed.
 #[derive(Drop)]
-struct Seen {
+struct Gate {
     open: AtomicBool,
     flushed: AtomicBool,
-    texts: Mutex<Vec<String>>,
 }
 
-// Holds each text until its gate is open.
+// Tells of each text that comes, and passes it on once the gate is open.
 #[derive(Drop)]
 struct Gated<R: Wait + Drop> {
-    rt: R,
-    seen: Arc<Seen>,
+    gate: Arc<Gate>,
+    comes: SpyMetricSink<R>,
+    passes: SpyMetricSink<R>,
 }
 
 impl<R: Wait + Drop> MetricSink for Gated<R> {
@@ -70,19 +70,15 @@ impl<R: Wait + Drop> MetricSink for Gated<R> {
     ghost may_flush = { λ _ _. Unit {0} };
 
     fn emit(&self, metric: &str) -> Result<usize, SinkError> {
-        if !is_set_in_time(&self.seen.open) {
+        self.comes.emit(metric)?;
+        if !is_set_in_time(&self.gate.open) {
             return Err(SinkError::PacketRefused);
         }
-        let mut texts = self.seen.texts.lock(&self.rt);
-        let text = String::from_str(*texts.allocator(), metric)?;
-        match texts.push(text) {
-            Ok(()) => Ok(metric.len()),
-            Err(_) => Err(SinkError::OutOfMemory),
-        }
+        self.passes.emit(metric)
     }
 
     fn flush(&self) -> Result<(), SinkError> {
-        self.seen.flushed.store(true, Ordering::SeqCst);
+        self.gate.flushed.store(true, Ordering::SeqCst);
         Ok(())
     }
 
@@ -100,28 +96,30 @@ impl<R: Wait + Drop> MetricSink for Gated<R> {
 
 #[test]
 fn caller_does_not_wait_for_the_sink(rt: HostRuntime) -> Result<(), Fail> {
-    let seen = Seen {
+    let gate = Gate {
         open: AtomicBool::new(false),
         flushed: AtomicBool::new(false),
-        texts: Mutex::new(Vec::new(rt.alloc())),
     };
-    let seen = Arc::new(rt.alloc(), seen)?;
+    let gate = Arc::new(rt.alloc(), gate)?;
+    let (coming, comes) = SpyMetricSink::new(rt.clone()?, rt.alloc())?;
+    let (passed, passes) = SpyMetricSink::new(rt.clone()?, rt.alloc())?;
     let gated = Gated {
-        rt: rt.clone()?,
-        seen: seen.clone()?,
+        gate: gate.clone()?,
+        comes,
+        passes,
     };
     let sink = QueuingMetricSink::from(rt.clone()?, rt.alloc(), gated)?;
     assert!(rt; matches!(sink.emit("first:1|c"), Ok(9)));
+    assert!(rt; coming.recv().is_some());
     assert!(rt; matches!(sink.emit("second:1|c"), Ok(10)));
-    assert!(rt; sink.flush().is_ok());
-    assert!(rt; seen.flushed.load(Ordering::SeqCst) && sink.queued() > 0);
-    assert_eq!(rt; sink.stats().packets_dropped, 4);
-    seen.open.store(true, Ordering::SeqCst);
+    assert!(rt; sink.flush().is_ok() && gate.flushed.load(Ordering::SeqCst));
+    assert_eq!(rt; (sink.queued(), sink.stats().packets_dropped), (1, 4));
+    gate.open.store(true, Ordering::SeqCst);
     sink.stop_and_wait();
-    let texts = seen.texts.lock(&rt);
-    assert_eq!(rt; texts.len(), 2);
-    assert_eq!(rt; texts[0].as_str(), "first:1|c");
-    assert_eq!(rt; texts[1].as_str(), "second:1|c");
+    let first = passed.try_recv().ok_or("nothing")?;
+    let second = passed.try_recv().ok_or("nothing")?;
+    assert_eq!(rt; first.as_slice(), b"first:1|c".as_slice());
+    assert_eq!(rt; second.as_slice(), b"second:1|c".as_slice());
     Ok(())
 }
 
@@ -245,15 +243,14 @@ type SpiedSink = QueuingMetricSink<SpyMetricSink<HostRuntime>, HostRuntime>;
 fn handler_may_emit(rt: HostRuntime) -> Result<(), Fail> {
     let (receiver, spy) = SpyMetricSink::new(rt.clone()?, rt.alloc())?;
     drop(receiver);
+    let (noted, notes) = SpyMetricSink::new(rt.clone()?, rt.alloc())?;
     let told = Arc::new(rt.alloc(), AtomicU64::new(0))?;
-    let again = Arc::new(rt.alloc(), AtomicBool::new(false))?;
     let slot: Arc<OnceLock<SpiedSink>> = Arc::new(rt.alloc(), OnceLock::new())?;
-    let (counted, queued, handle) = (told.clone()?, again.clone()?, slot.clone()?);
+    let (counted, handle) = (told.clone()?, slot.clone()?);
     let handler = Box::new(rt.alloc(), move |_fault| {
         if counted.fetch_add(1, Ordering::SeqCst) == 0 {
-            if let Some(sink) = handle.get() {
-                queued.store(sink.emit("b:1|c").is_ok(), Ordering::SeqCst);
-            }
+            let queued = handle.get().is_some_and(|sink| sink.emit("b:1|c").is_ok());
+            let _ = notes.emit(if queued { "queued" } else { "refused" });
         }
     })?;
     let sink = QueuingMetricSinkBuilder::new()
@@ -261,7 +258,8 @@ fn handler_may_emit(rt: HostRuntime) -> Result<(), Fail> {
         .build(rt.clone()?, rt.alloc(), spy)?;
     assert!(rt; slot.try_set(sink.clone()?).is_ok());
     assert!(rt; matches!(sink.emit("a:1|c"), Ok(5)));
-    assert!(rt; is_set_in_time(&again));
+    let note = noted.recv().ok_or("gone")?;
+    assert_eq!(rt; note.as_slice(), b"queued".as_slice());
     sink.stop_and_wait();
     assert_eq!(rt; told.load(Ordering::SeqCst), 2);
     Ok(())
