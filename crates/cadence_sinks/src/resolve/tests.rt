@@ -1,10 +1,10 @@
 use super::{
     Lookup, NameLookup, PeriodicResolver, Resolver, ResolverCore, Sleeper, StaticResolver,
 };
-use crate::sinks::{Handler, Target};
+use crate::sinks::{Handler, SinkErrorHandler, Target};
 use cadence_text::types::{ErrorKind, MetricError, SinkError};
 use refusing::Refusing;
-use std::alloc::{AllocError, Global};
+use std::alloc::Global;
 use std::net::{Ipv4Addr, SocketAddr};
 use std::sync::atomic::{AtomicU64, Ordering};
 use std::sync::{Arc, Wait};
@@ -120,19 +120,15 @@ impl<R: Wait + Drop> Sleeper for Stopping<R> {
     }
 }
 
-// A handler that counts its calls.
-fn counting(alloc: Global, told: Arc<AtomicU64>) -> Result<Handler, AllocError> {
-    Ok(Handler::new(Box::new(alloc, move |_| {
-        told.fetch_add(1, Ordering::SeqCst);
-    })?))
-}
-
-// A resolver that was stopped in its n-th sleep, or at once; how often it looked up, and told of a fault.
+// A resolver that was stopped in its n-th sleep, or at once, and how often it looked up.
 fn run_until<R: Wait + Drop>(
     rt: R,
     alloc: Global,
     sleeps: u64,
-) -> Result<(Arc<PeriodicResolver<R>>, u64, u64), Fail> {
+    handler: SinkErrorHandler,
+) -> Result<(Arc<PeriodicResolver<R>>, u64), Fail>
+    requires { IsAlwaysCallable handler }
+{
     let first = found(alloc, &[loopback(8125)]);
     let made = PeriodicResolver::new(rt, first, Duration::from_secs(1))?;
     let resolver = Arc::new(alloc, made)?;
@@ -140,8 +136,6 @@ fn run_until<R: Wait + Drop>(
         resolver.stop();
     }
     let asked = Arc::new(alloc, AtomicU64::new(0))?;
-    let told = Arc::new(alloc, AtomicU64::new(0))?;
-    let handler = counting(alloc, told.clone()?)?;
     let sleeper = Stopping {
         resolver: resolver.clone()?,
         left: AtomicU64::new(sleeps),
@@ -149,15 +143,20 @@ fn run_until<R: Wait + Drop>(
     let lookup = Failing {
         asked: asked.clone()?,
     };
-    resolver.run(&lookup, &sleeper, &Some(handler));
+    resolver.run(&lookup, &sleeper, &Some(Handler::new(handler)));
     let asked = asked.load(Ordering::SeqCst);
-    Ok((resolver, asked, told.load(Ordering::SeqCst)))
+    Ok((resolver, asked))
 }
 
 #[test]
 fn a_failed_lookup_keeps_the_address_and_is_told_once(rt: HostRuntime) -> Result<(), Fail> {
-    let (resolver, asked, told) = run_until(rt.clone()?, rt.alloc(), 1)?;
-    assert_eq!(rt; (asked, told), (1, 1));
+    let told = Arc::new(rt.alloc(), AtomicU64::new(0))?;
+    let theirs = told.clone()?;
+    let handler: SinkErrorHandler = Box::new(rt.alloc(), move |_| {
+        theirs.fetch_add(1, Ordering::SeqCst);
+    })?;
+    let (resolver, asked) = run_until(rt.clone()?, rt.alloc(), 1, handler)?;
+    assert_eq!(rt; (asked, told.load(Ordering::SeqCst)), (1, 1));
     assert_eq!(rt; resolver.get_addr(), loopback(8125));
     assert_eq!(rt; (resolver.successes(), resolver.failures()), (0, 1));
     Ok(())
@@ -165,16 +164,26 @@ fn a_failed_lookup_keeps_the_address_and_is_told_once(rt: HostRuntime) -> Result
 
 #[test]
 fn a_stop_in_the_third_sleep_allows_three_lookups(rt: HostRuntime) -> Result<(), Fail> {
-    let (resolver, asked, told) = run_until(rt.clone()?, rt.alloc(), 3)?;
-    assert_eq!(rt; (asked, told), (3, 3));
+    let told = Arc::new(rt.alloc(), AtomicU64::new(0))?;
+    let theirs = told.clone()?;
+    let handler: SinkErrorHandler = Box::new(rt.alloc(), move |_| {
+        theirs.fetch_add(1, Ordering::SeqCst);
+    })?;
+    let (resolver, asked) = run_until(rt.clone()?, rt.alloc(), 3, handler)?;
+    assert_eq!(rt; (asked, told.load(Ordering::SeqCst)), (3, 3));
     assert_eq!(rt; resolver.failures(), 3);
     Ok(())
 }
 
 #[test]
 fn a_stop_before_the_run_allows_no_lookup(rt: HostRuntime) -> Result<(), Fail> {
-    let (resolver, asked, told) = run_until(rt.clone()?, rt.alloc(), 0)?;
-    assert_eq!(rt; (asked, told), (0, 0));
+    let told = Arc::new(rt.alloc(), AtomicU64::new(0))?;
+    let theirs = told.clone()?;
+    let handler: SinkErrorHandler = Box::new(rt.alloc(), move |_| {
+        theirs.fetch_add(1, Ordering::SeqCst);
+    })?;
+    let (resolver, asked) = run_until(rt.clone()?, rt.alloc(), 0, handler)?;
+    assert_eq!(rt; (asked, told.load(Ordering::SeqCst)), (0, 0));
     assert_eq!(rt; resolver.failures(), 0);
     Ok(())
 }

@@ -156,28 +156,6 @@ fn a_builder_makes_a_buffered_sink_that_looks_up(rt: HostRuntime) -> Result<(), 
     Ok(())
 }
 
-#[test]
-fn each_request_of_a_builder_refused(rt: HostRuntime) -> Result<(), Fail> {
-    let server = on_loopback(&rt)?;
-    for granted in 0..16u64 {
-        let heap = Refusing::after(rt.alloc(), rt.alloc(), granted)?;
-        let target = Target::Addr(server.local_addr()?);
-        let made = BufferedUdpMetricSinkBuilder::new()
-            .with_resolver_period(Duration::from_millis(1))
-            .build(rt.clone()?, heap, target, on_loopback(&rt)?);
-        match made {
-            Ok(sink) => {
-                assert!(rt; matches!(sink.emit("buz:1|m"), Ok(7)));
-                assert!(rt; granted > 3);
-                return Ok(());
-            }
-            Err(MetricError::Sink(SinkError::OutOfMemory)) => {}
-            Err(_) => return Err(Fail::new("another error")),
-        }
-    }
-    Err(Fail::new("always refused"))
-}
-
 // Waits until a handler has counted a call, five seconds at most.
 fn wait_for_a_call<R: Clock>(rt: &R, calls: &AtomicU64) -> bool {
     for _ in 0..5000u64 {
@@ -187,6 +165,36 @@ fn wait_for_a_call<R: Clock>(rt: &R, calls: &AtomicU64) -> bool {
         thread::sleep(rt, Duration::from_millis(1));
     }
     false
+}
+
+#[test]
+fn each_request_of_a_builder_refused(rt: HostRuntime) -> Result<(), Fail> {
+    let server = on_loopback(&rt)?;
+    for granted in 0..16u64 {
+        let heap = Refusing::after(rt.alloc(), rt.alloc(), granted)?;
+        let calls = Arc::new(rt.alloc(), AtomicU64::new(0))?;
+        let theirs = calls.clone()?;
+        let handler: SinkErrorHandler = Box::new(rt.alloc(), move |_| {
+            theirs.fetch_add(1, Ordering::SeqCst);
+        })?;
+        let target = Target::Addr(server.local_addr()?);
+        let made = BufferedUdpMetricSinkBuilder::new()
+            .with_resolver_period(Duration::from_millis(1))
+            .with_resolver_error_handler(handler)
+            .build(rt.clone()?, heap, target, on_loopback(&rt)?);
+        match made {
+            Ok(sink) => {
+                assert!(rt; matches!(sink.emit("buz:1|m"), Ok(7)));
+                assert!(rt; granted > 3);
+                // the next request that is refused is that of a later lookup
+                assert!(rt; wait_for_a_call(&rt, &calls));
+                return Ok(());
+            }
+            Err(MetricError::Sink(SinkError::OutOfMemory)) => {}
+            Err(_) => return Err(Fail::new("another error")),
+        }
+    }
+    Err(Fail::new("always refused"))
 }
 
 #[test]
