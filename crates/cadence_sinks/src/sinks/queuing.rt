@@ -53,12 +53,13 @@ impl<S: MetricSink, R: Wait + Drop, A: Allocator> Worklist for QueueWorklist<S, 
     }
 }
 
-// Work for a thread of its own, which gets a part of what it needs.
+// Work for a thread of its own. A part of what it needs comes beside it: with the handler inside the worker's type, the
+// check doesn't find that a thread may own the worker.
 trait Job<P>: Drop {
     fn run(self, part: P);
 }
 
-// What a worker needs beside the handler.
+// What the worker needs beside the handler.
 #[derive(Drop)]
 struct Worker<S: MetricSink, R: Wait + Drop, A: Allocator> {
     rt: R,

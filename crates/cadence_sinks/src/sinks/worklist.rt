@@ -7,8 +7,8 @@ use std::sync::Wait;
 /// the texts that it gave, those that were handed on, whether it told the end, and whether it tells all this, which no
 /// call changes: one whose texts come from another thread doesn't tell.
 pub trait Worklist {
-    /// A text, as a `String`. It needn't be `Drop` or `Clone`: `work` can neither lose one nor have it twice.
-    type Text;
+    /// A text, as a `String`. It needn't be `Clone`, so `work` can't have one twice.
+    type Text: Drop;
 
     /// The texts given, in order.
     ghost given: { Self → List Self.Text };
