@@ -2,6 +2,7 @@
 
 use crate::arguments::Arguments;
 use anyhow::Result;
+use std::sync::atomic::{AtomicU64, Ordering};
 use std::time::Duration;
 
 /// What the measured part of a mode did.
@@ -15,10 +16,35 @@ pub struct Done {
     pub packets: Option<u64>,
 }
 
-/// The value, which the compiler doesn't see through.
-#[inline(never)]
-pub fn black_box<T: Copy>(value: T) -> T {
-    value
+/// Keeps the compiler from knowing a value: it can't tell what a shared number holds.
+#[derive(Drop)]
+pub struct BlackBox {
+    zero: AtomicU64,
+}
+
+impl BlackBox {
+    /// A box for any number of values.
+    pub fn new() -> BlackBox {
+        BlackBox {
+            zero: AtomicU64::new(0),
+        }
+    }
+
+    /// The value. The other one is never given.
+    #[inline]
+    pub fn hide<T: Copy>(&self, value: T, other: T) -> T {
+        if self.zero.load(Ordering::SeqCst) == 0 {
+            value
+        } else {
+            other
+        }
+    }
+
+    /// The text.
+    #[inline]
+    pub fn text<'a>(&self, text: &'a str) -> &'a str {
+        self.hide(text, "")
+    }
 }
 
 /// Tells the check on standard output, and the time of a call in nanoseconds on standard error.

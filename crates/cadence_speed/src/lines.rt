@@ -1,6 +1,6 @@
 //! Calls of a client.
 
-use crate::done::{Done, black_box};
+use crate::done::{BlackBox, Done};
 use anyhow::Result;
 use cadence::prelude::*;
 use cadence::{Metric, StatsdClient};
@@ -8,10 +8,14 @@ use std::time::Instant;
 
 /// A counter without tags.
 pub fn count(rt: &HostRuntime, client: &StatsdClient, calls: u64) -> Result<Done> {
+    let hidden = BlackBox::new();
     let mut check = 0u64;
     let start = Instant::now(rt)?;
     for i in 0..calls {
-        let metric = client.count(black_box("some.counter"), black_box((i % 1000) as i64))?;
+        let metric = client.count(
+            hidden.text("some.counter"),
+            hidden.hide((i % 1000) as i64, 0),
+        )?;
         check = check.wrapping_add(metric.as_metric_str().len() as u64);
     }
     Ok(Done {
@@ -23,14 +27,18 @@ pub fn count(rt: &HostRuntime, client: &StatsdClient, calls: u64) -> Result<Done
 
 /// A counter with three tags of the call's own, two of them with a key.
 pub fn count_tags(rt: &HostRuntime, client: &StatsdClient, calls: u64) -> Result<Done> {
+    let hidden = BlackBox::new();
     let mut check = 0u64;
     let start = Instant::now(rt)?;
     for i in 0..calls {
         let metric = client
-            .count_with_tags(black_box("some.counter"), black_box((i % 1000) as i64))
-            .with_tag(black_box("host"), black_box("web03.example.com"))
-            .with_tag(black_box("region"), black_box("us-east-2"))
-            .with_tag_value(black_box("beta"))
+            .count_with_tags(
+                hidden.text("some.counter"),
+                hidden.hide((i % 1000) as i64, 0),
+            )
+            .with_tag(hidden.text("host"), hidden.text("web03.example.com"))
+            .with_tag(hidden.text("region"), hidden.text("us-east-2"))
+            .with_tag_value(hidden.text("beta"))
             .try_send()?;
         check = check.wrapping_add(metric.as_metric_str().len() as u64);
     }
@@ -43,12 +51,16 @@ pub fn count_tags(rt: &HostRuntime, client: &StatsdClient, calls: u64) -> Result
 
 /// A histogram of four values.
 pub fn histogram4(rt: &HostRuntime, client: &StatsdClient, calls: u64) -> Result<Done> {
+    let hidden = BlackBox::new();
     let mut check = 0u64;
     let start = Instant::now(rt)?;
     for i in 0..calls {
-        let v = i % 1000;
-        let values = Vec::from_slice(rt.alloc(), &[v, v + 1, v + 2, v + 3])?;
-        let metric = client.histogram(black_box("some.histogram"), values)?;
+        let v = hidden.hide(i % 1000, 0);
+        let values = Vec::from_slice(
+            rt.alloc(),
+            &[v, v.wrapping_add(1), v.wrapping_add(2), v.wrapping_add(3)],
+        )?;
+        let metric = client.histogram(hidden.text("some.histogram"), values)?;
         check = check.wrapping_add(metric.as_metric_str().len() as u64);
     }
     Ok(Done {

@@ -2,7 +2,7 @@
 
 use crate::arguments::Arguments;
 use crate::counting::Counting;
-use crate::done::{Done, black_box};
+use crate::done::{BlackBox, Done};
 use anyhow::Result;
 use cadence::ext::MultiLineWriter;
 use std::alloc::{AllocError, Global};
@@ -28,9 +28,10 @@ pub fn packer(rt: &HostRuntime, arguments: &Arguments) -> Result<Done> {
     let Ok(mut writer) = MultiLineWriter::new(rt.alloc(), counting, arguments.capacity) else {
         return Err(AllocError.into());
     };
+    let hidden = BlackBox::new();
     let start = Instant::now(rt)?;
     for _ in 0..arguments.calls {
-        writer.write(black_box(line.as_str()).as_bytes())?;
+        writer.write(hidden.text(&line).as_bytes())?;
     }
     writer.flush()?;
     let time = start.elapsed(rt)?;
