@@ -1,15 +1,14 @@
 -- What one turn more does to what a history says.
-use Rattle.std.proofs.Common.{◌≡◌, ◌≢◌, ℕ, zero, suc, zero-le, ◌+◌, ◌-◌, ◌<◌, ◌≤◌, List, [], ◌∷◌, ◌++◌, Option, Some, None, Ok, Err, Bool, true, false, length, refl, sym, ap, ◌∙◌, arith, subst, cond, ◌||◌, map}
-use Rattle.std.specs.Prelude.{count_by, slice_get}
-use Rattle.std.specs.List.{flat_map, list_any}
-use Rattle.std.proofs.lemmas.List.{append-nil, append_assoc, length-append, map-append}
+use Rattle.std.proofs.Common.{◌≡◌, ℕ, zero-le, ◌+◌, ◌≤◌, List, [], ◌∷◌, ◌++◌, Option, Some, None, Bool, true, false, length, refl, sym, ap, ◌∙◌, arith, subst, cond, ◌||◌}
+use Rattle.std.specs.Prelude.{slice_get}
+use Rattle.std.proofs.lemmas.List.{append-nil, append_assoc}
 use Rattle.std.proofs.lemmas.List.Concat.{flat_map-append}
 use Rattle.std.proofs.lemmas.List.Sums.{sum_by_push}
 use Rattle.std.proofs.lemmas.List.Folds.{list_any-append}
 use Rattle.cadence_flow.specs.Frame.{Format}
 use Rattle.cadence_text.specs.declared.types.errors.SinkError.{SinkError}
 use Rattle.cadence.specs.declared.schedule.call.Call.{Call}
-use Rattle.cadence.specs.History.{Turn, answered, taken, takes_text, outcomes, outcome_by, handed_on, stops, is_stopped, errors, is_error, accepted, accepted_by, kept, kept_counts, in_hand, places_after, marks, mark_at, refusals, refusal_at}
+use Rattle.cadence.specs.History.{Turn, answered, taken, takes_text, outcomes, outcome_by, stops, is_stopped, errors, is_error, accepted, accepted_by, kept, places_after, marks, mark_at, refusals, refusal_at}
 use Rattle.cadence.specs.Replies.{MayReply, MayReplyAfter}
 
 or_no : (b : Bool) → (b || false) ≡ b

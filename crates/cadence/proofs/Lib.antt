@@ -3,6 +3,7 @@ pub mod Cutting
 pub mod Ends
 pub mod Growing
 pub mod KeptLines
+pub mod KeptMetrics
 pub mod LineFilled
 pub mod PacketTurns
 pub mod PlanAhead
@@ -10,6 +11,7 @@ pub mod PlanChecks
 pub mod PlanSteps
 pub mod PrefixLemmas
 pub mod QueueTurns
+pub mod Reading
 pub mod RunFacts
 pub mod RunTurns
 pub mod SendingLemmas

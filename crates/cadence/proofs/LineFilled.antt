@@ -1,27 +1,18 @@
 -- The line of a call is never empty.
-use Rattle.std.proofs.Common.{◌≡◌, ◌≢◌, ℕ, ◌<◌, List, [], ◌++◌, Option, Some, None, length, ap, arith}
-use Rattle.std.specs.Prelude.{codes}
+use Rattle.std.proofs.Common.{◌≡◌, ◌≢◌, ℕ, ◌<◌, List, [], Option, Some, None, length, ap, arith}
 use Rattle.std.specs.Option.{option_map}
-use Rattle.std.proofs.lemmas.List.{length-append}
-use Rattle.cadence_text.specs.Line.{line_of, numbers_text, kind_text, rate_field, tags_field, container_field, time_field}
+use Rattle.cadence_text.specs.Line.{line_of}
 use Rattle.cadence_text.specs.Metric.{Metric}
 use Rattle.cadence.specs.declared.schedule.call.Call.{Call}
 use Rattle.cadence.specs.Calls.{line_of_data, metric_of_data}
 use Rattle.cadence.specs.Settings.{Settings}
 
-after_name : (name rest : List ℕ) → 0 < length (name ++ (codes ":" ++ rest))
-after_name name rest = omega (arith, length-append name (codes ":" ++ rest), length-append (codes ":") rest)
+module _ (law : (metric : Metric) → 0 < length (line_of metric)) where
+  by_metric : (m : Option Metric) (line : List ℕ) → option_map line_of m ≡ Some line → line ≢ []
+  by_metric None line e none = absurd cc
+  by_metric (Some m) line e none =
+      let same : line_of m ≡ line = cc in
+      absurd (omega (arith, law m, ap (λ l. length l) same, ap (λ l. length l) none))
 
-metric_filled : (m : Metric) → 0 < length (line_of m)
-unfolding line_of
-metric_filled m = after_name m.name (numbers_text m.numbers ++ (codes "|" ++ (kind_text m.kind
-    ++ (rate_field m.rate ++ (tags_field m.tags ++ (container_field m.container ++ time_field m.time))))))
-
-by_metric : (m : Option Metric) (line : List ℕ) → option_map line_of m ≡ Some line → line ≢ []
-by_metric None line e none = absurd cc
-by_metric (Some m) line e none =
-    let same : line_of m ≡ line = cc in
-    absurd (omega (arith, metric_filled m, ap (λ l. length l) same, ap (λ l. length l) none))
-
-pub line_filled : {Z : Type 0} (settings : Settings) (c : Call Z) (line : List ℕ) → line_of_data settings c ≡ Some line → line ≢ []
-line_filled settings c line e = by_metric (metric_of_data settings c) line e
+  pub line_filled : {Z : Type 0} (settings : Settings) (c : Call Z) (line : List ℕ) → line_of_data settings c ≡ Some line → line ≢ []
+  line_filled settings c line e = by_metric (metric_of_data settings c) line e

@@ -1,16 +1,16 @@
 -- What the packer's writes and flushes do to the cut of the kept lines.
-use Rattle.std.proofs.Common.{◌≡◌, ◌≢◌, ℕ, zero, suc, zero-le, ◌+◌, ◌-◌, ◌%◌, ◌^◌, ◌<◌, ◌≤◌, ◌⊎◌, List, [], ◌∷◌, ◌++◌, Option, Some, None, Ok, Err, Result, Bool, true, false, length, refl, sym, ap, ◌∙◌, arith, subst, map, sum, inl, inr, ⊎_elim}
+use Rattle.std.proofs.Common.{◌≡◌, ◌≢◌, ℕ, ◌+◌, ◌<◌, ◌≤◌, ◌⊎◌, List, [], ◌∷◌, ◌++◌, Ok, Err, true, false, length, refl, sym, ap, ◌∙◌, arith, subst, map, sum, inl, inr, ⊎_elim}
 use Rattle.std.specs.Prelude.{Contains, nat_le}
 use Rattle.std.proofs.lemmas.List.{append-nil, append_assoc, length-append, map-append, same_from_push}
 use Rattle.std.proofs.lemmas.Bool.{cases_lt, lt-ltb, le-ltb, le-leb, lt-leb}
 use Rattle.cadence_text.specs.declared.types.errors.SinkError.{SinkError}
-use Rattle.cadence_flow.specs.Frame.{Format, size_of, is_oversize, frame, stream}
-use Rattle.cadence_flow.specs.Packer.{Writes, Flushes, closed_packets}
+use Rattle.cadence_flow.specs.Frame.{Format, size_of, is_oversize, frame}
+use Rattle.cadence_flow.specs.Packer.{Writes, closed_packets}
 use Rattle.cadence_flow.specs.Writer.{History, Kind}
 use Rattle.cadence.specs.Plan.{PassesWithNext}
 use Rattle.cadence.specs.Packets.{held_packet}
 use Rattle.cadence.specs.Moves.{HasLast, Counted, CountsLine, joins_held}
-use Rattle.cadence.proofs.Cutting.{IsCutSoFar, new_group, joins_group, marks_flush, refuses_line, last_held, held_last, frame_within, frame_past, held_packet_is, nil_front}
+use Rattle.cadence.proofs.Cutting.{IsCutSoFar, new_group, joins_group, refuses_line, last_held, held_last, frame_within, frame_past, held_packet_is, nil_front}
 
 -- a line that was written: it joins the held text, or what was held goes out before it
 abbrev pub Written : Format → List ℕ → List ℕ → List (List ℕ) → List ℕ → List ℕ → List (List ℕ) → List ℕ → Type 0

@@ -1,10 +1,9 @@
 -- The queue and the hand after any turns, by what the history says.
-use Rattle.std.proofs.Common.{◌≡◌, ◌≢◌, ℕ, zero, suc, zero-le, ◌+◌, ◌-◌, ◌%◌, ◌^◌, ◌<◌, ◌≤◌, ◌⊎◌, List, [], ◌∷◌, ◌++◌, Option, Some, None, Ok, Err, Result, Bool, true, false, length, drop, refl, sym, ap, ◌∙◌, arith, subst, cond, ◌||◌, ltb, ⊎_elim}
-use Rattle.std.specs.Prelude.{slice_get, ◌==◌, leb}
+use Rattle.std.proofs.Common.{◌≡◌, ◌≢◌, ℕ, zero, suc, zero-le, ◌+◌, ◌%◌, ◌^◌, ◌<◌, ◌≤◌, List, [], ◌∷◌, ◌++◌, Option, Some, None, Ok, Err, Result, Bool, true, false, length, drop, refl, sym, ap, ◌∙◌, arith, subst, cond, ◌||◌, ⊎_elim}
+use Rattle.std.specs.Prelude.{slice_get, ◌==◌}
 use Rattle.std.specs.Option.{option_to_list, option_map_or}
-use Rattle.std.proofs.lemmas.List.{append-nil, append_assoc, length-append, length-drop, drop-append-le}
-use Rattle.std.proofs.lemmas.Bool.{cases_lt, cond-true, cond-false, eq-eqb, ne_eqb, eqb-true, le-leb, lt-leb, leb-false, cases_eq}
-use Rattle.std.proofs.lemmas.Option.{slice_get_past}
+use Rattle.std.proofs.lemmas.List.{append-nil, length-append, drop-append-le}
+use Rattle.std.proofs.lemmas.Bool.{cases_lt, cond-true, cond-false, eq-eqb, ne_eqb, le-leb, lt-leb, leb-false, cases_eq}
 use Rattle.cadence_text.specs.declared.types.errors.MetricError.{MetricError}
 use Rattle.cadence_flow.specs.Queue.{at_capacity}
 use Rattle.cadence_flow.specs.QueueState.{IsWithin}

@@ -1,28 +1,27 @@
 -- What a whole run shows, from what holds after its turns.
-use Rattle.std.proofs.Common.{◌≡◌, ◌≢◌, ℕ, zero, suc, zero-le, ◌+◌, ◌*◌, ◌-◌, ◌%◌, ◌^◌, ◌<◌, ◌≤◌, List, [], ◌∷◌, ◌++◌, Option, Some, None, Ok, Err, Bool, true, false, length, drop, refl, sym, ap, ◌∙◌, arith, subst, cond, map}
-use Rattle.std.specs.List.{concat, flat_map}
+use Rattle.std.proofs.Common.{◌≡◌, ◌≢◌, ℕ, zero-le, ◌+◌, ◌%◌, ◌^◌, ◌<◌, ◌≤◌, List, [], ◌∷◌, ◌++◌, Option, Some, None, Ok, Err, Bool, true, false, length, drop, refl, sym, ap, ◌∙◌, arith, subst, cond, map}
+use Rattle.std.specs.List.{concat}
 use Rattle.std.specs.Option.{option_to_list}
 use Rattle.std.proofs.lemmas.List.{append-nil, append_assoc, length-append, drop_at}
 use Rattle.std.proofs.lemmas.List.Concat.{flat_map-append}
 use Rattle.std.proofs.lemmas.List.Folds.{concat-append}
 use Rattle.std.proofs.lemmas.List.Sums.{sum_by-cons}
 use Rattle.cadence_flow.specs.Frame.{Format, size_of, frame, stream}
-use Rattle.cadence_flow.specs.Packer.{whole_text}
-use Rattle.cadence_flow.specs.Sums.{less, sums_since, start_of, counted_kind, start_if, zero_sums}
+use Rattle.cadence_flow.specs.Sums.{less, start_of, counted_kind, start_if, zero_sums}
 use Rattle.cadence_flow.specs.Writer.{History, Kind, Extends}
 use Rattle.cadence_flow.specs.declared.stats.SinkStats.{SinkStats}
 use Rattle.cadence.specs.declared.schedule.call.Call.{Call}
 use Rattle.cadence.specs.declared.schedule.steps.Step.TheVariants as step
 use Rattle.cadence.specs.declared.schedule.steps.Reply.TheVariants as reply
 use Rattle.cadence.specs.Headline.{packets_between, AreSumsBetween}
-use Rattle.cadence.specs.History.{Turn, accepted, accepted_by, taken, kept, kept_counts, errors, is_error, marks, refusals, refusal_at, places_after, outcomes, handed_on}
+use Rattle.cadence.specs.History.{Turn, accepted, accepted_by, taken, kept, kept_counts, errors, is_error, marks, refusals, refusal_at, places_after}
 use Rattle.cadence.specs.Packets.{held_packet, ArePacketsOf}
-use Rattle.cadence.specs.Plan.{groups_of, IsTight, IsFewest, IsCutLate}
+use Rattle.cadence.specs.Plan.{groups_of, IsTight, IsCutLate}
 use Rattle.cadence.specs.Stream.{taken_stream}
 use Rattle.cadence.specs.Moves.{State, Runs, at_start}
 use Rattle.cadence.proofs.Ends.{joined}
 use Rattle.cadence.proofs.Shown.{shown, shown_late}
-use Rattle.cadence.proofs.Turns.{After, CutAfter, TextAfter, after}
+use Rattle.cadence.proofs.Turns.{After, after}
 
 -- the packets joined, then the held text
 joined_packets : (packets : List (List ℕ)) (held : List ℕ) → concat (packets ++ held_packet held) ≡ concat packets ++ held

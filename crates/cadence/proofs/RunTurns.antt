@@ -1,5 +1,5 @@
 -- A run with one turn more.
-use Rattle.std.proofs.Common.{◌≡◌, ℕ, ◌+◌, ◌<◌, ◌≤◌, List, [], ◌∷◌, ◌++◌, Option, length, take, refl, sym, ap, ◌∙◌, arith, subst}
+use Rattle.std.proofs.Common.{◌≡◌, ℕ, List, [], ◌∷◌, ◌++◌, Option, length, refl, sym, ap, ◌∙◌, arith, subst}
 use Rattle.std.specs.List.{zip}
 use Rattle.cadence_flow.specs.Frame.{Format}
 use Rattle.cadence_flow.specs.Writer.{Kind}

@@ -1,16 +1,16 @@
 -- A cut so far, by the lengths of its groups.
-use Rattle.std.proofs.Common.{◌≡◌, ℕ, zero, suc, zero-le, ◌+◌, ◌<◌, ◌≤◌, List, [], ◌∷◌, ◌++◌, length, take, drop, get_or, refl, sym, ap, ◌∙◌, arith, subst, map, sum, All}
+use Rattle.std.proofs.Common.{◌≡◌, ℕ, ◌<◌, List, [], ◌∷◌, ◌++◌, length, take, drop, get_or, refl, sym, ap, ◌∙◌, arith, subst, map, sum}
 use Rattle.std.specs.Prelude.{Contains}
-use Rattle.std.specs.List.{flat_map, AllByRecursion, concat}
+use Rattle.std.specs.List.{AllByRecursion, concat}
 use Rattle.std.proofs.lemmas.List.{length-append, length-map, take-map, drop-map, map-append}
 use Rattle.std.proofs.lemmas.List.Sums.{sum_by-cons}
 use Rattle.std.proofs.lemmas.List.Elements.{All-from_recursion, Contains-get_or, Contains-append_left, Contains-append_right}
 use Rattle.std.proofs.lemmas.Bool.{ltb-true, ltb-false}
-use Rattle.cadence.specs.Plan.{groups_of, FitsPacket, PassesWithNext, IsAdmissible, IsCutLate, EndsAt}
-use Rattle.cadence_flow.specs.Frame.{Format, size_of, is_oversize, frame, stream}
+use Rattle.cadence.specs.Plan.{groups_of, FitsPacket, PassesWithNext, IsAdmissible, IsCutLate}
+use Rattle.cadence_flow.specs.Frame.{Format, size_of, stream}
 use Rattle.cadence.specs.Packets.{ArePacketsOf}
 use Rattle.cadence.proofs.Ends.{joined, groups_of-lengths}
-use Rattle.cadence.proofs.Cutting.{IsCutSoFar, LateLines}
+use Rattle.cadence.proofs.Cutting.{IsCutSoFar}
 
 -- a map of the list is cut as the list is
 groups_of-map : {X Y : Type 0} (f : X → Y) (plan : List ℕ) (xs : List X) → groups_of plan (map f xs) ≡ map (map f) (groups_of plan xs)

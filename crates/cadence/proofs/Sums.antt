@@ -3,9 +3,9 @@ use Rattle.std.proofs.Common.{◌≡◌, ℕ, ◌+◌, ◌%◌, ◌^◌, ◌<◌
 use Rattle.std.proofs.lemmas.List.Folds.{concat-append}
 use Rattle.std.proofs.lemmas.List.{append-nil}
 use Rattle.std.specs.List.{concat}
-use Rattle.cadence_flow.specs.Writer.{History, Kind, after_packet, after_refusal}
+use Rattle.cadence_flow.specs.Writer.{History, Kind, after_packet}
 use Rattle.cadence_flow.specs.declared.stats.SinkStats.{SinkStats}
-use Rattle.cadence_flow.specs.Sums.{less, sums_since, start_of, start_if, counted_kind, after_taken, after_refused}
+use Rattle.cadence_flow.specs.Sums.{less, sums_since, start_of, start_if, counted_kind}
 
 -- n more on both sides
 less_more : (s b n : ℕ) → less ((s + n) % 2 ^ 64) (b + n) ≡ less s b

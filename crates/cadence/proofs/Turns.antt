@@ -1,23 +1,23 @@
 -- Each turn keeps what is right of a run.
-use Rattle.std.proofs.Common.{◌≡◌, ◌≢◌, ℕ, zero, suc, zero-le, ◌+◌, ◌-◌, ◌%◌, ◌^◌, ◌<◌, ◌≤◌, ◌⊎◌, List, [], ◌∷◌, ◌++◌, Option, Some, None, Ok, Err, Result, Bool, true, false, length, drop, refl, sym, ap, ◌∙◌, arith, subst, cond, map, inl, inr, ⊎_elim}
+use Rattle.std.proofs.Common.{◌≡◌, ◌≢◌, ℕ, ◌+◌, ◌-◌, ◌%◌, ◌^◌, ◌<◌, ◌≤◌, List, [], ◌∷◌, ◌++◌, Option, Some, None, Ok, Err, Result, Bool, true, false, length, refl, sym, ap, ◌∙◌, arith, subst, cond, map, inl, inr}
 use Rattle.std.specs.Prelude.{slice_get, ◌==◌}
-use Rattle.std.specs.List.{concat, flat_map}
+use Rattle.std.specs.List.{concat}
 use Rattle.std.specs.Option.{option_to_list, option_map_or}
 use Rattle.std.proofs.lemmas.List.{append-nil, append_assoc, length-append, length-drop, map-append}
 use Rattle.std.proofs.lemmas.List.Concat.{flat_map-append}
 use Rattle.std.proofs.lemmas.Option.{slice_get_past}
 use Rattle.cadence_text.specs.declared.types.errors.MetricError.{MetricError}
 use Rattle.cadence_text.specs.declared.types.errors.SinkError.{SinkError}
-use Rattle.cadence_flow.specs.Frame.{Format, size_of, is_oversize, frame, frame_of, stream}
-use Rattle.cadence_flow.specs.Packer.{Writes, Flushes, HasCause, whole_text, closed_packets}
+use Rattle.cadence_flow.specs.Frame.{Format, frame_of}
+use Rattle.cadence_flow.specs.Packer.{Writes, Flushes, HasCause, whole_text}
 use Rattle.cadence_flow.specs.Queue.{at_capacity}
 use Rattle.cadence_flow.specs.Writer.{History, Kind, Extends}
 use Rattle.cadence.specs.declared.schedule.call.Call.{Call}
 use Rattle.cadence.specs.declared.schedule.steps.Step.TheVariants as step
 use Rattle.cadence.specs.declared.schedule.steps.Reply.{Reply}
 use Rattle.cadence.specs.declared.schedule.steps.Reply.TheVariants as reply
-use Rattle.cadence.specs.History.{Turn, taken, takes_text, outcomes, outcome_by, handed_on, stops, is_stopped, errors, is_error, accepted, accepted_by, kept, kept_counts, in_hand, marks, mark_at, refusals, refusal_at}
-use Rattle.cadence.specs.Replies.{CallReplies, TakeReplies, HandReplies, IsCount, MayFail, MayReply, MayReplyAfter}
+use Rattle.cadence.specs.History.{Turn, taken, takes_text, outcome_by, handed_on, stops, is_stopped, errors, is_error, accepted, accepted_by, kept, kept_counts, in_hand, marks, mark_at, refusals, refusal_at}
+use Rattle.cadence.specs.Replies.{CallReplies, TakeReplies, HandReplies, MayFail, MayReply, MayReplyAfter}
 use Rattle.cadence.specs.Packets.{held_packet}
 use Rattle.cadence.specs.Stream.{taken_stream}
 use Rattle.cadence.specs.Moves.{State, Moves, Runs, HasLast, CountsLine, at_start}

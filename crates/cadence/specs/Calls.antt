@@ -1,5 +1,5 @@
 -- Calls that are kept as data: their kind, their numbers, and their line.
-use Rattle.std.specs.Prelude.{ℕ, pos, Option, None, Some, List, [], ◌∷◌, map, string_bytes}
+use Rattle.std.specs.Prelude.{ℕ, Option, None, Some, List, [], ◌∷◌, map, string_bytes}
 use Rattle.std.specs.Option.{option_map}
 use Rattle.cadence_text.specs.declared.line.MetricType.{MetricType}
 use Rattle.cadence_text.specs.declared.line.MetricType.TheVariants.{Counter, Timer, Gauge, Meter, Histogram, Set, Distribution}
@@ -13,7 +13,7 @@ use Rattle.cadence.specs.declared.schedule.call.CallOption.TheVariants.{Tag, Tag
 use Rattle.cadence.specs.declared.schedule.call.CallValue.{CallValue}
 use Rattle.cadence.specs.declared.schedule.call.CallValue.TheVariants.{CountI64, CountI32, CountU64, CountU32, TimeU64, TimeVecU64, TimeDuration, TimeVecDuration, GaugeU64, GaugeDecimal, MeterU64, HistogramU64, HistogramDecimal, HistogramDuration, HistogramVecU64, HistogramVecDecimal, HistogramVecDuration, DistributionU64, DistributionDecimal, DistributionVecU64, DistributionVecDecimal, SetI64}
 use Rattle.cadence.specs.Call.{Choice, tagged, contained, timed, rated, MetricCall, metric_of_call}
-use Rattle.cadence.specs.Settings.{Settings}
+use Rattle.cadence.specs.Settings.{Settings, keyed, unkeyed}
 
 abbrev pub kind_of_value : {Z : Type 0} → CallValue Z → MetricType
 kind_of_value (CountI64 n) = Counter
@@ -65,8 +65,8 @@ numbers_of_value (DistributionVecDecimal ds) = Some ds.items
 numbers_of_value (SetI64 n) = Some (whole n ∷ [])
 
 abbrev pub choice_of : {Z : Type 0} → CallOption Z → Choice
-choice_of (Tag key text) = tagged (record { key = Some (string_bytes key); text = string_bytes text })
-choice_of (TagValue text) = tagged (record { key = None; text = string_bytes text })
+choice_of (Tag key text) = tagged (keyed (string_bytes key) (string_bytes text))
+choice_of (TagValue text) = tagged (unkeyed (string_bytes text))
 choice_of (Container text) = contained (string_bytes text)
 choice_of (Time n) = timed n
 choice_of (Rate r) = rated r

@@ -1,5 +1,5 @@
 -- What is promised of a run.
-use Rattle.std.specs.Prelude.{◌≡◌, ℕ, ◌+◌, ◌%◌, ◌^◌, List, [], ◌++◌, Option, Bool, true, length, map, drop, string_bytes}
+use Rattle.std.specs.Prelude.{◌≡◌, ℕ, ◌+◌, ◌%◌, ◌^◌, List, [], ◌++◌, Option, true, length, map, drop, string_bytes}
 use Rattle.std.specs.List.{concat, zip}
 use Rattle.cadence_flow.specs.Frame.{Format, size_of, stream}
 use Rattle.cadence_flow.specs.Writer.{History, Kind, Extends}
@@ -7,7 +7,6 @@ use Rattle.cadence_flow.specs.declared.stats.SinkStats.{SinkStats}
 use Rattle.cadence.specs.declared.schedule.call.Call.{Call}
 use Rattle.cadence.specs.declared.schedule.reports.Report.{Report}
 use Rattle.cadence.specs.declared.schedule.steps.Step.{Step}
-use Rattle.cadence.specs.declared.schedule.steps.Reply.{Reply}
 use Rattle.cadence.specs.History.{Turn, accepted, taken, kept, kept_counts, in_hand, is_stopped, errors, marks, refusals}
 use Rattle.cadence.specs.Packets.{ArePacketsOf}
 use Rattle.cadence.specs.Plan.{groups_of, IsTight, IsFewest, IsCutLate}

@@ -59,26 +59,26 @@ module _ {A : Type 0} where
   abbrev pub errors : List (Turn A) → ℕ
   errors history = count_by is_error history
 
--- what a history says of lines, by the line of each call
-module _ {A : Type 0} (line_of : Call A → Option (List ℕ)) where
-  abbrev pub accepted_by : Turn A → List (List ℕ)
+-- what a history says of lines, by the line of each call; or of metrics, by the metric of each call
+module _ {A X : Type 0} (line_of : Call A → Option X) where
+  abbrev pub accepted_by : Turn A → List X
   accepted_by (step.Call call, reply.Called (Ok n)) = option_to_list (line_of call)
   accepted_by _ = []
 
   -- the lines of the calls that were answered Ok, in order
-  abbrev pub accepted : List (Turn A) → List (List ℕ)
+  abbrev pub accepted : List (Turn A) → List X
   accepted history = flat_map accepted_by history
 
   -- the lines that were handed on and answered Ok, in order, each with the count that was answered
-  abbrev pub kept_counts : List (Turn A) → List (List ℕ × ℕ)
+  abbrev pub kept_counts : List (Turn A) → List (X × ℕ)
   kept_counts history = answered (accepted history) (outcomes history)
 
   -- the lines that were handed on and answered Ok, in order
-  abbrev pub kept : List (Turn A) → List (List ℕ)
+  abbrev pub kept : List (Turn A) → List X
   kept history = map (λ k. k.0) (kept_counts history)
 
   -- the line that was taken last and is not yet handed on
-  abbrev pub in_hand : List (Turn A) → Option (List ℕ)
+  abbrev pub in_hand : List (Turn A) → Option X
   in_hand history =
       if taken history == handed_on history + 1 then slice_get (accepted history) (handed_on history) else None
 

@@ -6,6 +6,7 @@ pub mod Moves
 pub mod Packets
 pub mod Plan
 pub mod PlanGroup
+pub mod Reading
 pub mod Replies
 pub mod Report
 pub mod Running

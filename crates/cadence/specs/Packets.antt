@@ -1,5 +1,5 @@
 -- The packets of a cut of lines.
-use Rattle.std.specs.Prelude.{◌≡◌, ◌≢◌, ℕ, ◌<◌, ◌≤◌, Bool, true, false, List, [], ◌∷◌, ◌++◌, length, map, Contains}
+use Rattle.std.specs.Prelude.{◌≡◌, ◌≢◌, ℕ, true, false, List, [], ◌∷◌, ◌++◌, length, map, Contains}
 use Rattle.cadence_flow.specs.Frame.{Format, size_of, is_oversize, stream}
 use Rattle.cadence.specs.Plan.{groups_of, IsAdmissible}
 

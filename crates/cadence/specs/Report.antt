@@ -1,5 +1,5 @@
 -- What a report shows.
-use Rattle.std.specs.Prelude.{ℕ, List, Option, map, string_bytes}
+use Rattle.std.specs.Prelude.{ℕ, List, Option, string_bytes}
 use Rattle.std.specs.Option.{option_map}
 use Rattle.std.specs.declared.string.String.{String}
 use Rattle.cadence_flow.specs.QueueState.{Queue}

@@ -10,6 +10,13 @@ pub record Settings : Type 0 where
   pub tags : List Tag
   pub container : Option (List ℕ)
 
+-- a tag with a key, and one without
+abbrev pub keyed : List ℕ → List ℕ → Tag
+keyed key text = record { key = Some key; text = text }
+
+abbrev pub unkeyed : List ℕ → Tag
+unkeyed text = record { key = None; text = text }
+
 -- a byte before a text that has no trailing dots
 abbrev pub before_kept : ℕ → List ℕ → List ℕ
 before_kept c [] = if c == 46 then [] else c ∷ []

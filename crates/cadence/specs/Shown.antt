@@ -1,5 +1,5 @@
 -- What contracts show of a client and of its builders.
-use Rattle.std.specs.Prelude.{◌≡◌, Option, None, Some, Result}
+use Rattle.std.specs.Prelude.{◌≡◌, Option, Some, Result}
 use Rattle.std.specs.Option.{option_map}
 use Rattle.std.specs.declared.dyn_box.DynBox.{DynBox}
 use Rattle.cadence_text.specs.declared.types.errors.MetricError.{MetricError}

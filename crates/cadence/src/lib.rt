@@ -10,13 +10,17 @@ pub mod schedule;
 mod sealed;
 
 pub use cadence_flow::{io, queue, stats};
-pub use cadence_sinks::sinks;
+pub use cadence_sinks::{resolve, sinks};
 pub use cadence_text::{decimal, line, types, value};
 pub use client::{MetricBuilder, StatsdClient, StatsdClientBuilder};
 pub use prelude::{
     Counted, CountedExt, Distributed, Gauged, Histogrammed, Metered, MetricClient, Setted, Timed,
 };
-pub use sinks::{BufferedSpyMetricSink, MetricSink, NopMetricSink, SpyMetricSink};
+pub use sinks::{
+    BufferedSpyMetricSink, BufferedUdpMetricSink, BufferedUdpMetricSinkBuilder,
+    BufferedUnixMetricSink, MetricSink, NopMetricSink, QueuingMetricSink, QueuingMetricSinkBuilder,
+    SpyMetricSink, UdpMetricSink, UdpMetricSinkBuilder, UnixMetricSink,
+};
 pub use stats::SinkStats;
 pub use types::{
     Counter, Distribution, ErrorKind, Gauge, Histogram, Meter, Metric, MetricError, MetricResult,

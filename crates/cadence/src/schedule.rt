@@ -2,6 +2,7 @@
 
 pub mod call;
 mod counting;
+pub mod laws;
 pub mod plan;
 pub mod reports;
 pub mod run;
@@ -9,6 +10,7 @@ mod running;
 pub mod steps;
 
 pub use call::{Call, CallOption, CallValue};
+pub use laws::packets_read_one_way;
 pub use plan::{check_plan, plan_packets, tight_is_fewest};
 pub use reports::Report;
 pub use run::run_schedule;

@@ -1,3 +1,6 @@
+pub mod AuditDesk
+pub mod AuditHistory
+pub mod AuditSeats
 pub mod Frame
 pub mod Log
 pub mod Packer
@@ -6,5 +9,6 @@ pub mod QueueModel
 pub mod QueueRoom
 pub mod QueueState
 pub mod Sums
+pub mod TakenText
 pub mod Tests
 pub mod Writer

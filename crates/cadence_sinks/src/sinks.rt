@@ -1,10 +1,25 @@
 //! The sinks that a Statsd client sends its lines to.
 
+mod datagram;
+mod handler;
 mod metric_sink;
+mod queuing;
 mod spy;
+mod target;
+mod udp;
+mod unix;
+mod worklist;
 
+pub use handler::{Handler, SinkErrorHandler};
 pub use metric_sink::{MetricSink, NopMetricSink};
+pub use queuing::{QueuingMetricSink, QueuingMetricSinkBuilder};
 pub use spy::{BufferedSpyMetricSink, SpyMetricSink, SpyReceiver};
+pub use target::Target;
+pub use udp::{
+    BufferedUdpMetricSink, BufferedUdpMetricSinkBuilder, UdpMetricSink, UdpMetricSinkBuilder,
+};
+pub use unix::{BufferedUnixMetricSink, PathSocket, UnixMetricSink};
+pub use worklist::{Worklist, work};
 
 // The bytes that a buffered sink holds where none are given, as in cadence.
 const DEFAULT_BUFFER_SIZE: usize = 512;

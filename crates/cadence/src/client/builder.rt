@@ -1,6 +1,7 @@
 //! A metric that is being built.
-ghost use Rattle.std.specs.Prelude.{◌≡◌, Some, None};
+ghost use Rattle.std.specs.Prelude.{◌≡◌};
 ghost use Rattle.cadence.specs.Call.{tagged, contained, timed, rated};
+ghost use Rattle.cadence.specs.Settings.{keyed, unkeyed};
 ghost use Rattle.cadence.specs.Sending.{Chooses, ChoosesOrHolds, HasLine, MadeFrom, SentPending, StandsForMore};
 
 use crate::client::backend::MetricBackend;
@@ -62,8 +63,8 @@ impl<'m, 'c, T: Metric + From<String<C::Memory>>, C: MetricBackend> MetricBuilde
     /// Adds a tag with a key, after the default tags and the earlier ones. Holds want of memory where the list of
     /// tags can't grow.
     pub fn with_tag(mut self, key: &'m str, value: &'m str) -> Self
-        ensures pending { ChoosesOrHolds (pending_of self.entry) (tagged (record { key = Some key.now; text = value.now })) (pending_of result) }
-        ensures call { StandsForMore (pending_of self.entry) (tagged (record { key = Some key.now; text = value.now })) (pending_of result) }
+        ensures pending { ChoosesOrHolds (pending_of self.entry) (tagged (keyed key.now value.now)) (pending_of result) }
+        ensures call { StandsForMore (pending_of self.entry) (tagged (keyed key.now value.now)) (pending_of result) }
         ensures client { backend_of result ≡ backend_of self.entry }
     {
         let tag = Tag {
@@ -76,8 +77,8 @@ impl<'m, 'c, T: Metric + From<String<C::Memory>>, C: MetricBackend> MetricBuilde
 
     /// Adds a tag without a key, as `with_tag`.
     pub fn with_tag_value(mut self, value: &'m str) -> Self
-        ensures pending { ChoosesOrHolds (pending_of self.entry) (tagged (record { key = None; text = value.now })) (pending_of result) }
-        ensures call { StandsForMore (pending_of self.entry) (tagged (record { key = None; text = value.now })) (pending_of result) }
+        ensures pending { ChoosesOrHolds (pending_of self.entry) (tagged (unkeyed value.now)) (pending_of result) }
+        ensures call { StandsForMore (pending_of self.entry) (tagged (unkeyed value.now)) (pending_of result) }
         ensures client { backend_of result ≡ backend_of self.entry }
     {
         let tag = Tag {
@@ -125,7 +126,8 @@ impl<'m, 'c, T: Metric + From<String<C::Memory>>, C: MetricBackend> MetricBuilde
     /// kind `OutOfMemory` where a growth was refused. Else refuses with kind `OutOfMemory` where there is no room for
     /// the line, or with what the sink refuses the line with.
     pub fn try_send(self) -> MetricResult<T>
-        ensures answers { SentPending (C.line_may_get (backend_of self.entry)) (MadeFrom T.from_gives) (pending_of self.entry) result }
+        ensures answers { SentPending (C.line_may_get (backend_of self.entry)) (MadeFrom T.from_gives)
+            (pending_of self.entry) result }
         ensures line { HasLine (MadeFrom T.from_gives) (pending_of self.entry) result }
     {
         let MetricBuilder {

@@ -2,7 +2,7 @@
 ghost use Rattle.std.specs.Prelude.{◌≡◌, Some, None, IfOk, IfErr};
 ghost use Rattle.std.specs.Option.{option_copied};
 ghost use Rattle.cadence_text.specs.Errors.{out_of_memory};
-ghost use Rattle.cadence.specs.Settings.{Changes, with_default_tag, with_default_container};
+ghost use Rattle.cadence.specs.Settings.{Changes, keyed, unkeyed, with_default_tag, with_default_container};
 
 use crate::client::handler::ErrorHandler;
 use crate::client::settings::ClientSettings;
@@ -24,7 +24,8 @@ fn with_tag<A: Allocator + Clone>(
     key: Option<&str>,
     text: &str,
 ) -> Option<ClientSettings<A>>
-    ensures { Changes settings (λ s. with_default_tag s (record { key = option_copied key.entry; text = text.now })) result }
+    ensures { Changes settings (λ s. with_default_tag s (record { key = option_copied key.entry; text = text.now }))
+        result }
 {
     let mut settings = settings?;
     match settings.add_tag(key, text) {
@@ -70,7 +71,8 @@ impl<A: Allocator + Clone> StatsdClientBuilder<A> {
 
     /// Adds a default tag with a key, after the others.
     pub fn with_tag(self, key: &str, value: &str) -> Self
-        ensures settings { Changes (settings_of_builder self) (λ s. with_default_tag s (record { key = Some key.now; text = value.now })) (settings_of_builder result) }
+        ensures settings { Changes (settings_of_builder self) (λ s. with_default_tag s (keyed key.now value.now))
+            (settings_of_builder result) }
         ensures rest { KeepsSinkAndHandler self result }
     {
         let StatsdClientBuilder {
@@ -87,7 +89,8 @@ impl<A: Allocator + Clone> StatsdClientBuilder<A> {
 
     /// Adds a default tag without a key, after the others.
     pub fn with_tag_value(self, value: &str) -> Self
-        ensures settings { Changes (settings_of_builder self) (λ s. with_default_tag s (record { key = None; text = value.now })) (settings_of_builder result) }
+        ensures settings { Changes (settings_of_builder self) (λ s. with_default_tag s (unkeyed value.now))
+            (settings_of_builder result) }
         ensures rest { KeepsSinkAndHandler self result }
     {
         let StatsdClientBuilder {
@@ -104,7 +107,8 @@ impl<A: Allocator + Clone> StatsdClientBuilder<A> {
 
     /// Sets the default container, in the place of an earlier one.
     pub fn with_container_id(self, container_id: &str) -> Self
-        ensures settings { Changes (settings_of_builder self) (λ s. with_default_container s container_id.now) (settings_of_builder result) }
+        ensures settings { Changes (settings_of_builder self) (λ s. with_default_container s container_id.now)
+            (settings_of_builder result) }
         ensures rest { KeepsSinkAndHandler self result }
     {
         let StatsdClientBuilder {

@@ -23,7 +23,8 @@ pub trait Counted<T: ToCounterValue<Self::Memory>>: MetricBackend {
 
     /// Adds to a counter: `count_with_tags` and then `try_send`.
     fn count(&self, key: &str, value: T) -> MetricResult<Counter<Self::Memory>>
-        ensures { SentCall (Self.line_may_get self.now) IsText (plain_metric_of (Self.settings self.now) MetricType.Counter key.now (T.counted value)) result }
+        ensures { SentCall (Self.line_may_get self.now) IsText
+            (plain_metric_of (Self.settings self.now) MetricType.Counter key.now (T.counted value)) result }
     {
         self.count_with_tags(key, value).try_send()
     }
@@ -34,7 +35,8 @@ pub trait Counted<T: ToCounterValue<Self::Memory>>: MetricBackend {
         key: &'a str,
         value: T,
     ) -> MetricBuilder<'a, 'a, Counter<Self::Memory>, Self>
-        ensures pending { MakesMetric (plain_metric_of (Self.settings self.now) MetricType.Counter key.now (T.counted value)) (pending_of result) }
+        ensures pending { MakesMetric (plain_metric_of (Self.settings self.now) MetricType.Counter key.now (T.counted value))
+            (pending_of result) }
         ensures client { backend_of result ≡ self.now };
 }
 
@@ -67,7 +69,8 @@ pub trait CountedExt: Counted<i64> {
 
     /// Adds 1 to a counter: `incr_with_tags` and then `try_send`.
     fn incr(&self, key: &str) -> MetricResult<Counter<Self::Memory>>
-        ensures { SentCall (Self.line_may_get self.now) IsText (plain_metric_of (Self.settings self.now) MetricType.Counter key.now (Some (whole (pos 1) ∷ []))) result }
+        ensures { SentCall (Self.line_may_get self.now) IsText
+            (plain_metric_of (Self.settings self.now) MetricType.Counter key.now (Some (whole (pos 1) ∷ []))) result }
     {
         self.incr_with_tags(key).try_send()
     }
@@ -77,7 +80,8 @@ pub trait CountedExt: Counted<i64> {
         &'a self,
         key: &'a str,
     ) -> MetricBuilder<'a, 'a, Counter<Self::Memory>, Self>
-        ensures pending { MakesMetric (plain_metric_of (Self.settings self.now) MetricType.Counter key.now (Some (whole (pos 1) ∷ []))) (pending_of result) }
+        ensures pending { MakesMetric (plain_metric_of (Self.settings self.now) MetricType.Counter key.now (Some (whole (pos 1) ∷ [])))
+            (pending_of result) }
         ensures client { backend_of result ≡ self.now }
     {
         self.count_with_tags(key, 1)
@@ -85,7 +89,8 @@ pub trait CountedExt: Counted<i64> {
 
     /// Adds -1 to a counter: `decr_with_tags` and then `try_send`.
     fn decr(&self, key: &str) -> MetricResult<Counter<Self::Memory>>
-        ensures { SentCall (Self.line_may_get self.now) IsText (plain_metric_of (Self.settings self.now) MetricType.Counter key.now (Some (whole (negsuc 0) ∷ []))) result }
+        ensures { SentCall (Self.line_may_get self.now) IsText
+            (plain_metric_of (Self.settings self.now) MetricType.Counter key.now (Some (whole (negsuc 0) ∷ []))) result }
     {
         self.decr_with_tags(key).try_send()
     }
@@ -95,7 +100,8 @@ pub trait CountedExt: Counted<i64> {
         &'a self,
         key: &'a str,
     ) -> MetricBuilder<'a, 'a, Counter<Self::Memory>, Self>
-        ensures pending { MakesMetric (plain_metric_of (Self.settings self.now) MetricType.Counter key.now (Some (whole (negsuc 0) ∷ []))) (pending_of result) }
+        ensures pending { MakesMetric (plain_metric_of (Self.settings self.now) MetricType.Counter key.now (Some (whole (negsuc 0) ∷ [])))
+            (pending_of result) }
         ensures client { backend_of result ≡ self.now }
     {
         self.count_with_tags(key, -1)
@@ -113,7 +119,8 @@ pub trait Timed<T: ToTimerValue<Self::Memory>>: MetricBackend {
 
     /// Tells a time, in milliseconds: `time_with_tags` and then `try_send`.
     fn time(&self, key: &str, value: T) -> MetricResult<Timer<Self::Memory>>
-        ensures { SentCall (Self.line_may_get self.now) IsText (plain_metric_of (Self.settings self.now) MetricType.Timer key.now (T.timed value)) result }
+        ensures { SentCall (Self.line_may_get self.now) IsText
+            (plain_metric_of (Self.settings self.now) MetricType.Timer key.now (T.timed value)) result }
     {
         self.time_with_tags(key, value).try_send()
     }
@@ -124,7 +131,8 @@ pub trait Timed<T: ToTimerValue<Self::Memory>>: MetricBackend {
         key: &'a str,
         value: T,
     ) -> MetricBuilder<'a, 'a, Timer<Self::Memory>, Self>
-        ensures pending { MakesMetric (plain_metric_of (Self.settings self.now) MetricType.Timer key.now (T.timed value)) (pending_of result) }
+        ensures pending { MakesMetric (plain_metric_of (Self.settings self.now) MetricType.Timer key.now (T.timed value))
+            (pending_of result) }
         ensures client { backend_of result ≡ self.now };
 }
 
@@ -151,7 +159,8 @@ pub trait Gauged<T: ToGaugeValue<Self::Memory>>: MetricBackend {
 
     /// Tells the value of a gauge: `gauge_with_tags` and then `try_send`.
     fn gauge(&self, key: &str, value: T) -> MetricResult<Gauge<Self::Memory>>
-        ensures { SentCall (Self.line_may_get self.now) IsText (plain_metric_of (Self.settings self.now) MetricType.Gauge key.now (T.gauged value)) result }
+        ensures { SentCall (Self.line_may_get self.now) IsText
+            (plain_metric_of (Self.settings self.now) MetricType.Gauge key.now (T.gauged value)) result }
     {
         self.gauge_with_tags(key, value).try_send()
     }
@@ -162,7 +171,8 @@ pub trait Gauged<T: ToGaugeValue<Self::Memory>>: MetricBackend {
         key: &'a str,
         value: T,
     ) -> MetricBuilder<'a, 'a, Gauge<Self::Memory>, Self>
-        ensures pending { MakesMetric (plain_metric_of (Self.settings self.now) MetricType.Gauge key.now (T.gauged value)) (pending_of result) }
+        ensures pending { MakesMetric (plain_metric_of (Self.settings self.now) MetricType.Gauge key.now (T.gauged value))
+            (pending_of result) }
         ensures client { backend_of result ≡ self.now };
 }
 
@@ -189,7 +199,8 @@ pub trait Metered<T: ToMeterValue<Self::Memory>>: MetricBackend {
 
     /// Adds to a meter: `meter_with_tags` and then `try_send`.
     fn meter(&self, key: &str, value: T) -> MetricResult<Meter<Self::Memory>>
-        ensures { SentCall (Self.line_may_get self.now) IsText (plain_metric_of (Self.settings self.now) MetricType.Meter key.now (T.metered value)) result }
+        ensures { SentCall (Self.line_may_get self.now) IsText
+            (plain_metric_of (Self.settings self.now) MetricType.Meter key.now (T.metered value)) result }
     {
         self.meter_with_tags(key, value).try_send()
     }
@@ -200,7 +211,8 @@ pub trait Metered<T: ToMeterValue<Self::Memory>>: MetricBackend {
         key: &'a str,
         value: T,
     ) -> MetricBuilder<'a, 'a, Meter<Self::Memory>, Self>
-        ensures pending { MakesMetric (plain_metric_of (Self.settings self.now) MetricType.Meter key.now (T.metered value)) (pending_of result) }
+        ensures pending { MakesMetric (plain_metric_of (Self.settings self.now) MetricType.Meter key.now (T.metered value))
+            (pending_of result) }
         ensures client { backend_of result ≡ self.now };
 }
 
@@ -227,7 +239,8 @@ pub trait Histogrammed<T: ToHistogramValue<Self::Memory>>: MetricBackend {
 
     /// Tells a value of a histogram: `histogram_with_tags` and then `try_send`.
     fn histogram(&self, key: &str, value: T) -> MetricResult<Histogram<Self::Memory>>
-        ensures { SentCall (Self.line_may_get self.now) IsText (plain_metric_of (Self.settings self.now) MetricType.Histogram key.now (T.histogrammed value)) result }
+        ensures { SentCall (Self.line_may_get self.now) IsText
+            (plain_metric_of (Self.settings self.now) MetricType.Histogram key.now (T.histogrammed value)) result }
     {
         self.histogram_with_tags(key, value).try_send()
     }
@@ -238,7 +251,8 @@ pub trait Histogrammed<T: ToHistogramValue<Self::Memory>>: MetricBackend {
         key: &'a str,
         value: T,
     ) -> MetricBuilder<'a, 'a, Histogram<Self::Memory>, Self>
-        ensures pending { MakesMetric (plain_metric_of (Self.settings self.now) MetricType.Histogram key.now (T.histogrammed value)) (pending_of result) }
+        ensures pending { MakesMetric (plain_metric_of (Self.settings self.now) MetricType.Histogram key.now (T.histogrammed value))
+            (pending_of result) }
         ensures client { backend_of result ≡ self.now };
 }
 
@@ -270,7 +284,8 @@ pub trait Distributed<T: ToDistributionValue<Self::Memory>>: MetricBackend {
 
     /// Tells a value of a distribution: `distribution_with_tags` and then `try_send`.
     fn distribution(&self, key: &str, value: T) -> MetricResult<Distribution<Self::Memory>>
-        ensures { SentCall (Self.line_may_get self.now) IsText (plain_metric_of (Self.settings self.now) MetricType.Distribution key.now (T.distributed value)) result }
+        ensures { SentCall (Self.line_may_get self.now) IsText
+            (plain_metric_of (Self.settings self.now) MetricType.Distribution key.now (T.distributed value)) result }
     {
         self.distribution_with_tags(key, value).try_send()
     }
@@ -281,7 +296,8 @@ pub trait Distributed<T: ToDistributionValue<Self::Memory>>: MetricBackend {
         key: &'a str,
         value: T,
     ) -> MetricBuilder<'a, 'a, Distribution<Self::Memory>, Self>
-        ensures pending { MakesMetric (plain_metric_of (Self.settings self.now) MetricType.Distribution key.now (T.distributed value)) (pending_of result) }
+        ensures pending { MakesMetric (plain_metric_of (Self.settings self.now) MetricType.Distribution key.now (T.distributed value))
+            (pending_of result) }
         ensures client { backend_of result ≡ self.now };
 }
 
@@ -313,7 +329,8 @@ pub trait Setted<T: ToSetValue<Self::Memory>>: MetricBackend {
 
     /// Tells a member of a set: `set_with_tags` and then `try_send`.
     fn set(&self, key: &str, value: T) -> MetricResult<Set<Self::Memory>>
-        ensures { SentCall (Self.line_may_get self.now) IsText (plain_metric_of (Self.settings self.now) MetricType.Set key.now (T.set_as value)) result }
+        ensures { SentCall (Self.line_may_get self.now) IsText
+            (plain_metric_of (Self.settings self.now) MetricType.Set key.now (T.set_as value)) result }
     {
         self.set_with_tags(key, value).try_send()
     }
@@ -324,7 +341,8 @@ pub trait Setted<T: ToSetValue<Self::Memory>>: MetricBackend {
         key: &'a str,
         value: T,
     ) -> MetricBuilder<'a, 'a, Set<Self::Memory>, Self>
-        ensures pending { MakesMetric (plain_metric_of (Self.settings self.now) MetricType.Set key.now (T.set_as value)) (pending_of result) }
+        ensures pending { MakesMetric (plain_metric_of (Self.settings self.now) MetricType.Set key.now (T.set_as value))
+            (pending_of result) }
         ensures client { backend_of result ≡ self.now };
 }
 

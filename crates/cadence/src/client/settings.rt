@@ -63,10 +63,11 @@ fn add_defaults<'a, A: Allocator>(
 fn without_trailing_dots(prefix: &str) -> &str
     ensures { result.now ≡ without_dots prefix.now }
 {
-    match prefix.strip_suffix('.') {
-        Some(shorter) => without_trailing_dots(shorter),
-        None => prefix,
+    let mut kept = prefix;
+    while let Some(shorter) = kept.strip_suffix('.') {
+        kept = shorter;
     }
+    kept
 }
 
 // The prefix as it is printed.
@@ -125,7 +126,8 @@ impl<A: Allocator + Clone> ClientSettings<A> {
 
     /// Adds a default tag after the others. Refuses with kind `OutOfMemory` alone, and then changes nothing.
     pub fn add_tag(&mut self, key: Option<&str>, text: &str) -> MetricResult<()>
-        ensures ok { OnOk result (self.new ≡ with_default_tag self.old (record { key = option_copied key.entry; text = text.now })) }
+        ensures ok { OnOk result (self.new ≡
+            with_default_tag self.old (record { key = option_copied key.entry; text = text.now })) }
         ensures err { IfErr result (λ e. (e ≡ out_of_memory) × (self.new ≡ self.old)) }
     {
         let alloc = self.tags.allocator();

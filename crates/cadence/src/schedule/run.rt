@@ -1,14 +1,18 @@
 //! Runs of schedules.
-ghost use Rattle.std.specs.Prelude.{◌≡◌, ◌+◌, ◌^◌, ◌<◌, ◌≤◌, [], true, length, vec_len, vec_capacity, IfOk, IfErr};
+ghost use Rattle.std.specs.Prelude.{◌≡◌, ◌+◌, ◌^◌, ◌<◌, ◌≤◌, [], true, All, codes, length, vec_len, vec_capacity, IfOk, IfErr};
 ghost use Rattle.std.specs.List.{zip};
+ghost use Rattle.cadence_text.specs.OneReading.{IsReadable};
 ghost use Rattle.cadence_flow.specs.Queue.{new_queue};
-ghost use Rattle.cadence.specs.Calls.{line_of_data};
-ghost use Rattle.cadence.specs.Headline.{given_of, TellsWhole, HasStream, HasCut, HasReplies, HasFewest, HasErrors, IsLate, HasTaken, HasSums, KeepsPackets};
+ghost use Rattle.cadence.specs.Calls.{line_of_data, metric_of_data};
+ghost use Rattle.cadence.specs.Headline.{given_of, packets_between, TellsWhole, HasStream, HasCut, HasReplies, HasFewest, HasErrors, IsLate, HasTaken, HasSums, KeepsPackets};
+ghost use Rattle.cadence.specs.History.{kept};
 ghost use Rattle.cadence.specs.Moves.{Runs};
-ghost use Rattle.cadence.specs.Report.{writer_of};
+ghost use Rattle.cadence.specs.Reading.{ReadsAs};
+ghost use Rattle.cadence.specs.Report.{held_of, replies_of, writer_of};
 ghost use Rattle.cadence.specs.Running.{state_of};
 
 use super::counting::CountingWriter;
+use super::laws::packets_read_one_way;
 use super::plan::tight_is_fewest;
 use super::reports::Report;
 use super::running::Running;
@@ -17,6 +21,7 @@ use crate::client::ClientSettings;
 use cadence_flow::io::{MultiLineWriter, PacketWriter};
 use cadence_flow::queue::QueueCore;
 use cadence_flow::stats::SinkStats;
+use cadence_text::laws::no_line_is_empty;
 use cadence_text::types::MetricResult;
 use std::alloc::Allocator;
 
@@ -110,10 +115,18 @@ pub fn run_schedule<W: PacketWriter, A: Allocator + Clone>(
     ensures earlier { (W.kind writer).tells ≡ true → IfOk result (KeepsPackets W.history
         (given_of W.kind W.history (line_of_data settings.now) capacity ending.now queue steps.now writer)) }
 
+    // With the newline as ending, a listener reads the kept metrics, where these are free of separators.
+    ensures one_reading { TellsWhole (W.kind writer) → ending.now ≡ codes "\n" → IfOk result (λ report.
+        All IsReadable (kept (metric_of_data settings.now) (zip steps.now (replies_of report))) →
+        ReadsAs (kept (metric_of_data settings.now) (zip steps.now (replies_of report)))
+        (packets_between (W.history writer) (W.history (writer_of report))) (held_of report)) }
+
     // Where the run's own lists found no memory, no step was made.
     ensures returned { IfErr result (λ back. back ≡ writer) }
 {
+    no_line_is_empty();
     tight_is_fewest();
+    packets_read_one_way();
     let Ok((mut replies, plan, queue)) = own_lists(&alloc, steps.len(), queue) else {
         return Err(writer);
     };

@@ -13,7 +13,7 @@ use std::alloc::{AllocError, Allocator, Global};
 use std::marker::Model;
 
 /// What a queue answers to a request for its oldest text.
-#[derive(Drop)]
+#[derive(Clone, Drop, PartialEq, Eq)]
 pub enum Taken<T> {
     /// The oldest text.
     Text(T),

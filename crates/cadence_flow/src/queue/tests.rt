@@ -129,6 +129,16 @@ fn taker_gets_a_submit(rt: HostRuntime) -> Result<(), Fail> {
 }
 
 #[test]
+fn shared_queue_keeps_its_capacity(rt: HostRuntime) -> Result<(), Fail> {
+    let queue = SharedQueue::new(rt.alloc(), Some(1))?;
+    assert!(rt; queue.submit_with(&rt, || Ok('A')).is_ok());
+    assert!(rt; matches!(queue.submit(&rt, 'B'), Err((SinkError::ChannelFull, 'B'))));
+    assert!(rt; matches!(queue.try_take(&rt), Taken::Text('A')));
+    assert!(rt; matches!(queue.try_take(&rt), Taken::Empty));
+    Ok(())
+}
+
+#[test]
 fn taker_is_stopped(rt: HostRuntime) -> Result<(), Fail> {
     let queue: SharedQueue<char> = SharedQueue::new(rt.alloc(), None)?;
     let (got, _) = thread::join(&rt, || queue.take_wait(&rt), || queue.stop(&rt));

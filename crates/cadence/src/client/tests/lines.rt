@@ -10,7 +10,7 @@ use crate::ext::{MetricValue, ToCounterValue};
 use crate::prelude::*;
 use crate::sinks::{MetricSink, NopMetricSink};
 use crate::types::{Metric, MetricResult};
-use std::alloc::Allocator;
+use std::alloc::{Allocator, Global};
 use std::test::Fail;
 use std::time::Duration;
 
@@ -135,6 +135,9 @@ fn texts_are_kept_as_they_stand(rt: HostRuntime) -> Result<(), Fail> {
     Ok(())
 }
 
+// Threads may share what this takes.
+fn share<T: Send + Sync>(_value: &T) {}
+
 // One metric of each kind, through the bound of all.
 fn send_all<C: MetricClient>(client: &C, half: Decimal) -> MetricResult<()> {
     client.count("a", 1i64)?;
@@ -157,6 +160,16 @@ fn send_all<C: MetricClient>(client: &C, half: Decimal) -> MetricResult<()> {
     Ok(())
 }
 
+// Lists, in the memory of the client.
+fn send_lists<C: MetricClient<Memory = Global>>(client: &C, alloc: Global) -> MetricResult<()> {
+    client.time("a", vec![in alloc; 1u64, 2]?)?;
+    client.time("b", vec![in alloc; Duration::from_millis(3)]?)?;
+    client.histogram("c", vec![in alloc; 4u64]?)?;
+    client.histogram("d", vec![in alloc; Duration::from_nanos(5)]?)?;
+    client.distribution("e", vec![in alloc; 6u64]?)?;
+    Ok(())
+}
+
 #[test]
 fn each_kind_has_its_line(rt: HostRuntime) -> Result<(), Fail> {
     let client = nop_client(rt.alloc(), "")?;
@@ -164,6 +177,8 @@ fn each_kind_has_its_line(rt: HostRuntime) -> Result<(), Fail> {
         return Err(Fail::new("a decimal"));
     };
     send_all(&client, half)?;
+    send_lists(&client, rt.alloc())?;
+    share(&client);
     assert_eq!(rt; client.count("k", Seven)?.as_metric_str(), "k:7|c");
     assert_eq!(rt;
         client

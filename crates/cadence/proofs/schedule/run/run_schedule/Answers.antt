@@ -1,17 +1,18 @@
-use Rattle.std.proofs.Common.{◌≡◌, ℕ, List, ◌+◌, ◌++◌, ◌%◌, ◌^◌, ◌<◌, length, sym, ap, ◌∙◌, refl, arith, subst, [], None, map}
+use Rattle.std.proofs.Common.{◌≡◌, ◌++◌, ◌%◌, ◌^◌, ◌<◌, length, sym, ap, ◌∙◌, arith, subst, None, map}
 use Rattle.std.specs.List.{zip, concat}
 use Rattle.std.specs.Prelude.{string_bytes}
 use Rattle.cadence_flow.specs.Frame.{Format, stream}
 use Rattle.cadence_flow.specs.Sums.{counted_kind, zero_sums}
 use Rattle.cadence_flow.specs.Writer.{History, Kind, Extends}
-use Rattle.cadence_flow.specs.declared.stats.SinkStats.{SinkStats}
-use Rattle.cadence.specs.Calls.{line_of_data}
-use Rattle.cadence.specs.Headline.{packets_between, AreSumsBetween}
-use Rattle.cadence.specs.History.{kept, kept_counts, marks, refusals, errors}
+use Rattle.cadence_text.specs.Line.{line_of as line_of_metric}
+use Rattle.cadence.specs.Calls.{line_of_data, metric_of_data}
+use Rattle.cadence.specs.Headline.{packets_between}
+use Rattle.cadence.specs.History.{kept, kept_counts, marks, refusals}
 use Rattle.cadence.specs.Moves.{State, at_start}
 use Rattle.cadence.specs.Packets.{ArePacketsOf}
 use Rattle.cadence.specs.Running.{state_of}
 use Rattle.cadence.specs.Stream.{taken_stream}
+use Rattle.cadence.proofs.KeptMetrics.{kept_mapped}
 use Rattle.cadence.proofs.LineFilled.{line_filled}
 use Rattle.cadence.proofs.RunTurns.{length-zip}
 use Rattle.cadence.proofs.Turns.{After}
@@ -22,7 +23,7 @@ pub returns : goal.returns
 returns g c =
     let history = g.W.PacketWriter.history in
     let line_of = line_of_data c.args.settings.now in
-    let filled = line_filled c.args.settings.now in
+    let filled = line_filled c.no_line_is_empty.ensures c.args.settings.now in
     let format : Format = record { capacity = c.args.capacity; ending = c.args.ending.now } in
     let queue = c.args.queue in
     let start : History = g.W.PacketWriter.history c.args.writer in
@@ -79,5 +80,11 @@ returns g c =
           run_sums (g.W.PacketWriter.kind c.args.writer) (g.W.PacketWriter.kind c.into_parts-writer.result.0) start (g.W.PacketWriter.history c.into_parts-writer.result.0) c.into_parts-writer.result.1
           same tells (subst (λ h. Extends start h) (sym history_is) (a.text tells).extends) c.into_parts-writer.ensures.bytes_sent c.into_parts-writer.ensures.packets_sent;
       earlier = λ tells. subst (λ h. Extends start h) (sym history_is) (a.text tells).extends;
+      one_reading = λ whole newline readable.
+          let packets = at_parts (λ h x. ArePacketsOf format (marks line_of turns) (refusals line_of turns) (kept line_of turns) s1.plan (packets_between start h) x) _ _ _ _ history_is held_is (run_cut line_of filled kind format queue start turns s1 a whole.0 whole.1) in
+          c.packets_read_one_way.ensures c.args.capacity (marks line_of turns) (refusals line_of turns) s1.plan (kept (metric_of_data c.args.settings.now) turns)
+          (packets_between start (g.W.PacketWriter.history c.into_parts-writer.result.0)) c.into_parts-counting.result.1.items readable
+          (subst (λ e. ArePacketsOf record { capacity = c.args.capacity; ending = e } (marks line_of turns) (refusals line_of turns) (map line_of_metric (kept (metric_of_data c.args.settings.now) turns)) s1.plan (packets_between start (g.W.PacketWriter.history c.into_parts-writer.result.0)) c.into_parts-counting.result.1.items) newline
+          (subst (λ ls. ArePacketsOf format (marks line_of turns) (refusals line_of turns) ls s1.plan (packets_between start (g.W.PacketWriter.history c.into_parts-writer.result.0)) c.into_parts-counting.result.1.items) (kept_mapped line_of_metric (metric_of_data c.args.settings.now) turns) packets));
       returned = tt;
     }

@@ -1,4 +1,4 @@
-use Rattle.std.proofs.Common.{◌≡◌, ℕ, List, ◌+◌, ◌≤◌, length, take, sym, ap, ◌∙◌, arith, get_or, [], ◌∷◌, ◌++◌, vec_len, vec_capacity}
+use Rattle.std.proofs.Common.{◌≡◌, ◌+◌, length, take, sym, ap, ◌∙◌, arith, [], ◌∷◌, ◌++◌}
 use Rattle.std.proofs.lemmas.List.{take_more, length-take-le, length_push}
 use Rattle.cadence.specs.Calls.{line_of_data}
 use Rattle.cadence.specs.Running.{state_of}

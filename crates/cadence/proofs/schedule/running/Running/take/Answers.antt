@@ -1,9 +1,8 @@
-use Rattle.std.proofs.Common.{◌≡◌, ◌+◌, ◌%◌, ◌^◌, ◌≤◌, arith, ap, refl, map, None, Some}
+use Rattle.std.proofs.Common.{◌≡◌, arith, ap, refl, map, None, Some}
 use Rattle.std.specs.Prelude.{string_bytes}
 use Rattle.std.specs.Option.{option_map}
 use Rattle.std.proofs.lemmas.Grind.{common_steps}
-use Rattle.cadence.specs.Moves.{State}
-use Rattle.cadence.specs.Running.{MakesTurn, state_of}
+use Rattle.cadence.specs.Running.{state_of}
 use Rattle.cadence.proofs.schedule.running.Running.take.Goals as goal
 
 pub returns-in-Text : goal.returns-in-Text

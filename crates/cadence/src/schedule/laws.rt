@@ -1,0 +1,20 @@
+//! What the definitions imply, as laws that proofs may cite. These functions do nothing.
+ghost use Rattle.std.specs.Prelude.{List, ℕ, All, codes, map};
+ghost use Rattle.cadence_text.specs.Line.{line_of};
+ghost use Rattle.cadence_text.specs.Metric.{Metric};
+ghost use Rattle.cadence_text.specs.OneReading.{IsReadable};
+ghost use Rattle.cadence.specs.Packets.{ArePacketsOf};
+ghost use Rattle.cadence.specs.Reading.{ReadsAs};
+
+use cadence_text::laws::packet_reads_one_way;
+
+/// With the newline as ending, packets and held text of lines of metrics that are free of separators read as these
+/// metrics, and as no others.
+pub fn packets_read_one_way()
+    ensures { (capacity : ℕ) (marks refusals plan : List ℕ) (metrics : List Metric) (packets : List (List ℕ)) (held : List ℕ) →
+        All IsReadable metrics →
+        ArePacketsOf (record { capacity = capacity; ending = codes "\n" }) marks refusals (map line_of metrics) plan packets held →
+        ReadsAs metrics packets held }
+{
+    packet_reads_one_way();
+}

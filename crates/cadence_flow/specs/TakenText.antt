@@ -1,0 +1,10 @@
+-- A taken text as its bytes.
+use Rattle.std.specs.Prelude.{ℕ, List, String, string_bytes}
+use Rattle.cadence_flow.specs.declared.queue.queue_core.Taken.{Taken}
+use Rattle.cadence_flow.specs.declared.queue.queue_core.Taken.TheVariants.{Text, Empty, Ended}
+
+-- the answer to a take, with the bytes of its text
+abbrev pub taken_bytes : {Z : Type 0} → Taken (String Z) → Taken (List ℕ)
+taken_bytes (Text text) = Text (string_bytes text)
+taken_bytes Empty = Empty
+taken_bytes Ended = Ended

@@ -1,0 +1,23 @@
+//! `statsd_schedule`: reads a script, runs its schedule and prints the report.
+#![tactic(auto)]
+
+mod calls;
+mod engine;
+mod print;
+mod script;
+#[cfg(test)]
+mod tests;
+mod words;
+
+use engine::run_script;
+use std::process::ExitCode;
+
+fn main(rt: HostRuntime) -> ExitCode {
+    let status = run_script(
+        rt.alloc(),
+        &mut rt.stdin(),
+        &mut rt.stdout(),
+        &mut rt.stderr(),
+    );
+    ExitCode::from(status)
+}

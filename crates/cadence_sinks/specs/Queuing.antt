@@ -1,0 +1,30 @@
+-- What contracts show of a queuing sink and of its builder.
+use Rattle.std.specs.Prelude.{ℕ, Option}
+use Rattle.std.specs.Arc.{arc_value}
+use Rattle.std.specs.Option.{option_map}
+use Rattle.std.specs.declared.dyn_box.DynBox.{DynBox}
+use Rattle.cadence_text.specs.declared.types.errors.SinkError.TheVariants.{Io, OutOfMemory}
+use Rattle.cadence_text.specs.declared.types.errors.MetricError.{MetricError}
+use Rattle.cadence_text.specs.declared.types.errors.MetricError.TheVariants.{Sink}
+use Rattle.cadence_sinks.specs.Handler.{call_of}
+use Rattle.cadence_sinks.specs.declared.sinks.queuing.QueuingMetricSink.{QueuingMetricSink}
+use Rattle.cadence_sinks.specs.declared.sinks.queuing.QueuingMetricSinkBuilder.{QueuingMetricSinkBuilder}
+
+-- why a queuing sink is not made: memory ran out, or no thread could be started
+abbrev pub IsQueuingRefusal : MetricError → Type 0
+IsQueuingRefusal (Sink OutOfMemory) = Unit {0}
+IsQueuingRefusal (Sink (Io e)) = Unit {0}
+IsQueuingRefusal _ = ⊥
+
+-- the sink that a queuing sink wraps
+abbrev pub wrapped_sink : {S R A : Type 0} → QueuingMetricSink S R A → S
+wrapped_sink q = (arc_value q.shared).sink
+
+module _ {A Y : Type 0} {G : Y → Type 0} {g : _} where
+  -- the capacity that a builder's queue will have, or none
+  abbrev pub capacity_of : QueuingMetricSinkBuilder A Y G g → Option ℕ
+  capacity_of b = b.capacity
+
+  -- the error handler, where there is one
+  abbrev pub handler_of : QueuingMetricSinkBuilder A Y G g → Option (DynBox Y A G)
+  handler_of b = option_map call_of b.handler

@@ -1,0 +1,129 @@
+//! What sinks over sockets have in common.
+ghost use Rattle.std.specs.Prelude.{◌≡◌, Bool, IfErr};
+ghost use Rattle.cadence_text.specs.Errors.{out_of_memory};
+ghost use Rattle.cadence_text.specs.declared.types.errors.SinkError.{SinkError};
+ghost use Rattle.cadence_sinks.specs.Sockets.{IsBufferedAnswer, IsBufferedFlush, IsSocketAnswer};
+
+use cadence_flow::io::{MultiLineWriter, PacketWriter};
+use cadence_flow::stats::{SinkStats, SocketStats};
+use cadence_text::types::{MetricError, MetricResult, SinkError};
+use std::alloc::Allocator;
+use std::sync::{Mutex, Wait};
+
+/// A socket with the place that it sends to.
+pub trait Datagrams: Drop {
+    /// The errors that it may give.
+    ghost may_give: { SinkError → Bool };
+
+    /// Sends a packet, and answers how many of its first bytes were taken.
+    fn send(&self, packet: &[u8]) -> Result<usize, SinkError>
+        ensures { IsSocketAnswer may_give packet.now result };
+}
+
+/// A socket each answer of which is counted.
+#[derive(Drop)]
+pub struct CountedSocket<D: Datagrams, R: Wait + Drop, A: Allocator> {
+    socket: D,
+    stats: SocketStats<R, A>,
+}
+
+impl<D: Datagrams, R: Wait + Drop, A: Allocator> CountedSocket<D, R, A> {
+    /// Nothing is counted yet. The only error is `OutOfMemory`.
+    pub fn new(rt: R, alloc: A, socket: D) -> MetricResult<Self>
+        ensures { IfErr result (λ e. e ≡ out_of_memory) }
+    {
+        let stats = SocketStats::new(rt, alloc)?;
+        Ok(CountedSocket { socket, stats })
+    }
+
+    /// Sends a packet and counts the answer.
+    pub fn send(&self, packet: &[u8]) -> Result<usize, SinkError>
+        ensures { IsSocketAnswer D.may_give packet.now result }
+    {
+        self.stats.update(self.socket.send(packet), packet.len())
+    }
+
+    /// The counts of this moment.
+    pub fn stats(&self) -> SinkStats {
+        SinkStats::from(&self.stats)
+    }
+}
+
+// Writes packets to a socket. It doesn't tell its packets.
+#[derive(Drop)]
+struct SocketWriter<D: Datagrams, R: Wait + Drop, A: Allocator> {
+    socket: CountedSocket<D, R, A>,
+    refusals: u64,
+    refused_bytes: u64,
+}
+
+impl<D: Datagrams, R: Wait + Drop, A: Allocator> PacketWriter for SocketWriter<D, R, A> {
+    ghost use Rattle.std.specs.Prelude.{[]};
+    ghost use Rattle.cadence_sinks.specs.Sockets.{socket_kind};
+
+    ghost history = { λ w. record { packets = []; refusals = w.refusals; refused_bytes = w.refused_bytes } };
+
+    ghost kind = { λ _. socket_kind D.may_give };
+
+    fn write_packet(&mut self, packet: &[u8]) -> Result<usize, SinkError> {
+        let answer = self.socket.send(packet);
+        if answer.is_err() {
+            self.refusals = self.refusals.wrapping_add(1);
+            self.refused_bytes = self.refused_bytes.wrapping_add(packet.len() as u64);
+        }
+        answer
+    }
+}
+
+/// A packer with the newline as its ending, under a lock, over a socket each answer of which is counted. Its drop
+/// tries one flush.
+#[derive(Drop)]
+pub struct PackedSocket<D: Datagrams, R: Wait + Drop, A: Allocator> {
+    rt: R,
+    writer: Mutex<MultiLineWriter<SocketWriter<D, R, A>, A>>,
+    stats: SocketStats<R, A>,
+}
+
+impl<D: Datagrams, R: Wait + Clone + Drop, A: Allocator + Clone> PackedSocket<D, R, A> {
+    /// Nothing is held yet. The only error is `OutOfMemory`.
+    pub fn new(rt: R, alloc: A, socket: D, capacity: usize) -> MetricResult<Self>
+        ensures { IfErr result (λ e. e ≡ out_of_memory) }
+    {
+        let socket = CountedSocket::new(rt.clone()?, alloc.clone()?, socket)?;
+        let stats = socket.stats.clone()?;
+        let writer = SocketWriter {
+            socket,
+            refusals: 0,
+            refused_bytes: 0,
+        };
+        let Ok(writer) = MultiLineWriter::new(alloc, writer, capacity) else {
+            return Err(MetricError::Sink(SinkError::OutOfMemory));
+        };
+        Ok(PackedSocket {
+            rt,
+            writer: Mutex::new(writer),
+            stats,
+        })
+    }
+}
+
+impl<D: Datagrams, R: Wait + Drop, A: Allocator> PackedSocket<D, R, A> {
+    /// Holds a line, or sends it alone.
+    pub fn write(&self, line: &[u8]) -> Result<usize, SinkError>
+        ensures { IsBufferedAnswer D.may_give line.now result }
+    {
+        self.writer.lock(&self.rt).write(line)
+    }
+
+    /// Sends what is held.
+    pub fn flush(&self) -> Result<(), SinkError>
+        ensures { IsBufferedFlush D.may_give result }
+    {
+        self.writer.lock(&self.rt).flush()
+    }
+
+    /// The counts of this moment.
+    pub fn stats(&self) -> SinkStats {
+        SinkStats::from(&self.stats)
+    }
+}
