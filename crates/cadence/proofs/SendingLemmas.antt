@@ -11,7 +11,7 @@ pub sent_pending : {M Z U : Type 0} (may : Answers) (gives : String Z → M → 
     → SentPending may (MadeFrom gives) pending (Ok m)
 sent_pending may gives pending d text line m u is same formats handed made =
     subst (λ (p : Result Metric MetricError). SentPending may (MadeFrom gives) p (Ok m)) (sym is)
-        ((text, formats, made), (handed.0, subst (λ (t : List ℕ). may t (Ok handed.0)) (same ∙ formats) handed.1))
+    ((text, formats, made), (handed.0, subst (λ (t : List ℕ). may t (Ok handed.0)) (same ∙ formats) handed.1))
 
 -- the text of an answer is the line of the call that the builder stands for
 pub has_line : {M : Type 0} (may : Answers) (made : List ℕ → M → Type 0) (pending : Result Metric MetricError) (answer : Result M MetricError)
