@@ -14,6 +14,10 @@ pub enum Mode {
     Histogram4,
     /// Lines into a packer.
     Packer,
+    /// Lines into a buffered UDP sink.
+    Udp,
+    /// Lines into a queue.
+    Queue,
 }
 
 impl Mode {
@@ -23,6 +27,8 @@ impl Mode {
             "count_tags" => Some(Mode::CountTags),
             "histogram4" => Some(Mode::Histogram4),
             "packer" => Some(Mode::Packer),
+            "udp" => Some(Mode::Udp),
+            "queue" => Some(Mode::Queue),
             _ => None,
         }
     }
@@ -35,6 +41,8 @@ impl fmt::Display for Mode {
             Mode::CountTags => "count_tags",
             Mode::Histogram4 => "histogram4",
             Mode::Packer => "packer",
+            Mode::Udp => "udp",
+            Mode::Queue => "queue",
         })
     }
 }
@@ -46,14 +54,17 @@ pub struct Arguments {
     pub mode: Mode,
     /// How often.
     pub calls: u64,
-    /// The capacity of a packer, in bytes.
+    /// The capacity of a packer or of a sink, in bytes, or that of a queue, in lines; a queue of 0 is unbounded.
     pub capacity: usize,
     /// The length of a line, in bytes.
     pub length: usize,
 }
 
 /// How to call the program.
-pub const USAGE: &str = "cadence_speed count|count_tags|histogram4|packer N [CAP LEN]";
+pub const USAGE: &str = "cadence_speed count|count_tags|histogram4|packer|udp|queue N [CAP LEN]";
+
+/// The most lines of a run over UDP.
+const MOST_DATAGRAMS: u64 = 200_000;
 
 fn number(word: Option<String>, default: u64) -> u64 {
     match word {
@@ -66,9 +77,14 @@ fn number(word: Option<String>, default: u64) -> u64 {
 pub fn read(words: &mut Args) -> Option<Arguments> {
     let word = words.next()?;
     let mode = Mode::of(&word)?;
+    let calls = number(words.next(), 1);
     Some(Arguments {
         mode,
-        calls: number(words.next(), 1),
+        calls: if mode == Mode::Udp {
+            calls.min(MOST_DATAGRAMS)
+        } else {
+            calls
+        },
         capacity: number(words.next(), 512) as usize,
         length: number(words.next(), 20) as usize,
     })

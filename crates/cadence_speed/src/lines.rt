@@ -1,6 +1,6 @@
 //! Calls of a client.
 
-use crate::done::{BlackBox, Done};
+use crate::done::{BlackBox, Done, Note};
 use anyhow::Result;
 use cadence::prelude::*;
 use cadence::{Metric, StatsdClient};
@@ -21,7 +21,7 @@ pub fn count(rt: &HostRuntime, client: &StatsdClient, calls: u64) -> Result<Done
     Ok(Done {
         time: start.elapsed(rt)?,
         check,
-        packets: None,
+        note: Note::Nothing,
     })
 }
 
@@ -45,7 +45,7 @@ pub fn count_tags(rt: &HostRuntime, client: &StatsdClient, calls: u64) -> Result
     Ok(Done {
         time: start.elapsed(rt)?,
         check,
-        packets: None,
+        note: Note::Nothing,
     })
 }
 
@@ -66,6 +66,6 @@ pub fn histogram4(rt: &HostRuntime, client: &StatsdClient, calls: u64) -> Result
     Ok(Done {
         time: start.elapsed(rt)?,
         check,
-        packets: None,
+        note: Note::Nothing,
     })
 }

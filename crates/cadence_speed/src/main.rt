@@ -6,23 +6,13 @@ mod counting;
 mod done;
 mod lines;
 mod packets;
+mod sinks;
 
 use anyhow::Result;
-use arguments::{Arguments, Mode};
+use arguments::Mode;
 use cadence::{MetricSink, NopMetricSink, StatsdClient};
-use done::{Done, report};
+use done::report;
 use std::env;
-
-fn work(rt: &HostRuntime, arguments: &Arguments) -> Result<Done> {
-    let sink: Box<dyn MetricSink + Send + Sync> = Box::new(rt.alloc(), NopMetricSink)?;
-    let client = StatsdClient::from_sink(rt.alloc(), "some.prefix", sink)?;
-    match arguments.mode {
-        Mode::Count => lines::count(rt, &client, arguments.calls),
-        Mode::CountTags => lines::count_tags(rt, &client, arguments.calls),
-        Mode::Histogram4 => lines::histogram4(rt, &client, arguments.calls),
-        Mode::Packer => packets::packer(rt, arguments),
-    }
-}
 
 fn main(rt: HostRuntime) -> Result<()> {
     let mut words = env::args(&rt)?;
@@ -31,7 +21,16 @@ fn main(rt: HostRuntime) -> Result<()> {
         eprintln!(rt; "{}", arguments::USAGE)?;
         return Ok(());
     };
-    let done = work(&rt, &arguments)?;
+    let sink: Box<dyn MetricSink + Send + Sync> = Box::new(rt.alloc(), NopMetricSink)?;
+    let client = StatsdClient::from_sink(rt.alloc(), "some.prefix", sink)?;
+    let done = match arguments.mode {
+        Mode::Count => lines::count(&rt, &client, arguments.calls)?,
+        Mode::CountTags => lines::count_tags(&rt, &client, arguments.calls)?,
+        Mode::Histogram4 => lines::histogram4(&rt, &client, arguments.calls)?,
+        Mode::Packer => packets::packer(&rt, &arguments)?,
+        Mode::Udp => sinks::udp(&rt, rt.alloc(), &arguments)?,
+        Mode::Queue => sinks::queue(&rt, rt.alloc(), &arguments)?,
+    };
     report(&rt, &arguments, &done)?;
     Ok(())
 }

@@ -2,14 +2,14 @@
 
 use crate::arguments::Arguments;
 use crate::counting::Counting;
-use crate::done::{BlackBox, Done};
+use crate::done::{BlackBox, Done, Note};
 use anyhow::Result;
 use cadence::ext::MultiLineWriter;
 use std::alloc::{AllocError, Global};
 use std::time::Instant;
 
 /// A text that looks like a counter's line, of just so many bytes where they are four at least.
-fn text(alloc: Global, length: usize) -> std::result::Result<String, AllocError> {
+pub fn text(alloc: Global, length: usize) -> std::result::Result<String, AllocError> {
     let mut text = String::with_capacity(alloc, length.max(4))?;
     for _ in 0..length.saturating_sub(4) {
         text.push('k')?;
@@ -39,6 +39,6 @@ pub fn packer(rt: &HostRuntime, arguments: &Arguments) -> Result<Done> {
     Ok(Done {
         time,
         check: bytes.wrapping_mul(1_000_003).wrapping_add(*packets),
-        packets: Some(*packets),
+        note: Note::Packets(*packets),
     })
 }
