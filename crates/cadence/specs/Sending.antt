@@ -56,12 +56,6 @@ ChoosesOrHolds (Err e) o new = new ≡ Err e
 ChoosesOrHolds (Ok m) o (Ok n) = n ≡ chosen m o
 ChoosesOrHolds (Ok m) o (Err e) = e ≡ out_of_memory
 
--- the line of what a builder holds, or want of memory, or its held error
-abbrev pub Formats : {Z : Type 0} → Result Metric MetricError → Result (String Z) MetricError → Type 0
-Formats (Err e) answer = answer ≡ Err e
-Formats (Ok m) (Ok s) = string_bytes s ≡ line_of m
-Formats (Ok m) (Err e) = e ≡ out_of_memory
-
 -- what a builder answers: its held error, or what sending its metric's line answers
 abbrev pub SentPending : {M : Type 0} → Answers → (List ℕ → M → Type 0) → Result Metric MetricError → Result M MetricError → Type 0
 SentPending may made (Err e) answer = answer ≡ Err e

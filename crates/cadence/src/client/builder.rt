@@ -26,6 +26,12 @@ impl Metric for Line<'_> {
     }
 }
 
+// Sends the line of a record.
+fn send_line<C: MetricBackend>(client: &C, metric: &Record<'_, C::Memory>) -> MetricResult<()> {
+    let text = pending::line(metric)?;
+    client.send_metric(&Line { text: &text })
+}
+
 /// A metric that is being built, as in cadence. It holds the metric so far, or the first error of the call; a held
 /// error stays, and later calls change nothing. It has to be sent: one that is let go doesn't compile.
 pub struct MetricBuilder<
@@ -56,82 +62,62 @@ impl<'m, 'c, T: Metric + From<String<C::Memory>>, C: MetricBackend> MetricBuilde
 
     /// Adds a tag with a key, after the default tags and the earlier ones. Holds want of memory where the list of
     /// tags can't grow.
-    pub fn with_tag(self, key: &'m str, value: &'m str) -> Self
+    pub fn with_tag(mut self, key: &'m str, value: &'m str) -> Self
         ensures pending { ChoosesOrHolds (pending_of self.entry) (tagged (keyed key.now value.now)) (pending_of result) }
         ensures call { StandsForMore (pending_of self.entry) (tagged (keyed key.now value.now)) (pending_of result) }
         ensures client { backend_of result ≡ backend_of self.entry }
     {
-        let MetricBuilder {
-            record,
-            client,
-            of: _,
-        } = self;
         let tag = Tag {
             key: Some(key),
             text: value,
         };
-        MetricBuilder::new(client, pending::with_tag(record, tag))
+        pending::add_tag(&mut self.record, tag);
+        self
     }
 
     /// Adds a tag without a key, as `with_tag`.
-    pub fn with_tag_value(self, value: &'m str) -> Self
+    pub fn with_tag_value(mut self, value: &'m str) -> Self
         ensures pending { ChoosesOrHolds (pending_of self.entry) (tagged (unkeyed value.now)) (pending_of result) }
         ensures call { StandsForMore (pending_of self.entry) (tagged (unkeyed value.now)) (pending_of result) }
         ensures client { backend_of result ≡ backend_of self.entry }
     {
-        let MetricBuilder {
-            record,
-            client,
-            of: _,
-        } = self;
         let tag = Tag {
             key: None,
             text: value,
         };
-        MetricBuilder::new(client, pending::with_tag(record, tag))
+        pending::add_tag(&mut self.record, tag);
+        self
     }
 
     /// Sets the container, in the place of the default one or an earlier one.
-    pub fn with_container_id(self, container_id: &'m str) -> Self
+    pub fn with_container_id(mut self, container_id: &'m str) -> Self
         ensures pending { Chooses (pending_of self.entry) (contained container_id.now) (pending_of result) }
         ensures call { StandsForMore (pending_of self.entry) (contained container_id.now) (pending_of result) }
         ensures client { backend_of result ≡ backend_of self.entry }
     {
-        let MetricBuilder {
-            record,
-            client,
-            of: _,
-        } = self;
-        MetricBuilder::new(client, pending::with_container(record, container_id))
+        pending::set_container(&mut self.record, container_id);
+        self
     }
 
     /// Sets the time, in the place of an earlier one. DogStatsD reads it as seconds.
-    pub fn with_timestamp(self, timestamp: u64) -> Self
+    pub fn with_timestamp(mut self, timestamp: u64) -> Self
         ensures pending { Chooses (pending_of self.entry) (timed timestamp) (pending_of result) }
         ensures call { StandsForMore (pending_of self.entry) (timed timestamp) (pending_of result) }
         ensures client { backend_of result ≡ backend_of self.entry }
     {
-        let MetricBuilder {
-            record,
-            client,
-            of: _,
-        } = self;
-        MetricBuilder::new(client, pending::with_time(record, timestamp))
+        pending::set_time(&mut self.record, timestamp);
+        self
     }
 
     /// Sets the sampling rate, in the place of an earlier one. It isn't checked to lie between 0 and 1, and nothing is
     /// sampled here.
-    pub fn with_sampling_rate(self, rate: Decimal) -> Self
+    pub fn with_sampling_rate(mut self, rate: Decimal) -> Self
         ensures pending { Chooses (pending_of self.entry) (rated rate) (pending_of result) }
         ensures call { StandsForMore (pending_of self.entry) (rated rate) (pending_of result) }
         ensures client { backend_of result ≡ backend_of self.entry }
     {
-        let MetricBuilder {
-            record,
-            client,
-            of: _,
-        } = self;
-        MetricBuilder::new(client, pending::with_rate(record, rate))
+        pending::set_rate(&mut self.record, rate);
+        self
     }
 
     /// Sends the metric's line, and answers a metric with just this text.
@@ -149,9 +135,14 @@ impl<'m, 'c, T: Metric + From<String<C::Memory>>, C: MetricBackend> MetricBuilde
             client,
             of: _,
         } = self;
-        let text = pending::line(record)?;
-        client.send_metric(&Line { text: &text })?;
-        Ok(T::from(text))
+        match record {
+            Ok(ref metric) => {
+                let text = pending::line(metric)?;
+                client.send_metric(&Line { text: &text })?;
+                Ok(T::from(text))
+            }
+            Err(e) => Err(e),
+        }
     }
 
     /// Sends the metric's line as `try_send` does, and gives an error to the client's handler once. Without a handler
@@ -162,8 +153,8 @@ impl<'m, 'c, T: Metric + From<String<C::Memory>>, C: MetricBackend> MetricBuilde
             client,
             of: _,
         } = self;
-        let sent = match pending::line(record) {
-            Ok(text) => client.send_metric(&Line { text: &text }),
+        let sent = match record {
+            Ok(ref metric) => send_line(client, metric),
             Err(e) => Err(e),
         };
         if let Err(e) = sent {

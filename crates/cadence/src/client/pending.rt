@@ -1,16 +1,17 @@
 //! The record that a builder holds, or the error in its place.
-ghost use Rattle.std.specs.Prelude.{◌≡◌};
+ghost use Rattle.std.specs.Prelude.{◌≡◌, IfOk, string_bytes};
+ghost use Rattle.cadence_text.specs.Line.{line_of};
 ghost use Rattle.cadence_text.specs.Record.{tag_of};
 ghost use Rattle.cadence_text.specs.Values.{Converts};
 ghost use Rattle.cadence.specs.Call.{tagged, contained, timed, rated, MakesMetric};
-ghost use Rattle.cadence.specs.Sending.{Chooses, ChoosesOrHolds, Formats, StandsForMore, plain_metric_of};
+ghost use Rattle.cadence.specs.Sending.{Chooses, ChoosesOrHolds, StandsForMore, plain_metric_of};
 
 use crate::client::settings::ClientSettings;
 use cadence_text::decimal::Decimal;
 use cadence_text::line::{MetricType, Record, Tag};
-use cadence_text::types::MetricResult;
+use cadence_text::types::{MetricError, MetricResult};
 use cadence_text::value::MetricValue;
-use std::alloc::Allocator;
+use std::alloc::{AllocError, Allocator};
 
 // The record of a call without options.
 #[inline]
@@ -25,69 +26,60 @@ pub(crate) fn start<'a, A: Allocator + Clone>(
     settings.record(key, kind, value?)
 }
 
-// The record with one more tag.
+// Adds one more tag to the record.
 #[inline]
-pub(crate) fn with_tag<'m, A: Allocator>(
-    pending: MetricResult<Record<'m, A>>,
-    tag: Tag<'m>,
-) -> MetricResult<Record<'m, A>>
-    ensures chosen { ChoosesOrHolds pending.entry (tagged (tag_of tag.entry)) result }
-    ensures call { StandsForMore pending.entry (tagged (tag_of tag.entry)) result }
+pub(crate) fn add_tag<'m, A: Allocator>(pending: &mut MetricResult<Record<'m, A>>, tag: Tag<'m>)
+    ensures chosen { ChoosesOrHolds pending.old (tagged (tag_of tag.entry)) pending.new }
+    ensures call { StandsForMore pending.old (tagged (tag_of tag.entry)) pending.new }
 {
-    let mut metric = pending?;
-    metric.add_tag(tag)?;
-    Ok(metric)
+    let Ok(metric) = pending else {
+        return;
+    };
+    if metric.add_tag(tag).is_err() {
+        *pending = Err(MetricError::from(AllocError));
+    }
 }
 
-// The record with this container.
+// Sets the container of the record.
 #[inline]
-pub(crate) fn with_container<'m, A: Allocator>(
-    pending: MetricResult<Record<'m, A>>,
+pub(crate) fn set_container<'m, A: Allocator>(
+    pending: &mut MetricResult<Record<'m, A>>,
     container: &'m str,
-) -> MetricResult<Record<'m, A>>
-    ensures chosen { Chooses pending.entry (contained container.now) result }
-    ensures call { StandsForMore pending.entry (contained container.now) result }
+)
+    ensures chosen { Chooses pending.old (contained container.now) pending.new }
+    ensures call { StandsForMore pending.old (contained container.now) pending.new }
 {
-    let mut metric = pending?;
-    metric.set_container(container);
-    Ok(metric)
+    if let Ok(metric) = pending {
+        metric.set_container(container);
+    }
 }
 
-// The record with this time.
+// Sets the time of the record.
 #[inline]
-pub(crate) fn with_time<A: Allocator>(
-    pending: MetricResult<Record<'_, A>>,
-    time: u64,
-) -> MetricResult<Record<'_, A>>
-    ensures chosen { Chooses pending.entry (timed time) result }
-    ensures call { StandsForMore pending.entry (timed time) result }
+pub(crate) fn set_time<A: Allocator>(pending: &mut MetricResult<Record<'_, A>>, time: u64)
+    ensures chosen { Chooses pending.old (timed time) pending.new }
+    ensures call { StandsForMore pending.old (timed time) pending.new }
 {
-    let mut metric = pending?;
-    metric.set_time(time);
-    Ok(metric)
+    if let Ok(metric) = pending {
+        metric.set_time(time);
+    }
 }
 
-// The record with this rate.
+// Sets the rate of the record.
 #[inline]
-pub(crate) fn with_rate<A: Allocator>(
-    pending: MetricResult<Record<'_, A>>,
-    rate: Decimal,
-) -> MetricResult<Record<'_, A>>
-    ensures chosen { Chooses pending.entry (rated rate) result }
-    ensures call { StandsForMore pending.entry (rated rate) result }
+pub(crate) fn set_rate<A: Allocator>(pending: &mut MetricResult<Record<'_, A>>, rate: Decimal)
+    ensures chosen { Chooses pending.old (rated rate) pending.new }
+    ensures call { StandsForMore pending.old (rated rate) pending.new }
 {
-    let mut metric = pending?;
-    metric.set_rate(rate);
-    Ok(metric)
+    if let Ok(metric) = pending {
+        metric.set_rate(rate);
+    }
 }
 
 // The line of the record.
 #[inline]
-pub(crate) fn line<A: Allocator + Clone>(
-    pending: MetricResult<Record<'_, A>>,
-) -> MetricResult<String<A>>
-    ensures { Formats pending.entry result }
+pub(crate) fn line<A: Allocator + Clone>(metric: &Record<'_, A>) -> Result<String<A>, AllocError>
+    ensures { IfOk result (λ text. string_bytes text ≡ line_of metric.now) }
 {
-    let metric = pending?;
-    metric.format(metric.allocator().clone()?)
+    metric.line(metric.allocator().clone()?)
 }

@@ -144,16 +144,26 @@ impl<'a, A: Allocator> Record<'a, A> {
     /// The fields stand in cadence's order: name, numbers, type text, rate, tags, container, time.
     ///
     /// Refuses with `SinkError::OutOfMemory` alone; the record stays as it was.
-    #[tactic(auto, using(crate::proofs::LineText::line_is_not_empty, crate::proofs::LineLength::record_widths))]
     pub fn format<B: Allocator>(&self, alloc: B) -> MetricResult<String<B>>
         ensures line { IfOk result (λ line. string_bytes line ≡ line_of self.now) }
         ensures refused { IfErr result (λ e. e ≡ out_of_memory) }
         ensures widths { OnOk result (HasWidths self.now) }
         ensures not_empty { 0 < length (line_of self.now) }
     {
-        let mut line = String::with_capacity(alloc, self.size_hint())?;
-        self.push_line(&mut line)?;
+        let line = self.line(alloc)?;
         Ok(line)
+    }
+
+    /// The line as `format` makes it. Its one refusal is want of memory, as a small error.
+    #[tactic(auto, using(crate::proofs::LineText::line_is_not_empty, crate::proofs::LineLength::record_widths))]
+    pub fn line<B: Allocator>(&self, alloc: B) -> Result<String<B>, AllocError>
+        ensures line { IfOk result (λ line. string_bytes line ≡ line_of self.now) }
+        ensures widths { OnOk result (HasWidths self.now) }
+        ensures not_empty { 0 < length (line_of self.now) }
+    {
+        let mut text = String::with_capacity(alloc, self.size_hint())?;
+        self.push_line(&mut text)?;
+        Ok(text)
     }
 
     // About the length of the line.

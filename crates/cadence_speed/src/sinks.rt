@@ -1,0 +1,94 @@
+//! Lines into sinks.
+
+use crate::arguments::Arguments;
+use crate::done::{BlackBox, Done, Note};
+use crate::packets::text;
+use anyhow::Result;
+use cadence::sinks::Target;
+use cadence::{BufferedUdpMetricSink, MetricSink, NopMetricSink, QueuingMetricSink};
+use std::alloc::Global;
+use std::net::{Ipv4Addr, Net, SocketAddr, UdpSocket};
+use std::sync::Wait;
+use std::thread::{self, Threads};
+use std::time::{Clock, Instant};
+
+fn on_loopback(rt: &impl Net) -> Result<UdpSocket> {
+    Ok(UdpSocket::bind(rt, SocketAddr::from((Ipv4Addr::LOCALHOST, 0)))?)
+}
+
+/// Lines into a buffered UDP sink, to a socket of this process that nobody reads.
+pub fn udp<R: Clock + Net + Wait + Clone + Drop>(
+    rt: &R,
+    alloc: Global,
+    arguments: &Arguments,
+) -> Result<Done> {
+    let line = text(alloc, arguments.length)?;
+    let server = on_loopback(rt)?;
+    let target = Target::Addr(server.local_addr()?);
+    let (socket, capacity) = (on_loopback(rt)?, arguments.capacity);
+    let sink = BufferedUdpMetricSink::with_capacity(rt.clone()?, alloc, target, socket, capacity)?;
+    let hidden = BlackBox::new();
+    let start = Instant::now(rt)?;
+    for _ in 0..arguments.calls {
+        sink.emit(hidden.text(&line))?;
+    }
+    sink.flush()?;
+    let time = start.elapsed(rt)?;
+    let stats = sink.stats();
+    Ok(Done {
+        time,
+        check: stats
+            .bytes_sent
+            .wrapping_mul(1_000_003)
+            .wrapping_add(stats.packets_sent),
+        note: Note::Packets(stats.packets_sent),
+    })
+}
+
+// Turns until so many lines were taken.
+fn wait_until_drained<R: Wait + Drop>(
+    rt: &R,
+    queue: &QueuingMetricSink<NopMetricSink, R>,
+    lines: u64,
+) {
+    for _ in rt.forever() {
+        if queue.drained() >= lines {
+            return;
+        }
+        thread::yield_now();
+    }
+}
+
+/// Lines into a queue over a sink that does nothing, from one thread. The time is that of the emits alone.
+pub fn queue<R: Clock + Wait + Threads + Clone + Drop + Send + Sync + 'static>(
+    rt: &R,
+    alloc: Global,
+    arguments: &Arguments,
+) -> Result<Done> {
+    let line = text(alloc, arguments.length)?;
+    let queue = match arguments.capacity {
+        0 => QueuingMetricSink::from(rt.clone()?, alloc, NopMetricSink)?,
+        capacity => {
+            QueuingMetricSink::with_capacity(rt.clone()?, alloc, NopMetricSink, capacity)?
+        }
+    };
+    queue.emit(&line)?;
+    wait_until_drained(rt, &queue, 1);
+    let hidden = BlackBox::new();
+    let mut accepted = 0u64;
+    let start = Instant::now(rt)?;
+    for _ in 0..arguments.calls {
+        if queue.emit(hidden.text(&line)).is_ok() {
+            accepted = accepted.wrapping_add(1);
+        }
+    }
+    let time = start.elapsed(rt)?;
+    wait_until_drained(rt, &queue, accepted.wrapping_add(1));
+    let drained = start.elapsed(rt)?;
+    queue.stop_and_wait();
+    Ok(Done {
+        time,
+        check: if arguments.capacity == 0 { accepted } else { 0 },
+        note: Note::Accepted(accepted, drained),
+    })
+}
