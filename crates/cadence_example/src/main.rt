@@ -1,0 +1,55 @@
+//! A service's first metrics: what it sends over a queue and a UDP sink, and the datagrams that arrive.
+#![tactic(auto)]
+
+mod datagrams;
+mod metrics;
+
+use anyhow::Result;
+use cadence::sinks::Target;
+use cadence::types::MetricError;
+use cadence::{MetricSink, QueuingMetricSink, StatsdClient, UdpMetricSink};
+use std::sync::Arc;
+use std::sync::atomic::{AtomicU64, Ordering};
+
+fn main(rt: HostRuntime) -> Result<()> {
+    let alloc = rt.alloc();
+    let server = datagrams::on_loopback(&rt)?;
+    let target = Target::Addr(server.local_addr()?);
+    let socket = datagrams::on_loopback(&rt)?;
+    let udp = UdpMetricSink::from(rt.clone()?, alloc, target, socket)?;
+    let queue = QueuingMetricSink::from(rt.clone()?, alloc, udp)?;
+
+    let sink: Box<dyn MetricSink + Send + Sync> = Box::new(alloc, queue.clone()?)?;
+    let failures = Arc::new(alloc, AtomicU64::new(0))?;
+    let seen = failures.clone()?;
+    let handler: Box<dyn Fn(MetricError) + Send + Sync> = Box::new(
+        alloc,
+        move |_error: MetricError| {
+            seen.fetch_add(1, Ordering::SeqCst);
+        },
+    )?;
+    let client = StatsdClient::builder(alloc, "my.service", sink)
+        .with_tag("env", "prod")
+        .with_error_handler(handler)
+        .build()?;
+
+    metrics::send_all(alloc, &client)?;
+    // A flush doesn't wait for the queue, so the queue comes first.
+    queue.stop_and_wait();
+    client.flush()?;
+    // The queue is stopped, so this one goes to the handler.
+    metrics::send_late(&client);
+
+    datagrams::print_all(&rt, &server, queue.stats().packets_sent)?;
+    let stats = queue.stats();
+    println!(rt;
+        "sent {} bytes in {} datagrams",
+        stats.bytes_sent, stats.packets_sent
+    )?;
+    println!(rt;
+        "dropped {} bytes in {} datagrams",
+        stats.bytes_dropped, stats.packets_dropped
+    )?;
+    println!(rt; "handled errors: {}", failures.load(Ordering::SeqCst))?;
+    Ok(())
+}
