@@ -1,4 +1,4 @@
-//! Lines in packets.
+//! Lines that wait for their packet.
 use super::PacketWriter;
 use super::buffer::{append, append_ending, remove_front, send};
 use cadence_text::types::SinkError;
@@ -6,18 +6,17 @@ use std::alloc::{Allocator, Global};
 use std::marker::Model;
 use std::mem;
 
-/// Holds lines, each followed by an ending, until no more of them fit a packet of the capacity (in bytes), and then
-/// writes them as one packet. What is held is never more than the capacity. A line that with its ending passes the
-/// capacity goes out alone, without the ending. As in cadence, over a `PacketWriter`; a drop tries one flush and
-/// tells nobody how it went.
-pub struct MultiLineWriter<T: PacketWriter, A: Allocator = Global> {
+/// Holds lines as a `MultiLineWriter` does, over any `PacketWriter`, but its drop writes nothing: what holds it
+/// flushes, or gives the held text up. This project's own.
+#[derive(Drop)]
+pub struct LineBuffer<T, A: Allocator = Global> {
     inner: T,
     held: Vec<u8, A>,
     capacity: usize,
     ending: Vec<u8, A>,
 }
 
-impl<T: PacketWriter, A: Allocator> Model for MultiLineWriter<T, A> {
+impl<T, A: Allocator> Model for LineBuffer<T, A> {
     ghost use Rattle.std.specs.Prelude.{◌≤◌, length, vec_capacity};
     ghost use Rattle.cadence_flow.specs.Packer.{Packer, packer_code};
 
@@ -34,7 +33,7 @@ impl<T: PacketWriter, A: Allocator> Model for MultiLineWriter<T, A> {
     ghost invariant = { λ w. (length w.held.items ≤ w.capacity) × (w.capacity ≤ vec_capacity w.held) };
 }
 
-impl<T: PacketWriter, A: Allocator + Clone> MultiLineWriter<T, A> {
+impl<T: PacketWriter, A: Allocator + Clone> LineBuffer<T, A> {
     ghost use Rattle.std.specs.Prelude.{◌≡◌, [], codes, IfOk, IfErr};
     ghost use Rattle.cadence_flow.specs.Packer.{new_packer};
 
@@ -45,7 +44,7 @@ impl<T: PacketWriter, A: Allocator + Clone> MultiLineWriter<T, A> {
         ensures made { IfOk result (λ w. w ≡ new_packer inner capacity (codes "\n")) }
         ensures returned { IfErr result (λ w. w ≡ inner) }
     {
-        MultiLineWriter::with_ending(alloc, inner, capacity, "\n")
+        LineBuffer::with_ending(alloc, inner, capacity, "\n")
     }
 
     /// A packer of a capacity in bytes that holds nothing yet. It makes room for the whole capacity at once, so that
@@ -65,7 +64,7 @@ impl<T: PacketWriter, A: Allocator + Clone> MultiLineWriter<T, A> {
         let Ok(ending) = Vec::from_slice(second, ending.as_bytes()) else {
             return Err(inner);
         };
-        Ok(MultiLineWriter {
+        Ok(LineBuffer {
             inner,
             held,
             capacity,
@@ -74,12 +73,12 @@ impl<T: PacketWriter, A: Allocator + Clone> MultiLineWriter<T, A> {
     }
 }
 
-impl<T: PacketWriter, A: Allocator> MultiLineWriter<T, A> {
+impl<T: PacketWriter, A: Allocator> LineBuffer<T, A> {
     ghost use Rattle.std.specs.Prelude.{◌≡◌, ◌+◌, ◌≤◌, ◌++◌, [], length, IfOk, IfErr, OnOk, OnErr};
     ghost use Rattle.std.specs.Borrow.{Lends, sem};
     ghost use Rattle.cadence_flow.specs.Frame.{size_of};
     ghost use Rattle.cadence_flow.specs.Packer.{Flushes, Writes, with_held, with_writer};
-    ghost use Rattle.cadence_flow.specs.contracts.io.line_writer.MultiLineWriter.{the_row};
+    ghost use Rattle.cadence_flow.specs.contracts.io.line_writer.LineBuffer.{the_row};
 
     /// Writes a line and answers its length.
     ///
@@ -150,7 +149,7 @@ impl<T: PacketWriter, A: Allocator> MultiLineWriter<T, A> {
     /// The writer. A change through it changes the writer alone.
     pub fn get_mut(&mut self) -> &mut T
         ensures value { result.now ≡ self.old.writer }
-        ensures* writes_back { sem 𝓛 (Lends (the_row T.row A.row T.PacketWriter A.Allocator) T.row self.entry result (with_writer self.old)) }
+        ensures* writes_back { sem 𝓛 (Lends (the_row T.row A.row A.Allocator) T.row self.entry result (with_writer self.old)) }
     {
         &mut self.inner
     }
@@ -179,24 +178,12 @@ impl<T: PacketWriter, A: Allocator> MultiLineWriter<T, A> {
         ensures writer { result.0 ≡ self.writer }
         ensures text { result.1.items ≡ self.held }
     {
-        let MultiLineWriter {
+        let LineBuffer {
             inner: writer,
             held: text,
             capacity: _,
             ending: _,
         } = self;
         (writer, text)
-    }
-}
-
-impl<T: PacketWriter, A: Allocator> Drop for MultiLineWriter<T, A> {
-    fn drop(mut self) {
-        let _ = self.flush();
-        let MultiLineWriter {
-            inner: _inner,
-            held: _,
-            capacity: _,
-            ending: _,
-        } = self;
     }
 }

@@ -4,7 +4,7 @@ ghost use Rattle.cadence_text.specs.Errors.{out_of_memory};
 ghost use Rattle.cadence_text.specs.declared.types.errors.SinkError.{SinkError};
 ghost use Rattle.cadence_sinks.specs.Sockets.{IsBufferedAnswer, IsBufferedFlush, IsSocketAnswer};
 
-use cadence_flow::io::{MultiLineWriter, PacketWriter};
+use cadence_flow::io::{LineBuffer, PacketWriter};
 use cadence_flow::stats::{SinkStats, SocketStats};
 use cadence_text::types::{MetricError, MetricResult, SinkError};
 use std::alloc::Allocator;
@@ -77,10 +77,9 @@ impl<D: Datagrams, R: Wait + Drop, A: Allocator> PacketWriter for SocketWriter<D
 
 /// A packer with the newline as its ending, under a lock, over a socket each answer of which is counted. Its drop
 /// tries one flush.
-#[derive(Drop)]
 pub struct PackedSocket<D: Datagrams, R: Wait + Drop, A: Allocator> {
     rt: R,
-    writer: Mutex<MultiLineWriter<SocketWriter<D, R, A>, A>>,
+    writer: Mutex<LineBuffer<SocketWriter<D, R, A>, A>>,
     stats: SocketStats<R, A>,
 }
 
@@ -96,7 +95,7 @@ impl<D: Datagrams, R: Wait + Clone + Drop, A: Allocator + Clone> PackedSocket<D,
             refusals: 0,
             refused_bytes: 0,
         };
-        let Ok(writer) = MultiLineWriter::new(alloc, writer, capacity) else {
+        let Ok(writer) = LineBuffer::new(alloc, writer, capacity) else {
             return Err(MetricError::Sink(SinkError::OutOfMemory));
         };
         Ok(PackedSocket {
@@ -125,5 +124,17 @@ impl<D: Datagrams, R: Wait + Drop, A: Allocator> PackedSocket<D, R, A> {
     /// The counts of this moment.
     pub fn stats(&self) -> SinkStats {
         SinkStats::from(&self.stats)
+    }
+}
+
+impl<D: Datagrams, R: Wait + Drop, A: Allocator> Drop for PackedSocket<D, R, A> {
+    fn drop(self) {
+        let PackedSocket {
+            rt: _rt,
+            writer,
+            stats: _,
+        } = self;
+        let mut lines = writer.into_inner();
+        let _ = lines.flush();
     }
 }

@@ -4,7 +4,7 @@ ghost use Rattle.cadence_text.specs.Errors.{out_of_memory};
 
 use super::channel::{Sender, SpyReceiver, new_channel};
 use crate::sinks::{DEFAULT_BUFFER_SIZE, MetricSink};
-use cadence_flow::io::{MultiLineWriter, PacketWriter};
+use cadence_flow::io::{LineBuffer, PacketWriter};
 use cadence_text::types::{MetricError, MetricResult, SinkError};
 use std::alloc::{Allocator, Global};
 use std::sync::{Mutex, Wait};
@@ -40,10 +40,9 @@ impl<R: Wait + Drop, A: Allocator + Clone> PacketWriter for MessageWriter<R, A> 
 /// alone. As in cadence. It answers the line's length, or what refused a message: `ChannelDisconnected` once the
 /// receiver is dropped, else `ChannelFull` where as many messages wait as the queue's capacity, else `OutOfMemory`.
 /// The held text stays then. It keeps no counts, and holds the runtime `R`, whose locks it takes.
-#[derive(Drop)]
 pub struct BufferedSpyMetricSink<R: Wait + Drop, A: Allocator + Clone = Global> {
     rt: R,
-    writer: Mutex<MultiLineWriter<MessageWriter<R, A>, A>>,
+    writer: Mutex<LineBuffer<MessageWriter<R, A>, A>>,
 }
 
 impl<R: Wait + Clone + Drop, A: Allocator + Clone> BufferedSpyMetricSink<R, A> {
@@ -71,7 +70,7 @@ impl<R: Wait + Clone + Drop, A: Allocator + Clone> BufferedSpyMetricSink<R, A> {
             refusals: 0,
             refused_bytes: 0,
         };
-        match MultiLineWriter::new(alloc, inner, buffer.unwrap_or(DEFAULT_BUFFER_SIZE)) {
+        match LineBuffer::new(alloc, inner, buffer.unwrap_or(DEFAULT_BUFFER_SIZE)) {
             Ok(writer) => {
                 let writer = Mutex::new(writer);
                 Ok((receiver, BufferedSpyMetricSink { rt, writer }))
@@ -97,4 +96,13 @@ impl<R: Wait + Drop, A: Allocator + Clone> MetricSink for BufferedSpyMetricSink<
     }
 
     ghost flush_may_succeed = { λ _. tt };
+}
+
+// What is held goes out first, and then the queue's one handle is dropped with the writer.
+impl<R: Wait + Drop, A: Allocator + Clone> Drop for BufferedSpyMetricSink<R, A> {
+    fn drop(self) {
+        let BufferedSpyMetricSink { rt: _rt, writer } = self;
+        let mut lines = writer.into_inner();
+        let _ = lines.flush();
+    }
 }
