@@ -11,14 +11,14 @@ pub fn on_loopback(rt: &HostRuntime) -> Result<UdpSocket> {
     Ok(socket)
 }
 
-/// Receives so many datagrams, and prints each with its length in bytes.
+/// Receives so many datagrams, and prints each with its length in bytes. Each ends with a newline of its own.
 pub fn print_all(rt: &HostRuntime, server: &UdpSocket, count: u64) -> Result<()> {
     let mut bytes = [0u8; 512];
     for _ in 0..count {
         let (length, _from) = server.recv_from(&mut bytes)?;
         let text = String::from_utf8_lossy(rt.alloc(), &bytes[..length])?;
         println!(rt; "datagram of {length} bytes:")?;
-        println!(rt; "{text}")?;
+        print!(rt; "{text}")?;
     }
     Ok(())
 }

@@ -1,4 +1,4 @@
-//! A service's first metrics: what it sends over a queue and a UDP sink, and the datagrams that arrive.
+//! A service's first metrics: what it sends over a queue and a buffered UDP sink, and the datagrams that arrive.
 #![tactic(auto)]
 
 mod datagrams;
@@ -7,16 +7,19 @@ mod metrics;
 use anyhow::Result;
 use cadence::sinks::Target;
 use cadence::types::MetricError;
-use cadence::{MetricSink, QueuingMetricSink, StatsdClient, UdpMetricSink};
+use cadence::{BufferedUdpMetricSink, MetricSink, QueuingMetricSink, StatsdClient};
 use std::sync::Arc;
 use std::sync::atomic::{AtomicU64, Ordering};
+
+/// How much a datagram holds, in bytes.
+const CAPACITY: usize = 128;
 
 fn main(rt: HostRuntime) -> Result<()> {
     let alloc = rt.alloc();
     let server = datagrams::on_loopback(&rt)?;
     let target = Target::Addr(server.local_addr()?);
     let socket = datagrams::on_loopback(&rt)?;
-    let udp = UdpMetricSink::from(rt.clone()?, alloc, target, socket)?;
+    let udp = BufferedUdpMetricSink::with_capacity(rt.clone()?, alloc, target, socket, CAPACITY)?;
     let queue = QueuingMetricSink::from(rt.clone()?, alloc, udp)?;
 
     let sink: Box<dyn MetricSink + Send + Sync> = Box::new(alloc, queue.clone()?)?;
@@ -34,7 +37,7 @@ fn main(rt: HostRuntime) -> Result<()> {
         .build()?;
 
     metrics::send_all(alloc, &client)?;
-    // A flush doesn't wait for the queue, so the queue comes first.
+    // A flush doesn't wait for the queue, so the queue is emptied first.
     queue.stop_and_wait();
     client.flush()?;
     // The queue is stopped, so this one goes to the handler.
