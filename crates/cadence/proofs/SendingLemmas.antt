@@ -1,17 +1,16 @@
 -- What a builder may answer.
-use Rattle.std.proofs.Common.{◌≡◌, ℕ, List, Result, Ok, Err, subst, sym, ◌∙◌, string_bytes, String}
+use Rattle.std.proofs.Common.{◌≡◌, ℕ, List, Result, Ok, Err, subst, sym, string_bytes, String}
 use Rattle.cadence_text.specs.declared.types.errors.MetricError.{MetricError}
 use Rattle.cadence_text.specs.Line.{line_of}
 use Rattle.cadence_text.specs.Metric.{Metric}
-use Rattle.cadence.specs.Sending.{Answers, Handed, HasLine, MadeFrom, SentPending}
+use Rattle.cadence.specs.Sending.{Answers, HasLine, MadeFrom, SentPending}
 
 -- a line that was made of the metric that a builder holds, and that the sink took, is answered
-pub sent_pending : {M Z U : Type 0} (may : Answers) (gives : String Z → M → Type 0) (pending : Result Metric MetricError) (d : Metric) (text : String Z) (line : List ℕ) (m : M) (u : U)
-    → pending ≡ Ok d → line ≡ string_bytes text → string_bytes text ≡ line_of d → Handed {U = U} may line (Ok u) → gives text m
+pub sent_pending : {M Z : Type 0} (may : Answers) (gives : String Z → M → Type 0) (pending : Result Metric MetricError) (d : Metric) (text : String Z) (m : M)
+    → pending ≡ Ok d → (string_bytes text ≡ line_of d) × ((n : ℕ) × may (line_of d) (Ok n)) → gives text m
     → SentPending may (MadeFrom gives) pending (Ok m)
-sent_pending may gives pending d text line m u is same formats handed made =
-    subst (λ (p : Result Metric MetricError). SentPending may (MadeFrom gives) p (Ok m)) (sym is)
-    ((text, formats, made), (handed.0, subst (λ (t : List ℕ). may t (Ok handed.0)) (same ∙ formats) handed.1))
+sent_pending may gives pending d text m is sent made =
+    subst (λ (p : Result Metric MetricError). SentPending may (MadeFrom gives) p (Ok m)) (sym is) ((text, sent.0, made), sent.1)
 
 -- the text of an answer is the line of the call that the builder stands for
 pub has_line : {M : Type 0} (may : Answers) (made : List ℕ → M → Type 0) (pending : Result Metric MetricError) (answer : Result M MetricError)

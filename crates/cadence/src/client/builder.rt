@@ -1,15 +1,16 @@
 //! A metric that is being built.
-ghost use Rattle.std.specs.Prelude.{◌≡◌};
+ghost use Rattle.std.specs.Prelude.{◌≡◌, Err, IsErr, string_bytes};
+ghost use Rattle.cadence_text.specs.Line.{line_of};
 ghost use Rattle.cadence.specs.Call.{tagged, contained, timed, rated};
 ghost use Rattle.cadence.specs.Settings.{keyed, unkeyed};
-ghost use Rattle.cadence.specs.Sending.{Chooses, ChoosesOrHolds, HasLine, MadeFrom, SentPending, StandsForMore};
+ghost use Rattle.cadence.specs.Sending.{Chooses, ChoosesOrHolds, HasLine, MadeFrom, Sent, SentPending, StandsForMore};
 
 use crate::client::backend::MetricBackend;
 use crate::client::pending;
 use crate::client::statsd_client::StatsdClient;
 use cadence_text::decimal::Decimal;
 use cadence_text::line::{Record, Tag};
-use cadence_text::types::{Metric, MetricResult};
+use cadence_text::types::{Metric, MetricError, MetricResult};
 use std::marker::PhantomData;
 
 // A line as a metric.
@@ -26,10 +27,17 @@ impl Metric for Line<'_> {
     }
 }
 
-// Sends the line of a record.
-fn send_line<C: MetricBackend>(client: &C, metric: &Record<'_, C::Memory>) -> MetricResult<()> {
+// Sends the line of a record, and gives it back.
+#[inline]
+fn send_line<C: MetricBackend>(
+    client: &C,
+    metric: &Record<'_, C::Memory>,
+) -> MetricResult<String<C::Memory>>
+    ensures { Sent (C.line_may_get client.now) (λ line text. string_bytes text ≡ line) (line_of metric.now) result }
+{
     let text = pending::line(metric)?;
-    client.send_metric(&Line { text: &text })
+    client.send_metric(&Line { text: &text })?;
+    Ok(text)
 }
 
 /// A metric that is being built, as in cadence. It holds the metric so far, or the first error of the call; a held
@@ -130,17 +138,17 @@ impl<'m, 'c, T: Metric + From<String<C::Memory>>, C: MetricBackend> MetricBuilde
             (pending_of self.entry) result }
         ensures line { HasLine (MadeFrom T.from_gives) (pending_of self.entry) result }
     {
+        let Ok(metric) = &self.record else {
+            return Err(self.into_error());
+        };
+        let sent = send_line(self.client, metric);
         let MetricBuilder {
-            record,
-            client,
+            record: _,
+            client: _,
             of: _,
         } = self;
-        match record {
-            Ok(ref metric) => {
-                let text = pending::line(metric)?;
-                client.send_metric(&Line { text: &text })?;
-                Ok(T::from(text))
-            }
+        match sent {
+            Ok(text) => Ok(T::from(text)),
             Err(e) => Err(e),
         }
     }
@@ -148,17 +156,34 @@ impl<'m, 'c, T: Metric + From<String<C::Memory>>, C: MetricBackend> MetricBuilde
     /// Sends the metric's line as `try_send` does, and gives an error to the client's handler once. Without a handler
     /// the error is dropped.
     pub fn send(self) {
+        let client = self.client;
+        let Ok(metric) = &self.record else {
+            return client.consume_error(self.into_error());
+        };
+        let sent = send_line(client, metric);
         let MetricBuilder {
-            record,
-            client,
+            record: _,
+            client: _,
             of: _,
         } = self;
-        let sent = match record {
-            Ok(ref metric) => send_line(client, metric),
-            Err(e) => Err(e),
-        };
         if let Err(e) = sent {
             client.consume_error(e);
+        }
+    }
+
+    // The error that is held.
+    fn into_error(self) -> MetricError
+        requires { IsErr (pending_of self) }
+        ensures { pending_of self.entry ≡ Err result }
+    {
+        let MetricBuilder {
+            record,
+            client: _,
+            of: _,
+        } = self;
+        match record {
+            Ok(_) => unreachable!(),
+            Err(e) => e,
         }
     }
 }

@@ -24,10 +24,7 @@ pub trait Counted<T: ToCounterValue<Self::Memory>>: MetricBackend {
     /// Adds to a counter: `count_with_tags` and then `try_send`.
     fn count(&self, key: &str, value: T) -> MetricResult<Counter<Self::Memory>>
         ensures { SentCall (Self.line_may_get self.now) IsText
-            (plain_metric_of (Self.settings self.now) MetricType.Counter key.now (T.counted value)) result }
-    {
-        self.count_with_tags(key, value).try_send()
-    }
+            (plain_metric_of (Self.settings self.now) MetricType.Counter key.now (T.counted value)) result };
 
     /// The same, to be sent with tags and other options of its own.
     fn count_with_tags<'a>(
@@ -41,6 +38,11 @@ pub trait Counted<T: ToCounterValue<Self::Memory>>: MetricBackend {
 }
 
 impl<A: Allocator + Clone, T: ToCounterValue<A>> Counted<T> for StatsdClient<A> {
+    #[inline]
+    fn count(&self, key: &str, value: T) -> MetricResult<Counter<A>> {
+        self.send_plain(key, MetricType::Counter, value.try_to_value())
+    }
+
     #[inline]
     fn count_with_tags<'a>(
         &'a self,
@@ -72,7 +74,7 @@ pub trait CountedExt: Counted<i64> {
         ensures { SentCall (Self.line_may_get self.now) IsText
             (plain_metric_of (Self.settings self.now) MetricType.Counter key.now (Some (whole (pos 1) ∷ []))) result }
     {
-        self.incr_with_tags(key).try_send()
+        self.count(key, 1)
     }
 
     /// The same, to be sent with tags and other options of its own.
@@ -92,7 +94,7 @@ pub trait CountedExt: Counted<i64> {
         ensures { SentCall (Self.line_may_get self.now) IsText
             (plain_metric_of (Self.settings self.now) MetricType.Counter key.now (Some (whole (negsuc 0) ∷ []))) result }
     {
-        self.decr_with_tags(key).try_send()
+        self.count(key, -1)
     }
 
     /// The same, to be sent with tags and other options of its own.
@@ -120,10 +122,7 @@ pub trait Timed<T: ToTimerValue<Self::Memory>>: MetricBackend {
     /// Tells a time, in milliseconds: `time_with_tags` and then `try_send`.
     fn time(&self, key: &str, value: T) -> MetricResult<Timer<Self::Memory>>
         ensures { SentCall (Self.line_may_get self.now) IsText
-            (plain_metric_of (Self.settings self.now) MetricType.Timer key.now (T.timed value)) result }
-    {
-        self.time_with_tags(key, value).try_send()
-    }
+            (plain_metric_of (Self.settings self.now) MetricType.Timer key.now (T.timed value)) result };
 
     /// The same, to be sent with tags and other options of its own.
     fn time_with_tags<'a>(
@@ -137,6 +136,11 @@ pub trait Timed<T: ToTimerValue<Self::Memory>>: MetricBackend {
 }
 
 impl<A: Allocator + Clone, T: ToTimerValue<A>> Timed<T> for StatsdClient<A> {
+    #[inline]
+    fn time(&self, key: &str, value: T) -> MetricResult<Timer<A>> {
+        self.send_plain(key, MetricType::Timer, value.try_to_value())
+    }
+
     #[inline]
     fn time_with_tags<'a>(
         &'a self,
@@ -160,10 +164,7 @@ pub trait Gauged<T: ToGaugeValue<Self::Memory>>: MetricBackend {
     /// Tells the value of a gauge: `gauge_with_tags` and then `try_send`.
     fn gauge(&self, key: &str, value: T) -> MetricResult<Gauge<Self::Memory>>
         ensures { SentCall (Self.line_may_get self.now) IsText
-            (plain_metric_of (Self.settings self.now) MetricType.Gauge key.now (T.gauged value)) result }
-    {
-        self.gauge_with_tags(key, value).try_send()
-    }
+            (plain_metric_of (Self.settings self.now) MetricType.Gauge key.now (T.gauged value)) result };
 
     /// The same, to be sent with tags and other options of its own.
     fn gauge_with_tags<'a>(
@@ -177,6 +178,11 @@ pub trait Gauged<T: ToGaugeValue<Self::Memory>>: MetricBackend {
 }
 
 impl<A: Allocator + Clone, T: ToGaugeValue<A>> Gauged<T> for StatsdClient<A> {
+    #[inline]
+    fn gauge(&self, key: &str, value: T) -> MetricResult<Gauge<A>> {
+        self.send_plain(key, MetricType::Gauge, value.try_to_value())
+    }
+
     #[inline]
     fn gauge_with_tags<'a>(
         &'a self,
@@ -200,10 +206,7 @@ pub trait Metered<T: ToMeterValue<Self::Memory>>: MetricBackend {
     /// Adds to a meter: `meter_with_tags` and then `try_send`.
     fn meter(&self, key: &str, value: T) -> MetricResult<Meter<Self::Memory>>
         ensures { SentCall (Self.line_may_get self.now) IsText
-            (plain_metric_of (Self.settings self.now) MetricType.Meter key.now (T.metered value)) result }
-    {
-        self.meter_with_tags(key, value).try_send()
-    }
+            (plain_metric_of (Self.settings self.now) MetricType.Meter key.now (T.metered value)) result };
 
     /// The same, to be sent with tags and other options of its own.
     fn meter_with_tags<'a>(
@@ -217,6 +220,11 @@ pub trait Metered<T: ToMeterValue<Self::Memory>>: MetricBackend {
 }
 
 impl<A: Allocator + Clone, T: ToMeterValue<A>> Metered<T> for StatsdClient<A> {
+    #[inline]
+    fn meter(&self, key: &str, value: T) -> MetricResult<Meter<A>> {
+        self.send_plain(key, MetricType::Meter, value.try_to_value())
+    }
+
     #[inline]
     fn meter_with_tags<'a>(
         &'a self,
@@ -240,10 +248,7 @@ pub trait Histogrammed<T: ToHistogramValue<Self::Memory>>: MetricBackend {
     /// Tells a value of a histogram: `histogram_with_tags` and then `try_send`.
     fn histogram(&self, key: &str, value: T) -> MetricResult<Histogram<Self::Memory>>
         ensures { SentCall (Self.line_may_get self.now) IsText
-            (plain_metric_of (Self.settings self.now) MetricType.Histogram key.now (T.histogrammed value)) result }
-    {
-        self.histogram_with_tags(key, value).try_send()
-    }
+            (plain_metric_of (Self.settings self.now) MetricType.Histogram key.now (T.histogrammed value)) result };
 
     /// The same, to be sent with tags and other options of its own.
     fn histogram_with_tags<'a>(
@@ -257,6 +262,11 @@ pub trait Histogrammed<T: ToHistogramValue<Self::Memory>>: MetricBackend {
 }
 
 impl<A: Allocator + Clone, T: ToHistogramValue<A>> Histogrammed<T> for StatsdClient<A> {
+    #[inline]
+    fn histogram(&self, key: &str, value: T) -> MetricResult<Histogram<A>> {
+        self.send_plain(key, MetricType::Histogram, value.try_to_value())
+    }
+
     #[inline]
     fn histogram_with_tags<'a>(
         &'a self,
@@ -285,10 +295,7 @@ pub trait Distributed<T: ToDistributionValue<Self::Memory>>: MetricBackend {
     /// Tells a value of a distribution: `distribution_with_tags` and then `try_send`.
     fn distribution(&self, key: &str, value: T) -> MetricResult<Distribution<Self::Memory>>
         ensures { SentCall (Self.line_may_get self.now) IsText
-            (plain_metric_of (Self.settings self.now) MetricType.Distribution key.now (T.distributed value)) result }
-    {
-        self.distribution_with_tags(key, value).try_send()
-    }
+            (plain_metric_of (Self.settings self.now) MetricType.Distribution key.now (T.distributed value)) result };
 
     /// The same, to be sent with tags and other options of its own.
     fn distribution_with_tags<'a>(
@@ -302,6 +309,11 @@ pub trait Distributed<T: ToDistributionValue<Self::Memory>>: MetricBackend {
 }
 
 impl<A: Allocator + Clone, T: ToDistributionValue<A>> Distributed<T> for StatsdClient<A> {
+    #[inline]
+    fn distribution(&self, key: &str, value: T) -> MetricResult<Distribution<A>> {
+        self.send_plain(key, MetricType::Distribution, value.try_to_value())
+    }
+
     #[inline]
     fn distribution_with_tags<'a>(
         &'a self,
@@ -330,10 +342,7 @@ pub trait Setted<T: ToSetValue<Self::Memory>>: MetricBackend {
     /// Tells a member of a set: `set_with_tags` and then `try_send`.
     fn set(&self, key: &str, value: T) -> MetricResult<Set<Self::Memory>>
         ensures { SentCall (Self.line_may_get self.now) IsText
-            (plain_metric_of (Self.settings self.now) MetricType.Set key.now (T.set_as value)) result }
-    {
-        self.set_with_tags(key, value).try_send()
-    }
+            (plain_metric_of (Self.settings self.now) MetricType.Set key.now (T.set_as value)) result };
 
     /// The same, to be sent with tags and other options of its own.
     fn set_with_tags<'a>(
@@ -347,6 +356,11 @@ pub trait Setted<T: ToSetValue<Self::Memory>>: MetricBackend {
 }
 
 impl<A: Allocator + Clone, T: ToSetValue<A>> Setted<T> for StatsdClient<A> {
+    #[inline]
+    fn set(&self, key: &str, value: T) -> MetricResult<Set<A>> {
+        self.send_plain(key, MetricType::Set, value.try_to_value())
+    }
+
     #[inline]
     fn set_with_tags<'a>(
         &'a self,

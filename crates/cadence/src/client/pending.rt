@@ -1,5 +1,6 @@
 //! The record that a builder holds, or the error in its place.
-ghost use Rattle.std.specs.Prelude.{◌≡◌, IfOk, string_bytes};
+ghost use Rattle.std.specs.Prelude.{◌≡◌, Err, IfOk, string_bytes};
+ghost use Rattle.cadence_text.specs.Errors.{out_of_memory};
 ghost use Rattle.cadence_text.specs.Line.{line_of};
 ghost use Rattle.cadence_text.specs.Record.{tag_of};
 ghost use Rattle.cadence_text.specs.Values.{Converts};
@@ -26,8 +27,17 @@ pub(crate) fn start<'a, A: Allocator + Clone>(
     settings.record(key, kind, value?)
 }
 
+// Holds want of memory in the record's place.
+#[cold]
+#[inline(never)]
+fn hold_refusal<A: Allocator>(pending: &mut MetricResult<Record<'_, A>>)
+    ensures { pending.new ≡ Err out_of_memory }
+{
+    *pending = Err(MetricError::from(AllocError));
+}
+
 // Adds one more tag to the record.
-#[inline]
+#[inline(always)]
 pub(crate) fn add_tag<'m, A: Allocator>(pending: &mut MetricResult<Record<'m, A>>, tag: Tag<'m>)
     ensures chosen { ChoosesOrHolds pending.old (tagged (tag_of tag.entry)) pending.new }
     ensures call { StandsForMore pending.old (tagged (tag_of tag.entry)) pending.new }
@@ -36,7 +46,7 @@ pub(crate) fn add_tag<'m, A: Allocator>(pending: &mut MetricResult<Record<'m, A>
         return;
     };
     if metric.add_tag(tag).is_err() {
-        *pending = Err(MetricError::from(AllocError));
+        hold_refusal(pending);
     }
 }
 

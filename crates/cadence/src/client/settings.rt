@@ -1,7 +1,9 @@
 //! What a client adds to each call.
 ghost use Rattle.std.specs.Prelude.{◌≡◌, ◌∷◌, ◌++◌, ℕ, List, IfOk, IfErr, OnOk, OnErr, string_bytes, map};
-ghost use Rattle.std.specs.Option.{option_copied};
+ghost use Rattle.std.specs.Option.{option_copied, option_map};
 ghost use Rattle.cadence_text.specs.Errors.{out_of_memory};
+ghost use Rattle.cadence_text.specs.Line.{line_of};
+ghost use Rattle.cadence_text.specs.Record.{tag_of};
 ghost use Rattle.cadence_text.specs.Values.{numbers_of};
 ghost use Rattle.cadence.specs.Settings.{client_prefix, without_dots, settings_of, with_default_tag, with_default_container};
 ghost use Rattle.cadence.specs.Call.{metric_of_call, plain_call};
@@ -21,40 +23,32 @@ struct OwnedTag<A: Allocator = Global> {
     text: String<A>,
 }
 
-impl<A: Allocator> OwnedTag<A> {
-    ghost use Rattle.cadence_text.specs.Record.{tag_of};
-    ghost use Rattle.cadence.specs.SettingsParts.{owned_tag};
-
-    fn lend(&self) -> Tag<'_>
-        ensures { tag_of result ≡ owned_tag self.now }
-    {
-        let key = match &self.key {
-            Some(key) => Some(key.as_str()),
-            None => None,
-        };
-        Tag {
-            key,
-            text: self.text.as_str(),
-        }
+// A text that may be there, lent.
+fn lend<A: Allocator>(text: &Option<String<A>>) -> Option<&str>
+    ensures { option_copied result ≡ option_map string_bytes text.now }
+{
+    match text {
+        Some(text) => Some(text.as_str()),
+        None => None,
     }
 }
 
 // The room for a call's own tags that is reserved beside the default ones.
 const OWN_TAGS: usize = 4;
 
-// Adds the default tags to a record without tags, in room that is reserved once.
-fn add_defaults<'a, A: Allocator>(
+// Lends the default tags, in room that is reserved once.
+fn lend_tags<'a, A: Allocator>(
     tags: &'a [OwnedTag<A>],
-    metric: &mut Record<'a, A>,
+    lent: &mut Vec<Tag<'a>, A>,
 ) -> Result<(), AllocError>
-    ensures { OnOk result (metric.new ≡ record metric.old { tags = metric.old.tags ++ map owned_tag tags.now }) }
+    ensures { OnOk result (map tag_of lent.new.items ≡ map tag_of lent.old.items ++ map owned_tag tags.now) }
 {
-    if tags.is_empty() {
-        return Ok(());
-    }
-    metric.reserve_tags(tags.len().saturating_add(OWN_TAGS))?;
+    lent.reserve(tags.len().saturating_add(OWN_TAGS))?;
     for tag in tags {
-        metric.add_tag(tag.lend())?;
+        lent.push(Tag {
+            key: lend(&tag.key),
+            text: tag.text.as_str(),
+        })?;
     }
     Ok(())
 }
@@ -151,7 +145,20 @@ impl<A: Allocator + Clone> ClientSettings<A> {
         Ok(())
     }
 
+    // The default tags, lent. Takes memory only where there are any.
+    #[inline]
+    fn lent_tags(&self) -> Result<Vec<Tag<'_>, A>, AllocError>
+        ensures { IfOk result (λ tags. map tag_of tags.items ≡ self.now.tags) }
+    {
+        let mut lent = Vec::new(self.tags.allocator().clone()?);
+        if !self.tags.is_empty() {
+            lend_tags(&self.tags, &mut lent)?;
+        }
+        Ok(lent)
+    }
+
     /// The record of a call without options, with these defaults in it. Refuses with kind `OutOfMemory` alone.
+    #[inline]
     #[tactic(auto, using(std::proofs::lemmas::Grind::common_steps), unfolding(crate::specs::Call::metric_of_call))]
     pub fn record<'a>(
         &'a self,
@@ -161,13 +168,24 @@ impl<A: Allocator + Clone> ClientSettings<A> {
     ) -> MetricResult<Record<'a, A>>
         ensures { Makes (metric_of_call self.now (plain_call kind key.now (numbers_of value))) result }
     {
-        let alloc = self.tags.allocator().clone()?;
-        let mut metric = Record::new(alloc, &self.prefix, key, kind, value);
-        add_defaults(&self.tags, &mut metric)?;
-        if let Some(container) = &self.container {
-            metric.set_container(container.as_str());
-        }
-        Ok(metric)
+        let (tags, container) = (self.lent_tags()?, lend(&self.container));
+        Ok(Record::with_defaults(&self.prefix, key, kind, value, tags, container))
+    }
+
+    // The line of a call without options.
+    #[tactic(auto, using(std::proofs::lemmas::Grind::common_steps), unfolding(crate::specs::Call::metric_of_call))]
+    pub(crate) fn line(
+        &self,
+        key: &str,
+        kind: MetricType,
+        value: MetricValue<A>,
+    ) -> Result<String<A>, AllocError>
+        ensures { IfOk result (λ text. string_bytes text ≡
+            line_of (metric_of_call self.now (plain_call kind key.now (numbers_of value)))) }
+    {
+        let (tags, container) = (self.lent_tags()?, lend(&self.container));
+        let metric = Record::with_defaults(&self.prefix, key, kind, value, tags, container);
+        metric.line(self.tags.allocator().clone()?)
     }
 
     /// The record of a call that is kept as data, with these defaults and its options in it.

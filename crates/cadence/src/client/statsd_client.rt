@@ -1,7 +1,10 @@
 //! The client.
 ghost use Rattle.std.specs.Prelude.{◌≡◌, None, IfOk, IfErr};
 ghost use Rattle.cadence_text.specs.Errors.{out_of_memory};
-ghost use Rattle.cadence.specs.Sending.{Flushed};
+ghost use Rattle.cadence_text.specs.Line.{line_of};
+ghost use Rattle.cadence_text.specs.Values.{Converts, numbers_of};
+ghost use Rattle.cadence.specs.Call.{metric_of_call, plain_call};
+ghost use Rattle.cadence.specs.Sending.{Flushed, IsText, Sent, SentCall, plain_metric_of};
 ghost use Rattle.cadence.specs.Settings.{settings_of};
 
 use crate::client::backend::MetricBackend;
@@ -10,7 +13,9 @@ use crate::client::handler::ErrorHandler;
 use crate::client::settings::ClientSettings;
 use crate::sealed::Sealed;
 use cadence_sinks::sinks::MetricSink;
-use cadence_text::types::{Metric, MetricError, MetricResult};
+use cadence_text::line::MetricType;
+use cadence_text::types::{Metric, MetricError, MetricResult, MetricText};
+use cadence_text::value::MetricValue;
 use std::alloc::{Allocator, Global};
 
 /// A sink that the caller made.
@@ -69,6 +74,35 @@ impl<A: Allocator + Clone> StatsdClient<A> {
     {
         self.sink.flush()?;
         Ok(())
+    }
+
+    // Sends the line of a call without options.
+    fn send_value<K>(
+        &self,
+        key: &str,
+        kind: MetricType,
+        value: MetricValue<A>,
+    ) -> MetricResult<MetricText<K, A>>
+        ensures { Sent (may_answer (sink_of_client self.now)) IsText
+            (line_of (metric_of_call (settings_of_client self.now) (plain_call kind key.now (numbers_of value)))) result }
+    {
+        let text = self.settings.line(key, kind, value)?;
+        self.sink.emit(&text)?;
+        Ok(MetricText::from(text))
+    }
+
+    // Sends the line of a call without options, whose value was converted. No builder is made for it.
+    #[inline]
+    pub(crate) fn send_plain<K>(
+        &self,
+        key: &str,
+        kind: MetricType,
+        value: MetricResult<MetricValue<A>>,
+    ) -> MetricResult<MetricText<K, A>>
+        ensures { (numbers : _) → Converts numbers value → SentCall (may_answer (sink_of_client self.now)) IsText
+            (plain_metric_of (settings_of_client self.now) kind key.now numbers) result }
+    {
+        self.send_value(key, kind, value?)
     }
 }
 

@@ -32,6 +32,7 @@ pub(crate) fn kind_end(kind: MetricType) -> &'static str
     }
 }
 
+#[inline(always)]
 fn push_tag<S: LineSink>(line: &mut S, tag: &Tag<'_>) -> Result<(), S::Refusal>
     ensures taken { OnOk result (Takes S.ends_as line.old (tag_text (tag_of tag.now)) line.new) }
     ensures sized { OnOk result (IsRecordTag (tag_of tag.now)) }

@@ -45,7 +45,8 @@ impl<'a, A: Allocator> Model for Record<'a, A> {
 }
 
 impl<'a, A: Allocator> Record<'a, A> {
-    ghost use Rattle.std.specs.Prelude.{◌≡◌, ◌++◌, ◌<◌, Some, OnOk, OnErr, IfOk, IfErr, length};
+    ghost use Rattle.std.specs.Prelude.{◌≡◌, ◌++◌, ◌<◌, Some, OnOk, OnErr, IfOk, IfErr, length, map};
+    ghost use Rattle.std.specs.Option.{option_copied};
     ghost use Rattle.std.specs.String.{string_bytes};
     ghost use Rattle.cadence_text.specs.Errors.{out_of_memory};
     ghost use Rattle.cadence_text.specs.Line.{line_of};
@@ -67,14 +68,30 @@ impl<'a, A: Allocator> Record<'a, A> {
     ) -> Record<'a, A>
         ensures { result ≡ plain_metric (prefix.now ++ key.now) (numbers_of value) kind }
     {
+        Record::with_defaults(prefix, key, kind, value, Vec::new(alloc), None)
+    }
+
+    /// A record with these tags and this container, and without rate and time, as `new` else. Takes no memory.
+    #[inline]
+    pub fn with_defaults(
+        prefix: &'a str,
+        key: &'a str,
+        kind: MetricType,
+        value: MetricValue<A>,
+        tags: Vec<Tag<'a>, A>,
+        container: Option<&'a str>,
+    ) -> Record<'a, A>
+        ensures { result ≡ record (plain_metric (prefix.now ++ key.now) (numbers_of value) kind)
+            { tags = map tag_of tags.entry.items; container = option_copied container.entry } }
+    {
         Record {
             prefix,
             key,
             value,
             kind,
             rate: None,
-            tags: Vec::new(alloc),
-            container: None,
+            tags,
+            container,
             time: None,
         }
     }
@@ -85,14 +102,8 @@ impl<'a, A: Allocator> Record<'a, A> {
         self.tags.allocator()
     }
 
-    /// Makes room for so many more tags, by one request. The record's metric stays as it was.
-    pub fn reserve_tags(&mut self, additional: usize) -> Result<(), AllocError>
-        ensures { self.new ≡ self.old }
-    {
-        self.tags.reserve(additional)
-    }
-
     /// Adds a tag, after those that are there. Where memory is refused, the record is as it was.
+    #[inline]
     pub fn add_tag(&mut self, tag: Tag<'a>) -> Result<(), AllocError>
         ensures ok { OnOk result (self.new ≡ with_tag self.old (tag_of tag.entry)) }
         ensures err { OnErr result (self.new ≡ self.old) }

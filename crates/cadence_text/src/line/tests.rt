@@ -33,7 +33,6 @@ fn fields_stand_in_one_order(rt: HostRuntime) -> Result<(), Fail> {
     let mut record = counted(rt.alloc(), "p.", "k", 1);
     record.set_time(7);
     record.set_container("id");
-    record.reserve_tags(1)?;
     record.add_tag(tag("a", "b"))?;
     record.set_rate(Decimal::new(5, 1)?);
     assert_eq!(rt;
