@@ -74,7 +74,7 @@ impl<T: PacketWriter, A: Allocator + Clone> LineBuffer<T, A> {
 }
 
 impl<T: PacketWriter, A: Allocator> LineBuffer<T, A> {
-    ghost use Rattle.std.specs.Prelude.{◌≡◌, ◌+◌, ◌≤◌, ◌++◌, [], length, IfOk, IfErr, OnOk, OnErr};
+    ghost use Rattle.std.specs.Prelude.{◌≡◌, ◌↔◌, ◌+◌, ◌≤◌, ◌++◌, [], length, IfOk, IfErr, OnOk, OnErr, IsTrue, IsFalse};
     ghost use Rattle.std.specs.Borrow.{Lends, sem};
     ghost use Rattle.cadence_flow.specs.Frame.{size_of};
     ghost use Rattle.cadence_flow.specs.Packer.{Flushes, Writes, with_held, with_writer};
@@ -105,9 +105,33 @@ impl<T: PacketWriter, A: Allocator> LineBuffer<T, A> {
         if self.capacity - self.held.len() < required {
             self.flush()?;
         }
+        self.keep(line);
+        Ok(line.len())
+    }
+
+    /// Holds a line and its ending where they fit the free room, and answers whether they did; else nothing changes.
+    /// It is what `write` does with most lines, without an error to answer. Takes no memory. This project's own.
+    #[inline]
+    pub fn hold(&mut self, line: &[u8]) -> bool
+        ensures exact { IsTrue result ↔ (length self.old.held + size_of self.old.format line.now ≤ self.old.format.capacity) }
+        ensures held { IsTrue result → self.new ≡ with_held self.old (self.old.held ++ (line.now ++ self.old.format.ending)) }
+        ensures unchanged { IsFalse result → self.new ≡ self.old }
+    {
+        if self.capacity - self.held.len() < line.len() + self.ending.len() {
+            return false;
+        }
+        self.keep(line);
+        true
+    }
+
+    // Holds a line and its ending, which fit the free room.
+    #[inline]
+    fn keep(&mut self, line: &[u8])
+        requires { length self.old.held + size_of self.old.format line.now ≤ self.old.format.capacity }
+        ensures { self.new ≡ with_held self.old (self.old.held ++ (line.now ++ self.old.format.ending)) }
+    {
         append(&mut self.held, line);
         append_ending(&mut self.held, self.ending.as_slice());
-        Ok(line.len())
     }
 
     /// Writes what is held, what is left after a short count too, until all is taken. With nothing held it writes

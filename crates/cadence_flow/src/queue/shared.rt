@@ -8,6 +8,10 @@ use super::queue_core::{QueueCore, Taken};
 use cadence_text::types::{MetricResult, SinkError};
 use std::alloc::{AllocError, Allocator, Global};
 use std::sync::{Condvar, Mutex, Wait};
+use std::thread;
+
+/// How often a taker looks for a text before it sleeps.
+const LOOKS: u32 = 16;
 
 // What lies under the lock: the queue, and whether its worker has ended.
 #[derive(Drop)]
@@ -46,13 +50,16 @@ impl<T: Drop, A: Allocator + Clone> SharedQueue<T, A> {
         })
     }
 
-    /// Puts a text last, and wakes those who wait for one. The errors are those of `QueueCore::submit`; the text
-    /// comes back and the queue has not changed then.
+    /// Puts a text last, and wakes those who wait for one, which they do where the queue was idle. The errors are
+    /// those of `QueueCore::submit`; the text comes back and the queue has not changed then.
     pub fn submit(&self, rt: &impl Wait, text: T) -> Result<(), (SinkError, T)>
         ensures { IfErr result (λ e. IsQueueRefusal e.0 × (e.1 ≡ text)) }
     {
-        let answer = self.guarded.lock(rt).core.submit(text);
-        if answer.is_ok() {
+        let mut guard = self.guarded.lock(rt);
+        let idle = guard.core.is_idle();
+        let answer = guard.core.submit(text);
+        drop(guard);
+        if idle && answer.is_ok() {
             self.changed.notify_all();
         }
         answer
@@ -69,8 +76,11 @@ impl<T: Drop, A: Allocator + Clone> SharedQueue<T, A> {
         requires { F.IsAlwaysCallable make }
         ensures { IfErr result IsQueueRefusal }
     {
-        let answer = self.guarded.lock(rt).core.submit_with(make);
-        if answer.is_ok() {
+        let mut guard = self.guarded.lock(rt);
+        let idle = guard.core.is_idle();
+        let answer = guard.core.submit_with(make);
+        drop(guard);
+        if idle && answer.is_ok() {
             self.changed.notify_all();
         }
         answer
@@ -83,8 +93,21 @@ impl<T: Drop, A: Allocator> SharedQueue<T, A> {
         self.guarded.lock(rt).core.take()
     }
 
-    /// Takes the oldest text, and waits while there is none and the queue is not stopped. `None` is the end.
+    /// Takes the oldest text, and waits while there is none and the queue is not stopped. `None` is the end. It looks
+    /// a few times, and lets others run in between, before it sleeps: to wake a sleeper costs a submit more.
     pub fn take_wait(&self, rt: &impl Wait) -> Option<T> {
+        for _ in 0..LOOKS {
+            match self.try_take(rt) {
+                Taken::Text(text) => return Some(text),
+                Taken::Ended => return None,
+                Taken::Empty => thread::yield_now(),
+            }
+        }
+        self.take_asleep(rt)
+    }
+
+    // Takes the oldest text as `take_wait`, and sleeps while there is none.
+    fn take_asleep(&self, rt: &impl Wait) -> Option<T> {
         let mut guard = self
             .changed
             .wait_while(rt, self.guarded.lock(rt), |g| g.core.is_idle());

@@ -111,7 +111,11 @@ impl<D: Datagrams, R: Wait + Drop, A: Allocator> PackedSocket<D, R, A> {
     pub fn write(&self, line: &[u8]) -> Result<usize, SinkError>
         ensures { IsBufferedAnswer D.may_give line.now result }
     {
-        self.writer.lock(&self.rt).write(line)
+        let mut lines = self.writer.lock(&self.rt);
+        if lines.hold(line) {
+            return Ok(line.len());
+        }
+        lines.write(line)
     }
 
     /// Sends what is held.
