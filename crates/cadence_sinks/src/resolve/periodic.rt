@@ -15,6 +15,17 @@ struct Running {
     running: bool,
 }
 
+impl Running {
+    ghost use Rattle.std.specs.Prelude.{◌≡◌, false};
+
+    fn stop(&mut self)
+        ensures stopped { self.new.running ≡ false }
+        ensures core { self.new.core ≡ self.old.core }
+    {
+        self.running = false;
+    }
+}
+
 /// A `ResolverCore` under a lock, for a thread that looks its name up again after each period, and for those that
 /// read the address.
 #[derive(Drop)]
@@ -78,7 +89,7 @@ impl<R: Wait + Drop> PeriodicResolver<R> {
 
     /// Ends the run, at the latest after one more lookup. It waits for no sleep.
     pub fn stop(&self) {
-        self.state.lock(&self.rt).running = false;
+        self.state.lock(&self.rt).stop();
     }
 
     /// The address.
