@@ -1,5 +1,7 @@
 //! A sink that gathers lines in datagrams.
 ghost use Rattle.std.specs.Prelude.{◌≡◌, IfErr, Some, None};
+ghost use Rattle.std.specs.Option.{option_map};
+ghost use Rattle.cadence_sinks.specs.Handler.{call_of};
 ghost use Rattle.cadence_sinks.specs.Sockets.{IsSocketRefusal, IsTargetRefusal, is_io};
 
 use super::peer::UdpPeer;
@@ -58,6 +60,7 @@ impl<R: Wait + Drop, A: Allocator> BufferedUdpMetricSink<R, A> {
     pub fn builder() -> BufferedUdpMetricSinkBuilder
         ensures capacity { result.capacity ≡ None }
         ensures period { result.period ≡ None }
+        ensures handler { result.handler ≡ None }
     {
         BufferedUdpMetricSinkBuilder::new()
     }
@@ -93,7 +96,8 @@ pub struct BufferedUdpMetricSinkBuilder {
     pub capacity: Option<usize>,
     /// The time between two lookups of the target.
     pub period: Option<Duration>,
-    handler: Option<Handler>,
+    /// Who is told of a later lookup that fails or gives no address.
+    pub handler: Option<Handler>,
 }
 
 impl BufferedUdpMetricSinkBuilder {
@@ -101,6 +105,7 @@ impl BufferedUdpMetricSinkBuilder {
     pub fn new() -> Self
         ensures capacity { result.capacity ≡ None }
         ensures period { result.period ≡ None }
+        ensures handler { result.handler ≡ None }
     {
         BufferedUdpMetricSinkBuilder {
             capacity: None,
@@ -113,6 +118,7 @@ impl BufferedUdpMetricSinkBuilder {
     pub fn with_capacity(mut self, capacity: usize) -> Self
         ensures capacity { result.capacity ≡ Some capacity }
         ensures period { result.period ≡ self.period }
+        ensures handler { result.handler ≡ self.handler }
     {
         self.capacity = Some(capacity);
         self
@@ -122,6 +128,7 @@ impl BufferedUdpMetricSinkBuilder {
     pub fn with_resolver_period(mut self, period: Duration) -> Self
         ensures capacity { result.capacity ≡ self.capacity }
         ensures period { result.period ≡ Some period }
+        ensures handler { result.handler ≡ self.handler }
     {
         self.period = Some(period);
         self
@@ -133,6 +140,7 @@ impl BufferedUdpMetricSinkBuilder {
         requires { IsAlwaysCallable handler }
         ensures capacity { result.capacity ≡ self.capacity }
         ensures period { result.period ≡ self.period }
+        ensures handler { option_map call_of result.handler ≡ Some handler }
     {
         self.handler = Some(Handler::new(handler));
         self

@@ -1,5 +1,7 @@
 //! A sink that sends each line as a datagram.
 ghost use Rattle.std.specs.Prelude.{◌≡◌, IfErr, Some, None};
+ghost use Rattle.std.specs.Option.{option_map};
+ghost use Rattle.cadence_sinks.specs.Handler.{call_of};
 ghost use Rattle.cadence_sinks.specs.Sockets.{IsSocketAnswer, IsSocketRefusal, IsTargetRefusal, is_io};
 
 use super::peer::UdpPeer;
@@ -40,7 +42,8 @@ impl<R: Net + Wait + Drop, A: Allocator + Clone> UdpMetricSink<R, A> {
 impl<R: Wait + Drop, A: Allocator> UdpMetricSink<R, A> {
     /// A builder without any setting.
     pub fn builder() -> UdpMetricSinkBuilder
-        ensures { result.period ≡ None }
+        ensures period { result.period ≡ None }
+        ensures handler { result.handler ≡ None }
     {
         UdpMetricSinkBuilder::new()
     }
@@ -65,13 +68,15 @@ impl<R: Wait + Drop, A: Allocator> MetricSink for UdpMetricSink<R, A> {
 pub struct UdpMetricSinkBuilder {
     /// The time between two lookups of the target.
     pub period: Option<Duration>,
-    handler: Option<Handler>,
+    /// Who is told of a later lookup that fails or gives no address.
+    pub handler: Option<Handler>,
 }
 
 impl UdpMetricSinkBuilder {
     /// A builder without any setting.
     pub fn new() -> Self
-        ensures { result.period ≡ None }
+        ensures period { result.period ≡ None }
+        ensures handler { result.handler ≡ None }
     {
         UdpMetricSinkBuilder {
             period: None,
@@ -81,7 +86,8 @@ impl UdpMetricSinkBuilder {
 
     /// The target is looked up again after each period, by a thread that sleeps in between.
     pub fn with_resolver_period(mut self, period: Duration) -> Self
-        ensures { result.period ≡ Some period }
+        ensures period { result.period ≡ Some period }
+        ensures handler { result.handler ≡ self.handler }
     {
         self.period = Some(period);
         self
@@ -91,7 +97,8 @@ impl UdpMetricSinkBuilder {
     /// that looks up. Without a period it isn't used.
     pub fn with_resolver_error_handler(mut self, handler: SinkErrorHandler) -> Self
         requires { IsAlwaysCallable handler }
-        ensures { result.period ≡ self.period }
+        ensures period { result.period ≡ self.period }
+        ensures handler { option_map call_of result.handler ≡ Some handler }
     {
         self.handler = Some(Handler::new(handler));
         self
