@@ -1,5 +1,6 @@
 //! The sinks that a Statsd client sends its lines to.
 
+mod buffered;
 mod datagram;
 mod handler;
 mod metric_sink;

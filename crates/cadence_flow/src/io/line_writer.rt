@@ -111,7 +111,7 @@ impl<T: PacketWriter, A: Allocator> LineBuffer<T, A> {
 
     /// Holds a line and its ending where they fit the free room, and answers whether they did; else nothing changes.
     /// It is what `write` does with most lines, without an error to answer. Takes no memory. This project's own.
-    #[inline]
+    #[inline(always)]
     pub fn hold(&mut self, line: &[u8]) -> bool
         ensures exact { IsTrue result ↔ (length self.old.held + size_of self.old.format line.now ≤ self.old.format.capacity) }
         ensures held { IsTrue result → self.new ≡ with_held self.old (self.old.held ++ (line.now ++ self.old.format.ending)) }
@@ -125,7 +125,7 @@ impl<T: PacketWriter, A: Allocator> LineBuffer<T, A> {
     }
 
     // Holds a line and its ending, which fit the free room.
-    #[inline]
+    #[inline(always)]
     fn keep(&mut self, line: &[u8])
         requires { length self.old.held + size_of self.old.format line.now ≤ self.old.format.capacity }
         ensures { self.new ≡ with_held self.old (self.old.held ++ (line.now ++ self.old.format.ending)) }

@@ -8,10 +8,20 @@ use super::queue_core::{QueueCore, Taken};
 use cadence_text::types::{MetricResult, SinkError};
 use std::alloc::{AllocError, Allocator, Global};
 use std::sync::{Condvar, Mutex, Wait};
-use std::thread;
+use std::{hint, thread};
 
 /// How often a taker looks for a text before it sleeps.
 const LOOKS: u32 = 16;
+
+/// How many turns of a spinning loop a caller leaves the lock alone that found the queue full.
+const TURNS_ASIDE: u32 = 2;
+
+// Leaves the lock to the taker for a moment. A caller that tries again at once would else have it nearly always.
+fn stand_aside() {
+    for _ in 0..TURNS_ASIDE {
+        hint::spin_loop();
+    }
+}
 
 // What lies under the lock: the queue, and whether its worker has ended.
 #[derive(Drop)]
@@ -51,15 +61,17 @@ impl<T: Drop, A: Allocator + Clone> SharedQueue<T, A> {
     }
 
     /// Puts a text last, and wakes those who wait for one, which they do where the queue was idle. The errors are
-    /// those of `QueueCore::submit`; the text comes back and the queue has not changed then.
+    /// those of `QueueCore::submit`; the text comes back and the queue has not changed then. It doesn't wait for room.
     pub fn submit(&self, rt: &impl Wait, text: T) -> Result<(), (SinkError, T)>
         ensures { IfErr result (λ e. IsQueueRefusal e.0 × (e.1 ≡ text)) }
     {
         let mut guard = self.guarded.lock(rt);
-        let idle = guard.core.is_idle();
+        let (idle, full) = (guard.core.is_idle(), guard.core.is_full());
         let answer = guard.core.submit(text);
         drop(guard);
-        if idle && answer.is_ok() {
+        if full {
+            stand_aside();
+        } else if idle && answer.is_ok() {
             self.changed.notify_all();
         }
         answer
@@ -77,10 +89,12 @@ impl<T: Drop, A: Allocator + Clone> SharedQueue<T, A> {
         ensures { IfErr result IsQueueRefusal }
     {
         let mut guard = self.guarded.lock(rt);
-        let idle = guard.core.is_idle();
+        let (idle, full) = (guard.core.is_idle(), guard.core.is_full());
         let answer = guard.core.submit_with(make);
         drop(guard);
-        if idle && answer.is_ok() {
+        if full {
+            stand_aside();
+        } else if idle && answer.is_ok() {
             self.changed.notify_all();
         }
         answer
@@ -97,13 +111,22 @@ impl<T: Drop, A: Allocator> SharedQueue<T, A> {
     /// a few times, and lets others run in between, before it sleeps: to wake a sleeper costs a submit more.
     pub fn take_wait(&self, rt: &impl Wait) -> Option<T> {
         for _ in 0..LOOKS {
-            match self.try_take(rt) {
+            match self.look() {
                 Taken::Text(text) => return Some(text),
                 Taken::Ended => return None,
                 Taken::Empty => thread::yield_now(),
             }
         }
         self.take_asleep(rt)
+    }
+
+    // Takes the oldest text where the lock is free. A lock that is held counts as an empty queue: to wait for it would
+    // make the one who holds it wake a sleeper.
+    fn look(&self) -> Taken<T> {
+        match self.guarded.try_lock() {
+            Some(mut guard) => guard.core.take(),
+            None => Taken::Empty,
+        }
     }
 
     // Takes the oldest text as `take_wait`, and sleeps while there is none.

@@ -4,11 +4,12 @@ ghost use Rattle.cadence_text.specs.Errors.{out_of_memory};
 ghost use Rattle.cadence_text.specs.declared.types.errors.SinkError.{SinkError};
 ghost use Rattle.cadence_sinks.specs.Sockets.{IsBufferedAnswer, IsBufferedFlush, IsSocketAnswer};
 
+use super::buffered::{hold_line, write_line};
 use cadence_flow::io::{LineBuffer, PacketWriter};
 use cadence_flow::stats::{SinkStats, SocketStats};
 use cadence_text::types::{MetricError, MetricResult, SinkError};
 use std::alloc::Allocator;
-use std::sync::{Mutex, Wait};
+use std::sync::{Mutex, MutexGuard, Wait};
 
 /// A socket with the place that it sends to.
 pub trait Datagrams: Drop {
@@ -49,9 +50,9 @@ impl<D: Datagrams, R: Wait + Drop, A: Allocator> CountedSocket<D, R, A> {
     }
 }
 
-// Writes packets to a socket. It doesn't tell its packets.
+/// Writes packets to a socket. It doesn't tell its packets.
 #[derive(Drop)]
-struct SocketWriter<D: Datagrams, R: Wait + Drop, A: Allocator> {
+pub struct SocketWriter<D: Datagrams, R: Wait + Drop, A: Allocator> {
     socket: CountedSocket<D, R, A>,
     refusals: u64,
     refused_bytes: u64,
@@ -107,15 +108,18 @@ impl<D: Datagrams, R: Wait + Clone + Drop, A: Allocator + Clone> PackedSocket<D,
 }
 
 impl<D: Datagrams, R: Wait + Drop, A: Allocator> PackedSocket<D, R, A> {
-    /// Holds a line, or sends it alone.
-    pub fn write(&self, line: &[u8]) -> Result<usize, SinkError>
-        ensures { IsBufferedAnswer D.may_give line.now result }
-    {
-        let mut lines = self.writer.lock(&self.rt);
-        if lines.hold(line) {
-            return Ok(line.len());
+    /// Holds the line of a metric where it fits the free room. Else nothing has changed, and the lock is given for
+    /// `write_out`.
+    pub fn hold(&self, metric: &str) -> Option<SocketLines<'_, D, R, A>> {
+        // a lock that is free is taken inline
+        let mut lines = match self.writer.try_lock() {
+            Some(lines) => lines,
+            None => self.writer.lock(&self.rt),
+        };
+        if hold_line(&mut lines, metric) {
+            return None;
         }
-        lines.write(line)
+        Some(lines)
     }
 
     /// Sends what is held.
@@ -129,6 +133,22 @@ impl<D: Datagrams, R: Wait + Drop, A: Allocator> PackedSocket<D, R, A> {
     pub fn stats(&self) -> SinkStats {
         SinkStats::from(&self.stats)
     }
+}
+
+/// The lock of a packed socket.
+pub type SocketLines<'a, D, R, A> = MutexGuard<'a, LineBuffer<SocketWriter<D, R, A>, A>>;
+
+/// Sends the held lines, and holds the line of a metric or sends it alone; then it lets the lock go. It stands apart
+/// from `hold`, which most lines need alone: an answer is as wide as an `io::Error`.
+#[cold]
+#[inline(never)]
+pub fn write_out<D: Datagrams, R: Wait + Drop, A: Allocator>(
+    mut lines: SocketLines<'_, D, R, A>,
+    metric: &str,
+) -> Result<usize, SinkError>
+    ensures { IsBufferedAnswer D.may_give metric.now result }
+{
+    write_line(&mut lines, metric)
 }
 
 impl<D: Datagrams, R: Wait + Drop, A: Allocator> Drop for PackedSocket<D, R, A> {

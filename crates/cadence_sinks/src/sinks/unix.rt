@@ -4,7 +4,7 @@ ghost use Rattle.cadence_text.specs.Errors.{out_of_memory};
 ghost use Rattle.cadence_text.specs.declared.types.errors.SinkError.{SinkError};
 ghost use Rattle.cadence_sinks.specs.Sockets.{IsSocketAnswer};
 
-use super::datagram::{CountedSocket, Datagrams, PackedSocket};
+use super::datagram::{CountedSocket, Datagrams, PackedSocket, write_out};
 use super::{DEFAULT_BUFFER_SIZE, MetricSink};
 use cadence_flow::stats::SinkStats;
 use cadence_text::types::{MetricResult, SinkError};
@@ -127,7 +127,10 @@ impl<P: PathSocket, R: Wait + Drop, A: Allocator> MetricSink for BufferedUnixMet
     ghost may_flush = { λ _ answer. IsBufferedFlush P.may_give answer };
 
     fn emit(&self, metric: &str) -> Result<usize, SinkError> {
-        self.socket.write(metric.as_bytes())
+        match self.socket.hold(metric) {
+            None => Ok(metric.len()),
+            Some(lines) => write_out(lines, metric),
+        }
     }
 
     fn flush(&self) -> Result<(), SinkError> {

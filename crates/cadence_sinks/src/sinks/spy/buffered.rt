@@ -3,6 +3,7 @@ ghost use Rattle.std.specs.Prelude.{◌≡◌, IfErr};
 ghost use Rattle.cadence_text.specs.Errors.{out_of_memory};
 
 use super::channel::{Sender, SpyReceiver, new_channel};
+use crate::sinks::buffered::write_line;
 use crate::sinks::{DEFAULT_BUFFER_SIZE, MetricSink};
 use cadence_flow::io::{LineBuffer, PacketWriter};
 use cadence_text::types::{MetricError, MetricResult, SinkError};
@@ -88,7 +89,7 @@ impl<R: Wait + Drop, A: Allocator + Clone> MetricSink for BufferedSpyMetricSink<
     ghost may_flush = { λ _ answer. IsQueueFlush answer };
 
     fn emit(&self, metric: &str) -> Result<usize, SinkError> {
-        self.writer.lock(&self.rt).write(metric.as_bytes())
+        write_line(&mut self.writer.lock(&self.rt), metric)
     }
 
     fn flush(&self) -> Result<(), SinkError> {

@@ -6,7 +6,7 @@ ghost use Rattle.cadence_sinks.specs.Sockets.{IsSocketRefusal, IsTargetRefusal, 
 
 use super::peer::UdpPeer;
 use crate::resolve::Resolver;
-use crate::sinks::datagram::PackedSocket;
+use crate::sinks::datagram::{PackedSocket, write_out};
 use crate::sinks::{DEFAULT_BUFFER_SIZE, Handler, MetricSink, SinkErrorHandler, Target};
 use cadence_flow::stats::SinkStats;
 use cadence_text::types::{MetricResult, SinkError};
@@ -74,7 +74,10 @@ impl<R: Wait + Drop, A: Allocator> MetricSink for BufferedUdpMetricSink<R, A> {
     ghost may_flush = { λ _ answer. IsBufferedFlush is_io answer };
 
     fn emit(&self, metric: &str) -> Result<usize, SinkError> {
-        self.socket.write(metric.as_bytes())
+        match self.socket.hold(metric) {
+            None => Ok(metric.len()),
+            Some(lines) => write_out(lines, metric),
+        }
     }
 
     fn flush(&self) -> Result<(), SinkError> {
