@@ -1,6 +1,6 @@
 -- What a builder may answer.
 use Rattle.std.proofs.Common.{◌≡◌, ℕ, List, Result, Ok, Err, subst, sym, string_bytes, String}
-use Rattle.cadence_text.specs.declared.types.errors.MetricError.{MetricError}
+use Rattle.cadence_errors.specs.declared.MetricError.{MetricError}
 use Rattle.cadence_text.specs.Line.{line_of}
 use Rattle.cadence_text.specs.Metric.{Metric}
 use Rattle.cadence.specs.Sending.{Answers, HasLine, MadeFrom, SentPending}

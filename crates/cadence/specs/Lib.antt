@@ -1,17 +1,2 @@
-pub mod Call
-pub mod Calls
-pub mod Headline
-pub mod History
-pub mod Moves
-pub mod Packets
-pub mod Plan
-pub mod PlanGroup
-pub mod Reading
-pub mod Replies
-pub mod Report
-pub mod Running
 pub mod Sending
-pub mod Settings
-pub mod SettingsParts
 pub mod Shown
-pub mod Stream

@@ -2,15 +2,15 @@
 use Rattle.std.specs.Prelude.{◌≡◌, ℕ, ◌⊎◌, List, Option, Some, None, Result, Ok, Err, IfOk, String, string_bytes}
 use Rattle.std.specs.Option.{option_map}
 use Rattle.cadence_text.specs.declared.line.MetricType.{MetricType}
-use Rattle.cadence_text.specs.declared.types.errors.MetricError.{MetricError}
-use Rattle.cadence_text.specs.declared.types.errors.MetricError.TheVariants.{Sink}
-use Rattle.cadence_text.specs.declared.types.errors.SinkError.{SinkError}
-use Rattle.cadence_text.specs.Errors.{IsInvalid, out_of_memory}
+use Rattle.cadence_errors.specs.declared.MetricError.{MetricError}
+use Rattle.cadence_errors.specs.declared.MetricError.TheVariants.{Sink}
+use Rattle.cadence_errors.specs.declared.SinkError.{SinkError}
+use Rattle.cadence_errors.specs.Errors.{IsInvalid, out_of_memory}
 use Rattle.cadence_text.specs.Line.{line_of}
 use Rattle.cadence_text.specs.Metric.{Metric}
 use Rattle.cadence_text.specs.Number.{Number}
-use Rattle.cadence.specs.Call.{Choice, MetricCall, chosen, metric_of_call, plain_call, with_choice}
-use Rattle.cadence.specs.Settings.{Settings}
+use Rattle.cadence_schedule.specs.Call.{Choice, MetricCall, chosen, metric_of_call, plain_call, with_choice}
+use Rattle.cadence_schedule.specs.Settings.{Settings}
 
 -- which answers of a sink a text may get
 abbrev pub Answers : Type 1

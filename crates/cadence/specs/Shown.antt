@@ -2,12 +2,12 @@
 use Rattle.std.specs.Prelude.{◌≡◌, Option, Some, Result}
 use Rattle.std.specs.Option.{option_map}
 use Rattle.std.specs.declared.dyn_box.DynBox.{DynBox}
-use Rattle.cadence_text.specs.declared.types.errors.MetricError.{MetricError}
+use Rattle.cadence_errors.specs.declared.MetricError.{MetricError}
 use Rattle.cadence_text.specs.Metric.{Metric}
 use Rattle.cadence.specs.declared.client.builder.MetricBuilder.{MetricBuilder}
 use Rattle.cadence.specs.declared.client.statsd_client.StatsdClient.{StatsdClient}
 use Rattle.cadence.specs.declared.client.client_builder.StatsdClientBuilder.{StatsdClientBuilder}
-use Rattle.cadence.specs.Settings.{Settings}
+use Rattle.cadence_schedule.specs.Settings.{Settings}
 
 module _ {T C Z : Type 0} where
   -- what a builder of a metric holds: the metric so far, or an error

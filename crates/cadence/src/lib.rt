@@ -5,15 +5,18 @@
 
 pub mod client;
 pub mod ext;
+pub mod laws;
+mod metrics;
 pub mod prelude;
+pub mod queue;
+pub mod resolve;
 pub mod schedule;
 mod sealed;
-#[cfg(test)]
-mod threads_tests;
+pub mod types;
 
-pub use cadence_flow::{io, queue, stats};
-pub use cadence_sinks::{resolve, sinks};
-pub use cadence_text::{decimal, line, types, value};
+pub use cadence_flow::{io, stats};
+pub use cadence_sinks as sinks;
+pub use cadence_text::{decimal, line, value};
 pub use client::{MetricBuilder, StatsdClient, StatsdClientBuilder};
 pub use prelude::{
     Counted, CountedExt, Distributed, Gauged, Histogrammed, Metered, MetricClient, Setted, Timed,

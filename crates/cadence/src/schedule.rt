@@ -1,17 +1,6 @@
 //! Runs of a client, a queue and a packer, step by step, and plans of packets.
 
-pub mod call;
-mod counting;
-mod laws;
-mod plan;
-mod reports;
-mod run;
-mod running;
-mod steps;
-
-pub use call::{Call, CallOption, CallValue};
-pub use laws::packets_read_one_way;
-pub use plan::{check_plan, plan_packets, tight_is_fewest};
-pub use reports::Report;
-pub use run::run_schedule;
-pub use steps::{Reply, Step};
+pub use cadence_schedule::{
+    Call, CallOption, CallValue, Reply, Report, Step, check_plan, packets_read_one_way,
+    plan_packets, run_schedule, tight_is_fewest,
+};

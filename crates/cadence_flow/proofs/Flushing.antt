@@ -2,7 +2,7 @@
 use Rattle.std.proofs.Common.{◌≡◌, ℕ, ◌-◌, ◌<◌, ◌≤◌, true, [], ◌∷◌, ◌++◌, List, length, take, drop, ap, ◌∙◌, sym, subst, arith, length-drop, append_assoc, take_all, take-append-drop, refl, OnOk, OnErr, IfErr, Ok, Err, Result, inl, inr}
 use Rattle.std.proofs.lemmas.List.{append-nil, drop_all}
 use Rattle.std.specs.List.{concat}
-use Rattle.cadence_text.specs.declared.types.errors.SinkError.{SinkError}
+use Rattle.cadence_errors.specs.declared.SinkError.{SinkError}
 use Rattle.cadence_flow.specs.Writer.{History, Kind, RefusedNothing, Sends, Extends}
 use Rattle.cadence_flow.specs.Packer.{Flushes, HasCause, whole_text, closed_packets}
 use Rattle.cadence_flow.proofs.Histories.{Sends-joined, SendsThen-joined, Sends-Extends, SendsThen-Extends}

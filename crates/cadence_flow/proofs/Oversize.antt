@@ -3,7 +3,7 @@ use Rattle.std.proofs.Common.{◌≡◌, ℕ, ◌+◌, ◌-◌, ◌<◌, true, [
 use Rattle.std.proofs.lemmas.Bool.{false≢true}
 use Rattle.std.proofs.lemmas.List.{append-nil, drop_all}
 use Rattle.std.specs.List.{concat}
-use Rattle.cadence_text.specs.declared.types.errors.SinkError.{SinkError}
+use Rattle.cadence_errors.specs.declared.SinkError.{SinkError}
 use Rattle.cadence_flow.specs.Frame.{Format, size_of, is_oversize, frame_of}
 use Rattle.cadence_flow.specs.Packer.{Flushes, Writes, whole_text, closed_packets}
 use Rattle.cadence_flow.specs.Writer.{History, Kind, Sends, WritesPacket, after_packet}

@@ -1,6 +1,3 @@
-pub mod AuditDesk
-pub mod AuditHistory
-pub mod AuditSeats
 pub mod Frame
 pub mod Log
 pub mod Packer
@@ -9,6 +6,6 @@ pub mod QueueModel
 pub mod QueueRoom
 pub mod QueueState
 pub mod Sums
-pub mod TakenText
 pub mod Tests
 pub mod Writer
+pub use Rattle.cadence_errors.specs.Errors

@@ -1,8 +1,8 @@
 -- A log of packets in memory, and its script of answers.
 use Rattle.std.specs.Prelude.{◌≡◌, ℕ, min, Bool, true, false, List, [], ◌∷◌, length, drop, IfOk, IfErr, Err}
 use Rattle.std.specs.declared.result.Result.{Result}
-use Rattle.cadence_text.specs.declared.types.errors.SinkError.{SinkError}
-use Rattle.cadence_text.specs.declared.types.errors.SinkError.TheVariants.{ChannelFull, ChannelDisconnected, Io, PacketRefused, NothingWritten, OutOfMemory, NoAddresses}
+use Rattle.cadence_errors.specs.declared.SinkError.{SinkError}
+use Rattle.cadence_errors.specs.declared.SinkError.TheVariants.{ChannelFull, ChannelDisconnected, Io, PacketRefused, NothingWritten, OutOfMemory, NoAddresses}
 use Rattle.cadence_flow.specs.Sums.{zero_sums}
 use Rattle.cadence_flow.specs.Writer.{History, Kind}
 use Rattle.cadence_flow.specs.declared.io.packet_log.Answer.{Answer}

@@ -4,8 +4,8 @@ use Rattle.std.specs.declared.result.Result.{Result}
 use Rattle.std.specs.List.{concat}
 use Rattle.std.specs.Coded.{Coded, coded×, coded_ℕ, coded_list, code_by}
 use Rattle.std.proofs.Common.{refl}
-use Rattle.cadence_text.specs.declared.types.errors.SinkError.{SinkError}
-use Rattle.cadence_text.specs.declared.types.errors.SinkError.TheVariants.{NothingWritten}
+use Rattle.cadence_errors.specs.declared.SinkError.{SinkError}
+use Rattle.cadence_errors.specs.declared.SinkError.TheVariants.{NothingWritten}
 use Rattle.cadence_flow.specs.Frame.{Format, size_of, is_oversize, frame_of}
 use Rattle.cadence_flow.specs.Writer.{History, Kind, RefusedNothing, RefusedOne, Extends, Sends, SendsThen}
 

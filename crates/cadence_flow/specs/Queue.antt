@@ -1,7 +1,7 @@
 -- What each call of a queue does.
 use Rattle.std.specs.Prelude.{◌≡◌, ℕ, ◌+◌, ◌-◌, ◌%◌, ◌^◌, ◌==◌, ◌||◌, ◌&&◌, not, Bool, true, false, cond, leb, List, [], ◌∷◌, ◌++◌, length, Option, Some, None}
-use Rattle.cadence_text.specs.declared.types.errors.SinkError.{SinkError}
-use Rattle.cadence_text.specs.declared.types.errors.SinkError.TheVariants.{ChannelFull, ChannelDisconnected, OutOfMemory}
+use Rattle.cadence_errors.specs.declared.SinkError.{SinkError}
+use Rattle.cadence_errors.specs.declared.SinkError.TheVariants.{ChannelFull, ChannelDisconnected, OutOfMemory}
 use Rattle.cadence_flow.specs.QueueState.{Queue}
 use Rattle.cadence_flow.specs.declared.queue.queue_core.Taken.{Taken}
 use Rattle.cadence_flow.specs.declared.queue.queue_core.Taken.TheVariants.{Text, Empty, Ended}

@@ -1,7 +1,7 @@
 -- Sums of sent and dropped bytes and packets, modulo 2^64.
 use Rattle.std.specs.Prelude.{ℕ, ◌+◌, ◌*◌, ◌%◌, ◌^◌, Bool, true, false, length, Result, Ok, Err}
 use Rattle.std.specs.List.{concat}
-use Rattle.cadence_text.specs.declared.types.errors.SinkError.{SinkError}
+use Rattle.cadence_errors.specs.declared.SinkError.{SinkError}
 use Rattle.cadence_flow.specs.Writer.{History, Kind}
 use Rattle.cadence_flow.specs.declared.stats.SinkStats.{SinkStats}
 

@@ -2,7 +2,7 @@
 use Rattle.std.specs.Prelude.{◌≡◌, ℕ, ◌+◌, ◌%◌, ◌^◌, ◌<◌, ◌≤◌, Bool, true, List, [], ◌∷◌, ◌++◌, length, take, IfOk, IfErr, OnOk, All}
 use Rattle.std.specs.declared.result.Result.{Result}
 use Rattle.std.specs.List.{concat}
-use Rattle.cadence_text.specs.declared.types.errors.SinkError.{SinkError}
+use Rattle.cadence_errors.specs.declared.SinkError.{SinkError}
 use Rattle.cadence_flow.specs.declared.stats.SinkStats.{SinkStats}
 
 -- the packets that a writer took, the oldest first, and the number and total length of its refusals, both modulo 2^64

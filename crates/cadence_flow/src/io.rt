@@ -10,6 +10,3 @@ pub use line_writer::LineBuffer;
 pub use multi_line_writer::MultiLineWriter;
 pub use packet_log::{Answer, PacketLog};
 pub use writer::PacketWriter;
-
-#[cfg(test)]
-mod tests;

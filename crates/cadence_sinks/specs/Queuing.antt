@@ -3,12 +3,12 @@ use Rattle.std.specs.Prelude.{ℕ, Option}
 use Rattle.std.specs.Arc.{arc_value}
 use Rattle.std.specs.Option.{option_map}
 use Rattle.std.specs.declared.dyn_box.DynBox.{DynBox}
-use Rattle.cadence_text.specs.declared.types.errors.SinkError.TheVariants.{Io, OutOfMemory}
-use Rattle.cadence_text.specs.declared.types.errors.MetricError.{MetricError}
-use Rattle.cadence_text.specs.declared.types.errors.MetricError.TheVariants.{Sink}
-use Rattle.cadence_sinks.specs.Handler.{call_of}
-use Rattle.cadence_sinks.specs.declared.sinks.queuing.QueuingMetricSink.{QueuingMetricSink}
-use Rattle.cadence_sinks.specs.declared.sinks.queuing.QueuingMetricSinkBuilder.{QueuingMetricSinkBuilder}
+use Rattle.cadence_errors.specs.declared.SinkError.TheVariants.{Io, OutOfMemory}
+use Rattle.cadence_errors.specs.declared.MetricError.{MetricError}
+use Rattle.cadence_errors.specs.declared.MetricError.TheVariants.{Sink}
+use Rattle.cadence_resolve.specs.Handler.{call_of}
+use Rattle.cadence_sinks.specs.declared.queuing.QueuingMetricSink.{QueuingMetricSink}
+use Rattle.cadence_sinks.specs.declared.queuing.QueuingMetricSinkBuilder.{QueuingMetricSinkBuilder}
 
 -- why a queuing sink is not made: memory ran out, or no thread could be started
 abbrev pub IsQueuingRefusal : MetricError → Type 0

@@ -1,15 +1,15 @@
 -- What sinks over sockets may answer, and why they are refused.
 use Rattle.std.specs.Prelude.{◌≡◌, ◌≤◌, ℕ, Bool, true, false, List, length, ◌⊎◌, Result, MatchResult, IfErr}
-use Rattle.cadence_text.specs.declared.types.errors.ErrorKind.TheVariants.{InvalidInput}
-use Rattle.cadence_text.specs.declared.types.errors.SinkError.{SinkError}
-use Rattle.cadence_text.specs.declared.types.errors.SinkError.TheVariants.{Io, NothingWritten, OutOfMemory}
-use Rattle.cadence_text.specs.declared.types.errors.MetricError.{MetricError}
-use Rattle.cadence_text.specs.declared.types.errors.MetricError.TheVariants.{Sink, Described}
-use Rattle.cadence_text.specs.Errors.{out_of_memory}
+use Rattle.cadence_errors.specs.declared.ErrorKind.TheVariants.{InvalidInput}
+use Rattle.cadence_errors.specs.declared.SinkError.{SinkError}
+use Rattle.cadence_errors.specs.declared.SinkError.TheVariants.{Io, NothingWritten, OutOfMemory}
+use Rattle.cadence_errors.specs.declared.MetricError.{MetricError}
+use Rattle.cadence_errors.specs.declared.MetricError.TheVariants.{Sink, Described}
+use Rattle.cadence_errors.specs.Errors.{out_of_memory}
 use Rattle.cadence_flow.specs.Sums.{zero_sums}
 use Rattle.cadence_flow.specs.Writer.{Kind}
-use Rattle.cadence_sinks.specs.declared.sinks.target.Target.{Target}
-use Rattle.cadence_sinks.specs.declared.sinks.target.Target.TheVariants.{Addr}
+use Rattle.cadence_resolve.specs.declared.target.Target.{Target}
+use Rattle.cadence_resolve.specs.declared.target.Target.TheVariants.{Addr}
 
 -- whether an error is an io::Error's
 abbrev pub is_io : SinkError → Bool
@@ -35,19 +35,3 @@ IsBufferedFlush may_give answer = IfErr answer (IsBufferedError may_give)
 -- a socket as a writer of packets: it doesn't tell its packets, and may take the first bytes of one alone
 abbrev pub socket_kind : (SinkError → Bool) → Kind
 socket_kind may_give = record { may_give = may_give; tells = false; takes_whole = false; start = zero_sums }
-
--- why a lookup fails: an io::Error, or want of memory
-abbrev pub IsLookupFault : SinkError → Type 0
-IsLookupFault (Io e) = Unit {0}
-IsLookupFault OutOfMemory = Unit {0}
-IsLookupFault _ = ⊥
-
--- why a sink is not made: a fault of the lookup or of the start of a thread, want of memory, or no address
-abbrev pub IsSocketRefusal : MetricError → Type 0
-IsSocketRefusal (Sink e) = IsLookupFault e
-IsSocketRefusal (Described kind text) = kind ≡ InvalidInput
-
--- why a sink that looks its target up once is not made; an address is refused for want of memory alone
-abbrev pub IsTargetRefusal : {A : Type 0} → Target A → MetricError → Type 0
-IsTargetRefusal (Addr address) e = e ≡ out_of_memory
-IsTargetRefusal _ e = IsSocketRefusal e

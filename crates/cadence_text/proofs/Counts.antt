@@ -5,9 +5,9 @@ use Rattle.std.proofs.lemmas.List.Folds.{list_all-map}
 use Rattle.std.proofs.lemmas.List.Sums.{AllPass-from_list_all, list_all-from_AllPass}
 use Rattle.std.specs.List.{list_all}
 use Rattle.std.specs.Result.{IsErrAnd}
-use Rattle.cadence_text.specs.declared.types.errors.MetricError.{MetricError}
+use Rattle.cadence_errors.specs.declared.MetricError.{MetricError}
 use Rattle.cadence_text.specs.declared.value.MetricValue.{MetricValue}
-use Rattle.cadence_text.specs.Errors.{out_of_memory}
+use Rattle.cadence_errors.specs.Errors.{out_of_memory}
 use Rattle.cadence_text.specs.Number.{Number, natural}
 use Rattle.cadence_text.specs.Values.{Converts, numbers_in_u64}
 

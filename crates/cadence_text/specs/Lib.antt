@@ -1,4 +1,4 @@
-pub mod Errors
+pub use Rattle.cadence_errors.specs.Errors
 pub mod Number
 pub mod Metric
 pub mod Line

@@ -3,12 +3,12 @@ use Rattle.std.specs.Prelude.{◌≡◌, ℕ, ◌/◌, ◌^◌, nat_lt, if◌the
 use Rattle.std.specs.List.{list_all}
 use Rattle.std.specs.Duration.{as_nanos}
 use Rattle.std.specs.declared.time.Duration.{Duration}
-use Rattle.cadence_text.specs.declared.types.errors.MetricError.{MetricError}
+use Rattle.cadence_errors.specs.declared.MetricError.{MetricError}
 use Rattle.cadence_text.specs.declared.value.durations.TimeUnit.{TimeUnit}
 use Rattle.cadence_text.specs.declared.value.durations.TimeUnit.TheVariants.{Millisecond, Nanosecond}
 use Rattle.cadence_text.specs.declared.value.MetricValue.{MetricValue}
 use Rattle.cadence_text.specs.declared.value.MetricValue.TheVariants.{Signed, PackedSigned, Unsigned, PackedUnsigned, Decimal, PackedDecimal}
-use Rattle.cadence_text.specs.Errors.{IsInvalid, out_of_memory}
+use Rattle.cadence_errors.specs.Errors.{IsInvalid, out_of_memory}
 use Rattle.cadence_text.specs.Number.{Number, whole, natural}
 
 -- the numbers of a value, in whichever form they stand

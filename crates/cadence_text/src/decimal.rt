@@ -1,12 +1,11 @@
 //! Decimal numbers, exact.
-ghost use Rattle.std.specs.Prelude.{◌≡◌, ◌^◌, ◌≤◌, ◌↔◌, ◌<◌, ◌++◌, Some, true, IsOk, IfOk, IfErr, IsTrue, codes};
+ghost use Rattle.std.specs.Prelude.{◌≡◌, ◌^◌, ◌≤◌, ◌↔◌, ◌<◌, ◌++◌, Some, true, IsOk, IfOk, IfErr, codes};
 ghost use Rattle.std.specs.Fmt.{DisplaysOnOk, decimal};
-ghost use Rattle.cadence_text.specs.Errors.{IsInvalid};
+ghost use Rattle.cadence_errors.specs.Errors.{IsInvalid};
 ghost use Rattle.cadence_text.specs.Number.{IsLowestForm, Number, filled_to, is_lowest, number, number_text};
 
-use crate::types::{ErrorKind, MetricError, MetricResult};
+use cadence_errors::{ErrorKind, MetricError, MetricResult};
 use std::fmt;
-use std::hash::{Hash, Hasher};
 use std::marker::Model;
 
 /// The most digits that a `Decimal` has after the dot. A limit of this project's own.
@@ -71,21 +70,6 @@ impl Decimal {
     }
 }
 
-// What `==` says of two decimals, as a law: that their lowest forms are equal.
-fn is_same(one: &Decimal, other: &Decimal) -> bool
-    ensures { IsTrue result ↔ (one.now ≡ other.now) }
-{
-    one == other
-}
-
-// What hashing says of two decimals, as a law: equal ones leave equal hashers equal.
-fn hash_both<H: Hasher>(one: &Decimal, other: &Decimal, first: &mut H, second: &mut H)
-    ensures { one.now ≡ other.now → first.old ≡ second.old → first.new ≡ second.new }
-{
-    one.hash(first);
-    other.hash(second);
-}
-
 pub(crate) fn power_of_ten(places: u8) -> u128
     requires { places ≤ 30 }
     ensures value { result ≡ 10 ^ places }
@@ -123,6 +107,3 @@ impl fmt::Display for Decimal {
         Ok(())
     }
 }
-
-#[cfg(test)]
-mod tests;

@@ -1,8 +1,7 @@
-//! Numbers, values, lines, metric types and errors of a Statsd client.
+//! Numbers, values and lines of metrics, and what the lines' grammar implies.
 #![tactic(auto)]
 
 pub mod decimal;
 pub mod laws;
 pub mod line;
-pub mod types;
 pub mod value;

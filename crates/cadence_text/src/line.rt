@@ -45,6 +45,3 @@ impl fmt::Display for MetricType {
         }
     }
 }
-
-#[cfg(test)]
-mod tests;

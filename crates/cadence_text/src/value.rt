@@ -1,5 +1,5 @@
 //! Values of metrics.
-ghost use Rattle.std.specs.Prelude.{◌≡◌, ℕ, List, Some, IfOk, codes};
+ghost use Rattle.std.specs.Prelude.{◌≡◌, ℕ, List, Some, codes};
 ghost use Rattle.std.specs.Fmt.{DisplaysOnOk};
 ghost use Rattle.cadence_text.specs.Line.{separated};
 ghost use Rattle.cadence_text.specs.Values.{numbers_of};
@@ -21,7 +21,7 @@ pub use gauges::ToGaugeValue;
 pub use histograms::ToHistogramValue;
 pub use meters::ToMeterValue;
 pub use sets::ToSetValue;
-use std::alloc::{AllocError, Allocator, Global};
+use std::alloc::{Allocator, Global};
 use std::fmt;
 pub use timers::ToTimerValue;
 
@@ -45,13 +45,6 @@ pub enum MetricValue<A: Allocator = Global> {
     Decimal(Decimal),
     /// Decimal numbers.
     PackedDecimal(Vec<Decimal, A>),
-}
-
-// What a copy says, as a law: the same numbers.
-fn copied<A: Allocator + Clone>(value: &MetricValue<A>) -> Result<MetricValue<A>, AllocError>
-    ensures { IfOk result (λ copy. numbers_of copy ≡ numbers_of value.now) }
-{
-    value.clone()
 }
 
 // The texts of the numbers, with a colon between each two.
@@ -90,6 +83,3 @@ impl<A: Allocator> fmt::Display for MetricValue<A> {
         }
     }
 }
-
-#[cfg(test)]
-mod tests;

@@ -1,16 +1,17 @@
 //! What metrics are sent by.
 
+use crate::metrics::Metric;
 use crate::sealed::Sealed;
-use cadence_text::types::{Metric, MetricError, MetricResult};
+use cadence_errors::{MetricError, MetricResult};
 use std::alloc::Allocator;
 
 /// What metrics are sent by, as in cadence: a way to send a metric of your own through a client. No other crate
 /// implements it.
 pub trait MetricBackend: Sealed {
     ghost use Rattle.std.specs.Prelude.{ℕ, List, Result};
-    ghost use Rattle.cadence_text.specs.declared.types.errors.SinkError.{SinkError};
+    ghost use Rattle.cadence_errors.specs.declared.SinkError.{SinkError};
     ghost use Rattle.cadence.specs.Sending.{Handed};
-    ghost use Rattle.cadence.specs.Settings.{Settings};
+    ghost use Rattle.cadence_schedule.specs.Settings.{Settings};
 
     /// Where its metrics take memory.
     type Memory: Allocator + Clone;

@@ -1,16 +1,17 @@
 //! A metric that is being built.
 ghost use Rattle.std.specs.Prelude.{◌≡◌, Err, IsErr, string_bytes};
 ghost use Rattle.cadence_text.specs.Line.{line_of};
-ghost use Rattle.cadence.specs.Call.{tagged, contained, timed, rated};
-ghost use Rattle.cadence.specs.Settings.{keyed, unkeyed};
-ghost use Rattle.cadence.specs.Sending.{Chooses, ChoosesOrHolds, HasLine, MadeFrom, Sent, SentPending, StandsForMore};
+ghost use Rattle.cadence_schedule.specs.Call.{tagged, contained, timed, rated};
+ghost use Rattle.cadence_schedule.specs.Settings.{keyed, unkeyed};
+ghost use Rattle.cadence.specs.Sending.{Chooses, ChoosesOrHolds, HasLine, MadeFrom, Sent, SentPending};
 
 use crate::client::backend::MetricBackend;
 use crate::client::pending;
 use crate::client::statsd_client::StatsdClient;
+use crate::metrics::Metric;
+use cadence_errors::{MetricError, MetricResult};
 use cadence_text::decimal::Decimal;
 use cadence_text::line::{Record, Tag};
-use cadence_text::types::{Metric, MetricError, MetricResult};
 use std::marker::PhantomData;
 
 // A line as a metric.
@@ -72,7 +73,6 @@ impl<'m, 'c, T: Metric + From<String<C::Memory>>, C: MetricBackend> MetricBuilde
     /// tags can't grow.
     pub fn with_tag(mut self, key: &'m str, value: &'m str) -> Self
         ensures pending { ChoosesOrHolds (pending_of self.entry) (tagged (keyed key.now value.now)) (pending_of result) }
-        ensures call { StandsForMore (pending_of self.entry) (tagged (keyed key.now value.now)) (pending_of result) }
         ensures client { backend_of result ≡ backend_of self.entry }
     {
         let tag = Tag {
@@ -86,7 +86,6 @@ impl<'m, 'c, T: Metric + From<String<C::Memory>>, C: MetricBackend> MetricBuilde
     /// Adds a tag without a key, as `with_tag`.
     pub fn with_tag_value(mut self, value: &'m str) -> Self
         ensures pending { ChoosesOrHolds (pending_of self.entry) (tagged (unkeyed value.now)) (pending_of result) }
-        ensures call { StandsForMore (pending_of self.entry) (tagged (unkeyed value.now)) (pending_of result) }
         ensures client { backend_of result ≡ backend_of self.entry }
     {
         let tag = Tag {
@@ -100,7 +99,6 @@ impl<'m, 'c, T: Metric + From<String<C::Memory>>, C: MetricBackend> MetricBuilde
     /// Sets the container, in the place of the default one or an earlier one.
     pub fn with_container_id(mut self, container_id: &'m str) -> Self
         ensures pending { Chooses (pending_of self.entry) (contained container_id.now) (pending_of result) }
-        ensures call { StandsForMore (pending_of self.entry) (contained container_id.now) (pending_of result) }
         ensures client { backend_of result ≡ backend_of self.entry }
     {
         pending::set_container(&mut self.record, container_id);
@@ -110,7 +108,6 @@ impl<'m, 'c, T: Metric + From<String<C::Memory>>, C: MetricBackend> MetricBuilde
     /// Sets the time, in the place of an earlier one. DogStatsD reads it as seconds.
     pub fn with_timestamp(mut self, timestamp: u64) -> Self
         ensures pending { Chooses (pending_of self.entry) (timed timestamp) (pending_of result) }
-        ensures call { StandsForMore (pending_of self.entry) (timed timestamp) (pending_of result) }
         ensures client { backend_of result ≡ backend_of self.entry }
     {
         pending::set_time(&mut self.record, timestamp);
@@ -121,7 +118,6 @@ impl<'m, 'c, T: Metric + From<String<C::Memory>>, C: MetricBackend> MetricBuilde
     /// sampled here.
     pub fn with_sampling_rate(mut self, rate: Decimal) -> Self
         ensures pending { Chooses (pending_of self.entry) (rated rate) (pending_of result) }
-        ensures call { StandsForMore (pending_of self.entry) (rated rate) (pending_of result) }
         ensures client { backend_of result ≡ backend_of self.entry }
     {
         pending::set_rate(&mut self.record, rate);

@@ -1,14 +1,14 @@
 //! The builder of a client.
 ghost use Rattle.std.specs.Prelude.{◌≡◌, Some, None, IfOk, IfErr};
 ghost use Rattle.std.specs.Option.{option_copied};
-ghost use Rattle.cadence_text.specs.Errors.{out_of_memory};
-ghost use Rattle.cadence.specs.Settings.{Changes, keyed, unkeyed, with_default_tag, with_default_container};
+ghost use Rattle.cadence_errors.specs.Errors.{out_of_memory};
+ghost use Rattle.cadence_schedule.specs.Settings.{Changes, keyed, unkeyed, with_default_tag, with_default_container};
 
 use crate::client::handler::ErrorHandler;
-use crate::client::settings::ClientSettings;
 use crate::client::statsd_client::StatsdClient;
-use cadence_sinks::sinks::MetricSink;
-use cadence_text::types::{MetricError, MetricResult};
+use cadence_errors::{MetricError, MetricResult};
+use cadence_schedule::ClientSettings;
+use cadence_sinks::MetricSink;
 use std::alloc::{AllocError, Allocator, Global};
 
 /// Makes a client, as in cadence. Where a growth is refused it has no settings from then on, and `build` tells it.

@@ -1,6 +1,6 @@
 //! The error handler of a client.
 
-use cadence_text::types::MetricError;
+use cadence_errors::MetricError;
 use std::alloc::{Allocator, Global};
 
 /// A handler of errors that the caller made.

@@ -4,10 +4,9 @@ use crate::client::backend::MetricBackend;
 use crate::client::builder::MetricBuilder;
 use crate::client::pending;
 use crate::client::statsd_client::StatsdClient;
+use crate::metrics::{Counter, Distribution, Gauge, Histogram, Meter, Set, Timer};
+use cadence_errors::MetricResult;
 use cadence_text::line::MetricType;
-use cadence_text::types::{
-    Counter, Distribution, Gauge, Histogram, Meter, MetricResult, Set, Timer,
-};
 use cadence_text::value::{
     ToCounterValue, ToDistributionValue, ToGaugeValue, ToHistogramValue, ToMeterValue, ToSetValue,
     ToTimerValue,
@@ -17,7 +16,7 @@ use std::alloc::Allocator;
 /// Counts things that happened, as in cadence. A server adds the counts up.
 pub trait Counted<T: ToCounterValue<Self::Memory>>: MetricBackend {
     ghost use Rattle.std.specs.Prelude.{◌≡◌};
-    ghost use Rattle.cadence.specs.Call.{MakesMetric};
+    ghost use Rattle.cadence_schedule.specs.Call.{MakesMetric};
     ghost use Rattle.cadence.specs.Sending.{IsText, SentCall, plain_metric_of};
     ghost use Rattle.cadence.specs.Shown.{pending_of, backend_of};
 
@@ -65,7 +64,7 @@ impl<A: Allocator + Clone, T: ToCounterValue<A>> Counted<T> for StatsdClient<A> 
 pub trait CountedExt: Counted<i64> {
     ghost use Rattle.std.specs.Prelude.{◌≡◌, Some, ◌∷◌, [], pos, negsuc};
     ghost use Rattle.cadence_text.specs.Number.{whole};
-    ghost use Rattle.cadence.specs.Call.{MakesMetric};
+    ghost use Rattle.cadence_schedule.specs.Call.{MakesMetric};
     ghost use Rattle.cadence.specs.Sending.{IsText, SentCall, plain_metric_of};
     ghost use Rattle.cadence.specs.Shown.{pending_of, backend_of};
 
@@ -115,7 +114,7 @@ impl<A: Allocator + Clone> CountedExt for StatsdClient<A> {}
 /// Tells how long things took, in milliseconds, as in cadence. A `Duration` is cut off to whole milliseconds.
 pub trait Timed<T: ToTimerValue<Self::Memory>>: MetricBackend {
     ghost use Rattle.std.specs.Prelude.{◌≡◌};
-    ghost use Rattle.cadence.specs.Call.{MakesMetric};
+    ghost use Rattle.cadence_schedule.specs.Call.{MakesMetric};
     ghost use Rattle.cadence.specs.Sending.{IsText, SentCall, plain_metric_of};
     ghost use Rattle.cadence.specs.Shown.{pending_of, backend_of};
 
@@ -157,7 +156,7 @@ impl<A: Allocator + Clone, T: ToTimerValue<A>> Timed<T> for StatsdClient<A> {
 /// Tells values that stand until they are told again, as in cadence.
 pub trait Gauged<T: ToGaugeValue<Self::Memory>>: MetricBackend {
     ghost use Rattle.std.specs.Prelude.{◌≡◌};
-    ghost use Rattle.cadence.specs.Call.{MakesMetric};
+    ghost use Rattle.cadence_schedule.specs.Call.{MakesMetric};
     ghost use Rattle.cadence.specs.Sending.{IsText, SentCall, plain_metric_of};
     ghost use Rattle.cadence.specs.Shown.{pending_of, backend_of};
 
@@ -199,7 +198,7 @@ impl<A: Allocator + Clone, T: ToGaugeValue<A>> Gauged<T> for StatsdClient<A> {
 /// Tells how often things happen, as in cadence. A server makes a rate of it.
 pub trait Metered<T: ToMeterValue<Self::Memory>>: MetricBackend {
     ghost use Rattle.std.specs.Prelude.{◌≡◌};
-    ghost use Rattle.cadence.specs.Call.{MakesMetric};
+    ghost use Rattle.cadence_schedule.specs.Call.{MakesMetric};
     ghost use Rattle.cadence.specs.Sending.{IsText, SentCall, plain_metric_of};
     ghost use Rattle.cadence.specs.Shown.{pending_of, backend_of};
 
@@ -241,7 +240,7 @@ impl<A: Allocator + Clone, T: ToMeterValue<A>> Metered<T> for StatsdClient<A> {
 /// Tells values whose distribution a server reckons, as in cadence. A `Duration` is cut off to whole nanoseconds.
 pub trait Histogrammed<T: ToHistogramValue<Self::Memory>>: MetricBackend {
     ghost use Rattle.std.specs.Prelude.{◌≡◌};
-    ghost use Rattle.cadence.specs.Call.{MakesMetric};
+    ghost use Rattle.cadence_schedule.specs.Call.{MakesMetric};
     ghost use Rattle.cadence.specs.Sending.{IsText, SentCall, plain_metric_of};
     ghost use Rattle.cadence.specs.Shown.{pending_of, backend_of};
 
@@ -288,7 +287,7 @@ impl<A: Allocator + Clone, T: ToHistogramValue<A>> Histogrammed<T> for StatsdCli
 /// Tells values whose distribution a server reckons over all its clients, as in cadence.
 pub trait Distributed<T: ToDistributionValue<Self::Memory>>: MetricBackend {
     ghost use Rattle.std.specs.Prelude.{◌≡◌};
-    ghost use Rattle.cadence.specs.Call.{MakesMetric};
+    ghost use Rattle.cadence_schedule.specs.Call.{MakesMetric};
     ghost use Rattle.cadence.specs.Sending.{IsText, SentCall, plain_metric_of};
     ghost use Rattle.cadence.specs.Shown.{pending_of, backend_of};
 
@@ -335,7 +334,7 @@ impl<A: Allocator + Clone, T: ToDistributionValue<A>> Distributed<T> for StatsdC
 /// Tells members of a set, as in cadence. A server counts the different ones.
 pub trait Setted<T: ToSetValue<Self::Memory>>: MetricBackend {
     ghost use Rattle.std.specs.Prelude.{◌≡◌};
-    ghost use Rattle.cadence.specs.Call.{MakesMetric};
+    ghost use Rattle.cadence_schedule.specs.Call.{MakesMetric};
     ghost use Rattle.cadence.specs.Sending.{IsText, SentCall, plain_metric_of};
     ghost use Rattle.cadence.specs.Shown.{pending_of, backend_of};
 

@@ -1,16 +1,16 @@
 //! The record that a builder holds, or the error in its place.
 ghost use Rattle.std.specs.Prelude.{◌≡◌, Err, IfOk, string_bytes};
-ghost use Rattle.cadence_text.specs.Errors.{out_of_memory};
+ghost use Rattle.cadence_errors.specs.Errors.{out_of_memory};
 ghost use Rattle.cadence_text.specs.Line.{line_of};
 ghost use Rattle.cadence_text.specs.Record.{tag_of};
 ghost use Rattle.cadence_text.specs.Values.{Converts};
-ghost use Rattle.cadence.specs.Call.{tagged, contained, timed, rated, MakesMetric};
-ghost use Rattle.cadence.specs.Sending.{Chooses, ChoosesOrHolds, StandsForMore, plain_metric_of};
+ghost use Rattle.cadence_schedule.specs.Call.{tagged, contained, timed, rated, MakesMetric};
+ghost use Rattle.cadence.specs.Sending.{Chooses, ChoosesOrHolds, plain_metric_of};
 
-use crate::client::settings::ClientSettings;
+use cadence_errors::{MetricError, MetricResult};
+use cadence_schedule::ClientSettings;
 use cadence_text::decimal::Decimal;
 use cadence_text::line::{MetricType, Record, Tag};
-use cadence_text::types::{MetricError, MetricResult};
 use cadence_text::value::MetricValue;
 use std::alloc::{AllocError, Allocator};
 
@@ -39,8 +39,7 @@ fn hold_refusal<A: Allocator>(pending: &mut MetricResult<Record<'_, A>>)
 // Adds one more tag to the record.
 #[inline(always)]
 pub(crate) fn add_tag<'m, A: Allocator>(pending: &mut MetricResult<Record<'m, A>>, tag: Tag<'m>)
-    ensures chosen { ChoosesOrHolds pending.old (tagged (tag_of tag.entry)) pending.new }
-    ensures call { StandsForMore pending.old (tagged (tag_of tag.entry)) pending.new }
+    ensures { ChoosesOrHolds pending.old (tagged (tag_of tag.entry)) pending.new }
 {
     let Ok(metric) = pending else {
         return;
@@ -56,8 +55,7 @@ pub(crate) fn set_container<'m, A: Allocator>(
     pending: &mut MetricResult<Record<'m, A>>,
     container: &'m str,
 )
-    ensures chosen { Chooses pending.old (contained container.now) pending.new }
-    ensures call { StandsForMore pending.old (contained container.now) pending.new }
+    ensures { Chooses pending.old (contained container.now) pending.new }
 {
     if let Ok(metric) = pending {
         metric.set_container(container);
@@ -67,8 +65,7 @@ pub(crate) fn set_container<'m, A: Allocator>(
 // Sets the time of the record.
 #[inline]
 pub(crate) fn set_time<A: Allocator>(pending: &mut MetricResult<Record<'_, A>>, time: u64)
-    ensures chosen { Chooses pending.old (timed time) pending.new }
-    ensures call { StandsForMore pending.old (timed time) pending.new }
+    ensures { Chooses pending.old (timed time) pending.new }
 {
     if let Ok(metric) = pending {
         metric.set_time(time);
@@ -78,8 +75,7 @@ pub(crate) fn set_time<A: Allocator>(pending: &mut MetricResult<Record<'_, A>>, 
 // Sets the rate of the record.
 #[inline]
 pub(crate) fn set_rate<A: Allocator>(pending: &mut MetricResult<Record<'_, A>>, rate: Decimal)
-    ensures chosen { Chooses pending.old (rated rate) pending.new }
-    ensures call { StandsForMore pending.old (rated rate) pending.new }
+    ensures { Chooses pending.old (rated rate) pending.new }
 {
     if let Ok(metric) = pending {
         metric.set_rate(rate);

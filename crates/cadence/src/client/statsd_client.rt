@@ -1,20 +1,21 @@
 //! The client.
 ghost use Rattle.std.specs.Prelude.{◌≡◌, None, IfOk, IfErr};
-ghost use Rattle.cadence_text.specs.Errors.{out_of_memory};
+ghost use Rattle.cadence_errors.specs.Errors.{out_of_memory};
 ghost use Rattle.cadence_text.specs.Line.{line_of};
 ghost use Rattle.cadence_text.specs.Values.{Converts, numbers_of};
-ghost use Rattle.cadence.specs.Call.{metric_of_call, plain_call};
+ghost use Rattle.cadence_schedule.specs.Call.{metric_of_call, plain_call};
 ghost use Rattle.cadence.specs.Sending.{Flushed, IsText, Sent, SentCall, plain_metric_of};
-ghost use Rattle.cadence.specs.Settings.{settings_of};
+ghost use Rattle.cadence_schedule.specs.Settings.{settings_of};
 
 use crate::client::backend::MetricBackend;
 use crate::client::client_builder::StatsdClientBuilder;
 use crate::client::handler::ErrorHandler;
-use crate::client::settings::ClientSettings;
+use crate::metrics::{Metric, MetricText};
 use crate::sealed::Sealed;
-use cadence_sinks::sinks::MetricSink;
+use cadence_errors::{MetricError, MetricResult};
+use cadence_schedule::ClientSettings;
+use cadence_sinks::MetricSink;
 use cadence_text::line::MetricType;
-use cadence_text::types::{Metric, MetricError, MetricResult, MetricText};
 use cadence_text::value::MetricValue;
 use std::alloc::{Allocator, Global};
 
@@ -31,7 +32,7 @@ pub struct StatsdClient<A: Allocator = Global> {
 
 impl<A: Allocator + Clone> StatsdClient<A> {
     ghost use Rattle.cadence.specs.Shown.{settings_of_client, sink_of_client, handler_of_client, settings_of_builder, sink_of_builder, handler_of_builder};
-    ghost use Rattle.cadence.specs.Settings.{Changes};
+    ghost use Rattle.cadence_schedule.specs.Settings.{Changes};
     ghost use Rattle.std.specs.Prelude.{IfSome};
 
     /// A client without further settings: it drops the errors of `send`. Refuses with kind `OutOfMemory` alone; the

@@ -4,7 +4,7 @@ ghost use Rattle.cadence_flow.specs.Packer.{HasCause};
 ghost use Rattle.cadence_flow.specs.Writer.{RefusedNothing, Sends};
 
 use super::PacketWriter;
-use cadence_text::types::SinkError;
+use cadence_errors::SinkError;
 use std::alloc::Allocator;
 
 /// Removes the first n bytes.

@@ -1,7 +1,7 @@
 //! Lines that wait for their packet.
 use super::PacketWriter;
 use super::buffer::{append, append_ending, remove_front, send};
-use cadence_text::types::SinkError;
+use cadence_errors::SinkError;
 use std::alloc::{Allocator, Global};
 use std::marker::Model;
 use std::mem;

@@ -1,6 +1,6 @@
 //! Lines in packets.
 use super::{LineBuffer, PacketWriter};
-use cadence_text::types::SinkError;
+use cadence_errors::SinkError;
 use std::alloc::{Allocator, Global};
 use std::marker::Model;
 

@@ -1,6 +1,6 @@
 //! A writer in memory, for tests and for schedules.
 use super::PacketWriter;
-use cadence_text::types::SinkError;
+use cadence_errors::SinkError;
 use std::alloc::{AllocError, Allocator, Global};
 use std::marker::Model;
 

@@ -2,7 +2,7 @@
 ghost use Rattle.std.specs.Prelude.{◌≡◌};
 ghost use Rattle.cadence_flow.specs.Writer.{History, Kind, WritesPacket};
 
-use cadence_text::types::SinkError;
+use cadence_errors::SinkError;
 
 /// A writer that takes packets one by one, as a socket does. This project's own, in place of `std::io::Write`. An
 /// impl states which packets it took and how often it refused (`history`), and what no call changes (`kind`).

@@ -1,14 +1,14 @@
 //! A queue of texts with a stop mark, a capacity and a count of handles, which one thread works with.
 ghost use Rattle.std.specs.Prelude.{◌≡◌, [], length, slice_get, option_copied, IfOk, IfErr, OnOk, OnErr, IsOk, IsTrue, Ok, Err, true, false};
 ghost use Rattle.std.specs.declared.alloc.AllocError.{AllocError};
-ghost use Rattle.cadence_text.specs.Errors.{out_of_memory};
+ghost use Rattle.cadence_errors.specs.Errors.{out_of_memory};
 ghost use Rattle.cadence_flow.specs.QueueRoom.{IsBounded, TakesRoom};
 ghost use Rattle.cadence_flow.specs.QueueState.{IsWithin, IsCounted};
 ghost use Rattle.cadence_flow.specs.Queue.{IsRefusal, is_open, IsTaken, accepting, stopping, adding_handle, dropping_handle, new_queue, is_full, is_idle};
 ghost use Rattle.cadence_flow.specs.QueueModel.{IsQueueOf, IsAccepted, IsNext};
 
 use super::text_ring::TextRing;
-use cadence_text::types::{MetricResult, SinkError};
+use cadence_errors::{MetricResult, SinkError};
 use std::alloc::{AllocError, Allocator, Global};
 use std::marker::Model;
 

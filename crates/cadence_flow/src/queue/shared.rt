@@ -1,11 +1,11 @@
 //! A queue that threads share.
 ghost use Rattle.std.specs.Prelude.{◌≡◌, IfErr, true};
-ghost use Rattle.cadence_text.specs.Errors.{out_of_memory};
+ghost use Rattle.cadence_errors.specs.Errors.{out_of_memory};
 ghost use Rattle.cadence_flow.specs.Queue.{IsQueueRefusal};
 ghost use Rattle.cadence_flow.specs.QueueRoom.{TakesRoom};
 
 use super::queue_core::{QueueCore, Taken};
-use cadence_text::types::{MetricResult, SinkError};
+use cadence_errors::{MetricResult, SinkError};
 use std::alloc::{AllocError, Allocator, Global};
 use std::sync::{Condvar, Mutex, Wait};
 use std::{hint, thread};

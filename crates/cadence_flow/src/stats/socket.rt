@@ -1,9 +1,9 @@
 //! Counts that the owners of a socket share.
 ghost use Rattle.std.specs.Prelude.{◌≡◌, IfErr};
-ghost use Rattle.cadence_text.specs.Errors.{out_of_memory};
+ghost use Rattle.cadence_errors.specs.Errors.{out_of_memory};
 
 use super::SinkStats;
-use cadence_text::types::{MetricResult, SinkError};
+use cadence_errors::{MetricResult, SinkError};
 use std::alloc::{AllocError, Allocator, Global};
 use std::sync::{Arc, Mutex, Wait};
 
@@ -106,6 +106,3 @@ impl SinkStats {
         }
     }
 }
-
-#[cfg(test)]
-mod tests;

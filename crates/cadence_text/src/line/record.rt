@@ -5,8 +5,8 @@ use crate::decimal::Decimal;
 use crate::line::MetricType;
 use crate::line::pieces::{kind_end, push_container, push_rate, push_tags, push_time, push_value};
 use crate::line::sink::LineSink;
-use crate::types::MetricResult;
 use crate::value::MetricValue;
+use cadence_errors::MetricResult;
 use std::alloc::{AllocError, Allocator, Global};
 use std::marker::Model;
 
@@ -48,7 +48,7 @@ impl<'a, A: Allocator> Record<'a, A> {
     ghost use Rattle.std.specs.Prelude.{◌≡◌, ◌++◌, ◌<◌, Some, OnOk, OnErr, IfOk, IfErr, length, map};
     ghost use Rattle.std.specs.Option.{option_copied};
     ghost use Rattle.std.specs.String.{string_bytes};
-    ghost use Rattle.cadence_text.specs.Errors.{out_of_memory};
+    ghost use Rattle.cadence_errors.specs.Errors.{out_of_memory};
     ghost use Rattle.cadence_text.specs.Line.{line_of};
     ghost use Rattle.cadence_text.specs.Metric.{Metric, plain_metric, with_tag};
     ghost use Rattle.cadence_text.specs.Record.{tag_of};

@@ -3,8 +3,8 @@ ghost use Rattle.std.specs.Prelude.{◌≡◌, [], ◌∷◌, List, Option, Some
 ghost use Rattle.cadence_text.specs.Number.{Number, natural, whole};
 ghost use Rattle.cadence_text.specs.Values.{Converts, ConvertsInPlace, numbers_of};
 
-use crate::types::MetricResult;
 use crate::value::MetricValue;
+use cadence_errors::MetricResult;
 use std::alloc::Allocator;
 
 /// A value that a counter takes. A caller's own type may have it: its implementation states a value's numbers, or none for a

@@ -1,10 +1,10 @@
 //! Durations as numbers of whole units, cut off.
 ghost use Rattle.std.specs.Prelude.{◌≡◌, ◌<◌, ◌^◌, ◌↔◌, [], ◌∷◌, map, IfOk, IsTrue, All};
-ghost use Rattle.cadence_text.specs.Errors.{IsInvalid};
+ghost use Rattle.cadence_errors.specs.Errors.{IsInvalid};
 ghost use Rattle.cadence_text.specs.Values.{Converts, ConvertsInPlace, count_in, numbers_in_u64};
 
-use crate::types::{ErrorKind, MetricError, MetricResult};
 use crate::value::MetricValue;
+use cadence_errors::{ErrorKind, MetricError, MetricResult};
 use std::alloc::{AllocError, Allocator};
 use std::time::Duration;
 

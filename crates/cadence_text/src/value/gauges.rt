@@ -4,8 +4,8 @@ ghost use Rattle.cadence_text.specs.Number.{Number, natural};
 ghost use Rattle.cadence_text.specs.Values.{Converts, ConvertsInPlace};
 
 use crate::decimal::Decimal;
-use crate::types::MetricResult;
 use crate::value::MetricValue;
+use cadence_errors::MetricResult;
 use std::alloc::Allocator;
 
 /// A value that a gauge takes. A caller's own type may have it: its implementation states a value's numbers, or none for a

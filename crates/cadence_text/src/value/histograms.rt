@@ -5,8 +5,8 @@ ghost use Rattle.cadence_text.specs.Values.{Converts, ConvertsInPlace, nanos_of,
 
 use super::durations::{TimeUnit, number_in, numbers_in};
 use crate::decimal::Decimal;
-use crate::types::MetricResult;
 use crate::value::MetricValue;
+use cadence_errors::MetricResult;
 use std::alloc::Allocator;
 use std::time::Duration;
 

@@ -3,8 +3,8 @@ ghost use Rattle.std.specs.Prelude.{map};
 ghost use Rattle.cadence_text.specs.Values.{millis_of, nanos_of, numbers_in_u64};
 
 use super::durations::{TimeUnit, numbers_in};
-use crate::types::MetricResult;
 use crate::value::{MetricValue, ToHistogramValue, ToTimerValue};
+use cadence_errors::MetricResult;
 use std::alloc::Allocator;
 use std::time::Duration;
 

@@ -4,8 +4,8 @@ ghost use Rattle.cadence_text.specs.Number.{Number, natural};
 ghost use Rattle.cadence_text.specs.Values.{Converts, ConvertsInPlace, millis_of, numbers_in_u64};
 
 use super::durations::{TimeUnit, number_in, numbers_in};
-use crate::types::MetricResult;
 use crate::value::MetricValue;
+use cadence_errors::MetricResult;
 use std::alloc::Allocator;
 use std::time::Duration;
 

@@ -1,5 +1,0 @@
-use Rattle.cadence.proofs.Reading.{reads_as}
-use Rattle.cadence.proofs.schedule.laws.packets_read_one_way.Goals as goal
-
-pub returns : goal.returns
-returns c = reads_as c.packet_reads_one_way.ensures

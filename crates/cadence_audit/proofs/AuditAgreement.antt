@@ -1,0 +1,147 @@
+-- When the receipts of seats stand in a history.
+use Rattle.std.proofs.Common.{◌≡◌, ℕ, ◌+◌, ◌<◌, ◌≤◌, ◌==◌, Bool, true, false, cond, List, [], ◌∷◌, ◌++◌, zero, suc, length, take, get_or, slice_get, All, Contains, Option, Some, None, not, eqb, inl, inr, subst, sym, ap, refl, arith, ◌∙◌}
+use Rattle.std.proofs.lemmas.Bool.Decides.{nat_tests}
+use Rattle.std.proofs.lemmas.List.{take_all, take-take, length-append}
+use Rattle.std.proofs.lemmas.List.Sums.{sum_by-take-le, sum_by_more}
+use Rattle.std.proofs.lemmas.List.Elements.{All-more, Contains-get_or}
+use Rattle.std.proofs.lemmas.Bool.{cases_order, cases_lt}
+use Rattle.std.proofs.lemmas.Option.{slice_get_read, slice_get_cases, get_or_from_slice_get, same_Some}
+use Rattle.std.specs.Option.{option_eq}
+use Rattle.cadence_audit.specs.declared.event.Event.{Event}
+use Rattle.cadence_audit.specs.AuditHistory.{AreCounted, events_of}
+use Rattle.cadence_audit.specs.AuditSeats.{Held, AreReceiptsOf, AreNewSeats}
+
+-- a test that answers false refutes what it would show
+pub fails : {P : Type 0} {b : Bool} → (P → b ≡ true) → b ≡ false → P → ⊥
+fails test is p = let t = test p in cc
+
+-- capacities that a test doesn't tell apart are the same
+pub same_capacity : (a b : Option ℕ) → false ≡ not (option_eq eqb a b) → a ≡ b
+same_capacity (Some a) (Some b) is = ap Some (grind (arith, nat_tests))
+same_capacity (Some a) None is = cc
+same_capacity None (Some b) is = cc
+same_capacity None None is = refl
+
+module _ {X : Type 0} (P : X → Type 0) (xs : List X) (i : ℕ) where
+  -- one element refutes a fact of each element
+  pub all_not : (x : X) → i < length xs → x ≡ get_or xs i x → (P x → ⊥) → All P xs → ⊥
+  all_not x lt is not all = not (subst P (sym is) (all i x lt))
+
+  -- a fact of each element, one element further
+  pub all_more : (x : X) → i < length xs → x ≡ get_or xs i x → P x → All P (take i xs) → All P (take (i + 1) xs)
+  all_more x lt is px all = All-more P xs i x lt all (subst P is px)
+
+  -- a fact of each element, as far as the list goes
+  pub all_done : length xs ≤ i → All P (take i xs) → All P xs
+  all_done le all = subst (All P) (take_all i xs le) all
+
+-- a number is counted once where it is the one that is looked for, and else not
+count_of_same : (a b : ℕ) → a ≡ b → ◌≡◌ {A = ℕ} (cond (a == b) 1 0) 1
+count_of_same a b is = grind (arith, nat_tests)
+
+count_of_other : (a b : ℕ) → (a ≡ b → ⊥) → ◌≡◌ {A = ℕ} (cond (a == b) 1 0) 0
+count_of_other a b other = grind (arith, nat_tests)
+
+-- an element that a list contains stands at a place
+contains_place : {X : Type 0} (xs : List X) (x : X) → Contains xs x → (k : ℕ) × (k < length xs) × (slice_get xs k ≡ Some x)
+contains_place xs x h = (h.0, h.1, slice_get_read xs (length xs) h.0 x refl h.1 (sym h.2))
+
+module _ {Z : Type 0} (events : List (Event Z)) (s : ℕ) where
+  -- a seat has no fewer events later on
+  events_of-take-le : (a b : ℕ) → a ≤ b → events_of s (take a events) ≤ events_of s (take b events)
+  events_of-take-le a b le =
+      subst (λ l. events_of s l ≤ events_of s (take b events)) (take-take a b events le) (sum_by-take-le (λ (e : Event Z). cond (e.seat == s) 1 0) (take b events) a)
+
+  -- an event is one more of its seat's
+  pub events_of-more : (i : ℕ) (e : Event Z) → i < length events → e ≡ get_or events i e → e.seat ≡ s
+      → events_of s (take (i + 1) events) ≡ events_of s (take i events) + 1
+  events_of-more i e lt is mine =
+      let one = count_of_same _ s (ap (λ (x : Event Z). x.seat) (sym is) ∙ mine) in
+      omega (arith, one, sum_by_more (λ (x : Event Z). cond (x.seat == s) 1 0) events i e lt)
+
+  -- and none of another seat's
+  pub events_of-other : (i : ℕ) (e : Event Z) → i < length events → e ≡ get_or events i e → (e.seat ≡ s → ⊥)
+      → events_of s (take (i + 1) events) ≡ events_of s (take i events)
+  events_of-other i e lt is other =
+      let none = count_of_other _ s (λ same. other (ap (λ (x : Event Z). x.seat) is ∙ same)) in
+      omega (arith, none, sum_by_more (λ (x : Event Z). cond (x.seat == s) 1 0) events i e lt)
+
+  -- a seat's event, by the number of the seat's events before it
+  abbrev IsAt : ℕ → Event Z → ℕ → Type 0
+  IsAt i e n = (i < length events) × (slice_get events i ≡ Some e) × (e.seat ≡ s) × (events_of s (take i events) ≡ n)
+
+  -- before a later place of the seat there is at least one event more
+  later : (i j : ℕ) (e : Event Z) (n : ℕ) → IsAt i e n → i < j → n < events_of s (take j events)
+  later i j e n at lt =
+      omega (arith, events_of-more i e at.0 (sym (get_or_from_slice_get events i e e at.1)) at.2, events_of-take-le (i + 1) j (omega (arith, lt)), at.3)
+
+  -- there is just one event of a seat with a count
+  same_place : (i j : ℕ) (e r : Event Z) (n : ℕ) → IsAt i e n → IsAt j r n → r ≡ e
+  same_place i j e r n at there =
+      elim (cases_order i j) [
+        | inl same ↦ same_Some r e (sym there.1 ∙ (ap (slice_get events) (sym same) ∙ at.1))
+        | inr (inl lt) ↦ absurd (omega (arith, later i j e n at lt, there.3))
+        | inr (inr lt) ↦ absurd (omega (arith, later j i r n there lt, at.3))
+      ]
+
+  module _ (counted : AreCounted events) where
+    -- a receipt among the events stands where its seat has as many events as its count
+    receipt_place : (r : Event Z) (n : ℕ) → r.seat ≡ s → r.count ≡ n → Contains events r → (j : ℕ) × IsAt j r n
+    receipt_place r n seat count h =
+        let place = contains_place events r h in
+        (place.0, (place.1, place.2, seat, ap (λ k. events_of k (take place.0 events)) (sym seat) ∙ sym (counted place.0 r place.2) ∙ count))
+
+    module _ (receipts : List (Event Z)) (own : AreReceiptsOf s receipts) where
+      -- where the seat's n-th event is not its n-th receipt, this receipt is no event
+      pub refuted : (n i : ℕ) (e r : Event Z) → n ≡ events_of s (take i events) → i < length events → e ≡ get_or events i e → e.seat ≡ s
+          → n < length receipts → r ≡ get_or receipts n r → (r ≡ e → ⊥) → All (Contains events) receipts → ⊥
+      refuted n i e r now lt is mine in_receipts at other all =
+          let got : slice_get receipts n ≡ Some r = slice_get_read receipts (length receipts) n r refl in_receipts at in
+          let mine_is = own n r got in
+          let place = receipt_place r n mine_is.0 mine_is.1 (subst (Contains events) (sym at) (all n r in_receipts)) in
+          let here : IsAt i e n = (lt, slice_get_read events (length events) i e refl lt is, mine, sym now) in
+          other (same_place i place.0 e r n here place.1)
+
+      -- where the seat has fewer events than receipts, some receipt is no event
+      pub missing : (n : ℕ) → n ≡ events_of s events → n < length receipts → All (Contains events) receipts → ⊥
+      missing n now lt all =
+          elim (slice_get_cases receipts n).1 [
+            | inl found ↦
+                let mine_is = own n found.0 found.2 in
+                let place = receipt_place found.0 n mine_is.0 mine_is.1 (subst (Contains events) found.3 (all n found.0 lt)) in
+                absurd (omega (arith, later place.0 (length events) found.0 n place.1 place.1.0, ap (events_of s) (take_all (length events) events (omega arith)), now))
+            | inr past ↦ absurd (omega (arith, past.0, lt))
+          ]
+
+-- one more receipt is among the events, or there is none more
+module _ {X : Type 0} (events receipts : List X) (n : ℕ) where
+  pub held_more : (i : ℕ) (e r : X) → i < length events → e ≡ get_or events i e → n < length receipts → r ≡ get_or receipts n r → r ≡ e
+      → All (Contains events) (take n receipts) → All (Contains events) (take (n + 1) receipts)
+  held_more i e r lt is in_receipts at same all =
+      all_more (Contains events) receipts n r in_receipts at (subst (Contains events) (sym is ∙ sym same) (Contains-get_or events i e lt)) all
+
+  pub held_all : length receipts ≤ n → All (Contains events) (take n receipts) → All (Contains events) (take (n + 1) receipts)
+  held_all le all = subst (All (Contains events)) (take_all n receipts le ∙ sym (take_all (n + 1) receipts (omega (arith, le)))) all
+
+-- what stands at a place after a push
+get_before_push : {X : Type 0} (xs : List X) (x : X) (k : ℕ) → k < length xs → slice_get (xs ++ x ∷ []) k ≡ slice_get xs k
+get_before_push [] x k lt = absurd (omega (arith, lt))
+get_before_push (y ∷ ys) x zero lt = refl
+get_before_push (y ∷ ys) x (suc k) lt = get_before_push ys x k (omega (arith, lt))
+
+get_at_push : {X : Type 0} (xs : List X) (x : X) → slice_get (xs ++ x ∷ []) (length xs) ≡ Some x
+get_at_push [] x = refl
+get_at_push (y ∷ ys) x = get_at_push ys x
+
+-- one new seat more
+pub new_seats_more : {Z : Type 0} (n : ℕ) (seats : List (Held Z)) → AreNewSeats n seats → AreNewSeats (n + 1) (seats ++ record { number = n; receipts = [] } ∷ [])
+new_seats_more n seats new = (
+  omega (arith, new.0, length-append seats (record { number = n; receipts = [] } ∷ [])),
+  λ k lt. elim (cases_lt k n) [
+    | inl below ↦ get_before_push seats _ k (omega (arith, new.0, below)) ∙ new.1 k below
+    | inr ge ↦
+        let here : k ≡ length seats = omega (arith, ge, lt, new.0) in
+        let last : k ≡ n = omega (arith, ge, lt) in
+        rw (here, ← new.0) (get_at_push seats _)
+  ],
+)

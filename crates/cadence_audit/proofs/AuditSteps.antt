@@ -1,0 +1,224 @@
+-- What a call leaves of the history and of the queue under the lock.
+use Rattle.std.proofs.Common.{drop, ◌≡◌, ℕ, zero, suc, ◌+◌, ◌<◌, ◌≤◌, ◌==◌, ◌||◌, ◌⊎◌, ◌≢◌, Bool, true, false, IsTrue, cond, List, [], ◌∷◌, ◌++◌, length, take, set, Option, Some, Result, Ok, Err, OnOk, IfErr, slice_get, slice_index, get_or, replicate, count_by, refl, sym, ap, subst, inl, inr, arith, ◌∙◌}
+use Rattle.std.proofs.lemmas.Grind.{common_steps, flat_map-append}
+use Rattle.std.proofs.lemmas.Bool.Decides.{nat_tests}
+use Rattle.std.proofs.lemmas.List.{get_or-set_same, get_or-set_other, length-set, take-append-le, append-nil, append_assoc, drop-append-le, drop_more, length-append}
+use Rattle.std.proofs.lemmas.Option.{slice_get_within, get_or_from_slice_get}
+use Rattle.std.proofs.Math.Bool.{or-false, or-true}
+use Rattle.std.proofs.lemmas.List.Sums.{sum_by-append}
+use Rattle.std.proofs.lemmas.List.Folds.{list_any-append}
+use Rattle.cadence_errors.specs.declared.SinkError.{SinkError}
+use Rattle.cadence_errors.specs.declared.SinkError.TheVariants as refusal
+use Rattle.cadence_flow.specs.QueueState.{Queue}
+use Rattle.cadence_flow.specs.Queue.{IsTaken, IsRefusal, accepting, stopping, is_full, at_capacity}
+use Rattle.cadence_flow.specs.QueueModel.{IsQueueOf, IsAccepted, IsNext}
+use Rattle.cadence_flow.specs.declared.queue.queue_core.Taken.{Taken}
+use Rattle.cadence_flow.specs.declared.queue.queue_core.Taken.TheVariants as taken
+use Rattle.cadence_audit.specs.declared.event.Event.{Event}
+use Rattle.cadence_audit.specs.declared.event.AuditCall.TheVariants as call
+use Rattle.cadence_audit.specs.declared.event.AuditReply.TheVariants as reply
+use Rattle.cadence_audit.specs.declared.event.SubmitReply.{SubmitReply}
+use Rattle.cadence_audit.specs.declared.event.SubmitReply.TheVariants as submit
+use Rattle.cadence_audit.specs.AuditHistory.{IsLegal, MayFollow, accepted, taken_texts, taken_count, was_stopped, waiting, events_of, texts_of, text_given, is_stop, first_of, submit_reply}
+use Rattle.cadence_audit.specs.AuditSeats.{AreReceiptsOf}
+use Rattle.cadence_audit.specs.AuditDesk.{IsKept, IsTold, IsToldRefusal}
+
+-- an accepted text waits last
+order_accepted : (accepted given : List (List ℕ)) (t : ℕ) (x : List ℕ) → t ≤ length accepted → accepted ≡ given ++ drop t accepted
+    → accepted ++ x ∷ [] ≡ (given ++ []) ++ drop t (accepted ++ x ∷ [])
+order_accepted accepted given t x front order =
+    rw (append-nil, drop-append-le t accepted (x ∷ []) front) (ap (λ l. l ++ x ∷ []) order ∙ append_assoc given (drop t accepted) (x ∷ []))
+
+-- a taken text was the first that waits
+order_taken : (accepted given : List (List ℕ)) (t : ℕ) (x : List ℕ) → accepted ≡ given ++ drop t accepted → slice_get accepted t ≡ Some x
+    → accepted ≡ (given ++ x ∷ []) ++ drop (t + 1) accepted
+order_taken accepted given t x order at =
+    let inside : t < length accepted = slice_get_within accepted t x at in
+    let first : drop t accepted ≡ x ∷ drop (t + 1) accepted = drop_more accepted t x inside ∙ ap (λ y. y ∷ drop (t + 1) accepted) (get_or_from_slice_get accepted t x x at) in
+    order ∙ ap (λ l. given ++ l) first ∙ sym (append_assoc given (x ∷ []) (drop (t + 1) accepted))
+
+-- a test of two counts says whether they are the same
+pub same_count : (a b c d : ℕ) → a ≡ c → b ≡ d → (IsTrue (a == b) → d ≡ c) × (d ≡ c → IsTrue (a == b))
+same_count a b c d ac bd = (λ t. grind (arith, nat_tests), λ e. grind (arith, nat_tests))
+
+-- each element of a list of zeros is 0
+pub zeros_index : (xs : List ℕ) (n : ℕ) → xs ≡ replicate n 0 → (k : ℕ) → k < length xs → slice_index xs k ≡ 0
+zeros_index xs n is k lt = grind (arith, common_steps)
+
+-- one element more counts if it passes the test
+pub count_push : {X : Type 0} (p : X → Bool) (xs : List X) (x : X) → count_by p (xs ++ x ∷ []) ≡ count_by p xs + cond (p x) 1 0
+count_push p xs x = omega (arith, sum_by-append (λ y. cond (p y) 1 0) xs (x ∷ []))
+
+-- an element after a push is an earlier one, or the pushed one
+pub get_push : {X : Type 0} (xs : List X) (x e : X) (i : ℕ) → slice_get (xs ++ x ∷ []) i ≡ Some e
+    → ((i < length xs) × (slice_get xs i ≡ Some e)) ⊎ ((i ≡ length xs) × (x ≡ e))
+get_push [] x e zero h = inr (refl, cc)
+get_push [] x e (suc i) h = cc
+get_push (y ∷ ys) x e zero h = inl (omega arith, h)
+get_push (y ∷ ys) x e (suc i) h =
+    elim (get_push ys x e i h) [ inl p ↦ inl (omega (arith, p.0), p.1) | inr q ↦ inr (ap suc q.0, q.1) ]
+
+module _ {Z : Type 0} where
+  -- a legal history stays legal by an event that may follow
+  pub legal_push : (capacity : Option ℕ) (es : List (Event Z)) (e : Event Z) → IsLegal capacity es → MayFollow capacity es e → IsLegal capacity (es ++ e ∷ [])
+  legal_push capacity es e h m i f got =
+      elim (get_push es e f i got) [
+        | inl p ↦ let le : i ≤ length es = omega (arith, p.0) in rw take-append-le (h i f p.1)
+        | inr q ↦
+            let here : take i (es ++ e ∷ []) ≡ es = grind (arith, common_steps, q.0) in
+            rw here (subst (λ x. MayFollow capacity es x) q.1 m)
+      ]
+
+  -- the receipts of a seat with that of its next call
+  pub receipts_push : (number : ℕ) (rs : List (Event Z)) (r : Event Z) → AreReceiptsOf number rs → r.seat ≡ number → r.count ≡ length rs → AreReceiptsOf number (rs ++ r ∷ [])
+  receipts_push number rs r h seat count k f got =
+      elim (get_push rs r f k got) [
+        | inl p ↦ h k f p.1
+        | inr q ↦ (ap (λ (x : Event Z). x.seat) (sym q.1) ∙ seat, ap (λ (x : Event Z). x.count) (sym q.1) ∙ count ∙ sym q.0)
+      ]
+
+  -- the count at a place
+  pub counted_get : (es : List (Event Z)) (counts : List ℕ) → ((k : ℕ) → k < length counts → slice_index counts k ≡ events_of k es)
+      → (n x : ℕ) → n < length counts → x ≡ get_or counts n x → x ≡ events_of n es
+  counted_get es counts h n x lt is = grind (arith, common_steps, h n lt)
+
+  -- one seat has one event more
+  pub counted_at : (es : List (Event Z)) (counts : List ℕ) (e : Event Z) (n j : ℕ) (b : Bool) → (e.seat == j) ≡ b
+      → ((k : ℕ) → k < length counts → slice_index counts k ≡ events_of k es)
+      → e.count ≡ events_of e.seat es → n ≡ e.count + 1 → j < length (set counts e.seat n)
+      → slice_index (set counts e.seat n) j ≡ events_of j (es ++ e ∷ [])
+  counted_at es counts e n j true is k m more lt =
+      let push = count_push (λ (f : Event Z). f.seat == j) es e in
+      let same : e.seat ≡ j = grind (arith, nat_tests) in
+      let inside : j < length counts = omega (arith, length-set counts e.seat n) in
+      let there : e.seat < length counts = omega (arith, same) in
+      rw push (rw is (rw (← same) (rw get_or-set_same (omega arith))))
+  counted_at es counts e n j false is k m more lt =
+      let push = count_push (λ (f : Event Z). f.seat == j) es e in
+      let other : j ≢ e.seat = grind (arith, nat_tests) in
+      let inside : j < length counts = omega (arith, length-set counts e.seat n) in
+      rw push (rw is (rw get_or-set_other (omega (arith, k j inside))))
+
+  -- what a call leaves, given the past that it gives the queue
+  pub kept_push : (capacity : Option ℕ) (es : List (Event Z)) (core after : Queue (List ℕ)) (counts : List ℕ) (e : Event Z) (n t : ℕ)
+      → IsKept capacity es core counts → MayFollow capacity es e → n ≡ e.count + 1
+      → t ≡ taken_count es + length (text_given e.reply)
+      → accepted es ++ texts_of e ≡ (taken_texts es ++ text_given e.reply) ++ drop t (accepted es ++ texts_of e)
+      → IsQueueOf (accepted es ++ texts_of e) t after
+      → after.capacity ≡ core.capacity
+      → after.stopped ≡ (core.stopped || is_stop e.call)
+      → IsKept capacity (es ++ e ∷ []) after (set counts e.seat n)
+  kept_push capacity es core after counts e n t k m more now order past bound stop =
+      let a : accepted (es ++ e ∷ []) ≡ accepted es ++ texts_of e = flat_map-append texts_of es (e ∷ []) ∙ ap (λ l. accepted es ++ l) (append-nil (texts_of e)) in
+      let g : taken_texts (es ++ e ∷ []) ≡ taken_texts es ++ text_given e.reply = flat_map-append (λ (f : Event Z). text_given f.reply) es (e ∷ []) ∙ ap (λ l. taken_texts es ++ l) (append-nil (text_given e.reply)) in
+      let c : length (taken_texts es ++ text_given e.reply) ≡ t = length-append (taken_texts es) (text_given e.reply) ∙ sym now in
+      let s : was_stopped (es ++ e ∷ []) ≡ (was_stopped es || is_stop e.call) = list_any-append (λ (f : Event Z). is_stop f.call) es (e ∷ []) ∙ ap (λ b. was_stopped es || b) (or-false (is_stop e.call)) in
+      record {
+        legal = legal_push capacity es e k.legal m;
+        order = rw (a, g, c) order;
+        past = rw (a, g, c) past;
+        bound = bound ∙ k.bound;
+        stop = stop ∙ ap (λ b. b || is_stop e.call) k.stop ∙ sym s;
+        counted = λ j lt. counted_at es counts e n j (e.seat == j) refl k.counted m.1 more lt;
+      }
+
+  -- an event that leaves the queue as it was
+  pub kept_same : (capacity : Option ℕ) (es : List (Event Z)) (core : Queue (List ℕ)) (counts : List ℕ) (e : Event Z) (n : ℕ)
+      → IsKept capacity es core counts → MayFollow capacity es e → n ≡ e.count + 1
+      → texts_of e ≡ [] → text_given e.reply ≡ [] → is_stop e.call ≡ false
+      → IsKept capacity (es ++ e ∷ []) core (set counts e.seat n)
+  kept_same capacity es core counts e n k may more none gave stop =
+      kept_push capacity es core core counts e n (taken_count es) k may more
+      (rw gave (omega arith))
+      (rw (none, gave, append-nil, append-nil) k.order)
+      (rw (none, append-nil) k.past)
+      refl
+      (rw stop (sym (or-false core.stopped)))
+
+  -- the event of a stop
+  abbrev stop_event : ℕ → ℕ → Event Z
+  stop_event seat n = record { seat = seat; count = n; call = call.Stop; reply = reply.Stop }
+
+  pub kept_stop : (capacity : Option ℕ) (es : List (Event Z)) (core after : Queue (List ℕ)) (counts : List ℕ) (seat n : ℕ)
+      → IsKept capacity es core counts → n ≡ events_of seat es → after ≡ stopping core
+      → IsKept capacity (es ++ stop_event seat n ∷ []) after (set counts seat (n + 1))
+  kept_stop capacity es core after counts seat n k is h =
+      let past : IsQueueOf (accepted es ++ []) (taken_count es) (stopping core) = rw append-nil (record { waits = k.past.waits; front = k.past.front; submitted = k.past.submitted; drained = k.past.drained }) in
+      rw h (kept_push capacity es core (stopping core) counts (stop_event seat n) (n + 1) (taken_count es) k (refl, is) refl (omega arith) (rw (append-nil, append-nil) k.order) past refl (sym (or-true core.stopped)))
+
+  -- the event of a take
+  abbrev take_event : ℕ → ℕ → Taken (List ℕ) → Event Z
+  take_event seat n t = record { seat = seat; count = n; call = call.Take; reply = reply.Take t }
+
+  kept_taken : (capacity : Option ℕ) (es : List (Event Z)) (core after : Queue (List ℕ)) (counts : List ℕ) (seat n : ℕ) (t : Taken (List ℕ))
+      → IsKept capacity es core counts → MayFollow capacity es (take_event seat n t) → IsTaken core t after → IsNext core t after
+      → IsKept capacity (es ++ take_event seat n t ∷ []) after (set counts seat (n + 1))
+  kept_taken capacity es core after counts seat n (taken.Text x) k may h next =
+      kept_push capacity es core after counts (take_event seat n (taken.Text x)) (n + 1) (taken_count es + 1) k may refl refl
+      (rw append-nil (order_taken (accepted es) (taken_texts es) (taken_count es) x k.order (next (accepted es) (taken_count es) k.past).0))
+      (rw append-nil (next (accepted es) (taken_count es) k.past).1)
+      (ap (λ q. q.capacity) h.1)
+      (ap (λ q. q.stopped) h.1 ∙ sym (or-false core.stopped))
+  kept_taken capacity es core after counts seat n taken.Empty k may h next =
+      rw h.2 (kept_same capacity es core counts (take_event seat n taken.Empty) (n + 1) k may refl refl refl refl)
+  kept_taken capacity es core after counts seat n taken.Ended k may h next =
+      rw h.2 (kept_same capacity es core counts (take_event seat n taken.Ended) (n + 1) k may refl refl refl refl)
+
+-- a take answers the first text that waits
+pub taken_is_first : (q r : Queue (List ℕ)) (t : Taken (List ℕ)) → IsTaken q t r → t ≡ first_of q.stopped q.waiting
+taken_is_first q r (taken.Text x) h = rw h.0 refl
+taken_is_first q r taken.Empty h = rw (h.0, h.1) refl
+taken_is_first q r taken.Ended h = rw (h.0, h.1) refl
+
+-- a refused submit is told as the history says, and not as accepted
+submit_is : (s f : Bool) (e : SinkError) (x : List ℕ) (r : SubmitReply)
+    → e ≡ cond s refusal.ChannelDisconnected (cond f refusal.ChannelFull refusal.OutOfMemory)
+    → IsToldRefusal e x (Ok r) → (r ≡ submit_reply s f) × (r ≢ submit.Accepted)
+submit_is true f e x r is h = let t : Ok r ≡ Ok submit.Stopped = subst (λ a. IsToldRefusal a x (Ok r)) is h in (cc, λ q. cc)
+submit_is false true e x r is h = let t : Ok r ≡ Ok submit.Full = subst (λ a. IsToldRefusal a x (Ok r)) is h in (cc, λ q. cc)
+submit_is false false e x r is h = let t : Ok r ≡ Err x = subst (λ a. IsToldRefusal a x (Ok r)) is h in cc
+
+module _ {Z : Type 0} where
+  pub kept_take : (capacity : Option ℕ) (es : List (Event Z)) (core after : Queue (List ℕ)) (counts : List ℕ) (seat n : ℕ) (t : Taken (List ℕ))
+      → IsKept capacity es core counts → n ≡ events_of seat es → IsTaken core t after → IsNext core t after
+      → IsKept capacity (es ++ take_event seat n t ∷ []) after (set counts seat (n + 1))
+  kept_take capacity es core after counts seat n t k is h next =
+      let may : t ≡ first_of (was_stopped es) (waiting es) = taken_is_first core after t h ∙ ap (λ b. first_of b core.waiting) k.stop ∙ ap (first_of (was_stopped es)) k.past.waits in
+      kept_taken capacity es core after counts seat n t k (ap reply.Take may, is) h next
+
+  -- the event of a submit
+  abbrev submit_event : ℕ → ℕ → List ℕ → SubmitReply → Event Z
+  submit_event seat n x r = record { seat = seat; count = n; call = call.Submit x; reply = reply.Submit r }
+
+  refused_submit : (capacity : Option ℕ) (es : List (Event Z)) (core : Queue (List ℕ)) (counts : List ℕ) (seat n : ℕ) (x : List ℕ) (r : SubmitReply)
+      → IsKept capacity es core counts → MayFollow capacity es (submit_event seat n x r) → r ≢ submit.Accepted
+      → IsKept capacity (es ++ submit_event seat n x r ∷ []) core (set counts seat (n + 1))
+  refused_submit capacity es core counts seat n x submit.Accepted k may not = absurd (not refl)
+  refused_submit capacity es core counts seat n x submit.Full k may not =
+      kept_same capacity es core counts (submit_event seat n x submit.Full) (n + 1) k may refl refl refl refl
+  refused_submit capacity es core counts seat n x submit.Stopped k may not =
+      kept_same capacity es core counts (submit_event seat n x submit.Stopped) (n + 1) k may refl refl refl refl
+
+  pub kept_submit : (capacity : Option ℕ) (es : List (Event Z)) (core after : Queue (List ℕ)) (counts : List ℕ) (seat n : ℕ) (x : List ℕ) (answer : Result (Unit {0}) (SinkError × List ℕ)) (r : SubmitReply)
+      → IsKept capacity es core counts → n ≡ events_of seat es
+      → OnOk answer ((core.stopped ≡ false) × (is_full core ≡ false) × (after ≡ accepting core x))
+      → OnOk answer (IsAccepted core x after)
+      → IfErr answer (λ e. IsRefusal core e.0 × (e.1 ≡ x) × (after ≡ core))
+      → IsTold answer (Ok r)
+      → IsKept capacity (es ++ submit_event seat n x r ∷ []) after (set counts seat (n + 1))
+  kept_submit capacity es core after counts seat n x (Ok u) r k is ok past err told =
+      let full : at_capacity capacity (waiting es) ≡ false = sym (ap (λ c. at_capacity c (waiting es)) k.bound) ∙ sym (ap (at_capacity core.capacity) k.past.waits) ∙ ok.1 in
+      let here : r ≡ submit.Accepted = cc in
+      let may : MayFollow capacity es (submit_event seat n x submit.Accepted) = (rw (← k.stop, ok.0, full) refl, is) in
+      let after_past : IsQueueOf (accepted es ++ x ∷ []) (taken_count es) after = past (accepted es) (taken_count es) k.past in
+      rw here
+      (kept_push capacity es core after counts (submit_event seat n x submit.Accepted) (n + 1) (taken_count es) k may refl (omega arith)
+      (order_accepted (accepted es) (taken_texts es) (taken_count es) x k.past.front k.order)
+      after_past
+      (ap (λ q. q.capacity) ok.2)
+      (ap (λ q. q.stopped) ok.2 ∙ sym (or-false core.stopped)))
+  kept_submit capacity es core after counts seat n x (Err e) r k is ok past err told =
+      let both = submit_is core.stopped (is_full core) e.0 e.1 r err.0 told in
+      let full : is_full core ≡ at_capacity capacity (waiting es) = ap (λ c. at_capacity c core.waiting) k.bound ∙ ap (at_capacity capacity) k.past.waits in
+      let reply_is : r ≡ submit_reply (was_stopped es) (at_capacity capacity (waiting es)) = both.0 ∙ ap (λ b. submit_reply b (is_full core)) k.stop ∙ ap (submit_reply (was_stopped es)) full in
+      rw err.2 (refused_submit capacity es core counts seat n x r k (ap reply.Submit reply_is, is) both.1)

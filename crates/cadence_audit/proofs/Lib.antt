@@ -1,0 +1,2 @@
+pub mod AuditAgreement
+pub mod AuditSteps

@@ -1,0 +1,5 @@
+pub mod AuditDesk
+pub mod AuditHistory
+pub mod AuditSeats
+pub mod TakenText
+pub use Rattle.cadence_errors.specs.Errors

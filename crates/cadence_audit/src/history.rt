@@ -1,0 +1,105 @@
+//! The history of an audited queue, and whether receipts agree with it.
+ghost use Rattle.std.specs.Prelude.{◌≡◌, ◌↔◌, ◌+◌, ◌<◌, ◌≤◌, ◌==◌, length, All, Contains, IsTrue};
+ghost use Rattle.cadence_audit.specs.AuditHistory.{AreCounted};
+ghost use Rattle.cadence_audit.specs.AuditSeats.{Agrees, AreReceiptsOf, StandsIn, receipt_count};
+
+use super::event::Event;
+use super::seat::Seat;
+use std::alloc::{Allocator, Global};
+use std::marker::Model;
+
+/// What happened at an audited queue: its events, the oldest first.
+#[derive(Drop)]
+pub struct History<A: Allocator = Global> {
+    events: Vec<Event<A>, A>,
+}
+
+impl<A: Allocator> Model for History<A> {
+    ghost use Rattle.std.specs.Prelude.{List};
+    ghost use Rattle.cadence_audit.specs.AuditHistory.{AreCounted};
+    ghost use Rattle.cadence_audit.specs.declared.event.Event.{Event};
+
+    ghost Value = { List (Event A) };
+
+    ghost view = { λ h. h.events.items };
+
+    ghost invariant = { λ h. AreCounted h.events.items };
+}
+
+// Whether a receipt and an event are the same.
+fn is_same<A: Allocator>(receipt: &Event<A>, event: &Event<A>) -> bool
+    ensures { IsTrue result ↔ (receipt.now ≡ event.now) }
+{
+    *receipt == *event
+}
+
+// Whether each receipt is the event of its seat that has its count. One pass over the events.
+fn holds<A: Allocator>(events: &[Event<A>], number: usize, receipts: &[Event<A>]) -> bool
+    requires counted { AreCounted events.now }
+    requires own { AreReceiptsOf number receipts.now }
+    ensures { IsTrue result ↔ All (Contains events.now) receipts.now }
+{
+    let mut found = 0;
+    for event in events {
+        if event.seat == number {
+            if found < receipts.len() && !is_same(&receipts[found], event) {
+                return false;
+            }
+            found += 1;
+        }
+    }
+    found >= receipts.len()
+}
+
+// Whether each seat's receipts are among the events.
+fn hold_seats<A: Allocator>(events: &[Event<A>], seats: &[Seat<A>]) -> bool
+    requires { AreCounted events.now }
+    ensures { IsTrue result ↔ All (StandsIn events.now) seats.now }
+{
+    for seat in seats {
+        if !holds(events, seat.number(), seat.receipts()) {
+            return false;
+        }
+    }
+    true
+}
+
+// Whether the seats have that many receipts.
+fn has_receipts<A: Allocator>(count: usize, seats: &[Seat<A>]) -> bool
+    ensures { IsTrue result ↔ (count ≡ receipt_count seats.now) }
+{
+    let mut left = count;
+    for seat in seats {
+        let receipts = seat.receipts().len();
+        if receipts > left {
+            return false;
+        }
+        left -= receipts;
+    }
+    left == 0
+}
+
+impl<A: Allocator> History<A> {
+    // The history of the events.
+    pub(super) fn of(events: Vec<Event<A>, A>) -> History<A>
+        requires { AreCounted events.items }
+        ensures { result ≡ events.items }
+    {
+        History { events }
+    }
+
+    /// The events, the oldest first.
+    pub fn events(&self) -> &[Event<A>]
+        ensures { result.now ≡ self.now }
+    {
+        self.events.as_slice()
+    }
+
+    /// Whether there are as many events as receipts, and each receipt stands among the events under its seat and count.
+    pub fn agrees(&self, seats: &[Seat<A>]) -> bool
+        ensures { IsTrue result ↔ Agrees self.now seats.now }
+    {
+        let events = self.events.as_slice();
+        has_receipts(events.len(), seats) && hold_seats(events, seats)
+    }
+}

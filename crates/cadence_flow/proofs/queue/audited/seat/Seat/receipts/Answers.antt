@@ -1,4 +1,0 @@
-use Rattle.cadence_flow.proofs.queue.audited.seat.Seat.receipts.Goals as goal
-
-pub returns-clause-own : goal.returns-clause-own
-returns-clause-own g c = rw (c.as_slice.ensures.value, ← c.self.view_is) c.self.invariant

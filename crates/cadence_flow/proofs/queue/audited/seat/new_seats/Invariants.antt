@@ -1,5 +1,0 @@
-use Rattle.cadence_flow.specs.AuditSeats.{AreNewSeats}
-use Rattle.cadence_flow.proofs.queue.audited.seat.new_seats.Given as goal
-
-abbrev pub invariant-loop-number : goal.invariant-loop-number
-invariant-loop-number g l = AreNewSeats l.number l.seats.items

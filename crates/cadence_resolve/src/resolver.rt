@@ -1,0 +1,118 @@
+//! The resolver that a UDP sink holds.
+ghost use Rattle.std.specs.Prelude.{◌≡◌, IfErr, IfOk, None, is_some};
+ghost use Rattle.cadence_resolve.specs.Refusals.{IsSocketRefusal, IsTargetRefusal};
+
+use super::lookup::{ClockSleeper, TargetLookup};
+use super::{Handler, PeriodicResolver, StaticResolver, Target};
+use cadence_errors::MetricResult;
+use std::alloc::Allocator;
+use std::net::{Net, SocketAddr, TcpListener, TcpStream};
+use std::sync::{Arc, Wait};
+use std::thread::Threads;
+use std::time::{Clock, Duration};
+use std::{io, thread};
+
+/// The address that a sink sends to. A drop ends the lookups, and waits for none.
+pub enum Resolver<R: Wait + Drop, A: Allocator> {
+    /// The target was looked up once.
+    Static(StaticResolver),
+    /// A thread looks the target up again and again.
+    Periodic(Arc<PeriodicResolver<R>, A>),
+}
+
+impl<R: Wait + Drop, A: Allocator> Resolver<R, A> {
+    /// The address.
+    pub fn get_addr(&self) -> SocketAddr {
+        match self {
+            Resolver::Static(resolver) => resolver.get_addr(),
+            Resolver::Periodic(resolver) => resolver.get_addr(),
+        }
+    }
+}
+
+impl<R: Wait + Drop, A: Allocator> Drop for Resolver<R, A> {
+    fn drop(self) {
+        match self {
+            Resolver::Static(resolver) => drop(resolver),
+            Resolver::Periodic(resolver) => resolver.stop(),
+        }
+    }
+}
+
+impl<
+    R: Net<Listener = TcpListener, Stream = TcpStream>
+        + Wait
+        + Threads
+        + Clock
+        + Clone
+        + Drop
+        + Send
+        + Sync
+        + 'static,
+    A: Allocator + Clone + Send + Sync + 'static,
+> Resolver<R, A> {
+    ghost use Rattle.cadence_resolve.specs.Resolver.{is_periodic};
+
+    /// A static resolver where there is no period, else a periodic one with its thread. The errors are those of the
+    /// first lookup; `Io` where no thread can be started; `OutOfMemory`.
+    pub fn new(
+        rt: &R,
+        alloc: &A,
+        target: Target<A>,
+        period: Option<Duration>,
+        handler: Option<Handler>,
+    ) -> MetricResult<Self>
+        ensures made { IfOk result (λ r. is_periodic r ≡ is_some period) }
+        ensures refused { IfErr result (λ e. IsSocketRefusal e) }
+        ensures once { period ≡ None → IfErr result (λ e. IsTargetRefusal target e) }
+    {
+        let Some(period) = period else {
+            let resolver = StaticResolver::new(rt, alloc.clone()?, &target)?;
+            return Ok(Resolver::Static(resolver));
+        };
+        let lookup = TargetLookup {
+            rt: rt.clone()?,
+            alloc: alloc.clone()?,
+            target,
+        };
+        let resolver = PeriodicResolver::new(rt.clone()?, lookup.addresses(), period)?;
+        let resolver = Arc::new(alloc.clone()?, resolver)?;
+        let lookups = Lookups {
+            resolver: resolver.clone()?,
+            lookup,
+            sleeper: ClockSleeper { rt: rt.clone()? },
+        };
+        start(rt, lookups, handler)?;
+        Ok(Resolver::Periodic(resolver))
+    }
+}
+
+// Work for a thread of its own.
+trait Job: Drop {
+    // Does the work, and tells the handler of each fault.
+    fn run(&self, handler: &Option<Handler>);
+}
+
+// The lookups of a resolver.
+#[derive(Drop)]
+struct Lookups<R: Net + Wait + Clock + Drop, A: Allocator + Clone> {
+    resolver: Arc<PeriodicResolver<R>, A>,
+    lookup: TargetLookup<R, A>,
+    sleeper: ClockSleeper<R>,
+}
+
+impl<R: Net + Wait + Clock + Drop, A: Allocator + Clone> Job for Lookups<R, A> {
+    fn run(&self, handler: &Option<Handler>) {
+        self.resolver.run(&self.lookup, &self.sleeper, handler)
+    }
+}
+
+// Starts a thread that does the work.
+fn start<R: Threads, J: Job + Send + 'static>(
+    rt: &R,
+    job: J,
+    handler: Option<Handler>,
+) -> io::Result<()> {
+    thread::Builder::new().spawn(rt, move || job.run(&handler))?;
+    Ok(())
+}

@@ -1,0 +1,95 @@
+//! The address of a name, after each lookup.
+use super::Lookup;
+use cadence_errors::{ErrorKind, MetricError, MetricResult, SinkError};
+use std::alloc::Allocator;
+use std::marker::Model;
+use std::net::SocketAddr;
+
+/// The first address of the last lookup that gave any, and counts of the lookups after the first one. This project's
+/// own, made of cadence's resolvers.
+#[derive(Drop)]
+pub struct ResolverCore {
+    address: SocketAddr,
+    successes: u64,
+    failures: u64,
+}
+
+impl Model for ResolverCore {
+    ghost use Rattle.cadence_resolve.specs.Address.{Resolved};
+
+    ghost Value = { Resolved };
+
+    ghost view = { λ r. record { address = r.address; successes = r.successes; failures = r.failures } };
+}
+
+impl ResolverCore {
+    ghost use Rattle.std.specs.Prelude.{◌≡◌, [], IfOk};
+    ghost use Rattle.cadence_resolve.specs.Address.{IsResolvedBy, IsNotedAfter, addresses_of};
+    ghost use Rattle.cadence_resolve.specs.Lookups.{IsStart, IsNoted};
+
+    /// The first address of the first lookup, which is not counted.
+    ///
+    /// The error of the lookup, as `MetricError::Sink`; for one without addresses the kind `InvalidInput` with the
+    /// text `No socket addresses yielded`.
+    pub fn new<A: Allocator>(first: Lookup<A>) -> MetricResult<Self>
+        ensures start { IsStart first result }
+        ensures after { IfOk result (IsResolvedBy (addresses_of first) []) }
+    {
+        let addresses = first?;
+        let Some(address) = addresses.first() else {
+            return Err(MetricError::from((ErrorKind::InvalidInput, "No socket addresses yielded")));
+        };
+        Ok(ResolverCore {
+            address: *address,
+            successes: 0,
+            failures: 0,
+        })
+    }
+
+    /// Notes a later lookup, and answers its fault; the fault of one without addresses is `NoAddresses`. The address
+    /// stays then. Takes no memory.
+    pub fn note<A: Allocator>(&mut self, lookup: Lookup<A>) -> Option<SinkError>
+        ensures noted { IsNoted self.old lookup result self.new }
+        ensures after { IsNotedAfter self.old (addresses_of lookup) self.new }
+    {
+        let addresses = match lookup {
+            Ok(addresses) => addresses,
+            Err(fault) => {
+                self.failures = self.failures.wrapping_add(1);
+                return Some(fault);
+            }
+        };
+        match addresses.first() {
+            Some(address) => {
+                self.address = *address;
+                self.successes = self.successes.wrapping_add(1);
+                None
+            }
+            None => {
+                self.failures = self.failures.wrapping_add(1);
+                Some(SinkError::NoAddresses)
+            }
+        }
+    }
+
+    /// The address.
+    pub fn get_addr(&self) -> SocketAddr
+        ensures { result ≡ self.now.address }
+    {
+        self.address
+    }
+
+    /// The number of later lookups that gave an address, modulo 2 to the 64.
+    pub fn successes(&self) -> u64
+        ensures { result ≡ self.now.successes }
+    {
+        self.successes
+    }
+
+    /// The number of later lookups that gave none, modulo 2 to the 64.
+    pub fn failures(&self) -> u64
+        ensures { result ≡ self.now.failures }
+    {
+        self.failures
+    }
+}

@@ -1,0 +1,37 @@
+-- The kept lines are those of the kept metrics.
+use Rattle.std.proofs.Common.{◌≡◌, ℕ, List, [], ◌∷◌, ◌++◌, Option, Some, None, Ok, refl, sym, ap, ◌∙◌, map}
+use Rattle.std.specs.Option.{option_map, option_to_list}
+use Rattle.std.proofs.lemmas.List.{map-append}
+use Rattle.cadence_schedule.specs.declared.call.Call.{Call}
+use Rattle.cadence_schedule.specs.declared.steps.Step.TheVariants as step
+use Rattle.cadence_schedule.specs.declared.steps.Reply.TheVariants as reply
+use Rattle.cadence_schedule.specs.History.{Turn, answered, outcomes, accepted, accepted_by, kept}
+
+module _ {X Y : Type 0} (f : X → Y) where
+  option_mapped : (o : Option X) → option_to_list (option_map f o) ≡ map f (option_to_list o)
+  option_mapped None = refl
+  option_mapped (Some x) = refl
+
+  answered_mapped : (xs : List X) (answers : List (Option ℕ)) → answered (map f xs) answers ≡ map (λ (k : X × ℕ). (f k.0, k.1)) (answered xs answers)
+  answered_mapped [] answers = refl
+  answered_mapped (x ∷ xs) [] = refl
+  answered_mapped (x ∷ xs) (Some n ∷ answers) = ap (λ l. (f x, n) ∷ l) (answered_mapped xs answers)
+  answered_mapped (x ∷ xs) (None ∷ answers) = answered_mapped xs answers
+
+  firsts_mapped : (ks : List (X × ℕ)) → map (λ (k : Y × ℕ). k.0) (map (λ (k : X × ℕ). (f k.0, k.1)) ks) ≡ map f (map (λ (k : X × ℕ). k.0) ks)
+  firsts_mapped [] = refl
+  firsts_mapped (k ∷ ks) = ap (λ l. f k.0 ∷ l) (firsts_mapped ks)
+
+  module _ {A : Type 0} (of : Call A → Option X) where
+    turn_mapped : (t : Turn A) → accepted_by (λ c. option_map f (of c)) t ≡ map f (accepted_by of t)
+    turn_mapped (step.Call call, reply.Called (Ok n)) = option_mapped (of call)
+    turn_mapped _ = refl
+
+    accepted_mapped : (h : List (Turn A)) → accepted (λ c. option_map f (of c)) h ≡ map f (accepted of h)
+    accepted_mapped [] = refl
+    accepted_mapped (t ∷ h) = (λ i. turn_mapped t i ++ accepted_mapped h i) ∙ sym (map-append f (accepted_by of t) (accepted of h))
+
+    pub kept_mapped : (h : List (Turn A)) → kept (λ c. option_map f (of c)) h ≡ map f (kept of h)
+    kept_mapped h =
+        ap (λ xs. map (λ (k : Y × ℕ). k.0) (answered xs (outcomes h))) (accepted_mapped h)
+        ∙ ap (map (λ (k : Y × ℕ). k.0)) (answered_mapped (accepted of h) (outcomes h)) ∙ firsts_mapped (answered (accepted of h) (outcomes h))

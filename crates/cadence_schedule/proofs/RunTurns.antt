@@ -1,0 +1,42 @@
+-- A run with one turn more.
+use Rattle.std.proofs.Common.{◌≡◌, ℕ, List, [], ◌∷◌, ◌++◌, Option, length, refl, sym, ap, ◌∙◌, arith, subst}
+use Rattle.std.specs.List.{zip}
+use Rattle.cadence_flow.specs.Frame.{Format}
+use Rattle.cadence_flow.specs.Writer.{Kind}
+use Rattle.cadence_schedule.specs.declared.call.Call.{Call}
+use Rattle.cadence_schedule.specs.declared.steps.Step.{Step}
+use Rattle.cadence_schedule.specs.declared.steps.Reply.{Reply}
+use Rattle.cadence_schedule.specs.History.{Turn}
+use Rattle.cadence_schedule.specs.Moves.{State, Moves, Runs}
+
+module _ {A : Type 0} where
+  zip_push : (xs : List (Step A)) (ys : List Reply) (x : Step A) (y : Reply) → length xs ≡ length ys → ◌≡◌ {A = List (Turn A)} (zip (xs ++ x ∷ []) (ys ++ y ∷ [])) (zip xs ys ++ (x, y) ∷ [])
+  zip_push [] [] x y e = refl
+  zip_push [] (b ∷ ys) x y e = absurd (omega arith)
+  zip_push (a ∷ xs) [] x y e = absurd (omega arith)
+  zip_push (a ∷ xs) (b ∷ ys) x y e = ap (λ l. (a, b) ∷ l) (zip_push xs ys x y (omega arith))
+
+  pub length-zip : (xs : List (Step A)) (ys : List Reply) → length xs ≡ length ys → length (zip xs ys) ≡ length xs
+  length-zip [] [] e = refl
+  length-zip [] (b ∷ ys) e = refl
+  length-zip (a ∷ xs) [] e = absurd (omega arith)
+  length-zip (a ∷ xs) (b ∷ ys) e = omega (arith, length-zip xs ys (omega arith))
+
+  module _ (line_of : Call A → Option (List ℕ)) (kind : Kind) (format : Format) (queue : Option ℕ) where
+    runs_more : (old mid new : State) (turns : List (Turn A)) (t : Turn A) → Runs line_of kind format queue old turns mid → Moves line_of kind format queue mid t new → Runs line_of kind format queue old (turns ++ t ∷ []) new
+    runs_more old mid new [] t same move = (new, subst (λ s. Moves line_of kind format queue s t new) same move, refl)
+    runs_more old mid new (u ∷ turns) t (next, first, rest) move = (next, first, runs_more next mid new turns t rest move)
+
+    -- one step and its reply more
+    pub runs_push : (old mid new : State) (xs xs' : List (Step A)) (ys ys' : List Reply) (x : Step A) (y : Reply) → length xs ≡ length ys → xs' ≡ xs ++ x ∷ [] → ys' ≡ ys ++ y ∷ []
+        → Runs line_of kind format queue old (zip xs ys) mid → Moves line_of kind format queue mid (x, y) new → Runs line_of kind format queue old (zip xs' ys') new
+    runs_push old mid new xs xs' ys ys' x y short e f runs move =
+        subst (λ turns. Runs line_of kind format queue old turns new) (sym (zip_push xs ys x y short) ∙ (λ i. zip (sym e i) (sym f i)))
+        (runs_more old mid new (zip xs ys) (x, y) runs move)
+
+  -- a move, by an equal kind, format and capacity of the queue
+  pub moves_along : (line_of : Call A → Option (List ℕ)) (kind kind' : Kind) (format format' : Format) (queue queue' : Option ℕ) (old : State) (t : Turn A) (new : State) → kind ≡ kind' → format ≡ format' → queue ≡ queue' → Moves line_of kind format queue old t new → Moves line_of kind' format' queue' old t new
+  moves_along line_of kind kind' format format' queue queue' old t new k f q move =
+      subst (λ x. Moves line_of kind' format' x old t new) q
+      (subst (λ x. Moves line_of kind' x queue old t new) f
+      (subst (λ x. Moves line_of x format queue old t new) k move))

@@ -1,0 +1,20 @@
+use Rattle.std.proofs.Common.{◌≡◌, ◌+◌, ◌≤◌, length, take, vec_len, vec_capacity}
+use Rattle.std.specs.List.{zip}
+use Rattle.cadence_schedule.specs.Calls.{line_of_data}
+use Rattle.cadence_schedule.specs.Moves.{Runs}
+use Rattle.cadence_schedule.specs.Running.{state_of}
+use Rattle.cadence_schedule.proofs.run.run_steps.Given as goal
+
+abbrev pub invariant-loop-step : goal.invariant-loop-step
+invariant-loop-step g l =
+    let first = l.fn.running in
+    record {
+      count : length l.replies.items ≡ l.step-index;
+      replies_room : length l.steps ≤ vec_capacity l.replies;
+      plan_length : vec_len l.running.plan ≤ vec_len first.plan + l.step-index;
+      plan_room : vec_capacity first.plan ≤ vec_capacity l.running.plan;
+      same_kind : g.P.PacketWriter.kind l.running.packer.writer ≡ g.P.PacketWriter.kind first.packer.writer;
+      same_format : l.running.packer.format ≡ first.packer.format;
+      same_queue : l.running.queue.capacity ≡ first.queue.capacity;
+      runs : Runs (line_of_data l.settings) (g.P.PacketWriter.kind first.packer.writer) first.packer.format first.queue.capacity (state_of g.P.PacketWriter.history first) (zip (take l.step-index l.steps) l.replies.items) (state_of g.P.PacketWriter.history l.running);
+    }

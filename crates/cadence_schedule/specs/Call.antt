@@ -1,0 +1,86 @@
+-- The metric of a call.
+use Rattle.std.specs.Prelude.{◌≡◌, ℕ, Option, None, Some, List, [], ◌∷◌, ◌++◌, Result, Ok, Err}
+use Rattle.std.specs.Option.{option_or}
+use Rattle.std.specs.List.{filter_map, fold}
+use Rattle.cadence_text.specs.declared.line.MetricType.{MetricType}
+use Rattle.cadence_errors.specs.declared.MetricError.{MetricError}
+use Rattle.cadence_errors.specs.Errors.{IsInvalid, out_of_memory}
+use Rattle.cadence_text.specs.Metric.{Metric, Tag}
+use Rattle.cadence_text.specs.Number.{Number}
+use Rattle.cadence_schedule.specs.Settings.{Settings}
+
+-- what one option of a call chooses
+pub data Choice : Type 0 where
+  tagged : Tag → Choice
+  contained : List ℕ → Choice
+  timed : ℕ → Choice
+  rated : Number → Choice
+
+abbrev pub chosen_tag : Choice → Option Tag
+chosen_tag (tagged t) = Some t
+chosen_tag (contained c) = None
+chosen_tag (timed n) = None
+chosen_tag (rated r) = None
+
+abbrev pub chosen_container : Choice → Option (List ℕ)
+chosen_container (tagged t) = None
+chosen_container (contained c) = Some c
+chosen_container (timed n) = None
+chosen_container (rated r) = None
+
+abbrev pub chosen_time : Choice → Option ℕ
+chosen_time (tagged t) = None
+chosen_time (contained c) = None
+chosen_time (timed n) = Some n
+chosen_time (rated r) = None
+
+abbrev pub chosen_rate : Choice → Option Number
+chosen_rate (tagged t) = None
+chosen_rate (contained c) = None
+chosen_rate (timed n) = None
+chosen_rate (rated r) = Some r
+
+-- the last of what they give, or else the default
+abbrev pub last_or : {X Y : Type 0} → (X → Option Y) → Option Y → List X → Option Y
+last_or gives default xs = fold (λ last x. option_or (gives x) last) default xs
+
+-- a call: its kind, its key, the numbers of its value, and its options in their order
+pub record MetricCall : Type 0 where
+  pub kind : MetricType
+  pub key : List ℕ
+  pub numbers : List Number
+  pub choices : List Choice
+
+-- a call without options
+abbrev pub plain_call : MetricType → List ℕ → List Number → MetricCall
+plain_call kind key numbers = record { kind = kind; key = key; numbers = numbers; choices = [] }
+
+-- the call with one more option
+abbrev pub with_choice : MetricCall → Choice → MetricCall
+with_choice c o = record c { choices = c.choices ++ o ∷ [] }
+
+-- the default tags and then the call's own; its last container or else the default one; its last rate and time
+unfoldable pub metric_of_call : Settings → MetricCall → Metric
+metric_of_call s c = record {
+  name = s.prefix ++ c.key;
+  numbers = c.numbers;
+  kind = c.kind;
+  rate = last_or chosen_rate None c.choices;
+  tags = s.tags ++ filter_map chosen_tag c.choices;
+  container = last_or chosen_container s.container c.choices;
+  time = last_or chosen_time None c.choices;
+}
+
+-- the metric with what an option chooses
+abbrev pub chosen : Metric → Choice → Metric
+chosen m (tagged t) = record m { tags = m.tags ++ t ∷ [] }
+chosen m (contained c) = record m { container = Some c }
+chosen m (timed n) = record m { time = Some n }
+chosen m (rated r) = record m { rate = Some r }
+
+-- what the metric of a call answers: it, or want of memory; where the call's value has no numbers to give, that
+abbrev pub MakesMetric : Option Metric → Result Metric MetricError → Type 0
+MakesMetric (Some m) (Ok r) = r ≡ m
+MakesMetric (Some m) (Err e) = e ≡ out_of_memory
+MakesMetric None (Ok r) = ⊥
+MakesMetric None (Err e) = IsInvalid e

@@ -1,0 +1,69 @@
+-- Which reply each step may have, after the steps and replies before it.
+use Rattle.std.specs.Prelude.{◌≡◌, ℕ, ◌-◌, ◌≤◌, ◌==◌, ◌⊎◌, List, [], ◌∷◌, ◌++◌, Option, Some, None, Ok, Err, Result, Bool, true, false, length, slice_get}
+use Rattle.std.specs.Option.{option_map_or}
+use Rattle.cadence_errors.specs.declared.MetricError.{MetricError}
+use Rattle.cadence_errors.specs.declared.MetricError.TheVariants.{Sink}
+use Rattle.cadence_errors.specs.declared.SinkError.{SinkError}
+use Rattle.cadence_errors.specs.declared.SinkError.TheVariants.{ChannelFull, ChannelDisconnected, NothingWritten}
+use Rattle.cadence_errors.specs.Errors.{IsInvalid, out_of_memory}
+use Rattle.cadence_flow.specs.Frame.{Format, is_oversize}
+use Rattle.cadence_schedule.specs.declared.call.Call.{Call}
+use Rattle.cadence_schedule.specs.declared.steps.Step.TheVariants as step
+use Rattle.cadence_schedule.specs.declared.steps.Reply.{Reply}
+use Rattle.cadence_schedule.specs.declared.steps.Reply.TheVariants as reply
+use Rattle.cadence_schedule.specs.History.{Turn, accepted, taken, in_hand, is_stopped}
+
+-- a call, by its line, whether a stop came before, and whether the queue is full: the first case that holds
+abbrev pub CallReplies : Option (List ℕ) → Bool → Bool → Result ℕ MetricError → Type 0
+CallReplies None stopped full result = (e : MetricError) × IsInvalid e × (result ≡ Err e)
+CallReplies (Some line) true full result = (result ≡ Err (Sink ChannelDisconnected)) ⊎ (result ≡ Err out_of_memory)
+CallReplies (Some line) false true result = (result ≡ Err (Sink ChannelFull)) ⊎ (result ≡ Err out_of_memory)
+CallReplies (Some line) false false result = (result ≡ Ok (length line)) ⊎ (result ≡ Err out_of_memory)
+
+-- a take, by the line in hand, the next accepted line, and whether a stop came before: the first case that holds
+abbrev pub TakeReplies : Option (List ℕ) → Option (List ℕ) → Bool → Reply → Type 0
+TakeReplies (Some line) next stopped answer = answer ≡ reply.Busy
+TakeReplies None (Some line) stopped answer = answer ≡ reply.Text (length line)
+TakeReplies None None true answer = answer ≡ reply.Ended
+TakeReplies None None false answer = answer ≡ reply.Empty
+
+-- the count for a line: its length, or of an oversize line what a writer with short counts took
+pub record IsCount (takes_whole : Bool) (format : Format) (line : List ℕ) (n : ℕ) : Type 0 where
+  pub within : n ≤ length line
+  pub fits : is_oversize format line ≡ false → n ≡ length line
+  pub whole : takes_whole ≡ true → n ≡ length line
+
+-- an error that the writer may give; over a writer with short counts also that it took 0 bytes of held text
+abbrev pub MayFail : (SinkError → Bool) → Bool → SinkError → Type 0
+MayFail may_give takes_whole e = (may_give e ≡ true) ⊎ ((takes_whole ≡ false) × (e ≡ NothingWritten))
+
+-- a hand, by the line in hand
+abbrev pub HandReplies : (SinkError → Bool) → Bool → Format → Option (List ℕ) → Reply → Type 0
+HandReplies may_give takes_whole format None answer = answer ≡ reply.Nothing
+HandReplies may_give takes_whole format (Some line) answer =
+    ((n : ℕ) × IsCount takes_whole format line n × (answer ≡ reply.Handed (Ok n)))
+    ⊎ ((e : SinkError) × MayFail may_give takes_whole e × (answer ≡ reply.Handed (Err e)))
+
+-- by the line of each call, which errors the writer may give, whether it takes each packet whole or refuses it, the
+-- packer's capacity and ending, and the queue's capacity
+module _ {A : Type 0} (line_of : Call A → Option (List ℕ)) (may_give : SinkError → Bool) (takes_whole : Bool) (format : Format) (queue : Option ℕ) where
+  -- as many texts wait as the queue's capacity
+  abbrev pub is_full : List (Turn A) → Bool
+  is_full before = option_map_or (λ room. (length (accepted line_of before) - taken before) == room) queue false
+
+  -- a step's reply, by the turns before it
+  abbrev pub MayReply : List (Turn A) → Turn A → Type 0
+  MayReply before (step.Call call, reply.Called result) =
+      CallReplies (line_of call) (is_stopped before) (is_full before) result
+  MayReply before (step.Take, answer) =
+      TakeReplies (in_hand line_of before) (slice_get (accepted line_of before) (taken before)) (is_stopped before) answer
+  MayReply before (step.Hand, answer) = HandReplies may_give takes_whole format (in_hand line_of before) answer
+  MayReply before (step.Flush, reply.Flushed (Ok done)) = Unit {0}
+  MayReply before (step.Flush, reply.Flushed (Err e)) = MayFail may_give takes_whole e
+  MayReply before (step.Stop, reply.Stopped) = Unit {0}
+  MayReply before _ = ⊥
+
+  -- each turn's reply is one that it may have after those before it
+  abbrev pub MayReplyAfter : List (Turn A) → List (Turn A) → Type 0
+  MayReplyAfter before [] = Unit {0}
+  MayReplyAfter before (turn ∷ rest) = MayReply before turn × MayReplyAfter (before ++ turn ∷ []) rest

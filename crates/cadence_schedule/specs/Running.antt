@@ -1,0 +1,29 @@
+-- A run at one of its steps, as lists.
+use Rattle.std.specs.Prelude.{◌≡◌, ℕ, ◌+◌, ◌≤◌, List, Option, map, string_bytes, vec_len, vec_capacity}
+use Rattle.std.specs.Option.{option_map}
+use Rattle.cadence_flow.specs.Writer.{History, Kind}
+use Rattle.cadence_schedule.specs.declared.call.Call.{Call}
+use Rattle.cadence_schedule.specs.declared.running.Running.{Running}
+use Rattle.cadence_schedule.specs.History.{Turn}
+use Rattle.cadence_schedule.specs.Moves.{State, Moves}
+
+abbrev pub state_of : {P A : Type 0} → (P → History) → Running P A → State
+state_of history run = record {
+  waiting = map string_bytes run.queue.waiting;
+  stopped = run.queue.stopped;
+  submitted = run.queue.submitted;
+  drained = run.queue.drained;
+  hand = option_map string_bytes run.hand;
+  plan = run.plan.items;
+  writer = history run.packer.writer;
+  held = run.packer.held;
+}
+
+-- one turn of a run, which leaves its writer's kind, its format and its queue's capacity
+pub record MakesTurn {P A : Type 0} (kind : P → Kind) (history : P → History) (line_of : Call A → Option (List ℕ)) (old : Running P A) (turn : Turn A) (new : Running P A) : Type 0 where
+  pub moves : Moves line_of (kind old.packer.writer) old.packer.format old.queue.capacity (state_of history old) turn (state_of history new)
+  pub same_kind : kind new.packer.writer ≡ kind old.packer.writer
+  pub same_format : new.packer.format ≡ old.packer.format
+  pub same_queue : new.queue.capacity ≡ old.queue.capacity
+  pub plan_length : vec_len new.plan ≤ vec_len old.plan + 1
+  pub plan_room : vec_capacity old.plan ≤ vec_capacity new.plan

@@ -1,0 +1,55 @@
+-- The settings of a client: what it adds to each call.
+use Rattle.std.specs.Prelude.{◌≡◌, ℕ, ◌==◌, if◌then◌else◌, Option, None, Some, List, [], ◌∷◌, ◌++◌, Result, Ok, Err, IfSome, codes}
+use Rattle.cadence_errors.specs.declared.MetricError.{MetricError}
+use Rattle.cadence_errors.specs.Errors.{out_of_memory}
+use Rattle.cadence_text.specs.Metric.{Tag}
+
+-- the prefix as it is printed, the default tags in order, and the default container
+pub record Settings : Type 0 where
+  pub prefix : List ℕ
+  pub tags : List Tag
+  pub container : Option (List ℕ)
+
+-- a tag with a key, and one without
+abbrev pub keyed : List ℕ → List ℕ → Tag
+keyed key text = record { key = Some key; text = text }
+
+abbrev pub unkeyed : List ℕ → Tag
+unkeyed text = record { key = None; text = text }
+
+-- a byte before a text that has no trailing dots
+abbrev pub before_kept : ℕ → List ℕ → List ℕ
+before_kept c [] = if c == 46 then [] else c ∷ []
+before_kept c (x ∷ xs) = c ∷ x ∷ xs
+
+-- the text without its trailing dots
+abbrev pub without_dots : List ℕ → List ℕ
+without_dots [] = []
+without_dots (c ∷ cs) = before_kept c (without_dots cs)
+
+-- what a client's prefix prints: an empty one nothing, another its text without its trailing dots, and one dot
+abbrev pub client_prefix : List ℕ → List ℕ
+client_prefix [] = []
+client_prefix (c ∷ cs) = without_dots (c ∷ cs) ++ codes "."
+
+-- settings without defaults
+abbrev pub settings_of : List ℕ → Settings
+settings_of prefix = record { prefix = client_prefix prefix; tags = []; container = None }
+
+-- the settings with one more default tag, at the end
+abbrev pub with_default_tag : Settings → Tag → Settings
+with_default_tag s tag = record s { tags = s.tags ++ tag ∷ [] }
+
+-- the settings with this default container
+abbrev pub with_default_container : Settings → List ℕ → Settings
+with_default_container s container = record s { container = Some container }
+
+-- what making something answers: it, or want of memory
+abbrev pub Makes : {X : Type 0} → X → Result X MetricError → Type 0
+Makes x (Ok y) = y ≡ x
+Makes x (Err e) = e ≡ out_of_memory
+
+-- settings that may be missing, since a growth was refused, after a change of them: what is missing stays so
+abbrev pub Changes : Option Settings → (Settings → Settings) → Option Settings → Type 0
+Changes None change new = new ≡ None
+Changes (Some s) change new = IfSome new (λ t. t ≡ change s)

@@ -1,0 +1,169 @@
+//! Calls that are kept as data.
+ghost use Rattle.std.specs.Prelude.{◌≡◌, OnOk, map};
+ghost use Rattle.std.specs.List.{fold};
+ghost use Rattle.cadence_text.specs.Values.{Converts};
+ghost use Rattle.cadence_schedule.specs.Call.{chosen};
+ghost use Rattle.cadence_schedule.specs.Calls.{choice_of, kind_of_value, numbers_of_value};
+
+use cadence_errors::MetricResult;
+use cadence_text::decimal::Decimal;
+use cadence_text::line::{MetricType, Record, Tag};
+use cadence_text::value::{MetricValue, ToHistogramValue, ToTimerValue};
+use std::alloc::{AllocError, Allocator, Global};
+use std::time::Duration;
+
+/// The value of a call: a variant for each kind of metric and each type that it takes.
+#[derive(Drop)]
+pub enum CallValue<A: Allocator = Global> {
+    CountI64(i64),
+    CountI32(i32),
+    CountU64(u64),
+    CountU32(u32),
+    TimeU64(u64),
+    TimeVecU64(Vec<u64, A>),
+    TimeDuration(Duration),
+    TimeVecDuration(Vec<Duration, A>),
+    GaugeU64(u64),
+    GaugeDecimal(Decimal),
+    MeterU64(u64),
+    HistogramU64(u64),
+    HistogramDecimal(Decimal),
+    HistogramDuration(Duration),
+    HistogramVecU64(Vec<u64, A>),
+    HistogramVecDecimal(Vec<Decimal, A>),
+    HistogramVecDuration(Vec<Duration, A>),
+    DistributionU64(u64),
+    DistributionDecimal(Decimal),
+    DistributionVecU64(Vec<u64, A>),
+    DistributionVecDecimal(Vec<Decimal, A>),
+    SetI64(i64),
+}
+
+/// An option of a call. They count in their order: tags add up, and of each other kind the last one counts.
+#[derive(Drop)]
+pub enum CallOption<A: Allocator = Global> {
+    /// A tag with a key.
+    Tag(String<A>, String<A>),
+    /// A tag without a key.
+    TagValue(String<A>),
+    /// The container, in the place of the default one.
+    Container(String<A>),
+    /// The time, in the unit that the server reads (seconds in DogStatsD).
+    Time(u64),
+    /// The sampling rate.
+    Rate(Decimal),
+}
+
+/// A call of a client as data.
+#[derive(Drop)]
+pub struct Call<A: Allocator = Global> {
+    pub key: String<A>,
+    pub value: CallValue<A>,
+    pub options: Vec<CallOption<A>, A>,
+}
+
+impl<A: Allocator> CallValue<A> {
+    pub(crate) fn kind(&self) -> MetricType
+        ensures { result ≡ kind_of_value self.now }
+    {
+        match self {
+            CallValue::CountI64(_)
+            | CallValue::CountI32(_)
+            | CallValue::CountU64(_)
+            | CallValue::CountU32(_) => MetricType::Counter,
+            CallValue::TimeU64(_)
+            | CallValue::TimeVecU64(_)
+            | CallValue::TimeDuration(_)
+            | CallValue::TimeVecDuration(_) => MetricType::Timer,
+            CallValue::GaugeU64(_) | CallValue::GaugeDecimal(_) => MetricType::Gauge,
+            CallValue::MeterU64(_) => MetricType::Meter,
+            CallValue::HistogramU64(_)
+            | CallValue::HistogramDecimal(_)
+            | CallValue::HistogramDuration(_)
+            | CallValue::HistogramVecU64(_)
+            | CallValue::HistogramVecDecimal(_)
+            | CallValue::HistogramVecDuration(_) => MetricType::Histogram,
+            CallValue::DistributionU64(_)
+            | CallValue::DistributionDecimal(_)
+            | CallValue::DistributionVecU64(_)
+            | CallValue::DistributionVecDecimal(_) => MetricType::Distribution,
+            CallValue::SetI64(_) => MetricType::Set,
+        }
+    }
+}
+
+impl<A: Allocator + Clone> CallValue<A> {
+    // The value as a metric has it. A list is copied.
+    pub(crate) fn convert(&self) -> MetricResult<MetricValue<A>>
+        ensures { Converts (numbers_of_value self.now) result }
+    {
+        match self {
+            CallValue::CountI64(n) | CallValue::SetI64(n) => Ok(MetricValue::Signed(*n)),
+            CallValue::CountI32(n) => Ok(MetricValue::Signed(i64::from(*n))),
+            CallValue::CountU32(n) => Ok(MetricValue::Unsigned(u64::from(*n))),
+            CallValue::CountU64(n)
+            | CallValue::TimeU64(n)
+            | CallValue::GaugeU64(n)
+            | CallValue::MeterU64(n)
+            | CallValue::HistogramU64(n)
+            | CallValue::DistributionU64(n) => Ok(MetricValue::Unsigned(*n)),
+            CallValue::GaugeDecimal(d)
+            | CallValue::HistogramDecimal(d)
+            | CallValue::DistributionDecimal(d) => Ok(MetricValue::Decimal(*d)),
+            CallValue::TimeVecU64(ns)
+            | CallValue::HistogramVecU64(ns)
+            | CallValue::DistributionVecU64(ns) => Ok(MetricValue::PackedUnsigned(ns.clone()?)),
+            CallValue::HistogramVecDecimal(ds) | CallValue::DistributionVecDecimal(ds) => {
+                Ok(MetricValue::PackedDecimal(ds.clone()?))
+            }
+            CallValue::TimeDuration(d) => ToTimerValue::try_to_value(*d),
+            CallValue::HistogramDuration(d) => ToHistogramValue::try_to_value(*d),
+            CallValue::TimeVecDuration(ds) => ToTimerValue::try_to_value(ds),
+            CallValue::HistogramVecDuration(ds) => ToHistogramValue::try_to_value(ds),
+        }
+    }
+}
+
+// Adds an option of a call to a record.
+fn choose<'a, A: Allocator>(
+    metric: &mut Record<'a, A>,
+    option: &'a CallOption<A>,
+) -> Result<(), AllocError>
+    ensures { OnOk result (metric.new ≡ chosen metric.old (choice_of option.now)) }
+{
+    match option {
+        CallOption::Tag(key, text) => metric.add_tag(Tag {
+            key: Some(key.as_str()),
+            text: text.as_str(),
+        }),
+        CallOption::TagValue(text) => metric.add_tag(Tag {
+            key: None,
+            text: text.as_str(),
+        }),
+        CallOption::Container(text) => {
+            metric.set_container(text.as_str());
+            Ok(())
+        }
+        CallOption::Time(time) => {
+            metric.set_time(*time);
+            Ok(())
+        }
+        CallOption::Rate(rate) => {
+            metric.set_rate(*rate);
+            Ok(())
+        }
+    }
+}
+
+// Adds the options of a call to a record, in their order.
+pub(crate) fn choose_all<'a, A: Allocator>(
+    metric: &mut Record<'a, A>,
+    options: &'a [CallOption<A>],
+) -> Result<(), AllocError>
+    ensures { OnOk result (metric.new ≡ fold chosen metric.old (map choice_of options.now)) }
+{
+    for option in options {
+        choose(metric, option)?;
+    }
+    Ok(())
+}

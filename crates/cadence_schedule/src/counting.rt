@@ -1,0 +1,78 @@
+//! Counts a writer's answers.
+ghost use Rattle.std.specs.Prelude.{◌≡◌, ◌<◌, ◌^◌};
+
+use cadence_errors::SinkError;
+use cadence_flow::io::PacketWriter;
+use cadence_flow::stats::SinkStats;
+
+/// A writer whose answers are counted.
+#[derive(Drop)]
+pub(crate) struct CountingWriter<W: PacketWriter> {
+    pub(crate) inner: W,
+    pub(crate) stats: SinkStats,
+}
+
+/// The sums, each below 2 to the 64.
+fn in_range(stats: SinkStats) -> SinkStats
+    ensures same { result ≡ stats }
+    ensures bytes_sent { stats.bytes_sent < 2 ^ 64 }
+    ensures packets_sent { stats.packets_sent < 2 ^ 64 }
+{
+    stats
+}
+
+impl<W: PacketWriter> CountingWriter<W> {
+    ghost use Rattle.std.specs.Prelude.{◌≡◌, ◌<◌, ◌^◌};
+    ghost use Rattle.cadence_flow.specs.Sums.{zero_sums};
+
+    /// Counts from zero.
+    pub(crate) fn new(inner: W) -> CountingWriter<W>
+        ensures { result ≡ record { inner = inner; stats = zero_sums } }
+    {
+        CountingWriter {
+            inner,
+            stats: SinkStats {
+                bytes_sent: 0,
+                packets_sent: 0,
+                bytes_dropped: 0,
+                packets_dropped: 0,
+            },
+        }
+    }
+
+    /// The writer.
+    pub(crate) fn into_inner(self) -> W
+        ensures { result ≡ self.inner }
+    {
+        let CountingWriter { inner, stats: _ } = self;
+        inner
+    }
+
+    /// The writer and the sums.
+    pub(crate) fn into_parts(self) -> (W, SinkStats)
+        ensures writer { result.0 ≡ self.inner }
+        ensures stats { result.1 ≡ self.stats }
+        ensures bytes_sent { result.1.bytes_sent < 2 ^ 64 }
+        ensures packets_sent { result.1.packets_sent < 2 ^ 64 }
+    {
+        let CountingWriter { inner, stats } = self;
+        (inner, in_range(stats))
+    }
+}
+
+impl<W: PacketWriter> PacketWriter for CountingWriter<W> {
+    ghost use Rattle.cadence_flow.specs.Sums.{counted_kind};
+
+    ghost history = { λ c. W.history c.inner };
+
+    ghost kind = { λ c. counted_kind (W.kind c.inner) (W.history c.inner) c.stats };
+
+    fn write_packet(&mut self, packet: &[u8]) -> Result<usize, SinkError> {
+        let result = self.inner.write_packet(packet);
+        match &result {
+            Ok(n) => self.stats.add_taken(*n),
+            Err(_) => self.stats.add_refused(packet.len()),
+        }
+        result
+    }
+}

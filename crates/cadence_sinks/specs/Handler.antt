@@ -1,7 +1,0 @@
--- What contracts show of a handler of faults.
-use Rattle.std.specs.declared.dyn_box.DynBox.{DynBox}
-use Rattle.cadence_sinks.specs.declared.sinks.handler.Handler.{Handler}
-
--- the closure that it calls
-abbrev pub call_of : {A Y : Type 0} {G : Y → Type 0} {g : _} → Handler A Y G g → DynBox Y A G
-call_of h = h.call

@@ -1,0 +1,164 @@
+//! What sinks over sockets have in common.
+ghost use Rattle.std.specs.Prelude.{◌≡◌, Bool, IfErr};
+ghost use Rattle.cadence_errors.specs.Errors.{out_of_memory};
+ghost use Rattle.cadence_errors.specs.declared.SinkError.{SinkError};
+ghost use Rattle.cadence_sinks.specs.Sockets.{IsBufferedAnswer, IsBufferedFlush, IsSocketAnswer};
+
+use super::buffered::{hold_line, write_line};
+use cadence_errors::{MetricError, MetricResult, SinkError};
+use cadence_flow::io::{LineBuffer, PacketWriter};
+use cadence_flow::stats::{SinkStats, SocketStats};
+use std::alloc::Allocator;
+use std::sync::{Mutex, MutexGuard, Wait};
+
+/// A socket with the place that it sends to.
+pub trait Datagrams: Drop {
+    /// The errors that it may give.
+    ghost may_give: { SinkError → Bool };
+
+    /// Sends a packet, and answers how many of its first bytes were taken.
+    fn send(&self, packet: &[u8]) -> Result<usize, SinkError>
+        ensures { IsSocketAnswer may_give packet.now result };
+}
+
+/// A socket each answer of which is counted.
+#[derive(Drop)]
+pub struct CountedSocket<D: Datagrams, R: Wait + Drop, A: Allocator> {
+    socket: D,
+    stats: SocketStats<R, A>,
+}
+
+impl<D: Datagrams, R: Wait + Drop, A: Allocator> CountedSocket<D, R, A> {
+    /// Nothing is counted yet. The only error is `OutOfMemory`.
+    pub fn new(rt: R, alloc: A, socket: D) -> MetricResult<Self>
+        ensures { IfErr result (λ e. e ≡ out_of_memory) }
+    {
+        let stats = SocketStats::new(rt, alloc)?;
+        Ok(CountedSocket { socket, stats })
+    }
+
+    /// Sends a packet and counts the answer.
+    pub fn send(&self, packet: &[u8]) -> Result<usize, SinkError>
+        ensures { IsSocketAnswer D.may_give packet.now result }
+    {
+        self.stats.update(self.socket.send(packet), packet.len())
+    }
+
+    /// The counts of this moment.
+    pub fn stats(&self) -> SinkStats {
+        SinkStats::from(&self.stats)
+    }
+}
+
+/// Writes packets to a socket. It doesn't tell its packets.
+#[derive(Drop)]
+pub struct SocketWriter<D: Datagrams, R: Wait + Drop, A: Allocator> {
+    socket: CountedSocket<D, R, A>,
+    refusals: u64,
+    refused_bytes: u64,
+}
+
+impl<D: Datagrams, R: Wait + Drop, A: Allocator> PacketWriter for SocketWriter<D, R, A> {
+    ghost use Rattle.std.specs.Prelude.{[]};
+    ghost use Rattle.cadence_sinks.specs.Sockets.{socket_kind};
+
+    ghost history = { λ w. record { packets = []; refusals = w.refusals; refused_bytes = w.refused_bytes } };
+
+    ghost kind = { λ _. socket_kind D.may_give };
+
+    fn write_packet(&mut self, packet: &[u8]) -> Result<usize, SinkError> {
+        let answer = self.socket.send(packet);
+        if answer.is_err() {
+            self.refusals = self.refusals.wrapping_add(1);
+            self.refused_bytes = self.refused_bytes.wrapping_add(packet.len() as u64);
+        }
+        answer
+    }
+}
+
+/// A packer with the newline as its ending, under a lock, over a socket each answer of which is counted. Its drop
+/// tries one flush.
+pub struct PackedSocket<D: Datagrams, R: Wait + Drop, A: Allocator> {
+    rt: R,
+    writer: Mutex<LineBuffer<SocketWriter<D, R, A>, A>>,
+    stats: SocketStats<R, A>,
+}
+
+impl<D: Datagrams, R: Wait + Clone + Drop, A: Allocator + Clone> PackedSocket<D, R, A> {
+    /// Nothing is held yet. The only error is `OutOfMemory`.
+    pub fn new(rt: R, alloc: A, socket: D, capacity: usize) -> MetricResult<Self>
+        ensures { IfErr result (λ e. e ≡ out_of_memory) }
+    {
+        let socket = CountedSocket::new(rt.clone()?, alloc.clone()?, socket)?;
+        let stats = socket.stats.clone()?;
+        let writer = SocketWriter {
+            socket,
+            refusals: 0,
+            refused_bytes: 0,
+        };
+        let Ok(writer) = LineBuffer::new(alloc, writer, capacity) else {
+            return Err(MetricError::Sink(SinkError::OutOfMemory));
+        };
+        Ok(PackedSocket {
+            rt,
+            writer: Mutex::new(writer),
+            stats,
+        })
+    }
+}
+
+impl<D: Datagrams, R: Wait + Drop, A: Allocator> PackedSocket<D, R, A> {
+    /// Holds the line of a metric where it fits the free room. Else nothing has changed, and the lock is given for
+    /// `write_out`.
+    pub fn hold(&self, metric: &str) -> Option<SocketLines<'_, D, R, A>> {
+        // a lock that is free is taken inline
+        let mut lines = match self.writer.try_lock() {
+            Some(lines) => lines,
+            None => self.writer.lock(&self.rt),
+        };
+        if hold_line(&mut lines, metric) {
+            return None;
+        }
+        Some(lines)
+    }
+
+    /// Sends what is held.
+    pub fn flush(&self) -> Result<(), SinkError>
+        ensures { IsBufferedFlush D.may_give result }
+    {
+        self.writer.lock(&self.rt).flush()
+    }
+
+    /// The counts of this moment.
+    pub fn stats(&self) -> SinkStats {
+        SinkStats::from(&self.stats)
+    }
+}
+
+/// The lock of a packed socket.
+pub type SocketLines<'a, D, R, A> = MutexGuard<'a, LineBuffer<SocketWriter<D, R, A>, A>>;
+
+/// Sends the held lines, and holds the line of a metric or sends it alone; then it lets the lock go. It stands apart
+/// from `hold`, which most lines need alone: an answer is as wide as an `io::Error`.
+#[cold]
+#[inline(never)]
+pub fn write_out<D: Datagrams, R: Wait + Drop, A: Allocator>(
+    mut lines: SocketLines<'_, D, R, A>,
+    metric: &str,
+) -> Result<usize, SinkError>
+    ensures { IsBufferedAnswer D.may_give metric.now result }
+{
+    write_line(&mut lines, metric)
+}
+
+impl<D: Datagrams, R: Wait + Drop, A: Allocator> Drop for PackedSocket<D, R, A> {
+    fn drop(self) {
+        let PackedSocket {
+            rt: _rt,
+            writer,
+            stats: _,
+        } = self;
+        let mut lines = writer.into_inner();
+        let _ = lines.flush();
+    }
+}

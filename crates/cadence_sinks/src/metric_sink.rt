@@ -1,0 +1,48 @@
+//! The interface of a sink, and the sink that drops everything.
+ghost use Rattle.std.specs.Prelude.{◌≡◌, List, ℕ, Result, Ok, IfErr};
+ghost use Rattle.cadence_errors.specs.declared.SinkError.{SinkError};
+
+use cadence_errors::SinkError;
+use cadence_flow::stats::SinkStats;
+
+/// Takes lines and sends them somewhere, as in cadence. A line has no newline at its end. An impl states which
+/// answers a line may get, and which a flush may get; a flush may always succeed.
+pub trait MetricSink: Drop {
+    /// The answers that a line may get.
+    ghost may_answer: { Self → List ℕ → Result ℕ SinkError → Type 0 };
+
+    /// The answers that a flush may get; by default it can't fail.
+    ghost may_flush: { Self → Result (Unit {0}) SinkError → Type 0 } = { λ _ r. IfErr r (λ _. ⊥) };
+
+    /// Takes a line, and answers how many of its bytes, or why it refused it.
+    fn emit(&self, metric: &str) -> Result<usize, SinkError>
+        ensures { may_answer self.now metric.now result };
+
+    /// Sends what is held. A sink that holds nothing has nothing to do.
+    fn flush(&self) -> Result<(), SinkError>
+        ensures { may_flush self.now result }
+    {
+        Ok(())
+    }
+
+    /// How many bytes and packets were sent and dropped; all four are 0 for a sink that keeps no counts.
+    fn stats(&self) -> SinkStats {
+        SinkStats::default()
+    }
+
+    ghost flush_may_succeed: { (s : Self) → may_flush s (Ok tt) };
+}
+
+/// A sink that drops each line and answers 0, as in cadence.
+#[derive(Clone, Debug, Drop)]
+pub struct NopMetricSink;
+
+impl MetricSink for NopMetricSink {
+    ghost may_answer = { λ _ _ r. r ≡ Ok 0 };
+
+    fn emit(&self, _metric: &str) -> Result<usize, SinkError> {
+        Ok(0)
+    }
+
+    ghost flush_may_succeed = { λ _. tt };
+}

@@ -1,0 +1,9 @@
+//! Sinks whose lines a test reads back, as in cadence.
+
+mod buffered;
+mod channel;
+mod unbuffered;
+
+pub use buffered::BufferedSpyMetricSink;
+pub use channel::SpyReceiver;
+pub use unbuffered::SpyMetricSink;

@@ -1,0 +1,196 @@
+//! How often sinks and handlers are called, and with what.
+ghost use Rattle.std.specs.Prelude.{◌≡◌, ◌∷◌, [], None, Err, Ok, length, codes};
+ghost use Rattle.cadence_errors.specs.declared.SinkError.TheVariants.{PacketRefused};
+
+use super::nop_client;
+use cadence::client::StatsdClient;
+use cadence::ext::{MetricBackend, MetricValue, ToCounterValue};
+use cadence::prelude::*;
+use cadence::sinks::{MetricSink, NopMetricSink, SpyMetricSink};
+use cadence::types::{ErrorKind, Metric, MetricError, MetricResult, SinkError};
+use std::alloc::{AllocError, Allocator, Global};
+use std::sync::Arc;
+use std::sync::atomic::{AtomicU64, Ordering};
+use std::test::Fail;
+use std::time::Duration;
+
+// Refuses each line and counts its calls.
+#[derive(Drop)]
+struct RefusingSink {
+    calls: Arc<AtomicU64>,
+}
+
+impl MetricSink for RefusingSink {
+    ghost may_answer = { λ _ _ answer. answer ≡ Err PacketRefused };
+
+    ghost may_flush = { λ _ _. Unit {0} };
+
+    fn emit(&self, _metric: &str) -> Result<usize, SinkError> {
+        self.calls.fetch_add(1, Ordering::SeqCst);
+        Err(SinkError::PacketRefused)
+    }
+
+    fn flush(&self) -> Result<(), SinkError> {
+        Err(SinkError::NothingWritten)
+    }
+
+    ghost flush_may_succeed = { λ _. tt };
+}
+
+// Takes each line and counts its calls.
+#[derive(Drop)]
+struct CountingSink {
+    calls: Arc<AtomicU64>,
+}
+
+impl MetricSink for CountingSink {
+    ghost may_answer = { λ _ line answer. answer ≡ Ok (length line) };
+
+    fn emit(&self, metric: &str) -> Result<usize, SinkError> {
+        self.calls.fetch_add(1, Ordering::SeqCst);
+        Ok(metric.len())
+    }
+
+    ghost flush_may_succeed = { λ _. tt };
+}
+
+// A caller's own metric.
+struct Event;
+
+impl Metric for Event {
+    ghost metric_text = { λ _. codes "p.k:1|e" };
+
+    fn as_metric_str(&self) -> &str {
+        "p.k:1|e"
+    }
+}
+
+// A value that is always refused.
+struct Nothing;
+
+impl<A: Allocator> ToCounterValue<A> for Nothing {
+    ghost counted = { λ _. None };
+
+    fn try_to_value(self) -> MetricResult<MetricValue<A>> {
+        let Nothing = self;
+        Err(MetricError::from((ErrorKind::InvalidInput, "no number")))
+    }
+}
+
+// A counter that starts at 0.
+fn zero(alloc: Global) -> Result<Arc<AtomicU64>, AllocError> {
+    let zero = Arc::new(alloc, AtomicU64::new(0))?;
+    Ok(zero)
+}
+
+#[test]
+fn each_call_reaches_the_sink_once(rt: HostRuntime) -> Result<(), Fail> {
+    let calls = zero(rt.alloc())?;
+    let counting = CountingSink {
+        calls: calls.clone()?,
+    };
+    let sink: Box<dyn MetricSink + Send + Sync> = Box::new(rt.alloc(), counting)?;
+    let client = StatsdClient::from_sink(rt.alloc(), "p", sink)?;
+    client.incr("k")?;
+    client
+        .gauge_with_tags("k", 2)
+        .with_tag("a", "b")
+        .try_send()?;
+    assert_eq!(rt; calls.load(Ordering::SeqCst), 2);
+    client.gauge_with_tags("k", 3).send();
+    client.send_metric(&Event)?;
+    assert_eq!(rt; calls.load(Ordering::SeqCst), 4);
+    assert!(rt; client.flush().is_ok());
+    assert_eq!(rt; calls.load(Ordering::SeqCst), 4);
+    Ok(())
+}
+
+#[test]
+fn a_held_error_keeps_the_sink_uncalled(rt: HostRuntime) -> Result<(), Fail> {
+    let calls = zero(rt.alloc())?;
+    let counting = CountingSink {
+        calls: calls.clone()?,
+    };
+    let sink: Box<dyn MetricSink + Send + Sync> = Box::new(rt.alloc(), counting)?;
+    let client = StatsdClient::from_sink(rt.alloc(), "p", sink)?;
+    let longest = Duration::new(18_446_744_073_709_551, 615_999_999);
+    assert_eq!(rt;
+        client.time("k", longest)?.as_metric_str(),
+        "p.k:18446744073709551615|ms"
+    );
+    let longer = Duration::new(18_446_744_073_709_551, 616_000_000);
+    let refused = client
+        .time_with_tags("k", longer)
+        .with_tag("a", "b")
+        .with_tag_value("c")
+        .try_send();
+    let Err(error) = refused else {
+        return Err(Fail::new("taken"));
+    };
+    assert_eq!(rt; error.kind(), ErrorKind::InvalidInput);
+    assert_eq!(rt; error.to_string(rt.alloc())?.as_str(), "u64 overflow");
+    assert!(rt; client.count("k", Nothing).is_err());
+    client.count_with_tags("k", Nothing).send();
+    assert_eq!(rt; calls.load(Ordering::SeqCst), 1);
+    Ok(())
+}
+
+#[test]
+fn a_refusal_reaches_the_handler_once(rt: HostRuntime) -> Result<(), Fail> {
+    let (calls, handled) = (zero(rt.alloc())?, zero(rt.alloc())?);
+    let refusing = RefusingSink {
+        calls: calls.clone()?,
+    };
+    let sink: Box<dyn MetricSink + Send + Sync> = Box::new(rt.alloc(), refusing)?;
+    let seen = handled.clone()?;
+    let handler: Box<dyn Fn(MetricError) + Send + Sync> = Box::new(
+        rt.alloc(),
+        move |_error: MetricError| {
+            seen.fetch_add(1, Ordering::SeqCst);
+        },
+    )?;
+    let client = StatsdClient::builder(rt.alloc(), "p", sink)
+        .with_error_handler(handler)
+        .with_tag_value("a")
+        .build()?;
+    let Err(error) = client.count("k", 1) else {
+        return Err(Fail::new("taken"));
+    };
+    assert_eq!(rt; error.kind(), ErrorKind::IoError);
+    assert!(rt; matches!(error.sink_error(), Some(SinkError::PacketRefused)));
+    assert_eq!(rt; handled.load(Ordering::SeqCst), 0);
+    client.count_with_tags("k", 1).with_tag("a", "b").send();
+    assert_eq!(rt; handled.load(Ordering::SeqCst), 1);
+    client.consume_error(error);
+    assert_eq!(rt; handled.load(Ordering::SeqCst), 2);
+    client.count_with_tags("k", Nothing).send();
+    assert_eq!(rt; handled.load(Ordering::SeqCst), 3);
+    assert_eq!(rt; calls.load(Ordering::SeqCst), 2);
+    assert!(rt; client.flush().is_err());
+    Ok(())
+}
+
+#[test]
+fn just_the_text_goes_to_the_sink(rt: HostRuntime) -> Result<(), Fail> {
+    let (receiver, spy) = SpyMetricSink::new(rt.clone()?, rt.alloc())?;
+    let sink: Box<dyn MetricSink + Send + Sync> = Box::new(rt.alloc(), spy)?;
+    let client = StatsdClient::from_sink(rt.alloc(), "p", sink)?;
+    client.send_metric(&Event)?;
+    client.incr_with_tags("k").with_tag("a", "b").send();
+    drop(client);
+    let first = receiver.recv().ok_or("gone")?;
+    assert_eq!(rt; first.as_slice(), b"p.k:1|e".as_slice());
+    let second = receiver.recv().ok_or("gone")?;
+    assert_eq!(rt; second.as_slice(), b"p.k:1|c|#a:b".as_slice());
+    assert!(rt; receiver.recv().is_none());
+    Ok(())
+}
+
+#[test]
+fn without_a_handler_errors_are_dropped(rt: HostRuntime) -> Result<(), Fail> {
+    let client = nop_client(rt.alloc(), "p")?;
+    client.consume_error(MetricError::from(SinkError::ChannelFull));
+    client.count_with_tags("k", Nothing).send();
+    assert_eq!(rt; NopMetricSink.emit("a:1|c")?, 0);
+    Ok(())
+}

@@ -1,0 +1,258 @@
+use cadence_audit::{
+    AuditCall, AuditError, AuditReply, AuditedQueue, EndFault, Seat, SubmitReply, Text,
+};
+use cadence_flow::queue::Taken;
+use refusing::Refusing;
+use std::alloc::Global;
+use std::process::Abort;
+use std::sync::Wait;
+use std::test::Fail;
+use std::thread;
+use std::thread::Threads;
+
+fn text(alloc: Global, characters: &str) -> Result<String, Fail> {
+    Ok(String::from_str(alloc, characters)?)
+}
+
+// A queue of capacity 1 with two seats, after each kind of call and each reply to a submit.
+fn used<R: Wait + Abort>(rt: &R, alloc: Global) -> Result<(AuditedQueue, Seat, Seat), Fail> {
+    let (queue, mut seats) = AuditedQueue::new(alloc, Some(1), 2)?;
+    let mut one = seats.pop().ok_or("no seat")?;
+    let mut zero = seats.pop().ok_or("no seat")?;
+    let a = queue.submit(rt, &mut zero, text(alloc, "a")?);
+    assert!(rt; matches!(a, Ok(SubmitReply::Accepted)));
+    let b = queue.submit(rt, &mut one, text(alloc, "b")?);
+    assert!(rt; matches!(b, Ok(SubmitReply::Full)));
+    let Ok(Taken::Text(got)) = queue.take(rt, &mut one) else {
+        return Err(Fail::from("no text"));
+    };
+    assert_eq!(rt; got.as_str(), "a");
+    assert!(rt; queue.stop(rt, &mut zero).is_ok());
+    let c = queue.submit(rt, &mut one, text(alloc, "c")?);
+    assert!(rt; matches!(c, Ok(SubmitReply::Stopped)));
+    Ok((queue, zero, one))
+}
+
+#[test]
+fn history_of_two_seats(rt: HostRuntime) -> Result<(), Fail> {
+    let (queue, zero, one) = used(&rt, rt.alloc())?;
+    assert_eq!(rt; (one.number(), one.receipts().len()), (1, 3));
+    let ended = queue.end(vec![in rt.alloc(); zero, one]?);
+    let history = ended.ok().ok_or("differs")?;
+    let wanted = [(0, 0), (1, 0), (1, 1), (0, 1), (1, 2)];
+    let events = history.events();
+    assert_eq!(rt; events.len(), 5);
+    for (event, place) in events.iter().zip(wanted) {
+        assert_eq!(rt; (event.seat, event.count), place);
+    }
+    let b = AuditCall::Submit(Text::from(text(rt.alloc(), "b")?));
+    assert!(rt; events[1].call == b);
+    assert!(rt; events[1].reply == AuditReply::Submit(SubmitReply::Full));
+    assert!(rt; !history.agrees(&[]));
+    Ok(())
+}
+
+#[test]
+fn seat_left_out(rt: HostRuntime) -> Result<(), Fail> {
+    let (queue, zero, one) = used(&rt, rt.alloc())?;
+    drop(one);
+    let ended = queue.end(vec![in rt.alloc(); zero]?);
+    assert!(rt; matches!(ended, Err(EndFault::SeatsMissing)));
+    Ok(())
+}
+
+#[test]
+fn seats_of_another_queue(rt: HostRuntime) -> Result<(), Fail> {
+    let alloc = rt.alloc();
+    let (queue, mine) = AuditedQueue::new(alloc, None, 2)?;
+    let (_other, mut seats) = AuditedQueue::new(alloc, None, 3)?;
+    let mut two = seats.pop().ok_or("no seat")?;
+    let refused = queue.submit(&rt, &mut two, text(alloc, "x")?);
+    let Err((AuditError::Stranger, back)) = refused else {
+        return Err(Fail::from("accepted"));
+    };
+    assert_eq!(rt; back.as_str(), "x");
+    drop(seats.pop());
+    let mut zero = seats.pop().ok_or("no seat")?;
+    assert!(rt; queue.submit(&rt, &mut zero, text(alloc, "x")?).is_ok());
+    assert!(rt; matches!(queue.end(mine), Err(EndFault::Mismatch)));
+    Ok(())
+}
+
+#[test]
+fn no_seats(rt: HostRuntime) -> Result<(), Fail> {
+    let (queue, seats) = AuditedQueue::new(rt.alloc(), Some(0), 0)?;
+    let history = queue.end(seats).ok().ok_or("differs")?;
+    assert!(rt; history.events().is_empty());
+    let (queue, _seats) = AuditedQueue::new(rt.alloc(), None, 1)?;
+    let ended = queue.end(Vec::new(rt.alloc()));
+    assert!(rt; matches!(ended, Err(EndFault::SeatsMissing)));
+    Ok(())
+}
+
+// A queue with one seat and a text, from a heap that refuses one request. It is None where making them was refused.
+fn made(
+    heap: Refusing<Global>,
+) -> Option<
+    (
+        AuditedQueue<Refusing<Global>>,
+        Seat<Refusing<Global>>,
+        String<Refusing<Global>>,
+    ),
+> {
+    let (queue, mut seats) = AuditedQueue::new(heap.clone().ok()?, None, 1).ok()?;
+    let seat = seats.pop()?;
+    let text = String::from_str(heap, "a").ok()?;
+    Some((queue, seat, text))
+}
+
+#[test]
+fn each_request_of_a_submit_refused(rt: HostRuntime) -> Result<(), Fail> {
+    let mut refusals = 0u64;
+    for granted in 0..16 {
+        let heap = Refusing::after(rt.alloc(), rt.alloc(), granted)?;
+        let Some((queue, mut seat, text)) = made(heap) else {
+            continue;
+        };
+        let Err((error, text)) = queue.submit(&rt, &mut seat, text) else {
+            break;
+        };
+        refusals = refusals.wrapping_add(1);
+        assert!(rt; error == AuditError::OutOfMemory && text.as_str() == "a");
+        assert!(rt; seat.receipts().is_empty());
+        assert!(rt; queue.submit(&rt, &mut seat, text).is_ok());
+    }
+    assert_eq!(rt; refusals, 5);
+    Ok(())
+}
+
+#[test]
+fn each_request_of_a_take_refused(rt: HostRuntime) -> Result<(), Fail> {
+    let mut refusals = 0u64;
+    for granted in 0..24 {
+        let heap = Refusing::after(rt.alloc(), rt.alloc(), granted)?;
+        let Some((queue, mut seat, text)) = made(heap) else {
+            continue;
+        };
+        if queue.submit(&rt, &mut seat, text).is_err() {
+            continue;
+        }
+        let receipts = seat.receipts().len();
+        if queue.take(&rt, &mut seat).is_ok() {
+            break;
+        }
+        refusals = refusals.wrapping_add(1);
+        assert_eq!(rt; seat.receipts().len(), receipts);
+        assert!(rt; matches!(queue.take(&rt, &mut seat), Ok(Taken::Text(_))));
+    }
+    assert!(rt; refusals > 0);
+    Ok(())
+}
+
+const TEXTS: u32 = 50;
+
+const TAKES: u32 = 300;
+
+// Submits 50 texts, which increase and begin with the caller's name, and counts those that were accepted.
+fn submit_all<R: Wait>(
+    rt: &R,
+    alloc: Global,
+    queue: &AuditedQueue,
+    mut seat: Seat,
+    name: &str,
+) -> Result<(Seat, usize), &'static str> {
+    let mut accepted = 0usize;
+    for number in 0..TEXTS {
+        let text = format!(in alloc; "{name}{number:02}").map_err(|_| "memory")?;
+        match queue.submit(rt, &mut seat, text) {
+            Ok(SubmitReply::Accepted) => accepted = accepted.saturating_add(1),
+            Ok(_) => {}
+            Err(_) => return Err("refused"),
+        }
+    }
+    Ok((seat, accepted))
+}
+
+// Takes a number of times, or until no text waits, and adds the texts to those taken.
+fn take_all<R: Wait>(
+    rt: &R,
+    queue: &AuditedQueue,
+    mut seat: Seat,
+    mut taken: Vec<String>,
+    to_the_end: bool,
+) -> Result<(Seat, Vec<String>), &'static str> {
+    for _ in 0..TAKES {
+        match queue.take(rt, &mut seat) {
+            Ok(Taken::Text(text)) => taken.push(text).map_err(|_| "memory")?,
+            Ok(_) if to_the_end => break,
+            Ok(_) => {}
+            Err(_) => return Err("refused"),
+        }
+    }
+    Ok((seat, taken))
+}
+
+// Whether the caller's texts increase.
+fn increase(taken: &[String], name: &str) -> bool {
+    let mut last = "";
+    for text in taken {
+        if text.as_str().starts_with(name) {
+            if text.as_str() <= last {
+                return false;
+            }
+            last = text.as_str();
+        }
+    }
+    true
+}
+
+// Three callers submit and one takes, each in a thread.
+fn run_threads<R: Wait + Abort + Threads + Sync>(
+    rt: &R,
+    alloc: Global,
+    capacity: Option<usize>,
+) -> Result<(), Fail> {
+    let (queue, mut seats) = AuditedQueue::new(alloc, capacity, 4)?;
+    let taker = seats.pop().ok_or("no seat")?;
+    let two = seats.pop().ok_or("no seat")?;
+    let one = seats.pop().ok_or("no seat")?;
+    let zero = seats.pop().ok_or("no seat")?;
+    let shared = &queue;
+    let ((a, b), (c, d)) = thread::join(
+        rt,
+        || {
+            thread::join(
+                rt,
+                || submit_all(rt, alloc, shared, zero, "a"),
+                || submit_all(rt, alloc, shared, one, "b"),
+            )
+        },
+        || {
+            thread::join(
+                rt,
+                || submit_all(rt, alloc, shared, two, "c"),
+                || take_all(rt, shared, taker, Vec::new(alloc), false),
+            )
+        },
+    );
+    let (zero, first) = a?;
+    let (one, second) = b?;
+    let (two, third) = c?;
+    let (taker, taken) = d?;
+    let (taker, taken) = take_all(rt, shared, taker, taken, true)?;
+    let accepted = first.saturating_add(second).saturating_add(third);
+    assert_eq!(rt; taken.len(), accepted);
+    assert!(rt; increase(&taken, "a") && increase(&taken, "b") && increase(&taken, "c"));
+    assert!(rt; queue.end(vec![in alloc; zero, one, two, taker]?).is_ok());
+    Ok(())
+}
+
+#[test]
+fn threads_share_a_queue(rt: HostRuntime) -> Result<(), Fail> {
+    run_threads(&rt, rt.alloc(), None)
+}
+
+#[test]
+fn threads_share_a_bounded_queue(rt: HostRuntime) -> Result<(), Fail> {
+    run_threads(&rt, rt.alloc(), Some(8))
+}

@@ -1,0 +1,299 @@
+//! Worked rows, a writer of the tests' own, the drop, and each refused request for memory.
+use cadence_errors::SinkError;
+use cadence_flow::io::{Answer, MultiLineWriter, PacketLog, PacketWriter};
+use refusing::Refusing;
+use std::alloc::Global;
+use std::test::Fail;
+
+#[derive(Debug, Drop)]
+struct NoMemory;
+
+fn made(
+    alloc: Global,
+    capacity: usize,
+    ending: &str,
+    script: &[Answer],
+) -> Result<MultiLineWriter<PacketLog>, NoMemory> {
+    let Ok(script) = script.to_vec(alloc) else {
+        return Err(NoMemory);
+    };
+    match MultiLineWriter::with_ending(alloc, PacketLog::new(alloc, script), capacity, ending) {
+        Ok(packer) => Ok(packer),
+        Err(_log) => Err(NoMemory),
+    }
+}
+
+// Whether these packets were taken.
+fn took(log: &PacketLog, packets: &[&str]) -> bool {
+    let taken = log.packets();
+    if taken.len() != packets.len() {
+        return false;
+    }
+    for (packet, text) in taken.iter().zip(packets) {
+        if packet.as_slice() != text.as_bytes() {
+            return false;
+        }
+    }
+    true
+}
+
+// Whether these packets were taken and this text waits.
+fn stands(packer: &MultiLineWriter<PacketLog>, packets: &[&str], held: &str) -> bool {
+    took(packer.get_ref(), packets) && packer.held() == held.as_bytes()
+}
+
+fn counted(answer: Result<usize, SinkError>) -> Option<usize> {
+    answer.ok()
+}
+
+fn is_refused<T: Drop>(answer: Result<T, SinkError>) -> bool {
+    matches!(answer, Err(SinkError::PacketRefused))
+}
+
+#[test]
+fn holds_until_full(rt: HostRuntime) -> Result<(), Fail> {
+    let mut p = made(rt.alloc(), 16, "\n", &[])?;
+    assert_eq!(rt; counted(p.write(b"foo:1234|c")), Some(10));
+    assert_eq!(rt; counted(p.write(b"baz:5678|c")), Some(10));
+    assert!(rt; stands(&p, &["foo:1234|c\n"], "baz:5678|c\n"));
+    let mut p = made(rt.alloc(), 16, "\n", &[])?;
+    assert_eq!(rt; counted(p.write(b"ab:1|c")), Some(6));
+    assert_eq!(rt; counted(p.write(b"abc:12|c")), Some(8));
+    assert!(rt; stands(&p, &[], "ab:1|c\nabc:12|c\n"));
+    assert!(rt; p.flush().is_ok());
+    assert!(rt; stands(&p, &["ab:1|c\nabc:12|c\n"], ""));
+    Ok(())
+}
+
+#[test]
+fn oversize_goes_alone(rt: HostRuntime) -> Result<(), Fail> {
+    let mut p = made(rt.alloc(), 16, "\n", &[])?;
+    assert_eq!(rt;
+        counted(p.write(b"some_really_long_metric:456|c")),
+        Some(29)
+    );
+    assert!(rt; stands(&p, &["some_really_long_metric:456|c"], ""));
+    assert_eq!(rt; counted(p.write(b"abc:4|g")), Some(7));
+    assert_eq!(rt; p.held().len(), 8);
+    let mut p = made(rt.alloc(), 20, "\n", &[])?;
+    assert_eq!(rt; counted(p.write(b"small:1234|c")), Some(12));
+    assert_eq!(rt;
+        counted(p.write(b"this_is_a_very_long_metric_name:9876|c")),
+        Some(38)
+    );
+    assert!(rt;
+        stands(
+            &p,
+            &["small:1234|c\n", "this_is_a_very_long_metric_name:9876|c"],
+            ""
+        )
+    );
+    Ok(())
+}
+
+#[test]
+fn exact_fit_is_held(rt: HostRuntime) -> Result<(), Fail> {
+    let mut p = made(rt.alloc(), 8, "\n", &[])?;
+    assert_eq!(rt; counted(p.write(b"foo:42|c")), Some(8));
+    assert!(rt; stands(&p, &["foo:42|c"], ""));
+    let mut p = made(rt.alloc(), 9, "\n", &[])?;
+    assert_eq!(rt; counted(p.write(b"foo:42|c")), Some(8));
+    assert!(rt; stands(&p, &[], "foo:42|c\n"));
+    let mut p = made(rt.alloc(), 5, "", &[])?;
+    assert_eq!(rt; counted(p.write(b"a:1|c")), Some(5));
+    assert!(rt; stands(&p, &[], "a:1|c"));
+    assert_eq!(rt; counted(p.write(b"b:2|c")), Some(5));
+    assert!(rt; stands(&p, &["a:1|c"], "b:2|c"));
+    Ok(())
+}
+
+#[test]
+fn no_room_and_no_text(rt: HostRuntime) -> Result<(), Fail> {
+    let mut p = made(rt.alloc(), 0, "\n", &[])?;
+    assert_eq!(rt; counted(p.write(b"a:1|c")), Some(5));
+    assert!(rt; stands(&p, &["a:1|c"], ""));
+    let mut p = made(rt.alloc(), 0, "", &[])?;
+    assert_eq!(rt; counted(p.write(b"")), Some(0));
+    assert!(rt; p.flush().is_ok());
+    assert!(rt; stands(&p, &[], ""));
+    let mut p = made(rt.alloc(), 1, "\n", &[])?;
+    assert_eq!(rt; counted(p.write(b"")), Some(0));
+    assert!(rt; stands(&p, &[], "\n"));
+    assert_eq!(rt; counted(p.write(b"")), Some(0));
+    assert!(rt; stands(&p, &["\n"], "\n"));
+    Ok(())
+}
+
+#[test]
+fn flush_sends_what_is_held(rt: HostRuntime) -> Result<(), Fail> {
+    let mut p = made(rt.alloc(), 16, "\n", &[])?;
+    assert!(rt; p.flush().is_ok());
+    assert_eq!(rt; counted(p.write(b"foo:54|c")), Some(8));
+    assert_eq!(rt; counted(p.write(b"foo:67|c")), Some(8));
+    assert!(rt; p.flush().is_ok());
+    assert!(rt; p.flush().is_ok());
+    assert!(rt; stands(&p, &["foo:54|c\n", "foo:67|c\n"], ""));
+    Ok(())
+}
+
+#[test]
+fn refused_stays_held(rt: HostRuntime) -> Result<(), Fail> {
+    let mut p = made(rt.alloc(), 16, "\n", &[Answer::Refuse])?;
+    assert_eq!(rt; counted(p.write(b"foo:54|c")), Some(8));
+    assert!(rt; is_refused(p.write(b"foo:67|c")));
+    assert!(rt; stands(&p, &[], "foo:54|c\n"));
+    assert!(rt; p.flush().is_ok());
+    assert!(rt; stands(&p, &["foo:54|c\n"], ""));
+    Ok(())
+}
+
+#[test]
+fn short_count_keeps_the_rest(rt: HostRuntime) -> Result<(), Fail> {
+    let mut p = made(rt.alloc(), 32, "\n", &[Answer::Short(3), Answer::Refuse])?;
+    assert_eq!(rt; counted(p.write(b"xyz")), Some(3));
+    assert_eq!(rt; counted(p.write(b"abc")), Some(3));
+    assert!(rt; is_refused(p.flush()));
+    assert!(rt; stands(&p, &["xyz"], "\nabc\n"));
+    assert!(rt; p.flush().is_ok());
+    assert!(rt; stands(&p, &["xyz", "\nabc\n"], ""));
+    Ok(())
+}
+
+#[test]
+fn count_of_zero(rt: HostRuntime) -> Result<(), Fail> {
+    let mut p = made(rt.alloc(), 16, "\n", &[Answer::Short(0)])?;
+    assert_eq!(rt; counted(p.write(b"a:1|c")), Some(5));
+    assert!(rt; matches!(p.flush(), Err(SinkError::NothingWritten)));
+    assert!(rt; stands(&p, &[""], "a:1|c\n"));
+    assert!(rt; p.flush().is_ok());
+    assert!(rt; stands(&p, &["", "a:1|c\n"], ""));
+    let mut p = made(rt.alloc(), 4, "\n", &[Answer::Short(0)])?;
+    assert_eq!(rt; counted(p.write(b"a:1|c")), Some(0));
+    assert!(rt; p.flush().is_ok());
+    assert!(rt; stands(&p, &[""], ""));
+    Ok(())
+}
+
+#[test]
+fn replaced_writer_comes_back(rt: HostRuntime) -> Result<(), Fail> {
+    let alloc = rt.alloc();
+    let mut p = made(alloc, 32, "\n", &[])?;
+    assert_eq!(rt; counted(p.write(b"first data")), Some(10));
+    assert!(rt; p.flush().is_ok());
+    assert_eq!(rt; counted(p.write(b"second data")), Some(11));
+    match p.replace_writer(alloc, PacketLog::new(alloc, Vec::new(alloc))) {
+        Ok((old, text)) => {
+            assert!(rt; took(&old, &["first data\n"]));
+            assert_eq!(rt; text.as_slice(), b"second data\n".as_slice());
+        }
+        Err(_back) => return Err(Fail::new("no memory")),
+    }
+    assert!(rt; stands(&p, &[], ""));
+    assert_eq!(rt; counted(p.write(b"third data")), Some(10));
+    assert!(rt; p.flush().is_ok());
+    assert!(rt; stands(&p, &["third data\n"], ""));
+    Ok(())
+}
+
+#[test]
+fn writer_is_lent_and_given_back(rt: HostRuntime) -> Result<(), Fail> {
+    let mut p = made(rt.alloc(), 32, "\n", &[])?;
+    assert_eq!(rt; counted(p.write(b"a:1|c")), Some(5));
+    assert_eq!(rt; counted(p.get_mut().write_packet(b"direct")), Some(6));
+    assert!(rt; stands(&p, &["direct"], "a:1|c\n"));
+    let (log, text) = p.into_parts();
+    assert!(rt; took(&log, &["direct"]));
+    assert_eq!(rt; text.as_slice(), b"a:1|c\n".as_slice());
+    Ok(())
+}
+
+// A writer with a lifetime, which doesn't tell its packets.
+#[derive(Drop)]
+struct Lender<'a> {
+    into: &'a mut Vec<u8>,
+}
+
+impl<'a> PacketWriter for Lender<'a> {
+    ghost use Rattle.cadence_flow.specs.Tests.{no_history, silent_kind};
+
+    ghost history = { λ _. no_history };
+
+    ghost kind = { λ _. silent_kind };
+
+    fn write_packet(&mut self, packet: &[u8]) -> Result<usize, SinkError> {
+        let _ = self.into.extend_from_slice(packet);
+        Ok(packet.len())
+    }
+}
+
+#[test]
+fn drop_flushes(rt: HostRuntime) -> Result<(), Fail> {
+    let mut bytes = Vec::new(rt.alloc());
+    {
+        let Ok(mut p) = MultiLineWriter::new(rt.alloc(), Lender { into: &mut bytes }, 64) else {
+            return Err(Fail::new("no memory"));
+        };
+        assert_eq!(rt; counted(p.write(b"foo:54|c")), Some(8));
+        assert_eq!(rt; counted(p.write(b"foo:67|c")), Some(8));
+    }
+    assert_eq!(rt; bytes.as_slice(), b"foo:54|c\nfoo:67|c\n".as_slice());
+    Ok(())
+}
+
+// A log that took one packet, so that it can be told from a new one.
+fn used_log(alloc: Global) -> PacketLog {
+    let mut log = PacketLog::new(alloc, Vec::new(alloc));
+    let _ = log.write_packet(b"before");
+    log
+}
+
+#[test]
+fn each_request_of_a_new_packer(rt: HostRuntime) -> Result<(), Fail> {
+    for granted in 0..3u64 {
+        let heap = Refusing::after(rt.alloc(), rt.alloc(), granted)?;
+        match MultiLineWriter::new(heap, used_log(rt.alloc()), 16) {
+            Ok(mut p) => {
+                assert_eq!(rt; granted, 2);
+                assert_eq!(rt; counted(p.write(b"foo:54|c")), Some(8));
+                assert!(rt; took(p.get_ref(), &["before"]));
+            }
+            Err(back) => {
+                assert!(rt; granted < 2, "{granted} granted");
+                assert!(rt; took(&back, &["before"]));
+            }
+        }
+    }
+    Ok(())
+}
+
+#[test]
+fn refused_replacement_changes_nothing(rt: HostRuntime) -> Result<(), Fail> {
+    let heap = Refusing::after(rt.alloc(), rt.alloc(), 9)?;
+    let Ok(mut p) = MultiLineWriter::with_ending(heap, used_log(rt.alloc()), 16, "\n") else {
+        return Err(Fail::new("no memory"));
+    };
+    assert_eq!(rt; counted(p.write(b"foo:54|c")), Some(8));
+    let heap = Refusing::after(rt.alloc(), rt.alloc(), 0)?;
+    match p.replace_writer(heap, PacketLog::new(rt.alloc(), Vec::new(rt.alloc()))) {
+        Ok((_old, _text)) => return Err(Fail::new("not refused")),
+        Err(back) => assert!(rt; took(&back, &[])),
+    }
+    assert!(rt; took(p.get_ref(), &["before"]));
+    assert_eq!(rt; p.held(), b"foo:54|c\n".as_slice());
+    Ok(())
+}
+
+#[test]
+fn refused_packet_uses_up_its_answer(rt: HostRuntime) -> Result<(), Fail> {
+    for granted in 0..2u64 {
+        let heap = Refusing::after(rt.alloc(), rt.alloc(), granted + 1)?;
+        let mut script = Vec::new(heap.clone()?);
+        assert!(rt; script.push(Answer::Short(1)).is_ok());
+        let mut log = PacketLog::new(heap, script);
+        assert!(rt; matches!(log.write_packet(b"abc"), Err(SinkError::OutOfMemory)));
+        assert_eq!(rt; log.packets().len(), 0);
+        assert_eq!(rt; counted(log.write_packet(b"abc")), Some(3));
+        assert_eq!(rt; log.packets().len(), 1);
+    }
+    Ok(())
+}

@@ -1,0 +1,174 @@
+use cadence_errors::{MetricResult, SinkError};
+use cadence_flow::queue::{QueueCore, SharedQueue, Taken};
+use refusing::Refusing;
+use std::alloc::Global;
+use std::test::Fail;
+use std::thread;
+
+#[test]
+fn bounded_queue_with_a_stop(rt: HostRuntime) -> Result<(), Fail> {
+    let mut queue = QueueCore::new(rt.alloc(), Some(1))?;
+    assert!(rt; queue.submit('A').is_ok());
+    assert!(rt; matches!(queue.submit('B'), Err((SinkError::ChannelFull, 'B'))));
+    assert!(rt; matches!(queue.take(), Taken::Text('A')));
+    assert!(rt; queue.submit('C').is_ok());
+    queue.stop();
+    assert!(rt;
+        matches!(
+            queue.submit('D'),
+            Err((SinkError::ChannelDisconnected, 'D'))
+        )
+    );
+    assert!(rt; matches!(queue.take(), Taken::Text('C')));
+    assert!(rt; matches!(queue.take(), Taken::Ended));
+    Ok(())
+}
+
+#[test]
+fn capacity_0_refuses(rt: HostRuntime) -> Result<(), Fail> {
+    let mut queue = QueueCore::new(rt.alloc(), Some(0))?;
+    assert!(rt; matches!(queue.submit('A'), Err((SinkError::ChannelFull, 'A'))));
+    assert!(rt; matches!(queue.take(), Taken::Empty));
+    Ok(())
+}
+
+#[test]
+fn stopped_before_full(rt: HostRuntime) -> Result<(), Fail> {
+    let mut queue = QueueCore::new(rt.alloc(), Some(1))?;
+    assert!(rt; queue.submit('A').is_ok());
+    queue.stop();
+    assert!(rt;
+        matches!(
+            queue.submit('B'),
+            Err((SinkError::ChannelDisconnected, 'B'))
+        )
+    );
+    assert!(rt; matches!(queue.take(), Taken::Text('A')));
+    assert!(rt; matches!(queue.take(), Taken::Ended));
+    queue.stop();
+    assert!(rt; matches!(queue.take(), Taken::Ended));
+    Ok(())
+}
+
+#[test]
+fn last_handle_stops(rt: HostRuntime) -> Result<(), Fail> {
+    let mut queue = QueueCore::new(rt.alloc(), None)?;
+    queue.add_handle();
+    queue.add_handle();
+    queue.drop_handle();
+    queue.drop_handle();
+    assert!(rt; queue.submit('A').is_ok());
+    queue.drop_handle();
+    assert!(rt;
+        matches!(
+            queue.submit('B'),
+            Err((SinkError::ChannelDisconnected, 'B'))
+        )
+    );
+    assert!(rt; matches!(queue.take(), Taken::Text('A')));
+    Ok(())
+}
+
+#[test]
+fn counts_and_places(rt: HostRuntime) -> Result<(), Fail> {
+    let mut queue = QueueCore::new(rt.alloc(), Some(3))?;
+    assert!(rt; queue.is_idle());
+    assert!(rt; queue.submit('A').is_ok());
+    assert!(rt; queue.submit_with(|| Ok('B')).is_ok());
+    queue.take();
+    assert_eq!(rt;
+        (queue.submitted(), queue.drained(), queue.waiting()),
+        (2, 1, 1)
+    );
+    assert_eq!(rt; queue.get(0), Some(&'B'));
+    assert_eq!(rt; queue.get(1), None);
+    assert!(rt; !queue.is_full());
+    Ok(())
+}
+
+#[test]
+fn refused_memory(rt: HostRuntime) -> Result<(), Fail> {
+    let heap = Refusing::after(rt.alloc(), rt.alloc(), 0)?;
+    let mut queue = QueueCore::new(heap, None)?;
+    assert!(rt; matches!(queue.submit('A'), Err((SinkError::OutOfMemory, 'A'))));
+    assert!(rt; queue.submit('B').is_ok());
+    assert_eq!(rt; (queue.submitted(), queue.waiting()), (1, 1));
+    assert_eq!(rt; queue.get(0), Some(&'B'));
+    Ok(())
+}
+
+#[test]
+fn bounded_queue_reserves(rt: HostRuntime) -> Result<(), Fail> {
+    let heap = Refusing::after(rt.alloc(), rt.alloc(), 1)?;
+    let mut queue = QueueCore::new(heap.clone()?, Some(2))?;
+    assert!(rt; queue.submit('A').is_ok());
+    assert!(rt; queue.submit('B').is_ok());
+    assert_eq!(rt; heap.left(), 0);
+    let refused: MetricResult<QueueCore<char, Refusing<Global>>> = QueueCore::new(heap, Some(2));
+    assert!(rt; refused.is_err());
+    let too_large: MetricResult<QueueCore<char>> = QueueCore::new(rt.alloc(), Some(usize::MAX));
+    assert!(rt; too_large.is_err());
+    Ok(())
+}
+
+#[test]
+fn taker_gets_a_submit(rt: HostRuntime) -> Result<(), Fail> {
+    let queue = SharedQueue::new(rt.alloc(), Some(1))?;
+    let (got, answer) = thread::join(
+        &rt,
+        || queue.take_wait(&rt),
+        || queue.submit(&rt, 'A').is_ok(),
+    );
+    assert!(rt; answer);
+    assert_eq!(rt; got, Some('A'));
+    assert_eq!(rt;
+        (queue.submitted(&rt), queue.drained(&rt), queue.waiting(&rt)),
+        (1, 1, 0)
+    );
+    Ok(())
+}
+
+#[test]
+fn shared_queue_keeps_its_capacity(rt: HostRuntime) -> Result<(), Fail> {
+    let queue = SharedQueue::new(rt.alloc(), Some(1))?;
+    assert!(rt; queue.submit_with(&rt, || Ok('A')).is_ok());
+    assert!(rt; matches!(queue.submit(&rt, 'B'), Err((SinkError::ChannelFull, 'B'))));
+    assert!(rt; matches!(queue.try_take(&rt), Taken::Text('A')));
+    assert!(rt; matches!(queue.try_take(&rt), Taken::Empty));
+    Ok(())
+}
+
+#[test]
+fn taker_is_stopped(rt: HostRuntime) -> Result<(), Fail> {
+    let queue: SharedQueue<char> = SharedQueue::new(rt.alloc(), None)?;
+    let (got, _) = thread::join(&rt, || queue.take_wait(&rt), || queue.stop(&rt));
+    assert_eq!(rt; got, None);
+    assert!(rt; matches!(queue.try_take(&rt), Taken::Ended));
+    assert!(rt;
+        matches!(
+            queue.submit_with(&rt, || Ok('A')),
+            Err(SinkError::ChannelDisconnected)
+        )
+    );
+    Ok(())
+}
+
+#[test]
+fn taker_outlives_the_handles(rt: HostRuntime) -> Result<(), Fail> {
+    let queue: SharedQueue<char> = SharedQueue::new(rt.alloc(), None)?;
+    queue.add_handle(&rt);
+    queue.add_handle(&rt);
+    queue.drop_handle(&rt);
+    queue.drop_handle(&rt);
+    let (got, _) = thread::join(&rt, || queue.take_wait(&rt), || queue.drop_handle(&rt));
+    assert_eq!(rt; got, None);
+    Ok(())
+}
+
+#[test]
+fn end_mark_is_waited_for(rt: HostRuntime) -> Result<(), Fail> {
+    let queue: SharedQueue<char> = SharedQueue::new(rt.alloc(), None)?;
+    thread::join(&rt, || queue.wait_end(&rt), || queue.mark_end(&rt));
+    queue.wait_end(&rt);
+    Ok(())
+}

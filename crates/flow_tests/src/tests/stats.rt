@@ -1,0 +1,43 @@
+use cadence_errors::SinkError;
+use cadence_flow::stats::{SinkStats, SocketStats};
+use refusing::Refusing;
+use std::test::Fail;
+use std::thread;
+
+#[test]
+fn clones_share_their_counts(rt: HostRuntime) -> Result<(), Fail> {
+    let stats = SocketStats::new(rt.clone()?, rt.alloc())?;
+    let theirs = stats.clone()?;
+    let (taken, refused) = thread::join(
+        &rt,
+        || stats.update(Ok(8), 9),
+        || theirs.update(Err(SinkError::PacketRefused), 5),
+    );
+    assert!(rt; matches!(taken, Ok(8)));
+    assert!(rt; matches!(refused, Err(SinkError::PacketRefused)));
+    let counts = SinkStats::from(&theirs);
+    assert_eq!(rt; (counts.bytes_sent, counts.packets_sent), (8, 1));
+    assert_eq!(rt; (counts.bytes_dropped, counts.packets_dropped), (5, 1));
+    Ok(())
+}
+
+#[test]
+fn each_count_by_itself(rt: HostRuntime) -> Result<(), Fail> {
+    let stats = SocketStats::new(rt.clone()?, rt.alloc())?;
+    stats.incr_bytes_sent(10);
+    stats.incr_packets_sent();
+    stats.incr_bytes_dropped(20);
+    stats.incr_packets_dropped();
+    stats.incr_packets_dropped();
+    let counts = SinkStats::from(&stats);
+    assert_eq!(rt; (counts.bytes_sent, counts.packets_sent), (10, 1));
+    assert_eq!(rt; (counts.bytes_dropped, counts.packets_dropped), (20, 2));
+    Ok(())
+}
+
+#[test]
+fn shared_counts_want_memory(rt: HostRuntime) -> Result<(), Fail> {
+    let heap = Refusing::after(rt.alloc(), rt.alloc(), 0)?;
+    assert!(rt; SocketStats::new(rt.clone()?, heap).is_err());
+    Ok(())
+}

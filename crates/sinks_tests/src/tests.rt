@@ -1,0 +1,9 @@
+//! The tests, a module for each module that they call.
+
+mod nop;
+mod queuing;
+mod resolve;
+mod spy;
+mod udp;
+mod unix;
+mod worklist;

@@ -1,0 +1,77 @@
+//! Worked rows, equality and hashes.
+ghost use Rattle.std.specs.Prelude.{◌≡◌, ◌↔◌, IfOk, IsTrue};
+ghost use Rattle.cadence_text.specs.Number.{IsLowestForm};
+
+use cadence_errors::{ErrorKind, MetricResult};
+use cadence_text::decimal::{Decimal, MAX_PLACES};
+use std::hash::{DefaultHasher, Hash, Hasher};
+use std::test::Fail;
+
+// What `==` says of two decimals, as a law: that their lowest forms are equal.
+fn is_same(one: &Decimal, other: &Decimal) -> bool
+    ensures { IsTrue result ↔ (one.now ≡ other.now) }
+{
+    one == other
+}
+
+// What hashing says of two decimals, as a law: equal ones leave equal hashers equal.
+fn hash_both<H: Hasher>(one: &Decimal, other: &Decimal, first: &mut H, second: &mut H)
+    ensures { one.now ≡ other.now → first.old ≡ second.old → first.new ≡ second.new }
+{
+    one.hash(first);
+    other.hash(second);
+}
+
+// A caller that hands a refusal on.
+fn tenths(mantissa: i128) -> MetricResult<Decimal>
+    ensures { IfOk result (IsLowestForm mantissa 1) }
+{
+    let decimal = Decimal::new(mantissa, 1)?;
+    Ok(decimal)
+}
+
+#[test]
+fn prints_its_lowest_form(rt: HostRuntime) -> Result<(), Fail> {
+    for (mantissa, places, text) in [
+        (500, 2, "5"),
+        (50, 2, "0.5"),
+        (-5, 1, "-0.5"),
+        (0, 30, "0"),
+        (1, 21, "0.000000000000000000001"),
+        (i128::MIN, 30, "-170141183.460469231731687303715884105728"),
+        (i128::MAX, 0, "170141183460469231731687303715884105727"),
+    ] {
+        let decimal = Decimal::new(mantissa, places)?;
+        let printed = format!(in rt.alloc(); "{decimal}")?;
+        assert_eq!(rt; printed.as_str(), text);
+    }
+    Ok(())
+}
+
+#[test]
+fn refuses_31_places(rt: HostRuntime) -> Result<(), Fail> {
+    let Err(error) = Decimal::new(1, 31) else {
+        return Err(Fail::new("31 places were taken"));
+    };
+    assert_eq!(rt; error.kind(), ErrorKind::InvalidInput);
+    let printed = format!(in rt.alloc(); "{error}")?;
+    assert_eq!(rt; printed.as_str(), "too many decimal places");
+    Ok(())
+}
+
+#[test]
+fn is_equal_in_lowest_form(rt: HostRuntime) -> Result<(), Fail> {
+    let half = tenths(5)?;
+    let copy = half;
+    let same_half = Decimal::new(500, 3)?;
+    assert_eq!(rt; same_half.mantissa(), 5);
+    assert_eq!(rt; same_half.places(), 1);
+    assert!(rt; is_same(&copy, &same_half));
+    let (mut first, mut second) = (DefaultHasher::new(), DefaultHasher::new());
+    hash_both(&half, &same_half, &mut first, &mut second);
+    assert_eq!(rt; first.finish(), second.finish());
+    assert!(rt; !is_same(&half, &Decimal::new(5, 2)?));
+    let shown = format!(in rt.alloc(); "{half:?}")?;
+    assert!(rt; !shown.is_empty());
+    Ok(())
+}

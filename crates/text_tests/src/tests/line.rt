@@ -1,0 +1,180 @@
+//! Worked rows of the line, lines that are the same, and want of memory.
+use cadence_errors::{MetricError, MetricResult, SinkError};
+use cadence_text::decimal::Decimal;
+use cadence_text::line::{MetricType, Record, Tag};
+use cadence_text::value::MetricValue;
+use refusing::Refusing;
+use std::alloc::{Allocator, Global};
+use std::test::Fail;
+
+fn counted<'a>(alloc: Global, prefix: &'a str, key: &'a str, count: i64) -> Record<'a> {
+    Record::new(
+        alloc,
+        prefix,
+        key,
+        MetricType::Counter,
+        MetricValue::Signed(count),
+    )
+}
+
+fn tag<'a>(key: &'a str, text: &'a str) -> Tag<'a> {
+    Tag {
+        key: Some(key),
+        text,
+    }
+}
+
+fn bare<'a>(text: &'a str) -> Tag<'a> {
+    Tag { key: None, text }
+}
+
+#[test]
+fn fields_stand_in_one_order(rt: HostRuntime) -> Result<(), Fail> {
+    let mut record = counted(rt.alloc(), "p.", "k", 1);
+    record.set_time(7);
+    record.set_container("id");
+    record.add_tag(tag("a", "b"))?;
+    record.set_rate(Decimal::new(5, 1)?);
+    assert_eq!(rt;
+        record.format(rt.alloc())?.as_str(),
+        "p.k:1|c|@0.5|#a:b|c:id|T7"
+    );
+    Ok(())
+}
+
+#[test]
+fn the_last_container_counts(rt: HostRuntime) -> Result<(), Fail> {
+    let mut record = counted(rt.alloc(), "p.", "k", 1);
+    record.set_container("x");
+    record.set_container("y");
+    assert_eq!(rt; record.format(rt.alloc())?.as_str(), "p.k:1|c|c:y");
+    Ok(())
+}
+
+#[test]
+fn an_empty_tag_stands(rt: HostRuntime) -> Result<(), Fail> {
+    let mut record = counted(rt.alloc(), "prefix.", "k", 1);
+    record.add_tag(bare(""))?;
+    assert_eq!(rt; record.format(rt.alloc())?.as_str(), "prefix.k:1|c|#");
+    Ok(())
+}
+
+#[test]
+fn texts_are_kept_verbatim(rt: HostRuntime) -> Result<(), Fail> {
+    let mut record = counted(rt.alloc(), "a|b.", "k\n", 1);
+    record.add_tag(tag("x,y", "z:|"))?;
+    record.set_container("c|d");
+    let line = record.format(rt.alloc())?;
+    assert_eq!(rt; line.as_str(), "a|b.k\n:1|c|#x,y:z:||c:c|d");
+    assert_eq!(rt; line.len(), 25);
+    Ok(())
+}
+
+#[test]
+fn an_empty_list_has_no_number(rt: HostRuntime) -> Result<(), Fail> {
+    let value = MetricValue::PackedUnsigned(Vec::new(rt.alloc()));
+    let record = Record::new(rt.alloc(), "prefix.", "key", MetricType::Timer, value);
+    assert_eq!(rt; record.format(rt.alloc())?.as_str(), "prefix.key:|ms");
+    Ok(())
+}
+
+#[test]
+fn a_list_has_colons_between(rt: HostRuntime) -> Result<(), Fail> {
+    let value = MetricValue::PackedUnsigned(vec![in rt.alloc(); 29, 30, 31, 32]?);
+    let mut record = Record::new(
+        rt.alloc(),
+        "my.prefix.",
+        "my.distribution",
+        MetricType::Distribution,
+        value,
+    );
+    record.add_tag(tag("host", "web03.example.com"))?;
+    record.add_tag(bare("beta-test"))?;
+    assert_eq!(rt;
+        record.format(rt.alloc())?.as_str(),
+        "my.prefix.my.distribution:29:30:31:32|d|#host:web03.example.com,beta-test"
+    );
+    Ok(())
+}
+
+#[test]
+fn decimals_are_exact(rt: HostRuntime) -> Result<(), Fail> {
+    for (mantissa, places, line) in [
+        (500, 2, "k:5|g"),
+        (-5, 1, "k:-0.5|g"),
+        (0, 30, "k:0|g"),
+        (1, 21, "k:0.000000000000000000001|g"),
+        (
+            i128::MIN,
+            30,
+            "k:-170141183.460469231731687303715884105728|g",
+        ),
+        (12_005, 3, "k:12.005|g"),
+    ] {
+        let value = MetricValue::Decimal(Decimal::new(mantissa, places)?);
+        let record = Record::new(rt.alloc(), "", "k", MetricType::Gauge, value);
+        assert_eq!(rt; record.format(rt.alloc())?.as_str(), line);
+    }
+    Ok(())
+}
+
+#[test]
+fn another_name_may_have_the_same_line(rt: HostRuntime) -> Result<(), Fail> {
+    let two_lines = counted(rt.alloc(), "", "a:1|c\nb", 2);
+    assert_eq!(rt; two_lines.format(rt.alloc())?.as_str(), "a:1|c\nb:2|c");
+    let listed = MetricValue::PackedSigned(vec![in rt.alloc(); 1, 2]?);
+    let listed = Record::new(rt.alloc(), "", "k", MetricType::Counter, listed);
+    assert!(rt; counted(rt.alloc(), "k", ":1", 2).same_line(&listed));
+    assert!(rt; !two_lines.same_line(&listed));
+    Ok(())
+}
+
+// A record whose line is longer than what is looked at in one go.
+fn long_record<'a>(alloc: Global, last: &'a str) -> MetricResult<Record<'a>> {
+    let mut record = counted(alloc, "prefix.", "key", 1);
+    for _ in 0..40 {
+        record.add_tag(tag("twelve.bytes", "twelve.bytes"))?;
+    }
+    record.add_tag(bare(last))?;
+    Ok(record)
+}
+
+#[test]
+fn long_lines_are_compared_whole(rt: HostRuntime) -> Result<(), Fail> {
+    let record = long_record(rt.alloc(), "x")?;
+    assert!(rt; record.same_line(&long_record(rt.alloc(), "x")?));
+    assert!(rt; !record.same_line(&long_record(rt.alloc(), "y")?));
+    Ok(())
+}
+
+// The line of a timer with every field.
+fn timer_line<A: Allocator + Clone>(alloc: A, rate: Decimal) -> MetricResult<String<A>> {
+    let value = MetricValue::PackedUnsigned(vec![in alloc.clone()?; 1, 20]?);
+    let mut record = Record::new(alloc.clone()?, "p.", "k", MetricType::Timer, value);
+    record.set_rate(rate);
+    record.add_tag(tag("a", "b"))?;
+    record.add_tag(bare("c"))?;
+    record.set_container("id");
+    record.set_time(7);
+    record.format(alloc)
+}
+
+#[test]
+fn each_request_is_refused(rt: HostRuntime) -> Result<(), Fail> {
+    let half = Decimal::new(5, 1)?;
+    let mut granted = 0u64;
+    for requests in 0..16u64 {
+        let heap = Refusing::after(rt.alloc(), rt.alloc(), requests)?;
+        match timer_line(heap, half) {
+            Ok(line) => {
+                assert_eq!(rt; line.as_str(), "p.k:1:20|ms|@0.5|#a:b,c|c:id|T7");
+                granted = requests;
+                break;
+            }
+            Err(MetricError::Sink(SinkError::OutOfMemory)) => {}
+            Err(_) => return Err(Fail::new("another error")),
+        }
+    }
+    assert_eq!(rt; granted, 3, "the values, the tags and the line");
+    Ok(())
+}
