@@ -1,5 +1,5 @@
 -- What an error says: its kind, and the sink's error in it.
-use Rattle.std.specs.Prelude.{◌≡◌, ℕ, List, Option, None, Some}
+use Rattle.std.specs.Prelude.{◌≡◌, ℕ, List, Option, None, Some, Result, Ok, Err, IfErr}
 use Rattle.std.specs.Fmt.InlineText.{inline_text}
 use Rattle.cadence_errors.specs.declared.Description.{Description}
 use Rattle.cadence_errors.specs.declared.ErrorKind.{ErrorKind}
@@ -45,3 +45,12 @@ IsDescribed k e = (text : Description) × (e ≡ Described k text)
 -- an input that can't be used
 abbrev pub IsInvalid : MetricError → Type 0
 IsInvalid e = IsDescribed InvalidInput e
+
+-- what making something answers: it, or want of memory
+abbrev pub Makes : {X : Type 0} → X → Result X MetricError → Type 0
+Makes x (Ok y) = y ≡ x
+Makes x (Err e) = e ≡ out_of_memory
+
+-- a refusal is want of memory alone
+abbrev pub OnlyWantsMemory : {X : Type 0} → Result X MetricError → Type 0
+OnlyWantsMemory result = IfErr result (λ e. e ≡ out_of_memory)

@@ -1,7 +1,5 @@
 -- The settings of a client: what it adds to each call.
-use Rattle.std.specs.Prelude.{◌≡◌, ℕ, ◌==◌, if◌then◌else◌, Option, None, Some, List, [], ◌∷◌, ◌++◌, Result, Ok, Err, IfSome, codes}
-use Rattle.cadence_errors.specs.declared.MetricError.{MetricError}
-use Rattle.cadence_errors.specs.Errors.{out_of_memory}
+use Rattle.std.specs.Prelude.{◌≡◌, ℕ, ◌==◌, if◌then◌else◌, Option, None, Some, List, [], ◌∷◌, ◌++◌, IfSome, codes}
 use Rattle.cadence_text.specs.Metric.{Tag}
 
 -- the prefix as it is printed, the default tags in order, and the default container
@@ -43,11 +41,6 @@ with_default_tag s tag = record s { tags = s.tags ++ tag ∷ [] }
 -- the settings with this default container
 abbrev pub with_default_container : Settings → List ℕ → Settings
 with_default_container s container = record s { container = Some container }
-
--- what making something answers: it, or want of memory
-abbrev pub Makes : {X : Type 0} → X → Result X MetricError → Type 0
-Makes x (Ok y) = y ≡ x
-Makes x (Err e) = e ≡ out_of_memory
 
 -- settings that may be missing, since a growth was refused, after a change of them: what is missing stays so
 abbrev pub Changes : Option Settings → (Settings → Settings) → Option Settings → Type 0

@@ -100,7 +100,7 @@ impl<A: Allocator> Model for ClientSettings<A> {
 
 impl<A: Allocator + Clone> ClientSettings<A> {
     ghost use Rattle.std.specs.Prelude.{None, Some};
-    ghost use Rattle.cadence_schedule.specs.Settings.{Makes};
+    ghost use Rattle.cadence_errors.specs.Errors.{Makes};
     ghost use Rattle.cadence_schedule.specs.Call.{MakesMetric};
     ghost use Rattle.cadence_schedule.specs.Calls.{metric_of_data};
 
