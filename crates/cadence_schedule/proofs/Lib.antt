@@ -17,3 +17,4 @@ pub mod RunTurns
 pub mod Shown
 pub mod Sums
 pub mod Turns
+pub mod WholeRun

@@ -1,39 +1,50 @@
 -- What is promised of a run.
-use Rattle.std.specs.Prelude.{◌≡◌, ℕ, ◌+◌, ◌%◌, ◌^◌, List, [], ◌++◌, Option, true, length, map, drop, string_bytes}
+use Rattle.std.specs.Prelude.{◌≡◌, ℕ, ◌+◌, ◌%◌, ◌^◌, List, [], ◌++◌, Option, true, All, codes, length, map, drop, string_bytes}
 use Rattle.std.specs.List.{concat, zip}
+use Rattle.std.specs.Option.{option_map}
+use Rattle.cadence_text.specs.Line.{line_of}
+use Rattle.cadence_text.specs.Metric.{Metric}
+use Rattle.cadence_text.specs.OneReading.{IsReadable}
 use Rattle.cadence_flow.specs.Frame.{Format, size_of, stream}
 use Rattle.cadence_flow.specs.Writer.{History, Kind, Extends}
 use Rattle.cadence_flow.specs.declared.stats.SinkStats.{SinkStats}
 use Rattle.cadence_schedule.specs.declared.call.Call.{Call}
-use Rattle.cadence_schedule.specs.declared.reports.Report.{Report}
 use Rattle.cadence_schedule.specs.declared.steps.Step.{Step}
+use Rattle.cadence_schedule.specs.Calls.{metric_of_data}
 use Rattle.cadence_schedule.specs.History.{Turn, accepted, taken, kept, kept_counts, in_hand, is_stopped, errors, marks, refusals}
 use Rattle.cadence_schedule.specs.Packets.{ArePacketsOf}
 use Rattle.cadence_schedule.specs.Plan.{groups_of, IsTight, IsFewest, IsCutLate}
+use Rattle.cadence_schedule.specs.Reading.{ReadsAs}
 use Rattle.cadence_schedule.specs.Replies.{MayReplyAfter}
-use Rattle.cadence_schedule.specs.Report.{replies_of, cut_of, held_of, queue_of, hand_of, stats_of, writer_of}
+use Rattle.cadence_schedule.specs.Report.{Outcome}
+use Rattle.cadence_schedule.specs.Settings.{Settings}
 use Rattle.cadence_schedule.specs.Stream.{taken_stream}
 
--- what a run is given: the line of each call, the writer's kind and its history before the run, the packer's
+-- what a run is given: the metric of each call, the writer's kind and its history before the run, the packer's
 -- capacity and ending, the queue's capacity, and the steps
 pub record Given (A : Type 0) : Type 0 where
-  pub line_of : Call A → Option (List ℕ)
+  pub metric_of : Call A → Option Metric
   pub kind : Kind
   pub before : History
   pub format : Format
   pub queue : Option ℕ
   pub steps : List (Step A)
 
-abbrev pub given_of : {W A : Type 0} → (W → Kind) → (W → History) → (Call A → Option (List ℕ)) → ℕ → List ℕ → Option ℕ → List (Step A) → W → Given A
-given_of kind history line_of capacity ending queue steps writer =
+-- the same, by the client's settings and the writer
+abbrev pub given_of : {W A : Type 0} → (W → Kind) → (W → History) → Settings → ℕ → List ℕ → Option ℕ → List (Step A) → W → Given A
+given_of kind history settings capacity ending queue steps writer =
     record {
-      line_of = line_of;
+      metric_of = metric_of_data settings;
       kind = kind writer;
       before = history writer;
       format = record { capacity = capacity; ending = ending };
       queue = queue;
       steps = steps;
     }
+
+-- the line of each call, where it has one
+abbrev pub line_by : {A : Type 0} → Given A → Call A → Option (List ℕ)
+line_by given call = option_map line_of (given.metric_of call)
 
 -- the packets that a writer took between the two
 abbrev pub packets_between : History → History → List (List ℕ)
@@ -50,58 +61,79 @@ pub record AreSumsBetween (before after : History) (sums : SinkStats) : Type 0 w
 abbrev pub TellsWhole : Kind → Type 0
 TellsWhole kind = (kind.tells ≡ true) × (kind.takes_whole ≡ true)
 
-module _ {W A : Type 0} (history : W → History) (given : Given A) (report : Report W A) where
+module _ {W A : Type 0} (history : W → History) (given : Given A) (outcome : Outcome W A) where
   -- the steps, each with its reply
   abbrev pub turns_of : List (Turn A)
-  turns_of = zip given.steps (replies_of report)
+  turns_of = zip given.steps outcome.replies
+
+  -- the writer's history after the run
+  abbrev pub after_of : History
+  after_of = history outcome.writer
 
   -- the packets that the writer took during the run
   abbrev pub packets_of : List (List ℕ)
-  packets_of = packets_between given.before (history (writer_of report))
+  packets_of = packets_between given.before after_of
 
-  -- the sizes of the kept lines
+  -- the kept lines, and their sizes
+  abbrev pub kept_of : List (List ℕ)
+  kept_of = kept (line_by given) turns_of
+
   abbrev pub sizes_of : List ℕ
-  sizes_of = map (size_of given.format) (kept given.line_of turns_of)
+  sizes_of = map (size_of given.format) kept_of
 
-  -- The stream: the packets, joined, and then the held text are the frames of the kept lines, in order.
-  abbrev pub HasStream : Type 0
-  HasStream = concat packets_of ++ held_of report ≡ stream given.format (kept given.line_of turns_of)
+  -- the places that flushes ask for a cut at
+  abbrev pub marks_of : List ℕ
+  marks_of = marks (line_by given) turns_of
 
-  -- The cut: packets and held text are those of the report's cut of the kept lines, which ends at each flush.
-  abbrev pub HasCut : Type 0
-  HasCut = ArePacketsOf given.format (marks given.line_of turns_of) (refusals given.line_of turns_of) (kept given.line_of turns_of) (cut_of report) packets_of (held_of report)
-
-  -- The replies: each has its stated cause, and queue and hand are left as the history says.
+  -- each reply has its stated cause, and queue and hand are left as the history says
   pub record HasReplies : Type 0 where
-    pub one_each : length (replies_of report) ≡ length given.steps
-    pub causes : MayReplyAfter given.line_of given.kind.may_give given.kind.takes_whole given.format given.queue [] turns_of
-    pub waiting : map string_bytes (queue_of report).waiting ≡ drop (taken turns_of) (accepted given.line_of turns_of)
-    pub submitted : (queue_of report).submitted ≡ length (accepted given.line_of turns_of)
-    pub drained : (queue_of report).drained ≡ taken turns_of
-    pub stopped : (queue_of report).stopped ≡ is_stopped turns_of
-    pub in_hand : hand_of report ≡ in_hand given.line_of turns_of
+    pub one_each : length outcome.replies ≡ length given.steps
+    pub causes : MayReplyAfter (line_by given) given.kind.may_give given.kind.takes_whole given.format given.queue [] turns_of
+    pub waiting : map string_bytes outcome.queue.waiting ≡ drop (taken turns_of) (accepted (line_by given) turns_of)
+    pub submitted : outcome.queue.submitted ≡ length (accepted (line_by given) turns_of)
+    pub drained : outcome.queue.drained ≡ taken turns_of
+    pub stopped : outcome.queue.stopped ≡ is_stopped turns_of
+    pub in_hand : outcome.in_hand ≡ in_hand (line_by given) turns_of
 
-  -- Fewest: no cut that ends at every flush has fewer groups, and none of them could have ended later.
+  -- no cut that ends at every flush has fewer groups, and none of them could have ended later
   pub record HasFewest : Type 0 where
-    pub tight : IsTight given.format.capacity (marks given.line_of turns_of) sizes_of (cut_of report)
-    pub fewest : IsFewest given.format.capacity (marks given.line_of turns_of) sizes_of (cut_of report)
+    pub tight : IsTight given.format.capacity marks_of sizes_of outcome.cut
+    pub fewest : IsFewest given.format.capacity marks_of sizes_of outcome.cut
 
-  -- The errors of hands and flushes are as many as the writer's refusals.
-  abbrev pub HasErrors : Type 0
-  HasErrors = (history (writer_of report)).refusals % 2 ^ 64 ≡ (given.before.refusals + errors turns_of) % 2 ^ 64
+  -- The headline: after any list of metric calls, worker steps, flushes and stops, packets then held text are, in
+  -- acceptance order, the grammar's lines of the accepted calls handed on and taken, each with its ending, oversize ones
+  -- alone without; none is split, a refusal has its stated cause and leaves no byte, and where the writer refused
+  -- nothing, no cut that ends at every flush has fewer packets.
+  pub record HasHeadline : Type 0 where
+    -- Over a writer that tells its packets and takes each whole or refuses it: the packets of the run, joined, and then
+    -- the held text are byte for byte the frames of the kept lines, in order. A kept line is that of an accepted call
+    -- whose hand was answered Ok; its frame is the line and the ending, or the line alone where that passes the capacity.
+    pub stream : TellsWhole given.kind → concat packets_of ++ outcome.held ≡ stream given.format kept_of
+    -- Over such a writer: packets and held text are those of the report's cut of the kept lines, whole frames in each, none
+    -- beyond the capacity but an oversize line alone, and a packet ends at each flush that was answered Ok.
+    pub cut : TellsWhole given.kind → ArePacketsOf given.format marks_of (refusals (line_by given) turns_of) kept_of outcome.cut packets_of outcome.held
+    -- Over every writer: each reply is one that the steps and replies before it allow, what waits are the accepted lines
+    -- after the first taken ones, the queue's counts are the numbers accepted and taken, and the line in hand is the one
+    -- that was taken and not handed on.
+    pub replies : HasReplies
+    -- Over a writer that takes each packet whole or refuses it: as many hands and flushes were answered by an error as the
+    -- writer refused packets in the run, modulo 2 to the 64.
+    pub errors : given.kind.takes_whole ≡ true → after_of.refusals % 2 ^ 64 ≡ (given.before.refusals + errors turns_of) % 2 ^ 64
+    -- Over a writer that tells its packets and takes each whole, where it refused nothing in the run: no cut of the kept
+    -- lines that ends at every flush has fewer packets, the held text counted as one where it is not empty.
+    pub fewest : TellsWhole given.kind → after_of.refusals ≡ given.before.refusals → HasFewest
 
-  -- No group but at a flush or a refused line could have ended later.
-  abbrev pub IsLate : Type 0
-  IsLate = IsCutLate given.format.capacity (marks given.line_of turns_of ++ refusals given.line_of turns_of) (groups_of (cut_of report) sizes_of)
-
-  -- The bytes over a writer with short counts: of an oversize line as many as were counted.
-  abbrev pub HasTaken : Type 0
-  HasTaken = concat packets_of ++ held_of report ≡ taken_stream given.format (kept_counts given.line_of turns_of)
-
-  -- The sums of the report are those of the run.
-  abbrev pub HasSums : Type 0
-  HasSums = AreSumsBetween given.before (history (writer_of report)) (stats_of report)
-
-  -- What the writer had taken before the run comes first.
-  abbrev pub KeepsPackets : Type 0
-  KeepsPackets = Extends given.before (history (writer_of report))
+  -- what stands beside the headline
+  pub record IsAccounted : Type 0 where
+    -- Refusals included: no group but at a flush or a refused line could have ended later.
+    pub late : TellsWhole given.kind → IsCutLate given.format.capacity (marks_of ++ refusals (line_by given) turns_of) (groups_of outcome.cut sizes_of)
+    -- Over a writer that tells its packets, short counts included: the same stream, where an oversize line that was
+    -- answered Ok(n) gives its first n bytes.
+    pub taken : given.kind.tells ≡ true → concat packets_of ++ outcome.held ≡ taken_stream given.format (kept_counts (line_by given) turns_of)
+    -- The sums of the report are those of the run.
+    pub stats : given.kind.tells ≡ true → AreSumsBetween given.before after_of outcome.stats
+    -- What the writer had taken before the run comes first.
+    pub earlier : given.kind.tells ≡ true → Extends given.before after_of
+    -- With the newline as ending, and kept metrics that are free of separators: a listener reads the kept metrics, and
+    -- no others.
+    pub one_reading : TellsWhole given.kind → given.format.ending ≡ codes "\n" → All IsReadable (kept given.metric_of turns_of) → ReadsAs (kept given.metric_of turns_of) packets_of outcome.held

@@ -8,6 +8,7 @@ pub mod Plan
 pub mod PlanGroup
 pub mod Reading
 pub mod Replies
+pub mod Ran
 pub mod Report
 pub mod Running
 pub mod Settings

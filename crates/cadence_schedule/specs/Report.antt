@@ -7,31 +7,30 @@ use Rattle.cadence_flow.specs.declared.stats.SinkStats.{SinkStats}
 use Rattle.cadence_schedule.specs.declared.reports.Report.{Report}
 use Rattle.cadence_schedule.specs.declared.steps.Reply.{Reply}
 
-module _ {W A : Type 0} where
+-- what became of a run
+pub record Outcome (W A : Type 0) : Type 0 where
   -- the replies, one for each step
-  abbrev pub replies_of : Report W A → List Reply
-  replies_of report = report.replies.items
-
+  pub replies : List Reply
   -- how many lines each packet has, and then the held text
-  abbrev pub cut_of : Report W A → List ℕ
-  cut_of report = report.cut.items
-
+  pub cut : List ℕ
   -- the text that the packer still holds
-  abbrev pub held_of : Report W A → List ℕ
-  held_of report = report.held.items
-
+  pub held : List ℕ
   -- the queue as it was left
-  abbrev pub queue_of : Report W A → Queue (String A)
-  queue_of report = report.queue
-
+  pub queue : Queue (String A)
   -- the line in hand
-  abbrev pub hand_of : Report W A → Option (List ℕ)
-  hand_of report = option_map string_bytes report.in_hand
-
+  pub in_hand : Option (List ℕ)
   -- the sums of the run
-  abbrev pub stats_of : Report W A → SinkStats
-  stats_of report = report.stats
-
+  pub stats : SinkStats
   -- the writer as it was left
-  abbrev pub writer_of : Report W A → W
-  writer_of report = report.writer
+  pub writer : W
+
+abbrev pub outcome_of : {W A : Type 0} → Report W A → Outcome W A
+outcome_of report = record {
+  replies = report.replies.items;
+  cut = report.cut.items;
+  held = report.held.items;
+  queue = report.queue;
+  in_hand = option_map string_bytes report.in_hand;
+  stats = report.stats;
+  writer = report.writer;
+}

@@ -1,9 +1,12 @@
 -- A run at one of its steps, as lists.
-use Rattle.std.specs.Prelude.{◌≡◌, ℕ, ◌+◌, ◌≤◌, List, Option, map, string_bytes, vec_len, vec_capacity}
+use Rattle.std.specs.Prelude.{◌≡◌, ℕ, ◌+◌, ◌<◌, ◌≤◌, ◌^◌, List, [], Option, None, Vec, map, string_bytes, vec_len, vec_capacity}
 use Rattle.std.specs.Option.{option_map}
+use Rattle.cadence_flow.specs.Packer.{new_packer}
+use Rattle.cadence_flow.specs.Queue.{new_queue}
 use Rattle.cadence_flow.specs.Writer.{History, Kind}
 use Rattle.cadence_schedule.specs.declared.call.Call.{Call}
 use Rattle.cadence_schedule.specs.declared.running.Running.{Running}
+use Rattle.cadence_schedule.specs.declared.steps.Reply.{Reply}
 use Rattle.cadence_schedule.specs.History.{Turn}
 use Rattle.cadence_schedule.specs.Moves.{State, Moves}
 
@@ -18,6 +21,17 @@ state_of history run = record {
   writer = history run.packer.writer;
   held = run.packer.held;
 }
+
+-- a run before its first step, with room for the replies and the cut of so many steps
+pub record IsAtStart {P A : Type 0} (capacity : ℕ) (ending : List ℕ) (queue : Option ℕ) (steps : ℕ) (writer : P) (run : Running P A) (replies : Vec Reply A) : Type 0 where
+  pub queue_is : run.queue ≡ new_queue queue
+  pub hand_is : run.hand ≡ None
+  pub packer_is : run.packer ≡ new_packer writer capacity ending
+  pub plan_is : run.plan.items ≡ []
+  pub plan_room : steps ≤ vec_capacity run.plan
+  pub replies_are : replies.items ≡ []
+  pub replies_room : steps ≤ vec_capacity replies
+  pub few : steps < 2 ^ 64
 
 -- one turn of a run, which leaves its writer's kind, its format and its queue's capacity
 pub record MakesTurn {P A : Type 0} (kind : P → Kind) (history : P → History) (line_of : Call A → Option (List ℕ)) (old : Running P A) (turn : Turn A) (new : Running P A) : Type 0 where

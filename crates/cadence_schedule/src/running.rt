@@ -7,7 +7,7 @@ use super::call::Call;
 use super::settings::ClientSettings;
 use super::steps::{Reply, Step};
 use cadence_errors::{MetricError, MetricResult, SinkError};
-use cadence_flow::io::{MultiLineWriter, PacketWriter};
+use cadence_flow::io::{LineBuffer, PacketWriter};
 use cadence_flow::queue::{QueueCore, Taken};
 use std::alloc::{Allocator, Global};
 
@@ -16,7 +16,7 @@ use std::alloc::{Allocator, Global};
 pub(crate) struct Running<P: PacketWriter, A: Allocator = Global> {
     pub(crate) queue: QueueCore<String<A>, A>,
     pub(crate) hand: Option<String<A>>,
-    pub(crate) packer: MultiLineWriter<P, A>,
+    pub(crate) packer: LineBuffer<P, A>,
     pub(crate) plan: Vec<usize, A>,
 }
 
@@ -89,25 +89,21 @@ impl<P: PacketWriter, A: Allocator + Clone> Running<P, A> {
     }
 
     /// Whether a line would join the text that the packer holds.
-    fn joins_held(&self, capacity: usize, ending: &str, line: &str) -> bool
-        requires { self.now.packer.format ≡ record { capacity = capacity; ending = ending.now } }
+    fn joins_held(&self, line: &str) -> bool
         ensures { result ≡ joins_held self.now.packer.format self.now.packer.held line.now }
     {
-        let held = self.packer.held().len();
-        let size = line.len() + ending.len();
-        held > 0 && size <= capacity - held
+        !self.packer.held().is_empty() && self.packer.fits(line.as_bytes())
     }
 
     /// Hands the line in hand to the packer, and counts it where it was kept.
-    fn hand(&mut self, capacity: usize, ending: &str) -> Reply
-        requires format { self.old.packer.format ≡ record { capacity = capacity; ending = ending.now } }
-        requires room { vec_len self.old.plan < vec_capacity self.old.plan }
+    fn hand(&mut self) -> Reply
+        requires { vec_len self.old.plan < vec_capacity self.old.plan }
         ensures { (line_of : _) → MakesTurn P.kind P.history line_of self.old (step.Hand, result) self.new }
     {
         let Some(line) = self.hand.take() else {
             return Reply::Nothing;
         };
-        let joins = self.joins_held(capacity, ending, line.as_str());
+        let joins = self.joins_held(line.as_str());
         match self.packer.write(line.as_bytes()) {
             Ok(count) => {
                 count_line(&mut self.plan, joins);
@@ -133,22 +129,14 @@ impl<P: PacketWriter, A: Allocator + Clone> Running<P, A> {
     }
 
     /// Makes one step.
-    pub(crate) fn step(
-        &mut self,
-        alloc: &A,
-        settings: &ClientSettings<A>,
-        capacity: usize,
-        ending: &str,
-        step: &Step<A>,
-    ) -> Reply
-        requires format { self.old.packer.format ≡ record { capacity = capacity; ending = ending.now } }
-        requires room { vec_len self.old.plan < vec_capacity self.old.plan }
+    pub(crate) fn step(&mut self, alloc: &A, settings: &ClientSettings<A>, step: &Step<A>) -> Reply
+        requires { vec_len self.old.plan < vec_capacity self.old.plan }
         ensures { MakesTurn P.kind P.history (line_of_data settings.now) self.old (step.now, result) self.new }
     {
         match step {
             Step::Call(call) => self.call(alloc, settings, call),
             Step::Take => self.take(),
-            Step::Hand => self.hand(capacity, ending),
+            Step::Hand => self.hand(),
             Step::Flush => self.flush(),
             Step::Stop => self.stop(),
         }

@@ -117,11 +117,20 @@ impl<T: PacketWriter, A: Allocator> LineBuffer<T, A> {
         ensures held { IsTrue result → self.new ≡ with_held self.old (self.old.held ++ (line.now ++ self.old.format.ending)) }
         ensures unchanged { IsFalse result → self.new ≡ self.old }
     {
-        if self.capacity - self.held.len() < line.len() + self.ending.len() {
+        if !self.fits(line) {
             return false;
         }
         self.keep(line);
         true
+    }
+
+    /// Whether a line and its ending fit the free room.
+    #[inline(always)]
+    pub fn fits(&self, line: &[u8]) -> bool
+        ensures { IsTrue result ↔
+            (length self.now.held + size_of self.now.format line.now ≤ self.now.format.capacity) }
+    {
+        line.len() + self.ending.len() <= self.capacity - self.held.len()
     }
 
     // Holds a line and its ending, which fit the free room.

@@ -1,0 +1,133 @@
+-- The headline of a whole run, from its start, its steps and its outcome.
+use Rattle.std.proofs.Common.{◌≡◌, ℕ, ◌++◌, ◌%◌, ◌^◌, ◌<◌, List, [], All, length, sym, ap, ◌∙◌, ◌≢◌, arith, subst, None, Some, Option, Vec, codes, map}
+use Rattle.std.specs.List.{zip, concat}
+use Rattle.std.specs.Prelude.{string_bytes}
+use Rattle.std.specs.Option.{option_map}
+use Rattle.cadence_flow.specs.Frame.{Format, stream}
+use Rattle.cadence_flow.specs.Sums.{counted_kind, zero_sums}
+use Rattle.cadence_flow.specs.Writer.{History, Kind, Extends}
+use Rattle.cadence_text.specs.Line.{line_of}
+use Rattle.cadence_text.specs.Metric.{Metric}
+use Rattle.cadence_text.specs.OneReading.{IsReadable}
+use Rattle.cadence_schedule.specs.declared.call.Call.{Call}
+use Rattle.cadence_schedule.specs.declared.counting.CountingWriter.{CountingWriter}
+use Rattle.cadence_schedule.specs.declared.running.Running.{Running}
+use Rattle.cadence_schedule.specs.declared.steps.Reply.{Reply}
+use Rattle.cadence_schedule.specs.declared.steps.Step.{Step}
+use Rattle.cadence_schedule.specs.Calls.{line_of_data, metric_of_data}
+use Rattle.cadence_schedule.specs.Headline.{given_of, packets_between, HasHeadline, IsAccounted}
+use Rattle.cadence_schedule.specs.History.{Turn, kept, kept_counts, marks, refusals}
+use Rattle.cadence_schedule.specs.Moves.{State, Runs, at_start}
+use Rattle.cadence_schedule.specs.Packets.{ArePacketsOf}
+use Rattle.cadence_schedule.specs.Plan.{IsTight, IsFewest}
+use Rattle.cadence_schedule.specs.Ran.{outcome_after}
+use Rattle.cadence_schedule.specs.Reading.{ReadsAs}
+use Rattle.cadence_schedule.specs.Running.{IsAtStart, state_of}
+use Rattle.cadence_schedule.specs.Settings.{Settings}
+use Rattle.cadence_schedule.proofs.KeptMetrics.{kept_mapped}
+use Rattle.cadence_schedule.proofs.LineFilled.{line_filled}
+use Rattle.cadence_schedule.proofs.RunFacts.{run_after, run_taken, run_stream, run_cut, run_late, run_tight, run_submitted, run_drained, run_sums}
+use Rattle.cadence_schedule.proofs.RunTurns.{length-zip}
+use Rattle.cadence_schedule.proofs.Turns.{After}
+
+-- the law of least packets
+abbrev pub LeastPackets : Type 0
+LeastPackets = (capacity : ℕ) (marks sizes plan : List ℕ) → IsTight capacity marks sizes plan → IsFewest capacity marks sizes plan
+
+-- the law of one reading, of packets
+abbrev pub OneReading : Type 0
+OneReading =
+    (capacity : ℕ) (marks refusals plan : List ℕ) (metrics : List Metric) (packets : List (List ℕ)) (held : List ℕ)
+    → All IsReadable metrics
+    → ArePacketsOf (record { capacity = capacity; ending = codes "\n" }) marks refusals (map line_of metrics) plan packets held
+    → ReadsAs metrics packets held
+
+module _ {W A : Type 0} (kind_of : W → Kind) (history_of : W → History) (settings : Settings) (capacity : ℕ) (ending : List ℕ) (queue : Option ℕ) (steps : List (Step A)) (writer : W) where
+  abbrev counted : CountingWriter W → Kind
+  counted w = counted_kind (kind_of w.inner) (history_of w.inner) w.stats
+
+  abbrev inner : CountingWriter W → History
+  inner w = history_of w.inner
+
+  module _ (law : (metric : Metric) → 0 < length (line_of metric)) (begun run : Running (CountingWriter W) A) (none replies : Vec Reply A)
+      (start : IsAtStart capacity ending queue (length steps) (record { inner = writer; stats = zero_sums }) begun none)
+      (runs : Runs (line_of_data settings) (counted begun.packer.writer) begun.packer.format begun.queue.capacity (state_of inner begun) (zip steps replies.items) (state_of inner run))
+      (one_each : length replies.items ≡ length steps) (same_kind : counted run.packer.writer ≡ counted begun.packer.writer) where
+    abbrev lines : Call A → Option (List ℕ)
+    lines = line_of_data settings
+
+    abbrev turns : List (Turn A)
+    turns = zip steps replies.items
+
+    abbrev format : Format
+    format = record { capacity = capacity; ending = ending }
+
+    abbrev before : History
+    before = history_of writer
+
+    abbrev kind : Kind
+    kind = counted_kind (kind_of writer) (history_of writer) zero_sums
+
+    abbrev ended : State
+    ended = state_of inner run
+
+    short : length (zip steps replies.items) < 2 ^ 64
+    short = omega (arith, length-zip steps replies.items (sym one_each), start.few)
+
+    kind_is : counted begun.packer.writer ≡ kind
+    kind_is = ap (λ p. counted p.writer) start.packer_is
+
+    began : state_of inner begun ≡ at_start before
+    began = λ i. record {
+      waiting = map string_bytes (start.queue_is i).waiting;
+      stopped = (start.queue_is i).stopped;
+      submitted = (start.queue_is i).submitted;
+      drained = (start.queue_is i).drained;
+      hand = option_map string_bytes (start.hand_is i);
+      plan = start.plan_is i;
+      writer = history_of (start.packer_is i).writer.inner;
+      held = (start.packer_is i).held;
+    }
+
+    filled : (call : Call A) (line : List ℕ) → line_of_data settings call ≡ Some line → line ≢ []
+    filled = line_filled law settings
+
+    after : After lines filled kind format queue before turns ended
+    after = run_after lines filled kind _ format _ queue _ before (state_of inner begun) ended turns kind_is (ap (λ p. p.format) start.packer_is) (ap (λ q. q.capacity) start.queue_is) began short runs
+
+    -- the headline
+    pub has_headline : LeastPackets → HasHeadline history_of (given_of kind_of history_of settings capacity ending queue steps writer) (outcome_after run replies)
+    has_headline least = record {
+      stream = λ whole. run_stream lines filled kind format queue before turns ended after whole.0 whole.1;
+      cut = λ whole. run_cut lines filled kind format queue before turns ended after whole.0 whole.1;
+      replies = record {
+        one_each = one_each;
+        causes = after.replies;
+        waiting = after.line.waiting_is;
+        submitted = run_submitted lines filled kind format queue before turns ended after short;
+        drained = run_drained lines filled kind format queue before turns ended after short;
+        stopped = after.line.stopped_is;
+        in_hand = after.line.hand_is;
+      };
+      errors = after.refusals;
+      fewest = λ whole none.
+          let tight = run_tight lines filled kind format queue before turns ended after short whole.0 whole.1 none in
+          record { tight = tight; fewest = least _ _ _ _ tight };
+    }
+
+    -- what stands beside it
+    pub is_accounted : OneReading → run.packer.writer.stats.bytes_sent < 2 ^ 64 → run.packer.writer.stats.packets_sent < 2 ^ 64
+        → IsAccounted history_of (given_of kind_of history_of settings capacity ending queue steps writer) (outcome_after run replies)
+    is_accounted reads bytes packets = record {
+      late = λ whole. run_late lines filled kind format queue before turns ended after whole.0 whole.1;
+      taken = λ tells. run_taken lines filled kind format queue before turns ended after tells;
+      stats = λ tells.
+          run_sums (kind_of writer) (kind_of run.packer.writer.inner) before (history_of run.packer.writer.inner) run.packer.writer.stats
+          (same_kind ∙ kind_is) tells (after.text tells).extends bytes packets;
+      earlier = λ tells. (after.text tells).extends;
+      one_reading = λ whole newline readable.
+          reads capacity (marks lines turns) (refusals lines turns) run.plan.items (kept (metric_of_data settings) turns) (packets_between before ended.writer) run.packer.held readable
+          (subst (λ e. ArePacketsOf record { capacity = capacity; ending = e } (marks lines turns) (refusals lines turns) (map line_of (kept (metric_of_data settings) turns)) run.plan.items (packets_between before ended.writer) run.packer.held) newline
+          (subst (λ ls. ArePacketsOf format (marks lines turns) (refusals lines turns) ls run.plan.items (packets_between before ended.writer) run.packer.held) (kept_mapped line_of (metric_of_data settings) turns)
+          (run_cut lines filled kind format queue before turns ended after whole.0 whole.1)));
+    }
