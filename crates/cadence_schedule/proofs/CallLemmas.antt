@@ -1,5 +1,5 @@
 -- One more option of a call, and its metric.
-use Rattle.std.proofs.Common.{◌≡◌, ℕ, List, [], ◌∷◌, ◌++◌, Option, Some, None, Result, Ok, Err, ap, ◌∙◌, sym, subst, append_assoc}
+use Rattle.std.proofs.Common.{◌≡◌, ℕ, List, [], ◌∷◌, ◌++◌, Option, Some, None, Ok, ap, ◌∙◌, sym, append_assoc}
 use Rattle.std.proofs.lemmas.List.{append-nil}
 use Rattle.std.proofs.lemmas.List.Elements.{filter_map-append}
 use Rattle.std.proofs.lemmas.List.Sums.{fold-append}
@@ -10,7 +10,6 @@ use Rattle.cadence_text.specs.declared.value.MetricValue.{MetricValue}
 use Rattle.cadence_text.specs.Metric.{Metric}
 use Rattle.cadence_text.specs.Number.{Number}
 use Rattle.cadence_text.specs.Values.{Converts, numbers_of}
-use Rattle.cadence_errors.specs.declared.MetricError.{MetricError}
 use Rattle.cadence_schedule.specs.Settings.{Settings}
 use Rattle.cadence_schedule.specs.Call.{Choice, tagged, contained, timed, rated, MetricCall, plain_call, with_choice, chosen, metric_of_call, MakesMetric}
 

@@ -4,12 +4,13 @@ use Rattle.std.specs.Prelude.{Contains}
 use Rattle.std.specs.List.{AllByRecursion}
 use Rattle.std.proofs.lemmas.List.{append-nil, append_assoc, length-append, map-append, same_from_push, length-map}
 use Rattle.std.proofs.lemmas.List.Concat.{flat_map-append}
-use Rattle.std.proofs.lemmas.List.Sums.{sum_by-cons, sum_by-append}
+use Rattle.std.proofs.lemmas.List.Sums.{sum_by-append}
 use Rattle.std.proofs.lemmas.List.Elements.{Contains-push_cases, Contains-append_left, Contains-push}
 use Rattle.std.proofs.lemmas.Bool.{cases_lt, le-ltb, lt-ltb, cond-true, cond-false}
 use Rattle.cadence_schedule.specs.Plan.{FitsPacket, PassesWithNext}
 use Rattle.cadence_flow.specs.Frame.{Format, size_of, frame, stream}
 use Rattle.cadence_schedule.specs.Packets.{held_packet}
+use Rattle.cadence_schedule.proofs.PlanSteps.{sum-cons, not_at}
 use Rattle.cadence_schedule.proofs.Ends.{ends, split_end, neighbours_end, joined}
 
 -- each two neighbour groups but at a mark or a refusal could not have been cut later
@@ -33,9 +34,6 @@ pub record IsCutSoFar (format : Format) (marks refusals : List ℕ) (lines : Lis
 
 sum-append : (xs ys : List ℕ) → sum (xs ++ ys) ≡ sum xs + sum ys
 sum-append xs ys = sum_by-append (λ x. x) xs ys
-
-sum-cons : (x : ℕ) (xs : List ℕ) → sum (x ∷ xs) ≡ x + sum xs
-sum-cons x xs = sum_by-cons (λ y. y) x xs
 
 pub each_append : {X : Type 0} (P : X → Type 0) (xs ys : List X) → AllByRecursion P xs → AllByRecursion P ys → AllByRecursion P (xs ++ ys)
 each_append P [] ys hx hy = hy
@@ -145,9 +143,6 @@ module _ (format : Format) (marks refusals : List ℕ) (lines : List (List ℕ))
   mark_within p has =
       let (front, back, e, at) = cut.marked p has in
       omega (arith, at, ap (λ gs. length (joined gs)) e, ap (λ l. length l) (flat_map-append (λ g. g) front back), length-append (joined front) (joined back), ap (λ l. length l) cut.all)
-
-  not_at : (places : List ℕ) (p q : ℕ) → p ≡ q → ¬ Contains places p → ¬ Contains places q
-  not_at places p q e none has = none (subst (λ r. Contains places r) (sym e) has)
 
   new_late : (line : List ℕ) → ((init : List (List (List ℕ))) (group : List (List ℕ)) → groups ≡ init ++ group ∷ [] → ¬ Contains marks (length lines) → ¬ Contains refusals (length lines) → PassesWithNext format.capacity (map (size_of format) group) (size_of format line ∷ []))
       → LateLines format marks refusals (groups ++ (line ∷ []) ∷ [])

@@ -11,7 +11,7 @@ use Rattle.cadence_schedule.specs.declared.call.Call.{Call}
 use Rattle.cadence_schedule.specs.History.{Turn, answered, taken, takes_text, outcomes, outcome_by, stops, is_stopped, errors, is_error, accepted, accepted_by, kept, places_after, marks, mark_at, refusals, refusal_at}
 use Rattle.cadence_schedule.specs.Replies.{MayReply, MayReplyAfter}
 
-or_no : (b : Bool) → (b || false) ≡ b
+pub or_no : (b : Bool) → (b || false) ≡ b
 or_no true = refl
 or_no false = refl
 

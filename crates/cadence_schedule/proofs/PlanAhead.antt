@@ -6,7 +6,7 @@ use Rattle.std.proofs.lemmas.List.{length-drop, length-take-le, length-append, t
 use Rattle.std.proofs.lemmas.Bool.{cases_lt}
 use Rattle.cadence_schedule.specs.Plan.{IsTight, IsFewest, FitsPacket}
 use Rattle.std.proofs.lemmas.List.Elements.{All-contains}
-use Rattle.cadence_schedule.specs.PlanGroup.{IsGroup, EndsLate}
+use Rattle.cadence_schedule.specs.Plan.{IsGroup, EndsLate}
 use Rattle.cadence_schedule.proofs.PlanSteps.{Groups, LateGroups, admissible_in, tight_in}
 
 -- a longer group that begins no later adds up to at least this one and its next size

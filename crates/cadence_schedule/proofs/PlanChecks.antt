@@ -1,6 +1,6 @@
 -- What `check_plan` tests, tied to groups.
 use Rattle.std.proofs.Common.{◌≡◌, ℕ, ◌+◌, ◌↔◌, List, [], ◌∷◌, length, drop, sym, subst}
-use Rattle.cadence_schedule.specs.PlanGroup.{IsGroup, EndsLate}
+use Rattle.cadence_schedule.specs.Plan.{IsGroup, EndsLate}
 use Rattle.cadence_schedule.proofs.PlanSteps.{TightGroups}
 
 module _ (capacity : ℕ) (marks : List ℕ) (start count : ℕ) (left : List ℕ) where

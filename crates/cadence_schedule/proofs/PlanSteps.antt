@@ -6,7 +6,7 @@ use Rattle.std.proofs.lemmas.List.Sums.{sum_by-cons, get_or-le-sum_by}
 use Rattle.std.proofs.lemmas.List.Elements.{All-cons, All-head, All-tail, All-contains, All-nil, Contains-get_or}
 use Rattle.std.proofs.lemmas.List.{length-drop, length-take-le, get_or-drop, get_or-take, length-append}
 use Rattle.std.proofs.lemmas.Bool.{cases_lt, cases_order}
-use Rattle.cadence_schedule.specs.PlanGroup.{IsGroup, EndsLate}
+use Rattle.cadence_schedule.specs.Plan.{IsGroup, EndsLate}
 use Rattle.cadence_schedule.specs.Plan.{groups_of, FitsPacket, EndsAt, IsAdmissible, PassesWithNext, IsTight}
 
 abbrev pub Groups : ℕ → List ℕ → ℕ → List ℕ → List ℕ → Type 0
@@ -94,7 +94,8 @@ sum_within capacity (x ∷ []) fits first = omega (arith, sum-cons x [])
 sum_within capacity (x ∷ y ∷ group) (inl one) first = absurd (omega arith)
 sum_within capacity (x ∷ y ∷ group) (inr together) first = together
 
-not_at : (marks : List ℕ) (p q : ℕ) → p ≡ q → ¬ Contains marks p → ¬ Contains marks q
+-- a place that is no mark is equal to none
+pub not_at : (marks : List ℕ) (p q : ℕ) → p ≡ q → ¬ Contains marks p → ¬ Contains marks q
 not_at marks p q e none has = none (subst (λ r. Contains marks r) (sym e) has)
 
 -- `no_later` of `IsTight`, from `start` on

@@ -1,9 +1,9 @@
 -- The queue and the hand after any turns, by what the history says.
-use Rattle.std.proofs.Common.{◌≡◌, ◌≢◌, ℕ, zero, suc, zero-le, ◌+◌, ◌%◌, ◌^◌, ◌<◌, ◌≤◌, List, [], ◌∷◌, ◌++◌, Option, Some, None, Ok, Err, Result, Bool, true, false, length, drop, refl, sym, ap, ◌∙◌, arith, subst, cond, ◌||◌, ⊎_elim}
+use Rattle.std.proofs.Common.{◌≡◌, ℕ, zero, suc, zero-le, ◌+◌, ◌%◌, ◌^◌, ◌<◌, ◌≤◌, List, [], ◌∷◌, ◌++◌, Option, Some, None, Ok, Err, Result, Bool, true, false, length, drop, refl, sym, ap, ◌∙◌, arith, subst, cond, ◌||◌, ⊎_elim}
 use Rattle.std.specs.Prelude.{slice_get, ◌==◌}
-use Rattle.std.specs.Option.{option_to_list, option_map_or}
+use Rattle.std.specs.Option.{option_to_list}
 use Rattle.std.proofs.lemmas.List.{append-nil, length-append, drop-append-le}
-use Rattle.std.proofs.lemmas.Bool.{cases_lt, cond-true, cond-false, eq-eqb, ne_eqb, le-leb, lt-leb, leb-false, cases_eq}
+use Rattle.std.proofs.lemmas.Bool.{cases_lt, cond-true, cond-false, eq-eqb, ne_eqb, leb-false}
 use Rattle.cadence_errors.specs.declared.MetricError.{MetricError}
 use Rattle.cadence_flow.specs.Queue.{at_capacity}
 use Rattle.cadence_flow.specs.QueueState.{IsWithin}
@@ -12,13 +12,9 @@ use Rattle.cadence_schedule.specs.declared.steps.Step.TheVariants as step
 use Rattle.cadence_schedule.specs.declared.steps.Reply.TheVariants as reply
 use Rattle.cadence_schedule.specs.History.{Turn, taken, takes_text, outcomes, outcome_by, handed_on, stops, is_stopped, accepted, accepted_by, in_hand}
 use Rattle.cadence_schedule.specs.Replies.{CallReplies}
-use Rattle.cadence_schedule.specs.Moves.{State, at_start}
+use Rattle.cadence_schedule.specs.Moves.{State}
 use Rattle.cadence_flow.specs.Writer.{History}
-use Rattle.cadence_schedule.proofs.Growing.{accepted-push, outcomes-push, taken-push, stopped-push}
-
-or_no : (b : Bool) → (b || false) ≡ b
-or_no true = refl
-or_no false = refl
+use Rattle.cadence_schedule.proofs.Growing.{or_no, accepted-push, outcomes-push, taken-push, stopped-push}
 
 or_yes : (b : Bool) → (b || true) ≡ true
 or_yes true = refl
@@ -65,14 +61,9 @@ within_less : (queue : Option ℕ) (line : List ℕ) (rest : List (List ℕ)) �
 within_less None line rest within = tt
 within_less (Some capacity) line rest within = omega arith
 
--- a queue is full exactly where as many texts wait as its capacity
-pub full_is : (queue : Option ℕ) (waiting : List (List ℕ)) (n : ℕ) → length waiting ≡ n → IsWithin queue waiting → at_capacity queue waiting ≡ option_map_or (λ room. n == room) queue false
-full_is None waiting n e within = refl
-full_is (Some capacity) waiting n e within =
-    ⊎_elim
-    (λ (same : n ≡ capacity). le-leb capacity (length waiting) (omega arith) ∙ sym (eq-eqb n capacity same))
-    (λ (other : n ≡ capacity → ⊥). lt-leb capacity (length waiting) (let differ : n ≢ capacity = other in omega arith) ∙ sym (ne_eqb n capacity other))
-    (cases_eq n capacity)
+-- nothing waits and nothing is held yet, over a writer with this history
+abbrev pub at_start : History → State
+at_start writer = record { waiting = []; stopped = false; submitted = 0; drained = 0; hand = None; plan = []; writer = writer; held = [] }
 
 -- the same queue and hand
 pub record SameQueue (old new : State) : Type 0 where

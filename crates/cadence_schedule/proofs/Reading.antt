@@ -11,7 +11,7 @@ use Rattle.cadence_text.specs.Line.{line_of}
 use Rattle.cadence_text.specs.OneReading.{lines_of, IsPacketOf, IsReadable}
 use Rattle.cadence_flow.specs.Frame.{Format, size_of, frame, stream}
 use Rattle.cadence_schedule.specs.Packets.{ArePacketsOf}
-use Rattle.cadence_schedule.specs.Reading.{IsPacketOfOnly, ReadsAs}
+use Rattle.cadence_schedule.specs.Packets.{IsPacketOfOnly, ReadsAs}
 
 -- the newline as ending
 abbrev newline : ℕ → Format

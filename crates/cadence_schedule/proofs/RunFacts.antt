@@ -18,9 +18,10 @@ use Rattle.cadence_schedule.specs.History.{Turn, accepted, accepted_by, taken, k
 use Rattle.cadence_schedule.specs.Packets.{held_packet, ArePacketsOf}
 use Rattle.cadence_schedule.specs.Plan.{groups_of, IsTight, IsCutLate}
 use Rattle.cadence_schedule.specs.Stream.{taken_stream}
-use Rattle.cadence_schedule.specs.Moves.{State, Runs, at_start}
+use Rattle.cadence_schedule.specs.Moves.{State, Runs}
 use Rattle.cadence_schedule.proofs.Ends.{joined}
 use Rattle.cadence_schedule.proofs.Shown.{shown, shown_late}
+use Rattle.cadence_schedule.proofs.QueueTurns.{at_start}
 use Rattle.cadence_schedule.proofs.Turns.{After, after}
 
 -- the packets joined, then the held text

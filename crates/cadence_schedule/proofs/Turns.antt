@@ -1,8 +1,8 @@
 -- Each turn keeps what is right of a run.
-use Rattle.std.proofs.Common.{◌≡◌, ◌≢◌, ℕ, ◌+◌, ◌-◌, ◌%◌, ◌^◌, ◌<◌, ◌≤◌, List, [], ◌∷◌, ◌++◌, Option, Some, None, Ok, Err, Result, Bool, true, false, length, refl, sym, ap, ◌∙◌, arith, subst, cond, map, inl, inr}
-use Rattle.std.specs.Prelude.{slice_get, ◌==◌}
+use Rattle.std.proofs.Common.{◌≡◌, ◌≢◌, ℕ, ◌+◌, ◌%◌, ◌^◌, ◌<◌, ◌≤◌, List, [], ◌∷◌, ◌++◌, Option, Some, None, Ok, Err, Result, Bool, true, false, length, drop, refl, sym, ap, ◌∙◌, arith, subst, cond, map, inl, inr}
+use Rattle.std.specs.Prelude.{slice_get}
 use Rattle.std.specs.List.{concat}
-use Rattle.std.specs.Option.{option_to_list, option_map_or}
+use Rattle.std.specs.Option.{option_to_list}
 use Rattle.std.proofs.lemmas.List.{append-nil, append_assoc, length-append, length-drop, map-append}
 use Rattle.std.proofs.lemmas.List.Concat.{flat_map-append}
 use Rattle.std.proofs.lemmas.Option.{slice_get_past}
@@ -20,12 +20,12 @@ use Rattle.cadence_schedule.specs.History.{Turn, taken, takes_text, outcome_by, 
 use Rattle.cadence_schedule.specs.Replies.{CallReplies, TakeReplies, HandReplies, MayFail, MayReply, MayReplyAfter}
 use Rattle.cadence_schedule.specs.Packets.{held_packet}
 use Rattle.cadence_schedule.specs.Stream.{taken_stream}
-use Rattle.cadence_schedule.specs.Moves.{State, Moves, Runs, HasLast, CountsLine, at_start}
+use Rattle.cadence_schedule.specs.Moves.{State, Moves, Runs, HasLast, CountsLine}
 use Rattle.cadence_schedule.proofs.Ends.{joined}
 use Rattle.cadence_schedule.proofs.Growing.{marks-push, refusals-push, replies-push, errors-push}
 use Rattle.cadence_schedule.proofs.Cutting.{IsCutSoFar, marks_flush, no_lines, held_last, joined-push}
 use Rattle.cadence_schedule.proofs.KeptLines.{counts_same, counts_more, counts_refused, accepted_filled, length-kept}
-use Rattle.cadence_schedule.proofs.QueueTurns.{QueueAfter, SameQueue, quiet, queue_call, queue_take, queue_hand, queue_stop, queue_none, call_accepts, full_is, full_hand, slice_get-is}
+use Rattle.cadence_schedule.proofs.QueueTurns.{at_start, QueueAfter, SameQueue, quiet, queue_call, queue_take, queue_hand, queue_stop, queue_none, call_accepts, full_hand, slice_get-is}
 use Rattle.cadence_schedule.proofs.PacketTurns.{written, refused, cut_written, cut_refused, closed_is}
 
 -- an extension of an extension
@@ -120,9 +120,8 @@ module _ {A : Type 0} (line_of : Call A → Option (List ℕ)) (filled : (call :
   -- a call's reply, by the state
   call_reply : (h : List (Turn A)) (s : State) → After h s → (call : Call A) (result : Result ℕ MetricError) → CallReplies (line_of call) s.stopped (at_capacity queue s.waiting) result → MayReply line_of kind.may_give kind.takes_whole format queue h (step.Call call, reply.Called result)
   call_reply h s a call result c =
-      let waits : length s.waiting ≡ length (accepted line_of h) - taken h = ap (λ l. length l) a.line.waiting_is ∙ length-drop (taken h) (accepted line_of h) in
-      subst (λ b. CallReplies (line_of call) b (option_map_or (λ room. (length (accepted line_of h) - taken h) == room) queue false) result) a.line.stopped_is
-      (subst (λ b. CallReplies (line_of call) s.stopped b result) (full_is queue s.waiting (length (accepted line_of h) - taken h) waits a.line.room) c)
+      subst (λ b. CallReplies (line_of call) b (at_capacity queue (drop (taken h) (accepted line_of h))) result) a.line.stopped_is
+      (subst (λ w. CallReplies (line_of call) s.stopped (at_capacity queue w) result) a.line.waiting_is c)
 
   nothing_waits : (h : List (Turn A)) (s : State) → After h s → s.waiting ≡ [] → slice_get (accepted line_of h) (taken h) ≡ None
   nothing_waits h s a none = slice_get_past (accepted line_of h) (taken h) (omega (arith, ap (λ l. length l) (sym a.line.waiting_is ∙ none), length-drop (taken h) (accepted line_of h)))

@@ -1,11 +1,11 @@
 -- The headline of a whole run, from its start, its steps and its outcome.
-use Rattle.std.proofs.Common.{◌≡◌, ℕ, ◌++◌, ◌%◌, ◌^◌, ◌<◌, List, [], All, length, sym, ap, ◌∙◌, ◌≢◌, arith, subst, None, Some, Option, Vec, codes, map}
-use Rattle.std.specs.List.{zip, concat}
+use Rattle.std.proofs.Common.{◌≡◌, ℕ, ◌^◌, ◌<◌, List, [], All, length, sym, ap, ◌∙◌, ◌≢◌, arith, subst, Some, Option, Vec, codes, map}
+use Rattle.std.specs.List.{zip}
 use Rattle.std.specs.Prelude.{string_bytes}
 use Rattle.std.specs.Option.{option_map}
-use Rattle.cadence_flow.specs.Frame.{Format, stream}
+use Rattle.cadence_flow.specs.Frame.{Format}
 use Rattle.cadence_flow.specs.Sums.{counted_kind, zero_sums}
-use Rattle.cadence_flow.specs.Writer.{History, Kind, Extends}
+use Rattle.cadence_flow.specs.Writer.{History, Kind}
 use Rattle.cadence_text.specs.Line.{line_of}
 use Rattle.cadence_text.specs.Metric.{Metric}
 use Rattle.cadence_text.specs.OneReading.{IsReadable}
@@ -16,18 +16,19 @@ use Rattle.cadence_schedule.specs.declared.steps.Reply.{Reply}
 use Rattle.cadence_schedule.specs.declared.steps.Step.{Step}
 use Rattle.cadence_schedule.specs.Calls.{line_of_data, metric_of_data}
 use Rattle.cadence_schedule.specs.Headline.{given_of, packets_between, HasHeadline, IsAccounted}
-use Rattle.cadence_schedule.specs.History.{Turn, kept, kept_counts, marks, refusals}
-use Rattle.cadence_schedule.specs.Moves.{State, Runs, at_start}
+use Rattle.cadence_schedule.specs.History.{Turn, kept, marks, refusals}
+use Rattle.cadence_schedule.specs.Moves.{State, Runs}
 use Rattle.cadence_schedule.specs.Packets.{ArePacketsOf}
 use Rattle.cadence_schedule.specs.Plan.{IsTight, IsFewest}
 use Rattle.cadence_schedule.specs.Ran.{outcome_after}
-use Rattle.cadence_schedule.specs.Reading.{ReadsAs}
+use Rattle.cadence_schedule.specs.Packets.{ReadsAs}
 use Rattle.cadence_schedule.specs.Running.{IsAtStart, state_of}
 use Rattle.cadence_schedule.specs.Settings.{Settings}
 use Rattle.cadence_schedule.proofs.KeptMetrics.{kept_mapped}
 use Rattle.cadence_schedule.proofs.LineFilled.{line_filled}
 use Rattle.cadence_schedule.proofs.RunFacts.{run_after, run_taken, run_stream, run_cut, run_late, run_tight, run_submitted, run_drained, run_sums}
 use Rattle.cadence_schedule.proofs.RunTurns.{length-zip}
+use Rattle.cadence_schedule.proofs.QueueTurns.{at_start}
 use Rattle.cadence_schedule.proofs.Turns.{After}
 
 -- the law of least packets

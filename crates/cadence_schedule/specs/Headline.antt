@@ -14,7 +14,7 @@ use Rattle.cadence_schedule.specs.Calls.{metric_of_data}
 use Rattle.cadence_schedule.specs.History.{Turn, accepted, taken, kept, kept_counts, in_hand, is_stopped, errors, marks, refusals}
 use Rattle.cadence_schedule.specs.Packets.{ArePacketsOf}
 use Rattle.cadence_schedule.specs.Plan.{groups_of, IsTight, IsFewest, IsCutLate}
-use Rattle.cadence_schedule.specs.Reading.{ReadsAs}
+use Rattle.cadence_schedule.specs.Packets.{ReadsAs}
 use Rattle.cadence_schedule.specs.Replies.{MayReplyAfter}
 use Rattle.cadence_schedule.specs.Report.{Outcome}
 use Rattle.cadence_schedule.specs.Settings.{Settings}

@@ -5,8 +5,6 @@ pub mod History
 pub mod Moves
 pub mod Packets
 pub mod Plan
-pub mod PlanGroup
-pub mod Reading
 pub mod Replies
 pub mod Ran
 pub mod Report

@@ -75,7 +75,3 @@ module _ {A : Type 0} (line_of : Call A → Option (List ℕ)) (kind : Kind) (fo
   abbrev pub Runs : State → List (Turn A) → State → Type 0
   Runs old [] new = new ≡ old
   Runs old (turn ∷ turns) new = (mid : State) × Moves old turn mid × Runs mid turns new
-
--- nothing waits and nothing is held yet, over a writer with this history
-abbrev pub at_start : History → State
-at_start writer = record { waiting = []; stopped = false; submitted = 0; drained = 0; hand = None; plan = []; writer = writer; held = [] }

@@ -1,5 +1,8 @@
--- The packets of a cut of lines.
-use Rattle.std.specs.Prelude.{◌≡◌, ◌≢◌, ℕ, true, false, List, [], ◌∷◌, ◌++◌, length, map, Contains}
+-- The packets of a cut of lines, and what a listener reads from them.
+use Rattle.std.specs.Prelude.{◌≡◌, ◌≢◌, ℕ, true, false, List, [], ◌∷◌, ◌++◌, length, map, All, Contains}
+use Rattle.std.specs.List.{AllZip, flat_map}
+use Rattle.cadence_text.specs.Metric.{Metric}
+use Rattle.cadence_text.specs.OneReading.{IsPacketOf, IsReadable}
 use Rattle.cadence_flow.specs.Frame.{Format, size_of, is_oversize, stream}
 use Rattle.cadence_schedule.specs.Plan.{groups_of, IsAdmissible}
 
@@ -17,3 +20,14 @@ pub record ArePacketsOf (format : Format) (marks refusals : List ℕ) (lines : L
   pub oversize : (before : List (List ℕ)) (line : List ℕ) → lines ≡ before ++ line ∷ [] → is_oversize format line ≡ true → held ≡ []
   pub holds : (before : List (List ℕ)) (line : List ℕ) → lines ≡ before ++ line ∷ [] → is_oversize format line ≡ false
       → ¬ Contains marks (length lines) → ¬ Contains refusals (length lines) → held ≢ []
+
+-- the packet is of these metrics, which are free of separators, and of no other list of such metrics
+pub record IsPacketOfOnly (metrics : List Metric) (packet : List ℕ) : Type 0 where
+  pub readable : All IsReadable metrics
+  pub reads : IsPacketOf metrics packet
+  pub only : (others : List Metric) → All IsReadable others → IsPacketOf others packet → others ≡ metrics
+
+-- each packet, and the held text where there is any, reads as one list; joined, the lists are these metrics
+abbrev pub ReadsAs : List Metric → List (List ℕ) → List ℕ → Type 0
+ReadsAs metrics packets held =
+    (lists : List (List Metric)) × (flat_map (λ list. list) lists ≡ metrics) × AllZip IsPacketOfOnly lists (packets ++ held_packet held)

@@ -1,5 +1,5 @@
 -- What a run that made all its steps comes to.
-use Rattle.std.specs.Prelude.{Vec, map, string_bytes}
+use Rattle.std.specs.Prelude.{Vec, string_bytes}
 use Rattle.std.specs.Option.{option_map}
 use Rattle.cadence_schedule.specs.declared.counting.CountingWriter.{CountingWriter}
 use Rattle.cadence_schedule.specs.declared.running.Running.{Running}

@@ -1,12 +1,12 @@
 -- Which reply each step may have, after the steps and replies before it.
-use Rattle.std.specs.Prelude.{◌≡◌, ℕ, ◌-◌, ◌≤◌, ◌==◌, ◌⊎◌, List, [], ◌∷◌, ◌++◌, Option, Some, None, Ok, Err, Result, Bool, true, false, length, slice_get}
-use Rattle.std.specs.Option.{option_map_or}
+use Rattle.std.specs.Prelude.{◌≡◌, ℕ, ◌≤◌, ◌⊎◌, List, [], ◌∷◌, ◌++◌, Option, Some, None, Ok, Err, Result, Bool, true, false, length, drop, slice_get}
 use Rattle.cadence_errors.specs.declared.MetricError.{MetricError}
 use Rattle.cadence_errors.specs.declared.MetricError.TheVariants.{Sink}
 use Rattle.cadence_errors.specs.declared.SinkError.{SinkError}
 use Rattle.cadence_errors.specs.declared.SinkError.TheVariants.{ChannelFull, ChannelDisconnected, NothingWritten}
 use Rattle.cadence_errors.specs.Errors.{IsInvalid, out_of_memory}
 use Rattle.cadence_flow.specs.Frame.{Format, is_oversize}
+use Rattle.cadence_flow.specs.Queue.{at_capacity}
 use Rattle.cadence_schedule.specs.declared.call.Call.{Call}
 use Rattle.cadence_schedule.specs.declared.steps.Step.TheVariants as step
 use Rattle.cadence_schedule.specs.declared.steps.Reply.{Reply}
@@ -47,14 +47,14 @@ HandReplies may_give takes_whole format (Some line) answer =
 -- by the line of each call, which errors the writer may give, whether it takes each packet whole or refuses it, the
 -- packer's capacity and ending, and the queue's capacity
 module _ {A : Type 0} (line_of : Call A → Option (List ℕ)) (may_give : SinkError → Bool) (takes_whole : Bool) (format : Format) (queue : Option ℕ) where
-  -- as many texts wait as the queue's capacity
-  abbrev pub is_full : List (Turn A) → Bool
-  is_full before = option_map_or (λ room. (length (accepted line_of before) - taken before) == room) queue false
+  -- the accepted lines that wait
+  abbrev pub waiting : List (Turn A) → List (List ℕ)
+  waiting before = drop (taken before) (accepted line_of before)
 
   -- a step's reply, by the turns before it
   abbrev pub MayReply : List (Turn A) → Turn A → Type 0
   MayReply before (step.Call call, reply.Called result) =
-      CallReplies (line_of call) (is_stopped before) (is_full before) result
+      CallReplies (line_of call) (is_stopped before) (at_capacity queue (waiting before)) result
   MayReply before (step.Take, answer) =
       TakeReplies (in_hand line_of before) (slice_get (accepted line_of before) (taken before)) (is_stopped before) answer
   MayReply before (step.Hand, answer) = HandReplies may_give takes_whole format (in_hand line_of before) answer

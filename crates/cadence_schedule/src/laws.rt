@@ -4,7 +4,7 @@ ghost use Rattle.cadence_text.specs.Line.{line_of};
 ghost use Rattle.cadence_text.specs.Metric.{Metric};
 ghost use Rattle.cadence_text.specs.OneReading.{IsReadable};
 ghost use Rattle.cadence_schedule.specs.Packets.{ArePacketsOf};
-ghost use Rattle.cadence_schedule.specs.Reading.{ReadsAs};
+ghost use Rattle.cadence_schedule.specs.Packets.{ReadsAs};
 ghost use Rattle.cadence_schedule.specs.Call.{Choice, MetricCall, chosen, metric_of_call, with_choice};
 ghost use Rattle.cadence_schedule.specs.Settings.{Settings};
 

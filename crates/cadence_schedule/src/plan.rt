@@ -4,7 +4,7 @@
 //! alone. A mark asks that a packet ends after so many sizes.
 ghost use Rattle.std.specs.Prelude.{◌≡◌, ◌+◌, ◌<◌, ◌≤◌, ◌↔◌, ℕ, List, IsTrue, IfSome, IfNone, IfOk, IfErr, drop, length, sum, All, Contains};
 ghost use Rattle.cadence_schedule.specs.Plan.{IsTight, IsFewest};
-ghost use Rattle.cadence_schedule.specs.PlanGroup.{IsGroup, EndsLate};
+ghost use Rattle.cadence_schedule.specs.Plan.{IsGroup, EndsLate};
 ghost use Rattle.cadence_errors.specs.Errors.{out_of_memory};
 
 use cadence_errors::MetricResult;

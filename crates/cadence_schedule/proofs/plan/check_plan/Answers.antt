@@ -1,7 +1,7 @@
 use Rattle.std.proofs.Common.{◌≡◌, ◌+◌, drop, length, get_or, arith, sym, refl, false, true}
 use Rattle.std.proofs.lemmas.List.{drop_more, drop-drop, drop_all, length-drop}
 use Rattle.std.proofs.lemmas.Bool.Decides.{Decides-eqb}
-use Rattle.cadence_schedule.specs.PlanGroup.{IsGroup, EndsLate}
+use Rattle.cadence_schedule.specs.Plan.{IsGroup, EndsLate}
 use Rattle.cadence_schedule.proofs.PlanSteps.{tight_in, tight_out}
 use Rattle.cadence_schedule.proofs.PlanAhead.{fewest}
 use Rattle.cadence_schedule.proofs.PlanChecks.{tight_step, tight_refused, tight_end}
