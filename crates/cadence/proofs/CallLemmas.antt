@@ -4,11 +4,8 @@ use Rattle.cadence_text.specs.Metric.{Metric}
 use Rattle.cadence_errors.specs.declared.MetricError.{MetricError}
 use Rattle.cadence.specs.Sending.{Chooses, ChoosesOrHolds, StandsFor, StandsForMore}
 use Rattle.cadence_schedule.specs.Settings.{Settings}
-use Rattle.cadence_schedule.specs.Call.{Choice, MetricCall, with_choice, chosen, metric_of_call}
-
--- what an option chooses in the metric of a call is the metric of the call with it
-abbrev pub OptionsAreChosen : Type 0
-OptionsAreChosen = (s : Settings) (c : MetricCall) (o : Choice) → chosen (metric_of_call s c) o ≡ metric_of_call s (with_choice c o)
+use Rattle.cadence_schedule.specs.Call.{Choice, with_choice, chosen}
+use Rattle.cadence_schedule.specs.Laws.{OptionsAreChosen}
 
 module _ (law : OptionsAreChosen) where
   -- a builder that stood for a call stands for it with one more option, where the option was chosen

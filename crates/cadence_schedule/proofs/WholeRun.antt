@@ -1,5 +1,5 @@
 -- The headline of a whole run, from its start, its steps and its outcome.
-use Rattle.std.proofs.Common.{◌≡◌, ℕ, ◌^◌, ◌<◌, List, [], All, length, sym, ap, ◌∙◌, ◌≢◌, arith, subst, Some, Option, Vec, codes, map}
+use Rattle.std.proofs.Common.{◌≡◌, ℕ, ◌^◌, ◌<◌, List, [], length, sym, ap, ◌∙◌, ◌≢◌, arith, subst, Some, Option, Vec, map}
 use Rattle.std.specs.List.{zip}
 use Rattle.std.specs.Prelude.{string_bytes}
 use Rattle.std.specs.Option.{option_map}
@@ -8,7 +8,6 @@ use Rattle.cadence_flow.specs.Sums.{counted_kind, zero_sums}
 use Rattle.cadence_flow.specs.Writer.{History, Kind}
 use Rattle.cadence_text.specs.Line.{line_of}
 use Rattle.cadence_text.specs.Metric.{Metric}
-use Rattle.cadence_text.specs.OneReading.{IsReadable}
 use Rattle.cadence_schedule.specs.declared.call.Call.{Call}
 use Rattle.cadence_schedule.specs.declared.counting.CountingWriter.{CountingWriter}
 use Rattle.cadence_schedule.specs.declared.running.Running.{Running}
@@ -17,11 +16,10 @@ use Rattle.cadence_schedule.specs.declared.steps.Step.{Step}
 use Rattle.cadence_schedule.specs.Calls.{line_of_data, metric_of_data}
 use Rattle.cadence_schedule.specs.Headline.{given_of, packets_between, HasHeadline, IsAccounted}
 use Rattle.cadence_schedule.specs.History.{Turn, kept, marks, refusals}
+use Rattle.cadence_schedule.specs.Laws.{LeastPackets, PacketsReadOneWay}
 use Rattle.cadence_schedule.specs.Moves.{State, Runs}
 use Rattle.cadence_schedule.specs.Packets.{ArePacketsOf}
-use Rattle.cadence_schedule.specs.Plan.{IsTight, IsFewest}
 use Rattle.cadence_schedule.specs.Ran.{outcome_after}
-use Rattle.cadence_schedule.specs.Packets.{ReadsAs}
 use Rattle.cadence_schedule.specs.Running.{IsAtStart, state_of}
 use Rattle.cadence_schedule.specs.Settings.{Settings}
 use Rattle.cadence_schedule.proofs.KeptMetrics.{kept_mapped}
@@ -30,18 +28,6 @@ use Rattle.cadence_schedule.proofs.RunFacts.{run_after, run_taken, run_stream, r
 use Rattle.cadence_schedule.proofs.RunTurns.{length-zip}
 use Rattle.cadence_schedule.proofs.QueueTurns.{at_start}
 use Rattle.cadence_schedule.proofs.Turns.{After}
-
--- the law of least packets
-abbrev pub LeastPackets : Type 0
-LeastPackets = (capacity : ℕ) (marks sizes plan : List ℕ) → IsTight capacity marks sizes plan → IsFewest capacity marks sizes plan
-
--- the law of one reading, of packets
-abbrev pub OneReading : Type 0
-OneReading =
-    (capacity : ℕ) (marks refusals plan : List ℕ) (metrics : List Metric) (packets : List (List ℕ)) (held : List ℕ)
-    → All IsReadable metrics
-    → ArePacketsOf (record { capacity = capacity; ending = codes "\n" }) marks refusals (map line_of metrics) plan packets held
-    → ReadsAs metrics packets held
 
 module _ {W A : Type 0} (kind_of : W → Kind) (history_of : W → History) (settings : Settings) (capacity : ℕ) (ending : List ℕ) (queue : Option ℕ) (steps : List (Step A)) (writer : W) where
   abbrev counted : CountingWriter W → Kind
@@ -117,7 +103,7 @@ module _ {W A : Type 0} (kind_of : W → Kind) (history_of : W → History) (set
     }
 
     -- what stands beside it
-    pub is_accounted : OneReading → run.packer.writer.stats.bytes_sent < 2 ^ 64 → run.packer.writer.stats.packets_sent < 2 ^ 64
+    pub is_accounted : PacketsReadOneWay → run.packer.writer.stats.bytes_sent < 2 ^ 64 → run.packer.writer.stats.packets_sent < 2 ^ 64
         → IsAccounted history_of (given_of kind_of history_of settings capacity ending queue steps writer) (outcome_after run replies)
     is_accounted reads bytes packets = record {
       late = λ whole. run_late lines filled kind format queue before turns ended after whole.0 whole.1;

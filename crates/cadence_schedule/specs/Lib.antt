@@ -2,6 +2,7 @@ pub mod Call
 pub mod Calls
 pub mod Headline
 pub mod History
+pub mod Laws
 pub mod Moves
 pub mod Packets
 pub mod Plan

@@ -12,8 +12,8 @@ mod settings;
 mod steps;
 
 pub use call::{Call, CallOption, CallValue};
-pub use laws::{an_option_is_chosen, packets_read_one_way};
-pub use plan::{check_plan, plan_packets, tight_is_fewest};
+pub use laws::{an_option_is_chosen, packets_read_one_way, tight_is_fewest};
+pub use plan::{check_plan, plan_packets};
 pub use reports::Report;
 pub use run::run_schedule;
 pub use settings::ClientSettings;

@@ -3,17 +3,11 @@
 //! A size is the number of bytes of a line with its ending. One that passes the capacity is oversize and stands
 //! alone. A mark asks that a packet ends after so many sizes.
 ghost use Rattle.std.specs.Prelude.{◌≡◌, ◌+◌, ◌<◌, ◌≤◌, ◌↔◌, ℕ, List, IsTrue, IfSome, IfNone, IfOk, IfErr, drop, length, sum, All, Contains};
-ghost use Rattle.cadence_schedule.specs.Plan.{IsTight, IsFewest};
-ghost use Rattle.cadence_schedule.specs.Plan.{IsGroup, EndsLate};
+ghost use Rattle.cadence_schedule.specs.Plan.{IsFewest, IsTight, IsTightGroup};
 ghost use Rattle.cadence_errors.specs.Errors.{out_of_memory};
 
 use cadence_errors::MetricResult;
 use std::alloc::Allocator;
-
-/// The law of least packets: of all admissible plans, none has fewer groups than a tight one. It does nothing.
-pub fn tight_is_fewest()
-    ensures { (capacity : ℕ) (marks sizes plan : List ℕ) → IsTight capacity marks sizes plan → IsFewest capacity marks sizes plan }
-{}
 
 /// What is left of the capacity after these sizes, where they are within it.
 fn room_after(group: &[usize], capacity: usize) -> Option<usize>
@@ -53,7 +47,7 @@ fn is_tight_group(
     count: usize,
 ) -> bool
     requires { start ≤ length sizes.now }
-    ensures { IsTrue result ↔ (IsGroup capacity marks.now start count (drop start sizes.now) × EndsLate capacity marks.now start count (drop start sizes.now)) }
+    ensures { IsTrue result ↔ IsTightGroup capacity marks.now start count (drop start sizes.now) }
 {
     let left = &sizes[start..];
     if count == 0 || count > left.len() {
@@ -91,8 +85,7 @@ pub fn check_plan(sizes: &[usize], capacity: usize, marks: &[usize], plan: &[usi
 /// How many sizes from `start` on one packet takes: as many as fit, up to the next mark.
 fn group_len(sizes: &[usize], capacity: usize, marks: &[usize], start: usize) -> usize
     requires { start < length sizes.now }
-    ensures group { IsGroup capacity marks.now start result (drop start sizes.now) }
-    ensures late { EndsLate capacity marks.now start result (drop start sizes.now) }
+    ensures { IsTightGroup capacity marks.now start result (drop start sizes.now) }
 {
     let left = &sizes[start..];
     if left[0] > capacity {

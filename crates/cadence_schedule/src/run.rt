@@ -9,8 +9,7 @@ ghost use Rattle.cadence_schedule.specs.Report.{outcome_of};
 ghost use Rattle.cadence_schedule.specs.Running.{IsAtStart, state_of};
 
 use super::counting::CountingWriter;
-use super::laws::packets_read_one_way;
-use super::plan::tight_is_fewest;
+use super::laws::{packets_read_one_way, tight_is_fewest};
 use super::reports::Report;
 use super::running::Running;
 use super::settings::ClientSettings;
@@ -116,7 +115,8 @@ pub fn run_schedule<W: PacketWriter, A: Allocator + Clone>(
     steps: &[Step<A>],
     writer: W,
 ) -> Result<Report<W, A>, W>
-    ensures headline { let given = given_of W.kind W.history settings.now capacity ending.now queue steps.now writer in
+    ensures headline { let given =
+        given_of W.kind W.history settings.now capacity ending.now queue steps.now writer in
         IfOk result (λ report. HasHeadline W.history given (outcome_of report)
         × IsAccounted W.history given (outcome_of report)) }
     ensures returned { IfErr result (λ back. back ≡ writer) }

@@ -23,7 +23,8 @@ pub(crate) struct Running<P: PacketWriter, A: Allocator = Global> {
 /// Counts a line in the last group, or in a group of its own.
 fn count_line<A: Allocator>(plan: &mut Vec<usize, A>, joins: bool)
     requires { vec_len plan.old < vec_capacity plan.old }
-    ensures counted { (IsTrue joins → HasLast plan.old.items) → Counted joins plan.old.items plan.new.items }
+    ensures counted { (IsTrue joins → HasLast plan.old.items) →
+        Counted joins plan.old.items plan.new.items }
     ensures length { vec_len plan.new ≤ vec_len plan.old + 1 }
     ensures room { vec_capacity plan.old ≤ vec_capacity plan.new }
 {
@@ -41,7 +42,8 @@ fn format_call<A: Allocator + Clone>(
     settings: &ClientSettings<A>,
     call: &Call<A>,
 ) -> MetricResult<String<A>>
-    ensures line { IfOk result (λ line. line_of_data settings.now call.now ≡ Some (string_bytes line)) }
+    ensures line { IfOk result (λ line.
+        line_of_data settings.now call.now ≡ Some (string_bytes line)) }
     ensures refused { IfErr result (LineFails (line_of_data settings.now call.now)) }
 {
     let record = settings.record_of(call)?;
@@ -57,7 +59,8 @@ impl<P: PacketWriter, A: Allocator + Clone> Running<P, A> {
 
     /// Formats a call and submits its line.
     fn call(&mut self, alloc: &A, settings: &ClientSettings<A>, call: &Call<A>) -> Reply
-        ensures { MakesTurn P.kind P.history (line_of_data settings.now) self.old (step.Call call.now, result) self.new }
+        ensures { MakesTurn P.kind P.history (line_of_data settings.now)
+            self.old (step.Call call.now, result) self.new }
     {
         let line = match format_call(alloc, settings, call) {
             Ok(line) => line,
@@ -72,7 +75,8 @@ impl<P: PacketWriter, A: Allocator + Clone> Running<P, A> {
 
     /// Takes the oldest line into the hand.
     fn take(&mut self) -> Reply
-        ensures { (line_of : _) → MakesTurn P.kind P.history line_of self.old (step.Take, result) self.new }
+        ensures { (line_of : _) →
+            MakesTurn P.kind P.history line_of self.old (step.Take, result) self.new }
     {
         if self.hand.is_some() {
             return Reply::Busy;
@@ -98,7 +102,8 @@ impl<P: PacketWriter, A: Allocator + Clone> Running<P, A> {
     /// Hands the line in hand to the packer, and counts it where it was kept.
     fn hand(&mut self) -> Reply
         requires { vec_len self.old.plan < vec_capacity self.old.plan }
-        ensures { (line_of : _) → MakesTurn P.kind P.history line_of self.old (step.Hand, result) self.new }
+        ensures { (line_of : _) →
+            MakesTurn P.kind P.history line_of self.old (step.Hand, result) self.new }
     {
         let Some(line) = self.hand.take() else {
             return Reply::Nothing;
@@ -115,14 +120,16 @@ impl<P: PacketWriter, A: Allocator + Clone> Running<P, A> {
 
     /// Has the packer send what it holds.
     fn flush(&mut self) -> Reply
-        ensures { (line_of : _) → MakesTurn P.kind P.history line_of self.old (step.Flush, result) self.new }
+        ensures { (line_of : _) →
+            MakesTurn P.kind P.history line_of self.old (step.Flush, result) self.new }
     {
         Reply::Flushed(self.packer.flush())
     }
 
     /// Stops the queue.
     fn stop(&mut self) -> Reply
-        ensures { (line_of : _) → MakesTurn P.kind P.history line_of self.old (step.Stop, result) self.new }
+        ensures { (line_of : _) →
+            MakesTurn P.kind P.history line_of self.old (step.Stop, result) self.new }
     {
         self.queue.stop();
         Reply::Stopped
@@ -131,7 +138,8 @@ impl<P: PacketWriter, A: Allocator + Clone> Running<P, A> {
     /// Makes one step.
     pub(crate) fn step(&mut self, alloc: &A, settings: &ClientSettings<A>, step: &Step<A>) -> Reply
         requires { vec_len self.old.plan < vec_capacity self.old.plan }
-        ensures { MakesTurn P.kind P.history (line_of_data settings.now) self.old (step.now, result) self.new }
+        ensures { MakesTurn P.kind P.history (line_of_data settings.now)
+            self.old (step.now, result) self.new }
     {
         match step {
             Step::Call(call) => self.call(alloc, settings, call),

@@ -41,7 +41,8 @@ fn lend_tags<'a, A: Allocator>(
     tags: &'a [OwnedTag<A>],
     lent: &mut Vec<Tag<'a>, A>,
 ) -> Result<(), AllocError>
-    ensures { OnOk result (map tag_of lent.new.items ≡ map tag_of lent.old.items ++ map owned_tag tags.now) }
+    ensures { OnOk result
+        (map tag_of lent.new.items ≡ map tag_of lent.old.items ++ map owned_tag tags.now) }
 {
     lent.reserve(tags.len().saturating_add(OWN_TAGS))?;
     for tag in tags {
@@ -157,24 +158,38 @@ impl<A: Allocator + Clone> ClientSettings<A> {
         Ok(lent)
     }
 
-    /// The record of a call without options, with these defaults in it. Refuses with kind `OutOfMemory` alone.
+    // The record of a call without options, with these defaults in it.
     #[inline]
     #[tactic(auto, using(std::proofs::lemmas::Grind::common_steps), unfolding(crate::specs::Call::metric_of_call))]
+    fn plain_record<'a>(
+        &'a self,
+        key: &'a str,
+        kind: MetricType,
+        value: MetricValue<A>,
+    ) -> Result<Record<'a, A>, AllocError>
+        ensures { IfOk result (λ metric.
+            metric ≡ metric_of_call self.now (plain_call kind key.now (numbers_of value))) }
+    {
+        let (tags, container) = (self.lent_tags()?, lend(&self.container));
+        Ok(Record::with_defaults(&self.prefix, key, kind, value, tags, container))
+    }
+
+    /// The record of a call without options, with these defaults in it. Refuses with kind `OutOfMemory` alone.
+    #[inline]
     pub fn record<'a>(
         &'a self,
         key: &'a str,
         kind: MetricType,
         value: MetricValue<A>,
     ) -> MetricResult<Record<'a, A>>
-        ensures { Makes (metric_of_call self.now (plain_call kind key.now (numbers_of value))) result }
+        ensures { Makes (metric_of_call self.now (plain_call kind key.now (numbers_of value)))
+            result }
     {
-        let (tags, container) = (self.lent_tags()?, lend(&self.container));
-        Ok(Record::with_defaults(&self.prefix, key, kind, value, tags, container))
+        Ok(self.plain_record(key, kind, value)?)
     }
 
     /// The line of a call without options, with these defaults in it. Its one refusal is want of memory, as a small
     /// error.
-    #[tactic(auto, using(std::proofs::lemmas::Grind::common_steps), unfolding(crate::specs::Call::metric_of_call))]
     pub fn line(
         &self,
         key: &str,
@@ -184,8 +199,7 @@ impl<A: Allocator + Clone> ClientSettings<A> {
         ensures { IfOk result (λ text. string_bytes text ≡
             line_of (metric_of_call self.now (plain_call kind key.now (numbers_of value)))) }
     {
-        let (tags, container) = (self.lent_tags()?, lend(&self.container));
-        let metric = Record::with_defaults(&self.prefix, key, kind, value, tags, container);
+        let metric = self.plain_record(key, kind, value)?;
         metric.line(self.tags.allocator().clone()?)
     }
 

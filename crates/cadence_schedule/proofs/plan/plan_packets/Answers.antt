@@ -11,11 +11,11 @@ loop-start-preserved g c =
     let count = c.group_len-count.result in
     let sizes = c.args.sizes.now in
     record {
-      in_list = omega (arith, c.group_len-count.ensures.group.within, length-drop start sizes, c.loop-start.invariant.in_list);
+      in_list = omega (arith, c.group_len-count.ensures.0.within, length-drop start sizes, c.loop-start.invariant.in_list);
       completes = λ tail t.
           let longer : TightGroups c.args.capacity c.args.marks.now 0 (c.loop-start.plan.items ++ (count ∷ tail)) sizes =
           c.loop-start.invariant.completes (count ∷ tail)
-          ((tight_step c.args.capacity c.args.marks.now start count (drop start sizes) (count ∷ tail) tail (drop (start + count) sizes) refl (sym (drop-drop count start sizes)) (c.group_len-count.ensures.group, c.group_len-count.ensures.late)).1 t) in
+          ((tight_step c.args.capacity c.args.marks.now start count (drop start sizes) (count ∷ tail) tail (drop (start + count) sizes) refl (sym (drop-drop count start sizes)) (c.group_len-count.ensures.0, c.group_len-count.ensures.1)).1 t) in
           let items : c.push.new.self.items ≡ c.loop-start.plan.items ++ count ∷ [] = c.in_ok-push.ensures.items in
           subst (λ p. TightGroups c.args.capacity c.args.marks.now 0 p sizes) (sym (append_assoc c.loop-start.plan.items (count ∷ []) tail) ∙ ap (λ p. p ++ tail) (sym items)) longer;
     }

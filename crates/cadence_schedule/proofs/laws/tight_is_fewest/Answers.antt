@@ -1,5 +1,5 @@
 use Rattle.cadence_schedule.proofs.PlanAhead.{fewest}
-use Rattle.cadence_schedule.proofs.plan.tight_is_fewest.Goals as goal
+use Rattle.cadence_schedule.proofs.laws.tight_is_fewest.Goals as goal
 
 pub returns : goal.returns
 returns c = fewest
