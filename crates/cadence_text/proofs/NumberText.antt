@@ -10,9 +10,10 @@ use Rattle.std.proofs.lemmas.Str.Parse.{digit_from_value}
 use Rattle.std.proofs.lemmas.List.{length-append, length-replicate}
 use Rattle.std.proofs.lemmas.Bool.{lt-ltb, ne_eqb}
 use Rattle.std.proofs.lemmas.Grind.{common_steps}
-use Rattle.std.proofs.Math.Nat.{div-le_self, div-add-mod, mod-le, mod-lt, one-le-pow}
+use Rattle.std.proofs.Math.Nat.{div-le_self, div-add-mod, mod-le, mod-lt}
 use Rattle.cadence_text.specs.Number.{Number, number_text, places_text, filled_to}
 use Rattle.cadence_text.specs.OneReading.{HasWidth}
+use Rattle.cadence_text.proofs.Tens.{ten_to_pos}
 use Rattle.cadence_text.proofs.Cut.{cut_once, each_append, Stops, Passes}
 
 -- zeros before digits leave their value
@@ -34,9 +35,6 @@ decimal_once m n hm hn e = sym (decimal_is_IsNumeral_wide m hm).1 ∙ ap (digits
 -- the digits after the dot
 abbrev pub places_of : ℕ → ℕ → List ℕ
 places_of n p = filled_to p (decimal (n % 10 ^ p))
-
-ten_to_pos : (p : ℕ) → 0 < 10 ^ p
-ten_to_pos p = omega (arith, one-le-pow p 10 (lit< tt))
 
 pub rest_below : (n p : ℕ) → n < 10 ^ 64 → n % 10 ^ p < 10 ^ 64
 rest_below n p h = omega (arith, mod-le n (10 ^ p))

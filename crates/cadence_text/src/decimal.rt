@@ -81,7 +81,8 @@ pub(crate) fn power_of_ten(places: u8) -> u128
 // A dot, and `fraction` with zeros before it up to `places` digits.
 fn write_places<W: fmt::Write>(f: &mut fmt::Formatter<W>, fraction: u128, places: u8) -> fmt::Result
     requires { 0 < places }
-    ensures { DisplaysOnOk W.write_str_gives f.old result (Some (codes "." ++ filled_to places (decimal fraction))) f.new }
+    ensures { DisplaysOnOk W.write_str_gives f.old result
+        (Some (codes "." ++ filled_to places (decimal fraction))) f.new }
 {
     let width = usize::from(places);
     write!(f, ".{fraction:0width$}")

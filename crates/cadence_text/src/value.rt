@@ -4,23 +4,16 @@ ghost use Rattle.std.specs.Fmt.{DisplaysOnOk};
 ghost use Rattle.cadence_text.specs.Line.{separated};
 ghost use Rattle.cadence_text.specs.Values.{numbers_of};
 
-mod counters;
 mod distributions;
 mod durations;
-mod gauges;
 mod histograms;
-mod lent;
-mod meters;
-mod sets;
+mod plain;
 mod timers;
 
 use crate::decimal::Decimal;
-pub use counters::ToCounterValue;
 pub use distributions::ToDistributionValue;
-pub use gauges::ToGaugeValue;
 pub use histograms::ToHistogramValue;
-pub use meters::ToMeterValue;
-pub use sets::ToSetValue;
+pub use plain::{ToCounterValue, ToGaugeValue, ToMeterValue, ToSetValue};
 use std::alloc::{Allocator, Global};
 use std::fmt;
 pub use timers::ToTimerValue;
@@ -52,7 +45,9 @@ fn write_list<W: fmt::Write, T: fmt::Display>(
     f: &mut fmt::Formatter<W>,
     numbers: &[T],
 ) -> fmt::Result
-    ensures { (text : T → List ℕ) → ((x : T) → T.output x ≡ Some (text x)) → DisplaysOnOk W.write_str_gives f.old result (Some (separated (codes ":") text numbers.now)) f.new }
+    ensures { (text : T → List ℕ) → ((x : T) → T.output x ≡ Some (text x)) →
+        DisplaysOnOk W.write_str_gives f.old result
+        (Some (separated (codes ":") text numbers.now)) f.new }
 {
     let Some((first, others)) = numbers.split_first() else {
         return Ok(());

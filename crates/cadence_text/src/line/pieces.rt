@@ -45,7 +45,8 @@ fn push_tag<S: LineSink>(line: &mut S, tag: &Tag<'_>) -> Result<(), S::Refusal>
 }
 
 pub(crate) fn push_tags<S: LineSink>(line: &mut S, tags: &[Tag<'_>]) -> Result<(), S::Refusal>
-    ensures taken { OnOk result (Takes S.ends_as line.old (tags_field (map tag_of tags.now)) line.new) }
+    ensures taken { OnOk result (Takes S.ends_as line.old
+        (tags_field (map tag_of tags.now)) line.new) }
     ensures sized { OnOk result (AreRecordTags (map tag_of tags.now)) }
 {
     let Some((first, others)) = tags.split_first() else {
@@ -64,7 +65,8 @@ pub(crate) fn push_container<S: LineSink>(
     line: &mut S,
     container: Option<&str>,
 ) -> Result<(), S::Refusal>
-    ensures taken { OnOk result (Takes S.ends_as line.old (container_field (option_copied container.entry)) line.new) }
+    ensures taken { OnOk result (Takes S.ends_as line.old
+        (container_field (option_copied container.entry)) line.new) }
     ensures sized { OnOk result (IfSome (option_copied container.entry) FitsMemory) }
 {
     if let Some(container) = container {
@@ -91,7 +93,8 @@ trait Printed {
     ghost number: { Self → Number };
 
     fn push_to<S: LineSink>(&self, line: &mut S) -> Result<(), S::Refusal>
-        ensures taken { OnOk result (Takes S.ends_as line.old (number_text (number self.now)) line.new) }
+        ensures taken { OnOk result (Takes S.ends_as line.old
+            (number_text (number self.now)) line.new) }
         ensures sized { OnOk result (IsRecordNumber (number self.now)) };
 }
 
@@ -141,7 +144,8 @@ fn power_of_ten(places: u8) -> u64
 // A magnitude over 10 to the power of `places`. Most of them fit 64 bits, which are faster.
 fn push_magnitude<S: LineSink>(line: &mut S, magnitude: u128, places: u8) -> Result<(), S::Refusal>
     requires { places ≤ 30 }
-    ensures { OnOk result (Takes S.ends_as line.old (decimal (magnitude / 10 ^ places) ++ places_text magnitude places) line.new) }
+    ensures { OnOk result (Takes S.ends_as line.old
+        (decimal (magnitude / 10 ^ places) ++ places_text magnitude places) line.new) }
 {
     if places <= 19 {
         if let Ok(small) = u64::try_from(magnitude) {
@@ -160,7 +164,10 @@ fn push_parts<S: LineSink, I: Integer>(
     fraction: I,
     places: u8,
 ) -> Result<(), S::Refusal>
-    ensures { OnOk result (Takes S.ends_as line.old (I.text whole ++ (if places == 0 then [] else codes "." ++ filled_to places (I.text fraction))) line.new) }
+    ensures { OnOk result (Takes S.ends_as line.old
+        (I.text whole ++ (if places == 0 then []
+        else codes "." ++ filled_to places (I.text fraction)))
+        line.new) }
 {
     let mut buffer = Buffer::new();
     line.take_piece(buffer.format(whole))?;
@@ -183,7 +190,8 @@ fn push_zeros<S: LineSink>(line: &mut S, count: usize) -> Result<(), S::Refusal>
 }
 
 fn push_list<S: LineSink, T: Printed>(line: &mut S, numbers: &[T]) -> Result<(), S::Refusal>
-    ensures taken { OnOk result (Takes S.ends_as line.old (numbers_text (map T.number numbers.now)) line.new) }
+    ensures taken { OnOk result (Takes S.ends_as line.old
+        (numbers_text (map T.number numbers.now)) line.new) }
     ensures sized { OnOk result (AreRecordNumbers (map T.number numbers.now)) }
 {
     let Some((first, others)) = numbers.split_first() else {
@@ -202,7 +210,8 @@ pub(crate) fn push_value<S: LineSink, A: Allocator>(
     line: &mut S,
     value: &MetricValue<A>,
 ) -> Result<(), S::Refusal>
-    ensures taken { OnOk result (Takes S.ends_as line.old (numbers_text (numbers_of value.now)) line.new) }
+    ensures taken { OnOk result (Takes S.ends_as line.old
+        (numbers_text (numbers_of value.now)) line.new) }
     ensures sized { OnOk result (AreRecordNumbers (numbers_of value.now)) }
 {
     match value {

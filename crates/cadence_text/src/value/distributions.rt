@@ -12,17 +12,17 @@ use std::alloc::Allocator;
 /// value that it refuses.
 pub trait ToDistributionValue<A: Allocator> {
     // The numbers of a value, or none where it is refused.
-    ghost distributed: { Self → Option (List Number) };
+    ghost numbers: { Self → Option (List Number) };
 
     /// The value with exactly its numbers.
     ///
     /// Refuses with kind `InvalidInput` exactly where a value has none to give, and else with want of memory alone.
     fn try_to_value(self) -> MetricResult<MetricValue<A>>
-        ensures converts { Converts (distributed self) result };
+        ensures converts { Converts (numbers self) result };
 }
 
 impl<A: Allocator> ToDistributionValue<A> for u64 {
-    ghost distributed = { λ n. Some (natural n ∷ []) };
+    ghost numbers = { λ n. Some (natural n ∷ []) };
 
     #[inline]
     fn try_to_value(self) -> MetricResult<MetricValue<A>>
@@ -33,7 +33,7 @@ impl<A: Allocator> ToDistributionValue<A> for u64 {
 }
 
 impl<A: Allocator> ToDistributionValue<A> for Vec<u64, A> {
-    ghost distributed = { λ v. Some (map natural v.items) };
+    ghost numbers = { λ v. Some (map natural v.items) };
 
     #[inline]
     fn try_to_value(self) -> MetricResult<MetricValue<A>>
@@ -44,7 +44,7 @@ impl<A: Allocator> ToDistributionValue<A> for Vec<u64, A> {
 }
 
 impl<A: Allocator> ToDistributionValue<A> for Decimal {
-    ghost distributed = { λ d. Some (d ∷ []) };
+    ghost numbers = { λ d. Some (d ∷ []) };
 
     #[inline]
     fn try_to_value(self) -> MetricResult<MetricValue<A>>
@@ -55,7 +55,7 @@ impl<A: Allocator> ToDistributionValue<A> for Decimal {
 }
 
 impl<A: Allocator> ToDistributionValue<A> for Vec<Decimal, A> {
-    ghost distributed = { λ v. Some v.items };
+    ghost numbers = { λ v. Some v.items };
 
     #[inline]
     fn try_to_value(self) -> MetricResult<MetricValue<A>>

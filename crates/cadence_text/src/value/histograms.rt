@@ -14,17 +14,17 @@ use std::time::Duration;
 /// value that it refuses.
 pub trait ToHistogramValue<A: Allocator> {
     // The numbers of a value, or none where it is refused.
-    ghost histogrammed: { Self → Option (List Number) };
+    ghost numbers: { Self → Option (List Number) };
 
     /// The value with exactly its numbers.
     ///
     /// Refuses with kind `InvalidInput` exactly where a value has none to give, and else with want of memory alone.
     fn try_to_value(self) -> MetricResult<MetricValue<A>>
-        ensures converts { Converts (histogrammed self) result };
+        ensures converts { Converts (numbers self) result };
 }
 
 impl<A: Allocator> ToHistogramValue<A> for u64 {
-    ghost histogrammed = { λ n. Some (natural n ∷ []) };
+    ghost numbers = { λ n. Some (natural n ∷ []) };
 
     #[inline]
     fn try_to_value(self) -> MetricResult<MetricValue<A>>
@@ -35,7 +35,7 @@ impl<A: Allocator> ToHistogramValue<A> for u64 {
 }
 
 impl<A: Allocator> ToHistogramValue<A> for Vec<u64, A> {
-    ghost histogrammed = { λ v. Some (map natural v.items) };
+    ghost numbers = { λ v. Some (map natural v.items) };
 
     #[inline]
     fn try_to_value(self) -> MetricResult<MetricValue<A>>
@@ -46,7 +46,7 @@ impl<A: Allocator> ToHistogramValue<A> for Vec<u64, A> {
 }
 
 impl<A: Allocator> ToHistogramValue<A> for Decimal {
-    ghost histogrammed = { λ d. Some (d ∷ []) };
+    ghost numbers = { λ d. Some (d ∷ []) };
 
     #[inline]
     fn try_to_value(self) -> MetricResult<MetricValue<A>>
@@ -57,7 +57,7 @@ impl<A: Allocator> ToHistogramValue<A> for Decimal {
 }
 
 impl<A: Allocator> ToHistogramValue<A> for Vec<Decimal, A> {
-    ghost histogrammed = { λ v. Some v.items };
+    ghost numbers = { λ v. Some v.items };
 
     #[inline]
     fn try_to_value(self) -> MetricResult<MetricValue<A>>
@@ -69,7 +69,7 @@ impl<A: Allocator> ToHistogramValue<A> for Vec<Decimal, A> {
 
 /// The whole nanoseconds, cut off. Refused with the text `u64 overflow` exactly where they pass `u64::MAX`.
 impl<A: Allocator> ToHistogramValue<A> for Duration {
-    ghost histogrammed = { λ d. numbers_in_u64 (nanos_of d ∷ []) };
+    ghost numbers = { λ d. numbers_in_u64 (nanos_of d ∷ []) };
 
     #[inline]
     fn try_to_value(self) -> MetricResult<MetricValue<A>>
@@ -82,9 +82,18 @@ impl<A: Allocator> ToHistogramValue<A> for Duration {
 /// The whole nanoseconds, cut off. Refused with the text `u64 overflow` exactly where one of them passes `u64::MAX`, and
 /// else answers want of memory where the list's one growth is refused.
 impl<A: Allocator + Clone> ToHistogramValue<A> for Vec<Duration, A> {
-    ghost histogrammed = { λ v. numbers_in_u64 (map nanos_of v.items) };
+    ghost numbers = { λ v. numbers_in_u64 (map nanos_of v.items) };
 
     fn try_to_value(self) -> MetricResult<MetricValue<A>> {
         numbers_in(TimeUnit::Nanosecond, &self)
+    }
+}
+
+/// As a list that is handed over. The list is lent, so it is converted without a copy.
+impl<A: Allocator + Clone> ToHistogramValue<A> for &Vec<Duration, A> {
+    ghost numbers = { λ v. numbers_in_u64 (map nanos_of v.now.items) };
+
+    fn try_to_value(self) -> MetricResult<MetricValue<A>> {
+        numbers_in(TimeUnit::Nanosecond, self)
     }
 }

@@ -13,17 +13,17 @@ use std::time::Duration;
 /// value that it refuses.
 pub trait ToTimerValue<A: Allocator> {
     // The numbers of a value, or none where it is refused.
-    ghost timed: { Self → Option (List Number) };
+    ghost numbers: { Self → Option (List Number) };
 
     /// The value with exactly its numbers.
     ///
     /// Refuses with kind `InvalidInput` exactly where a value has none to give, and else with want of memory alone.
     fn try_to_value(self) -> MetricResult<MetricValue<A>>
-        ensures converts { Converts (timed self) result };
+        ensures converts { Converts (numbers self) result };
 }
 
 impl<A: Allocator> ToTimerValue<A> for u64 {
-    ghost timed = { λ n. Some (natural n ∷ []) };
+    ghost numbers = { λ n. Some (natural n ∷ []) };
 
     #[inline]
     fn try_to_value(self) -> MetricResult<MetricValue<A>>
@@ -34,7 +34,7 @@ impl<A: Allocator> ToTimerValue<A> for u64 {
 }
 
 impl<A: Allocator> ToTimerValue<A> for Vec<u64, A> {
-    ghost timed = { λ v. Some (map natural v.items) };
+    ghost numbers = { λ v. Some (map natural v.items) };
 
     #[inline]
     fn try_to_value(self) -> MetricResult<MetricValue<A>>
@@ -46,7 +46,7 @@ impl<A: Allocator> ToTimerValue<A> for Vec<u64, A> {
 
 /// The whole milliseconds, cut off. Refused with the text `u64 overflow` exactly where they pass `u64::MAX`.
 impl<A: Allocator> ToTimerValue<A> for Duration {
-    ghost timed = { λ d. numbers_in_u64 (millis_of d ∷ []) };
+    ghost numbers = { λ d. numbers_in_u64 (millis_of d ∷ []) };
 
     #[inline]
     fn try_to_value(self) -> MetricResult<MetricValue<A>>
@@ -59,9 +59,18 @@ impl<A: Allocator> ToTimerValue<A> for Duration {
 /// The whole milliseconds, cut off. Refused with the text `u64 overflow` exactly where one of them passes `u64::MAX`, and
 /// else answers want of memory where the list's one growth is refused.
 impl<A: Allocator + Clone> ToTimerValue<A> for Vec<Duration, A> {
-    ghost timed = { λ v. numbers_in_u64 (map millis_of v.items) };
+    ghost numbers = { λ v. numbers_in_u64 (map millis_of v.items) };
 
     fn try_to_value(self) -> MetricResult<MetricValue<A>> {
         numbers_in(TimeUnit::Millisecond, &self)
+    }
+}
+
+/// As a list that is handed over. The list is lent, so it is converted without a copy.
+impl<A: Allocator + Clone> ToTimerValue<A> for &Vec<Duration, A> {
+    ghost numbers = { λ v. numbers_in_u64 (map millis_of v.now.items) };
+
+    fn try_to_value(self) -> MetricResult<MetricValue<A>> {
+        numbers_in(TimeUnit::Millisecond, self)
     }
 }

@@ -10,12 +10,12 @@ use crate::line::window::{WINDOW, Window};
 use std::alloc::Allocator;
 
 // What a window shows of a record's line.
-fn window_of<A: Allocator>(record: &Record<'_, A>, skip: u128) -> Window
-    ensures shown { window_text result ≡ take 512 (drop skip (line_of record.now)) }
-    ensures sized { IsRecordMetric record.now }
+fn window_of<A: Allocator>(metric: &Record<'_, A>, skip: u128) -> Window
+    ensures shown { window_text result ≡ take 512 (drop skip (line_of metric.now)) }
+    ensures sized { IsRecordMetric metric.now }
 {
     let mut window = Window::after(skip);
-    match record.push_line(&mut window) {
+    match metric.push_line(&mut window) {
         Ok(()) => window,
         Err(never) => match never {},
     }
@@ -27,7 +27,8 @@ impl<'a, A: Allocator> Record<'a, A> {
     /// Lines of up to 512 bytes are made once each, piece by piece, and longer ones once for each 512 bytes.
     pub fn same_line<B: Allocator>(&self, other: &Record<'_, B>) -> bool
         ensures lines { IsTrue result ↔ (line_of self.now ≡ line_of other.now) }
-        ensures metrics { IsFreeOfSeparators self.now → IsFreeOfSeparators other.now → (IsTrue result ↔ (self.now ≡ other.now)) }
+        ensures metrics { IsFreeOfSeparators self.now → IsFreeOfSeparators other.now →
+            (IsTrue result ↔ (self.now ≡ other.now)) }
     {
         let mut skip = 0;
         loop {
