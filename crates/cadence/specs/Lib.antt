@@ -1,2 +1,3 @@
+pub mod Metrics
 pub mod Sending
 pub mod Shown

@@ -9,7 +9,7 @@ use Rattle.cadence_errors.specs.Errors.{IsInvalid, out_of_memory}
 use Rattle.cadence_text.specs.Line.{line_of}
 use Rattle.cadence_text.specs.Metric.{Metric}
 use Rattle.cadence_text.specs.Number.{Number}
-use Rattle.cadence_schedule.specs.Call.{Choice, MetricCall, chosen, metric_of_call, plain_call, with_choice}
+use Rattle.cadence_schedule.specs.Call.{Choice, MakesMetric, MetricCall, chosen, metric_of_call, plain_call, with_choice}
 use Rattle.cadence_schedule.specs.Settings.{Settings}
 
 -- which answers of a sink a text may get
@@ -44,6 +44,16 @@ abbrev pub SentCall : {M : Type 0} → Answers → (List ℕ → M → Type 0) �
 SentCall may made (Some m) r = Sent may made (line_of m) r
 SentCall may made None (Ok m) = ⊥
 SentCall may made None (Err e) = IsInvalid e
+
+-- what a plain call of this kind answers: an invalid input where its value has no numbers, else a metric that is the line
+-- of the call without options, where the sink may take just this line; or want of memory; or what the sink refused it with
+abbrev pub SendsPlain : Settings → Answers → MetricType → List ℕ → Option (List Number) → Result (List ℕ) MetricError → Type 0
+SendsPlain settings may kind key numbers result = SentCall may IsText (plain_metric_of settings kind key numbers) result
+
+-- what a builder of this kind begins with: the metric of the call without options, or want of memory; an invalid input where
+-- its value has no numbers
+abbrev pub StartsPlain : Settings → MetricType → List ℕ → Option (List Number) → Result Metric MetricError → Type 0
+StartsPlain settings kind key numbers pending = MakesMetric (plain_metric_of settings kind key numbers) pending
 
 -- what a builder holds after an option that takes no memory: a held error stays
 abbrev pub Chooses : Result Metric MetricError → Choice → Result Metric MetricError → Type 0

@@ -7,7 +7,7 @@ use Rattle.cadence_text.specs.Metric.{Metric}
 use Rattle.cadence.specs.declared.client.builder.MetricBuilder.{MetricBuilder}
 use Rattle.cadence.specs.declared.client.statsd_client.StatsdClient.{StatsdClient}
 use Rattle.cadence.specs.declared.client.client_builder.StatsdClientBuilder.{StatsdClientBuilder}
-use Rattle.cadence_schedule.specs.Settings.{Settings}
+use Rattle.cadence_schedule.specs.Settings.{Settings, Changes}
 
 module _ {T C Z : Type 0} where
   -- what a builder of a metric holds: the metric so far, or an error
@@ -39,8 +39,9 @@ module _ {Z X Y : Type 0} {F : X → Type 0} {G : Y → Type 0} {g : _} where
   abbrev pub handler_of_builder : StatsdClientBuilder Z X Y F G g → Option (DynBox Y Z G)
   handler_of_builder b = option_map (λ h. h.call) b.handler
 
-  -- the builder keeps its sink and its handler
-  pub record KeepsSinkAndHandler (old new : StatsdClientBuilder Z X Y F G g) : Type 0 where
+  -- the builder has a default more, unless a growth was refused, and keeps its sink and its handler
+  pub record AddsDefault (change : Settings → Settings) (old new : StatsdClientBuilder Z X Y F G g) : Type 0 where
+    pub settings : Changes (settings_of_builder old) change (settings_of_builder new)
     pub sink : sink_of_builder new ≡ sink_of_builder old
     pub handler : handler_of_builder new ≡ handler_of_builder old
 

@@ -5,9 +5,9 @@ mod builder;
 mod client_builder;
 mod handler;
 mod metric_client;
-mod metrics;
 mod pending;
 mod statsd_client;
+mod traits;
 
 pub use backend::MetricBackend;
 pub use builder::MetricBuilder;
@@ -15,5 +15,5 @@ pub use cadence_schedule::ClientSettings;
 pub use client_builder::StatsdClientBuilder;
 pub use handler::BoxedHandler;
 pub use metric_client::MetricClient;
-pub use metrics::{Counted, CountedExt, Distributed, Gauged, Histogrammed, Metered, Setted, Timed};
 pub use statsd_client::{BoxedSink, StatsdClient};
+pub use traits::{Counted, CountedExt, Distributed, Gauged, Histogrammed, Metered, Setted, Timed};

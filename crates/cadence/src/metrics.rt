@@ -1,6 +1,7 @@
 //! The metrics of each kind, as the text of one line.
-ghost use Rattle.std.specs.Prelude.{◌≡◌, ◌↔◌, ◌++◌, ◌∷◌, [], ℕ, List, IfOk, IfErr, IsTrue};
-ghost use Rattle.cadence_errors.specs.Errors.{out_of_memory};
+ghost use Rattle.std.specs.Prelude.{◌≡◌, ◌↔◌, ◌++◌, ℕ, List, IsTrue};
+ghost use Rattle.cadence_errors.specs.Errors.{Makes};
+ghost use Rattle.cadence.specs.Metrics.{MakesLine};
 ghost use Rattle.cadence_text.specs.Line.{line_of};
 ghost use Rattle.cadence_text.specs.Metric.{plain_metric};
 ghost use Rattle.cadence_text.specs.Number.{Number, natural, whole};
@@ -42,28 +43,83 @@ impl<K, A: Allocator> Model for MetricText<K, A> {
     ghost view = { λ m. string_bytes m.line };
 }
 
+/// A kind of metrics, as a parameter of a `MetricText`. The markers of `kinds` have it.
+pub trait Kind {
+    ghost use Rattle.cadence_text.specs.declared.line.MetricType.{MetricType};
+
+    ghost TYPE: { MetricType };
+
+    /// The kind.
+    const TYPE: MetricType;
+}
+
 /// The kinds of metrics, as parameters of a `MetricText`. No value is of these types.
 pub mod kinds {
+    use super::Kind;
+    use cadence_text::line::MetricType;
+
     #[derive(Drop)]
     pub enum Counter {}
+
+    impl Kind for Counter {
+        ghost TYPE = { kind.Counter };
+
+        const TYPE: MetricType = MetricType::Counter;
+    }
 
     #[derive(Drop)]
     pub enum Timer {}
 
+    impl Kind for Timer {
+        ghost TYPE = { kind.Timer };
+
+        const TYPE: MetricType = MetricType::Timer;
+    }
+
     #[derive(Drop)]
     pub enum Gauge {}
+
+    impl Kind for Gauge {
+        ghost TYPE = { kind.Gauge };
+
+        const TYPE: MetricType = MetricType::Gauge;
+    }
 
     #[derive(Drop)]
     pub enum Meter {}
 
+    impl Kind for Meter {
+        ghost TYPE = { kind.Meter };
+
+        const TYPE: MetricType = MetricType::Meter;
+    }
+
     #[derive(Drop)]
     pub enum Histogram {}
+
+    impl Kind for Histogram {
+        ghost TYPE = { kind.Histogram };
+
+        const TYPE: MetricType = MetricType::Histogram;
+    }
 
     #[derive(Drop)]
     pub enum Distribution {}
 
+    impl Kind for Distribution {
+        ghost TYPE = { kind.Distribution };
+
+        const TYPE: MetricType = MetricType::Distribution;
+    }
+
     #[derive(Drop)]
     pub enum Set {}
+
+    impl Kind for Set {
+        ghost TYPE = { kind.Set };
+
+        const TYPE: MetricType = MetricType::Set;
+    }
 }
 
 /// A count of events. Its type text is `c`.
@@ -87,117 +143,71 @@ pub type Distribution<A = Global> = MetricText<kinds::Distribution, A>;
 /// A value of which the server counts how many different ones came. Its type text is `s`.
 pub type Set<A = Global> = MetricText<kinds::Set, A>;
 
-impl<K, A: Allocator + Clone> MetricText<K, A> {
+impl<K: Kind, A: Allocator + Clone> MetricText<K, A> {
     // The line of a metric without rate, tags, container and time.
     fn plain(
         alloc: A,
         prefix: &str,
         key: &str,
-        kind: MetricType,
         value: MetricValue<A>,
     ) -> MetricResult<MetricText<K, A>>
-        ensures line { IfOk result (λ text. text ≡ line_of (plain_metric (prefix.now ++ key.now) (numbers_of value) kind)) }
-        ensures refused { IfErr result (λ e. e ≡ out_of_memory) }
+        ensures { Makes (line_of (plain_metric (prefix.now ++ key.now) (numbers_of value) K.TYPE))
+            result }
     {
-        let record = Record::new(alloc.clone()?, prefix, key, kind, value);
-        Ok(MetricText {
-            line: record.format(alloc)?,
-            kind: PhantomData,
-        })
+        let record = Record::new(alloc.clone()?, prefix, key, K::TYPE, value);
+        Ok(MetricText::from(record.format(alloc)?))
     }
 }
 
 impl<A: Allocator + Clone> Counter<A> {
     /// The line of one number, with the prefix as it stands. Refuses with `SinkError::OutOfMemory` alone.
     pub fn new(alloc: A, prefix: &str, key: &str, count: i64) -> MetricResult<Counter<A>>
-        ensures line { IfOk result (λ text. text ≡ line_of (plain_metric (prefix.now ++ key.now) (whole count ∷ []) kind.Counter)) }
-        ensures refused { IfErr result (λ e. e ≡ out_of_memory) }
+        ensures { MakesLine kind.Counter prefix.now key.now (whole count) result }
     {
-        Counter::plain(
-            alloc,
-            prefix,
-            key,
-            MetricType::Counter,
-            MetricValue::Signed(count),
-        )
+        Counter::plain(alloc, prefix, key, MetricValue::Signed(count))
     }
 }
 
 impl<A: Allocator + Clone> Timer<A> {
     /// The line of one number, with the prefix as it stands. Refuses with `SinkError::OutOfMemory` alone.
     pub fn new(alloc: A, prefix: &str, key: &str, milliseconds: u64) -> MetricResult<Timer<A>>
-        ensures line { IfOk result (λ text. text ≡ line_of (plain_metric (prefix.now ++ key.now) (natural milliseconds ∷ []) kind.Timer)) }
-        ensures refused { IfErr result (λ e. e ≡ out_of_memory) }
+        ensures { MakesLine kind.Timer prefix.now key.now (natural milliseconds) result }
     {
-        Timer::plain(
-            alloc,
-            prefix,
-            key,
-            MetricType::Timer,
-            MetricValue::Unsigned(milliseconds),
-        )
+        Timer::plain(alloc, prefix, key, MetricValue::Unsigned(milliseconds))
     }
 }
 
 impl<A: Allocator + Clone> Gauge<A> {
     /// The line of one number, with the prefix as it stands. Refuses with `SinkError::OutOfMemory` alone.
     pub fn new(alloc: A, prefix: &str, key: &str, value: u64) -> MetricResult<Gauge<A>>
-        ensures line { IfOk result (λ text. text ≡ line_of (plain_metric (prefix.now ++ key.now) (natural value ∷ []) kind.Gauge)) }
-        ensures refused { IfErr result (λ e. e ≡ out_of_memory) }
+        ensures { MakesLine kind.Gauge prefix.now key.now (natural value) result }
     {
-        Gauge::plain(
-            alloc,
-            prefix,
-            key,
-            MetricType::Gauge,
-            MetricValue::Unsigned(value),
-        )
+        Gauge::plain(alloc, prefix, key, MetricValue::Unsigned(value))
     }
 
     /// The line of one decimal, with the prefix as it stands. Refuses with `SinkError::OutOfMemory` alone.
     pub fn new_decimal(alloc: A, prefix: &str, key: &str, value: Decimal) -> MetricResult<Gauge<A>>
-        ensures line { IfOk result (λ text. text ≡ line_of (plain_metric (prefix.now ++ key.now) (value ∷ []) kind.Gauge)) }
-        ensures refused { IfErr result (λ e. e ≡ out_of_memory) }
+        ensures { MakesLine kind.Gauge prefix.now key.now (value) result }
     {
-        Gauge::plain(
-            alloc,
-            prefix,
-            key,
-            MetricType::Gauge,
-            MetricValue::Decimal(value),
-        )
+        Gauge::plain(alloc, prefix, key, MetricValue::Decimal(value))
     }
 }
 
 impl<A: Allocator + Clone> Meter<A> {
     /// The line of one number, with the prefix as it stands. Refuses with `SinkError::OutOfMemory` alone.
     pub fn new(alloc: A, prefix: &str, key: &str, marks: u64) -> MetricResult<Meter<A>>
-        ensures line { IfOk result (λ text. text ≡ line_of (plain_metric (prefix.now ++ key.now) (natural marks ∷ []) kind.Meter)) }
-        ensures refused { IfErr result (λ e. e ≡ out_of_memory) }
+        ensures { MakesLine kind.Meter prefix.now key.now (natural marks) result }
     {
-        Meter::plain(
-            alloc,
-            prefix,
-            key,
-            MetricType::Meter,
-            MetricValue::Unsigned(marks),
-        )
+        Meter::plain(alloc, prefix, key, MetricValue::Unsigned(marks))
     }
 }
 
 impl<A: Allocator + Clone> Histogram<A> {
     /// The line of one number, with the prefix as it stands. Refuses with `SinkError::OutOfMemory` alone.
     pub fn new(alloc: A, prefix: &str, key: &str, sample: u64) -> MetricResult<Histogram<A>>
-        ensures line { IfOk result (λ text. text ≡ line_of (plain_metric (prefix.now ++ key.now) (natural sample ∷ []) kind.Histogram)) }
-        ensures refused { IfErr result (λ e. e ≡ out_of_memory) }
+        ensures { MakesLine kind.Histogram prefix.now key.now (natural sample) result }
     {
-        Histogram::plain(
-            alloc,
-            prefix,
-            key,
-            MetricType::Histogram,
-            MetricValue::Unsigned(sample),
-        )
+        Histogram::plain(alloc, prefix, key, MetricValue::Unsigned(sample))
     }
 
     /// The line of one decimal, with the prefix as it stands. Refuses with `SinkError::OutOfMemory` alone.
@@ -207,32 +217,18 @@ impl<A: Allocator + Clone> Histogram<A> {
         key: &str,
         sample: Decimal,
     ) -> MetricResult<Histogram<A>>
-        ensures line { IfOk result (λ text. text ≡ line_of (plain_metric (prefix.now ++ key.now) (sample ∷ []) kind.Histogram)) }
-        ensures refused { IfErr result (λ e. e ≡ out_of_memory) }
+        ensures { MakesLine kind.Histogram prefix.now key.now (sample) result }
     {
-        Histogram::plain(
-            alloc,
-            prefix,
-            key,
-            MetricType::Histogram,
-            MetricValue::Decimal(sample),
-        )
+        Histogram::plain(alloc, prefix, key, MetricValue::Decimal(sample))
     }
 }
 
 impl<A: Allocator + Clone> Distribution<A> {
     /// The line of one number, with the prefix as it stands. Refuses with `SinkError::OutOfMemory` alone.
     pub fn new(alloc: A, prefix: &str, key: &str, observation: u64) -> MetricResult<Distribution<A>>
-        ensures line { IfOk result (λ text. text ≡ line_of (plain_metric (prefix.now ++ key.now) (natural observation ∷ []) kind.Distribution)) }
-        ensures refused { IfErr result (λ e. e ≡ out_of_memory) }
+        ensures { MakesLine kind.Distribution prefix.now key.now (natural observation) result }
     {
-        Distribution::plain(
-            alloc,
-            prefix,
-            key,
-            MetricType::Distribution,
-            MetricValue::Unsigned(observation),
-        )
+        Distribution::plain(alloc, prefix, key, MetricValue::Unsigned(observation))
     }
 
     /// The line of one decimal, with the prefix as it stands. Refuses with `SinkError::OutOfMemory` alone.
@@ -242,32 +238,18 @@ impl<A: Allocator + Clone> Distribution<A> {
         key: &str,
         observation: Decimal,
     ) -> MetricResult<Distribution<A>>
-        ensures line { IfOk result (λ text. text ≡ line_of (plain_metric (prefix.now ++ key.now) (observation ∷ []) kind.Distribution)) }
-        ensures refused { IfErr result (λ e. e ≡ out_of_memory) }
+        ensures { MakesLine kind.Distribution prefix.now key.now (observation) result }
     {
-        Distribution::plain(
-            alloc,
-            prefix,
-            key,
-            MetricType::Distribution,
-            MetricValue::Decimal(observation),
-        )
+        Distribution::plain(alloc, prefix, key, MetricValue::Decimal(observation))
     }
 }
 
 impl<A: Allocator + Clone> Set<A> {
     /// The line of one number, with the prefix as it stands. Refuses with `SinkError::OutOfMemory` alone.
     pub fn new(alloc: A, prefix: &str, key: &str, member: i64) -> MetricResult<Set<A>>
-        ensures line { IfOk result (λ text. text ≡ line_of (plain_metric (prefix.now ++ key.now) (whole member ∷ []) kind.Set)) }
-        ensures refused { IfErr result (λ e. e ≡ out_of_memory) }
+        ensures { MakesLine kind.Set prefix.now key.now (whole member) result }
     {
-        Set::plain(
-            alloc,
-            prefix,
-            key,
-            MetricType::Set,
-            MetricValue::Signed(member),
-        )
+        Set::plain(alloc, prefix, key, MetricValue::Signed(member))
     }
 }
 

@@ -34,9 +34,10 @@ fn send_line<C: MetricBackend>(
     client: &C,
     metric: &Record<'_, C::Memory>,
 ) -> MetricResult<String<C::Memory>>
-    ensures { Sent (C.line_may_get client.now) (λ line text. string_bytes text ≡ line) (line_of metric.now) result }
+    ensures { Sent (C.line_may_get client.now) (λ line text. string_bytes text ≡ line)
+        (line_of metric.now) result }
 {
-    let text = pending::line(metric)?;
+    let text = metric.line(metric.allocator().clone()?)?;
     client.send_metric(&Line { text: &text })?;
     Ok(text)
 }
@@ -72,7 +73,8 @@ impl<'m, 'c, T: Metric + From<String<C::Memory>>, C: MetricBackend> MetricBuilde
     /// Adds a tag with a key, after the default tags and the earlier ones. Holds want of memory where the list of
     /// tags can't grow.
     pub fn with_tag(mut self, key: &'m str, value: &'m str) -> Self
-        ensures pending { ChoosesOrHolds (pending_of self.entry) (tagged (keyed key.now value.now)) (pending_of result) }
+        ensures pending { ChoosesOrHolds (pending_of self.entry)
+            (tagged (keyed key.now value.now)) (pending_of result) }
         ensures client { backend_of result ≡ backend_of self.entry }
     {
         let tag = Tag {
@@ -85,7 +87,8 @@ impl<'m, 'c, T: Metric + From<String<C::Memory>>, C: MetricBackend> MetricBuilde
 
     /// Adds a tag without a key, as `with_tag`.
     pub fn with_tag_value(mut self, value: &'m str) -> Self
-        ensures pending { ChoosesOrHolds (pending_of self.entry) (tagged (unkeyed value.now)) (pending_of result) }
+        ensures pending { ChoosesOrHolds (pending_of self.entry)
+            (tagged (unkeyed value.now)) (pending_of result) }
         ensures client { backend_of result ≡ backend_of self.entry }
     {
         let tag = Tag {
@@ -98,7 +101,8 @@ impl<'m, 'c, T: Metric + From<String<C::Memory>>, C: MetricBackend> MetricBuilde
 
     /// Sets the container, in the place of the default one or an earlier one.
     pub fn with_container_id(mut self, container_id: &'m str) -> Self
-        ensures pending { Chooses (pending_of self.entry) (contained container_id.now) (pending_of result) }
+        ensures pending { Chooses (pending_of self.entry)
+            (contained container_id.now) (pending_of result) }
         ensures client { backend_of result ≡ backend_of self.entry }
     {
         pending::set_container(&mut self.record, container_id);
@@ -130,8 +134,8 @@ impl<'m, 'c, T: Metric + From<String<C::Memory>>, C: MetricBackend> MetricBuilde
     /// kind `OutOfMemory` where a growth was refused. Else refuses with kind `OutOfMemory` where there is no room for
     /// the line, or with what the sink refuses the line with.
     pub fn try_send(self) -> MetricResult<T>
-        ensures answers { SentPending (C.line_may_get (backend_of self.entry)) (MadeFrom T.from_gives)
-            (pending_of self.entry) result }
+        ensures answers { SentPending (C.line_may_get (backend_of self.entry))
+            (MadeFrom T.from_gives) (pending_of self.entry) result }
         ensures line { HasLine (MadeFrom T.from_gives) (pending_of self.entry) result }
     {
         let Ok(metric) = &self.record else {

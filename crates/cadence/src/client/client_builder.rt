@@ -1,7 +1,7 @@
 //! The builder of a client.
-ghost use Rattle.std.specs.Prelude.{◌≡◌, Some, None, IfOk, IfErr};
+ghost use Rattle.std.specs.Prelude.{◌≡◌, Some, None, IfOk, OnErr};
 ghost use Rattle.std.specs.Option.{option_copied};
-ghost use Rattle.cadence_errors.specs.Errors.{out_of_memory};
+ghost use Rattle.cadence_errors.specs.Errors.{OnlyWantsMemory};
 ghost use Rattle.cadence_schedule.specs.Settings.{Changes, keyed, unkeyed, with_default_tag, with_default_container};
 
 use crate::client::handler::ErrorHandler;
@@ -24,8 +24,8 @@ fn with_tag<A: Allocator + Clone>(
     key: Option<&str>,
     text: &str,
 ) -> Option<ClientSettings<A>>
-    ensures { Changes settings (λ s. with_default_tag s (record { key = option_copied key.entry; text = text.now }))
-        result }
+    ensures { Changes settings (λ s.
+        with_default_tag s (record { key = option_copied key.entry; text = text.now })) result }
 {
     let mut settings = settings?;
     match settings.add_tag(key, text) {
@@ -48,86 +48,49 @@ fn with_container<A: Allocator + Clone>(
 }
 
 impl<A: Allocator + Clone> StatsdClientBuilder<A> {
-    ghost use Rattle.cadence.specs.Shown.{settings_of_builder, sink_of_builder, handler_of_builder, KeepsSinkAndHandler, IsBuiltFrom};
+    ghost use Rattle.cadence.specs.Shown.{settings_of_builder, sink_of_builder, handler_of_builder, AddsDefault, IsBuiltFrom};
 
     /// Sets the handler of the errors that `send` and `consume_error` meet, in the place of an earlier one.
-    pub fn with_error_handler(self, handler: Box<dyn Fn(MetricError) + Send + Sync, A>) -> Self
+    pub fn with_error_handler(mut self, handler: Box<dyn Fn(MetricError) + Send + Sync, A>) -> Self
         requires { IsAlwaysCallable handler }
         ensures handler { handler_of_builder result ≡ Some handler }
         ensures settings { settings_of_builder result ≡ settings_of_builder self }
         ensures sink { sink_of_builder result ≡ sink_of_builder self }
     {
-        let StatsdClientBuilder {
-            settings,
-            sink,
-            handler: _,
-        } = self;
-        StatsdClientBuilder {
-            settings,
-            sink,
-            handler: Some(ErrorHandler { call: handler }),
-        }
+        self.handler = Some(ErrorHandler { call: handler });
+        self
     }
 
     /// Adds a default tag with a key, after the others.
-    pub fn with_tag(self, key: &str, value: &str) -> Self
-        ensures settings { Changes (settings_of_builder self) (λ s. with_default_tag s (keyed key.now value.now))
-            (settings_of_builder result) }
-        ensures rest { KeepsSinkAndHandler self result }
+    pub fn with_tag(mut self, key: &str, value: &str) -> Self
+        ensures { AddsDefault (λ s. with_default_tag s (keyed key.now value.now)) self result }
     {
-        let StatsdClientBuilder {
-            settings,
-            sink,
-            handler,
-        } = self;
-        StatsdClientBuilder {
-            settings: with_tag(settings, Some(key), value),
-            sink,
-            handler,
-        }
+        self.settings = with_tag(self.settings, Some(key), value);
+        self
     }
 
     /// Adds a default tag without a key, after the others.
-    pub fn with_tag_value(self, value: &str) -> Self
-        ensures settings { Changes (settings_of_builder self) (λ s. with_default_tag s (unkeyed value.now))
-            (settings_of_builder result) }
-        ensures rest { KeepsSinkAndHandler self result }
+    pub fn with_tag_value(mut self, value: &str) -> Self
+        ensures { AddsDefault (λ s. with_default_tag s (unkeyed value.now)) self result }
     {
-        let StatsdClientBuilder {
-            settings,
-            sink,
-            handler,
-        } = self;
-        StatsdClientBuilder {
-            settings: with_tag(settings, None, value),
-            sink,
-            handler,
-        }
+        self.settings = with_tag(self.settings, None, value);
+        self
     }
 
     /// Sets the default container, in the place of an earlier one.
-    pub fn with_container_id(self, container_id: &str) -> Self
-        ensures settings { Changes (settings_of_builder self) (λ s. with_default_container s container_id.now)
-            (settings_of_builder result) }
-        ensures rest { KeepsSinkAndHandler self result }
+    pub fn with_container_id(mut self, container_id: &str) -> Self
+        ensures { AddsDefault (λ s. with_default_container s container_id.now) self result }
     {
-        let StatsdClientBuilder {
-            settings,
-            sink,
-            handler,
-        } = self;
-        StatsdClientBuilder {
-            settings: with_container(settings, container_id),
-            sink,
-            handler,
-        }
+        self.settings = with_container(self.settings, container_id);
+        self
     }
 
     /// Makes the client. Refuses with kind `OutOfMemory` alone, exactly where a growth was refused so far; the sink
     /// and the handler are dropped then.
     pub fn build(self) -> MetricResult<StatsdClient<A>>
         ensures ok { IfOk result (IsBuiltFrom self) }
-        ensures refused { IfErr result (λ e. (e ≡ out_of_memory) × (settings_of_builder self ≡ None)) }
+        ensures refused { OnlyWantsMemory result }
+        ensures missing { OnErr result (settings_of_builder self ≡ None) }
     {
         let StatsdClientBuilder {
             settings,

@@ -1,7 +1,7 @@
 //! All metrics as one bound.
 
 use crate::client::backend::MetricBackend;
-use crate::client::metrics::{
+use crate::client::traits::{
     Counted, CountedExt, Distributed, Gauged, Histogrammed, Metered, Setted, Timed,
 };
 use cadence_text::decimal::Decimal;

@@ -1,11 +1,10 @@
 //! The record that a builder holds, or the error in its place.
-ghost use Rattle.std.specs.Prelude.{◌≡◌, Err, IfOk, string_bytes};
+ghost use Rattle.std.specs.Prelude.{◌≡◌, Err};
 ghost use Rattle.cadence_errors.specs.Errors.{out_of_memory};
-ghost use Rattle.cadence_text.specs.Line.{line_of};
 ghost use Rattle.cadence_text.specs.Record.{tag_of};
 ghost use Rattle.cadence_text.specs.Values.{Converts};
-ghost use Rattle.cadence_schedule.specs.Call.{tagged, contained, timed, rated, MakesMetric};
-ghost use Rattle.cadence.specs.Sending.{Chooses, ChoosesOrHolds, plain_metric_of};
+ghost use Rattle.cadence_schedule.specs.Call.{tagged, contained, timed, rated};
+ghost use Rattle.cadence.specs.Sending.{Chooses, ChoosesOrHolds, StartsPlain};
 
 use cadence_errors::{MetricError, MetricResult};
 use cadence_schedule::ClientSettings;
@@ -22,7 +21,8 @@ pub(crate) fn start<'a, A: Allocator + Clone>(
     kind: MetricType,
     value: MetricResult<MetricValue<A>>,
 ) -> MetricResult<Record<'a, A>>
-    ensures { (numbers : _) → Converts numbers value → MakesMetric (plain_metric_of settings.now kind key.now numbers) result }
+    ensures { (numbers : _) → Converts numbers value →
+        StartsPlain settings.now kind key.now numbers result }
 {
     settings.record(key, kind, value?)
 }
@@ -80,12 +80,4 @@ pub(crate) fn set_rate<A: Allocator>(pending: &mut MetricResult<Record<'_, A>>, 
     if let Ok(metric) = pending {
         metric.set_rate(rate);
     }
-}
-
-// The line of the record.
-#[inline]
-pub(crate) fn line<A: Allocator + Clone>(metric: &Record<'_, A>) -> Result<String<A>, AllocError>
-    ensures { IfOk result (λ text. string_bytes text ≡ line_of metric.now) }
-{
-    metric.line(metric.allocator().clone()?)
 }

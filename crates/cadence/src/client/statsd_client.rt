@@ -1,21 +1,20 @@
 //! The client.
-ghost use Rattle.std.specs.Prelude.{◌≡◌, None, IfOk, IfErr};
-ghost use Rattle.cadence_errors.specs.Errors.{out_of_memory};
-ghost use Rattle.cadence_text.specs.Line.{line_of};
+ghost use Rattle.std.specs.Prelude.{◌≡◌, None, Some, IfOk};
+ghost use Rattle.cadence_errors.specs.Errors.{OnlyWantsMemory};
 ghost use Rattle.cadence_text.specs.Values.{Converts, numbers_of};
-ghost use Rattle.cadence_schedule.specs.Call.{metric_of_call, plain_call};
-ghost use Rattle.cadence.specs.Sending.{Flushed, IsText, Sent, SentCall, plain_metric_of};
+ghost use Rattle.cadence.specs.Sending.{Flushed, SendsPlain, StartsPlain};
 ghost use Rattle.cadence_schedule.specs.Settings.{settings_of};
 
 use crate::client::backend::MetricBackend;
+use crate::client::builder::MetricBuilder;
 use crate::client::client_builder::StatsdClientBuilder;
 use crate::client::handler::ErrorHandler;
-use crate::metrics::{Metric, MetricText};
+use crate::client::pending;
+use crate::metrics::{Kind, Metric, MetricText};
 use crate::sealed::Sealed;
 use cadence_errors::{MetricError, MetricResult};
 use cadence_schedule::ClientSettings;
 use cadence_sinks::MetricSink;
-use cadence_text::line::MetricType;
 use cadence_text::value::MetricValue;
 use std::alloc::{Allocator, Global};
 
@@ -31,7 +30,7 @@ pub struct StatsdClient<A: Allocator = Global> {
 }
 
 impl<A: Allocator + Clone> StatsdClient<A> {
-    ghost use Rattle.cadence.specs.Shown.{settings_of_client, sink_of_client, handler_of_client, settings_of_builder, sink_of_builder, handler_of_builder};
+    ghost use Rattle.cadence.specs.Shown.{backend_of, pending_of, settings_of_client, sink_of_client, handler_of_client, settings_of_builder, sink_of_builder, handler_of_builder};
     ghost use Rattle.cadence_schedule.specs.Settings.{Changes};
     ghost use Rattle.std.specs.Prelude.{IfSome};
 
@@ -45,7 +44,7 @@ impl<A: Allocator + Clone> StatsdClient<A> {
         ensures settings { IfOk result (λ c. settings_of_client c ≡ settings_of prefix.now) }
         ensures sink { IfOk result (λ c. sink_of_client c ≡ sink) }
         ensures handler { IfOk result (λ c. handler_of_client c ≡ None) }
-        ensures refused { IfErr result (λ e. e ≡ out_of_memory) }
+        ensures refused { OnlyWantsMemory result }
     {
         StatsdClient::builder(alloc, prefix, sink).build()
     }
@@ -78,32 +77,45 @@ impl<A: Allocator + Clone> StatsdClient<A> {
     }
 
     // Sends the line of a call without options.
-    fn send_value<K>(
+    fn send_value<K: Kind>(
         &self,
         key: &str,
-        kind: MetricType,
         value: MetricValue<A>,
     ) -> MetricResult<MetricText<K, A>>
-        ensures { Sent (may_answer (sink_of_client self.now)) IsText
-            (line_of (metric_of_call (settings_of_client self.now) (plain_call kind key.now (numbers_of value)))) result }
+        ensures { SendsPlain (settings_of_client self.now) (may_answer (sink_of_client self.now))
+            K.TYPE key.now (Some (numbers_of value)) result }
     {
-        let text = self.settings.line(key, kind, value)?;
+        let text = self.settings.line(key, K::TYPE, value)?;
         self.sink.emit(&text)?;
         Ok(MetricText::from(text))
     }
 
     // Sends the line of a call without options, whose value was converted. No builder is made for it.
     #[inline]
-    pub(crate) fn send_plain<K>(
+    pub(crate) fn send_plain<K: Kind>(
         &self,
         key: &str,
-        kind: MetricType,
         value: MetricResult<MetricValue<A>>,
     ) -> MetricResult<MetricText<K, A>>
-        ensures { (numbers : _) → Converts numbers value → SentCall (may_answer (sink_of_client self.now)) IsText
-            (plain_metric_of (settings_of_client self.now) kind key.now numbers) result }
+        ensures { (numbers : _) → Converts numbers value →
+            SendsPlain (settings_of_client self.now) (may_answer (sink_of_client self.now))
+            K.TYPE key.now numbers result }
     {
-        self.send_value(key, kind, value?)
+        self.send_value(key, value?)
+    }
+
+    // A builder of a call without options, whose value was converted.
+    #[inline]
+    pub(crate) fn start_plain<'a, K: Kind>(
+        &'a self,
+        key: &'a str,
+        value: MetricResult<MetricValue<A>>,
+    ) -> MetricBuilder<'a, 'a, MetricText<K, A>, StatsdClient<A>>
+        ensures pending { (numbers : _) → Converts numbers value →
+            StartsPlain (settings_of_client self.now) K.TYPE key.now numbers (pending_of result) }
+        ensures client { backend_of result ≡ self.now }
+    {
+        MetricBuilder::new(self, pending::start(&self.settings, key, K::TYPE, value))
     }
 }
 

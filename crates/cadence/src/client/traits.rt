@@ -2,7 +2,6 @@
 
 use crate::client::backend::MetricBackend;
 use crate::client::builder::MetricBuilder;
-use crate::client::pending;
 use crate::client::statsd_client::StatsdClient;
 use crate::metrics::{Counter, Distribution, Gauge, Histogram, Meter, Set, Timer};
 use cadence_errors::MetricResult;
@@ -13,17 +12,19 @@ use cadence_text::value::{
 };
 use std::alloc::Allocator;
 
-/// Counts things that happened, as in cadence. A server adds the counts up.
+/// Counts things that happened. A server adds the counts up.
 pub trait Counted<T: ToCounterValue<Self::Memory>>: MetricBackend {
     ghost use Rattle.std.specs.Prelude.{◌≡◌};
-    ghost use Rattle.cadence_schedule.specs.Call.{MakesMetric};
-    ghost use Rattle.cadence.specs.Sending.{IsText, SentCall, plain_metric_of};
-    ghost use Rattle.cadence.specs.Shown.{pending_of, backend_of};
+    ghost use Rattle.cadence.specs.Sending.{SendsPlain, StartsPlain};
+    ghost use Rattle.cadence.specs.Shown.{backend_of, pending_of};
 
     /// Adds to a counter: `count_with_tags` and then `try_send`.
     fn count(&self, key: &str, value: T) -> MetricResult<Counter<Self::Memory>>
-        ensures { SentCall (Self.line_may_get self.now) IsText
-            (plain_metric_of (Self.settings self.now) MetricType.Counter key.now (T.counted value)) result };
+        ensures { SendsPlain (Self.settings self.now) (Self.line_may_get self.now)
+            MetricType.Counter key.now (T.numbers value) result }
+    {
+        self.count_with_tags(key, value).try_send()
+    }
 
     /// The same, to be sent with tags and other options of its own.
     fn count_with_tags<'a>(
@@ -31,15 +32,15 @@ pub trait Counted<T: ToCounterValue<Self::Memory>>: MetricBackend {
         key: &'a str,
         value: T,
     ) -> MetricBuilder<'a, 'a, Counter<Self::Memory>, Self>
-        ensures pending { MakesMetric (plain_metric_of (Self.settings self.now) MetricType.Counter key.now (T.counted value))
-            (pending_of result) }
+        ensures pending { StartsPlain (Self.settings self.now)
+            MetricType.Counter key.now (T.numbers value) (pending_of result) }
         ensures client { backend_of result ≡ self.now };
 }
 
 impl<A: Allocator + Clone, T: ToCounterValue<A>> Counted<T> for StatsdClient<A> {
     #[inline]
     fn count(&self, key: &str, value: T) -> MetricResult<Counter<A>> {
-        self.send_plain(key, MetricType::Counter, value.try_to_value())
+        self.send_plain(key, value.try_to_value())
     }
 
     #[inline]
@@ -48,30 +49,21 @@ impl<A: Allocator + Clone, T: ToCounterValue<A>> Counted<T> for StatsdClient<A> 
         key: &'a str,
         value: T,
     ) -> MetricBuilder<'a, 'a, Counter<A>, StatsdClient<A>> {
-        MetricBuilder::new(
-            self,
-            pending::start(
-                &self.settings,
-                key,
-                MetricType::Counter,
-                value.try_to_value(),
-            ),
-        )
+        self.start_plain(key, value.try_to_value())
     }
 }
 
-/// Counts one up or down, as in cadence.
+/// Counts one up or down.
 pub trait CountedExt: Counted<i64> {
     ghost use Rattle.std.specs.Prelude.{◌≡◌, Some, ◌∷◌, [], pos, negsuc};
     ghost use Rattle.cadence_text.specs.Number.{whole};
-    ghost use Rattle.cadence_schedule.specs.Call.{MakesMetric};
-    ghost use Rattle.cadence.specs.Sending.{IsText, SentCall, plain_metric_of};
-    ghost use Rattle.cadence.specs.Shown.{pending_of, backend_of};
+    ghost use Rattle.cadence.specs.Sending.{SendsPlain, StartsPlain};
+    ghost use Rattle.cadence.specs.Shown.{backend_of, pending_of};
 
     /// Adds 1 to a counter: `incr_with_tags` and then `try_send`.
     fn incr(&self, key: &str) -> MetricResult<Counter<Self::Memory>>
-        ensures { SentCall (Self.line_may_get self.now) IsText
-            (plain_metric_of (Self.settings self.now) MetricType.Counter key.now (Some (whole (pos 1) ∷ []))) result }
+        ensures { SendsPlain (Self.settings self.now) (Self.line_may_get self.now)
+            MetricType.Counter key.now (Some (whole (pos 1) ∷ [])) result }
     {
         self.count(key, 1)
     }
@@ -81,8 +73,8 @@ pub trait CountedExt: Counted<i64> {
         &'a self,
         key: &'a str,
     ) -> MetricBuilder<'a, 'a, Counter<Self::Memory>, Self>
-        ensures pending { MakesMetric (plain_metric_of (Self.settings self.now) MetricType.Counter key.now (Some (whole (pos 1) ∷ [])))
-            (pending_of result) }
+        ensures pending { StartsPlain (Self.settings self.now)
+            MetricType.Counter key.now (Some (whole (pos 1) ∷ [])) (pending_of result) }
         ensures client { backend_of result ≡ self.now }
     {
         self.count_with_tags(key, 1)
@@ -90,8 +82,8 @@ pub trait CountedExt: Counted<i64> {
 
     /// Adds -1 to a counter: `decr_with_tags` and then `try_send`.
     fn decr(&self, key: &str) -> MetricResult<Counter<Self::Memory>>
-        ensures { SentCall (Self.line_may_get self.now) IsText
-            (plain_metric_of (Self.settings self.now) MetricType.Counter key.now (Some (whole (negsuc 0) ∷ []))) result }
+        ensures { SendsPlain (Self.settings self.now) (Self.line_may_get self.now)
+            MetricType.Counter key.now (Some (whole (negsuc 0) ∷ [])) result }
     {
         self.count(key, -1)
     }
@@ -101,8 +93,8 @@ pub trait CountedExt: Counted<i64> {
         &'a self,
         key: &'a str,
     ) -> MetricBuilder<'a, 'a, Counter<Self::Memory>, Self>
-        ensures pending { MakesMetric (plain_metric_of (Self.settings self.now) MetricType.Counter key.now (Some (whole (negsuc 0) ∷ [])))
-            (pending_of result) }
+        ensures pending { StartsPlain (Self.settings self.now)
+            MetricType.Counter key.now (Some (whole (negsuc 0) ∷ [])) (pending_of result) }
         ensures client { backend_of result ≡ self.now }
     {
         self.count_with_tags(key, -1)
@@ -111,17 +103,19 @@ pub trait CountedExt: Counted<i64> {
 
 impl<A: Allocator + Clone> CountedExt for StatsdClient<A> {}
 
-/// Tells how long things took, in milliseconds, as in cadence. A `Duration` is cut off to whole milliseconds.
+/// Tells how long things took, in milliseconds. A `Duration` is cut off to whole milliseconds.
 pub trait Timed<T: ToTimerValue<Self::Memory>>: MetricBackend {
     ghost use Rattle.std.specs.Prelude.{◌≡◌};
-    ghost use Rattle.cadence_schedule.specs.Call.{MakesMetric};
-    ghost use Rattle.cadence.specs.Sending.{IsText, SentCall, plain_metric_of};
-    ghost use Rattle.cadence.specs.Shown.{pending_of, backend_of};
+    ghost use Rattle.cadence.specs.Sending.{SendsPlain, StartsPlain};
+    ghost use Rattle.cadence.specs.Shown.{backend_of, pending_of};
 
     /// Tells a time, in milliseconds: `time_with_tags` and then `try_send`.
     fn time(&self, key: &str, value: T) -> MetricResult<Timer<Self::Memory>>
-        ensures { SentCall (Self.line_may_get self.now) IsText
-            (plain_metric_of (Self.settings self.now) MetricType.Timer key.now (T.timed value)) result };
+        ensures { SendsPlain (Self.settings self.now) (Self.line_may_get self.now)
+            MetricType.Timer key.now (T.numbers value) result }
+    {
+        self.time_with_tags(key, value).try_send()
+    }
 
     /// The same, to be sent with tags and other options of its own.
     fn time_with_tags<'a>(
@@ -129,15 +123,15 @@ pub trait Timed<T: ToTimerValue<Self::Memory>>: MetricBackend {
         key: &'a str,
         value: T,
     ) -> MetricBuilder<'a, 'a, Timer<Self::Memory>, Self>
-        ensures pending { MakesMetric (plain_metric_of (Self.settings self.now) MetricType.Timer key.now (T.timed value))
-            (pending_of result) }
+        ensures pending { StartsPlain (Self.settings self.now)
+            MetricType.Timer key.now (T.numbers value) (pending_of result) }
         ensures client { backend_of result ≡ self.now };
 }
 
 impl<A: Allocator + Clone, T: ToTimerValue<A>> Timed<T> for StatsdClient<A> {
     #[inline]
     fn time(&self, key: &str, value: T) -> MetricResult<Timer<A>> {
-        self.send_plain(key, MetricType::Timer, value.try_to_value())
+        self.send_plain(key, value.try_to_value())
     }
 
     #[inline]
@@ -146,24 +140,23 @@ impl<A: Allocator + Clone, T: ToTimerValue<A>> Timed<T> for StatsdClient<A> {
         key: &'a str,
         value: T,
     ) -> MetricBuilder<'a, 'a, Timer<A>, StatsdClient<A>> {
-        MetricBuilder::new(
-            self,
-            pending::start(&self.settings, key, MetricType::Timer, value.try_to_value()),
-        )
+        self.start_plain(key, value.try_to_value())
     }
 }
 
-/// Tells values that stand until they are told again, as in cadence.
+/// Tells values that stand until they are told again.
 pub trait Gauged<T: ToGaugeValue<Self::Memory>>: MetricBackend {
     ghost use Rattle.std.specs.Prelude.{◌≡◌};
-    ghost use Rattle.cadence_schedule.specs.Call.{MakesMetric};
-    ghost use Rattle.cadence.specs.Sending.{IsText, SentCall, plain_metric_of};
-    ghost use Rattle.cadence.specs.Shown.{pending_of, backend_of};
+    ghost use Rattle.cadence.specs.Sending.{SendsPlain, StartsPlain};
+    ghost use Rattle.cadence.specs.Shown.{backend_of, pending_of};
 
     /// Tells the value of a gauge: `gauge_with_tags` and then `try_send`.
     fn gauge(&self, key: &str, value: T) -> MetricResult<Gauge<Self::Memory>>
-        ensures { SentCall (Self.line_may_get self.now) IsText
-            (plain_metric_of (Self.settings self.now) MetricType.Gauge key.now (T.gauged value)) result };
+        ensures { SendsPlain (Self.settings self.now) (Self.line_may_get self.now)
+            MetricType.Gauge key.now (T.numbers value) result }
+    {
+        self.gauge_with_tags(key, value).try_send()
+    }
 
     /// The same, to be sent with tags and other options of its own.
     fn gauge_with_tags<'a>(
@@ -171,15 +164,15 @@ pub trait Gauged<T: ToGaugeValue<Self::Memory>>: MetricBackend {
         key: &'a str,
         value: T,
     ) -> MetricBuilder<'a, 'a, Gauge<Self::Memory>, Self>
-        ensures pending { MakesMetric (plain_metric_of (Self.settings self.now) MetricType.Gauge key.now (T.gauged value))
-            (pending_of result) }
+        ensures pending { StartsPlain (Self.settings self.now)
+            MetricType.Gauge key.now (T.numbers value) (pending_of result) }
         ensures client { backend_of result ≡ self.now };
 }
 
 impl<A: Allocator + Clone, T: ToGaugeValue<A>> Gauged<T> for StatsdClient<A> {
     #[inline]
     fn gauge(&self, key: &str, value: T) -> MetricResult<Gauge<A>> {
-        self.send_plain(key, MetricType::Gauge, value.try_to_value())
+        self.send_plain(key, value.try_to_value())
     }
 
     #[inline]
@@ -188,24 +181,23 @@ impl<A: Allocator + Clone, T: ToGaugeValue<A>> Gauged<T> for StatsdClient<A> {
         key: &'a str,
         value: T,
     ) -> MetricBuilder<'a, 'a, Gauge<A>, StatsdClient<A>> {
-        MetricBuilder::new(
-            self,
-            pending::start(&self.settings, key, MetricType::Gauge, value.try_to_value()),
-        )
+        self.start_plain(key, value.try_to_value())
     }
 }
 
-/// Tells how often things happen, as in cadence. A server makes a rate of it.
+/// Tells how often things happen. A server makes a rate of it.
 pub trait Metered<T: ToMeterValue<Self::Memory>>: MetricBackend {
     ghost use Rattle.std.specs.Prelude.{◌≡◌};
-    ghost use Rattle.cadence_schedule.specs.Call.{MakesMetric};
-    ghost use Rattle.cadence.specs.Sending.{IsText, SentCall, plain_metric_of};
-    ghost use Rattle.cadence.specs.Shown.{pending_of, backend_of};
+    ghost use Rattle.cadence.specs.Sending.{SendsPlain, StartsPlain};
+    ghost use Rattle.cadence.specs.Shown.{backend_of, pending_of};
 
     /// Adds to a meter: `meter_with_tags` and then `try_send`.
     fn meter(&self, key: &str, value: T) -> MetricResult<Meter<Self::Memory>>
-        ensures { SentCall (Self.line_may_get self.now) IsText
-            (plain_metric_of (Self.settings self.now) MetricType.Meter key.now (T.metered value)) result };
+        ensures { SendsPlain (Self.settings self.now) (Self.line_may_get self.now)
+            MetricType.Meter key.now (T.numbers value) result }
+    {
+        self.meter_with_tags(key, value).try_send()
+    }
 
     /// The same, to be sent with tags and other options of its own.
     fn meter_with_tags<'a>(
@@ -213,15 +205,15 @@ pub trait Metered<T: ToMeterValue<Self::Memory>>: MetricBackend {
         key: &'a str,
         value: T,
     ) -> MetricBuilder<'a, 'a, Meter<Self::Memory>, Self>
-        ensures pending { MakesMetric (plain_metric_of (Self.settings self.now) MetricType.Meter key.now (T.metered value))
-            (pending_of result) }
+        ensures pending { StartsPlain (Self.settings self.now)
+            MetricType.Meter key.now (T.numbers value) (pending_of result) }
         ensures client { backend_of result ≡ self.now };
 }
 
 impl<A: Allocator + Clone, T: ToMeterValue<A>> Metered<T> for StatsdClient<A> {
     #[inline]
     fn meter(&self, key: &str, value: T) -> MetricResult<Meter<A>> {
-        self.send_plain(key, MetricType::Meter, value.try_to_value())
+        self.send_plain(key, value.try_to_value())
     }
 
     #[inline]
@@ -230,24 +222,23 @@ impl<A: Allocator + Clone, T: ToMeterValue<A>> Metered<T> for StatsdClient<A> {
         key: &'a str,
         value: T,
     ) -> MetricBuilder<'a, 'a, Meter<A>, StatsdClient<A>> {
-        MetricBuilder::new(
-            self,
-            pending::start(&self.settings, key, MetricType::Meter, value.try_to_value()),
-        )
+        self.start_plain(key, value.try_to_value())
     }
 }
 
-/// Tells values whose distribution a server reckons, as in cadence. A `Duration` is cut off to whole nanoseconds.
+/// Tells values whose distribution a server reckons. A `Duration` is cut off to whole nanoseconds.
 pub trait Histogrammed<T: ToHistogramValue<Self::Memory>>: MetricBackend {
     ghost use Rattle.std.specs.Prelude.{◌≡◌};
-    ghost use Rattle.cadence_schedule.specs.Call.{MakesMetric};
-    ghost use Rattle.cadence.specs.Sending.{IsText, SentCall, plain_metric_of};
-    ghost use Rattle.cadence.specs.Shown.{pending_of, backend_of};
+    ghost use Rattle.cadence.specs.Sending.{SendsPlain, StartsPlain};
+    ghost use Rattle.cadence.specs.Shown.{backend_of, pending_of};
 
     /// Tells a value of a histogram: `histogram_with_tags` and then `try_send`.
     fn histogram(&self, key: &str, value: T) -> MetricResult<Histogram<Self::Memory>>
-        ensures { SentCall (Self.line_may_get self.now) IsText
-            (plain_metric_of (Self.settings self.now) MetricType.Histogram key.now (T.histogrammed value)) result };
+        ensures { SendsPlain (Self.settings self.now) (Self.line_may_get self.now)
+            MetricType.Histogram key.now (T.numbers value) result }
+    {
+        self.histogram_with_tags(key, value).try_send()
+    }
 
     /// The same, to be sent with tags and other options of its own.
     fn histogram_with_tags<'a>(
@@ -255,15 +246,15 @@ pub trait Histogrammed<T: ToHistogramValue<Self::Memory>>: MetricBackend {
         key: &'a str,
         value: T,
     ) -> MetricBuilder<'a, 'a, Histogram<Self::Memory>, Self>
-        ensures pending { MakesMetric (plain_metric_of (Self.settings self.now) MetricType.Histogram key.now (T.histogrammed value))
-            (pending_of result) }
+        ensures pending { StartsPlain (Self.settings self.now)
+            MetricType.Histogram key.now (T.numbers value) (pending_of result) }
         ensures client { backend_of result ≡ self.now };
 }
 
 impl<A: Allocator + Clone, T: ToHistogramValue<A>> Histogrammed<T> for StatsdClient<A> {
     #[inline]
     fn histogram(&self, key: &str, value: T) -> MetricResult<Histogram<A>> {
-        self.send_plain(key, MetricType::Histogram, value.try_to_value())
+        self.send_plain(key, value.try_to_value())
     }
 
     #[inline]
@@ -272,29 +263,23 @@ impl<A: Allocator + Clone, T: ToHistogramValue<A>> Histogrammed<T> for StatsdCli
         key: &'a str,
         value: T,
     ) -> MetricBuilder<'a, 'a, Histogram<A>, StatsdClient<A>> {
-        MetricBuilder::new(
-            self,
-            pending::start(
-                &self.settings,
-                key,
-                MetricType::Histogram,
-                value.try_to_value(),
-            ),
-        )
+        self.start_plain(key, value.try_to_value())
     }
 }
 
-/// Tells values whose distribution a server reckons over all its clients, as in cadence.
+/// Tells values whose distribution a server reckons over all its clients.
 pub trait Distributed<T: ToDistributionValue<Self::Memory>>: MetricBackend {
     ghost use Rattle.std.specs.Prelude.{◌≡◌};
-    ghost use Rattle.cadence_schedule.specs.Call.{MakesMetric};
-    ghost use Rattle.cadence.specs.Sending.{IsText, SentCall, plain_metric_of};
-    ghost use Rattle.cadence.specs.Shown.{pending_of, backend_of};
+    ghost use Rattle.cadence.specs.Sending.{SendsPlain, StartsPlain};
+    ghost use Rattle.cadence.specs.Shown.{backend_of, pending_of};
 
     /// Tells a value of a distribution: `distribution_with_tags` and then `try_send`.
     fn distribution(&self, key: &str, value: T) -> MetricResult<Distribution<Self::Memory>>
-        ensures { SentCall (Self.line_may_get self.now) IsText
-            (plain_metric_of (Self.settings self.now) MetricType.Distribution key.now (T.distributed value)) result };
+        ensures { SendsPlain (Self.settings self.now) (Self.line_may_get self.now)
+            MetricType.Distribution key.now (T.numbers value) result }
+    {
+        self.distribution_with_tags(key, value).try_send()
+    }
 
     /// The same, to be sent with tags and other options of its own.
     fn distribution_with_tags<'a>(
@@ -302,15 +287,15 @@ pub trait Distributed<T: ToDistributionValue<Self::Memory>>: MetricBackend {
         key: &'a str,
         value: T,
     ) -> MetricBuilder<'a, 'a, Distribution<Self::Memory>, Self>
-        ensures pending { MakesMetric (plain_metric_of (Self.settings self.now) MetricType.Distribution key.now (T.distributed value))
-            (pending_of result) }
+        ensures pending { StartsPlain (Self.settings self.now)
+            MetricType.Distribution key.now (T.numbers value) (pending_of result) }
         ensures client { backend_of result ≡ self.now };
 }
 
 impl<A: Allocator + Clone, T: ToDistributionValue<A>> Distributed<T> for StatsdClient<A> {
     #[inline]
     fn distribution(&self, key: &str, value: T) -> MetricResult<Distribution<A>> {
-        self.send_plain(key, MetricType::Distribution, value.try_to_value())
+        self.send_plain(key, value.try_to_value())
     }
 
     #[inline]
@@ -319,29 +304,23 @@ impl<A: Allocator + Clone, T: ToDistributionValue<A>> Distributed<T> for StatsdC
         key: &'a str,
         value: T,
     ) -> MetricBuilder<'a, 'a, Distribution<A>, StatsdClient<A>> {
-        MetricBuilder::new(
-            self,
-            pending::start(
-                &self.settings,
-                key,
-                MetricType::Distribution,
-                value.try_to_value(),
-            ),
-        )
+        self.start_plain(key, value.try_to_value())
     }
 }
 
-/// Tells members of a set, as in cadence. A server counts the different ones.
+/// Tells members of a set. A server counts the different ones.
 pub trait Setted<T: ToSetValue<Self::Memory>>: MetricBackend {
     ghost use Rattle.std.specs.Prelude.{◌≡◌};
-    ghost use Rattle.cadence_schedule.specs.Call.{MakesMetric};
-    ghost use Rattle.cadence.specs.Sending.{IsText, SentCall, plain_metric_of};
-    ghost use Rattle.cadence.specs.Shown.{pending_of, backend_of};
+    ghost use Rattle.cadence.specs.Sending.{SendsPlain, StartsPlain};
+    ghost use Rattle.cadence.specs.Shown.{backend_of, pending_of};
 
     /// Tells a member of a set: `set_with_tags` and then `try_send`.
     fn set(&self, key: &str, value: T) -> MetricResult<Set<Self::Memory>>
-        ensures { SentCall (Self.line_may_get self.now) IsText
-            (plain_metric_of (Self.settings self.now) MetricType.Set key.now (T.set_as value)) result };
+        ensures { SendsPlain (Self.settings self.now) (Self.line_may_get self.now)
+            MetricType.Set key.now (T.numbers value) result }
+    {
+        self.set_with_tags(key, value).try_send()
+    }
 
     /// The same, to be sent with tags and other options of its own.
     fn set_with_tags<'a>(
@@ -349,15 +328,15 @@ pub trait Setted<T: ToSetValue<Self::Memory>>: MetricBackend {
         key: &'a str,
         value: T,
     ) -> MetricBuilder<'a, 'a, Set<Self::Memory>, Self>
-        ensures pending { MakesMetric (plain_metric_of (Self.settings self.now) MetricType.Set key.now (T.set_as value))
-            (pending_of result) }
+        ensures pending { StartsPlain (Self.settings self.now)
+            MetricType.Set key.now (T.numbers value) (pending_of result) }
         ensures client { backend_of result ≡ self.now };
 }
 
 impl<A: Allocator + Clone, T: ToSetValue<A>> Setted<T> for StatsdClient<A> {
     #[inline]
     fn set(&self, key: &str, value: T) -> MetricResult<Set<A>> {
-        self.send_plain(key, MetricType::Set, value.try_to_value())
+        self.send_plain(key, value.try_to_value())
     }
 
     #[inline]
@@ -366,9 +345,6 @@ impl<A: Allocator + Clone, T: ToSetValue<A>> Setted<T> for StatsdClient<A> {
         key: &'a str,
         value: T,
     ) -> MetricBuilder<'a, 'a, Set<A>, StatsdClient<A>> {
-        MetricBuilder::new(
-            self,
-            pending::start(&self.settings, key, MetricType::Set, value.try_to_value()),
-        )
+        self.start_plain(key, value.try_to_value())
     }
 }
