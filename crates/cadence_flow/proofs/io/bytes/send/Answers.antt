@@ -1,7 +1,7 @@
 use Rattle.std.proofs.Common.{length, take, ap, ◌∙◌, arith, ℕ, List}
 use Rattle.cadence_flow.specs.Writer.{after_packet, Kind}
 use Rattle.cadence_flow.proofs.Sending.{SentSoFar-more, rest_is}
-use Rattle.cadence_flow.proofs.io.buffer.send.Goals as goal
+use Rattle.cadence_flow.proofs.io.bytes.send.Goals as goal
 
 pub loop-sent-preserved : goal.loop-sent-preserved
 loop-sent-preserved g c =

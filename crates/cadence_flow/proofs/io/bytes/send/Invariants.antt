@@ -1,6 +1,6 @@
 use Rattle.std.proofs.Common.{◌≡◌, ◌-◌, length}
 use Rattle.cadence_flow.proofs.Sending.{SentSoFar}
-use Rattle.cadence_flow.proofs.io.buffer.send.Given as goal
+use Rattle.cadence_flow.proofs.io.bytes.send.Given as goal
 
 abbrev pub invariant-loop-sent : goal.invariant-loop-sent
 invariant-loop-sent g l =

@@ -1,7 +1,7 @@
 use Rattle.std.proofs.Common.{subst, sym, ◌<◌, length, drop, List, ℕ, rules}
 use Rattle.cadence_flow.specs.Packer.{Flushes}
 use Rattle.cadence_flow.proofs.Flushing.{Flushes-sent}
-use Rattle.cadence_flow.proofs.io.line_writer.LineBuffer.flush.Goals as goal
+use Rattle.cadence_flow.proofs.io.line_buffer.LineBuffer.flush.Goals as goal
 
 pub returns-clause-flushes : goal.returns-clause-flushes
 returns-clause-flushes g c =

@@ -1,6 +1,6 @@
 //! Lines that wait for their packet.
 use super::PacketWriter;
-use super::buffer::{append, append_ending, remove_front, send};
+use super::bytes::{append, append_ending, remove_front, send};
 use cadence_errors::SinkError;
 use std::alloc::{Allocator, Global};
 use std::marker::Model;
@@ -78,7 +78,7 @@ impl<T: PacketWriter, A: Allocator> LineBuffer<T, A> {
     ghost use Rattle.std.specs.Borrow.{Lends, sem};
     ghost use Rattle.cadence_flow.specs.Frame.{size_of};
     ghost use Rattle.cadence_flow.specs.Packer.{Flushes, Writes, with_held, with_writer};
-    ghost use Rattle.cadence_flow.specs.contracts.io.line_writer.LineBuffer.{the_row};
+    ghost use Rattle.cadence_flow.specs.contracts.io.line_buffer.LineBuffer.{the_row};
 
     /// Writes a line and answers its length.
     ///

@@ -3,7 +3,7 @@ use Rattle.cadence_flow.specs.Frame.{is_oversize, size_of}
 use Rattle.cadence_flow.specs.Packer.{Flushes, Writes}
 use Rattle.cadence_flow.specs.Writer.{Kind, WritesPacket}
 use Rattle.cadence_flow.proofs.Oversize.{Writes-alone}
-use Rattle.cadence_flow.proofs.io.line_writer.LineBuffer.write.Goals as goal
+use Rattle.cadence_flow.proofs.io.line_buffer.LineBuffer.write.Goals as goal
 
 pub returns-then-required-self-clause-writes : goal.returns-then-required-self-clause-writes
 returns-then-required-self-clause-writes g c =
