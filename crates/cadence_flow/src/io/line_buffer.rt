@@ -7,7 +7,7 @@ use std::marker::Model;
 use std::mem;
 
 /// Holds lines as a `MultiLineWriter` does, over any `PacketWriter`, but its drop writes nothing: what holds it
-/// flushes, or gives the held text up. This project's own.
+/// flushes, or gives the held text up.
 #[derive(Drop)]
 pub struct LineBuffer<T, A: Allocator = Global> {
     inner: T,
@@ -34,15 +34,12 @@ impl<T, A: Allocator> Model for LineBuffer<T, A> {
 }
 
 impl<T: PacketWriter, A: Allocator + Clone> LineBuffer<T, A> {
-    ghost use Rattle.std.specs.Prelude.{◌≡◌, [], codes, IfOk, IfErr};
-    ghost use Rattle.cadence_flow.specs.Packer.{new_packer};
+    ghost use Rattle.std.specs.Prelude.{codes};
+    ghost use Rattle.cadence_flow.specs.Packer.{MakesPacker};
 
     /// As `with_ending`, with the newline.
-    ///
-    /// Where there is no memory for `capacity` bytes and the ending, the writer comes back.
     pub fn new(alloc: A, inner: T, capacity: usize) -> Result<Self, T>
-        ensures made { IfOk result (λ w. w ≡ new_packer inner capacity (codes "\n")) }
-        ensures returned { IfErr result (λ w. w ≡ inner) }
+        ensures { MakesPacker inner capacity (codes "\n") result }
     {
         LineBuffer::with_ending(alloc, inner, capacity, "\n")
     }
@@ -52,8 +49,7 @@ impl<T: PacketWriter, A: Allocator + Clone> LineBuffer<T, A> {
     ///
     /// Where there is no memory for `capacity` bytes and the ending, the writer comes back.
     pub fn with_ending(alloc: A, inner: T, capacity: usize, ending: &str) -> Result<Self, T>
-        ensures made { IfOk result (λ w. w ≡ new_packer inner capacity ending.now) }
-        ensures returned { IfErr result (λ w. w ≡ inner) }
+        ensures { MakesPacker inner capacity ending.now result }
     {
         let Ok(second) = alloc.clone() else {
             return Err(inner);
@@ -74,10 +70,9 @@ impl<T: PacketWriter, A: Allocator + Clone> LineBuffer<T, A> {
 }
 
 impl<T: PacketWriter, A: Allocator> LineBuffer<T, A> {
-    ghost use Rattle.std.specs.Prelude.{◌≡◌, ◌↔◌, ◌+◌, ◌≤◌, ◌++◌, [], length, IfOk, IfErr, OnOk, OnErr, IsTrue, IsFalse};
+    ghost use Rattle.std.specs.Prelude.{◌≡◌, ◌↔◌, ◌≤◌, length, IsTrue};
     ghost use Rattle.std.specs.Borrow.{Lends, sem};
-    ghost use Rattle.cadence_flow.specs.Frame.{size_of};
-    ghost use Rattle.cadence_flow.specs.Packer.{Flushes, Writes, with_held, with_writer};
+    ghost use Rattle.cadence_flow.specs.Packer.{Fits, FlushesHeld, HoldsLine, ReplacesWriter, WritesLine, holding, with_writer};
     ghost use Rattle.cadence_flow.specs.contracts.io.line_buffer.LineBuffer.{the_row};
 
     /// Writes a line and answers its length.
@@ -85,39 +80,38 @@ impl<T: PacketWriter, A: Allocator> LineBuffer<T, A> {
     /// The line and its ending are held. Where they don't fit the free room, what is held is flushed first. Where
     /// they pass the capacity, what is held is flushed first, and then the line alone is one packet: the answer is
     /// the writer's count, 0 included. Takes no memory. A line that with its ending fills the capacity exactly is
-    /// held, with an empty ending too (this project's own rule; cadence then writes it at once).
+    /// held, with an empty ending too (cadence then writes it at once).
     ///
     /// An error is the writer's own, or `NothingWritten` where it took 0 bytes of held text. Nothing of the line is
     /// kept then; what the writer didn't take of the held text stays.
     pub fn write(&mut self, line: &[u8]) -> Result<usize, SinkError>
-        ensures same_kind { T.kind self.new.writer ≡ T.kind self.old.writer }
-        ensures same_format { self.new.format ≡ self.old.format }
-        ensures only_held { length self.old.held + size_of self.old.format line.now ≤ self.old.format.capacity →
-            self.new ≡ with_held self.old (self.old.held ++ (line.now ++ self.old.format.ending)) }
-        ensures writes { Writes (T.kind self.old.writer) self.old.format
-            (T.history self.old.writer) (T.history self.new.writer) self.old.held self.new.held line.now result }
+        ensures { WritesLine T.kind T.history self.old self.new line.now result }
     {
-        let required = line.len() + self.ending.len();
-        if required > self.capacity {
+        if !self.fits(line) {
             self.flush()?;
-            return self.inner.write_packet(line);
-        }
-        if self.capacity - self.held.len() < required {
-            self.flush()?;
+            if !self.fits(line) {
+                return self.inner.write_packet(line);
+            }
         }
         self.keep(line);
         Ok(line.len())
     }
 
+    /// Whether a line and its ending fit the free room.
+    #[inline(always)]
+    pub fn fits(&self, line: &[u8]) -> bool
+        ensures { IsTrue result ↔ Fits self.now line.now }
+    {
+        line.len() + self.ending.len() <= self.capacity - self.held.len()
+    }
+
     /// Holds a line and its ending where they fit the free room, and answers whether they did; else nothing changes.
-    /// It is what `write` does with most lines, without an error to answer. Takes no memory. This project's own.
+    /// It is what `write` does with most lines, without an error to answer. Takes no memory.
     #[inline(always)]
     pub fn hold(&mut self, line: &[u8]) -> bool
-        ensures exact { IsTrue result ↔ (length self.old.held + size_of self.old.format line.now ≤ self.old.format.capacity) }
-        ensures held { IsTrue result → self.new ≡ with_held self.old (self.old.held ++ (line.now ++ self.old.format.ending)) }
-        ensures unchanged { IsFalse result → self.new ≡ self.old }
+        ensures { HoldsLine self.old self.new line.now result }
     {
-        if self.capacity - self.held.len() < line.len() + self.ending.len() {
+        if !self.fits(line) {
             return false;
         }
         self.keep(line);
@@ -127,8 +121,8 @@ impl<T: PacketWriter, A: Allocator> LineBuffer<T, A> {
     // Holds a line and its ending, which fit the free room.
     #[inline(always)]
     fn keep(&mut self, line: &[u8])
-        requires { length self.old.held + size_of self.old.format line.now ≤ self.old.format.capacity }
-        ensures { self.new ≡ with_held self.old (self.old.held ++ (line.now ++ self.old.format.ending)) }
+        requires { Fits self.old line.now }
+        ensures { self.new ≡ holding self.old line.now }
     {
         append(&mut self.held, line);
         append_ending(&mut self.held, self.ending.as_slice());
@@ -138,14 +132,9 @@ impl<T: PacketWriter, A: Allocator> LineBuffer<T, A> {
     /// nothing. Takes no memory.
     ///
     /// An error is the writer's own, or `NothingWritten` where it took 0 bytes. What it didn't take stays held, and
-    /// the free room is what the held text leaves. An interrupted write is an error like any other (both are this
-    /// project's own rules).
+    /// the free room is what the held text leaves. An interrupted write is an error like any other.
     pub fn flush(&mut self) -> Result<(), SinkError>
-        ensures same_kind { T.kind self.new.writer ≡ T.kind self.old.writer }
-        ensures same_format { self.new.format ≡ self.old.format }
-        ensures untouched { self.old.held ≡ [] → self.new ≡ self.old }
-        ensures flushes { Flushes (T.kind self.old.writer) (T.history self.old.writer) (T.history self.new.writer)
-            self.old.held self.new.held result }
+        ensures { FlushesHeld T.kind T.history self.old self.new result }
     {
         if self.held.is_empty() {
             return Ok(());
@@ -155,7 +144,7 @@ impl<T: PacketWriter, A: Allocator> LineBuffer<T, A> {
         result
     }
 
-    /// The text that waits, at most the capacity. This project's own.
+    /// The text that waits, at most the capacity.
     pub fn held(&self) -> &[u8]
         ensures text { result.now ≡ self.now.held }
         ensures bound { length self.now.held ≤ self.now.format.capacity }
@@ -183,11 +172,7 @@ impl<T: PacketWriter, A: Allocator> LineBuffer<T, A> {
     ///
     /// Where there is no memory for the capacity, the new writer comes back, and nothing changed.
     pub fn replace_writer(&mut self, alloc: A, writer: T) -> Result<(T, Vec<u8, A>), T>
-        ensures old_writer { IfOk result (λ p. p.0 ≡ self.old.writer) }
-        ensures old_text { IfOk result (λ p. p.1.items ≡ self.old.held) }
-        ensures renewed { OnOk result (self.new ≡ with_held (with_writer self.old writer) []) }
-        ensures returned { IfErr result (λ w. w ≡ writer) }
-        ensures unchanged { OnErr result (self.new ≡ self.old) }
+        ensures { ReplacesWriter self.old self.new writer result }
     {
         let Ok(room) = Vec::with_capacity(alloc, self.capacity) else {
             return Err(writer);
@@ -197,7 +182,7 @@ impl<T: PacketWriter, A: Allocator> LineBuffer<T, A> {
         Ok((inner, held))
     }
 
-    /// The writer and the text that waited for it. Nothing is written. This project's own.
+    /// The writer and the text that waited for it. Nothing is written.
     pub fn into_parts(self) -> (T, Vec<u8, A>)
         ensures writer { result.0 ≡ self.writer }
         ensures text { result.1.items ≡ self.held }
