@@ -56,13 +56,16 @@ pub(super) fn send<T: PacketWriter>(bytes: &[u8], to: &mut T) -> (usize, Result<
     ensures left { OnErr result.1 (result.0 < length bytes.now) }
     ensures unchanged { length bytes.now ≡ 0 → T.history to.new ≡ T.history to.old }
     ensures ok { OnOk result.1 (RefusedNothing (T.history to.old) (T.history to.new)) }
-    ensures sent { (T.kind to.old).tells ≡ true → OnOk result.1 (Sends (T.history to.old) (T.history to.new) bytes.now) }
+    ensures sent { (T.kind to.old).tells ≡ true →
+        OnOk result.1 (Sends (T.history to.old) (T.history to.new) bytes.now) }
     ensures cause { IfErr result.1 (HasCause (T.kind to.old) (T.history to.old) (T.history to.new)
         (take result.0 bytes.now) (drop result.0 bytes.now)) }
-    ensures one_packet { (T.kind to.old).tells ≡ true → (T.kind to.old).takes_whole ≡ true → 0 < length bytes.now →
+    ensures one_packet { (T.kind to.old).tells ≡ true → (T.kind to.old).takes_whole ≡ true →
+        0 < length bytes.now →
         OnOk result.1 ((T.history to.new).packets ≡ (T.history to.old).packets ++ bytes.now ∷ []) }
     ensures no_packet { (T.kind to.old).takes_whole ≡ true →
-        OnErr result.1 ((result.0 ≡ 0) × ((T.history to.new).packets ≡ (T.history to.old).packets)) }
+        OnErr result.1 ((result.0 ≡ 0)
+        × ((T.history to.new).packets ≡ (T.history to.old).packets)) }
 {
     let mut sent = 0;
     while sent < bytes.len() {

@@ -162,7 +162,8 @@ impl<T: PacketWriter, A: Allocator> LineBuffer<T, A> {
     /// The writer. A change through it changes the writer alone.
     pub fn get_mut(&mut self) -> &mut T
         ensures value { result.now ≡ self.old.writer }
-        ensures* writes_back { sem 𝓛 (Lends (the_row T.row A.row A.Allocator) T.row self.entry result (with_writer self.old)) }
+        ensures* writes_back { sem 𝓛 (Lends (the_row T.row A.row A.Allocator) T.row
+            self.entry result (with_writer self.old)) }
     {
         &mut self.inner
     }

@@ -80,7 +80,8 @@ impl<T: PacketWriter, A: Allocator> MultiLineWriter<T, A> {
     /// The writer. A change through it changes the writer alone.
     pub fn get_mut(&mut self) -> &mut T
         ensures value { result.now ≡ self.old.writer }
-        ensures* writes_back { sem 𝓛 (Lends (the_row T.row A.row T.PacketWriter A.Allocator) T.row self.entry result (with_writer self.old)) }
+        ensures* writes_back { sem 𝓛 (Lends (the_row T.row A.row T.PacketWriter A.Allocator) T.row
+            self.entry result (with_writer self.old)) }
     {
         self.lines.get_mut()
     }
