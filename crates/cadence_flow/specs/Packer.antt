@@ -6,7 +6,7 @@ use Rattle.std.specs.Coded.{Coded, coded×, coded_ℕ, coded_list, code_by}
 use Rattle.std.proofs.Common.{refl}
 use Rattle.cadence_errors.specs.declared.SinkError.{SinkError}
 use Rattle.cadence_errors.specs.declared.SinkError.TheVariants.{NothingWritten}
-use Rattle.cadence_flow.specs.Frame.{Format, size_of, is_oversize, frame_of}
+use Rattle.cadence_flow.specs.Frame.{Format, size_of, is_oversize, frame_of, held_packet}
 use Rattle.cadence_flow.specs.Writer.{History, Kind, RefusedNothing, RefusedOne, Extends, Sends, SendsThen}
 
 -- the writer, the text that waits for it, and the format
@@ -48,11 +48,6 @@ whole_text h held = concat h.packets ++ held
 abbrev pub given_by : Format → List ℕ → Result ℕ SinkError → List ℕ
 given_by format line (Ok n) = frame_of format line n
 given_by format line (Err e) = []
-
--- the packets with the held text as one more, where there is any
-abbrev pub closed_packets : List (List ℕ) → List ℕ → List (List ℕ)
-closed_packets packets [] = packets
-closed_packets packets (b ∷ bs) = packets ++ (b ∷ bs) ∷ []
 
 -- what was taken of the held text where the rest of it is left
 abbrev pub taken_of : List ℕ → List ℕ → List ℕ
@@ -99,7 +94,7 @@ pub record Flushes {A : Type 0} (kind : Kind) (old new : History) (held rest : L
   pub extends : kind.tells ≡ true → Extends old new
   pub sent : kind.tells ≡ true → OnOk result (Sends old new held)
   -- a writer that takes whole gets one packet, or refuses it
-  pub one_packet : kind.tells ≡ true → kind.takes_whole ≡ true → OnOk result (new.packets ≡ closed_packets old.packets held)
+  pub one_packet : kind.tells ≡ true → kind.takes_whole ≡ true → OnOk result (new.packets ≡ old.packets ++ held_packet held)
   pub unchanged : kind.takes_whole ≡ true → OnErr result ((rest ≡ held) × (new.packets ≡ old.packets))
 
 -- what writing a line does
@@ -125,9 +120,9 @@ pub record Writes (kind : Kind) (format : Format) (old new : History) (held rest
   pub sent : kind.tells ≡ true → format.capacity < length held + size_of format line → is_oversize format line ≡ false → OnOk result (Sends old new held)
   pub last : kind.tells ≡ true → is_oversize format line ≡ true → IfOk result (λ n. SendsThen old new held (take n line))
   -- a writer that takes whole gets the held text as one packet, and an oversize line as another
-  pub closes : kind.tells ≡ true → kind.takes_whole ≡ true → format.capacity < length held + size_of format line → is_oversize format line ≡ false → OnOk result (new.packets ≡ closed_packets old.packets held)
-  pub alone : kind.tells ≡ true → kind.takes_whole ≡ true → is_oversize format line ≡ true → OnOk result (new.packets ≡ closed_packets old.packets held ++ line ∷ [])
-  pub refused : kind.tells ≡ true → kind.takes_whole ≡ true → OnErr result ((rest ≡ [] → new.packets ≡ closed_packets old.packets held) × (0 < length rest → (rest ≡ held) × (new.packets ≡ old.packets)))
+  pub closes : kind.tells ≡ true → kind.takes_whole ≡ true → format.capacity < length held + size_of format line → is_oversize format line ≡ false → OnOk result (new.packets ≡ old.packets ++ held_packet held)
+  pub alone : kind.tells ≡ true → kind.takes_whole ≡ true → is_oversize format line ≡ true → OnOk result (new.packets ≡ (old.packets ++ held_packet held) ++ line ∷ [])
+  pub refused : kind.tells ≡ true → kind.takes_whole ≡ true → OnErr result ((rest ≡ [] → new.packets ≡ old.packets ++ held_packet held) × (0 < length rest → (rest ≡ held) × (new.packets ≡ old.packets)))
 
 -- making a packer gives one that holds nothing, or the writer back
 pub record MakesPacker {W : Type 0} (writer : W) (capacity : ℕ) (ending : List ℕ) (result : Result (Packer W) W) : Type 0 where
