@@ -8,8 +8,7 @@ use Rattle.std.proofs.lemmas.List.Sums.{sum_by-cons, sum_by-append}
 use Rattle.std.proofs.lemmas.List.Elements.{Contains-push_cases, Contains-append_left, Contains-push}
 use Rattle.std.proofs.lemmas.Bool.{cases_lt, le-ltb, lt-ltb, cond-true, cond-false}
 use Rattle.cadence_schedule.specs.Plan.{FitsPacket, PassesWithNext}
-use Rattle.cadence_flow.specs.Frame.{Format, size_of, frame, stream}
-use Rattle.cadence_schedule.specs.Packets.{held_packet}
+use Rattle.cadence_flow.specs.Frame.{Format, size_of, frame, stream, held_packet}
 use Rattle.cadence_schedule.proofs.Ends.{ends, split_end, neighbours_end, joined}
 
 -- each two neighbour groups but at a mark or a refusal could not have been cut later

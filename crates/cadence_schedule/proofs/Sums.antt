@@ -1,28 +1,15 @@
 -- Sums modulo 2^64.
-use Rattle.std.proofs.Common.{◌≡◌, ℕ, ◌+◌, ◌%◌, ◌^◌, ◌<◌, ◌≤◌, Bool, true, false, List, [], ◌∷◌, ◌++◌, length, take, ap, ◌∙◌, refl, arith, length-append, length-take}
+use Rattle.std.proofs.Common.{◌≡◌, ℕ, ◌+◌, ◌%◌, ◌^◌, ◌≤◌, Bool, true, false, List, [], ◌∷◌, ◌++◌, length, take, ap, ◌∙◌, refl, arith, length-append, length-take}
 use Rattle.std.proofs.lemmas.List.Folds.{concat-append}
 use Rattle.std.proofs.lemmas.List.{append-nil}
 use Rattle.std.specs.List.{concat}
 use Rattle.cadence_flow.specs.Writer.{History, Kind, after_packet}
 use Rattle.cadence_flow.specs.declared.stats.SinkStats.{SinkStats}
-use Rattle.cadence_flow.specs.Sums.{less, sums_since, start_of, start_if, counted_kind}
+use Rattle.cadence_flow.specs.Sums.{less, start_of, start_if, counted_kind}
 
 -- n more on both sides
 less_more : (s b n : ℕ) → less ((s + n) % 2 ^ 64) (b + n) ≡ less s b
 less_more s b n = omega arith
-
--- what was taken off is put back
-less_back : (s b : ℕ) → s < 2 ^ 64 → s ≡ (less s b + b) % 2 ^ 64
-less_back s b h = omega arith
-
-pub sums_of_start : (s : SinkStats) (h : History) → s.bytes_sent < 2 ^ 64 → s.packets_sent < 2 ^ 64 → s.bytes_dropped < 2 ^ 64 → s.packets_dropped < 2 ^ 64 → s ≡ sums_since (start_of s h) h
-sums_of_start s h a b c d = λ i.
-    record {
-      bytes_sent = less_back s.bytes_sent (length (concat h.packets)) a i;
-      packets_sent = less_back s.packets_sent (length h.packets) b i;
-      bytes_dropped = less_back s.bytes_dropped h.refused_bytes c i;
-      packets_dropped = less_back s.packets_dropped h.refusals d i;
-    }
 
 length_concat_push : (ps : List (List ℕ)) (p : List ℕ) → length (concat (ps ++ p ∷ [])) ≡ length (concat ps) + length p
 length_concat_push ps p = ap length (concat-append ps (p ∷ [])) ∙ length-append (concat ps) (p ++ []) ∙ ap (λ (l : List ℕ). length (concat ps) + length l) (append-nil p)

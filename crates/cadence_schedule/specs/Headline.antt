@@ -1,7 +1,7 @@
 -- What is promised of a run.
 use Rattle.std.specs.Prelude.{◌≡◌, ℕ, ◌+◌, ◌%◌, ◌^◌, List, [], ◌++◌, Option, true, length, map, drop, string_bytes}
 use Rattle.std.specs.List.{concat, zip}
-use Rattle.cadence_flow.specs.Frame.{Format, size_of, stream}
+use Rattle.cadence_flow.specs.Frame.{Format, size_of, stream, taken_stream}
 use Rattle.cadence_flow.specs.Writer.{History, Kind, Extends}
 use Rattle.cadence_flow.specs.declared.stats.SinkStats.{SinkStats}
 use Rattle.cadence_schedule.specs.declared.call.Call.{Call}
@@ -12,7 +12,6 @@ use Rattle.cadence_schedule.specs.Packets.{ArePacketsOf}
 use Rattle.cadence_schedule.specs.Plan.{groups_of, IsTight, IsFewest, IsCutLate}
 use Rattle.cadence_schedule.specs.Replies.{MayReplyAfter}
 use Rattle.cadence_schedule.specs.Report.{replies_of, cut_of, held_of, queue_of, hand_of, stats_of, writer_of}
-use Rattle.cadence_schedule.specs.Stream.{taken_stream}
 
 -- what a run is given: the line of each call, the writer's kind and its history before the run, the packer's
 -- capacity and ending, the queue's capacity, and the steps

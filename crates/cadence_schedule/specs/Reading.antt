@@ -3,7 +3,7 @@ use Rattle.std.specs.Prelude.{◌≡◌, ℕ, List, All, ◌++◌}
 use Rattle.std.specs.List.{AllZip, flat_map}
 use Rattle.cadence_text.specs.Metric.{Metric}
 use Rattle.cadence_text.specs.OneReading.{IsPacketOf, IsReadable}
-use Rattle.cadence_schedule.specs.Packets.{held_packet}
+use Rattle.cadence_flow.specs.Frame.{held_packet}
 
 -- the packet is of these metrics, which are free of separators, and of no other list of such metrics
 pub record IsPacketOfOnly (metrics : List Metric) (packet : List ℕ) : Type 0 where

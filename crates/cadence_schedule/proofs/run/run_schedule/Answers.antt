@@ -1,7 +1,7 @@
 use Rattle.std.proofs.Common.{◌≡◌, ◌++◌, ◌%◌, ◌^◌, ◌<◌, length, sym, ap, ◌∙◌, arith, subst, None, map}
 use Rattle.std.specs.List.{zip, concat}
 use Rattle.std.specs.Prelude.{string_bytes}
-use Rattle.cadence_flow.specs.Frame.{Format, stream}
+use Rattle.cadence_flow.specs.Frame.{Format, stream, taken_stream}
 use Rattle.cadence_flow.specs.Sums.{counted_kind, zero_sums}
 use Rattle.cadence_flow.specs.Writer.{History, Kind, Extends}
 use Rattle.cadence_text.specs.Line.{line_of as line_of_metric}
@@ -11,7 +11,6 @@ use Rattle.cadence_schedule.specs.History.{kept, kept_counts, marks, refusals}
 use Rattle.cadence_schedule.specs.Moves.{State, at_start}
 use Rattle.cadence_schedule.specs.Packets.{ArePacketsOf}
 use Rattle.cadence_schedule.specs.Running.{state_of}
-use Rattle.cadence_schedule.specs.Stream.{taken_stream}
 use Rattle.cadence_schedule.proofs.KeptMetrics.{kept_mapped}
 use Rattle.cadence_schedule.proofs.LineFilled.{line_filled}
 use Rattle.cadence_schedule.proofs.RunTurns.{length-zip}
