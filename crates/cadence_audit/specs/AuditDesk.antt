@@ -12,7 +12,7 @@ use Rattle.cadence_audit.specs.declared.event.SubmitReply.TheVariants as submit
 use Rattle.cadence_audit.specs.declared.errors.AuditError.{AuditError}
 use Rattle.cadence_audit.specs.declared.errors.AuditError.TheVariants.{Stranger, OutOfMemory}
 use Rattle.cadence_audit.specs.AuditHistory.{IsLegal, AreInOrder, accepted, taken_count, was_stopped, events_of}
-use Rattle.cadence_audit.specs.AuditSeats.{Held, next_event}
+use Rattle.cadence_audit.specs.AuditSeats.{Held, next_event, receiving}
 
 -- an audited queue beside its lock: the capacity, and how many seats it has
 pub record Audited : Type 0 where
@@ -35,6 +35,10 @@ pub record IsKept {Z : Type 0} (capacity : Option ℕ) (events : List (Event Z))
   pub counted : (k : ℕ) → k < length counts → slice_index counts k ≡ events_of k events
 
 module _ {Z : Type 0} where
+  -- nothing happened yet
+  abbrev pub new_past : Option ℕ → ℕ → Past Z
+  new_past capacity seats = record { capacity = capacity; events = []; seats = seats }
+
   -- the past with the event of a seat's next call
   abbrev pub noting : Past Z → Held Z → AuditCall Z → AuditReply Z → Past Z
   noting p s c r = record p { events = p.events ++ next_event s c r ∷ [] }
@@ -47,6 +51,14 @@ module _ {Z : Type 0} where
   abbrev pub IsAuditRefusal : Past Z → Held Z → AuditError → Type 0
   IsAuditRefusal p s Stranger = IsKnown p s → ⊥
   IsAuditRefusal p s OutOfMemory = IsKnown p s
+
+  -- a call that is answered: the past and the seat have its event
+  abbrev pub Notes : Past Z → Past Z → Held Z → Held Z → AuditCall Z → AuditReply Z → Type 0
+  Notes p q s t c r = (q ≡ noting p s c r) × (t ≡ receiving s c r)
+
+  -- a call that does nothing, and why
+  abbrev pub DoesNothing : Past Z → Past Z → Held Z → Held Z → AuditError → Type 0
+  DoesNothing p q s t e = IsAuditRefusal p s e × (q ≡ p) × (t ≡ s)
 
 -- how the core's answer to a submit is told: a refusal for want of memory gives the text back
 abbrev pub IsToldRefusal : SinkError → List ℕ → Result SubmitReply (List ℕ) → Type 0

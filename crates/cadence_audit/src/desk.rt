@@ -1,9 +1,8 @@
 //! What lies under the lock of an audited queue: the queue, beside the history that leads to it.
 ghost use Rattle.std.specs.Prelude.{◌≡◌, ◌↔◌, ◌+◌, ◌<◌, ◌≤◌, [], ◌∷◌, ◌++◌, length, slice_index, vec_len, vec_capacity, IfOk, IfErr, OnOk, IsTrue};
-ghost use Rattle.cadence_errors.specs.Errors.{out_of_memory};
+ghost use Rattle.cadence_errors.specs.Errors.{Makes};
 ghost use Rattle.cadence_audit.specs.AuditHistory.{first_of, IsLegal, AreInOrder};
-ghost use Rattle.cadence_audit.specs.AuditSeats.{receiving};
-ghost use Rattle.cadence_audit.specs.AuditDesk.{noting, IsKnown, IsAuditRefusal, IsTold};
+ghost use Rattle.cadence_audit.specs.AuditDesk.{Notes, DoesNothing, IsKnown, IsTold, new_past};
 ghost use Rattle.cadence_audit.specs.declared.event.AuditCall.TheVariants as call;
 ghost use Rattle.cadence_audit.specs.declared.event.AuditReply.TheVariants as reply;
 
@@ -75,8 +74,10 @@ fn make_room<A: Allocator>(
     events: &mut Vec<Event<A>, A>,
     receipts: &mut Vec<Event<A>, A>,
 ) -> Result<(), AllocError>
-    ensures same { (events.new.items ≡ events.old.items) × (receipts.new.items ≡ receipts.old.items) }
-    ensures room { OnOk result ((vec_len events.new < vec_capacity events.new) × (vec_len receipts.new < vec_capacity receipts.new)) }
+    ensures same { (events.new.items ≡ events.old.items)
+        × (receipts.new.items ≡ receipts.old.items) }
+    ensures room { OnOk result ((vec_len events.new < vec_capacity events.new)
+        × (vec_len receipts.new < vec_capacity receipts.new)) }
 {
     events.reserve(1)?;
     receipts.reserve(1)
@@ -115,8 +116,9 @@ impl<A: Allocator> Desk<A> {
 
     /// Stops the queue for the seat.
     pub fn stop(&mut self, seat: &mut Seat<A>) -> Result<(), AuditError>
-        ensures ok { OnOk result ((self.new ≡ noting self.old seat.old call.Stop reply.Stop) × (seat.new ≡ receiving seat.old call.Stop reply.Stop)) }
-        ensures err { IfErr result (λ e. IsAuditRefusal self.old seat.old e × (self.new ≡ self.old) × (seat.new ≡ seat.old)) }
+        ensures ok { OnOk result
+            (Notes self.old self.new seat.old seat.new call.Stop reply.Stop) }
+        ensures err { IfErr result (DoesNothing self.old self.new seat.old seat.new) }
     {
         if !self.knows(seat) {
             return Err(AuditError::Stranger);
@@ -135,8 +137,7 @@ impl<A: Allocator> Desk<A> {
 impl<A: Allocator + Clone> Desk<A> {
     /// An empty queue of a capacity, with a number of seats. The only error is `OutOfMemory`.
     pub fn new(alloc: A, capacity: Option<usize>, seats: usize) -> MetricResult<Desk<A>>
-        ensures made { IfOk result (λ d. d ≡ record { capacity = capacity; events = []; seats = seats }) }
-        ensures refused { IfErr result (λ e. e ≡ out_of_memory) }
+        ensures { Makes (new_past capacity seats) result }
     {
         Ok(Desk {
             core: QueueCore::new(alloc.clone()?, capacity)?,
@@ -148,8 +149,9 @@ impl<A: Allocator + Clone> Desk<A> {
 
     /// Takes the oldest text for the seat.
     pub fn take(&mut self, seat: &mut Seat<A>) -> Result<Taken<Text<A>>, AuditError>
-        ensures ok { IfOk result (λ t. (self.new ≡ noting self.old seat.old call.Take (reply.Take t)) × (seat.new ≡ receiving seat.old call.Take (reply.Take t))) }
-        ensures err { IfErr result (λ e. IsAuditRefusal self.old seat.old e × (self.new ≡ self.old) × (seat.new ≡ seat.old)) }
+        ensures ok { IfOk result (λ t.
+            Notes self.old self.new seat.old seat.new call.Take (reply.Take t)) }
+        ensures err { IfErr result (DoesNothing self.old self.new seat.old seat.new) }
     {
         if !self.knows(seat) {
             return Err(AuditError::Stranger);
@@ -172,8 +174,10 @@ impl<A: Allocator + Clone> Desk<A> {
         seat: &mut Seat<A>,
         text: Text<A>,
     ) -> Result<SubmitReply, (AuditError, Text<A>)>
-        ensures ok { IfOk result (λ r. (self.new ≡ noting self.old seat.old (call.Submit text) (reply.Submit r)) × (seat.new ≡ receiving seat.old (call.Submit text) (reply.Submit r))) }
-        ensures err { IfErr result (λ e. IsAuditRefusal self.old seat.old e.0 × (e.1 ≡ text) × (self.new ≡ self.old) × (seat.new ≡ seat.old)) }
+        ensures ok { IfOk result (λ r.
+            Notes self.old self.new seat.old seat.new (call.Submit text) (reply.Submit r)) }
+        ensures err { IfErr result (λ e. DoesNothing self.old self.new seat.old seat.new e.0) }
+        ensures back { IfErr result (λ e. e.1 ≡ text) }
     {
         if !self.knows(seat) {
             return Err((AuditError::Stranger, text));

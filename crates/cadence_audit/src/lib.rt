@@ -1,10 +1,9 @@
 //! A queue that threads share, with a history of its calls and a receipt of each call for its caller. At its end the
-//! history is known to be one that a single thread could have made, with the callers' calls and no others. This
-//! project's own; cadence has channels.
+//! history is known to be one that a single thread could have made, with the callers' calls and no others.
 #![tactic(auto)]
 
 ghost use Rattle.std.specs.Prelude.{◌≡◌, ◌↔◌, length, string_bytes, All, IfOk, IfErr, OnErr, OnOk, Err};
-ghost use Rattle.cadence_errors.specs.Errors.{out_of_memory};
+ghost use Rattle.cadence_errors.specs.Errors.{OnlyWantsMemory};
 ghost use Rattle.cadence_audit.specs.AuditHistory.{IsLegal, AreInOrder};
 ghost use Rattle.cadence_audit.specs.AuditSeats.{receiving, AreNewSeats, HasAllSeats, StandsIn, receipt_count};
 ghost use Rattle.cadence_audit.specs.TakenText.{taken_bytes};
@@ -34,7 +33,7 @@ pub use text::Text;
 
 /// A queue that threads share by reference, each through its own seat. Each call is one step of a `QueueCore` under
 /// a lock. A call that is answered Ok is an event of the history that the lock keeps, and adds a receipt to the
-/// caller's seat. This project's own.
+/// caller's seat.
 #[derive(Drop)]
 pub struct AuditedQueue<A: Allocator = Global> {
     capacity: Option<usize>,
@@ -71,7 +70,7 @@ impl<A: Allocator + Clone> AuditedQueue<A> {
     ) -> MetricResult<(AuditedQueue<A>, Vec<Seat<A>, A>)>
         ensures queue { IfOk result (λ p. p.0 ≡ record { capacity = capacity; seats = seats }) }
         ensures seats { IfOk result (λ p. AreNewSeats seats p.1.items) }
-        ensures refused { IfErr result (λ e. e ≡ out_of_memory) }
+        ensures refused { OnlyWantsMemory result }
     {
         let desk = Desk::new(alloc.clone()?, capacity, seats)?;
         let places = new_seats(alloc, seats)?;
@@ -91,8 +90,10 @@ impl<A: Allocator + Clone> AuditedQueue<A> {
         seat: &mut Seat<A>,
         text: String<A>,
     ) -> Result<SubmitReply, (AuditError, String<A>)>
-        ensures ok { IfOk result (λ r. seat.new ≡ receiving seat.old (call.Submit (string_bytes text)) (reply.Submit r)) }
-        ensures err { IfErr result (λ e. (string_bytes e.1 ≡ string_bytes text) × (seat.new ≡ seat.old)) }
+        ensures ok { IfOk result (λ r.
+            seat.new ≡ receiving seat.old (call.Submit (string_bytes text)) (reply.Submit r)) }
+        ensures back { IfErr result (λ e. string_bytes e.1 ≡ string_bytes text) }
+        ensures err { OnErr result (seat.new ≡ seat.old) }
     {
         match self.desk.lock(rt).submit(seat, Text::from(text)) {
             Ok(reply) => Ok(reply),
@@ -102,7 +103,8 @@ impl<A: Allocator + Clone> AuditedQueue<A> {
 
     /// Takes the oldest text. At an `AuditError` queue and seat are as they were.
     pub fn take(&self, rt: &impl Wait, seat: &mut Seat<A>) -> Result<Taken<String<A>>, AuditError>
-        ensures ok { IfOk result (λ t. seat.new ≡ receiving seat.old call.Take (reply.Take (taken_bytes t))) }
+        ensures ok { IfOk result (λ t.
+            seat.new ≡ receiving seat.old call.Take (reply.Take (taken_bytes t))) }
         ensures err { OnErr result (seat.new ≡ seat.old) }
     {
         match self.desk.lock(rt).take(seat) {
@@ -126,7 +128,8 @@ impl<A: Allocator> AuditedQueue<A> {
     /// capacity under the lock is not the queue's, or the history does not agree with the seats. After a fault queue
     /// and seats are gone.
     pub fn end(self, seats: Vec<Seat<A>, A>) -> Result<History<A>, EndFault>
-        ensures missing { (result ≡ Err fault.SeatsMissing) ↔ (HasAllSeats self.seats seats.items → ⊥) }
+        ensures missing { (result ≡ Err fault.SeatsMissing) ↔
+            (HasAllSeats self.seats seats.items → ⊥) }
         ensures all { OnOk result (HasAllSeats self.seats seats.items) }
         ensures legal { IfOk result (λ h. IsLegal self.capacity h) }
         ensures order { IfOk result (λ h. AreInOrder h) }

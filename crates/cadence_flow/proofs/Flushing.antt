@@ -4,7 +4,8 @@ use Rattle.std.proofs.lemmas.List.{append-nil, drop_all}
 use Rattle.std.specs.List.{concat}
 use Rattle.cadence_errors.specs.declared.SinkError.{SinkError}
 use Rattle.cadence_flow.specs.Writer.{History, Kind, RefusedNothing, Sends, Extends}
-use Rattle.cadence_flow.specs.Packer.{Flushes, HasCause, whole_text, closed_packets}
+use Rattle.cadence_flow.specs.Frame.{held_packet}
+use Rattle.cadence_flow.specs.Packer.{Flushes, HasCause, whole_text}
 use Rattle.cadence_flow.proofs.Histories.{Sends-joined, SendsThen-joined, Sends-Extends, SendsThen-Extends}
 
 -- what is left where the first `sent` bytes are taken
@@ -42,7 +43,7 @@ module _ (kind : Kind) (old new : History) (held : List ℕ) (sent : ℕ) where
         unchanged = λ w. tt;
       }
     where
-      closed : (text : List ℕ) → 0 < length text → old.packets ++ text ∷ [] ≡ closed_packets old.packets text
+      closed : (text : List ℕ) → 0 < length text → old.packets ++ text ∷ [] ≡ old.packets ++ held_packet text
       closed [] p = absurd (omega arith)
       closed (b ∷ bs) p = refl
   Flushes-sent (Err e) some all left kept sends cause one none =

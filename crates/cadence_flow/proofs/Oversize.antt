@@ -4,8 +4,8 @@ use Rattle.std.proofs.lemmas.Bool.{false≢true}
 use Rattle.std.proofs.lemmas.List.{append-nil, drop_all}
 use Rattle.std.specs.List.{concat}
 use Rattle.cadence_errors.specs.declared.SinkError.{SinkError}
-use Rattle.cadence_flow.specs.Frame.{Format, size_of, is_oversize, frame_of}
-use Rattle.cadence_flow.specs.Packer.{Flushes, Writes, whole_text, closed_packets}
+use Rattle.cadence_flow.specs.Frame.{Format, size_of, is_oversize, frame_of, held_packet}
+use Rattle.cadence_flow.specs.Packer.{Flushes, Writes, whole_text}
 use Rattle.cadence_flow.specs.Writer.{History, Kind, Sends, WritesPacket, after_packet}
 use Rattle.cadence_flow.proofs.Histories.{concat-push, Sends-then, Extends-trans, Extends-refl}
 
@@ -36,7 +36,7 @@ module _ (kind : Kind) (old mid new : History) (held : List ℕ) (format : Forma
         last = λ t _. Sends-then old mid new held (take n line) (flushed.sent t) (ap (λ (h : History). h.packets) (answered.taken t));
         closes = λ _ _ _ no. absurd (false≢true (sym no ∙ over));
         alone = λ t w _. ap (λ (h : History). h.packets) (answered.taken t) ∙ ap (λ (ps : List (List ℕ)). ps ++ take n line ∷ []) (flushed.one_packet t w)
-            ∙ ap (λ (l : List ℕ). closed_packets old.packets held ++ l ∷ []) (take_all n line (omega (arith, answered.whole w)));
+            ∙ ap (λ (l : List ℕ). (old.packets ++ held_packet held) ++ l ∷ []) (take_all n line (omega (arith, answered.whole w)));
         refused = λ _ _. tt;
       }
   Writes-alone (Err e) flushed over passes answered =

@@ -1,6 +1,5 @@
 -- How far a text is sent.
 use Rattle.std.proofs.Common.{◌≡◌, ℕ, ◌+◌, ◌-◌, ◌<◌, ◌≤◌, true, [], ◌∷◌, ◌++◌, List, length, take, drop, ap, ◌∙◌, sym, arith, length-drop, append_assoc, take_all, refl, zero, suc}
-use Rattle.std.proofs.lemmas.List.{append-nil}
 use Rattle.std.proofs.lemmas.List.Elements.{All-push}
 use lib.Seq.{take-add}
 use Rattle.cadence_flow.specs.Writer.{History, Kind, RefusedNothing, Sends, after_packet}
@@ -18,9 +17,6 @@ pub record SentSoFar (kind : Kind) (old now : History) (xs : List ℕ) (sent : �
 -- what is offered after the first `sent` bytes, as a slice has it
 pub rest_is : (xs : List ℕ) (sent : ℕ) → take (length xs - sent) (drop sent xs) ≡ drop sent xs
 rest_is xs sent = take_all (length xs - sent) (drop sent xs) (omega (arith, length-drop sent xs))
-
-pub Sends-refl : (old : History) (xs : List ℕ) → Sends old old (take 0 xs)
-Sends-refl old xs = record { more = []; packets = sym (append-nil old.packets); joined = refl; none_empty = λ k d h. absurd (omega arith) }
 
 Sends-more : (old mid new : History) (xs : List ℕ) (sent n : ℕ) → Sends old mid (take sent xs) → 0 < length (take n (drop sent xs)) → new ≡ after_packet mid (take n (drop sent xs)) → Sends old new (take (sent + n) xs)
 Sends-more old mid new xs sent n s some e =

@@ -1,5 +1,5 @@
 -- What a line is in a packet.
-use Rattle.std.specs.Prelude.{ℕ, ◌+◌, nat_lt, Bool, if◌then◌else◌, List, ◌++◌, length, take}
+use Rattle.std.specs.Prelude.{ℕ, ◌+◌, nat_lt, Bool, if◌then◌else◌, List, [], ◌∷◌, ◌++◌, length, take}
 use Rattle.std.specs.List.{flat_map}
 
 -- how much a packet holds, and what follows each line
@@ -26,3 +26,12 @@ frame_of format line n = if is_oversize format line then take n line else line +
 -- the frames of lines, one after the other
 abbrev pub stream : Format → List (List ℕ) → List ℕ
 stream format lines = flat_map (frame format) lines
+
+-- what was taken of the frames of lines, one after the other: of an oversize line as many bytes as were counted
+abbrev pub taken_stream : Format → List (List ℕ × ℕ) → List ℕ
+taken_stream format kept = flat_map (λ k. frame_of format k.0 k.1) kept
+
+-- the held text as the last packet, where there is any
+abbrev pub held_packet : List ℕ → List (List ℕ)
+held_packet [] = []
+held_packet (byte ∷ rest) = (byte ∷ rest) ∷ []

@@ -4,8 +4,9 @@ use Rattle.std.specs.declared.result.Result.{Result}
 use Rattle.cadence_errors.specs.declared.SinkError.{SinkError}
 use Rattle.cadence_errors.specs.declared.SinkError.TheVariants.{ChannelFull, ChannelDisconnected, Io, PacketRefused, NothingWritten, OutOfMemory, NoAddresses}
 use Rattle.cadence_flow.specs.Sums.{zero_sums}
-use Rattle.cadence_flow.specs.Writer.{History, Kind}
+use Rattle.cadence_flow.specs.Writer.{History, Kind, history_of, no_refusals}
 use Rattle.cadence_flow.specs.declared.io.packet_log.Answer.{Answer}
+use Rattle.cadence_flow.specs.declared.io.refusals.Refusals.{Refusals}
 use Rattle.cadence_flow.specs.declared.io.packet_log.Answer.TheVariants.{Whole, Short, Refuse}
 
 -- the packets taken, the whole script, how much of it is used, and the refusals
@@ -13,12 +14,11 @@ pub record LogState : Type 0 where
   pub packets : List (List ℕ)
   pub script : List Answer
   pub used : ℕ
-  pub refusals : ℕ
-  pub refused_bytes : ℕ
+  pub refusals : Refusals
 
 -- a log that took and refused nothing yet
 abbrev pub new_log : List Answer → LogState
-new_log script = record { packets = []; script = script; used = 0; refusals = 0; refused_bytes = 0 }
+new_log script = record { packets = []; script = script; used = 0; refusals = no_refusals }
 
 -- the errors that a log may give
 abbrev pub log_may_give : SinkError → Bool
@@ -39,7 +39,7 @@ has_no_short (Refuse ∷ rest) = has_no_short rest
 
 -- what a log means as a writer
 abbrev pub log_history : LogState → History
-log_history l = record { packets = l.packets; refusals = l.refusals; refused_bytes = l.refused_bytes }
+log_history l = history_of l.packets l.refusals
 
 abbrev pub log_kind : LogState → Kind
 log_kind l =

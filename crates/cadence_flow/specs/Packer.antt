@@ -1,12 +1,12 @@
 -- What a packer keeps, and what its calls do.
-use Rattle.std.specs.Prelude.{◌≡◌, ℕ, ◌+◌, ◌<◌, ◌≤◌, ◌-◌, true, false, List, [], ◌∷◌, ◌++◌, length, take, drop, ◌⊎◌, IsOk, IfOk, IfErr, OnOk, OnErr, Ok, Err}
+use Rattle.std.specs.Prelude.{◌≡◌, ℕ, ◌+◌, ◌<◌, ◌≤◌, ◌-◌, true, false, List, [], ◌∷◌, ◌++◌, length, take, drop, ◌⊎◌, ◌↔◌, Bool, IsTrue, IsFalse, IsOk, IfOk, IfErr, OnOk, OnErr, Ok, Err, Vec}
 use Rattle.std.specs.declared.result.Result.{Result}
 use Rattle.std.specs.List.{concat}
 use Rattle.std.specs.Coded.{Coded, coded×, coded_ℕ, coded_list, code_by}
 use Rattle.std.proofs.Common.{refl}
 use Rattle.cadence_errors.specs.declared.SinkError.{SinkError}
 use Rattle.cadence_errors.specs.declared.SinkError.TheVariants.{NothingWritten}
-use Rattle.cadence_flow.specs.Frame.{Format, size_of, is_oversize, frame_of}
+use Rattle.cadence_flow.specs.Frame.{Format, size_of, is_oversize, frame_of, held_packet}
 use Rattle.cadence_flow.specs.Writer.{History, Kind, RefusedNothing, RefusedOne, Extends, Sends, SendsThen}
 
 -- the writer, the text that waits for it, and the format
@@ -32,6 +32,14 @@ with_held p held = record { writer = p.writer; held = held; format = p.format }
 abbrev pub with_writer : {W : Type 0} → Packer W → W → Packer W
 with_writer p w = record { writer = w; held = p.held; format = p.format }
 
+-- a line and its ending fit the free room
+abbrev pub Fits : {W : Type 0} → Packer W → List ℕ → Type 0
+Fits p line = length p.held + size_of p.format line ≤ p.format.capacity
+
+-- the same with a line and its ending behind the text that waits
+abbrev pub holding : {W : Type 0} → Packer W → List ℕ → Packer W
+holding p line = with_held p (p.held ++ (line ++ p.format.ending))
+
 -- the packets that a writer took, joined, and then the held text
 abbrev pub whole_text : History → List ℕ → List ℕ
 whole_text h held = concat h.packets ++ held
@@ -40,11 +48,6 @@ whole_text h held = concat h.packets ++ held
 abbrev pub given_by : Format → List ℕ → Result ℕ SinkError → List ℕ
 given_by format line (Ok n) = frame_of format line n
 given_by format line (Err e) = []
-
--- the packets with the held text as one more, where there is any
-abbrev pub closed_packets : List (List ℕ) → List ℕ → List (List ℕ)
-closed_packets packets [] = packets
-closed_packets packets (b ∷ bs) = packets ++ (b ∷ bs) ∷ []
 
 -- what was taken of the held text where the rest of it is left
 abbrev pub taken_of : List ℕ → List ℕ → List ℕ
@@ -91,7 +94,7 @@ pub record Flushes {A : Type 0} (kind : Kind) (old new : History) (held rest : L
   pub extends : kind.tells ≡ true → Extends old new
   pub sent : kind.tells ≡ true → OnOk result (Sends old new held)
   -- a writer that takes whole gets one packet, or refuses it
-  pub one_packet : kind.tells ≡ true → kind.takes_whole ≡ true → OnOk result (new.packets ≡ closed_packets old.packets held)
+  pub one_packet : kind.tells ≡ true → kind.takes_whole ≡ true → OnOk result (new.packets ≡ old.packets ++ held_packet held)
   pub unchanged : kind.takes_whole ≡ true → OnErr result ((rest ≡ held) × (new.packets ≡ old.packets))
 
 -- what writing a line does
@@ -117,6 +120,41 @@ pub record Writes (kind : Kind) (format : Format) (old new : History) (held rest
   pub sent : kind.tells ≡ true → format.capacity < length held + size_of format line → is_oversize format line ≡ false → OnOk result (Sends old new held)
   pub last : kind.tells ≡ true → is_oversize format line ≡ true → IfOk result (λ n. SendsThen old new held (take n line))
   -- a writer that takes whole gets the held text as one packet, and an oversize line as another
-  pub closes : kind.tells ≡ true → kind.takes_whole ≡ true → format.capacity < length held + size_of format line → is_oversize format line ≡ false → OnOk result (new.packets ≡ closed_packets old.packets held)
-  pub alone : kind.tells ≡ true → kind.takes_whole ≡ true → is_oversize format line ≡ true → OnOk result (new.packets ≡ closed_packets old.packets held ++ line ∷ [])
-  pub refused : kind.tells ≡ true → kind.takes_whole ≡ true → OnErr result ((rest ≡ [] → new.packets ≡ closed_packets old.packets held) × (0 < length rest → (rest ≡ held) × (new.packets ≡ old.packets)))
+  pub closes : kind.tells ≡ true → kind.takes_whole ≡ true → format.capacity < length held + size_of format line → is_oversize format line ≡ false → OnOk result (new.packets ≡ old.packets ++ held_packet held)
+  pub alone : kind.tells ≡ true → kind.takes_whole ≡ true → is_oversize format line ≡ true → OnOk result (new.packets ≡ (old.packets ++ held_packet held) ++ line ∷ [])
+  pub refused : kind.tells ≡ true → kind.takes_whole ≡ true → OnErr result ((rest ≡ [] → new.packets ≡ old.packets ++ held_packet held) × (0 < length rest → (rest ≡ held) × (new.packets ≡ old.packets)))
+
+-- making a packer gives one that holds nothing, or the writer back
+pub record MakesPacker {W : Type 0} (writer : W) (capacity : ℕ) (ending : List ℕ) (result : Result (Packer W) W) : Type 0 where
+  pub made : IfOk result (λ p. p ≡ new_packer writer capacity ending)
+  pub returned : IfErr result (λ w. w ≡ writer)
+
+-- how a packer writes a line, over writers of this kind and history
+pub record WritesLine {W : Type 0} (kind : W → Kind) (history : W → History) (old new : Packer W) (line : List ℕ) (result : Result ℕ SinkError) : Type 0 where
+  pub same_kind : kind new.writer ≡ kind old.writer
+  pub same_format : new.format ≡ old.format
+  -- a line that fits is only held
+  pub only_held : Fits old line → new ≡ holding old line
+  pub writes : Writes (kind old.writer) old.format (history old.writer) (history new.writer) old.held new.held line result
+
+-- how a packer holds a line: it answers whether the line fits, and holds one that does
+pub record HoldsLine {W : Type 0} (old new : Packer W) (line : List ℕ) (result : Bool) : Type 0 where
+  pub exact : IsTrue result ↔ Fits old line
+  pub held : IsTrue result → new ≡ holding old line
+  pub unchanged : IsFalse result → new ≡ old
+
+-- how a packer flushes, over writers of this kind and history
+pub record FlushesHeld {W : Type 0} {A : Type 0} (kind : W → Kind) (history : W → History) (old new : Packer W) (result : Result A SinkError) : Type 0 where
+  pub same_kind : kind new.writer ≡ kind old.writer
+  pub same_format : new.format ≡ old.format
+  -- with nothing held it does nothing
+  pub untouched : old.held ≡ [] → new ≡ old
+  pub flushes : Flushes (kind old.writer) (history old.writer) (history new.writer) old.held new.held result
+
+-- taking another writer gives back the old one and its text; or else the new one, and nothing changed
+pub record ReplacesWriter {W Z : Type 0} (old new : Packer W) (writer : W) (result : Result (W × Vec ℕ Z) W) : Type 0 where
+  pub old_writer : IfOk result (λ p. p.0 ≡ old.writer)
+  pub old_text : IfOk result (λ p. p.1.items ≡ old.held)
+  pub renewed : OnOk result (new ≡ with_held (with_writer old writer) [])
+  pub returned : IfErr result (λ w. w ≡ writer)
+  pub unchanged : OnErr result (new ≡ old)

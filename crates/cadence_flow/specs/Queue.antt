@@ -28,6 +28,10 @@ module _ {T : Type 0} where
   abbrev pub accepting : Queue T → T → Queue T
   accepting q text = record q { waiting = q.waiting ++ text ∷ []; submitted = (q.submitted + 1) % 2 ^ 64 }
 
+  -- the queue was neither stopped nor full, and has the text put last
+  abbrev pub Accepts : Queue T → T → Queue T → Type 0
+  Accepts q text r = (q.stopped ≡ false) × (is_full q ≡ false) × (r ≡ accepting q text)
+
   -- why a queue refuses a text: it is stopped; else it is full; else memory ran out
   abbrev pub refusal : Queue T → SinkError
   refusal q = cond q.stopped ChannelDisconnected (cond (is_full q) ChannelFull OutOfMemory)

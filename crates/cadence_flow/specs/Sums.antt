@@ -23,16 +23,6 @@ abbrev pub after_answer : SinkStats → Result ℕ SinkError → ℕ → SinkSta
 after_answer sums (Ok n) len = after_taken sums n
 after_answer sums (Err e) len = after_refused sums len
 
--- the sums of all that a writer took and refused, with those at the start
-abbrev pub sums_since : SinkStats → History → SinkStats
-sums_since start h =
-    record {
-      bytes_sent = (start.bytes_sent + length (concat h.packets)) % 2 ^ 64;
-      packets_sent = (start.packets_sent + length h.packets) % 2 ^ 64;
-      bytes_dropped = (start.bytes_dropped + h.refused_bytes) % 2 ^ 64;
-      packets_dropped = (start.packets_dropped + h.refusals) % 2 ^ 64;
-    }
-
 -- a less b, modulo 2^64
 abbrev pub less : ℕ → ℕ → ℕ
 less a b = (a + 18446744073709551615 * b) % 2 ^ 64

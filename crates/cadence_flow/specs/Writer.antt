@@ -1,8 +1,9 @@
 -- What a writer of packets means.
-use Rattle.std.specs.Prelude.{◌≡◌, ℕ, ◌+◌, ◌%◌, ◌^◌, ◌<◌, ◌≤◌, Bool, true, List, [], ◌∷◌, ◌++◌, length, take, IfOk, IfErr, OnOk, All}
+use Rattle.std.specs.Prelude.{◌≡◌, ℕ, ◌+◌, ◌%◌, ◌^◌, ◌<◌, ◌≤◌, Bool, true, List, [], ◌∷◌, ◌++◌, length, take, Ok, Err, IfOk, IfErr, OnOk, All}
 use Rattle.std.specs.declared.result.Result.{Result}
 use Rattle.std.specs.List.{concat}
 use Rattle.cadence_errors.specs.declared.SinkError.{SinkError}
+use Rattle.cadence_flow.specs.declared.io.refusals.Refusals.{Refusals}
 use Rattle.cadence_flow.specs.declared.stats.SinkStats.{SinkStats}
 
 -- the packets that a writer took, the oldest first, and the number and total length of its refusals, both modulo 2^64
@@ -32,6 +33,21 @@ after_refusal h n =
       refusals = (h.refusals + 1) % 2 ^ 64;
       refused_bytes = (h.refused_bytes + n) % 2 ^ 64;
     }
+
+-- nothing was refused
+abbrev pub no_refusals : Refusals
+no_refusals = record { count = 0; bytes = 0 }
+
+-- the refusals after what was answered to a packet of this length
+abbrev pub refusals_after : Refusals → Result ℕ SinkError → ℕ → Refusals
+refusals_after refusals (Ok n) len = refusals
+refusals_after refusals (Err e) len =
+    record { count = (refusals.count + 1) % 2 ^ 64; bytes = (refusals.bytes + len) % 2 ^ 64 }
+
+-- the history of these packets and refusals
+abbrev pub history_of : List (List ℕ) → Refusals → History
+history_of packets refusals =
+    record { packets = packets; refusals = refusals.count; refused_bytes = refusals.bytes }
 
 -- nothing was refused between the two
 abbrev pub RefusedNothing : History → History → Type 0

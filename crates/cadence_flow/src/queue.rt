@@ -3,6 +3,8 @@
 mod queue_core;
 mod shared;
 mod text_ring;
+mod worker_end;
 
 pub use queue_core::{QueueCore, Taken};
 pub use shared::SharedQueue;
+pub use worker_end::WorkerEnd;

@@ -2,10 +2,11 @@
 
 mod socket;
 
+use cadence_errors::SinkError;
 pub use socket::SocketStats;
 
-/// How many bytes and packets were sent and dropped, each modulo 2 to the 64. As in cadence; the two `add_` calls
-/// are this project's own. A packet that is refused and sent later counts in both.
+/// How many bytes and packets were sent and dropped, each modulo 2 to the 64. A packet that is refused and sent later
+/// counts in both.
 #[derive(Clone, Copy, Debug, Default, PartialEq, Eq)]
 pub struct SinkStats {
     /// The bytes that were taken.
@@ -19,22 +20,60 @@ pub struct SinkStats {
 }
 
 impl SinkStats {
-    ghost use Rattle.std.specs.Prelude.{◌≡◌};
-    ghost use Rattle.cadence_flow.specs.Sums.{after_refused, after_taken};
+    ghost use Rattle.std.specs.Prelude.{◌≡◌, ◌+◌, ◌%◌, ◌^◌};
+    ghost use Rattle.cadence_flow.specs.Sums.{after_answer, after_refused, after_taken};
 
     /// Adds one packet of which n bytes were taken.
     pub fn add_taken(&mut self, n: usize)
         ensures { self.new ≡ after_taken self.old n }
     {
-        self.bytes_sent = self.bytes_sent.wrapping_add(n as u64);
-        self.packets_sent = self.packets_sent.wrapping_add(1);
+        self.add_bytes_sent(n as u64);
+        self.add_packet_sent();
     }
 
     /// Adds one refused packet of `len` bytes.
     pub fn add_refused(&mut self, len: usize)
         ensures { self.new ≡ after_refused self.old len }
     {
-        self.bytes_dropped = self.bytes_dropped.wrapping_add(len as u64);
+        self.add_bytes_dropped(len as u64);
+        self.add_packet_dropped();
+    }
+
+    /// Adds what was answered to a packet of `len` bytes.
+    pub fn add_answer(&mut self, answer: &Result<usize, SinkError>, len: usize)
+        ensures { self.new ≡ after_answer self.old answer.now len }
+    {
+        match answer {
+            Ok(n) => self.add_taken(*n),
+            Err(_) => self.add_refused(len),
+        }
+    }
+
+    fn add_bytes_sent(&mut self, n: u64)
+        ensures { self.new ≡
+            record self.old { bytes_sent = (self.old.bytes_sent + n) % 2 ^ 64 } }
+    {
+        self.bytes_sent = self.bytes_sent.wrapping_add(n);
+    }
+
+    fn add_packet_sent(&mut self)
+        ensures { self.new ≡
+            record self.old { packets_sent = (self.old.packets_sent + 1) % 2 ^ 64 } }
+    {
+        self.packets_sent = self.packets_sent.wrapping_add(1);
+    }
+
+    fn add_bytes_dropped(&mut self, n: u64)
+        ensures { self.new ≡
+            record self.old { bytes_dropped = (self.old.bytes_dropped + n) % 2 ^ 64 } }
+    {
+        self.bytes_dropped = self.bytes_dropped.wrapping_add(n);
+    }
+
+    fn add_packet_dropped(&mut self)
+        ensures { self.new ≡
+            record self.old { packets_dropped = (self.old.packets_dropped + 1) % 2 ^ 64 } }
+    {
         self.packets_dropped = self.packets_dropped.wrapping_add(1);
     }
 }

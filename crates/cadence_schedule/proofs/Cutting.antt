@@ -9,7 +9,7 @@ use Rattle.std.proofs.lemmas.List.Elements.{Contains-push_cases, Contains-append
 use Rattle.std.proofs.lemmas.Bool.{cases_lt, le-ltb, lt-ltb, cond-true, cond-false}
 use Rattle.cadence_schedule.specs.Plan.{FitsPacket, PassesWithNext}
 use Rattle.cadence_flow.specs.Frame.{Format, size_of, frame, stream}
-use Rattle.cadence_schedule.specs.Packets.{held_packet}
+use Rattle.cadence_flow.specs.Frame.{held_packet}
 use Rattle.cadence_schedule.proofs.PlanSteps.{sum-cons, not_at}
 use Rattle.cadence_schedule.proofs.Ends.{ends, split_end, neighbours_end, joined}
 

@@ -4,11 +4,10 @@ use Rattle.std.specs.Prelude.{Contains, nat_le}
 use Rattle.std.proofs.lemmas.List.{append-nil, append_assoc, length-append, map-append, same_from_push}
 use Rattle.std.proofs.lemmas.Bool.{cases_lt, lt-ltb, le-ltb, le-leb, lt-leb}
 use Rattle.cadence_errors.specs.declared.SinkError.{SinkError}
-use Rattle.cadence_flow.specs.Frame.{Format, size_of, is_oversize, frame}
-use Rattle.cadence_flow.specs.Packer.{Writes, closed_packets}
+use Rattle.cadence_flow.specs.Frame.{Format, size_of, is_oversize, frame, held_packet}
+use Rattle.cadence_flow.specs.Packer.{Writes}
 use Rattle.cadence_flow.specs.Writer.{History, Kind}
 use Rattle.cadence_schedule.specs.Plan.{PassesWithNext}
-use Rattle.cadence_schedule.specs.Packets.{held_packet}
 use Rattle.cadence_schedule.specs.Moves.{HasLast, Counted, CountsLine, joins_held}
 use Rattle.cadence_schedule.proofs.Cutting.{IsCutSoFar, new_group, joins_group, refuses_line, last_held, held_last, frame_within, frame_past, held_packet_is, nil_front}
 
@@ -24,13 +23,9 @@ abbrev pub Refused : List ℕ → List (List ℕ) → List ℕ → List ℕ → 
 Refused plan packets held plan' packets' held' =
     (plan' ≡ plan) × (((packets' ≡ packets) × (held' ≡ held)) ⊎ ((packets' ≡ packets ++ held_packet held) × (held' ≡ [])))
 
-pub closed_is : (packets : List (List ℕ)) (held : List ℕ) → closed_packets packets held ≡ packets ++ held_packet held
-closed_is packets [] = sym (append-nil packets)
-closed_is packets (b ∷ held) = refl
-
 -- the packets since the start, with those that a close adds
-closed_after : (start packets old new : List (List ℕ)) (held : List ℕ) → old ≡ start ++ packets → new ≡ closed_packets old held → new ≡ start ++ (packets ++ held_packet held)
-closed_after start packets old new held o n = n ∙ closed_is old held ∙ ap (λ p. p ++ held_packet held) o ∙ append_assoc start packets (held_packet held)
+closed_after : (start packets old new : List (List ℕ)) (held : List ℕ) → old ≡ start ++ packets → new ≡ old ++ held_packet held → new ≡ start ++ (packets ++ held_packet held)
+closed_after start packets old new held o n = n ∙ ap (λ p. p ++ held_packet held) o ∙ append_assoc start packets (held_packet held)
 
 module _ (kind : Kind) (format : Format) (tells : kind.tells ≡ true) (whole : kind.takes_whole ≡ true) (start : List (List ℕ)) where
   -- the three ways in which a line is kept, by its size and by what is held
@@ -68,7 +63,7 @@ module _ (kind : Kind) (format : Format) (tells : kind.tells ≡ true) (whole : 
   kept_oversize old new packets held rest line plan plan' n o large last w counts =
       let over : is_oversize format line ≡ true = lt-ltb format.capacity (size_of format line) large in
       let plan_is : plan' ≡ plan ++ 1 ∷ [] = subst (λ j. Counted j plan plan') (not_joined held line large) (counts last) in
-      let closed : closed_packets old.packets held ≡ start ++ (packets ++ held_packet held) = closed_after start packets old.packets (closed_packets old.packets held) held o refl in (
+      let closed : old.packets ++ held_packet held ≡ start ++ (packets ++ held_packet held) = closed_after start packets old.packets (old.packets ++ held_packet held) held o refl in (
         (packets ++ held_packet held) ++ line ∷ [],
         w.alone tells whole over ∙ ap (λ p. p ++ line ∷ []) closed ∙ append_assoc start (packets ++ held_packet held) (line ∷ []),
         inr (inr (large, plan_is, refl, w.empties over)),

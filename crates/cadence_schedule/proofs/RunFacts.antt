@@ -6,7 +6,7 @@ use Rattle.std.proofs.lemmas.List.{append-nil, append_assoc, length-append, drop
 use Rattle.std.proofs.lemmas.List.Concat.{flat_map-append}
 use Rattle.std.proofs.lemmas.List.Folds.{concat-append}
 use Rattle.std.proofs.lemmas.List.Sums.{sum_by-cons}
-use Rattle.cadence_flow.specs.Frame.{Format, size_of, frame, stream}
+use Rattle.cadence_flow.specs.Frame.{Format, size_of, frame, stream, held_packet, taken_stream}
 use Rattle.cadence_flow.specs.Sums.{less, start_of, counted_kind, start_if, zero_sums}
 use Rattle.cadence_flow.specs.Writer.{History, Kind, Extends}
 use Rattle.cadence_flow.specs.declared.stats.SinkStats.{SinkStats}
@@ -15,9 +15,9 @@ use Rattle.cadence_schedule.specs.declared.steps.Step.TheVariants as step
 use Rattle.cadence_schedule.specs.declared.steps.Reply.TheVariants as reply
 use Rattle.cadence_schedule.specs.Headline.{packets_between, AreSumsBetween}
 use Rattle.cadence_schedule.specs.History.{Turn, accepted, accepted_by, taken, kept, kept_counts, errors, is_error, marks, refusals, refusal_at, places_after}
-use Rattle.cadence_schedule.specs.Packets.{held_packet, ArePacketsOf}
+use Rattle.cadence_schedule.specs.Packets.{ArePacketsOf}
 use Rattle.cadence_schedule.specs.Plan.{groups_of, IsTight, IsCutLate}
-use Rattle.cadence_schedule.specs.Stream.{taken_stream}
+use Rattle.cadence_flow.specs.Frame.{taken_stream}
 use Rattle.cadence_schedule.specs.Moves.{State, Runs}
 use Rattle.cadence_schedule.proofs.Ends.{joined}
 use Rattle.cadence_schedule.proofs.Shown.{shown, shown_late}

@@ -8,7 +8,7 @@ use Rattle.std.proofs.lemmas.List.Concat.{flat_map-append}
 use Rattle.std.proofs.lemmas.Option.{slice_get_past}
 use Rattle.cadence_errors.specs.declared.MetricError.{MetricError}
 use Rattle.cadence_errors.specs.declared.SinkError.{SinkError}
-use Rattle.cadence_flow.specs.Frame.{Format, frame_of}
+use Rattle.cadence_flow.specs.Frame.{Format, frame_of, held_packet, taken_stream}
 use Rattle.cadence_flow.specs.Packer.{Writes, Flushes, HasCause, whole_text}
 use Rattle.cadence_flow.specs.Queue.{at_capacity}
 use Rattle.cadence_flow.specs.Writer.{History, Kind, Extends}
@@ -18,15 +18,15 @@ use Rattle.cadence_schedule.specs.declared.steps.Reply.{Reply}
 use Rattle.cadence_schedule.specs.declared.steps.Reply.TheVariants as reply
 use Rattle.cadence_schedule.specs.History.{Turn, taken, takes_text, outcome_by, handed_on, stops, is_stopped, errors, is_error, accepted, accepted_by, kept, kept_counts, in_hand, marks, mark_at, refusals, refusal_at}
 use Rattle.cadence_schedule.specs.Replies.{CallReplies, TakeReplies, HandReplies, MayFail, MayReply, MayReplyAfter}
-use Rattle.cadence_schedule.specs.Packets.{held_packet}
-use Rattle.cadence_schedule.specs.Stream.{taken_stream}
+use Rattle.cadence_flow.specs.Frame.{held_packet}
+use Rattle.cadence_flow.specs.Frame.{taken_stream}
 use Rattle.cadence_schedule.specs.Moves.{State, Moves, Runs, HasLast, CountsLine}
 use Rattle.cadence_schedule.proofs.Ends.{joined}
 use Rattle.cadence_schedule.proofs.Growing.{marks-push, refusals-push, replies-push, errors-push}
 use Rattle.cadence_schedule.proofs.Cutting.{IsCutSoFar, marks_flush, no_lines, held_last, joined-push}
 use Rattle.cadence_schedule.proofs.KeptLines.{counts_same, counts_more, counts_refused, accepted_filled, length-kept}
 use Rattle.cadence_schedule.proofs.QueueTurns.{at_start, QueueAfter, SameQueue, quiet, queue_call, queue_take, queue_hand, queue_stop, queue_none, call_accepts, full_hand, slice_get-is}
-use Rattle.cadence_schedule.proofs.PacketTurns.{written, refused, cut_written, cut_refused, closed_is}
+use Rattle.cadence_schedule.proofs.PacketTurns.{written, refused, cut_written, cut_refused}
 
 -- an extension of an extension
 extends_more : (a b c : History) → Extends a b → Extends b c → Extends a c
@@ -248,7 +248,7 @@ module _ {A : Type 0} (line_of : Call A → Option (List ℕ)) (filled : (call :
         refusals = λ whole. ap (λ k. k % 2 ^ 64) f.none_refused.0 ∙ a.refusals whole ∙ ap (λ k. (start.refusals + k) % 2 ^ 64) (sym (errors_same h (step.Flush, reply.Flushed (Ok done)) refl));
         cut = λ tells whole.
             let b = a.cut tells whole in
-            let since : new.writer.packets ≡ start.packets ++ (b.packets ++ held_packet old.held) = f.one_packet tells whole ∙ closed_is old.writer.packets old.held ∙ ap (λ p. p ++ held_packet old.held) b.since ∙ append_assoc start.packets b.packets (held_packet old.held) in
+            let since : new.writer.packets ≡ start.packets ++ (b.packets ++ held_packet old.held) = f.one_packet tells whole ∙ ap (λ p. p ++ held_packet old.held) b.since ∙ append_assoc start.packets b.packets (held_packet old.held) in
             record {
               packets = b.packets ++ held_packet old.held;
               groups = b.groups;

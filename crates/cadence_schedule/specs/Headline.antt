@@ -18,7 +18,7 @@ use Rattle.cadence_schedule.specs.Packets.{ReadsAs}
 use Rattle.cadence_schedule.specs.Replies.{MayReplyAfter}
 use Rattle.cadence_schedule.specs.Report.{Outcome}
 use Rattle.cadence_schedule.specs.Settings.{Settings}
-use Rattle.cadence_schedule.specs.Stream.{taken_stream}
+use Rattle.cadence_flow.specs.Frame.{taken_stream}
 
 -- what a run is given: the metric of each call, the writer's kind and its history before the run, the packer's
 -- capacity and ending, the queue's capacity, and the steps

@@ -12,7 +12,6 @@ pub mod Report
 pub mod Running
 pub mod Settings
 pub mod SettingsParts
-pub mod Stream
 pub use Rattle.cadence_errors.specs.Errors
 pub use Rattle.cadence_text.specs.Line
 pub use Rattle.cadence_text.specs.Metric

@@ -3,13 +3,8 @@ use Rattle.std.specs.Prelude.{◌≡◌, ◌≢◌, ℕ, true, false, List, [], 
 use Rattle.std.specs.List.{AllZip, flat_map}
 use Rattle.cadence_text.specs.Metric.{Metric}
 use Rattle.cadence_text.specs.OneReading.{IsPacketOf, IsReadable}
-use Rattle.cadence_flow.specs.Frame.{Format, size_of, is_oversize, stream}
+use Rattle.cadence_flow.specs.Frame.{Format, size_of, is_oversize, stream, held_packet}
 use Rattle.cadence_schedule.specs.Plan.{groups_of, IsAdmissible}
-
--- the held text as the last packet, where there is any
-abbrev pub held_packet : List ℕ → List (List ℕ)
-held_packet [] = []
-held_packet (byte ∷ rest) = (byte ∷ rest) ∷ []
 
 -- The cut is admissible, and packets and held text are its groups, each the frames of its lines. The last group may
 -- be held, unless it is oversize or a flush came after it; it is held where neither a flush nor a refused line did.

@@ -58,10 +58,7 @@ impl<W: PacketWriter> PacketWriter for CountingWriter<W> {
 
     fn write_packet(&mut self, packet: &[u8]) -> Result<usize, SinkError> {
         let result = self.inner.write_packet(packet);
-        match &result {
-            Ok(n) => self.stats.add_taken(*n),
-            Err(_) => self.stats.add_refused(packet.len()),
-        }
+        self.stats.add_answer(&result, packet.len());
         result
     }
 }

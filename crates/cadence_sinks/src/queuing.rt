@@ -5,7 +5,7 @@ ghost use Rattle.cadence_sinks.specs.Queuing.{IsQueuingRefusal, wrapped_sink, ca
 use super::worklist::{Worklist, work};
 use super::{Handler, MetricSink, SinkErrorHandler};
 use cadence_errors::{MetricResult, SinkError};
-use cadence_flow::queue::SharedQueue;
+use cadence_flow::queue::{SharedQueue, WorkerEnd};
 use cadence_flow::stats::SinkStats;
 use std::alloc::{AllocError, Allocator, Global};
 use std::sync::{Arc, Wait};
@@ -17,6 +17,7 @@ use std::{io, thread};
 struct Shared<S: MetricSink, A: Allocator> {
     sink: S,
     queue: SharedQueue<String<A>, A>,
+    end: WorkerEnd,
 }
 
 // The worker's list: it takes from the queue, and hands on to the wrapped sink.
@@ -80,7 +81,7 @@ impl<S: MetricSink, R: Wait + Drop, A: Allocator> Job<Option<Handler<A>>> for Wo
             handler,
         };
         work(&rt, &mut list);
-        list.shared.queue.mark_end(&rt);
+        list.shared.end.mark(&rt);
     }
 }
 
@@ -141,7 +142,7 @@ impl<S: MetricSink, R: Wait + Drop, A: Allocator> QueuingMetricSink<S, R, A> {
     /// Stops the queue for all handles, and waits until the worker has handed on what was queued and has ended.
     pub fn stop_and_wait(&self) {
         self.shared.queue.stop(&self.rt);
-        self.shared.queue.wait_end(&self.rt);
+        self.shared.end.wait(&self.rt);
     }
 
     /// The number of lines that wait in the queue.
@@ -290,7 +291,8 @@ impl<A: Allocator + Clone + Send + Sync + 'static> QueuingMetricSinkBuilder<A> {
     {
         let QueuingMetricSinkBuilder { capacity, handler } = self;
         let queue = SharedQueue::new(alloc.clone()?, capacity)?;
-        let shared = Arc::new(alloc.clone()?, Shared { sink, queue })?;
+        let end = WorkerEnd::new();
+        let shared = Arc::new(alloc.clone()?, Shared { sink, queue, end })?;
         let worker = Worker {
             rt: rt.clone()?,
             list_rt: rt.clone()?,

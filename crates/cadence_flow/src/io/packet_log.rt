@@ -1,5 +1,5 @@
 //! A writer in memory, for tests and for schedules.
-use super::PacketWriter;
+use super::{PacketWriter, Refusals};
 use cadence_errors::SinkError;
 use std::alloc::{AllocError, Allocator, Global};
 use std::marker::Model;
@@ -17,14 +17,13 @@ pub enum Answer {
 
 /// A writer that keeps the packets that it takes, and answers by a script; after the script's end it takes each
 /// packet whole. A packet for which there is no memory is refused with `SinkError::OutOfMemory`, and the script's
-/// answer is used up. This project's own.
+/// answer is used up.
 #[derive(Drop)]
 pub struct PacketLog<A: Allocator = Global> {
     packets: Vec<Vec<u8, A>, A>,
     script: Vec<Answer, A>,
     used: usize,
-    refusals: u64,
-    refused_bytes: u64,
+    refusals: Refusals,
 }
 
 impl<A: Allocator> Model for PacketLog<A> {
@@ -38,7 +37,6 @@ impl<A: Allocator> Model for PacketLog<A> {
       script = l.script.items;
       used = l.used;
       refusals = l.refusals;
-      refused_bytes = l.refused_bytes;
     } };
 
     ghost invariant = { λ l. l.used ≤ length l.script.items };
@@ -56,8 +54,7 @@ impl<A: Allocator> PacketLog<A> {
             packets: Vec::new(alloc),
             script,
             used: 0,
-            refusals: 0,
-            refused_bytes: 0,
+            refusals: Refusals::none(),
         }
     }
 
@@ -70,8 +67,9 @@ impl<A: Allocator> PacketLog<A> {
 }
 
 impl<A: Allocator + Clone> PacketLog<A> {
-    ghost use Rattle.std.specs.Prelude.{◌≡◌, ◌+◌, ◌%◌, ◌^◌, [], ◌∷◌, ◌++◌, drop, OnOk, OnErr};
+    ghost use Rattle.std.specs.Prelude.{◌≡◌, [], ◌∷◌, ◌++◌, drop, Err, OnOk, OnErr};
     ghost use Rattle.cadence_flow.specs.Log.{next_answer, answers_left};
+    ghost use Rattle.cadence_flow.specs.Writer.{refusals_after};
 
     fn take_answer(&mut self) -> Answer
         ensures answer { result ≡ next_answer (answers_left self.old) }
@@ -88,7 +86,8 @@ impl<A: Allocator + Clone> PacketLog<A> {
     }
 
     fn keep(&mut self, packet: &[u8]) -> Result<(), AllocError>
-        ensures ok { OnOk result (self.new ≡ record self.old { packets = self.old.packets ++ packet.now ∷ [] }) }
+        ensures ok { OnOk result (self.new ≡
+            record self.old { packets = self.old.packets ++ packet.now ∷ [] }) }
         ensures err { OnErr result (self.new ≡ self.old) }
     {
         let alloc = self.packets.allocator().clone()?;
@@ -97,14 +96,15 @@ impl<A: Allocator + Clone> PacketLog<A> {
         Ok(())
     }
 
-    fn refuse(&mut self, len: usize)
-        ensures { self.new ≡ record self.old {
-          refusals = (self.old.refusals + 1) % 2 ^ 64;
-          refused_bytes = (self.old.refused_bytes + len) % 2 ^ 64;
-        } }
+    // Refuses a packet of `len` bytes.
+    fn refuse(&mut self, error: SinkError, len: usize) -> Result<usize, SinkError>
+        ensures answer { result ≡ Err error }
+        ensures noted { self.new ≡
+            record self.old { refusals = refusals_after self.old.refusals (Err error) len } }
     {
-        self.refusals = self.refusals.wrapping_add(1);
-        self.refused_bytes = self.refused_bytes.wrapping_add(len as u64);
+        let answer = Err(error);
+        self.refusals.note(&answer, len);
+        answer
     }
 }
 
@@ -119,7 +119,8 @@ impl<A: Allocator + Clone> PacketWriter for PacketLog<A> {
 
     fn write_packet(&mut self, packet: &[u8]) -> Result<usize, SinkError>
         ensures same_kind { log_kind self.new ≡ log_kind self.old }
-        ensures writes { WritesPacket (log_kind self.old) (log_history self.old) (log_history self.new) packet.now result }
+        ensures writes { WritesPacket (log_kind self.old)
+            (log_history self.old) (log_history self.new) packet.now result }
         ensures follows { Follows (next_answer (answers_left self.old)) packet.now result }
         ensures left { answers_left self.new ≡ drop 1 (answers_left self.old) }
         ensures script { self.new.script ≡ self.old.script }
@@ -127,14 +128,10 @@ impl<A: Allocator + Clone> PacketWriter for PacketLog<A> {
         let count = match self.take_answer() {
             Answer::Whole => packet.len(),
             Answer::Short(n) => n.min(packet.len()),
-            Answer::Refuse => {
-                self.refuse(packet.len());
-                return Err(SinkError::PacketRefused);
-            }
+            Answer::Refuse => return self.refuse(SinkError::PacketRefused, packet.len()),
         };
         if self.keep(&packet[..count]).is_err() {
-            self.refuse(packet.len());
-            return Err(SinkError::OutOfMemory);
+            return self.refuse(SinkError::OutOfMemory, packet.len());
         }
         Ok(count)
     }

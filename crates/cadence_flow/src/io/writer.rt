@@ -4,8 +4,7 @@ ghost use Rattle.cadence_flow.specs.Writer.{History, Kind, WritesPacket};
 
 use cadence_errors::SinkError;
 
-/// A writer that takes packets one by one, as a socket does. This project's own, in place of `std::io::Write`. An
-/// impl states which packets it took and how often it refused (`history`), and what no call changes (`kind`).
+/// A writer that takes packets one by one, as a socket does, in place of `std::io::Write`. An impl states which packets it took and how often it refused (`history`), and what no call changes (`kind`).
 pub trait PacketWriter: Drop {
     /// The packets taken, and the number and total length of the refusals.
     ghost history: { Self → History };
@@ -17,5 +16,6 @@ pub trait PacketWriter: Drop {
     /// nothing was taken.
     fn write_packet(&mut self, packet: &[u8]) -> Result<usize, SinkError>
         ensures same_kind { kind self.new ≡ kind self.old }
-        ensures writes { WritesPacket (kind self.old) (history self.old) (history self.new) packet.now result };
+        ensures writes { WritesPacket (kind self.old)
+            (history self.old) (history self.new) packet.now result };
 }

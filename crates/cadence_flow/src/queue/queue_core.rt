@@ -4,7 +4,7 @@ ghost use Rattle.std.specs.declared.alloc.AllocError.{AllocError};
 ghost use Rattle.cadence_errors.specs.Errors.{out_of_memory};
 ghost use Rattle.cadence_flow.specs.QueueRoom.{IsBounded, TakesRoom};
 ghost use Rattle.cadence_flow.specs.QueueState.{IsWithin, IsCounted};
-ghost use Rattle.cadence_flow.specs.Queue.{IsRefusal, is_open, IsTaken, accepting, stopping, adding_handle, dropping_handle, new_queue, is_full, is_idle};
+ghost use Rattle.cadence_flow.specs.Queue.{Accepts, IsRefusal, is_open, IsTaken, accepting, stopping, adding_handle, dropping_handle, new_queue, is_full, is_idle};
 ghost use Rattle.cadence_flow.specs.QueueModel.{IsQueueOf, IsAccepted, IsNext};
 
 use super::text_ring::TextRing;
@@ -23,7 +23,7 @@ pub enum Taken<T> {
     Ended,
 }
 
-/// A queue of texts: a submit puts one last, a take gets the oldest. This project's own; cadence has channels.
+/// A queue of texts: a submit puts one last, a take gets the oldest.
 #[derive(Drop)]
 pub struct QueueCore<T, A: Allocator = Global> {
     texts: TextRing<T, A>,
@@ -82,8 +82,9 @@ impl<T: Drop, A: Allocator + Clone> QueueCore<T, A> {
     /// which memory ran out `OutOfMemory`; the text comes back and nothing has changed then. A bounded queue takes no
     /// memory.
     pub fn submit(&mut self, text: T) -> Result<(), (SinkError, T)>
-        ensures accepted { OnOk result ((self.old.stopped ≡ false) × (is_full self.old ≡ false) × (self.new ≡ accepting self.old text)) }
-        ensures refused { IfErr result (λ e. IsRefusal self.old e.0 × (e.1 ≡ text) × (self.new ≡ self.old)) }
+        ensures accepted { OnOk result (Accepts self.old text self.new) }
+        ensures refused { IfErr result (λ e.
+            IsRefusal self.old e.0 × (e.1 ≡ text) × (self.new ≡ self.old)) }
         ensures bounded { IsBounded self.old.capacity → IsTrue (is_open self.old) → IsOk result }
         ensures past { OnOk result (IsAccepted self.old text self.new) }
     {
@@ -104,9 +105,11 @@ impl<T: Drop, A: Allocator + Clone> QueueCore<T, A> {
         make: F,
     ) -> Result<(), SinkError>
         requires { F.IsAlwaysCallable make }
-        ensures accepted { OnOk result ((self.old.stopped ≡ false) × (is_full self.old ≡ false) × ((text : T) × F.post make (Ok text) × (self.new ≡ accepting self.old text))) }
+        ensures accepted { OnOk result
+            ((text : T) × F.post make (Ok text) × Accepts self.old text self.new) }
         ensures refused { IfErr result (λ e. IsRefusal self.old e × (self.new ≡ self.old)) }
-        ensures bounded { IsBounded self.old.capacity → IsTrue (is_open self.old) → OnErr result ((error : AllocError) × F.post make (Err error)) }
+        ensures bounded { IsBounded self.old.capacity → IsTrue (is_open self.old) →
+            OnErr result ((error : AllocError) × F.post make (Err error)) }
     {
         if !self.is_open() {
             return Err(self.why_closed());

@@ -1,5 +1,5 @@
 //! A queue that threads share.
-ghost use Rattle.std.specs.Prelude.{◌≡◌, IfErr, true};
+ghost use Rattle.std.specs.Prelude.{◌≡◌, IfErr};
 ghost use Rattle.cadence_errors.specs.Errors.{out_of_memory};
 ghost use Rattle.cadence_flow.specs.Queue.{IsQueueRefusal};
 ghost use Rattle.cadence_flow.specs.QueueRoom.{TakesRoom};
@@ -23,27 +23,10 @@ fn stand_aside() {
     }
 }
 
-// What lies under the lock: the queue, and whether its worker has ended.
-#[derive(Drop)]
-struct Guarded<T, A: Allocator> {
-    core: QueueCore<T, A>,
-    ended: bool,
-}
-
-impl<T, A: Allocator> Guarded<T, A> {
-    fn mark_end(&mut self)
-        ensures marked { self.new.ended ≡ true }
-        ensures queue { self.new.core ≡ self.old.core }
-    {
-        self.ended = true;
-    }
-}
-
-/// A `QueueCore` under a lock, which threads share by reference. Each call is one step of the core. This project's
-/// own; cadence has channels.
+/// A `QueueCore` under a lock, which threads share by reference. Each call is one step of the core.
 #[derive(Drop)]
 pub struct SharedQueue<T, A: Allocator = Global> {
-    guarded: Mutex<Guarded<T, A>>,
+    core: Mutex<QueueCore<T, A>>,
     changed: Condvar,
 }
 
@@ -55,7 +38,7 @@ impl<T: Drop, A: Allocator + Clone> SharedQueue<T, A> {
     {
         let core = QueueCore::new(alloc, capacity)?;
         Ok(SharedQueue {
-            guarded: Mutex::new(Guarded { core, ended: false }),
+            core: Mutex::new(core),
             changed: Condvar::new(),
         })
     }
@@ -65,15 +48,11 @@ impl<T: Drop, A: Allocator + Clone> SharedQueue<T, A> {
     pub fn submit(&self, rt: &impl Wait, text: T) -> Result<(), (SinkError, T)>
         ensures { IfErr result (λ e. IsQueueRefusal e.0 × (e.1 ≡ text)) }
     {
-        let mut guard = self.guarded.lock(rt);
-        let (idle, full) = (guard.core.is_idle(), guard.core.is_full());
-        let answer = guard.core.submit(text);
-        drop(guard);
-        if full {
-            stand_aside();
-        } else if idle && answer.is_ok() {
-            self.changed.notify_all();
-        }
+        let mut core = self.core.lock(rt);
+        let (idle, full) = (core.is_idle(), core.is_full());
+        let answer = core.submit(text);
+        drop(core);
+        self.after_submit(idle, full, answer.is_ok());
         answer
     }
 
@@ -88,23 +67,29 @@ impl<T: Drop, A: Allocator + Clone> SharedQueue<T, A> {
         requires { F.IsAlwaysCallable make }
         ensures { IfErr result IsQueueRefusal }
     {
-        let mut guard = self.guarded.lock(rt);
-        let (idle, full) = (guard.core.is_idle(), guard.core.is_full());
-        let answer = guard.core.submit_with(make);
-        drop(guard);
-        if full {
-            stand_aside();
-        } else if idle && answer.is_ok() {
-            self.changed.notify_all();
-        }
+        let mut core = self.core.lock(rt);
+        let (idle, full) = (core.is_idle(), core.is_full());
+        let answer = core.submit_with(make);
+        drop(core);
+        self.after_submit(idle, full, answer.is_ok());
         answer
     }
 }
 
 impl<T: Drop, A: Allocator> SharedQueue<T, A> {
+    // Wakes those who wait where a queue that was idle has a text now. A caller that found it full stands aside.
+    #[inline(always)]
+    fn after_submit(&self, idle: bool, full: bool, accepted: bool) {
+        if full {
+            stand_aside();
+        } else if idle && accepted {
+            self.changed.notify_all();
+        }
+    }
+
     /// Takes the oldest text, if there is one.
     pub fn try_take(&self, rt: &impl Wait) -> Taken<T> {
-        self.guarded.lock(rt).core.take()
+        self.core.lock(rt).take()
     }
 
     /// Takes the oldest text, and waits while there is none and the queue is not stopped. `None` is the end. It looks
@@ -123,18 +108,18 @@ impl<T: Drop, A: Allocator> SharedQueue<T, A> {
     // Takes the oldest text where the lock is free. A lock that is held counts as an empty queue: to wait for it would
     // make the one who holds it wake a sleeper.
     fn look(&self) -> Taken<T> {
-        match self.guarded.try_lock() {
-            Some(mut guard) => guard.core.take(),
+        match self.core.try_lock() {
+            Some(mut core) => core.take(),
             None => Taken::Empty,
         }
     }
 
     // Takes the oldest text as `take_wait`, and sleeps while there is none.
     fn take_asleep(&self, rt: &impl Wait) -> Option<T> {
-        let mut guard = self
+        let mut core = self
             .changed
-            .wait_while(rt, self.guarded.lock(rt), |g| g.core.is_idle());
-        match guard.core.take() {
+            .wait_while(rt, self.core.lock(rt), |core| core.is_idle());
+        match core.take() {
             Taken::Text(text) => Some(text),
             Taken::Ended => None,
             Taken::Empty => unreachable!(),
@@ -143,45 +128,33 @@ impl<T: Drop, A: Allocator> SharedQueue<T, A> {
 
     /// Sets the stop mark, and wakes those who wait.
     pub fn stop(&self, rt: &impl Wait) {
-        self.guarded.lock(rt).core.stop();
+        self.core.lock(rt).stop();
         self.changed.notify_all();
     }
 
     /// Counts one more handle.
     pub fn add_handle(&self, rt: &impl Wait) {
-        self.guarded.lock(rt).core.add_handle();
+        self.core.lock(rt).add_handle();
     }
 
     /// Counts one handle less. The last one stops the queue, and wakes those who wait.
     pub fn drop_handle(&self, rt: &impl Wait) {
-        self.guarded.lock(rt).core.drop_handle();
+        self.core.lock(rt).drop_handle();
         self.changed.notify_all();
-    }
-
-    /// Marks that the worker has ended, and wakes those who wait for it.
-    pub fn mark_end(&self, rt: &impl Wait) {
-        self.guarded.lock(rt).mark_end();
-        self.changed.notify_all();
-    }
-
-    /// Waits for the worker's end mark.
-    pub fn wait_end(&self, rt: &impl Wait) {
-        self.changed
-            .wait_while(rt, self.guarded.lock(rt), |g| !g.ended);
     }
 
     /// The number of texts that wait.
     pub fn waiting(&self, rt: &impl Wait) -> usize {
-        self.guarded.lock(rt).core.waiting()
+        self.core.lock(rt).waiting()
     }
 
     /// The number of texts accepted, modulo 2 to the 64.
     pub fn submitted(&self, rt: &impl Wait) -> u64 {
-        self.guarded.lock(rt).core.submitted()
+        self.core.lock(rt).submitted()
     }
 
     /// The number of texts taken, modulo 2 to the 64.
     pub fn drained(&self, rt: &impl Wait) -> u64 {
-        self.guarded.lock(rt).core.drained()
+        self.core.lock(rt).drained()
     }
 }

@@ -67,7 +67,8 @@ impl<T: Drop, A: Allocator + Clone> TextRing<T, A> {
     pub fn push_back(&mut self, text: T) -> Result<(), T>
         ensures pushed { OnOk result (self.new.items ≡ self.old.items ++ text ∷ []) }
         ensures same { IfErr result (λ back. (back ≡ text) × (self.new ≡ self.old)) }
-        ensures room { length self.old.items < self.old.capacity → IsOk result × (self.new.capacity ≡ self.old.capacity) }
+        ensures room { length self.old.items < self.old.capacity →
+            IsOk result × (self.new.capacity ≡ self.old.capacity) }
     {
         match self.put(text) {
             Ok(()) => Ok(()),
@@ -115,7 +116,8 @@ impl<T: Drop, A: Allocator> TextRing<T, A> {
 
     // Puts a text last, or gives it back where there is no room.
     fn put(&mut self, text: T) -> Result<(), T>
-        ensures pushed { OnOk result (self.new ≡ buffer (self.old.items ++ text ∷ []) self.old.capacity) }
+        ensures pushed { OnOk result
+            (self.new ≡ buffer (self.old.items ++ text ∷ []) self.old.capacity) }
         ensures same { IfErr result (λ back. (back ≡ text) × (self.new ≡ self.old)) }
         ensures room { length self.old.items < self.old.capacity → IsOk result }
     {

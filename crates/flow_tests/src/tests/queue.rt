@@ -1,5 +1,5 @@
 use cadence_errors::{MetricResult, SinkError};
-use cadence_flow::queue::{QueueCore, SharedQueue, Taken};
+use cadence_flow::queue::{QueueCore, SharedQueue, Taken, WorkerEnd};
 use refusing::Refusing;
 use std::alloc::Global;
 use std::test::Fail;
@@ -167,8 +167,8 @@ fn taker_outlives_the_handles(rt: HostRuntime) -> Result<(), Fail> {
 
 #[test]
 fn end_mark_is_waited_for(rt: HostRuntime) -> Result<(), Fail> {
-    let queue: SharedQueue<char> = SharedQueue::new(rt.alloc(), None)?;
-    thread::join(&rt, || queue.wait_end(&rt), || queue.mark_end(&rt));
-    queue.wait_end(&rt);
+    let end = WorkerEnd::new();
+    thread::join(&rt, || end.wait(&rt), || end.mark(&rt));
+    end.wait(&rt);
     Ok(())
 }

@@ -1,0 +1,18 @@
+use Rattle.std.proofs.Common.{length, take, ap, ◌∙◌, arith, ℕ, List}
+use Rattle.cadence_flow.specs.Writer.{after_packet, Kind}
+use Rattle.cadence_flow.proofs.Sending.{SentSoFar-more, rest_is}
+use Rattle.cadence_flow.proofs.io.bytes.send.Goals as goal
+
+pub loop-sent-preserved : goal.loop-sent-preserved
+loop-sent-preserved g c =
+    let so_far = c.loop-sent.invariant in
+    let xs = c.args.bytes.now in
+    let sent = c.loop-sent.sent in
+    let h = c.in-Ok.ensures in
+    let rest = rest_is xs sent in
+    let tells = ap (λ (k : Kind). k.tells) so_far.same_kind in
+    let whole = ap (λ (k : Kind). k.takes_whole) so_far.same_kind in
+    record {
+      same_kind = h.same_kind ∙ so_far.same_kind;
+      so_far = SentSoFar-more _ _ _ _ xs sent c.in-Ok.n so_far.so_far c.loop-sent-test.true (omega (arith, c.in-Ok.n-test.1)) (rw rest at h.writes.count) (λ w. h.writes.whole (whole ∙ w) ∙ ap length rest) (λ t. h.writes.taken (tells ∙ t) ∙ ap (λ (l : List ℕ). after_packet (g.T.PacketWriter.history c.loop-sent.to) (take c.in-Ok.n l)) rest) h.writes.kept;
+    }

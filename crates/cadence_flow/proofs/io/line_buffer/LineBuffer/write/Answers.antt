@@ -1,0 +1,35 @@
+use Rattle.std.proofs.Common.{◌≡◌, ◌<◌, ap, ◌∙◌, sym, subst, rules, ℕ, List, [], Ok, true}
+use Rattle.cadence_flow.specs.Frame.{is_oversize, size_of}
+use Rattle.cadence_flow.specs.Packer.{Flushes, Writes}
+use Rattle.cadence_flow.specs.Writer.{Kind, WritesPacket}
+use Rattle.cadence_flow.proofs.Oversize.{Writes-alone}
+use Rattle.cadence_flow.proofs.io.line_buffer.LineBuffer.write.Goals as goal
+
+pub returns-then-not-fits-2 : goal.returns-then-not-fits-2
+returns-then-not-fits-2 g c =
+    let kind = g.T.PacketWriter.kind in
+    let history = g.T.PacketWriter.history in
+    let was = c.args.self.now in
+    let line = c.args.line.now in
+    let opened = c.self.view_is in
+    let flushed = c.in_ok-flush.ensures.flushes in
+    let writer = ap (λ p. p.writer) opened in
+    let emptied : c.self.inside.held.items ≡ [] = ap (λ p. p.held) opened ∙ flushed.empties in
+    let same_kind : kind c.self.inside.inner ≡ kind was.writer = ap kind writer ∙ c.in_ok-flush.ensures.same_kind in
+    let passes : was.format.capacity < size_of was.format line = search rules in
+    let over : is_oversize was.format line ≡ true = search rules in
+    let old = history was.writer in
+    let mid = history c.self.inside.inner in
+    let new = history c.write_packet.new.self in
+    let ok = c.in_ok-flush.field-0 in
+    record {
+      same_kind = search rules;
+      same_format = search rules;
+      only_held = search rules;
+      writes =
+          subst (λ (rest : List ℕ). Writes (kind was.writer) was.format old new was.held rest line c.write_packet.result) (sym emptied)
+          (Writes-alone (kind was.writer) old mid new was.held was.format line ok c.write_packet.result
+          (subst (λ w. Flushes (kind was.writer) old (history w) was.held [] (Ok ok)) (sym writer) (subst (λ (rest : List ℕ). Flushes (kind was.writer) old (history c.flush.new.self.writer) was.held rest (Ok ok)) flushed.empties flushed))
+          over passes
+          (subst (λ (k : Kind). WritesPacket k mid new line c.write_packet.result) same_kind c.write_packet.ensures.writes));
+    }

@@ -1,0 +1,199 @@
+//! Lines that wait for their packet.
+use super::PacketWriter;
+use super::bytes::{append, append_ending, remove_front, send};
+use cadence_errors::SinkError;
+use std::alloc::{Allocator, Global};
+use std::marker::Model;
+use std::mem;
+
+/// Holds lines as a `MultiLineWriter` does, over any `PacketWriter`, but its drop writes nothing: what holds it
+/// flushes, or gives the held text up.
+#[derive(Drop)]
+pub struct LineBuffer<T, A: Allocator = Global> {
+    inner: T,
+    held: Vec<u8, A>,
+    capacity: usize,
+    ending: Vec<u8, A>,
+}
+
+impl<T, A: Allocator> Model for LineBuffer<T, A> {
+    ghost use Rattle.std.specs.Prelude.{◌≤◌, length, vec_capacity};
+    ghost use Rattle.cadence_flow.specs.Packer.{Packer, packer_code};
+
+    ghost Value = { Packer T };
+
+    ghost coded = { packer_code T.code };
+
+    ghost view = { λ w. record {
+      writer = w.inner;
+      held = w.held.items;
+      format = record { capacity = w.capacity; ending = w.ending.items };
+    } };
+
+    ghost invariant = { λ w. (length w.held.items ≤ w.capacity) × (w.capacity ≤ vec_capacity w.held) };
+}
+
+impl<T: PacketWriter, A: Allocator + Clone> LineBuffer<T, A> {
+    ghost use Rattle.std.specs.Prelude.{codes};
+    ghost use Rattle.cadence_flow.specs.Packer.{MakesPacker};
+
+    /// As `with_ending`, with the newline.
+    pub fn new(alloc: A, inner: T, capacity: usize) -> Result<Self, T>
+        ensures { MakesPacker inner capacity (codes "\n") result }
+    {
+        LineBuffer::with_ending(alloc, inner, capacity, "\n")
+    }
+
+    /// A packer of a capacity in bytes that holds nothing yet. It makes room for the whole capacity at once, so that
+    /// `write` and `flush` take no memory.
+    ///
+    /// Where there is no memory for `capacity` bytes and the ending, the writer comes back.
+    pub fn with_ending(alloc: A, inner: T, capacity: usize, ending: &str) -> Result<Self, T>
+        ensures { MakesPacker inner capacity ending.now result }
+    {
+        let Ok(second) = alloc.clone() else {
+            return Err(inner);
+        };
+        let Ok(held) = Vec::with_capacity(alloc, capacity) else {
+            return Err(inner);
+        };
+        let Ok(ending) = Vec::from_slice(second, ending.as_bytes()) else {
+            return Err(inner);
+        };
+        Ok(LineBuffer {
+            inner,
+            held,
+            capacity,
+            ending,
+        })
+    }
+}
+
+impl<T: PacketWriter, A: Allocator> LineBuffer<T, A> {
+    ghost use Rattle.std.specs.Prelude.{◌≡◌, ◌↔◌, ◌≤◌, length, IsTrue};
+    ghost use Rattle.std.specs.Borrow.{Lends, sem};
+    ghost use Rattle.cadence_flow.specs.Packer.{Fits, FlushesHeld, HoldsLine, ReplacesWriter, WritesLine, holding, with_writer};
+    ghost use Rattle.cadence_flow.specs.contracts.io.line_buffer.LineBuffer.{the_row};
+
+    /// Writes a line and answers its length.
+    ///
+    /// The line and its ending are held. Where they don't fit the free room, what is held is flushed first. Where
+    /// they pass the capacity, what is held is flushed first, and then the line alone is one packet: the answer is
+    /// the writer's count, 0 included. Takes no memory. A line that with its ending fills the capacity exactly is
+    /// held, with an empty ending too (cadence then writes it at once).
+    ///
+    /// An error is the writer's own, or `NothingWritten` where it took 0 bytes of held text. Nothing of the line is
+    /// kept then; what the writer didn't take of the held text stays.
+    pub fn write(&mut self, line: &[u8]) -> Result<usize, SinkError>
+        ensures { WritesLine T.kind T.history self.old self.new line.now result }
+    {
+        if !self.fits(line) {
+            self.flush()?;
+            if !self.fits(line) {
+                return self.inner.write_packet(line);
+            }
+        }
+        self.keep(line);
+        Ok(line.len())
+    }
+
+    /// Whether a line and its ending fit the free room.
+    #[inline(always)]
+    pub fn fits(&self, line: &[u8]) -> bool
+        ensures { IsTrue result ↔ Fits self.now line.now }
+    {
+        line.len() + self.ending.len() <= self.capacity - self.held.len()
+    }
+
+    /// Holds a line and its ending where they fit the free room, and answers whether they did; else nothing changes.
+    /// It is what `write` does with most lines, without an error to answer. Takes no memory.
+    #[inline(always)]
+    pub fn hold(&mut self, line: &[u8]) -> bool
+        ensures { HoldsLine self.old self.new line.now result }
+    {
+        if !self.fits(line) {
+            return false;
+        }
+        self.keep(line);
+        true
+    }
+
+    // Holds a line and its ending, which fit the free room.
+    #[inline(always)]
+    fn keep(&mut self, line: &[u8])
+        requires { Fits self.old line.now }
+        ensures { self.new ≡ holding self.old line.now }
+    {
+        append(&mut self.held, line);
+        append_ending(&mut self.held, self.ending.as_slice());
+    }
+
+    /// Writes what is held, what is left after a short count too, until all is taken. With nothing held it writes
+    /// nothing. Takes no memory.
+    ///
+    /// An error is the writer's own, or `NothingWritten` where it took 0 bytes. What it didn't take stays held, and
+    /// the free room is what the held text leaves. An interrupted write is an error like any other.
+    pub fn flush(&mut self) -> Result<(), SinkError>
+        ensures { FlushesHeld T.kind T.history self.old self.new result }
+    {
+        if self.held.is_empty() {
+            return Ok(());
+        }
+        let (sent, result) = send(self.held.as_slice(), &mut self.inner);
+        remove_front(&mut self.held, sent);
+        result
+    }
+
+    /// The text that waits, at most the capacity.
+    pub fn held(&self) -> &[u8]
+        ensures text { result.now ≡ self.now.held }
+        ensures bound { length self.now.held ≤ self.now.format.capacity }
+    {
+        &self.held[..]
+    }
+
+    /// The writer.
+    pub fn get_ref(&self) -> &T
+        ensures { result.now ≡ self.now.writer }
+    {
+        &self.inner
+    }
+
+    /// The writer. A change through it changes the writer alone.
+    pub fn get_mut(&mut self) -> &mut T
+        ensures value { result.now ≡ self.old.writer }
+        ensures* writes_back { sem 𝓛 (Lends (the_row T.row A.row A.Allocator) T.row
+            self.entry result (with_writer self.old)) }
+    {
+        &mut self.inner
+    }
+
+    /// Takes another writer, and gives back the old one with the text that waited for it, unflushed. Nothing is held
+    /// afterwards.
+    ///
+    /// Where there is no memory for the capacity, the new writer comes back, and nothing changed.
+    pub fn replace_writer(&mut self, alloc: A, writer: T) -> Result<(T, Vec<u8, A>), T>
+        ensures { ReplacesWriter self.old self.new writer result }
+    {
+        let Ok(room) = Vec::with_capacity(alloc, self.capacity) else {
+            return Err(writer);
+        };
+        let held = mem::replace(&mut self.held, room);
+        let inner = mem::replace(&mut self.inner, writer);
+        Ok((inner, held))
+    }
+
+    /// The writer and the text that waited for it. Nothing is written.
+    pub fn into_parts(self) -> (T, Vec<u8, A>)
+        ensures writer { result.0 ≡ self.writer }
+        ensures text { result.1.items ≡ self.held }
+    {
+        let LineBuffer {
+            inner: writer,
+            held: text,
+            capacity: _,
+            ending: _,
+        } = self;
+        (writer, text)
+    }
+}
