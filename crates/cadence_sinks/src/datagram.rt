@@ -1,6 +1,6 @@
 //! What sinks over sockets have in common.
-ghost use Rattle.std.specs.Prelude.{◌≡◌, Bool, IfErr};
-ghost use Rattle.cadence_errors.specs.Errors.{out_of_memory};
+ghost use Rattle.std.specs.Prelude.{Bool};
+ghost use Rattle.cadence_errors.specs.Errors.{OnlyWantsMemory};
 ghost use Rattle.cadence_errors.specs.declared.SinkError.{SinkError};
 ghost use Rattle.cadence_sinks.specs.Sockets.{IsBufferedAnswer, IsBufferedFlush, IsSocketAnswer};
 
@@ -31,7 +31,7 @@ pub struct CountedSocket<D: Datagrams, R: Wait + Drop, A: Allocator> {
 impl<D: Datagrams, R: Wait + Drop, A: Allocator> CountedSocket<D, R, A> {
     /// Nothing is counted yet. The only error is `OutOfMemory`.
     pub fn new(rt: R, alloc: A, socket: D) -> MetricResult<Self>
-        ensures { IfErr result (λ e. e ≡ out_of_memory) }
+        ensures { OnlyWantsMemory result }
     {
         let stats = SocketStats::new(rt, alloc)?;
         Ok(CountedSocket { socket, stats })
@@ -87,7 +87,7 @@ pub struct PackedSocket<D: Datagrams, R: Wait + Drop, A: Allocator> {
 impl<D: Datagrams, R: Wait + Clone + Drop, A: Allocator + Clone> PackedSocket<D, R, A> {
     /// Nothing is held yet. The only error is `OutOfMemory`.
     pub fn new(rt: R, alloc: A, socket: D, capacity: usize) -> MetricResult<Self>
-        ensures { IfErr result (λ e. e ≡ out_of_memory) }
+        ensures { OnlyWantsMemory result }
     {
         let socket = CountedSocket::new(rt.clone()?, alloc.clone()?, socket)?;
         let stats = socket.stats.clone()?;

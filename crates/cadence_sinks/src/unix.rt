@@ -1,6 +1,6 @@
 //! Sinks over sockets that send to paths.
-ghost use Rattle.std.specs.Prelude.{◌≡◌, Bool, true, IfErr};
-ghost use Rattle.cadence_errors.specs.Errors.{out_of_memory};
+ghost use Rattle.std.specs.Prelude.{Bool, true};
+ghost use Rattle.cadence_errors.specs.Errors.{OnlyWantsMemory};
 ghost use Rattle.cadence_errors.specs.declared.SinkError.{SinkError};
 ghost use Rattle.cadence_sinks.specs.Sockets.{IsSocketAnswer};
 
@@ -32,7 +32,7 @@ struct PathPeer<P: PathSocket, A: Allocator> {
 impl<P: PathSocket, A: Allocator> PathPeer<P, A> {
     // The only error is `OutOfMemory`.
     fn new(alloc: A, path: &str, socket: P) -> MetricResult<Self>
-        ensures { IfErr result (λ e. e ≡ out_of_memory) }
+        ensures { OnlyWantsMemory result }
     {
         let path = String::from_str(alloc, path)?;
         Ok(PathPeer { socket, path })
@@ -58,7 +58,7 @@ impl<P: PathSocket, R: Wait + Drop, A: Allocator + Clone> UnixMetricSink<P, R, A
     /// Over a socket that the caller made, which is dropped where the sink is refused. The only error is
     /// `OutOfMemory`.
     pub fn from(rt: R, alloc: A, path: &str, socket: P) -> MetricResult<Self>
-        ensures { IfErr result (λ e. e ≡ out_of_memory) }
+        ensures { OnlyWantsMemory result }
     {
         let peer = PathPeer::new(alloc.clone()?, path, socket)?;
         let socket = CountedSocket::new(rt, alloc, peer)?;
@@ -94,7 +94,7 @@ impl<P: PathSocket, R: Wait + Clone + Drop, A: Allocator + Clone> BufferedUnixMe
     /// With a buffer of 512 bytes, over a socket that the caller made, which is dropped where the sink is refused.
     /// The only error is `OutOfMemory`.
     pub fn from(rt: R, alloc: A, path: &str, socket: P) -> MetricResult<Self>
-        ensures { IfErr result (λ e. e ≡ out_of_memory) }
+        ensures { OnlyWantsMemory result }
     {
         Self::with_capacity(rt, alloc, path, socket, DEFAULT_BUFFER_SIZE)
     }
@@ -108,7 +108,7 @@ impl<P: PathSocket, R: Wait + Clone + Drop, A: Allocator + Clone> BufferedUnixMe
         socket: P,
         capacity: usize,
     ) -> MetricResult<Self>
-        ensures { IfErr result (λ e. e ≡ out_of_memory) }
+        ensures { OnlyWantsMemory result }
     {
         let peer = PathPeer::new(alloc.clone()?, path, socket)?;
         let socket = PackedSocket::new(rt, alloc, peer, capacity)?;

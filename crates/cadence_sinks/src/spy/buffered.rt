@@ -1,6 +1,5 @@
 //! A spy whose every packet is a message.
-ghost use Rattle.std.specs.Prelude.{◌≡◌, IfErr};
-ghost use Rattle.cadence_errors.specs.Errors.{out_of_memory};
+ghost use Rattle.cadence_errors.specs.Errors.{OnlyWantsMemory};
 
 use super::channel::{Sender, SpyReceiver, new_channel};
 use crate::buffered::write_line;
@@ -50,7 +49,7 @@ impl<R: Wait + Clone + Drop, A: Allocator + Clone> BufferedSpyMetricSink<R, A> {
     /// A spy with a buffer of 512 bytes for any number of messages, and its receiver. The only error is
     /// `OutOfMemory`.
     pub fn new(rt: R, alloc: A) -> MetricResult<(SpyReceiver<R, A>, Self)>
-        ensures { IfErr result (λ e. e ≡ out_of_memory) }
+        ensures { OnlyWantsMemory result }
     {
         Self::with_capacity(rt, alloc, None, None)
     }
@@ -63,7 +62,7 @@ impl<R: Wait + Clone + Drop, A: Allocator + Clone> BufferedSpyMetricSink<R, A> {
         queue: Option<usize>,
         buffer: Option<usize>,
     ) -> MetricResult<(SpyReceiver<R, A>, Self)>
-        ensures { IfErr result (λ e. e ≡ out_of_memory) }
+        ensures { OnlyWantsMemory result }
     {
         let (receiver, sender) = new_channel(rt.clone()?, alloc.clone()?, queue)?;
         let inner = MessageWriter {

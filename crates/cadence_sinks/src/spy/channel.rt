@@ -1,6 +1,5 @@
 //! The queue between a spy and its receiver.
-ghost use Rattle.std.specs.Prelude.{◌≡◌, IfErr};
-ghost use Rattle.cadence_errors.specs.Errors.{out_of_memory};
+ghost use Rattle.cadence_errors.specs.Errors.{OnlyWantsMemory};
 ghost use Rattle.cadence_sinks.specs.Answers.{IsQueueAnswer};
 
 use cadence_errors::{MetricResult, SinkError};
@@ -58,7 +57,7 @@ pub fn new_channel<R: Wait + Clone + Drop, A: Allocator + Clone>(
     alloc: A,
     capacity: Option<usize>,
 ) -> MetricResult<(SpyReceiver<R, A>, Sender<R, A>)>
-    ensures { IfErr result (λ e. e ≡ out_of_memory) }
+    ensures { OnlyWantsMemory result }
 {
     let queue = SharedQueue::new(alloc.clone()?, capacity)?;
     let messages = Arc::new(alloc.clone()?, queue)?;

@@ -1,6 +1,5 @@
 //! A spy whose every line is a message.
-ghost use Rattle.std.specs.Prelude.{◌≡◌, IfErr};
-ghost use Rattle.cadence_errors.specs.Errors.{out_of_memory};
+ghost use Rattle.cadence_errors.specs.Errors.{OnlyWantsMemory};
 
 use super::channel::{Sender, SpyReceiver, new_channel};
 use crate::MetricSink;
@@ -20,20 +19,20 @@ pub struct SpyMetricSink<R: Wait + Drop, A: Allocator = Global> {
 impl<R: Wait + Clone + Drop, A: Allocator + Clone> SpyMetricSink<R, A> {
     /// A spy for any number of messages, and its receiver. The only error is `OutOfMemory`.
     pub fn new(rt: R, alloc: A) -> MetricResult<(SpyReceiver<R, A>, Self)>
-        ensures { IfErr result (λ e. e ≡ out_of_memory) }
+        ensures { OnlyWantsMemory result }
     {
         Self::with_queue(rt, alloc, None)
     }
 
     /// A spy whose queue holds at most `queue` messages, and its receiver. The only error is `OutOfMemory`.
     pub fn with_capacity(rt: R, alloc: A, queue: usize) -> MetricResult<(SpyReceiver<R, A>, Self)>
-        ensures { IfErr result (λ e. e ≡ out_of_memory) }
+        ensures { OnlyWantsMemory result }
     {
         Self::with_queue(rt, alloc, Some(queue))
     }
 
     fn with_queue(rt: R, alloc: A, queue: Option<usize>) -> MetricResult<(SpyReceiver<R, A>, Self)>
-        ensures { IfErr result (λ e. e ≡ out_of_memory) }
+        ensures { OnlyWantsMemory result }
     {
         let (receiver, sender) = new_channel(rt, alloc, queue)?;
         Ok((receiver, SpyMetricSink { sender }))
