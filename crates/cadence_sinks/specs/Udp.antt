@@ -1,12 +1,18 @@
--- What contracts show of the builders of UDP sinks.
-use Rattle.std.specs.Prelude.{ℕ, Option}
+-- What contracts show of UDP sinks and of their builders.
+use Rattle.std.specs.Prelude.{ℕ, Bool, Option}
 use Rattle.std.specs.Option.{option_map}
 use Rattle.std.specs.declared.dyn_box.DynBox.{DynBox}
 use Rattle.std.specs.declared.alloc.Global.{Global}
 use Rattle.std.specs.declared.time.Duration.{Duration}
 use Rattle.cadence_resolve.specs.Handler.{call_of}
+use Rattle.cadence_resolve.specs.Lookups.{is_periodic}
 use Rattle.cadence_sinks.specs.declared.udp.buffered.BufferedUdpMetricSinkBuilder.{BufferedUdpMetricSinkBuilder}
 use Rattle.cadence_sinks.specs.declared.udp.unbuffered.UdpMetricSinkBuilder.{UdpMetricSinkBuilder}
+use Rattle.cadence_sinks.specs.declared.udp.unbuffered.UdpMetricSink.{UdpMetricSink}
+
+-- whether a thread looks the sink's target up again and again
+abbrev pub looks_up_again : {R A : Type 0} → UdpMetricSink R A → Bool
+looks_up_again s = is_periodic s.socket.socket.resolver
 
 module _ {Y : Type 0} {G : Y → Type 0} {g : _} where
   -- the time between two lookups, or none

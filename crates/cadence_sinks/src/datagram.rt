@@ -32,7 +32,8 @@ pub struct CountedSocket<D: Datagrams, R: Wait + Drop, A: Allocator> {
 impl<D: Datagrams, R: Wait + Drop, A: Allocator> CountedSocket<D, R, A> {
     /// Nothing is counted yet. The only error is `OutOfMemory`.
     pub fn new(rt: R, alloc: A, socket: D) -> MetricResult<Self>
-        ensures { OnlyWantsMemory result }
+        ensures socket { IfOk result (λ c. c.socket ≡ socket) }
+        ensures refused { OnlyWantsMemory result }
     {
         let stats = SocketStats::new(rt, alloc)?;
         Ok(CountedSocket { socket, stats })
@@ -62,7 +63,11 @@ impl<D: Datagrams, R: Wait + Drop, A: Allocator> PacketWriter for SocketWriter<D
     ghost use Rattle.std.specs.Prelude.{[]};
     ghost use Rattle.cadence_sinks.specs.Sockets.{socket_kind};
 
-    ghost history = { λ w. record { packets = []; refusals = w.refusals.count; refused_bytes = w.refusals.bytes } };
+    ghost history = { λ w. record {
+      packets = [];
+      refusals = w.refusals.count;
+      refused_bytes = w.refusals.bytes;
+    } };
 
     ghost kind = { λ _. socket_kind D.may_give };
 

@@ -10,7 +10,7 @@ use std::sync::{Arc, Wait};
 type Messages<A> = Arc<SharedQueue<Vec<u8, A>, A>, A>;
 
 /// Gives the messages that a spy was sent, the oldest first. Once it is dropped its spy answers
-/// `ChannelDisconnected`. It stands for the receiver of a channel in cadence.
+/// `ChannelDisconnected`.
 pub struct SpyReceiver<R: Wait + Drop, A: Allocator = Global> {
     rt: R,
     messages: Messages<A>,

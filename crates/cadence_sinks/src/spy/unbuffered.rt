@@ -7,7 +7,7 @@ use cadence_errors::{MetricResult, SinkError};
 use std::alloc::{Allocator, Global};
 use std::sync::Wait;
 
-/// A sink that makes each line one message of its receiver, as in cadence. It answers the line's length;
+/// A sink that makes each line one message of its receiver. It answers the line's length;
 /// `ChannelDisconnected` once the receiver is dropped, else `ChannelFull` where as many messages wait as the
 /// queue's capacity, else `OutOfMemory` where there is no memory for the message. It keeps no counts, and holds the
 /// runtime `R`, whose locks it takes.

@@ -155,9 +155,11 @@ impl BufferedUdpMetricSinkBuilder {
         target: Target<A>,
         socket: UdpSocket,
     ) -> MetricResult<BufferedUdpMetricSink<R, A>>
-        ensures buffer { IfOk result (λ s. udp_buffer s ≡ unwrap_or (buffered_capacity_of self) 512) }
+        ensures buffer { IfOk result (λ s.
+            udp_buffer s ≡ unwrap_or (buffered_capacity_of self) 512) }
         ensures refused { IfErr result (λ e. IsSocketRefusal e) }
-        ensures once { buffered_period_of self ≡ None → IfErr result (λ e. IsTargetRefusal target e) }
+        ensures once { buffered_period_of self ≡ None →
+            IfErr result (λ e. IsTargetRefusal target e) }
     {
         let capacity = self.capacity.unwrap_or(DEFAULT_BUFFER_SIZE);
         let peer = self.resolving.peer(&rt, &alloc, target, socket)?;

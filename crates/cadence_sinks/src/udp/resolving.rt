@@ -1,5 +1,6 @@
 //! How the target of a UDP sink is looked up.
-ghost use Rattle.std.specs.Prelude.{◌≡◌, IfErr, None};
+ghost use Rattle.std.specs.Prelude.{◌≡◌, IfOk, IfErr, None, is_some};
+ghost use Rattle.cadence_resolve.specs.Lookups.{is_periodic};
 ghost use Rattle.cadence_resolve.specs.Refusals.{IsSocketRefusal, IsTargetRefusal};
 
 use super::peer::UdpPeer;
@@ -40,6 +41,7 @@ impl Resolving {
         target: Target<A>,
         socket: UdpSocket,
     ) -> MetricResult<UdpPeer<R, A>>
+        ensures periodic { IfOk result (λ p. is_periodic p.resolver ≡ is_some self.period) }
         ensures refused { IfErr result (λ e. IsSocketRefusal e) }
         ensures once { self.period ≡ None → IfErr result (λ e. IsTargetRefusal target e) }
     {

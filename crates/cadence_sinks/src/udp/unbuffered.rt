@@ -1,8 +1,8 @@
 //! A sink that sends each line as a datagram.
-ghost use Rattle.std.specs.Prelude.{◌≡◌, IfErr, Some, None};
+ghost use Rattle.std.specs.Prelude.{◌≡◌, false, IfOk, IfErr, Some, None, is_some};
 ghost use Rattle.cadence_resolve.specs.Refusals.{IsSocketRefusal, IsTargetRefusal};
 ghost use Rattle.cadence_sinks.specs.Sockets.{IsSocketAnswer, is_io};
-ghost use Rattle.cadence_sinks.specs.Udp.{period_of, handler_of};
+ghost use Rattle.cadence_sinks.specs.Udp.{period_of, handler_of, looks_up_again};
 
 use super::peer::UdpPeer;
 use super::resolving::Resolving;
@@ -31,7 +31,8 @@ impl<R: Net + Wait + Drop, A: Allocator + Clone> UdpMetricSink<R, A> {
     /// For a name that can't be looked up the error is `SinkError::Io`; for one without addresses the kind
     /// `InvalidInput`; else `SinkError::OutOfMemory`.
     pub fn from(rt: R, alloc: A, target: Target<A>, socket: UdpSocket) -> MetricResult<Self>
-        ensures { IfErr result (λ e. IsTargetRefusal target e) }
+        ensures once { IfOk result (λ s. looks_up_again s ≡ false) }
+        ensures refused { IfErr result (λ e. IsTargetRefusal target e) }
     {
         let peer = UdpPeer::new(&rt, alloc.clone()?, &target, socket)?;
         let socket = CountedSocket::new(rt, alloc, peer)?;
@@ -111,6 +112,7 @@ impl UdpMetricSinkBuilder {
         target: Target<A>,
         socket: UdpSocket,
     ) -> MetricResult<UdpMetricSink<R, A>>
+        ensures periodic { IfOk result (λ s. looks_up_again s ≡ is_some (period_of self)) }
         ensures refused { IfErr result (λ e. IsSocketRefusal e) }
         ensures once { period_of self ≡ None → IfErr result (λ e. IsTargetRefusal target e) }
     {
