@@ -1,5 +1,5 @@
 -- What each call of a queue does.
-use Rattle.std.specs.Prelude.{◌≡◌, ℕ, ◌+◌, ◌-◌, ◌%◌, ◌^◌, ◌==◌, ◌||◌, ◌&&◌, not, Bool, true, false, cond, leb, List, [], ◌∷◌, ◌++◌, length, Option, Some, None}
+use Rattle.std.specs.Prelude.{◌≡◌, ℕ, ◌+◌, ◌-◌, ◌%◌, ◌^◌, ◌==◌, ◌||◌, ◌&&◌, not, Bool, true, false, IsTrue, cond, leb, List, [], ◌∷◌, ◌++◌, length, Option, Some, None}
 use Rattle.cadence_errors.specs.declared.SinkError.{SinkError}
 use Rattle.cadence_errors.specs.declared.SinkError.TheVariants.{ChannelFull, ChannelDisconnected, OutOfMemory}
 use Rattle.cadence_flow.specs.QueueState.{Queue}
@@ -64,9 +64,13 @@ module _ {T : Type 0} where
   dropping_handle q =
       cond (q.handles == 0 || q.handles == 18446744073709551615) q (record q { handles = q.handles - 1; stopped = cond (q.handles == 1) true q.stopped })
 
--- what a queue may refuse with, whatever is known of it
+-- whether an error is one that a queue may refuse with, whatever is known of it
+abbrev pub is_queue_refusal : SinkError → Bool
+is_queue_refusal ChannelFull = true
+is_queue_refusal ChannelDisconnected = true
+is_queue_refusal OutOfMemory = true
+is_queue_refusal _ = false
+
+-- the same as a fact
 abbrev pub IsQueueRefusal : SinkError → Type 0
-IsQueueRefusal ChannelFull = Unit {0}
-IsQueueRefusal ChannelDisconnected = Unit {0}
-IsQueueRefusal OutOfMemory = Unit {0}
-IsQueueRefusal _ = ⊥
+IsQueueRefusal e = IsTrue (is_queue_refusal e)

@@ -1,12 +1,17 @@
--- What one lookup does to a resolver.
-use Rattle.std.specs.Prelude.{◌≡◌, ◌+◌, ◌%◌, ◌^◌, List, [], ◌∷◌, Option, Some, None, Result, Ok, Err, IsErrAnd, Vec}
+-- What one lookup does to a resolver, and what a target looks up to.
+use Rattle.std.specs.Prelude.{◌≡◌, ◌+◌, ◌%◌, ◌^◌, Bool, true, false, List, [], ◌∷◌, Option, Some, None, Result, Ok, Err, IfOk, IfErr, IsErrAnd, Vec}
 use Rattle.std.specs.declared.net.socket_addr.SocketAddr.{SocketAddr}
 use Rattle.cadence_errors.specs.declared.SinkError.{SinkError}
-use Rattle.cadence_errors.specs.declared.SinkError.TheVariants.{NoAddresses}
+use Rattle.cadence_errors.specs.declared.SinkError.TheVariants.{NoAddresses, OutOfMemory}
 use Rattle.cadence_errors.specs.declared.MetricError.{MetricError}
 use Rattle.cadence_errors.specs.declared.MetricError.TheVariants.{Sink}
 use Rattle.cadence_errors.specs.Errors.{IsInvalid}
 use Rattle.cadence_resolve.specs.Address.{Resolved}
+use Rattle.cadence_resolve.specs.Refusals.{IsLookupFault, IsSocketRefusal}
+use Rattle.cadence_resolve.specs.declared.resolver.Resolver.{Resolver}
+use Rattle.cadence_resolve.specs.declared.resolver.Resolver.TheVariants.{Static, Periodic}
+use Rattle.cadence_resolve.specs.declared.target.Target.{Target}
+use Rattle.cadence_resolve.specs.declared.target.Target.TheVariants.{Addr}
 
 -- a resolver begins at the first address, with no later lookup
 abbrev pub IsStartAt : List SocketAddr → Result Resolved MetricError → Type 0
@@ -40,3 +45,20 @@ IsNotedList r (address ∷ others) fault s = (fault ≡ None) × (s ≡ succeedi
 abbrev pub IsNoted : {A : Type 0} → Resolved → Result (Vec SocketAddr A) SinkError → Option SinkError → Resolved → Type 0
 IsNoted r (Ok found) fault s = IsNotedList r found.items fault s
 IsNoted r (Err e) fault s = (fault ≡ Some e) × (s ≡ failing r)
+
+module _ {A : Type 0} where
+  -- an address looks up to itself; a name may be refused
+  abbrev pub IsLookedUp : {B : Type 0} → Target B → Result (Vec SocketAddr A) SinkError → Type 0
+  IsLookedUp (Addr address) result =
+      IfOk result (λ found. found.items ≡ address ∷ []) × IfErr result (λ e. e ≡ OutOfMemory)
+  IsLookedUp _ result = IfErr result (λ e. IsLookupFault e)
+
+-- an address stays as it is; a name may be refused
+abbrev pub IsAddressOf : {A : Type 0} → Target A → Result SocketAddr MetricError → Type 0
+IsAddressOf (Addr address) result = result ≡ Ok address
+IsAddressOf _ result = IfErr result (λ e. IsSocketRefusal e)
+
+-- whether a thread looks the target up again and again
+abbrev pub is_periodic : {R A : Type 0} → Resolver R A → Bool
+is_periodic (Static resolver) = false
+is_periodic (Periodic resolver) = true

@@ -12,15 +12,15 @@ use std::time::{Clock, Duration};
 /// What a lookup of a name gives: its addresses, of which there may be none, or a fault.
 pub type Lookup<A = Global> = Result<Vec<SocketAddr, A>, SinkError>;
 
-/// Looks a name up. This project's own.
+/// Looks a name up.
 pub trait NameLookup<A: Allocator>: Drop {
-    /// The addresses of the name now.
+    /// The addresses of the name now, of which there may be none, or why the lookup failed.
     fn look_up(&self) -> Lookup<A>;
 }
 
-/// Sleeps. This project's own.
+/// Sleeps.
 pub trait Sleeper: Drop {
-    /// Sleeps for a time.
+    /// Sleeps for a time, and then returns.
     fn sleep(&self, time: Duration);
 }
 
@@ -67,7 +67,7 @@ pub struct TargetLookup<R: Net + Drop, A: Allocator + Clone> {
 }
 
 impl<R: Net + Drop, A: Allocator + Clone> TargetLookup<R, A> {
-    ghost use Rattle.cadence_resolve.specs.Targets.{IsLookedUp};
+    ghost use Rattle.cadence_resolve.specs.Lookups.{IsLookedUp};
 
     /// The addresses of the target now. The errors are `Io` and `OutOfMemory`, for an address the latter
     /// alone.

@@ -9,12 +9,12 @@ use std::time::Duration;
 
 // What lies under the lock: the address, and whether the resolver still runs.
 #[derive(Drop)]
-struct Running {
+struct State {
     core: ResolverCore,
     running: bool,
 }
 
-impl Running {
+impl State {
     ghost use Rattle.std.specs.Prelude.{◌≡◌, false};
 
     fn stop(&mut self)
@@ -32,7 +32,7 @@ pub struct PeriodicResolver<R: Wait + Drop> {
     rt: R,
     /// The time between two lookups.
     pub period: Duration,
-    state: Mutex<Running>,
+    state: Mutex<State>,
 }
 
 impl<R: Wait + Drop> PeriodicResolver<R> {
@@ -50,7 +50,7 @@ impl<R: Wait + Drop> PeriodicResolver<R> {
         Ok(PeriodicResolver {
             rt,
             period,
-            state: Mutex::new(Running {
+            state: Mutex::new(State {
                 core,
                 running: true,
             }),

@@ -3,6 +3,7 @@ ghost use Rattle.std.specs.Prelude.{◌≡◌, IfErr, IfOk, None, is_some};
 ghost use Rattle.cadence_resolve.specs.Refusals.{IsSocketRefusal, IsTargetRefusal};
 
 use super::lookup::{ClockSleeper, TargetLookup};
+use super::thread::{Job, start};
 use super::{Handler, PeriodicResolver, StaticResolver, Target};
 use cadence_errors::MetricResult;
 use std::alloc::Allocator;
@@ -10,7 +11,6 @@ use std::net::{Net, SocketAddr, TcpListener, TcpStream};
 use std::sync::{Arc, Wait};
 use std::thread::Threads;
 use std::time::{Clock, Duration};
-use std::{io, thread};
 
 /// The address that a sink sends to. A drop ends the lookups, and waits for none.
 pub enum Resolver<R: Wait + Drop, A: Allocator> {
@@ -39,6 +39,17 @@ impl<R: Wait + Drop, A: Allocator> Drop for Resolver<R, A> {
     }
 }
 
+/// A runtime under which a resolver looks up in a thread of its own. Each type with these bounds is one.
+pub trait ResolverRuntime: Net<Listener = TcpListener, Stream = TcpStream>
+    + Wait
+    + Threads
+    + Clock
+    + Clone
+    + Drop
+    + Send
+    + Sync
+    + 'static {}
+
 impl<
     R: Net<Listener = TcpListener, Stream = TcpStream>
         + Wait
@@ -49,9 +60,10 @@ impl<
         + Send
         + Sync
         + 'static,
-    A: Allocator + Clone + Send + Sync + 'static,
-> Resolver<R, A> {
-    ghost use Rattle.cadence_resolve.specs.Resolver.{is_periodic};
+> ResolverRuntime for R {}
+
+impl<R: ResolverRuntime, A: Allocator + Clone + Send + Sync + 'static> Resolver<R, A> {
+    ghost use Rattle.cadence_resolve.specs.Lookups.{is_periodic};
 
     /// A static resolver where there is no period, else a periodic one with its thread. The errors are those of the
     /// first lookup; `Io` where no thread can be started; `OutOfMemory`.
@@ -87,12 +99,6 @@ impl<
     }
 }
 
-// Work for a thread of its own.
-trait Job: Drop {
-    // Does the work, and tells the handler of each fault.
-    fn run(&self, handler: &Option<Handler>);
-}
-
 // The lookups of a resolver.
 #[derive(Drop)]
 struct Lookups<R: Net + Wait + Clock + Drop, A: Allocator + Clone> {
@@ -101,18 +107,8 @@ struct Lookups<R: Net + Wait + Clock + Drop, A: Allocator + Clone> {
     sleeper: ClockSleeper<R>,
 }
 
-impl<R: Net + Wait + Clock + Drop, A: Allocator + Clone> Job for Lookups<R, A> {
-    fn run(&self, handler: &Option<Handler>) {
-        self.resolver.run(&self.lookup, &self.sleeper, handler)
+impl<R: Net + Wait + Clock + Drop, A: Allocator + Clone> Job<Option<Handler>> for Lookups<R, A> {
+    fn run(self, handler: Option<Handler>) {
+        self.resolver.run(&self.lookup, &self.sleeper, &handler)
     }
-}
-
-// Starts a thread that does the work.
-fn start<R: Threads, J: Job + Send + 'static>(
-    rt: &R,
-    job: J,
-    handler: Option<Handler>,
-) -> io::Result<()> {
-    thread::Builder::new().spawn(rt, move || job.run(&handler))?;
-    Ok(())
 }

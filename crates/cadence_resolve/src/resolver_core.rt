@@ -5,8 +5,7 @@ use std::alloc::Allocator;
 use std::marker::Model;
 use std::net::SocketAddr;
 
-/// The first address of the last lookup that gave any, and counts of the lookups after the first one. This project's
-/// own, made of cadence's resolvers.
+/// The first address of the last lookup that gave any, and counts of the lookups after the first one.
 #[derive(Drop)]
 pub struct ResolverCore {
     address: SocketAddr,

@@ -23,7 +23,7 @@ impl Model for StaticResolver {
 
 impl StaticResolver {
     ghost use Rattle.std.specs.Prelude.{◌≡◌};
-    ghost use Rattle.cadence_resolve.specs.Targets.{IsAddressOf};
+    ghost use Rattle.cadence_resolve.specs.Lookups.{IsAddressOf};
 
     /// An address as it is, without memory; the first address of a host's name, which is looked up.
     ///

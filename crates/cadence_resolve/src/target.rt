@@ -2,7 +2,7 @@
 use std::alloc::{Allocator, Global};
 use std::net::SocketAddr;
 
-/// Where a UDP sink sends to. This project's own; cadence takes anything that has `ToSocketAddrs`.
+/// Where a UDP sink sends to.
 #[derive(Drop)]
 pub enum Target<A: Allocator = Global> {
     /// An address, which is not looked up.

@@ -1,8 +1,7 @@
 -- What sinks may answer.
-use Rattle.std.specs.Prelude.{◌≡◌, ℕ, Bool, true, false, List, length, Result, MatchResult}
+use Rattle.std.specs.Prelude.{◌≡◌, ℕ, true, false, List, length, Result, MatchResult}
 use Rattle.cadence_errors.specs.declared.SinkError.{SinkError}
-use Rattle.cadence_errors.specs.declared.SinkError.TheVariants.{ChannelFull, ChannelDisconnected, OutOfMemory}
-use Rattle.cadence_flow.specs.Queue.{IsQueueRefusal}
+use Rattle.cadence_flow.specs.Queue.{IsQueueRefusal, is_queue_refusal}
 use Rattle.cadence_flow.specs.Sums.{zero_sums}
 use Rattle.cadence_flow.specs.Writer.{Kind}
 
@@ -13,13 +12,6 @@ IsQueueAnswer text answer = MatchResult answer (λ n. n ≡ length text) IsQueue
 -- nothing to tell, or a queue's refusal
 abbrev pub IsQueueFlush : Result (Unit {0}) SinkError → Type 0
 IsQueueFlush answer = MatchResult answer (λ _. Unit {0}) IsQueueRefusal
-
--- whether an error is a queue's refusal
-abbrev pub is_queue_refusal : SinkError → Bool
-is_queue_refusal ChannelFull = true
-is_queue_refusal ChannelDisconnected = true
-is_queue_refusal OutOfMemory = true
-is_queue_refusal _ = false
 
 -- a writer into a queue: it gives a queue's refusals, takes each packet whole, and doesn't tell its packets
 abbrev pub queue_kind : Kind

@@ -7,8 +7,8 @@ use Rattle.cadence_errors.specs.declared.SinkError.TheVariants.{Io, OutOfMemory}
 use Rattle.cadence_errors.specs.declared.MetricError.{MetricError}
 use Rattle.cadence_errors.specs.declared.MetricError.TheVariants.{Sink}
 use Rattle.cadence_resolve.specs.Handler.{call_of}
-use Rattle.cadence_sinks.specs.declared.queuing.QueuingMetricSink.{QueuingMetricSink}
-use Rattle.cadence_sinks.specs.declared.queuing.QueuingMetricSinkBuilder.{QueuingMetricSinkBuilder}
+use Rattle.cadence_sinks.specs.declared.queuing.sink.QueuingMetricSink.{QueuingMetricSink}
+use Rattle.cadence_sinks.specs.declared.queuing.builder.QueuingMetricSinkBuilder.{QueuingMetricSinkBuilder}
 
 -- why a queuing sink is not made: memory ran out, or no thread could be started
 abbrev pub IsQueuingRefusal : MetricError → Type 0

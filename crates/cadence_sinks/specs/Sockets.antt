@@ -1,15 +1,9 @@
 -- What sinks over sockets may answer, and why they are refused.
-use Rattle.std.specs.Prelude.{◌≡◌, ◌≤◌, ℕ, Bool, true, false, List, length, ◌⊎◌, Result, MatchResult, IfErr}
-use Rattle.cadence_errors.specs.declared.ErrorKind.TheVariants.{InvalidInput}
+use Rattle.std.specs.Prelude.{◌≡◌, ◌<◌, ◌≤◌, ℕ, Bool, true, false, List, length, ◌⊎◌, Result, MatchResult, IfErr}
 use Rattle.cadence_errors.specs.declared.SinkError.{SinkError}
-use Rattle.cadence_errors.specs.declared.SinkError.TheVariants.{Io, NothingWritten, OutOfMemory}
-use Rattle.cadence_errors.specs.declared.MetricError.{MetricError}
-use Rattle.cadence_errors.specs.declared.MetricError.TheVariants.{Sink, Described}
-use Rattle.cadence_errors.specs.Errors.{out_of_memory}
+use Rattle.cadence_errors.specs.declared.SinkError.TheVariants.{Io, NothingWritten}
 use Rattle.cadence_flow.specs.Sums.{zero_sums}
 use Rattle.cadence_flow.specs.Writer.{Kind}
-use Rattle.cadence_resolve.specs.declared.target.Target.{Target}
-use Rattle.cadence_resolve.specs.declared.target.Target.TheVariants.{Addr}
 
 -- whether an error is an io::Error's
 abbrev pub is_io : SinkError → Bool
@@ -24,9 +18,13 @@ IsSocketAnswer may_give text answer = MatchResult answer (λ n. n ≤ length tex
 abbrev pub IsBufferedError : (SinkError → Bool) → SinkError → Type 0
 IsBufferedError may_give e = (may_give e ≡ true) ⊎ (e ≡ NothingWritten)
 
--- the same for a sink that holds text until a packet is full
-abbrev pub IsBufferedAnswer : (SinkError → Bool) → List ℕ → Result ℕ SinkError → Type 0
-IsBufferedAnswer may_give text answer = MatchResult answer (λ n. n ≤ length text) (IsBufferedError may_give)
+-- the same for a sink that holds text until a packet is full; a text that its buffer has room for, with a newline, is
+-- taken whole
+abbrev pub IsBufferedAnswer : (SinkError → Bool) → ℕ → List ℕ → Result ℕ SinkError → Type 0
+IsBufferedAnswer may_give buffer text answer =
+    MatchResult answer
+    (λ n. (n ≤ length text) × (length text < buffer → n ≡ length text))
+    (IsBufferedError may_give)
 
 -- what its flush may answer
 abbrev pub IsBufferedFlush : (SinkError → Bool) → Result (Unit {0}) SinkError → Type 0

@@ -1,12 +1,12 @@
 //! What sinks over sockets have in common.
-ghost use Rattle.std.specs.Prelude.{◌≡◌, Bool, IfErr};
-ghost use Rattle.cadence_errors.specs.Errors.{out_of_memory};
+ghost use Rattle.std.specs.Prelude.{◌≡◌, Bool, IfOk};
+ghost use Rattle.cadence_errors.specs.Errors.{OnlyWantsMemory};
 ghost use Rattle.cadence_errors.specs.declared.SinkError.{SinkError};
 ghost use Rattle.cadence_sinks.specs.Sockets.{IsBufferedAnswer, IsBufferedFlush, IsSocketAnswer};
 
 use super::buffered::{hold_line, write_line};
 use cadence_errors::{MetricError, MetricResult, SinkError};
-use cadence_flow::io::{LineBuffer, PacketWriter};
+use cadence_flow::io::{LineBuffer, PacketWriter, Refusals};
 use cadence_flow::stats::{SinkStats, SocketStats};
 use std::alloc::Allocator;
 use std::sync::{Mutex, MutexGuard, Wait};
@@ -31,7 +31,8 @@ pub struct CountedSocket<D: Datagrams, R: Wait + Drop, A: Allocator> {
 impl<D: Datagrams, R: Wait + Drop, A: Allocator> CountedSocket<D, R, A> {
     /// Nothing is counted yet. The only error is `OutOfMemory`.
     pub fn new(rt: R, alloc: A, socket: D) -> MetricResult<Self>
-        ensures { IfErr result (λ e. e ≡ out_of_memory) }
+        ensures socket { IfOk result (λ c. c.socket ≡ socket) }
+        ensures refused { OnlyWantsMemory result }
     {
         let stats = SocketStats::new(rt, alloc)?;
         Ok(CountedSocket { socket, stats })
@@ -54,24 +55,24 @@ impl<D: Datagrams, R: Wait + Drop, A: Allocator> CountedSocket<D, R, A> {
 #[derive(Drop)]
 pub struct SocketWriter<D: Datagrams, R: Wait + Drop, A: Allocator> {
     socket: CountedSocket<D, R, A>,
-    refusals: u64,
-    refused_bytes: u64,
+    refusals: Refusals,
 }
 
 impl<D: Datagrams, R: Wait + Drop, A: Allocator> PacketWriter for SocketWriter<D, R, A> {
     ghost use Rattle.std.specs.Prelude.{[]};
     ghost use Rattle.cadence_sinks.specs.Sockets.{socket_kind};
 
-    ghost history = { λ w. record { packets = []; refusals = w.refusals; refused_bytes = w.refused_bytes } };
+    ghost history = { λ w. record {
+      packets = [];
+      refusals = w.refusals.count;
+      refused_bytes = w.refusals.bytes;
+    } };
 
     ghost kind = { λ _. socket_kind D.may_give };
 
     fn write_packet(&mut self, packet: &[u8]) -> Result<usize, SinkError> {
         let answer = self.socket.send(packet);
-        if answer.is_err() {
-            self.refusals = self.refusals.wrapping_add(1);
-            self.refused_bytes = self.refused_bytes.wrapping_add(packet.len() as u64);
-        }
+        self.refusals.note(&answer, packet.len());
         answer
     }
 }
@@ -82,19 +83,22 @@ pub struct PackedSocket<D: Datagrams, R: Wait + Drop, A: Allocator> {
     rt: R,
     writer: Mutex<LineBuffer<SocketWriter<D, R, A>, A>>,
     stats: SocketStats<R, A>,
+    capacity: usize,
 }
 
 impl<D: Datagrams, R: Wait + Clone + Drop, A: Allocator + Clone> PackedSocket<D, R, A> {
-    /// Nothing is held yet. The only error is `OutOfMemory`.
+    ghost use Rattle.cadence_sinks.specs.Buffers.{buffer_of};
+
+    /// A buffer of `capacity` bytes, in which nothing is held yet. The only error is `OutOfMemory`.
     pub fn new(rt: R, alloc: A, socket: D, capacity: usize) -> MetricResult<Self>
-        ensures { IfErr result (λ e. e ≡ out_of_memory) }
+        ensures buffer { IfOk result (λ s. buffer_of s ≡ capacity) }
+        ensures refused { OnlyWantsMemory result }
     {
         let socket = CountedSocket::new(rt.clone()?, alloc.clone()?, socket)?;
         let stats = socket.stats.clone()?;
         let writer = SocketWriter {
             socket,
-            refusals: 0,
-            refused_bytes: 0,
+            refusals: Refusals::none(),
         };
         let Ok(writer) = LineBuffer::new(alloc, writer, capacity) else {
             return Err(MetricError::Sink(SinkError::OutOfMemory));
@@ -103,26 +107,34 @@ impl<D: Datagrams, R: Wait + Clone + Drop, A: Allocator + Clone> PackedSocket<D,
             rt,
             writer: Mutex::new(writer),
             stats,
+            capacity,
         })
     }
 }
 
 impl<D: Datagrams, R: Wait + Drop, A: Allocator> PackedSocket<D, R, A> {
-    /// Holds the line of a metric where it fits the free room. Else nothing has changed, and the lock is given for
-    /// `write_out`.
-    pub fn hold(&self, metric: &str) -> Option<SocketLines<'_, D, R, A>> {
+    ghost use Rattle.cadence_sinks.specs.Buffers.{buffer_of};
+
+    /// Holds the line of a metric, where need be after what is held went out, or sends it alone where it passes the
+    /// capacity. It answers the line's length, or of a line that went out alone how many bytes the socket took. An
+    /// error is the socket's, or `NothingWritten` where it took 0 bytes of held text; nothing of the line is kept
+    /// then.
+    #[inline]
+    pub fn emit(&self, metric: &str) -> Result<usize, SinkError>
+        ensures { IsBufferedAnswer D.may_give (buffer_of self.now) metric.now result }
+    {
         // a lock that is free is taken inline
         let mut lines = match self.writer.try_lock() {
             Some(lines) => lines,
             None => self.writer.lock(&self.rt),
         };
         if hold_line(&mut lines, metric) {
-            return None;
+            return Ok(metric.len());
         }
-        Some(lines)
+        write_out(lines, metric, self.capacity)
     }
 
-    /// Sends what is held.
+    /// Sends what is held. The errors are those of `emit`; what the socket didn't take stays held.
     pub fn flush(&self) -> Result<(), SinkError>
         ensures { IsBufferedFlush D.may_give result }
     {
@@ -135,20 +147,27 @@ impl<D: Datagrams, R: Wait + Drop, A: Allocator> PackedSocket<D, R, A> {
     }
 }
 
-/// The lock of a packed socket.
-pub type SocketLines<'a, D, R, A> = MutexGuard<'a, LineBuffer<SocketWriter<D, R, A>, A>>;
+// The lock of a packed socket.
+type SocketLines<'a, D, R, A> = MutexGuard<'a, LineBuffer<SocketWriter<D, R, A>, A>>;
 
-/// Sends the held lines, and holds the line of a metric or sends it alone; then it lets the lock go. It stands apart
-/// from `hold`, which most lines need alone: an answer is as wide as an `io::Error`.
+// Sends the held lines, and holds the line of a metric or sends it alone; then it lets the lock go. It stands apart
+// from `emit`, where most lines are held: an answer is as wide as an `io::Error`. A line that the capacity has room
+// for, with its newline, is never cut; no clause of a lock says that the packer under it has this capacity.
 #[cold]
 #[inline(never)]
-pub fn write_out<D: Datagrams, R: Wait + Drop, A: Allocator>(
+fn write_out<D: Datagrams, R: Wait + Drop, A: Allocator>(
     mut lines: SocketLines<'_, D, R, A>,
     metric: &str,
+    capacity: usize,
 ) -> Result<usize, SinkError>
-    ensures { IsBufferedAnswer D.may_give metric.now result }
+    ensures { IsBufferedAnswer D.may_give capacity metric.now result }
 {
-    write_line(&mut lines, metric)
+    let n = write_line(&mut lines, metric)?;
+    Ok(if metric.len() < capacity {
+        metric.len()
+    } else {
+        n
+    })
 }
 
 impl<D: Datagrams, R: Wait + Drop, A: Allocator> Drop for PackedSocket<D, R, A> {
@@ -157,6 +176,7 @@ impl<D: Datagrams, R: Wait + Drop, A: Allocator> Drop for PackedSocket<D, R, A> 
             rt: _rt,
             writer,
             stats: _,
+            capacity: _,
         } = self;
         let mut lines = writer.into_inner();
         let _ = lines.flush();

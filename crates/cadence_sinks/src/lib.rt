@@ -10,7 +10,7 @@ mod udp;
 mod unix;
 mod worklist;
 
-pub use cadence_resolve::{Handler, SinkErrorHandler, Target};
+pub use cadence_resolve::{Handler, ResolverRuntime, SinkErrorHandler, Target};
 pub use metric_sink::{MetricSink, NopMetricSink};
 pub use queuing::{QueuingMetricSink, QueuingMetricSinkBuilder};
 pub use spy::{BufferedSpyMetricSink, SpyMetricSink, SpyReceiver};
@@ -20,5 +20,5 @@ pub use udp::{
 pub use unix::{BufferedUnixMetricSink, PathSocket, UnixMetricSink};
 pub use worklist::{Worklist, work};
 
-// The bytes that a buffered sink holds where none are given, as in cadence.
+// The bytes that a buffered sink holds where none are given.
 const DEFAULT_BUFFER_SIZE: usize = 512;

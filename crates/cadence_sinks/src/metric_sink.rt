@@ -5,7 +5,7 @@ ghost use Rattle.cadence_errors.specs.declared.SinkError.{SinkError};
 use cadence_errors::SinkError;
 use cadence_flow::stats::SinkStats;
 
-/// Takes lines and sends them somewhere, as in cadence. A line has no newline at its end. An impl states which
+/// Takes lines and sends them somewhere. A line has no newline at its end. An impl states which
 /// answers a line may get, and which a flush may get; a flush may always succeed.
 pub trait MetricSink: Drop {
     /// The answers that a line may get.
@@ -33,7 +33,7 @@ pub trait MetricSink: Drop {
     ghost flush_may_succeed: { (s : Self) → may_flush s (Ok tt) };
 }
 
-/// A sink that drops each line and answers 0, as in cadence.
+/// A sink that drops each line and answers 0.
 #[derive(Clone, Debug, Drop)]
 pub struct NopMetricSink;
 

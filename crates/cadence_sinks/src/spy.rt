@@ -1,4 +1,4 @@
-//! Sinks whose lines a test reads back, as in cadence.
+//! Sinks whose lines a test reads back.
 
 mod buffered;
 mod channel;

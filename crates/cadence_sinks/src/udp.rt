@@ -2,6 +2,7 @@
 
 mod buffered;
 mod peer;
+mod resolving;
 mod unbuffered;
 
 pub use buffered::{BufferedUdpMetricSink, BufferedUdpMetricSinkBuilder};

@@ -1,18 +1,17 @@
 //! Sinks over sockets that send to paths.
-ghost use Rattle.std.specs.Prelude.{◌≡◌, Bool, true, IfErr};
-ghost use Rattle.cadence_errors.specs.Errors.{out_of_memory};
+ghost use Rattle.std.specs.Prelude.{◌≡◌, Bool, true, IfOk};
+ghost use Rattle.cadence_errors.specs.Errors.{OnlyWantsMemory};
 ghost use Rattle.cadence_errors.specs.declared.SinkError.{SinkError};
 ghost use Rattle.cadence_sinks.specs.Sockets.{IsSocketAnswer};
 
-use super::datagram::{CountedSocket, Datagrams, PackedSocket, write_out};
+use super::datagram::{CountedSocket, Datagrams, PackedSocket};
 use super::{DEFAULT_BUFFER_SIZE, MetricSink};
 use cadence_errors::{MetricResult, SinkError};
 use cadence_flow::stats::SinkStats;
 use std::alloc::{Allocator, Global};
 use std::sync::Wait;
 
-/// A datagram socket whose peers are paths. This project's own; cadence takes a `UnixDatagram`. An impl may state
-/// which errors it gives.
+/// A datagram socket whose peers are paths. An impl may state which errors it gives.
 pub trait PathSocket: Drop {
     /// The errors that it may give.
     ghost may_give: { SinkError → Bool } = { λ _. true };
@@ -32,7 +31,7 @@ struct PathPeer<P: PathSocket, A: Allocator> {
 impl<P: PathSocket, A: Allocator> PathPeer<P, A> {
     // The only error is `OutOfMemory`.
     fn new(alloc: A, path: &str, socket: P) -> MetricResult<Self>
-        ensures { IfErr result (λ e. e ≡ out_of_memory) }
+        ensures { OnlyWantsMemory result }
     {
         let path = String::from_str(alloc, path)?;
         Ok(PathPeer { socket, path })
@@ -47,7 +46,7 @@ impl<P: PathSocket, A: Allocator> Datagrams for PathPeer<P, A> {
     }
 }
 
-/// Sends each line as a datagram to a path, in the thread of the caller, as in cadence. It answers how many bytes
+/// Sends each line as a datagram to a path, in the thread of the caller. It answers how many bytes
 /// the socket took, or the socket's error, and counts each answer. It keeps the runtime `R`, whose locks it takes.
 #[derive(Drop)]
 pub struct UnixMetricSink<P: PathSocket, R: Wait + Drop, A: Allocator = Global> {
@@ -58,7 +57,7 @@ impl<P: PathSocket, R: Wait + Drop, A: Allocator + Clone> UnixMetricSink<P, R, A
     /// Over a socket that the caller made, which is dropped where the sink is refused. The only error is
     /// `OutOfMemory`.
     pub fn from(rt: R, alloc: A, path: &str, socket: P) -> MetricResult<Self>
-        ensures { IfErr result (λ e. e ≡ out_of_memory) }
+        ensures { OnlyWantsMemory result }
     {
         let peer = PathPeer::new(alloc.clone()?, path, socket)?;
         let socket = CountedSocket::new(rt, alloc, peer)?;
@@ -82,7 +81,7 @@ impl<P: PathSocket, R: Wait + Drop, A: Allocator> MetricSink for UnixMetricSink<
 
 /// Holds lines, each followed by a newline, until no more of them fit its buffer, and then sends them to a path as
 /// one datagram; at a flush and where it is dropped, too. A line that passes the buffer goes out alone, without the
-/// newline. As in cadence. It answers the line's length, or of a line that went out alone how many bytes the socket
+/// newline. It answers the line's length, or of a line that went out alone how many bytes the socket
 /// took; an error is the socket's, or `NothingWritten` where it took 0 bytes of held text, which stays held. Each
 /// answer of the socket is counted. It keeps the runtime `R`, whose locks it takes.
 #[derive(Drop)]
@@ -91,10 +90,13 @@ pub struct BufferedUnixMetricSink<P: PathSocket, R: Wait + Drop, A: Allocator = 
 }
 
 impl<P: PathSocket, R: Wait + Clone + Drop, A: Allocator + Clone> BufferedUnixMetricSink<P, R, A> {
+    ghost use Rattle.cadence_sinks.specs.Buffers.{unix_buffer};
+
     /// With a buffer of 512 bytes, over a socket that the caller made, which is dropped where the sink is refused.
     /// The only error is `OutOfMemory`.
     pub fn from(rt: R, alloc: A, path: &str, socket: P) -> MetricResult<Self>
-        ensures { IfErr result (λ e. e ≡ out_of_memory) }
+        ensures buffer { IfOk result (λ s. unix_buffer s ≡ 512) }
+        ensures refused { OnlyWantsMemory result }
     {
         Self::with_capacity(rt, alloc, path, socket, DEFAULT_BUFFER_SIZE)
     }
@@ -108,7 +110,8 @@ impl<P: PathSocket, R: Wait + Clone + Drop, A: Allocator + Clone> BufferedUnixMe
         socket: P,
         capacity: usize,
     ) -> MetricResult<Self>
-        ensures { IfErr result (λ e. e ≡ out_of_memory) }
+        ensures buffer { IfOk result (λ s. unix_buffer s ≡ capacity) }
+        ensures refused { OnlyWantsMemory result }
     {
         let peer = PathPeer::new(alloc.clone()?, path, socket)?;
         let socket = PackedSocket::new(rt, alloc, peer, capacity)?;
@@ -117,17 +120,15 @@ impl<P: PathSocket, R: Wait + Clone + Drop, A: Allocator + Clone> BufferedUnixMe
 }
 
 impl<P: PathSocket, R: Wait + Drop, A: Allocator> MetricSink for BufferedUnixMetricSink<P, R, A> {
+    ghost use Rattle.cadence_sinks.specs.Buffers.{unix_buffer};
     ghost use Rattle.cadence_sinks.specs.Sockets.{IsBufferedAnswer, IsBufferedFlush};
 
-    ghost may_answer = { λ _ metric answer. IsBufferedAnswer P.may_give metric answer };
+    ghost may_answer = { λ s metric answer. IsBufferedAnswer P.may_give (unix_buffer s) metric answer };
 
     ghost may_flush = { λ _ answer. IsBufferedFlush P.may_give answer };
 
     fn emit(&self, metric: &str) -> Result<usize, SinkError> {
-        match self.socket.hold(metric) {
-            None => Ok(metric.len()),
-            Some(lines) => write_out(lines, metric),
-        }
+        self.socket.emit(metric)
     }
 
     fn flush(&self) -> Result<(), SinkError> {

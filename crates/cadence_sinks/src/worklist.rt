@@ -3,7 +3,7 @@ ghost use Rattle.std.specs.Prelude.{◌≡◌, List, [], ◌∷◌, ◌++◌, Bo
 
 use std::sync::Wait;
 
-/// Texts to hand on, one after the other, until the end. This project's own; cadence has a channel. An impl states
+/// Texts to hand on, one after the other, until the end. An impl states
 /// the texts that it gave, those that were handed on, whether it told the end, and whether it tells all this, which no
 /// call changes: one whose texts come from another thread doesn't tell.
 pub trait Worklist {
@@ -27,8 +27,10 @@ pub trait Worklist {
         requires { tells self.old ≡ true → given self.old ≡ handed self.old }
         ensures tells { tells self.new ≡ tells self.old }
         ensures handed { tells self.old ≡ true → handed self.new ≡ handed self.old }
-        ensures text { IfSome result (λ text. tells self.old ≡ true → (given self.new ≡ given self.old ++ text ∷ []) × (ended self.new ≡ ended self.old)) }
-        ensures end { IfNone result (tells self.old ≡ true → (given self.new ≡ given self.old) × (ended self.new ≡ true)) };
+        ensures text { IfSome result (λ text. tells self.old ≡ true →
+            (given self.new ≡ given self.old ++ text ∷ []) × (ended self.new ≡ ended self.old)) }
+        ensures end { IfNone result (tells self.old ≡ true →
+            (given self.new ≡ given self.old) × (ended self.new ≡ true)) };
 
     /// Hands on the text that was given last.
     fn hand(&mut self, text: Self::Text)
@@ -45,7 +47,9 @@ pub fn work<R: Wait, W: Worklist>(rt: &R, list: &mut W)
     requires { W.tells list.old ≡ true → W.given list.old ≡ W.handed list.old }
     ensures tells { W.tells list.new ≡ W.tells list.old }
     ensures ended { W.tells list.old ≡ true → W.ended list.new ≡ true }
-    ensures handed { W.tells list.old ≡ true → (texts : List W.Text) × (W.given list.new ≡ W.given list.old ++ texts) × (W.handed list.new ≡ W.handed list.old ++ texts) }
+    ensures handed { W.tells list.old ≡ true → (texts : List W.Text)
+        × (W.given list.new ≡ W.given list.old ++ texts)
+        × (W.handed list.new ≡ W.handed list.old ++ texts) }
 {
     for _ in rt.forever() {
         match list.next() {

@@ -1,12 +1,11 @@
 //! A spy whose every packet is a message.
-ghost use Rattle.std.specs.Prelude.{◌≡◌, IfErr};
-ghost use Rattle.cadence_errors.specs.Errors.{out_of_memory};
+ghost use Rattle.cadence_errors.specs.Errors.{OnlyWantsMemory};
 
 use super::channel::{Sender, SpyReceiver, new_channel};
 use crate::buffered::write_line;
 use crate::{DEFAULT_BUFFER_SIZE, MetricSink};
 use cadence_errors::{MetricError, MetricResult, SinkError};
-use cadence_flow::io::{LineBuffer, PacketWriter};
+use cadence_flow::io::{LineBuffer, PacketWriter, Refusals};
 use std::alloc::{Allocator, Global};
 use std::sync::{Mutex, Wait};
 
@@ -14,31 +13,31 @@ use std::sync::{Mutex, Wait};
 #[derive(Drop)]
 struct MessageWriter<R: Wait + Drop, A: Allocator> {
     sender: Sender<R, A>,
-    refusals: u64,
-    refused_bytes: u64,
+    refusals: Refusals,
 }
 
 impl<R: Wait + Drop, A: Allocator + Clone> PacketWriter for MessageWriter<R, A> {
     ghost use Rattle.std.specs.Prelude.{[]};
     ghost use Rattle.cadence_sinks.specs.Answers.{queue_kind};
 
-    ghost history = { λ w. record { packets = []; refusals = w.refusals; refused_bytes = w.refused_bytes } };
+    ghost history = { λ w. record {
+      packets = [];
+      refusals = w.refusals.count;
+      refused_bytes = w.refusals.bytes;
+    } };
 
     ghost kind = { λ _. queue_kind };
 
     fn write_packet(&mut self, packet: &[u8]) -> Result<usize, SinkError> {
         let answer = self.sender.send(packet);
-        if answer.is_err() {
-            self.refusals = self.refusals.wrapping_add(1);
-            self.refused_bytes = self.refused_bytes.wrapping_add(packet.len() as u64);
-        }
+        self.refusals.note(&answer, packet.len());
         answer
     }
 }
 
 /// A sink that holds lines, each followed by a newline, until no more of them fit its buffer, and makes them one
 /// message of its receiver then, at a flush, and where it is dropped; a line that passes the buffer is a message
-/// alone. As in cadence. It answers the line's length, or what refused a message: `ChannelDisconnected` once the
+/// alone. It answers the line's length, or what refused a message: `ChannelDisconnected` once the
 /// receiver is dropped, else `ChannelFull` where as many messages wait as the queue's capacity, else `OutOfMemory`.
 /// The held text stays then. It keeps no counts, and holds the runtime `R`, whose locks it takes.
 pub struct BufferedSpyMetricSink<R: Wait + Drop, A: Allocator + Clone = Global> {
@@ -50,7 +49,7 @@ impl<R: Wait + Clone + Drop, A: Allocator + Clone> BufferedSpyMetricSink<R, A> {
     /// A spy with a buffer of 512 bytes for any number of messages, and its receiver. The only error is
     /// `OutOfMemory`.
     pub fn new(rt: R, alloc: A) -> MetricResult<(SpyReceiver<R, A>, Self)>
-        ensures { IfErr result (λ e. e ≡ out_of_memory) }
+        ensures { OnlyWantsMemory result }
     {
         Self::with_capacity(rt, alloc, None, None)
     }
@@ -63,13 +62,12 @@ impl<R: Wait + Clone + Drop, A: Allocator + Clone> BufferedSpyMetricSink<R, A> {
         queue: Option<usize>,
         buffer: Option<usize>,
     ) -> MetricResult<(SpyReceiver<R, A>, Self)>
-        ensures { IfErr result (λ e. e ≡ out_of_memory) }
+        ensures { OnlyWantsMemory result }
     {
         let (receiver, sender) = new_channel(rt.clone()?, alloc.clone()?, queue)?;
         let inner = MessageWriter {
             sender,
-            refusals: 0,
-            refused_bytes: 0,
+            refusals: Refusals::none(),
         };
         match LineBuffer::new(alloc, inner, buffer.unwrap_or(DEFAULT_BUFFER_SIZE)) {
             Ok(writer) => {

@@ -1,6 +1,5 @@
 //! The queue between a spy and its receiver.
-ghost use Rattle.std.specs.Prelude.{◌≡◌, IfErr};
-ghost use Rattle.cadence_errors.specs.Errors.{out_of_memory};
+ghost use Rattle.cadence_errors.specs.Errors.{OnlyWantsMemory};
 ghost use Rattle.cadence_sinks.specs.Answers.{IsQueueAnswer};
 
 use cadence_errors::{MetricResult, SinkError};
@@ -11,7 +10,7 @@ use std::sync::{Arc, Wait};
 type Messages<A> = Arc<SharedQueue<Vec<u8, A>, A>, A>;
 
 /// Gives the messages that a spy was sent, the oldest first. Once it is dropped its spy answers
-/// `ChannelDisconnected`. It stands for the receiver of a channel in cadence.
+/// `ChannelDisconnected`.
 pub struct SpyReceiver<R: Wait + Drop, A: Allocator = Global> {
     rt: R,
     messages: Messages<A>,
@@ -58,7 +57,7 @@ pub fn new_channel<R: Wait + Clone + Drop, A: Allocator + Clone>(
     alloc: A,
     capacity: Option<usize>,
 ) -> MetricResult<(SpyReceiver<R, A>, Sender<R, A>)>
-    ensures { IfErr result (λ e. e ≡ out_of_memory) }
+    ensures { OnlyWantsMemory result }
 {
     let queue = SharedQueue::new(alloc.clone()?, capacity)?;
     let messages = Arc::new(alloc.clone()?, queue)?;

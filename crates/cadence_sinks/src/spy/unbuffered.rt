@@ -1,6 +1,5 @@
 //! A spy whose every line is a message.
-ghost use Rattle.std.specs.Prelude.{◌≡◌, IfErr};
-ghost use Rattle.cadence_errors.specs.Errors.{out_of_memory};
+ghost use Rattle.cadence_errors.specs.Errors.{OnlyWantsMemory};
 
 use super::channel::{Sender, SpyReceiver, new_channel};
 use crate::MetricSink;
@@ -8,7 +7,7 @@ use cadence_errors::{MetricResult, SinkError};
 use std::alloc::{Allocator, Global};
 use std::sync::Wait;
 
-/// A sink that makes each line one message of its receiver, as in cadence. It answers the line's length;
+/// A sink that makes each line one message of its receiver. It answers the line's length;
 /// `ChannelDisconnected` once the receiver is dropped, else `ChannelFull` where as many messages wait as the
 /// queue's capacity, else `OutOfMemory` where there is no memory for the message. It keeps no counts, and holds the
 /// runtime `R`, whose locks it takes.
@@ -20,20 +19,20 @@ pub struct SpyMetricSink<R: Wait + Drop, A: Allocator = Global> {
 impl<R: Wait + Clone + Drop, A: Allocator + Clone> SpyMetricSink<R, A> {
     /// A spy for any number of messages, and its receiver. The only error is `OutOfMemory`.
     pub fn new(rt: R, alloc: A) -> MetricResult<(SpyReceiver<R, A>, Self)>
-        ensures { IfErr result (λ e. e ≡ out_of_memory) }
+        ensures { OnlyWantsMemory result }
     {
         Self::with_queue(rt, alloc, None)
     }
 
     /// A spy whose queue holds at most `queue` messages, and its receiver. The only error is `OutOfMemory`.
     pub fn with_capacity(rt: R, alloc: A, queue: usize) -> MetricResult<(SpyReceiver<R, A>, Self)>
-        ensures { IfErr result (λ e. e ≡ out_of_memory) }
+        ensures { OnlyWantsMemory result }
     {
         Self::with_queue(rt, alloc, Some(queue))
     }
 
     fn with_queue(rt: R, alloc: A, queue: Option<usize>) -> MetricResult<(SpyReceiver<R, A>, Self)>
-        ensures { IfErr result (λ e. e ≡ out_of_memory) }
+        ensures { OnlyWantsMemory result }
     {
         let (receiver, sender) = new_channel(rt, alloc, queue)?;
         Ok((receiver, SpyMetricSink { sender }))

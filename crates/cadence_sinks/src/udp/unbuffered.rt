@@ -1,23 +1,22 @@
 //! A sink that sends each line as a datagram.
-ghost use Rattle.std.specs.Prelude.{◌≡◌, IfErr, Some, None};
-ghost use Rattle.std.specs.Option.{option_map};
-ghost use Rattle.cadence_resolve.specs.Handler.{call_of};
+ghost use Rattle.std.specs.Prelude.{◌≡◌, false, IfOk, IfErr, Some, None, is_some};
 ghost use Rattle.cadence_resolve.specs.Refusals.{IsSocketRefusal, IsTargetRefusal};
 ghost use Rattle.cadence_sinks.specs.Sockets.{IsSocketAnswer, is_io};
+ghost use Rattle.cadence_sinks.specs.Udp.{period_of, handler_of, looks_up_again};
 
 use super::peer::UdpPeer;
+use super::resolving::Resolving;
 use crate::datagram::CountedSocket;
 use crate::{Handler, MetricSink, SinkErrorHandler, Target};
 use cadence_errors::{MetricResult, SinkError};
 use cadence_flow::stats::SinkStats;
-use cadence_resolve::Resolver;
+use cadence_resolve::ResolverRuntime;
 use std::alloc::{Allocator, Global};
-use std::net::{Net, TcpListener, TcpStream, UdpSocket};
+use std::net::{Net, UdpSocket};
 use std::sync::Wait;
-use std::thread::Threads;
-use std::time::{Clock, Duration};
+use std::time::Duration;
 
-/// Sends each line as a UDP datagram, in the thread of the caller, as in cadence. It answers how many bytes the
+/// Sends each line as a UDP datagram, in the thread of the caller. It answers how many bytes the
 /// socket took, or `Io`, and counts each answer. It keeps the runtime `R`, whose locks it takes; its drop ends its
 /// lookups and waits for none.
 #[derive(Drop)]
@@ -32,7 +31,8 @@ impl<R: Net + Wait + Drop, A: Allocator + Clone> UdpMetricSink<R, A> {
     /// For a name that can't be looked up the error is `SinkError::Io`; for one without addresses the kind
     /// `InvalidInput`; else `SinkError::OutOfMemory`.
     pub fn from(rt: R, alloc: A, target: Target<A>, socket: UdpSocket) -> MetricResult<Self>
-        ensures { IfErr result (λ e. IsTargetRefusal target e) }
+        ensures once { IfOk result (λ s. looks_up_again s ≡ false) }
+        ensures refused { IfErr result (λ e. IsTargetRefusal target e) }
     {
         let peer = UdpPeer::new(&rt, alloc.clone()?, &target, socket)?;
         let socket = CountedSocket::new(rt, alloc, peer)?;
@@ -43,8 +43,8 @@ impl<R: Net + Wait + Drop, A: Allocator + Clone> UdpMetricSink<R, A> {
 impl<R: Wait + Drop, A: Allocator> UdpMetricSink<R, A> {
     /// A builder without any setting.
     pub fn builder() -> UdpMetricSinkBuilder
-        ensures period { result.period ≡ None }
-        ensures handler { result.handler ≡ None }
+        ensures period { period_of result ≡ None }
+        ensures handler { handler_of result ≡ None }
     {
         UdpMetricSinkBuilder::new()
     }
@@ -64,33 +64,29 @@ impl<R: Wait + Drop, A: Allocator> MetricSink for UdpMetricSink<R, A> {
     ghost flush_may_succeed = { λ _. tt };
 }
 
-/// Makes a `UdpMetricSink`, as in cadence. Without a period its target is looked up once.
+/// Makes a `UdpMetricSink`. Without a period its target is looked up once.
 #[derive(Drop)]
 pub struct UdpMetricSinkBuilder {
-    /// The time between two lookups of the target.
-    pub period: Option<Duration>,
-    /// Who is told of a later lookup that fails or gives no address.
-    pub handler: Option<Handler>,
+    resolving: Resolving,
 }
 
 impl UdpMetricSinkBuilder {
     /// A builder without any setting.
     pub fn new() -> Self
-        ensures period { result.period ≡ None }
-        ensures handler { result.handler ≡ None }
+        ensures period { period_of result ≡ None }
+        ensures handler { handler_of result ≡ None }
     {
         UdpMetricSinkBuilder {
-            period: None,
-            handler: None,
+            resolving: Resolving::once(),
         }
     }
 
     /// The target is looked up again after each period, by a thread that sleeps in between.
     pub fn with_resolver_period(mut self, period: Duration) -> Self
-        ensures period { result.period ≡ Some period }
-        ensures handler { result.handler ≡ self.handler }
+        ensures period { period_of result ≡ Some period }
+        ensures handler { handler_of result ≡ handler_of self }
     {
-        self.period = Some(period);
+        self.resolving.period = Some(period);
         self
     }
 
@@ -98,10 +94,10 @@ impl UdpMetricSinkBuilder {
     /// that looks up. Without a period it isn't used.
     pub fn with_resolver_error_handler(mut self, handler: SinkErrorHandler) -> Self
         requires { IsAlwaysCallable handler }
-        ensures period { result.period ≡ self.period }
-        ensures handler { option_map call_of result.handler ≡ Some handler }
+        ensures period { period_of result ≡ period_of self }
+        ensures handler { handler_of result ≡ Some handler }
     {
-        self.handler = Some(Handler::new(handler));
+        self.resolving.handler = Some(Handler::new(handler));
         self
     }
 
@@ -109,29 +105,19 @@ impl UdpMetricSinkBuilder {
     /// refused sink drops the socket.
     ///
     /// The errors are those of `UdpMetricSink::from`, and `SinkError::Io` where the thread can't be started.
-    pub fn build<
-        R: Net<Listener = TcpListener, Stream = TcpStream>
-            + Wait
-            + Threads
-            + Clock
-            + Clone
-            + Drop
-            + Send
-            + Sync
-            + 'static,
-        A: Allocator + Clone + Send + Sync + 'static,
-    >(
+    pub fn build<R: ResolverRuntime, A: Allocator + Clone + Send + Sync + 'static>(
         self,
         rt: R,
         alloc: A,
         target: Target<A>,
         socket: UdpSocket,
     ) -> MetricResult<UdpMetricSink<R, A>>
+        ensures periodic { IfOk result (λ s. looks_up_again s ≡ is_some (period_of self)) }
         ensures refused { IfErr result (λ e. IsSocketRefusal e) }
-        ensures once { self.period ≡ None → IfErr result (λ e. IsTargetRefusal target e) }
+        ensures once { period_of self ≡ None → IfErr result (λ e. IsTargetRefusal target e) }
     {
-        let resolver = Resolver::new(&rt, &alloc, target, self.period, self.handler)?;
-        let socket = CountedSocket::new(rt, alloc, UdpPeer { socket, resolver })?;
+        let peer = self.resolving.peer(&rt, &alloc, target, socket)?;
+        let socket = CountedSocket::new(rt, alloc, peer)?;
         Ok(UdpMetricSink { socket })
     }
 }

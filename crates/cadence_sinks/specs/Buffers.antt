@@ -1,0 +1,17 @@
+-- What contracts show of the buffers of sinks over sockets.
+use Rattle.std.specs.Prelude.{ℕ}
+use Rattle.cadence_sinks.specs.declared.datagram.PackedSocket.{PackedSocket}
+use Rattle.cadence_sinks.specs.declared.udp.buffered.BufferedUdpMetricSink.{BufferedUdpMetricSink}
+use Rattle.cadence_sinks.specs.declared.unix.BufferedUnixMetricSink.{BufferedUnixMetricSink}
+
+-- the bytes of a packed socket's buffer
+abbrev pub buffer_of : {D R A : Type 0} → PackedSocket D R A → ℕ
+buffer_of s = s.capacity
+
+-- the bytes of a UDP sink's buffer
+abbrev pub udp_buffer : {R A : Type 0} → BufferedUdpMetricSink R A → ℕ
+udp_buffer s = buffer_of s.socket
+
+-- the bytes of a Unix sink's buffer
+abbrev pub unix_buffer : {P R A : Type 0} → BufferedUnixMetricSink P R A → ℕ
+unix_buffer s = buffer_of s.socket

@@ -1,0 +1,76 @@
+//! The settings of a queuing sink.
+ghost use Rattle.std.specs.Prelude.{◌≡◌, IfOk, IfErr, Some, None};
+ghost use Rattle.cadence_sinks.specs.Queuing.{IsQueuingRefusal, wrapped_sink, capacity_of, handler_of};
+
+use super::QueuingMetricSink;
+use super::worker::{Shared, Worker};
+use crate::{Handler, MetricSink, SinkErrorHandler};
+use cadence_errors::MetricResult;
+use cadence_flow::queue::{SharedQueue, WorkerEnd};
+use cadence_resolve::thread::start;
+use std::alloc::{Allocator, Global};
+use std::sync::{Arc, Wait};
+use std::thread::Threads;
+
+/// Makes a `QueuingMetricSink`. Without a capacity its queue is unbounded, and without a handler the
+/// faults of the wrapped sink are dropped.
+#[derive(Drop)]
+pub struct QueuingMetricSinkBuilder<A: Allocator = Global> {
+    capacity: Option<usize>,
+    handler: Option<Handler<A>>,
+}
+
+impl<A: Allocator> QueuingMetricSinkBuilder<A> {
+    /// A builder without any setting.
+    pub fn new() -> Self
+        ensures capacity { capacity_of result ≡ None }
+        ensures handler { handler_of result ≡ None }
+    {
+        QueuingMetricSinkBuilder {
+            capacity: None,
+            handler: None,
+        }
+    }
+
+    /// The queue holds at most `capacity` lines.
+    pub fn with_capacity(mut self, capacity: usize) -> Self
+        ensures capacity { capacity_of result ≡ Some capacity }
+        ensures handler { handler_of result ≡ handler_of self }
+    {
+        self.capacity = Some(capacity);
+        self
+    }
+
+    /// The handler is told of each line that the wrapped sink refuses, with what it refused it with. It runs in the
+    /// worker thread, without any lock held, and may itself `emit` into the same queue.
+    pub fn with_error_handler(mut self, handler: SinkErrorHandler<A>) -> Self
+        requires { IsAlwaysCallable handler }
+        ensures capacity { capacity_of result ≡ capacity_of self }
+        ensures handler { handler_of result ≡ Some handler }
+    {
+        self.handler = Some(Handler::new(handler));
+        self
+    }
+}
+
+impl<A: Allocator + Clone + Send + Sync + 'static> QueuingMetricSinkBuilder<A> {
+    /// The sink, with its worker thread. The errors are `OutOfMemory`, and `Io` where no thread can be started; the
+    /// wrapped sink is dropped then.
+    pub fn build<
+        S: MetricSink + Send + Sync + 'static,
+        R: Wait + Threads + Clone + Drop + Send + Sync + 'static,
+    >(self, rt: R, alloc: A, sink: S) -> MetricResult<QueuingMetricSink<S, R, A>>
+        ensures wrapped { IfOk result (λ q. wrapped_sink q ≡ sink) }
+        ensures refused { IfErr result IsQueuingRefusal }
+    {
+        let queue = SharedQueue::new(alloc.clone()?, self.capacity)?;
+        let end = WorkerEnd::new();
+        let shared = Arc::new(alloc.clone()?, Shared { sink, queue, end })?;
+        let worker = Worker {
+            rt: rt.clone()?,
+            shared: shared.clone()?,
+        };
+        start(&rt, worker, self.handler)?;
+        Ok(QueuingMetricSink { rt, alloc, shared })
+    }
+}

@@ -1,0 +1,143 @@
+//! The handles of a queuing sink.
+ghost use Rattle.std.specs.Prelude.{◌≡◌, IfOk, IfErr, None};
+ghost use Rattle.cadence_sinks.specs.Queuing.{IsQueuingRefusal, wrapped_sink, capacity_of, handler_of};
+
+use super::QueuingMetricSinkBuilder;
+use super::worker::Shared;
+use crate::MetricSink;
+use cadence_errors::{MetricResult, SinkError};
+use cadence_flow::stats::SinkStats;
+use std::alloc::{AllocError, Allocator, Global};
+use std::sync::{Arc, Wait};
+use std::thread::Threads;
+
+/// A handle of a sink that queues each line for a worker thread, which hands the lines to the wrapped sink, in order.
+/// It keeps the runtime `R`, whose locks it takes.
+///
+/// A clone is one more handle. The drop of the last handle stops the queue, and waits for nothing: what is queued is
+/// still handed on, and then the wrapped sink is dropped, so a buffered one sends what it holds.
+pub struct QueuingMetricSink<S: MetricSink, R: Wait + Drop, A: Allocator = Global> {
+    pub(super) rt: R,
+    pub(super) alloc: A,
+    pub(super) shared: Arc<Shared<S, A>, A>,
+}
+
+impl<
+    S: MetricSink + Send + Sync + 'static,
+    R: Wait + Threads + Clone + Drop + Send + Sync + 'static,
+    A: Allocator + Clone + Send + Sync + 'static,
+> QueuingMetricSink<S, R, A> {
+    /// Over an unbounded queue, with its worker thread. The errors are `OutOfMemory`, and `Io` where no thread can be
+    /// started; the wrapped sink is dropped then.
+    pub fn from(rt: R, alloc: A, sink: S) -> MetricResult<Self>
+        ensures wrapped { IfOk result (λ q. wrapped_sink q ≡ sink) }
+        ensures refused { IfErr result IsQueuingRefusal }
+    {
+        QueuingMetricSinkBuilder::new().build(rt, alloc, sink)
+    }
+
+    /// Over a queue that holds at most `capacity` lines, as `from`.
+    pub fn with_capacity(rt: R, alloc: A, sink: S, capacity: usize) -> MetricResult<Self>
+        ensures wrapped { IfOk result (λ q. wrapped_sink q ≡ sink) }
+        ensures refused { IfErr result IsQueuingRefusal }
+    {
+        let builder = QueuingMetricSinkBuilder::new().with_capacity(capacity);
+        builder.build(rt, alloc, sink)
+    }
+}
+
+impl<S: MetricSink, R: Wait + Drop, A: Allocator> QueuingMetricSink<S, R, A> {
+    /// A builder without any setting.
+    pub fn builder() -> QueuingMetricSinkBuilder<A>
+        ensures capacity { capacity_of result ≡ None }
+        ensures handler { handler_of result ≡ None }
+    {
+        QueuingMetricSinkBuilder::new()
+    }
+
+    /// Stops the queue for all handles, and waits until the worker has handed on what was queued and has ended.
+    pub fn stop_and_wait(&self) {
+        self.shared.queue.stop(&self.rt);
+        self.shared.end.wait(&self.rt);
+    }
+
+    /// The number of lines that wait in the queue.
+    pub fn queued(&self) -> u64 {
+        self.shared.queue.waiting(&self.rt) as u64
+    }
+
+    /// The number of lines accepted, modulo 2 to the 64.
+    pub fn submitted(&self) -> u64 {
+        self.shared.queue.submitted(&self.rt)
+    }
+
+    /// The number of lines that the worker took from the queue, modulo 2 to the 64.
+    pub fn drained(&self) -> u64 {
+        self.shared.queue.drained(&self.rt)
+    }
+
+    /// How often the worker panicked: never.
+    pub fn panics(&self) -> u64
+        ensures { result ≡ 0 }
+    {
+        0
+    }
+}
+
+/// `emit` puts a copy of the line last in the queue and answers its length, `ChannelDisconnected` where the queue is
+/// stopped, else `ChannelFull` where as many lines wait as its capacity, else `OutOfMemory`; nothing is queued then.
+/// An accepted line takes memory once, beside the growth of an unbounded queue, and one that is refused by a stop or
+/// by the capacity takes none. `flush` flushes the wrapped sink and doesn't wait for the queue; `stats` are the
+/// wrapped sink's.
+impl<S: MetricSink, R: Wait + Drop, A: Allocator + Clone> MetricSink
+    for QueuingMetricSink<S, R, A> {
+    ghost use Rattle.std.specs.Arc.{arc_value};
+    ghost use Rattle.cadence_sinks.specs.Answers.{IsQueueAnswer};
+
+    ghost may_answer = { λ _ metric answer. IsQueueAnswer metric answer };
+
+    ghost may_flush = { λ q answer. S.may_flush (arc_value q.shared).sink answer };
+
+    fn emit(&self, metric: &str) -> Result<usize, SinkError> {
+        let alloc = &self.alloc;
+        self.shared
+            .queue
+            .submit_with(&self.rt, || String::from_str(alloc.clone()?, metric))?;
+        Ok(metric.len())
+    }
+
+    fn flush(&self) -> Result<(), SinkError> {
+        self.shared.sink.flush()
+    }
+
+    fn stats(&self) -> SinkStats {
+        self.shared.sink.stats()
+    }
+
+    ghost flush_may_succeed = { λ q. S.flush_may_succeed (arc_value q.shared).sink };
+}
+
+/// One more handle.
+impl<S: MetricSink, R: Wait + Clone + Drop, A: Allocator + Clone> Clone
+    for QueuingMetricSink<S, R, A> {
+    ghost is_clone = { λ q copy. wrapped_sink copy ≡ wrapped_sink q };
+
+    fn clone(&self) -> Result<Self, AllocError> {
+        let rt = self.rt.clone()?;
+        let alloc = self.alloc.clone()?;
+        let shared = self.shared.clone()?;
+        shared.queue.add_handle(&rt);
+        Ok(QueuingMetricSink { rt, alloc, shared })
+    }
+}
+
+impl<S: MetricSink, R: Wait + Drop, A: Allocator> Drop for QueuingMetricSink<S, R, A> {
+    fn drop(self) {
+        self.shared.queue.drop_handle(&self.rt);
+        let QueuingMetricSink {
+            rt: _,
+            alloc: _,
+            shared: _,
+        } = self;
+    }
+}
