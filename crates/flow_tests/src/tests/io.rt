@@ -1,6 +1,6 @@
 //! Worked rows, a writer of the tests' own, the drop, and each refused request for memory.
 use cadence_errors::SinkError;
-use cadence_flow::io::{Answer, MultiLineWriter, PacketLog, PacketWriter};
+use cadence_flow::io::{Answer, LineBuffer, MultiLineWriter, PacketLog, PacketWriter, Refusals};
 use refusing::Refusing;
 use std::alloc::Global;
 use std::test::Fail;
@@ -296,4 +296,27 @@ fn refused_packet_uses_up_its_answer(rt: HostRuntime) -> Result<(), Fail> {
         assert_eq!(rt; log.packets().len(), 1);
     }
     Ok(())
+}
+
+#[test]
+fn a_line_fits_up_to_the_capacity(rt: HostRuntime) -> Result<(), Fail> {
+    let log = PacketLog::new(rt.alloc(), Vec::new(rt.alloc()));
+    let Ok(mut lines) = LineBuffer::new(rt.alloc(), log, 6) else {
+        return Err(Fail::new("no memory"));
+    };
+    assert!(rt; lines.fits(b"12345"));
+    assert!(rt; !lines.fits(b"123456"));
+    assert!(rt; lines.hold(b"12"));
+    assert!(rt; lines.fits(b"45"));
+    assert!(rt; !lines.fits(b"456"));
+    Ok(())
+}
+
+#[test]
+fn an_error_is_a_refusal(rt: HostRuntime) {
+    let mut refusals = Refusals::none();
+    refusals.note(&Ok(3), 3);
+    refusals.note(&Err(SinkError::PacketRefused), 5);
+    refusals.note(&Err(SinkError::OutOfMemory), 2);
+    assert_eq!(rt; refusals, Refusals { count: 2, bytes: 7 });
 }
