@@ -1,7 +1,7 @@
 -- The metric that a record means, and what each call makes of it.
 use Rattle.std.specs.Prelude.{◌++◌, map}
 use Rattle.std.specs.Option.{option_copied}
-use Rattle.cadence_text.specs.declared.line.record.Tag.{Tag as TagParts}
+use Rattle.cadence_text.specs.declared.line.tag.Tag.{Tag as TagParts}
 use Rattle.cadence_text.specs.declared.line.record.Record.TheInside.{Inside}
 use Rattle.cadence_text.specs.Metric.{Metric, Tag}
 use Rattle.cadence_text.specs.Values.{numbers_of}

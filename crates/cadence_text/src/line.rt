@@ -3,10 +3,12 @@
 mod pieces;
 mod record;
 mod sink;
+mod tag;
 mod window;
 
-pub use record::{Record, Tag};
+pub use record::Record;
 use std::fmt;
+pub use tag::Tag;
 
 /// The kind of a metric. It prints its type text.
 #[derive(Clone, Copy, Debug, PartialEq, Eq, Hash)]

@@ -8,10 +8,12 @@ ghost use Rattle.cadence.specs.Sending.{Chooses, ChoosesOrHolds, HasLine, MadeFr
 use crate::client::backend::MetricBackend;
 use crate::client::pending;
 use crate::client::statsd_client::StatsdClient;
-use crate::metrics::Metric;
+use crate::metrics::{Kind, Metric, MetricText};
 use cadence_errors::{MetricError, MetricResult};
 use cadence_text::decimal::Decimal;
 use cadence_text::line::{Record, Tag};
+use cadence_text::value::MetricValue;
+use std::alloc::Allocator;
 use std::marker::PhantomData;
 
 // A line as a metric.
@@ -185,5 +187,29 @@ impl<'m, 'c, T: Metric + From<String<C::Memory>>, C: MetricBackend> MetricBuilde
             Ok(_) => unreachable!(),
             Err(e) => e,
         }
+    }
+}
+
+impl<'a, K: Kind, A: Allocator + Clone> MetricBuilder<'a, 'a, MetricText<K, A>, StatsdClient<A>> {
+    ghost use Rattle.cadence_text.specs.Values.{Converts};
+    ghost use Rattle.cadence.specs.Sending.{StartsPlain};
+    ghost use Rattle.cadence.specs.Shown.{backend_of, pending_of, settings_of_client};
+
+    // The builder of a call without options, whose value was converted.
+    #[inline]
+    pub(crate) fn start(
+        client: &'a StatsdClient<A>,
+        key: &'a str,
+        value: MetricResult<MetricValue<A>>,
+    ) -> Self
+        ensures pending { (numbers : _) → Converts numbers value →
+            StartsPlain (settings_of_client client.now) K.TYPE key.now numbers
+            (pending_of result) }
+        ensures client { backend_of result ≡ client.now }
+    {
+        MetricBuilder::new(
+            client,
+            pending::start(&client.settings, key, K::TYPE, value),
+        )
     }
 }

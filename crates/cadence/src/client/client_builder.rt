@@ -107,3 +107,43 @@ impl<A: Allocator + Clone> StatsdClientBuilder<A> {
         })
     }
 }
+
+impl<A: Allocator + Clone> StatsdClient<A> {
+    ghost use Rattle.std.specs.Prelude.{IfSome};
+    ghost use Rattle.cadence.specs.Shown.{settings_of_client, sink_of_client, handler_of_client, settings_of_builder, sink_of_builder, handler_of_builder};
+    ghost use Rattle.cadence_schedule.specs.Settings.{settings_of};
+
+    /// A client without further settings: it drops the errors of `send`. Refuses with kind `OutOfMemory` alone; the
+    /// sink is dropped then.
+    pub fn from_sink(
+        alloc: A,
+        prefix: &str,
+        sink: Box<dyn MetricSink + Send + Sync, A>,
+    ) -> MetricResult<StatsdClient<A>>
+        ensures settings { IfOk result (λ c. settings_of_client c ≡ settings_of prefix.now) }
+        ensures sink { IfOk result (λ c. sink_of_client c ≡ sink) }
+        ensures handler { IfOk result (λ c. handler_of_client c ≡ None) }
+        ensures refused { OnlyWantsMemory result }
+    {
+        StatsdClient::builder(alloc, prefix, sink).build()
+    }
+
+    /// A builder of a client, which so far has the prefix and the sink alone.
+    ///
+    /// An empty prefix prints nothing. Another loses all its trailing dots and gains one.
+    pub fn builder(
+        alloc: A,
+        prefix: &str,
+        sink: Box<dyn MetricSink + Send + Sync, A>,
+    ) -> StatsdClientBuilder<A>
+        ensures settings { IfSome (settings_of_builder result) (λ s. s ≡ settings_of prefix.now) }
+        ensures sink { sink_of_builder result ≡ sink }
+        ensures handler { handler_of_builder result ≡ None }
+    {
+        StatsdClientBuilder {
+            settings: ClientSettings::new(alloc, prefix).ok(),
+            sink,
+            handler: None,
+        }
+    }
+}

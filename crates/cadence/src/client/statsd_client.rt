@@ -1,15 +1,10 @@
 //! The client.
-ghost use Rattle.std.specs.Prelude.{◌≡◌, None, Some, IfOk};
-ghost use Rattle.cadence_errors.specs.Errors.{OnlyWantsMemory};
+ghost use Rattle.std.specs.Prelude.{◌≡◌, Some};
 ghost use Rattle.cadence_text.specs.Values.{Converts, numbers_of};
-ghost use Rattle.cadence.specs.Sending.{Flushed, SendsPlain, StartsPlain};
-ghost use Rattle.cadence_schedule.specs.Settings.{settings_of};
+ghost use Rattle.cadence.specs.Sending.{Flushed, SendsPlain};
 
 use crate::client::backend::MetricBackend;
-use crate::client::builder::MetricBuilder;
-use crate::client::client_builder::StatsdClientBuilder;
 use crate::client::handler::ErrorHandler;
-use crate::client::pending;
 use crate::metrics::{Kind, Metric, MetricText};
 use crate::sealed::Sealed;
 use cadence_errors::{MetricError, MetricResult};
@@ -30,43 +25,7 @@ pub struct StatsdClient<A: Allocator = Global> {
 }
 
 impl<A: Allocator + Clone> StatsdClient<A> {
-    ghost use Rattle.cadence.specs.Shown.{backend_of, pending_of, settings_of_client, sink_of_client, handler_of_client, settings_of_builder, sink_of_builder, handler_of_builder};
-    ghost use Rattle.cadence_schedule.specs.Settings.{Changes};
-    ghost use Rattle.std.specs.Prelude.{IfSome};
-
-    /// A client without further settings: it drops the errors of `send`. Refuses with kind `OutOfMemory` alone; the
-    /// sink is dropped then.
-    pub fn from_sink(
-        alloc: A,
-        prefix: &str,
-        sink: Box<dyn MetricSink + Send + Sync, A>,
-    ) -> MetricResult<StatsdClient<A>>
-        ensures settings { IfOk result (λ c. settings_of_client c ≡ settings_of prefix.now) }
-        ensures sink { IfOk result (λ c. sink_of_client c ≡ sink) }
-        ensures handler { IfOk result (λ c. handler_of_client c ≡ None) }
-        ensures refused { OnlyWantsMemory result }
-    {
-        StatsdClient::builder(alloc, prefix, sink).build()
-    }
-
-    /// A builder of a client, which so far has the prefix and the sink alone.
-    ///
-    /// An empty prefix prints nothing. Another loses all its trailing dots and gains one.
-    pub fn builder(
-        alloc: A,
-        prefix: &str,
-        sink: Box<dyn MetricSink + Send + Sync, A>,
-    ) -> StatsdClientBuilder<A>
-        ensures settings { IfSome (settings_of_builder result) (λ s. s ≡ settings_of prefix.now) }
-        ensures sink { sink_of_builder result ≡ sink }
-        ensures handler { handler_of_builder result ≡ None }
-    {
-        StatsdClientBuilder {
-            settings: ClientSettings::new(alloc, prefix).ok(),
-            sink,
-            handler: None,
-        }
-    }
+    ghost use Rattle.cadence.specs.Shown.{settings_of_client, sink_of_client};
 
     /// Flushes the sink: sends what it holds. A refusal of the sink is answered as a `MetricError`.
     pub fn flush(&self) -> MetricResult<()>
@@ -102,20 +61,6 @@ impl<A: Allocator + Clone> StatsdClient<A> {
             K.TYPE key.now numbers result }
     {
         self.send_value(key, value?)
-    }
-
-    // A builder of a call without options, whose value was converted.
-    #[inline]
-    pub(crate) fn start_plain<'a, K: Kind>(
-        &'a self,
-        key: &'a str,
-        value: MetricResult<MetricValue<A>>,
-    ) -> MetricBuilder<'a, 'a, MetricText<K, A>, StatsdClient<A>>
-        ensures pending { (numbers : _) → Converts numbers value →
-            StartsPlain (settings_of_client self.now) K.TYPE key.now numbers (pending_of result) }
-        ensures client { backend_of result ≡ self.now }
-    {
-        MetricBuilder::new(self, pending::start(&self.settings, key, K::TYPE, value))
     }
 }
 

@@ -49,7 +49,7 @@ impl<A: Allocator + Clone, T: ToCounterValue<A>> Counted<T> for StatsdClient<A> 
         key: &'a str,
         value: T,
     ) -> MetricBuilder<'a, 'a, Counter<A>, StatsdClient<A>> {
-        self.start_plain(key, value.try_to_value())
+        MetricBuilder::start(self, key, value.try_to_value())
     }
 }
 
@@ -140,7 +140,7 @@ impl<A: Allocator + Clone, T: ToTimerValue<A>> Timed<T> for StatsdClient<A> {
         key: &'a str,
         value: T,
     ) -> MetricBuilder<'a, 'a, Timer<A>, StatsdClient<A>> {
-        self.start_plain(key, value.try_to_value())
+        MetricBuilder::start(self, key, value.try_to_value())
     }
 }
 
@@ -181,7 +181,7 @@ impl<A: Allocator + Clone, T: ToGaugeValue<A>> Gauged<T> for StatsdClient<A> {
         key: &'a str,
         value: T,
     ) -> MetricBuilder<'a, 'a, Gauge<A>, StatsdClient<A>> {
-        self.start_plain(key, value.try_to_value())
+        MetricBuilder::start(self, key, value.try_to_value())
     }
 }
 
@@ -222,7 +222,7 @@ impl<A: Allocator + Clone, T: ToMeterValue<A>> Metered<T> for StatsdClient<A> {
         key: &'a str,
         value: T,
     ) -> MetricBuilder<'a, 'a, Meter<A>, StatsdClient<A>> {
-        self.start_plain(key, value.try_to_value())
+        MetricBuilder::start(self, key, value.try_to_value())
     }
 }
 
@@ -263,7 +263,7 @@ impl<A: Allocator + Clone, T: ToHistogramValue<A>> Histogrammed<T> for StatsdCli
         key: &'a str,
         value: T,
     ) -> MetricBuilder<'a, 'a, Histogram<A>, StatsdClient<A>> {
-        self.start_plain(key, value.try_to_value())
+        MetricBuilder::start(self, key, value.try_to_value())
     }
 }
 
@@ -304,7 +304,7 @@ impl<A: Allocator + Clone, T: ToDistributionValue<A>> Distributed<T> for StatsdC
         key: &'a str,
         value: T,
     ) -> MetricBuilder<'a, 'a, Distribution<A>, StatsdClient<A>> {
-        self.start_plain(key, value.try_to_value())
+        MetricBuilder::start(self, key, value.try_to_value())
     }
 }
 
@@ -345,6 +345,6 @@ impl<A: Allocator + Clone, T: ToSetValue<A>> Setted<T> for StatsdClient<A> {
         key: &'a str,
         value: T,
     ) -> MetricBuilder<'a, 'a, Set<A>, StatsdClient<A>> {
-        self.start_plain(key, value.try_to_value())
+        MetricBuilder::start(self, key, value.try_to_value())
     }
 }

@@ -11,8 +11,8 @@ ghost use Rattle.cadence_text.specs.Sink.{Takes};
 
 use crate::decimal::Decimal;
 use crate::line::MetricType;
-use crate::line::record::Tag;
 use crate::line::sink::LineSink;
+use crate::line::tag::Tag;
 use crate::value::MetricValue;
 use itoa::{Buffer, Integer};
 use std::alloc::Allocator;

@@ -5,18 +5,11 @@ use crate::decimal::Decimal;
 use crate::line::MetricType;
 use crate::line::pieces::{kind_end, push_container, push_rate, push_tags, push_time, push_value};
 use crate::line::sink::LineSink;
+use crate::line::tag::Tag;
 use crate::value::MetricValue;
 use cadence_errors::MetricResult;
 use std::alloc::{AllocError, Allocator, Global};
 use std::marker::Model;
-
-/// A tag, as in DogStatsD: its key, where it has one, and its text. It prints as `key:text` or as its text alone.
-/// Neither is escaped or checked.
-#[derive(Clone, Copy, Debug)]
-pub struct Tag<'a> {
-    pub key: Option<&'a str>,
-    pub text: &'a str,
-}
 
 /// A metric before it is text. A type of this project's own.
 ///
