@@ -1,15 +1,7 @@
 //! `statsd_schedule`: reads a script, runs its schedule and prints the report.
 #![tactic(auto)]
 
-mod calls;
-mod engine;
-mod print;
-mod script;
-#[cfg(test)]
-mod tests;
-mod words;
-
-use engine::run_script;
+use cadence_script::run_script;
 use std::process::ExitCode;
 
 fn main(rt: HostRuntime) -> ExitCode {

@@ -1,12 +1,13 @@
 //! The lines of the seven types, equality, hashes and copies.
 ghost use Rattle.std.specs.Prelude.{◌≡◌, IfOk};
 
+use super::own::Event;
 use cadence::decimal::Decimal;
 use cadence::types::{
     Counter, Distribution, Gauge, Histogram, Meter, Metric, MetricError, MetricText, Set,
     SinkError, Timer,
 };
-use refusing::Refusing;
+use refusing::each_refused;
 use std::alloc::{AllocError, Allocator};
 use std::hash::{DefaultHasher, Hash, Hasher};
 use std::test::Fail;
@@ -47,45 +48,31 @@ fn hash_of<M: Hash>(metric: &M) -> u64 {
 }
 
 #[test]
-fn the_prefix_stands_as_it_is(rt: HostRuntime) -> Result<(), Fail> {
-    let counter = Counter::new(rt.alloc(), "a..", "k", 1)?;
-    assert_eq!(rt; text_of(&counter), "a..k:1|c");
-    let timer = Timer::new(rt.alloc(), "my.app.", "test.timer", 34)?;
-    assert_eq!(rt; text_of(&timer), "my.app.test.timer:34|ms");
-    Ok(())
-}
-
-#[test]
-fn each_kind_has_its_type_text(rt: HostRuntime) -> Result<(), Fail> {
-    assert_eq!(rt; text_of(&Gauge::new(rt.alloc(), "p.", "k", 8)?), "p.k:8|g");
-    assert_eq!(rt; text_of(&Meter::new(rt.alloc(), "p.", "k", 8)?), "p.k:8|m");
-    assert_eq!(rt;
-        text_of(&Histogram::new(rt.alloc(), "p.", "k", 8)?),
-        "p.k:8|h"
-    );
-    assert_eq!(rt;
-        text_of(&Distribution::new(rt.alloc(), "p.", "k", 8)?),
-        "p.k:8|d"
-    );
-    assert_eq!(rt; text_of(&Set::new(rt.alloc(), "p.", "k", -8)?), "p.k:-8|s");
-    Ok(())
-}
-
-#[test]
-fn decimals_are_exact(rt: HostRuntime) -> Result<(), Fail> {
-    let half = Decimal::new(5, 1)?;
-    assert_eq!(rt;
-        text_of(&Gauge::new_decimal(rt.alloc(), "p.", "k", half)?),
-        "p.k:0.5|g"
-    );
-    assert_eq!(rt;
-        text_of(&Histogram::new_decimal(rt.alloc(), "p.", "k", half)?),
-        "p.k:0.5|h"
-    );
-    assert_eq!(rt;
-        text_of(&Distribution::new_decimal(rt.alloc(), "p.", "k", half)?),
-        "p.k:0.5|d"
-    );
+fn each_kind_has_its_line(rt: HostRuntime) -> Result<(), Fail> {
+    let (alloc, half) = (rt.alloc(), Decimal::new(5, 1)?);
+    for (line, wanted) in [
+        (text_of(&Counter::new(alloc, "a..", "k", 1)?), "a..k:1|c"),
+        (text_of(&Timer::new(alloc, "p.", "k", 34)?), "p.k:34|ms"),
+        (text_of(&Gauge::new(alloc, "p.", "k", 8)?), "p.k:8|g"),
+        (text_of(&Meter::new(alloc, "p.", "k", 8)?), "p.k:8|m"),
+        (text_of(&Histogram::new(alloc, "p.", "k", 8)?), "p.k:8|h"),
+        (text_of(&Distribution::new(alloc, "p.", "k", 8)?), "p.k:8|d"),
+        (text_of(&Set::new(alloc, "p.", "k", -8)?), "p.k:-8|s"),
+        (
+            text_of(&Gauge::new_decimal(alloc, "", "k", half)?),
+            "k:0.5|g",
+        ),
+        (
+            text_of(&Histogram::new_decimal(alloc, "", "k", half)?),
+            "k:0.5|h",
+        ),
+        (
+            text_of(&Distribution::new_decimal(alloc, "", "k", half)?),
+            "k:0.5|d",
+        ),
+    ] {
+        assert_eq!(rt; line, wanted);
+    }
     Ok(())
 }
 
@@ -101,19 +88,6 @@ fn equal_texts_are_equal_metrics(rt: HostRuntime) -> Result<(), Fail> {
     Ok(())
 }
 
-/// A caller's own metric.
-struct Event;
-
-impl Metric for Event {
-    ghost use Rattle.std.specs.Prelude.{codes};
-
-    ghost metric_text = { λ _. codes "p.k:1|e" };
-
-    fn as_metric_str(&self) -> &str {
-        "p.k:1|e"
-    }
-}
-
 #[test]
 fn callers_have_metrics_of_their_own(rt: HostRuntime) -> Result<(), Fail> {
     assert_eq!(rt; text_of(&Event), "p.k:1|e");
@@ -121,13 +95,14 @@ fn callers_have_metrics_of_their_own(rt: HostRuntime) -> Result<(), Fail> {
 }
 
 #[test]
-fn each_request_is_refused(rt: HostRuntime) -> Result<(), Fail> {
-    let heap = Refusing::after(rt.alloc(), rt.alloc(), 0)?;
-    let Err(MetricError::Sink(SinkError::OutOfMemory)) = Counter::new(heap, "p.", "k", 1) else {
-        return Err(Fail::new("the line took no memory"));
-    };
-    let heap = Refusing::after(rt.alloc(), rt.alloc(), 1)?;
-    let counter = Counter::new(heap, "p.", "k", 1)?;
-    assert_eq!(rt; text_of(&counter), "p.k:1|c");
+fn a_line_takes_memory_once(rt: HostRuntime) -> Result<(), Fail> {
+    let granted: Result<Option<u64>, Fail> = each_refused(rt.alloc(), |heap| {
+        match Counter::new(heap, "p.", "k", 1) {
+            Ok(counter) => Ok(text_of(&counter) == "p.k:1|c"),
+            Err(MetricError::Sink(SinkError::OutOfMemory)) => Ok(false),
+            Err(_) => Err(Fail::new("another error")),
+        }
+    });
+    assert_eq!(rt; granted?, Some(1));
     Ok(())
 }

@@ -1,11 +1,12 @@
 use cadence_audit::{
-    AuditCall, AuditError, AuditReply, AuditedQueue, EndFault, Seat, SubmitReply, Text,
+    AuditCall, AuditError, AuditReply, AuditedQueue, EndFault, History, Seat, SubmitReply, Text,
 };
 use cadence_flow::queue::Taken;
-use refusing::Refusing;
+use refusing::{Refusing, each_refused};
 use std::alloc::Global;
 use std::process::Abort;
 use std::sync::Wait;
+use std::sync::atomic::{AtomicU64, Ordering};
 use std::test::Fail;
 use std::thread;
 use std::thread::Threads;
@@ -33,22 +34,44 @@ fn used<R: Wait + Abort>(rt: &R, alloc: Global) -> Result<(AuditedQueue, Seat, S
     Ok((queue, zero, one))
 }
 
+// The history of that queue.
+fn history_of<R: Wait + Abort>(rt: &R, alloc: Global) -> Result<History, Fail> {
+    let (queue, zero, one) = used(rt, alloc)?;
+    let history = queue.end(vec![in alloc; zero, one]?);
+    Ok(history.ok().ok_or("differs")?)
+}
+
 #[test]
-fn history_of_two_seats(rt: HostRuntime) -> Result<(), Fail> {
-    let (queue, zero, one) = used(&rt, rt.alloc())?;
-    assert_eq!(rt; (one.number(), one.receipts().len()), (1, 3));
-    let ended = queue.end(vec![in rt.alloc(); zero, one]?);
-    let history = ended.ok().ok_or("differs")?;
+fn events_stand_in_the_order_of_the_calls(rt: HostRuntime) -> Result<(), Fail> {
+    let history = history_of(&rt, rt.alloc())?;
     let wanted = [(0, 0), (1, 0), (1, 1), (0, 1), (1, 2)];
-    let events = history.events();
-    assert_eq!(rt; events.len(), 5);
-    for (event, place) in events.iter().zip(wanted) {
+    assert_eq!(rt; history.events().len(), wanted.len());
+    for (event, place) in history.events().iter().zip(wanted) {
         assert_eq!(rt; (event.seat, event.count), place);
     }
+    Ok(())
+}
+
+#[test]
+fn an_event_has_its_call_and_reply(rt: HostRuntime) -> Result<(), Fail> {
+    let history = history_of(&rt, rt.alloc())?;
+    let second = history.events().get(1).ok_or("no event")?;
     let b = AuditCall::Submit(Text::from(text(rt.alloc(), "b")?));
-    assert!(rt; events[1].call == b);
-    assert!(rt; events[1].reply == AuditReply::Submit(SubmitReply::Full));
-    assert!(rt; !history.agrees(&[]));
+    assert!(rt; second.call == b);
+    assert!(rt; second.reply == AuditReply::Submit(SubmitReply::Full));
+    Ok(())
+}
+
+#[test]
+fn no_receipts_agree_with_no_such_history(rt: HostRuntime) -> Result<(), Fail> {
+    assert!(rt; !history_of(&rt, rt.alloc())?.agrees(&[]));
+    Ok(())
+}
+
+#[test]
+fn a_seat_has_its_number_and_receipts(rt: HostRuntime) -> Result<(), Fail> {
+    let (_queue, _zero, one) = used(&rt, rt.alloc())?;
+    assert_eq!(rt; (one.number(), one.receipts().len()), (1, 3));
     Ok(())
 }
 
@@ -62,19 +85,23 @@ fn seat_left_out(rt: HostRuntime) -> Result<(), Fail> {
 }
 
 #[test]
-fn seats_of_another_queue(rt: HostRuntime) -> Result<(), Fail> {
-    let alloc = rt.alloc();
-    let (queue, mine) = AuditedQueue::new(alloc, None, 2)?;
-    let (_other, mut seats) = AuditedQueue::new(alloc, None, 3)?;
+fn a_seat_past_the_last_is_a_stranger(rt: HostRuntime) -> Result<(), Fail> {
+    let (queue, _mine) = AuditedQueue::new(rt.alloc(), None, 2)?;
+    let (_other, mut seats) = AuditedQueue::new(rt.alloc(), None, 3)?;
     let mut two = seats.pop().ok_or("no seat")?;
-    let refused = queue.submit(&rt, &mut two, text(alloc, "x")?);
-    let Err((AuditError::Stranger, back)) = refused else {
-        return Err(Fail::from("accepted"));
-    };
-    assert_eq!(rt; back.as_str(), "x");
-    drop(seats.pop());
+    match queue.submit(&rt, &mut two, text(rt.alloc(), "x")?) {
+        Err((AuditError::Stranger, back)) => assert_eq!(rt; back.as_str(), "x"),
+        _ => return Err(Fail::from("accepted")),
+    }
+    Ok(())
+}
+
+#[test]
+fn a_seat_of_another_queue_shows_at_the_end(rt: HostRuntime) -> Result<(), Fail> {
+    let (queue, mine) = AuditedQueue::new(rt.alloc(), None, 1)?;
+    let (_other, mut seats) = AuditedQueue::new(rt.alloc(), None, 1)?;
     let mut zero = seats.pop().ok_or("no seat")?;
-    assert!(rt; queue.submit(&rt, &mut zero, text(alloc, "x")?).is_ok());
+    assert!(rt; queue.submit(&rt, &mut zero, text(rt.alloc(), "x")?).is_ok());
     assert!(rt; matches!(queue.end(mine), Err(EndFault::Mismatch)));
     Ok(())
 }
@@ -108,44 +135,46 @@ fn made(
 
 #[test]
 fn each_request_of_a_submit_refused(rt: HostRuntime) -> Result<(), Fail> {
-    let mut refusals = 0u64;
-    for granted in 0..16 {
-        let heap = Refusing::after(rt.alloc(), rt.alloc(), granted)?;
+    let refusals = AtomicU64::new(0);
+    let granted: Result<Option<u64>, Fail> = each_refused(rt.alloc(), |heap| {
         let Some((queue, mut seat, text)) = made(heap) else {
-            continue;
+            return Ok(false);
         };
         let Err((error, text)) = queue.submit(&rt, &mut seat, text) else {
-            break;
+            return Ok(true);
         };
-        refusals = refusals.wrapping_add(1);
+        refusals.fetch_add(1, Ordering::SeqCst);
         assert!(rt; error == AuditError::OutOfMemory && text.as_str() == "a");
         assert!(rt; seat.receipts().is_empty());
         assert!(rt; queue.submit(&rt, &mut seat, text).is_ok());
-    }
-    assert_eq!(rt; refusals, 5);
+        Ok(false)
+    });
+    assert!(rt; granted?.is_some());
+    assert_eq!(rt; refusals.load(Ordering::SeqCst), 5);
     Ok(())
 }
 
 #[test]
 fn each_request_of_a_take_refused(rt: HostRuntime) -> Result<(), Fail> {
-    let mut refusals = 0u64;
-    for granted in 0..24 {
-        let heap = Refusing::after(rt.alloc(), rt.alloc(), granted)?;
+    let refusals = AtomicU64::new(0);
+    let granted: Result<Option<u64>, Fail> = each_refused(rt.alloc(), |heap| {
         let Some((queue, mut seat, text)) = made(heap) else {
-            continue;
+            return Ok(false);
         };
         if queue.submit(&rt, &mut seat, text).is_err() {
-            continue;
+            return Ok(false);
         }
         let receipts = seat.receipts().len();
         if queue.take(&rt, &mut seat).is_ok() {
-            break;
+            return Ok(true);
         }
-        refusals = refusals.wrapping_add(1);
+        refusals.fetch_add(1, Ordering::SeqCst);
         assert_eq!(rt; seat.receipts().len(), receipts);
         assert!(rt; matches!(queue.take(&rt, &mut seat), Ok(Taken::Text(_))));
-    }
-    assert!(rt; refusals > 0);
+        Ok(false)
+    });
+    assert!(rt; granted?.is_some());
+    assert!(rt; refusals.load(Ordering::SeqCst) > 0);
     Ok(())
 }
 

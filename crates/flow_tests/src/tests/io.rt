@@ -1,8 +1,9 @@
 //! Worked rows, a writer of the tests' own, the drop, and each refused request for memory.
 use cadence_errors::SinkError;
 use cadence_flow::io::{Answer, LineBuffer, MultiLineWriter, PacketLog, PacketWriter, Refusals};
-use refusing::Refusing;
+use refusing::{Refusing, each_refused};
 use std::alloc::Global;
+use std::process::Abort;
 use std::test::Fail;
 
 #[derive(Debug, Drop)]
@@ -50,78 +51,75 @@ fn is_refused<T: Drop>(answer: Result<T, SinkError>) -> bool {
     matches!(answer, Err(SinkError::PacketRefused))
 }
 
+// Capacity and ending, the lines that are written, the packets that are taken then, and the text that waits.
+type Packing<'a> = (usize, &'a str, &'a [&'a str], &'a [&'a str], &'a str);
+
+// Each line is taken whole, and leaves what its row says.
+fn pack(rt: &(impl Abort + AllocGlobal), rows: &[Packing<'_>]) -> Result<(), Fail> {
+    for (capacity, ending, lines, packets, held) in rows {
+        let mut p = made(rt.alloc(), *capacity, ending, &[])?;
+        for line in *lines {
+            assert_eq!(rt; counted(p.write(line.as_bytes())), Some(line.len()));
+        }
+        assert!(rt; stands(&p, packets, held), "{lines:?}");
+    }
+    Ok(())
+}
+
 #[test]
 fn holds_until_full(rt: HostRuntime) -> Result<(), Fail> {
-    let mut p = made(rt.alloc(), 16, "\n", &[])?;
-    assert_eq!(rt; counted(p.write(b"foo:1234|c")), Some(10));
-    assert_eq!(rt; counted(p.write(b"baz:5678|c")), Some(10));
-    assert!(rt; stands(&p, &["foo:1234|c\n"], "baz:5678|c\n"));
-    let mut p = made(rt.alloc(), 16, "\n", &[])?;
-    assert_eq!(rt; counted(p.write(b"ab:1|c")), Some(6));
-    assert_eq!(rt; counted(p.write(b"abc:12|c")), Some(8));
-    assert!(rt; stands(&p, &[], "ab:1|c\nabc:12|c\n"));
-    assert!(rt; p.flush().is_ok());
-    assert!(rt; stands(&p, &["ab:1|c\nabc:12|c\n"], ""));
-    Ok(())
+    pack(
+        &rt,
+        &[
+            (
+                16,
+                "\n",
+                &["a:1234|c", "b:5678|c"],
+                &["a:1234|c\n"],
+                "b:5678|c\n",
+            ),
+            (16, "\n", &["ab:1|c", "abc:12|c"], &[], "ab:1|c\nabc:12|c\n"),
+            (9, "\n", &["foo:42|c"], &[], "foo:42|c\n"),
+            (5, "", &["a:1|c", "b:2|c"], &["a:1|c"], "b:2|c"),
+        ],
+    )
 }
 
 #[test]
 fn oversize_goes_alone(rt: HostRuntime) -> Result<(), Fail> {
-    let mut p = made(rt.alloc(), 16, "\n", &[])?;
-    assert_eq!(rt;
-        counted(p.write(b"some_really_long_metric:456|c")),
-        Some(29)
-    );
-    assert!(rt; stands(&p, &["some_really_long_metric:456|c"], ""));
-    assert_eq!(rt; counted(p.write(b"abc:4|g")), Some(7));
-    assert_eq!(rt; p.held().len(), 8);
-    let mut p = made(rt.alloc(), 20, "\n", &[])?;
-    assert_eq!(rt; counted(p.write(b"small:1234|c")), Some(12));
-    assert_eq!(rt;
-        counted(p.write(b"this_is_a_very_long_metric_name:9876|c")),
-        Some(38)
-    );
-    assert!(rt;
-        stands(
-            &p,
-            &["small:1234|c\n", "this_is_a_very_long_metric_name:9876|c"],
-            ""
-        )
-    );
-    Ok(())
-}
-
-#[test]
-fn exact_fit_is_held(rt: HostRuntime) -> Result<(), Fail> {
-    let mut p = made(rt.alloc(), 8, "\n", &[])?;
-    assert_eq!(rt; counted(p.write(b"foo:42|c")), Some(8));
-    assert!(rt; stands(&p, &["foo:42|c"], ""));
-    let mut p = made(rt.alloc(), 9, "\n", &[])?;
-    assert_eq!(rt; counted(p.write(b"foo:42|c")), Some(8));
-    assert!(rt; stands(&p, &[], "foo:42|c\n"));
-    let mut p = made(rt.alloc(), 5, "", &[])?;
-    assert_eq!(rt; counted(p.write(b"a:1|c")), Some(5));
-    assert!(rt; stands(&p, &[], "a:1|c"));
-    assert_eq!(rt; counted(p.write(b"b:2|c")), Some(5));
-    assert!(rt; stands(&p, &["a:1|c"], "b:2|c"));
-    Ok(())
+    pack(
+        &rt,
+        &[
+            (8, "\n", &["foo:42|c"], &["foo:42|c"], ""),
+            (
+                8,
+                "\n",
+                &["foobar:42|c", "a:1|c"],
+                &["foobar:42|c"],
+                "a:1|c\n",
+            ),
+            (
+                8,
+                "\n",
+                &["a:1|c", "foobar:42|c"],
+                &["a:1|c\n", "foobar:42|c"],
+                "",
+            ),
+        ],
+    )
 }
 
 #[test]
 fn no_room_and_no_text(rt: HostRuntime) -> Result<(), Fail> {
-    let mut p = made(rt.alloc(), 0, "\n", &[])?;
-    assert_eq!(rt; counted(p.write(b"a:1|c")), Some(5));
-    assert!(rt; stands(&p, &["a:1|c"], ""));
-    let mut p = made(rt.alloc(), 0, "", &[])?;
-    assert_eq!(rt; counted(p.write(b"")), Some(0));
-    assert!(rt; p.flush().is_ok());
-    assert!(rt; stands(&p, &[], ""));
-    let mut p = made(rt.alloc(), 1, "\n", &[])?;
-    assert_eq!(rt; counted(p.write(b"")), Some(0));
-    assert!(rt; stands(&p, &[], "\n"));
-    assert_eq!(rt; counted(p.write(b"")), Some(0));
-    assert!(rt; stands(&p, &["\n"], "\n"));
-    Ok(())
+    pack(
+        &rt,
+        &[
+            (0, "\n", &["a:1|c"], &["a:1|c"], ""),
+            (0, "", &[""], &[], ""),
+            (1, "\n", &[""], &[], "\n"),
+            (1, "\n", &["", ""], &["\n"], "\n"),
+        ],
+    )
 }
 
 #[test]
@@ -167,6 +165,11 @@ fn count_of_zero(rt: HostRuntime) -> Result<(), Fail> {
     assert!(rt; stands(&p, &[""], "a:1|c\n"));
     assert!(rt; p.flush().is_ok());
     assert!(rt; stands(&p, &["", "a:1|c\n"], ""));
+    Ok(())
+}
+
+#[test]
+fn count_of_zero_past_the_capacity(rt: HostRuntime) -> Result<(), Fail> {
     let mut p = made(rt.alloc(), 4, "\n", &[Answer::Short(0)])?;
     assert_eq!(rt; counted(p.write(b"a:1|c")), Some(0));
     assert!(rt; p.flush().is_ok());
@@ -249,20 +252,20 @@ fn used_log(alloc: Global) -> PacketLog {
 
 #[test]
 fn each_request_of_a_new_packer(rt: HostRuntime) -> Result<(), Fail> {
-    for granted in 0..3u64 {
-        let heap = Refusing::after(rt.alloc(), rt.alloc(), granted)?;
+    let granted: Result<Option<u64>, Fail> = each_refused(rt.alloc(), |heap| {
         match MultiLineWriter::new(heap, used_log(rt.alloc()), 16) {
             Ok(mut p) => {
-                assert_eq!(rt; granted, 2);
                 assert_eq!(rt; counted(p.write(b"foo:54|c")), Some(8));
                 assert!(rt; took(p.get_ref(), &["before"]));
+                Ok(true)
             }
             Err(back) => {
-                assert!(rt; granted < 2, "{granted} granted");
                 assert!(rt; took(&back, &["before"]));
+                Ok(false)
             }
         }
-    }
+    });
+    assert_eq!(rt; granted?, Some(2));
     Ok(())
 }
 

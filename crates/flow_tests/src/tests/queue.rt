@@ -70,7 +70,7 @@ fn last_handle_stops(rt: HostRuntime) -> Result<(), Fail> {
 }
 
 #[test]
-fn counts_and_places(rt: HostRuntime) -> Result<(), Fail> {
+fn counts(rt: HostRuntime) -> Result<(), Fail> {
     let mut queue = QueueCore::new(rt.alloc(), Some(3))?;
     assert!(rt; queue.is_idle());
     assert!(rt; queue.submit('A').is_ok());
@@ -80,9 +80,18 @@ fn counts_and_places(rt: HostRuntime) -> Result<(), Fail> {
         (queue.submitted(), queue.drained(), queue.waiting()),
         (2, 1, 1)
     );
+    assert!(rt; !queue.is_full());
+    Ok(())
+}
+
+#[test]
+fn oldest_is_at_0(rt: HostRuntime) -> Result<(), Fail> {
+    let mut queue = QueueCore::new(rt.alloc(), None)?;
+    assert!(rt; queue.submit('A').is_ok());
+    assert!(rt; queue.submit('B').is_ok());
+    queue.take();
     assert_eq!(rt; queue.get(0), Some(&'B'));
     assert_eq!(rt; queue.get(1), None);
-    assert!(rt; !queue.is_full());
     Ok(())
 }
 
@@ -104,6 +113,12 @@ fn bounded_queue_reserves(rt: HostRuntime) -> Result<(), Fail> {
     assert!(rt; queue.submit('A').is_ok());
     assert!(rt; queue.submit('B').is_ok());
     assert_eq!(rt; heap.left(), 0);
+    Ok(())
+}
+
+#[test]
+fn bounded_queue_is_refused(rt: HostRuntime) -> Result<(), Fail> {
+    let heap = Refusing::after(rt.alloc(), rt.alloc(), 0)?;
     let refused: MetricResult<QueueCore<char, Refusing<Global>>> = QueueCore::new(heap, Some(2));
     assert!(rt; refused.is_err());
     let too_large: MetricResult<QueueCore<char>> = QueueCore::new(rt.alloc(), Some(usize::MAX));

@@ -1,8 +1,7 @@
 //! Texts and kinds, and each conversion.
 
-use cadence_errors::{ErrorKind, MAX_DESCRIPTION, MetricError, SinkError};
+use cadence_errors::{ErrorKind, MetricError, SinkError};
 use std::alloc::{AllocError, AllocFailed};
-use std::hash::{DefaultHasher, Hash, Hasher};
 use std::io;
 use std::test::Fail;
 

@@ -3,7 +3,7 @@ use cadence_errors::{MetricError, MetricResult, SinkError};
 use cadence_text::decimal::Decimal;
 use cadence_text::line::{MetricType, Record, Tag};
 use cadence_text::value::MetricValue;
-use refusing::Refusing;
+use refusing::each_refused;
 use std::alloc::{Allocator, Global};
 use std::test::Fail;
 
@@ -32,6 +32,7 @@ fn bare<'a>(text: &'a str) -> Tag<'a> {
 fn fields_stand_in_one_order(rt: HostRuntime) -> Result<(), Fail> {
     let mut record = counted(rt.alloc(), "p.", "k", 1);
     record.set_time(7);
+    record.set_container("x");
     record.set_container("id");
     record.add_tag(tag("a", "b"))?;
     record.set_rate(Decimal::new(5, 1)?);
@@ -43,30 +44,19 @@ fn fields_stand_in_one_order(rt: HostRuntime) -> Result<(), Fail> {
 }
 
 #[test]
-fn the_last_container_counts(rt: HostRuntime) -> Result<(), Fail> {
-    let mut record = counted(rt.alloc(), "p.", "k", 1);
-    record.set_container("x");
-    record.set_container("y");
-    assert_eq!(rt; record.format(rt.alloc())?.as_str(), "p.k:1|c|c:y");
-    Ok(())
-}
-
-#[test]
-fn an_empty_tag_stands(rt: HostRuntime) -> Result<(), Fail> {
-    let mut record = counted(rt.alloc(), "prefix.", "k", 1);
-    record.add_tag(bare(""))?;
-    assert_eq!(rt; record.format(rt.alloc())?.as_str(), "prefix.k:1|c|#");
-    Ok(())
-}
-
-#[test]
 fn texts_are_kept_verbatim(rt: HostRuntime) -> Result<(), Fail> {
-    let mut record = counted(rt.alloc(), "a|b.", "k\n", 1);
-    record.add_tag(tag("x,y", "z:|"))?;
+    for (prefix, key, own, line) in [
+        ("prefix.", "k", bare(""), "prefix.k:1|c|#"),
+        ("a|b.", "k\n", tag("x,y", "z:|"), "a|b.k\n:1|c|#x,y:z:|"),
+        ("", "", tag("", ""), ":1|c|#:"),
+    ] {
+        let mut record = counted(rt.alloc(), prefix, key, 1);
+        record.add_tag(own)?;
+        assert_eq!(rt; record.format(rt.alloc())?.as_str(), line);
+    }
+    let mut record = counted(rt.alloc(), "", "k", 1);
     record.set_container("c|d");
-    let line = record.format(rt.alloc())?;
-    assert_eq!(rt; line.as_str(), "a|b.k\n:1|c|#x,y:z:||c:c|d");
-    assert_eq!(rt; line.len(), 25);
+    assert_eq!(rt; record.format(rt.alloc())?.as_str(), "k:1|c|c:c|d");
     Ok(())
 }
 
@@ -162,19 +152,17 @@ fn timer_line<A: Allocator + Clone>(alloc: A, rate: Decimal) -> MetricResult<Str
 #[test]
 fn each_request_is_refused(rt: HostRuntime) -> Result<(), Fail> {
     let half = Decimal::new(5, 1)?;
-    let mut granted = 0u64;
-    for requests in 0..16u64 {
-        let heap = Refusing::after(rt.alloc(), rt.alloc(), requests)?;
-        match timer_line(heap, half) {
+    let granted: Result<Option<u64>, Fail> = each_refused(
+        rt.alloc(),
+        |heap| match timer_line(heap, half) {
             Ok(line) => {
                 assert_eq!(rt; line.as_str(), "p.k:1:20|ms|@0.5|#a:b,c|c:id|T7");
-                granted = requests;
-                break;
+                Ok(true)
             }
-            Err(MetricError::Sink(SinkError::OutOfMemory)) => {}
-            Err(_) => return Err(Fail::new("another error")),
-        }
-    }
-    assert_eq!(rt; granted, 3, "the values, the tags and the line");
+            Err(MetricError::Sink(SinkError::OutOfMemory)) => Ok(false),
+            Err(_) => Err(Fail::new("another error")),
+        },
+    );
+    assert_eq!(rt; granted?, Some(3), "the values, the tags and the line");
     Ok(())
 }

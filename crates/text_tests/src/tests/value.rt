@@ -1,9 +1,8 @@
-//! Each type of each kind through its trait's bound, worked rows, and want of memory.
-ghost use Rattle.std.specs.Prelude.{[], ◌∷◌, None, Some};
-ghost use Rattle.cadence_text.specs.Number.{natural};
-ghost use Rattle.cadence_text.specs.Values.{Converts};
+//! Each type of each kind through its trait, worked rows, and want of memory.
+ghost use Rattle.std.specs.Prelude.{◌≡◌, IfOk};
+ghost use Rattle.cadence_text.specs.Values.{numbers_of};
 
-use cadence_errors::{ErrorKind, MetricError, MetricResult};
+use cadence_errors::{ErrorKind, MetricResult};
 use cadence_text::decimal::Decimal;
 use cadence_text::value::{
     MetricValue, ToCounterValue, ToDistributionValue, ToGaugeValue, ToHistogramValue, ToMeterValue,
@@ -11,6 +10,7 @@ use cadence_text::value::{
 };
 use refusing::Refusing;
 use std::alloc::{AllocError, Allocator, Global};
+use std::process::Abort;
 use std::test::Fail;
 use std::time::Duration;
 
@@ -21,72 +21,6 @@ fn copied<A: Allocator + Clone>(value: &MetricValue<A>) -> Result<MetricValue<A>
     value.clone()
 }
 
-fn counter<A: Allocator, T: ToCounterValue<A>>(value: T) -> MetricResult<MetricValue<A>>
-    ensures { Converts (T.counted value) result }
-{
-    value.try_to_value()
-}
-
-fn timer<A: Allocator, T: ToTimerValue<A>>(value: T) -> MetricResult<MetricValue<A>>
-    ensures { Converts (T.timed value) result }
-{
-    value.try_to_value()
-}
-
-fn gauge<A: Allocator, T: ToGaugeValue<A>>(value: T) -> MetricResult<MetricValue<A>>
-    ensures { Converts (T.gauged value) result }
-{
-    value.try_to_value()
-}
-
-fn meter<A: Allocator, T: ToMeterValue<A>>(value: T) -> MetricResult<MetricValue<A>>
-    ensures { Converts (T.metered value) result }
-{
-    value.try_to_value()
-}
-
-fn histogram<A: Allocator, T: ToHistogramValue<A>>(value: T) -> MetricResult<MetricValue<A>>
-    ensures { Converts (T.histogrammed value) result }
-{
-    value.try_to_value()
-}
-
-fn distribution<A: Allocator, T: ToDistributionValue<A>>(value: T) -> MetricResult<MetricValue<A>>
-    ensures { Converts (T.distributed value) result }
-{
-    value.try_to_value()
-}
-
-fn set<A: Allocator, T: ToSetValue<A>>(value: T) -> MetricResult<MetricValue<A>>
-    ensures { Converts (T.set_as value) result }
-{
-    value.try_to_value()
-}
-
-/// A caller's own value, the number 7.
-struct Seven;
-
-impl<A: Allocator> ToCounterValue<A> for Seven {
-    ghost counted = { λ _. Some (natural 7 ∷ []) };
-
-    fn try_to_value(self) -> MetricResult<MetricValue<A>> {
-        let Seven = self;
-        Ok(MetricValue::Unsigned(7))
-    }
-}
-
-/// A caller's own value without numbers.
-struct Unknown;
-
-impl<A: Allocator> ToCounterValue<A> for Unknown {
-    ghost counted = { λ _. None };
-
-    fn try_to_value(self) -> MetricResult<MetricValue<A>> {
-        let Unknown = self;
-        Err(MetricError::from((ErrorKind::InvalidInput, "unknown")))
-    }
-}
-
 // The text and the kind of a refusal.
 fn refusal(alloc: Global, value: MetricResult<MetricValue>) -> Result<(ErrorKind, String), Fail> {
     let Err(error) = value else {
@@ -95,30 +29,43 @@ fn refusal(alloc: Global, value: MetricResult<MetricValue>) -> Result<(ErrorKind
     Ok((error.kind(), format!(in alloc; "{error}")?))
 }
 
+// Each value prints its text.
+fn print_as(
+    rt: &(impl Abort + AllocGlobal),
+    cases: &[(MetricResult<MetricValue>, &str)],
+) -> Result<(), Fail> {
+    for (value, text) in cases {
+        let Ok(value) = value else {
+            return Err(Fail::new("refused"));
+        };
+        let printed = format!(in rt.alloc(); "{value}")?;
+        assert_eq!(rt; printed.as_str(), *text);
+    }
+    Ok(())
+}
+
 #[test]
 fn one_number_of_each_kind(rt: HostRuntime) -> Result<(), Fail> {
     let half = Decimal::new(5, 1)?;
-    let cases: [(MetricResult<MetricValue>, &str); 14] = [
-        (counter(-3i64), "-3"),
-        (counter(i32::MIN), "-2147483648"),
-        (counter(u64::MAX), "18446744073709551615"),
-        (counter(7u32), "7"),
-        (counter(Seven), "7"),
-        (timer(34u64), "34"),
-        (gauge(0u64), "0"),
-        (gauge(half), "0.5"),
-        (meter(5u64), "5"),
-        (histogram(6u64), "6"),
-        (histogram(half), "0.5"),
-        (distribution(8u64), "8"),
-        (distribution(half), "0.5"),
-        (set(-1i64), "-1"),
+    let cases: [(MetricResult<MetricValue>, &str); 13] = [
+        (ToCounterValue::try_to_value(-3i64), "-3"),
+        (ToCounterValue::try_to_value(i32::MIN), "-2147483648"),
+        (
+            ToCounterValue::try_to_value(u64::MAX),
+            "18446744073709551615",
+        ),
+        (ToCounterValue::try_to_value(7u32), "7"),
+        (ToTimerValue::try_to_value(34u64), "34"),
+        (ToGaugeValue::try_to_value(0u64), "0"),
+        (ToGaugeValue::try_to_value(half), "0.5"),
+        (ToMeterValue::try_to_value(5u64), "5"),
+        (ToHistogramValue::try_to_value(6u64), "6"),
+        (ToHistogramValue::try_to_value(half), "0.5"),
+        (ToDistributionValue::try_to_value(8u64), "8"),
+        (ToDistributionValue::try_to_value(half), "0.5"),
+        (ToSetValue::try_to_value(-1i64), "-1"),
     ];
-    for (value, text) in cases {
-        let printed = format!(in rt.alloc(); "{}", value?)?;
-        assert_eq!(rt; printed.as_str(), text);
-    }
-    Ok(())
+    print_as(&rt, &cases)
 }
 
 #[test]
@@ -129,19 +76,15 @@ fn lists_of_each_kind(rt: HostRuntime) -> Result<(), Fail> {
     let none: Vec<u64> = Vec::new(rt.alloc());
     let signed = vec![in rt.alloc(); -1i64, 0, 2]?;
     let cases: [(MetricResult<MetricValue>, &str); 7] = [
-        (timer(numbers()?), "29:30:31:32"),
-        (histogram(numbers()?), "29:30:31:32"),
-        (distribution(numbers()?), "29:30:31:32"),
-        (histogram(decimals()?), "0.5:-1.25"),
-        (distribution(decimals()?), "0.5:-1.25"),
-        (timer(none), ""),
+        (ToTimerValue::try_to_value(numbers()?), "29:30:31:32"),
+        (ToHistogramValue::try_to_value(numbers()?), "29:30:31:32"),
+        (ToDistributionValue::try_to_value(numbers()?), "29:30:31:32"),
+        (ToHistogramValue::try_to_value(decimals()?), "0.5:-1.25"),
+        (ToDistributionValue::try_to_value(decimals()?), "0.5:-1.25"),
+        (ToTimerValue::try_to_value(none), ""),
         (Ok(MetricValue::PackedSigned(signed)), "-1:0:2"),
     ];
-    for (value, text) in cases {
-        let printed = format!(in rt.alloc(); "{}", value?)?;
-        assert_eq!(rt; printed.as_str(), text);
-    }
-    Ok(())
+    print_as(&rt, &cases)
 }
 
 #[test]
@@ -151,17 +94,22 @@ fn durations_are_cut_off(rt: HostRuntime) -> Result<(), Fail> {
     let most_nanos = Duration::new(18_446_744_073, 709_551_615);
     let most_millis = Duration::new(18_446_744_073_709_551, 615_999_999);
     let cases: [(MetricResult<MetricValue>, &str); 5] = [
-        (timer(short), "1"),
-        (timer(durations()?), "157:1"),
-        (histogram(durations()?), "157000000:1999999"),
-        (histogram(most_nanos), "18446744073709551615"),
-        (timer(most_millis), "18446744073709551615"),
+        (ToTimerValue::try_to_value(short), "1"),
+        (ToTimerValue::try_to_value(durations()?), "157:1"),
+        (
+            ToHistogramValue::try_to_value(durations()?),
+            "157000000:1999999",
+        ),
+        (
+            ToHistogramValue::try_to_value(most_nanos),
+            "18446744073709551615",
+        ),
+        (
+            ToTimerValue::try_to_value(most_millis),
+            "18446744073709551615",
+        ),
     ];
-    for (value, text) in cases {
-        let printed = format!(in rt.alloc(); "{}", value?)?;
-        assert_eq!(rt; printed.as_str(), text);
-    }
-    Ok(())
+    print_as(&rt, &cases)
 }
 
 #[test]
@@ -169,19 +117,16 @@ fn an_overflow_is_told(rt: HostRuntime) -> Result<(), Fail> {
     let outer = Duration::from_millis(157);
     let durations = || vec![in rt.alloc(); outer, Duration::from_secs(u64::MAX), outer];
     let cases: [MetricResult<MetricValue>; 4] = [
-        histogram(Duration::new(18_446_744_073, 709_551_616)),
-        timer(Duration::new(18_446_744_073_709_551, 616_000_000)),
-        timer(durations()?),
-        histogram(durations()?),
+        ToHistogramValue::try_to_value(Duration::new(18_446_744_073, 709_551_616)),
+        ToTimerValue::try_to_value(Duration::new(18_446_744_073_709_551, 616_000_000)),
+        ToTimerValue::try_to_value(durations()?),
+        ToHistogramValue::try_to_value(durations()?),
     ];
     for value in cases {
         let (kind, text) = refusal(rt.alloc(), value)?;
         assert_eq!(rt; kind, ErrorKind::InvalidInput);
         assert_eq!(rt; text.as_str(), "u64 overflow");
     }
-    let (kind, text) = refusal(rt.alloc(), counter(Unknown))?;
-    assert_eq!(rt; kind, ErrorKind::InvalidInput);
-    assert_eq!(rt; text.as_str(), "unknown");
     Ok(())
 }
 
@@ -195,7 +140,7 @@ fn a_list_of_durations_grows_once(rt: HostRuntime) -> Result<(), Fail> {
     ] {
         let heap = Refusing::after(rt.alloc(), rt.alloc(), granted)?;
         let durations = vec![in heap; Duration::from_secs(1), Duration::from_secs(second)]?;
-        let answer = timer(durations);
+        let answer = ToTimerValue::try_to_value(durations);
         assert_eq!(rt; answer.err().map(|error| error.kind()), kind);
     }
     Ok(())

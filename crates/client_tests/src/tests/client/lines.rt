@@ -1,30 +1,14 @@
 //! The lines of calls.
-ghost use Rattle.std.specs.Prelude.{[], ◌∷◌, Some};
-ghost use Rattle.cadence_text.specs.Number.{natural};
-
 use super::nop_client;
-use cadence::MetricError;
+use crate::tests::own::Seven;
 use cadence::client::StatsdClient;
 use cadence::decimal::Decimal;
-use cadence::ext::{MetricValue, ToCounterValue};
 use cadence::prelude::*;
 use cadence::sinks::{MetricSink, NopMetricSink};
 use cadence::types::{Metric, MetricResult};
-use std::alloc::{Allocator, Global};
+use std::alloc::Global;
 use std::test::Fail;
 use std::time::Duration;
-
-// A caller's own value.
-struct Seven;
-
-impl<A: Allocator> ToCounterValue<A> for Seven {
-    ghost counted = { λ _. Some (natural 7 ∷ []) };
-
-    fn try_to_value(self) -> MetricResult<MetricValue<A>> {
-        let Seven = self;
-        Ok(MetricValue::Unsigned(7))
-    }
-}
 
 #[test]
 fn a_prefix_ends_in_one_dot(rt: HostRuntime) -> Result<(), Fail> {
@@ -63,9 +47,7 @@ fn default_tags_come_before_own_ones(rt: HostRuntime) -> Result<(), Fail> {
 #[test]
 fn fields_stand_in_the_order_of_the_line(rt: HostRuntime) -> Result<(), Fail> {
     let client = nop_client(rt.alloc(), "p")?;
-    let Ok(half) = Decimal::new(5, 1) else {
-        return Err(Fail::new("a decimal"));
-    };
+    let half = Decimal::new(5, 1)?;
     let counter = client
         .count_with_tags("k", 1)
         .with_timestamp(7)
@@ -74,9 +56,13 @@ fn fields_stand_in_the_order_of_the_line(rt: HostRuntime) -> Result<(), Fail> {
         .with_sampling_rate(half)
         .try_send()?;
     assert_eq!(rt; counter.as_metric_str(), "p.k:1|c|@0.5|#a:b|c:id|T7");
-    let Ok(whole) = Decimal::new(1, 0) else {
-        return Err(Fail::new("a decimal"));
-    };
+    Ok(())
+}
+
+#[test]
+fn the_last_of_each_option_counts(rt: HostRuntime) -> Result<(), Fail> {
+    let client = nop_client(rt.alloc(), "p")?;
+    let (half, whole) = (Decimal::new(5, 1)?, Decimal::new(1, 0)?);
     let counter = client
         .incr_with_tags("k")
         .with_sampling_rate(half)
@@ -120,17 +106,22 @@ fn texts_are_kept_as_they_stand(rt: HostRuntime) -> Result<(), Fail> {
         separators.as_metric_str(),
         "prefix.a|b:-1|c|#x:y:1,2|3|c:c|T1"
     );
+    Ok(())
+}
+
+#[test]
+fn a_list_has_colons_between(rt: HostRuntime) -> Result<(), Fail> {
+    let client = nop_client(rt.alloc(), "p")?;
     let nothing = client.time("key", vec![in rt.alloc(); 0u64; 0]?)?;
-    assert_eq!(rt; nothing.as_metric_str(), "prefix.key:|ms");
-    let client = nop_client(rt.alloc(), "my.prefix")?;
+    assert_eq!(rt; nothing.as_metric_str(), "p.key:|ms");
     let distribution = client
-        .distribution_with_tags("my.distribution", vec![in rt.alloc(); 29u64, 30, 31, 32]?)
-        .with_tag("host", "web03.example.com")
+        .distribution_with_tags("k", vec![in rt.alloc(); 29u64, 30]?)
+        .with_tag("host", "a.b")
         .with_tag_value("beta-test")
         .try_send()?;
     assert_eq!(rt;
         distribution.as_metric_str(),
-        "my.prefix.my.distribution:29:30:31:32|d|#host:web03.example.com,beta-test"
+        "p.k:29:30|d|#host:a.b,beta-test"
     );
     Ok(())
 }
@@ -170,31 +161,33 @@ fn send_lists<C: MetricClient<Memory = Global>>(client: &C, alloc: Global) -> Me
     Ok(())
 }
 
+fn line_of<M: Metric>(metric: &M) -> &str {
+    metric.as_metric_str()
+}
+
 #[test]
 fn each_kind_has_its_line(rt: HostRuntime) -> Result<(), Fail> {
     let client = nop_client(rt.alloc(), "")?;
-    let Ok(half) = Decimal::new(5, 1) else {
-        return Err(Fail::new("a decimal"));
-    };
+    let half = Decimal::new(5, 1)?;
     send_all(&client, half)?;
     send_lists(&client, rt.alloc())?;
     share(&client);
-    assert_eq!(rt; client.count("k", Seven)?.as_metric_str(), "k:7|c");
-    assert_eq!(rt;
-        client
-            .time("k", Duration::from_micros(1_500))?
-            .as_metric_str(),
-        "k:1|ms"
-    );
-    assert_eq!(rt; client.gauge("k", half)?.as_metric_str(), "k:0.5|g");
-    assert_eq!(rt; client.meter("k", 8)?.as_metric_str(), "k:8|m");
-    assert_eq!(rt;
-        client
-            .histogram("k", Duration::from_nanos(10))?
-            .as_metric_str(),
-        "k:10|h"
-    );
-    assert_eq!(rt; client.distribution("k", half)?.as_metric_str(), "k:0.5|d");
-    assert_eq!(rt; client.set("k", -12)?.as_metric_str(), "k:-12|s");
+    for (line, wanted) in [
+        (line_of(&client.count("k", Seven)?), "k:7|c"),
+        (
+            line_of(&client.time("k", Duration::from_micros(1_500))?),
+            "k:1|ms",
+        ),
+        (line_of(&client.gauge("k", half)?), "k:0.5|g"),
+        (line_of(&client.meter("k", 8)?), "k:8|m"),
+        (
+            line_of(&client.histogram("k", Duration::from_nanos(10))?),
+            "k:10|h",
+        ),
+        (line_of(&client.distribution("k", half)?), "k:0.5|d"),
+        (line_of(&client.set("k", -12)?), "k:-12|s"),
+    ] {
+        assert_eq!(rt; line, wanted);
+    }
     Ok(())
 }

@@ -4,8 +4,8 @@ use cadence::client::{ClientSettings, StatsdClient};
 use cadence::prelude::*;
 use cadence::schedule::{Call, CallOption, CallValue};
 use cadence::sinks::{MetricSink, NopMetricSink};
-use cadence::types::{ErrorKind, Metric, MetricResult};
-use refusing::Refusing;
+use cadence::types::{ErrorKind, Metric, MetricError, MetricResult, SinkError};
+use refusing::{Refusing, each_refused};
 use std::alloc::{AllocError, Allocator, Global};
 use std::test::Fail;
 use std::time::Duration;
@@ -22,50 +22,50 @@ fn client_of<A: Allocator + Clone>(
         .build()
 }
 
+// Such a client, whose sink takes and drops every line. Takes seven requests.
+fn made(heap: &Refusing<Global>) -> MetricResult<StatsdClient<Refusing<Global>>> {
+    let boxed = Box::new(heap.clone()?, NopMetricSink)?;
+    let sink: Box<dyn MetricSink + Send + Sync, Refusing<Global>> = boxed;
+    client_of(heap.clone()?, sink)
+}
+
+// Whether it was made, where want of memory is the one error.
+fn is_made<T: Drop>(answer: MetricResult<T>) -> Result<bool, Fail> {
+    match answer {
+        Ok(_) => Ok(true),
+        Err(MetricError::Sink(SinkError::OutOfMemory)) => Ok(false),
+        Err(_) => Err(Fail::new("another error")),
+    }
+}
+
 #[test]
 fn a_client_is_made_or_refused(rt: HostRuntime) -> Result<(), Fail> {
-    for granted in 0..7u64 {
-        let heap = Refusing::after(rt.alloc(), rt.alloc(), granted)?;
-        let Ok(boxed) = Box::new(heap.clone()?, NopMetricSink) else {
-            assert_eq!(rt; granted, 0);
-            continue;
-        };
-        let sink: Box<dyn MetricSink + Send + Sync, Refusing<Global>> = boxed;
-        let Err(error) = client_of(heap.clone()?, sink) else {
-            return Err(Fail::new("made"));
-        };
-        assert_eq!(rt; error.kind(), ErrorKind::OutOfMemory);
-    }
+    let granted: Result<Option<u64>, Fail> = each_refused(rt.alloc(), |heap| is_made(made(&heap)));
+    assert_eq!(rt; granted?, Some(7));
     Ok(())
 }
 
 #[test]
 fn a_call_takes_its_tag_list_and_its_line(rt: HostRuntime) -> Result<(), Fail> {
-    for granted in 7..10u64 {
-        let heap = Refusing::after(rt.alloc(), rt.alloc(), granted)?;
-        let sink: Box<dyn MetricSink + Send + Sync, Refusing<Global>> = Box::new(
-            heap.clone()?,
-            NopMetricSink,
-        )?;
-        let client = client_of(heap.clone()?, sink)?;
-        match client.incr_with_tags("k").with_tag("d", "e").try_send() {
-            Ok(counter) => {
-                assert_eq!(rt; counter.as_metric_str(), "p.k:1|c|#a:b,c,d:e|c:id");
-                assert_eq!(rt; (granted, heap.left()), (9, 0));
-            }
-            Err(error) => assert_eq!(rt; error.kind(), ErrorKind::OutOfMemory),
+    let granted: Result<Option<u64>, Fail> = each_refused(rt.alloc(), |heap| {
+        let Ok(client) = made(&heap) else {
+            return Ok(false);
+        };
+        let answer = client.incr_with_tags("k").with_tag("d", "e").try_send();
+        if let Ok(counter) = &answer {
+            assert_eq!(rt; counter.as_metric_str(), "p.k:1|c|#a:b,c,d:e|c:id");
         }
-    }
+        is_made(answer)
+    });
+    assert_eq!(rt; granted?, Some(9));
     Ok(())
 }
 
 #[test]
 fn a_plain_call_takes_its_line_alone(rt: HostRuntime) -> Result<(), Fail> {
-    let heap = Refusing::after(rt.alloc(), rt.alloc(), 9)?;
-    let sink: Box<dyn MetricSink + Send + Sync, Refusing<Global>> = Box::new(
-        heap.clone()?,
-        NopMetricSink,
-    )?;
+    let heap = Refusing::after(rt.alloc(), rt.alloc(), 99)?;
+    let boxed = Box::new(heap.clone()?, NopMetricSink)?;
+    let sink: Box<dyn MetricSink + Send + Sync, Refusing<Global>> = boxed;
     let client = StatsdClient::from_sink(heap.clone()?, "p", sink)?;
     let before = heap.left();
     client.count("some.counter", 3)?;
@@ -94,26 +94,28 @@ fn line_of_call(
     settings.record_of(&call)?.format(heap.clone()?)
 }
 
+// Settings with a default tag and a container.
+fn settings_of(heap: &Refusing<Global>) -> MetricResult<ClientSettings<Refusing<Global>>> {
+    let mut settings = ClientSettings::new(heap.clone()?, "p")?;
+    settings.add_tag(Some("a"), "b")?;
+    settings.set_container("x")?;
+    Ok(settings)
+}
+
 #[test]
 fn a_call_as_data_has_its_line(rt: HostRuntime) -> Result<(), Fail> {
-    for granted in 0..64u64 {
-        let heap = Refusing::after(rt.alloc(), rt.alloc(), granted)?;
-        let Ok(mut settings) = ClientSettings::new(heap.clone()?, "p") else {
-            continue;
+    let granted: Result<Option<u64>, Fail> = each_refused(rt.alloc(), |heap| {
+        let Ok(settings) = settings_of(&heap) else {
+            return Ok(false);
         };
-        if settings.add_tag(Some("a"), "b").is_err() || settings.set_container("x").is_err() {
-            continue;
+        let line = line_of_call(&heap, &settings);
+        if let Ok(line) = &line {
+            assert_eq!(rt; line.as_str(), "p.k:7:8|ms|#a:b,d:e,f|c:id|T9");
         }
-        match line_of_call(&heap, &settings) {
-            Ok(line) => {
-                assert_eq!(rt; line.as_str(), "p.k:7:8|ms|#a:b,d:e,f|c:id|T9");
-                assert!(rt; granted > 12);
-                return Ok(());
-            }
-            Err(error) => assert_eq!(rt; error.kind(), ErrorKind::OutOfMemory),
-        }
-    }
-    Err(Fail::new("always refused"))
+        is_made(line)
+    });
+    assert!(rt; granted?.is_some_and(|granted| granted > 12));
+    Ok(())
 }
 
 #[test]

@@ -1,14 +1,15 @@
 //! How often sinks and handlers are called, and with what.
-ghost use Rattle.std.specs.Prelude.{◌≡◌, ◌∷◌, [], None, Err, Ok, length, codes};
+ghost use Rattle.std.specs.Prelude.{◌≡◌, Err, Ok, length};
 ghost use Rattle.cadence_errors.specs.declared.SinkError.TheVariants.{PacketRefused};
 
 use super::nop_client;
+use crate::tests::own::{Event, Nothing};
 use cadence::client::StatsdClient;
-use cadence::ext::{MetricBackend, MetricValue, ToCounterValue};
+use cadence::ext::MetricBackend;
 use cadence::prelude::*;
 use cadence::sinks::{MetricSink, NopMetricSink, SpyMetricSink};
-use cadence::types::{ErrorKind, Metric, MetricError, MetricResult, SinkError};
-use std::alloc::{AllocError, Allocator, Global};
+use cadence::types::{ErrorKind, Metric, MetricError, SinkError};
+use std::alloc::{AllocError, Global};
 use std::sync::Arc;
 use std::sync::atomic::{AtomicU64, Ordering};
 use std::test::Fail;
@@ -54,43 +55,26 @@ impl MetricSink for CountingSink {
     ghost flush_may_succeed = { λ _. tt };
 }
 
-// A caller's own metric.
-struct Event;
-
-impl Metric for Event {
-    ghost metric_text = { λ _. codes "p.k:1|e" };
-
-    fn as_metric_str(&self) -> &str {
-        "p.k:1|e"
-    }
-}
-
-// A value that is always refused.
-struct Nothing;
-
-impl<A: Allocator> ToCounterValue<A> for Nothing {
-    ghost counted = { λ _. None };
-
-    fn try_to_value(self) -> MetricResult<MetricValue<A>> {
-        let Nothing = self;
-        Err(MetricError::from((ErrorKind::InvalidInput, "no number")))
-    }
-}
-
 // A counter that starts at 0.
 fn zero(alloc: Global) -> Result<Arc<AtomicU64>, AllocError> {
     let zero = Arc::new(alloc, AtomicU64::new(0))?;
     Ok(zero)
 }
 
-#[test]
-fn each_call_reaches_the_sink_once(rt: HostRuntime) -> Result<(), Fail> {
-    let calls = zero(rt.alloc())?;
+// A client over a counting sink, and the count.
+fn counted(alloc: Global) -> Result<(Arc<AtomicU64>, StatsdClient), Fail> {
+    let calls = zero(alloc)?;
     let counting = CountingSink {
         calls: calls.clone()?,
     };
-    let sink: Box<dyn MetricSink + Send + Sync> = Box::new(rt.alloc(), counting)?;
-    let client = StatsdClient::from_sink(rt.alloc(), "p", sink)?;
+    let sink: Box<dyn MetricSink + Send + Sync> = Box::new(alloc, counting)?;
+    let client = StatsdClient::from_sink(alloc, "p", sink)?;
+    Ok((calls, client))
+}
+
+#[test]
+fn each_call_reaches_the_sink_once(rt: HostRuntime) -> Result<(), Fail> {
+    let (calls, client) = counted(rt.alloc())?;
     client.incr("k")?;
     client
         .gauge_with_tags("k", 2)
@@ -107,17 +91,7 @@ fn each_call_reaches_the_sink_once(rt: HostRuntime) -> Result<(), Fail> {
 
 #[test]
 fn a_held_error_keeps_the_sink_uncalled(rt: HostRuntime) -> Result<(), Fail> {
-    let calls = zero(rt.alloc())?;
-    let counting = CountingSink {
-        calls: calls.clone()?,
-    };
-    let sink: Box<dyn MetricSink + Send + Sync> = Box::new(rt.alloc(), counting)?;
-    let client = StatsdClient::from_sink(rt.alloc(), "p", sink)?;
-    let longest = Duration::new(18_446_744_073_709_551, 615_999_999);
-    assert_eq!(rt;
-        client.time("k", longest)?.as_metric_str(),
-        "p.k:18446744073709551615|ms"
-    );
+    let (calls, client) = counted(rt.alloc())?;
     let longer = Duration::new(18_446_744_073_709_551, 616_000_000);
     let refused = client
         .time_with_tags("k", longer)
@@ -129,44 +103,61 @@ fn a_held_error_keeps_the_sink_uncalled(rt: HostRuntime) -> Result<(), Fail> {
     };
     assert_eq!(rt; error.kind(), ErrorKind::InvalidInput);
     assert_eq!(rt; error.to_string(rt.alloc())?.as_str(), "u64 overflow");
-    assert!(rt; client.count("k", Nothing).is_err());
+    let Err(error) = client.count("k", Nothing) else {
+        return Err(Fail::new("taken"));
+    };
+    assert_eq!(rt; error.kind(), ErrorKind::InvalidInput);
+    assert_eq!(rt; error.to_string(rt.alloc())?.as_str(), "no number");
     client.count_with_tags("k", Nothing).send();
-    assert_eq!(rt; calls.load(Ordering::SeqCst), 1);
+    assert_eq!(rt; calls.load(Ordering::SeqCst), 0);
     Ok(())
 }
 
-#[test]
-fn a_refusal_reaches_the_handler_once(rt: HostRuntime) -> Result<(), Fail> {
-    let (calls, handled) = (zero(rt.alloc())?, zero(rt.alloc())?);
+// A client whose sink refuses each line, the count of its calls, and the count of the handler's.
+fn refused(alloc: Global) -> Result<(Arc<AtomicU64>, Arc<AtomicU64>, StatsdClient), Fail> {
+    let (calls, handled) = (zero(alloc)?, zero(alloc)?);
     let refusing = RefusingSink {
         calls: calls.clone()?,
     };
-    let sink: Box<dyn MetricSink + Send + Sync> = Box::new(rt.alloc(), refusing)?;
+    let sink: Box<dyn MetricSink + Send + Sync> = Box::new(alloc, refusing)?;
     let seen = handled.clone()?;
     let handler: Box<dyn Fn(MetricError) + Send + Sync> = Box::new(
-        rt.alloc(),
+        alloc,
         move |_error: MetricError| {
             seen.fetch_add(1, Ordering::SeqCst);
         },
     )?;
-    let client = StatsdClient::builder(rt.alloc(), "p", sink)
+    let client = StatsdClient::builder(alloc, "p", sink)
         .with_error_handler(handler)
         .with_tag_value("a")
         .build()?;
+    Ok((calls, handled, client))
+}
+
+#[test]
+fn a_refusal_is_answered_and_not_handled(rt: HostRuntime) -> Result<(), Fail> {
+    let (calls, handled, client) = refused(rt.alloc())?;
     let Err(error) = client.count("k", 1) else {
         return Err(Fail::new("taken"));
     };
     assert_eq!(rt; error.kind(), ErrorKind::IoError);
     assert!(rt; matches!(error.sink_error(), Some(SinkError::PacketRefused)));
+    assert!(rt; client.flush().is_err());
+    assert_eq!(rt; calls.load(Ordering::SeqCst), 1);
     assert_eq!(rt; handled.load(Ordering::SeqCst), 0);
+    Ok(())
+}
+
+#[test]
+fn a_refusal_reaches_the_handler_once(rt: HostRuntime) -> Result<(), Fail> {
+    let (calls, handled, client) = refused(rt.alloc())?;
     client.count_with_tags("k", 1).with_tag("a", "b").send();
     assert_eq!(rt; handled.load(Ordering::SeqCst), 1);
-    client.consume_error(error);
+    client.consume_error(MetricError::from(SinkError::ChannelFull));
     assert_eq!(rt; handled.load(Ordering::SeqCst), 2);
     client.count_with_tags("k", Nothing).send();
     assert_eq!(rt; handled.load(Ordering::SeqCst), 3);
-    assert_eq!(rt; calls.load(Ordering::SeqCst), 2);
-    assert!(rt; client.flush().is_err());
+    assert_eq!(rt; calls.load(Ordering::SeqCst), 1);
     Ok(())
 }
 

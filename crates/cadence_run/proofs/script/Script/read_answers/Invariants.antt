@@ -1,5 +1,0 @@
-use Rattle.cadence_run.specs.Words.{bytes_left}
-use Rattle.cadence_run.proofs.script.Script.read_answers.Given as goal
-
-abbrev pub decreases-loop-answers : goal.decreases-loop-answers
-decreases-loop-answers g l = bytes_left l.words

@@ -1,0 +1,172 @@
+//! The calls of a script.
+ghost use Rattle.std.specs.Prelude.{◌≤◌};
+ghost use Rattle.cadence_script.specs.Words.{bytes_left};
+
+use crate::words::{LineError, Words, number, signed_number, text_of};
+use cadence::decimal::Decimal;
+use cadence::line::MetricType;
+use cadence::schedule::{Call, CallOption, CallValue};
+use std::alloc::Allocator;
+use std::time::Duration;
+
+/// What stands between the commas of a list.
+trait Item: Drop {
+    fn read(item: &str) -> Result<Self, LineError>;
+}
+
+impl Item for u64 {
+    fn read(item: &str) -> Result<u64, LineError> {
+        number(item)
+    }
+}
+
+/// A number and its places, as in `-5/1`.
+impl Item for Decimal {
+    fn read(item: &str) -> Result<Decimal, LineError> {
+        let Some((mantissa, places)) = item.split_once('/') else {
+            return Err(LineError::Unreadable);
+        };
+        match Decimal::new(signed_number(mantissa)?, number(places)?) {
+            Ok(decimal) => Ok(decimal),
+            Err(_) => Err(LineError::Unreadable),
+        }
+    }
+}
+
+/// Seconds and nanoseconds, as in `1/500000000`.
+impl Item for Duration {
+    fn read(item: &str) -> Result<Duration, LineError> {
+        let Some((seconds, nanoseconds)) = item.split_once('/') else {
+            return Err(LineError::Unreadable);
+        };
+        let seconds: u64 = number(seconds)?;
+        let nanoseconds: u32 = number(nanoseconds)?;
+        if nanoseconds > 999_999_999 {
+            return Err(LineError::Unreadable);
+        }
+        Ok(Duration::new(seconds, nanoseconds))
+    }
+}
+
+// The items, which are joined by commas. There may be none.
+fn list_of<T: Item, A: Allocator>(alloc: A, items: &str) -> Result<Vec<T, A>, LineError> {
+    let mut list = Vec::new(alloc);
+    if items.is_empty() {
+        return Ok(list);
+    }
+    for item in items.split(',') {
+        list.push(T::read(item)?)?;
+    }
+    Ok(list)
+}
+
+/// A value as it is written, before its kind is looked at.
+#[derive(Drop)]
+enum Form<A: Allocator> {
+    Signed(i64),
+    Unsigned(u64),
+    UnsignedList(Vec<u64, A>),
+    Decimal(Decimal),
+    DecimalList(Vec<Decimal, A>),
+    Duration(Duration),
+    DurationList(Vec<Duration, A>),
+}
+
+fn form_of<A: Allocator>(alloc: A, word: &str) -> Result<Form<A>, LineError> {
+    let Some((letter, items)) = word.split_once(':') else {
+        return Err(LineError::Unreadable);
+    };
+    match letter {
+        "i" => Ok(Form::Signed(signed_number(items)?)),
+        "u" => Ok(Form::Unsigned(number(items)?)),
+        "U" => Ok(Form::UnsignedList(list_of(alloc, items)?)),
+        "x" => Ok(Form::Decimal(Item::read(items)?)),
+        "X" => Ok(Form::DecimalList(list_of(alloc, items)?)),
+        "t" => Ok(Form::Duration(Item::read(items)?)),
+        "T" => Ok(Form::DurationList(list_of(alloc, items)?)),
+        _ => Err(LineError::Unreadable),
+    }
+}
+
+fn kind_of(word: &str) -> Result<MetricType, LineError> {
+    match word {
+        "c" => Ok(MetricType::Counter),
+        "ms" => Ok(MetricType::Timer),
+        "g" => Ok(MetricType::Gauge),
+        "m" => Ok(MetricType::Meter),
+        "h" => Ok(MetricType::Histogram),
+        "s" => Ok(MetricType::Set),
+        "d" => Ok(MetricType::Distribution),
+        _ => Err(LineError::Unreadable),
+    }
+}
+
+// The value of a kind. Each kind has some of the forms.
+fn value_of<A: Allocator>(kind: MetricType, form: Form<A>) -> Result<CallValue<A>, LineError> {
+    match (kind, form) {
+        (MetricType::Counter, Form::Signed(n)) => Ok(CallValue::CountI64(n)),
+        (MetricType::Counter, Form::Unsigned(n)) => Ok(CallValue::CountU64(n)),
+        (MetricType::Timer, Form::Unsigned(n)) => Ok(CallValue::TimeU64(n)),
+        (MetricType::Timer, Form::UnsignedList(ns)) => Ok(CallValue::TimeVecU64(ns)),
+        (MetricType::Timer, Form::Duration(d)) => Ok(CallValue::TimeDuration(d)),
+        (MetricType::Timer, Form::DurationList(ds)) => Ok(CallValue::TimeVecDuration(ds)),
+        (MetricType::Gauge, Form::Unsigned(n)) => Ok(CallValue::GaugeU64(n)),
+        (MetricType::Gauge, Form::Decimal(d)) => Ok(CallValue::GaugeDecimal(d)),
+        (MetricType::Meter, Form::Unsigned(n)) => Ok(CallValue::MeterU64(n)),
+        (MetricType::Histogram, Form::Unsigned(n)) => Ok(CallValue::HistogramU64(n)),
+        (MetricType::Histogram, Form::UnsignedList(ns)) => Ok(CallValue::HistogramVecU64(ns)),
+        (MetricType::Histogram, Form::Decimal(d)) => Ok(CallValue::HistogramDecimal(d)),
+        (MetricType::Histogram, Form::DecimalList(ds)) => Ok(CallValue::HistogramVecDecimal(ds)),
+        (MetricType::Histogram, Form::Duration(d)) => Ok(CallValue::HistogramDuration(d)),
+        (MetricType::Histogram, Form::DurationList(ds)) => Ok(CallValue::HistogramVecDuration(ds)),
+        (MetricType::Set, Form::Signed(n)) => Ok(CallValue::SetI64(n)),
+        (MetricType::Distribution, Form::Unsigned(n)) => Ok(CallValue::DistributionU64(n)),
+        (MetricType::Distribution, Form::UnsignedList(ns)) => Ok(CallValue::DistributionVecU64(ns)),
+        (MetricType::Distribution, Form::Decimal(d)) => Ok(CallValue::DistributionDecimal(d)),
+        (MetricType::Distribution, Form::DecimalList(ds)) => {
+            Ok(CallValue::DistributionVecDecimal(ds))
+        }
+        _ => Err(LineError::Unreadable),
+    }
+}
+
+// The option of this name.
+fn option_of<A: Allocator + Clone>(
+    alloc: &A,
+    name: &str,
+    words: &mut Words<'_>,
+) -> Result<CallOption<A>, LineError>
+    ensures { bytes_left words.new ≤ bytes_left words.old }
+{
+    match name {
+        "tag" => {
+            let key = text_of(alloc.clone()?, words.word()?)?;
+            let text = text_of(alloc.clone()?, words.word()?)?;
+            Ok(CallOption::Tag(key, text))
+        }
+        "tagvalue" => Ok(CallOption::TagValue(text_of(alloc.clone()?, words.word()?)?)),
+        "container" => Ok(CallOption::Container(text_of(alloc.clone()?, words.word()?)?)),
+        "time" => Ok(CallOption::Time(number(words.word()?)?)),
+        "rate" => Ok(CallOption::Rate(Item::read(words.word()?)?)),
+        _ => Err(LineError::Unreadable),
+    }
+}
+
+/// A call, of which the first word is read: its kind, key, value and options.
+pub fn call_of<A: Allocator + Clone>(
+    alloc: &A,
+    words: &mut Words<'_>,
+) -> Result<Call<A>, LineError> {
+    let kind = kind_of(words.word()?)?;
+    let key = text_of(alloc.clone()?, words.word()?)?;
+    let value = value_of(kind, form_of(alloc.clone()?, words.word()?)?)?;
+    let mut options = Vec::new(alloc.clone()?);
+    while let Some(name) = words.next()? {
+        options.push(option_of(alloc, name, words)?)?;
+    }
+    Ok(Call {
+        key,
+        value,
+        options,
+    })
+}

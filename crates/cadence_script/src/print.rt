@@ -1,0 +1,83 @@
+//! The report of a run, line by line.
+use cadence::io::{Answer, PacketLog};
+use cadence::schedule::{Reply, Report};
+use cadence_console::push_text;
+use std::alloc::{AllocError, Allocator};
+
+// One step's reply.
+fn push_reply<A: Allocator>(out: &mut String<A>, reply: &Reply) -> Result<(), AllocError> {
+    match reply {
+        Reply::Called(Ok(length)) => writeln!(out, "call ok {length}"),
+        Reply::Called(Err(error)) => writeln!(out, "call err {error}"),
+        Reply::Text(length) => writeln!(out, "take text {length}"),
+        Reply::Empty => out.push_str("take empty\n"),
+        Reply::Ended => out.push_str("take ended\n"),
+        Reply::Busy => out.push_str("take busy\n"),
+        Reply::Handed(Ok(count)) => writeln!(out, "hand ok {count}"),
+        Reply::Handed(Err(error)) => writeln!(out, "hand err {error}"),
+        Reply::Nothing => out.push_str("hand nothing\n"),
+        Reply::Flushed(Ok(())) => out.push_str("flush ok\n"),
+        Reply::Flushed(Err(error)) => writeln!(out, "flush err {error}"),
+        Reply::Stopped => out.push_str("stop\n"),
+    }
+}
+
+// The numbers of lines in each packet, and then in the held text.
+fn push_cut<A: Allocator>(
+    out: &mut String<A>,
+    cut: &[usize],
+    answers: &[Answer],
+) -> Result<(), AllocError> {
+    if answers
+        .iter()
+        .any(|answer| matches!(answer, Answer::Short(_)))
+    {
+        return out.push_str("cut unknown\n");
+    }
+    out.push_str("cut")?;
+    for count in cut {
+        write!(out, " {count}")?;
+    }
+    out.push('\n')
+}
+
+// What the queue and the hand hold.
+fn push_waiting<A: Allocator>(
+    out: &mut String<A>,
+    report: &Report<PacketLog<A>, A>,
+) -> Result<(), AllocError> {
+    let queue = report.queue();
+    for index in 0..queue.waiting() {
+        if let Some(text) = queue.get(index) {
+            push_text(out, "waiting", text.as_bytes())?;
+        }
+    }
+    match report.in_hand() {
+        Some(text) => push_text(out, "inhand", text.as_bytes()),
+        None => Ok(()),
+    }
+}
+
+/// The report as text: a line for each reply, the packets, the held text, what waits, the line in hand, the cut and the
+/// sums.
+pub fn report_text<A: Allocator>(
+    alloc: A,
+    report: &Report<PacketLog<A>, A>,
+    answers: &[Answer],
+) -> Result<String<A>, AllocError> {
+    let mut out = String::new(alloc);
+    for reply in report.replies() {
+        push_reply(&mut out, reply)?;
+    }
+    for packet in report.writer().packets() {
+        push_text(&mut out, "packet", packet)?;
+    }
+    push_text(&mut out, "held", report.held())?;
+    push_waiting(&mut out, report)?;
+    push_cut(&mut out, report.cut(), answers)?;
+    let stats = report.stats();
+    let (sent, packets) = (stats.bytes_sent, stats.packets_sent);
+    let (dropped, refusals) = (stats.bytes_dropped, stats.packets_dropped);
+    writeln!(out, "stats {sent} {packets} {dropped} {refusals}")?;
+    Ok(out)
+}
