@@ -4,7 +4,7 @@ use cadence_sinks::{
     BufferedSpyMetricSink, MetricSink, NopMetricSink, QueuingMetricSink, QueuingMetricSinkBuilder,
     SpyMetricSink,
 };
-use refusing::Refusing;
+use refusing::{Refusing, each_refused};
 use std::sync::atomic::{AtomicBool, AtomicU64, Ordering};
 use std::sync::{Arc, OnceLock, Wait};
 use std::test::Fail;
@@ -218,25 +218,22 @@ fn accepted_text_takes_memory_once(rt: HostRuntime) -> Result<(), Fail> {
 
 #[test]
 fn each_request_refused(rt: HostRuntime) -> Result<(), Fail> {
-    for granted in 0..8u64 {
-        let heap = Refusing::after(rt.alloc(), rt.alloc(), granted)?;
-        match QueuingMetricSink::with_capacity(rt.clone()?, heap, NopMetricSink, 1) {
-            Ok(sink) => {
-                let first = sink.emit("a:1|c");
-                if first.is_ok() {
-                    assert_eq!(rt; granted, 3);
-                    return Ok(());
-                }
-                assert!(rt; matches!(first, Err(SinkError::OutOfMemory)));
-                assert!(rt; matches!(sink.emit("b:1|c"), Ok(5)));
-                assert_eq!(rt; sink.submitted(), 1);
-            }
-            Err(error) => {
-                assert!(rt; matches!(error, MetricError::Sink(SinkError::OutOfMemory)));
-            }
+    let granted: Result<Option<u64>, Fail> = each_refused(rt.alloc(), |heap| {
+        let sink = match QueuingMetricSink::with_capacity(rt.clone()?, heap, NopMetricSink, 1) {
+            Ok(sink) => sink,
+            Err(MetricError::Sink(SinkError::OutOfMemory)) => return Ok(false),
+            Err(_) => return Err(Fail::new("another error")),
+        };
+        let first = sink.emit("a:1|c");
+        if first.is_ok() {
+            return Ok(true);
         }
-    }
-    Err(Fail::new("always refused"))
+        assert!(rt; matches!(first, Err(SinkError::OutOfMemory)));
+        assert!(rt; matches!(sink.emit("b:1|c"), Ok(5)) && sink.submitted() == 1);
+        Ok(false)
+    });
+    assert_eq!(rt; granted?, Some(3));
+    Ok(())
 }
 
 type SpiedSink = QueuingMetricSink<SpyMetricSink<HostRuntime>, HostRuntime>;

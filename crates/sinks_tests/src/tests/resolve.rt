@@ -3,7 +3,7 @@ use cadence_resolve::{
     Handler, Lookup, NameLookup, PeriodicResolver, Resolver, ResolverCore, SinkErrorHandler,
     Sleeper, StaticResolver, Target,
 };
-use refusing::Refusing;
+use refusing::each_refused;
 use std::alloc::Global;
 use std::net::{Ipv4Addr, SocketAddr};
 use std::sync::atomic::{AtomicU64, Ordering};
@@ -74,22 +74,18 @@ fn a_name_that_cannot_be_found_is_refused(rt: HostRuntime) -> Result<(), Fail> {
 
 #[test]
 fn each_request_of_a_first_lookup_is_refused_in_turn(rt: HostRuntime) -> Result<(), Fail> {
-    for granted in 0..8u64 {
-        let heap = Refusing::after(rt.alloc(), rt.alloc(), granted)?;
+    let granted: Result<Option<u64>, Fail> = each_refused(rt.alloc(), |heap| {
         let Ok(host) = String::from_str(heap.clone()?, "localhost") else {
-            continue;
+            return Ok(false);
         };
         match StaticResolver::new(&rt, heap, &Target::Name { host, port: 8125 }) {
-            Ok(resolver) => {
-                assert_eq!(rt; resolver.get_addr().port(), 8125);
-                assert!(rt; granted > 1);
-                return Ok(());
-            }
-            Err(MetricError::Sink(SinkError::OutOfMemory)) => {}
-            Err(_) => return Err(Fail::new("another error")),
+            Ok(resolver) => Ok(resolver.get_addr().port() == 8125),
+            Err(MetricError::Sink(SinkError::OutOfMemory)) => Ok(false),
+            Err(_) => Err(Fail::new("another error")),
         }
-    }
-    Err(Fail::new("never enough memory"))
+    });
+    assert!(rt; granted?.is_some_and(|granted| granted > 1));
+    Ok(())
 }
 
 // Answers each lookup by a fault, and counts them.
@@ -149,42 +145,18 @@ fn run_until<R: Wait + Drop>(
 }
 
 #[test]
-fn a_failed_lookup_keeps_the_address_and_is_told_once(rt: HostRuntime) -> Result<(), Fail> {
-    let told = Arc::new(rt.alloc(), AtomicU64::new(0))?;
-    let theirs = told.clone()?;
-    let handler: SinkErrorHandler = Box::new(rt.alloc(), move |_| {
-        theirs.fetch_add(1, Ordering::SeqCst);
-    })?;
-    let (resolver, asked) = run_until(rt.clone()?, rt.alloc(), 1, handler)?;
-    assert_eq!(rt; (asked, told.load(Ordering::SeqCst)), (1, 1));
-    assert_eq!(rt; resolver.get_addr(), loopback(8125));
-    assert_eq!(rt; (resolver.successes(), resolver.failures()), (0, 1));
-    Ok(())
-}
-
-#[test]
-fn a_stop_in_the_third_sleep_allows_three_lookups(rt: HostRuntime) -> Result<(), Fail> {
-    let told = Arc::new(rt.alloc(), AtomicU64::new(0))?;
-    let theirs = told.clone()?;
-    let handler: SinkErrorHandler = Box::new(rt.alloc(), move |_| {
-        theirs.fetch_add(1, Ordering::SeqCst);
-    })?;
-    let (resolver, asked) = run_until(rt.clone()?, rt.alloc(), 3, handler)?;
-    assert_eq!(rt; (asked, told.load(Ordering::SeqCst)), (3, 3));
-    assert_eq!(rt; resolver.failures(), 3);
-    Ok(())
-}
-
-#[test]
-fn a_stop_before_the_run_allows_no_lookup(rt: HostRuntime) -> Result<(), Fail> {
-    let told = Arc::new(rt.alloc(), AtomicU64::new(0))?;
-    let theirs = told.clone()?;
-    let handler: SinkErrorHandler = Box::new(rt.alloc(), move |_| {
-        theirs.fetch_add(1, Ordering::SeqCst);
-    })?;
-    let (resolver, asked) = run_until(rt.clone()?, rt.alloc(), 0, handler)?;
-    assert_eq!(rt; (asked, told.load(Ordering::SeqCst)), (0, 0));
-    assert_eq!(rt; resolver.failures(), 0);
+fn a_stop_in_the_nth_sleep_allows_n_lookups(rt: HostRuntime) -> Result<(), Fail> {
+    for lookups in [0, 1, 3] {
+        let told = Arc::new(rt.alloc(), AtomicU64::new(0))?;
+        let theirs = told.clone()?;
+        let handler: SinkErrorHandler = Box::new(rt.alloc(), move |_| {
+            theirs.fetch_add(1, Ordering::SeqCst);
+        })?;
+        let (resolver, asked) = run_until(rt.clone()?, rt.alloc(), lookups, handler)?;
+        assert_eq!(rt; (asked, told.load(Ordering::SeqCst)), (lookups, lookups));
+        assert_eq!(rt; resolver.get_addr(), loopback(8125));
+        assert_eq!(rt; (resolver.successes(), resolver.failures()), (0, lookups));
+    }
     Ok(())
 }
 

@@ -1,6 +1,6 @@
 use cadence_errors::SinkError;
 use cadence_sinks::{BufferedSpyMetricSink, MetricSink, SpyMetricSink};
-use refusing::Refusing;
+use refusing::each_refused;
 use std::test::Fail;
 use std::thread;
 
@@ -106,37 +106,35 @@ fn full_queue_refuses_a_packet(rt: HostRuntime) -> Result<(), Fail> {
 
 #[test]
 fn each_request_of_a_spy_refused(rt: HostRuntime) -> Result<(), Fail> {
-    for granted in 0..8u64 {
-        let heap = Refusing::after(rt.alloc(), rt.alloc(), granted)?;
+    let granted: Result<Option<u64>, Fail> = each_refused(rt.alloc(), |heap| {
         let Ok((receiver, sink)) = SpyMetricSink::new(rt.clone()?, heap) else {
-            continue;
+            return Ok(false);
         };
         let first = sink.emit("a:1|c");
         if first.is_ok() {
-            assert!(rt; granted > 2);
-            return Ok(());
+            return Ok(true);
         }
-        assert!(rt; matches!(first, Err(SinkError::OutOfMemory)));
-        assert!(rt; receiver.is_empty());
+        assert!(rt; matches!(first, Err(SinkError::OutOfMemory)) && receiver.is_empty());
         assert!(rt; matches!(sink.emit("b:1|c"), Ok(5)));
-    }
-    Err(Fail::new("always refused"))
+        Ok(false)
+    });
+    assert!(rt; granted?.is_some_and(|granted| granted > 2));
+    Ok(())
 }
 
 #[test]
 fn each_request_of_a_buffered_spy_refused(rt: HostRuntime) -> Result<(), Fail> {
-    for granted in 0..8u64 {
-        let heap = Refusing::after(rt.alloc(), rt.alloc(), granted)?;
+    let granted: Result<Option<u64>, Fail> = each_refused(rt.alloc(), |heap| {
         let Ok((receiver, sink)) = BufferedSpyMetricSink::new(rt.clone()?, heap) else {
-            continue;
+            return Ok(false);
         };
         assert!(rt; matches!(sink.emit("a:1|c"), Ok(5)));
         drop(sink);
-        if let Some(message) = receiver.recv() {
-            assert_eq!(rt; message.as_slice(), b"a:1|c\n".as_slice());
-            assert!(rt; granted > 4);
-            return Ok(());
-        }
-    }
-    Err(Fail::new("always refused"))
+        let Some(message) = receiver.recv() else {
+            return Ok(false);
+        };
+        Ok(message.as_slice() == b"a:1|c\n".as_slice())
+    });
+    assert!(rt; granted?.is_some_and(|granted| granted > 4));
+    Ok(())
 }

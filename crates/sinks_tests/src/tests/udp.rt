@@ -1,29 +1,16 @@
+use super::sockets::{got, on_loopback};
 use cadence_errors::{MetricError, SinkError};
 use cadence_sinks::{
     BufferedUdpMetricSink, BufferedUdpMetricSinkBuilder, MetricSink, SinkErrorHandler, Target,
     UdpMetricSink, UdpMetricSinkBuilder,
 };
-use refusing::Refusing;
-use std::net::{Ipv4Addr, Net, SocketAddr, UdpSocket};
+use refusing::{Refusing, each_refused};
+use std::net::{Ipv4Addr, SocketAddr, UdpSocket};
 use std::sync::Arc;
 use std::sync::atomic::{AtomicU64, Ordering};
 use std::test::Fail;
+use std::thread;
 use std::time::{Clock, Duration};
-use std::{io, thread};
-
-// A socket on the loopback address.
-fn on_loopback(net: &impl Net) -> io::Result<UdpSocket> {
-    let socket = UdpSocket::bind(net, SocketAddr::from((Ipv4Addr::LOCALHOST, 0)))?;
-    socket.set_read_timeout(Some(Duration::from_secs(5)))?;
-    Ok(socket)
-}
-
-// Whether the next datagram is this text.
-fn got(server: &UdpSocket, text: &str) -> io::Result<bool> {
-    let mut bytes = [0u8; 64];
-    let (count, _from) = server.recv_from(&mut bytes)?;
-    Ok(&bytes[..count] == text.as_bytes())
-}
 
 #[test]
 fn each_line_is_a_datagram(rt: HostRuntime) -> Result<(), Fail> {
@@ -169,32 +156,30 @@ fn wait_for_a_call<R: Clock>(rt: &R, calls: &AtomicU64) -> bool {
 
 #[test]
 fn each_request_of_a_builder_refused(rt: HostRuntime) -> Result<(), Fail> {
-    let server = on_loopback(&rt)?;
-    for granted in 0..16u64 {
-        let heap = Refusing::after(rt.alloc(), rt.alloc(), granted)?;
+    let server = on_loopback(&rt)?.local_addr()?;
+    let granted: Result<Option<u64>, Fail> = each_refused(rt.alloc(), |heap| {
         let calls = Arc::new(rt.alloc(), AtomicU64::new(0))?;
         let theirs = calls.clone()?;
         let handler: SinkErrorHandler = Box::new(rt.alloc(), move |_| {
             theirs.fetch_add(1, Ordering::SeqCst);
         })?;
-        let target = Target::Addr(server.local_addr()?);
         let made = BufferedUdpMetricSinkBuilder::new()
             .with_resolver_period(Duration::from_millis(1))
             .with_resolver_error_handler(handler)
-            .build(rt.clone()?, heap, target, on_loopback(&rt)?);
+            .build(rt.clone()?, heap, Target::Addr(server), on_loopback(&rt)?);
         match made {
             Ok(sink) => {
                 assert!(rt; matches!(sink.emit("buz:1|m"), Ok(7)));
-                assert!(rt; granted > 3);
                 // the next request that is refused is that of a later lookup
                 assert!(rt; wait_for_a_call(&rt, &calls));
-                return Ok(());
+                Ok(true)
             }
-            Err(MetricError::Sink(SinkError::OutOfMemory)) => {}
-            Err(_) => return Err(Fail::new("another error")),
+            Err(MetricError::Sink(SinkError::OutOfMemory)) => Ok(false),
+            Err(_) => Err(Fail::new("another error")),
         }
-    }
-    Err(Fail::new("always refused"))
+    });
+    assert!(rt; granted?.is_some_and(|granted| granted > 3));
+    Ok(())
 }
 
 #[test]

@@ -1,13 +1,14 @@
+use super::sockets;
+use super::sockets::on_loopback;
 use cadence_errors::{MetricError, MetricResult, SinkError};
 use cadence_flow::stats::SinkStats;
 use cadence_sinks::{BufferedUnixMetricSink, MetricSink, PathSocket, UnixMetricSink};
-use refusing::Refusing;
+use refusing::each_refused;
 use std::alloc::Global;
-use std::net::{Ipv4Addr, SocketAddr, UdpSocket};
+use std::net::UdpSocket;
 use std::sync::atomic::{AtomicU64, Ordering};
 use std::sync::{Arc, Mutex, Wait};
 use std::test::Fail;
-use std::time::Duration;
 
 type Packets = Arc<Mutex<Vec<Vec<u8>>>>;
 
@@ -164,36 +165,30 @@ impl PathSocket for Addressed {
 
 #[test]
 fn a_datagram_socket_of_the_callers(rt: HostRuntime) -> Result<(), Fail> {
-    let any = SocketAddr::from((Ipv4Addr::LOCALHOST, 0));
-    let server = UdpSocket::bind(&rt, any)?;
-    server.set_read_timeout(Some(Duration::from_secs(5)))?;
+    let server = on_loopback(&rt)?;
     let socket = Addressed {
-        socket: UdpSocket::bind(&rt, any)?,
+        socket: on_loopback(&rt)?,
     };
     let path = format!(in rt.alloc(); "{}", server.local_addr()?)?;
     let sink = UnixMetricSink::from(rt.clone()?, rt.alloc(), path.as_str(), socket)?;
     assert!(rt; matches!(sink.emit("buz:1|m"), Ok(7)));
-    let mut bytes = [0u8; 64];
-    let (count, _from) = server.recv_from(&mut bytes)?;
-    assert_eq!(rt; &bytes[..count], b"buz:1|m".as_slice());
+    assert!(rt; sockets::got(&server, "buz:1|m")?);
     Ok(())
 }
 
 #[test]
 fn each_request_of_a_sink_refused(rt: HostRuntime) -> Result<(), Fail> {
-    for granted in 0..8u64 {
-        let heap = Refusing::after(rt.alloc(), rt.alloc(), granted)?;
+    let granted: Result<Option<u64>, Fail> = each_refused(rt.alloc(), |heap| {
         let (_packets, socket) = make_socket(rt.clone()?, rt.alloc(), 0)?;
         match BufferedUnixMetricSink::from(rt.clone()?, heap, "/run/s", socket) {
             Ok(sink) => {
                 assert!(rt; matches!(sink.emit("buz:1|m"), Ok(7)));
-                assert!(rt; sink.flush().is_ok());
-                assert!(rt; granted > 3);
-                return Ok(());
+                Ok(sink.flush().is_ok())
             }
-            Err(MetricError::Sink(SinkError::OutOfMemory)) => {}
-            Err(_) => return Err(Fail::new("another error")),
+            Err(MetricError::Sink(SinkError::OutOfMemory)) => Ok(false),
+            Err(_) => Err(Fail::new("another error")),
         }
-    }
-    Err(Fail::new("always refused"))
+    });
+    assert!(rt; granted?.is_some_and(|granted| granted > 3));
+    Ok(())
 }

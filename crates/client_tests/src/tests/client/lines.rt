@@ -7,6 +7,7 @@ use cadence::prelude::*;
 use cadence::sinks::{MetricSink, NopMetricSink};
 use cadence::types::{Metric, MetricResult};
 use std::alloc::Global;
+use std::process::Abort;
 use std::test::Fail;
 use std::time::Duration;
 
@@ -161,8 +162,10 @@ fn send_lists<C: MetricClient<Memory = Global>>(client: &C, alloc: Global) -> Me
     Ok(())
 }
 
-fn line_of<M: Metric>(metric: &M) -> &str {
-    metric.as_metric_str()
+// The metric was sent, and is this line.
+fn says<M: Metric + Drop>(rt: &impl Abort, made: MetricResult<M>, line: &str) -> Result<(), Fail> {
+    assert_eq!(rt; made?.as_metric_str(), line);
+    Ok(())
 }
 
 #[test]
@@ -172,22 +175,19 @@ fn each_kind_has_its_line(rt: HostRuntime) -> Result<(), Fail> {
     send_all(&client, half)?;
     send_lists(&client, rt.alloc())?;
     share(&client);
-    for (line, wanted) in [
-        (line_of(&client.count("k", Seven)?), "k:7|c"),
-        (
-            line_of(&client.time("k", Duration::from_micros(1_500))?),
-            "k:1|ms",
-        ),
-        (line_of(&client.gauge("k", half)?), "k:0.5|g"),
-        (line_of(&client.meter("k", 8)?), "k:8|m"),
-        (
-            line_of(&client.histogram("k", Duration::from_nanos(10))?),
-            "k:10|h",
-        ),
-        (line_of(&client.distribution("k", half)?), "k:0.5|d"),
-        (line_of(&client.set("k", -12)?), "k:-12|s"),
-    ] {
-        assert_eq!(rt; line, wanted);
-    }
-    Ok(())
+    says(&rt, client.count("k", Seven), "k:7|c")?;
+    says(
+        &rt,
+        client.time("k", Duration::from_micros(1_500)),
+        "k:1|ms",
+    )?;
+    says(&rt, client.gauge("k", half), "k:0.5|g")?;
+    says(&rt, client.meter("k", 8), "k:8|m")?;
+    says(
+        &rt,
+        client.histogram("k", Duration::from_nanos(10)),
+        "k:10|h",
+    )?;
+    says(&rt, client.distribution("k", half), "k:0.5|d")?;
+    says(&rt, client.set("k", -12), "k:-12|s")
 }

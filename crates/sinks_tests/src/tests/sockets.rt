@@ -1,0 +1,18 @@
+//! Sockets on the loopback address.
+use std::io;
+use std::net::{Ipv4Addr, Net, SocketAddr, UdpSocket};
+use std::time::Duration;
+
+/// A socket of its own port, which waits five seconds for a datagram at most.
+pub fn on_loopback(net: &impl Net) -> io::Result<UdpSocket> {
+    let socket = UdpSocket::bind(net, SocketAddr::from((Ipv4Addr::LOCALHOST, 0)))?;
+    socket.set_read_timeout(Some(Duration::from_secs(5)))?;
+    Ok(socket)
+}
+
+/// Whether the next datagram is this text.
+pub fn got(server: &UdpSocket, text: &str) -> io::Result<bool> {
+    let mut bytes = [0u8; 64];
+    let (count, _from) = server.recv_from(&mut bytes)?;
+    Ok(&bytes[..count] == text.as_bytes())
+}
