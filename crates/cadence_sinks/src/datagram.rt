@@ -115,26 +115,43 @@ impl<D: Datagrams, R: Wait + Clone + Drop, A: Allocator + Clone> PackedSocket<D,
 impl<D: Datagrams, R: Wait + Drop, A: Allocator> PackedSocket<D, R, A> {
     ghost use Rattle.cadence_sinks.specs.Buffers.{buffer_of};
 
-    /// Holds the line of a metric, where need be after what is held went out, or sends it alone where it passes the
-    /// capacity. It answers the line's length, or of a line that went out alone how many bytes the socket took. An
-    /// error is the socket's, or `NothingWritten` where it took 0 bytes of held text; nothing of the line is kept
-    /// then.
-    #[inline]
-    pub fn emit(&self, metric: &str) -> Result<usize, SinkError>
-        ensures { IsBufferedAnswer D.may_give (buffer_of self.now) metric.now result }
-    {
+    /// Holds the line of a metric where it fits the free room; the sink answers its length. Else nothing has changed,
+    /// and the lock is given for `write_out`. The sink makes the answer itself, since an answer is as wide as an
+    /// `io::Error`, and a copy of it would cost more than the rest of the call.
+    pub fn hold(&self, metric: &str) -> Option<SocketLines<'_, D, R, A>> {
         // a lock that is free is taken inline
         let mut lines = match self.writer.try_lock() {
             Some(lines) => lines,
             None => self.writer.lock(&self.rt),
         };
         if hold_line(&mut lines, metric) {
-            return Ok(metric.len());
+            return None;
         }
-        write_out(lines, metric, self.capacity)
+        Some(lines)
     }
 
-    /// Sends what is held. The errors are those of `emit`; what the socket didn't take stays held.
+    /// Sends the held lines, and holds the line of a metric or sends it alone; then it lets the lock go. It answers the
+    /// line's length, or of a line that went out alone how many bytes the socket took. An error is the socket's, or
+    /// `NothingWritten` where it took 0 bytes of held text; nothing of the line is kept then.
+    #[cold]
+    #[inline(never)]
+    pub fn write_out(
+        &self,
+        mut lines: SocketLines<'_, D, R, A>,
+        metric: &str,
+    ) -> Result<usize, SinkError>
+        ensures { IsBufferedAnswer D.may_give (buffer_of self.now) metric.now result }
+    {
+        let n = write_line(&mut lines, metric)?;
+        // a line for which the capacity has room is never cut, but no clause of a lock tells its packer's capacity
+        Ok(if metric.len() < self.capacity {
+            metric.len()
+        } else {
+            n
+        })
+    }
+
+    /// Sends what is held. The errors are those of `write_out`; what the socket didn't take stays held.
     pub fn flush(&self) -> Result<(), SinkError>
         ensures { IsBufferedFlush D.may_give result }
     {
@@ -147,28 +164,8 @@ impl<D: Datagrams, R: Wait + Drop, A: Allocator> PackedSocket<D, R, A> {
     }
 }
 
-// The lock of a packed socket.
-type SocketLines<'a, D, R, A> = MutexGuard<'a, LineBuffer<SocketWriter<D, R, A>, A>>;
-
-// Sends the held lines, and holds the line of a metric or sends it alone; then it lets the lock go. It stands apart
-// from `emit`, where most lines are held: an answer is as wide as an `io::Error`. A line that the capacity has room
-// for, with its newline, is never cut; no clause of a lock says that the packer under it has this capacity.
-#[cold]
-#[inline(never)]
-fn write_out<D: Datagrams, R: Wait + Drop, A: Allocator>(
-    mut lines: SocketLines<'_, D, R, A>,
-    metric: &str,
-    capacity: usize,
-) -> Result<usize, SinkError>
-    ensures { IsBufferedAnswer D.may_give capacity metric.now result }
-{
-    let n = write_line(&mut lines, metric)?;
-    Ok(if metric.len() < capacity {
-        metric.len()
-    } else {
-        n
-    })
-}
+/// The lock of a packed socket.
+pub type SocketLines<'a, D, R, A> = MutexGuard<'a, LineBuffer<SocketWriter<D, R, A>, A>>;
 
 impl<D: Datagrams, R: Wait + Drop, A: Allocator> Drop for PackedSocket<D, R, A> {
     fn drop(self) {
