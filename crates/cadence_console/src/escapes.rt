@@ -49,7 +49,8 @@ pub fn push_text<A: Allocator>(
     label: &str,
     bytes: &[u8],
 ) -> Result<(), AllocError>
-    ensures { OnOk result (string_bytes out.new ≡ string_bytes out.old ++ shown label.now bytes.now) }
+    ensures { OnOk result
+        (string_bytes out.new ≡ string_bytes out.old ++ shown label.now bytes.now) }
 {
     let length = bytes.len();
     write!(out, "{label} {length}")?;
