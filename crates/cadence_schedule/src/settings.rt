@@ -158,24 +158,9 @@ impl<A: Allocator + Clone> ClientSettings<A> {
         Ok(lent)
     }
 
-    // The record of a call without options, with these defaults in it.
-    #[inline]
-    #[tactic(auto, using(std::proofs::lemmas::Grind::common_steps), unfolding(crate::specs::Call::metric_of_call))]
-    fn plain_record<'a>(
-        &'a self,
-        key: &'a str,
-        kind: MetricType,
-        value: MetricValue<A>,
-    ) -> Result<Record<'a, A>, AllocError>
-        ensures { IfOk result (λ metric.
-            metric ≡ metric_of_call self.now (plain_call kind key.now (numbers_of value))) }
-    {
-        let (tags, container) = (self.lent_tags()?, lend(&self.container));
-        Ok(Record::with_defaults(&self.prefix, key, kind, value, tags, container))
-    }
-
     /// The record of a call without options, with these defaults in it. Refuses with kind `OutOfMemory` alone.
     #[inline]
+    #[tactic(auto, using(std::proofs::lemmas::Grind::common_steps), unfolding(crate::specs::Call::metric_of_call))]
     pub fn record<'a>(
         &'a self,
         key: &'a str,
@@ -185,11 +170,13 @@ impl<A: Allocator + Clone> ClientSettings<A> {
         ensures { Makes (metric_of_call self.now (plain_call kind key.now (numbers_of value)))
             result }
     {
-        Ok(self.plain_record(key, kind, value)?)
+        let (tags, container) = (self.lent_tags()?, lend(&self.container));
+        Ok(Record::with_defaults(&self.prefix, key, kind, value, tags, container))
     }
 
     /// The line of a call without options, with these defaults in it. Its one refusal is want of memory, as a small
     /// error.
+    #[tactic(auto, using(std::proofs::lemmas::Grind::common_steps), unfolding(crate::specs::Call::metric_of_call))]
     pub fn line(
         &self,
         key: &str,
@@ -199,7 +186,8 @@ impl<A: Allocator + Clone> ClientSettings<A> {
         ensures { IfOk result (λ text. string_bytes text ≡
             line_of (metric_of_call self.now (plain_call kind key.now (numbers_of value)))) }
     {
-        let metric = self.plain_record(key, kind, value)?;
+        let (tags, container) = (self.lent_tags()?, lend(&self.container));
+        let metric = Record::with_defaults(&self.prefix, key, kind, value, tags, container);
         metric.line(self.tags.allocator().clone()?)
     }
 

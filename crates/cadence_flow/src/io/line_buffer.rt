@@ -87,11 +87,13 @@ impl<T: PacketWriter, A: Allocator> LineBuffer<T, A> {
     pub fn write(&mut self, line: &[u8]) -> Result<usize, SinkError>
         ensures { WritesLine T.kind T.history self.old self.new line.now result }
     {
-        if !self.fits(line) {
+        let required = line.len() + self.ending.len();
+        if required > self.capacity {
             self.flush()?;
-            if !self.fits(line) {
-                return self.inner.write_packet(line);
-            }
+            return self.inner.write_packet(line);
+        }
+        if self.capacity - self.held.len() < required {
+            self.flush()?;
         }
         self.keep(line);
         Ok(line.len())

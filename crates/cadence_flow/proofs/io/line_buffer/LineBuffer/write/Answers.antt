@@ -1,25 +1,25 @@
-use Rattle.std.proofs.Common.{◌≡◌, ◌<◌, ap, ◌∙◌, sym, subst, rules, ℕ, List, [], Ok, true}
+use Rattle.std.proofs.Common.{◌≡◌, ◌<◌, ap, ◌∙◌, sym, subst, arith, rules, ℕ, List, [], length, Ok, true}
 use Rattle.cadence_flow.specs.Frame.{is_oversize, size_of}
 use Rattle.cadence_flow.specs.Packer.{Flushes, Writes}
 use Rattle.cadence_flow.specs.Writer.{Kind, WritesPacket}
 use Rattle.cadence_flow.proofs.Oversize.{Writes-alone}
 use Rattle.cadence_flow.proofs.io.line_buffer.LineBuffer.write.Goals as goal
 
-pub returns-then-not-fits-2 : goal.returns-then-not-fits-2
-returns-then-not-fits-2 g c =
+pub returns-then-required-self : goal.returns-then-required-self
+returns-then-required-self g c =
     let kind = g.T.PacketWriter.kind in
     let history = g.T.PacketWriter.history in
     let was = c.args.self.now in
     let line = c.args.line.now in
-    let opened = c.self.view_is in
+    let opened = c.self-then-required-self.view_is in
     let flushed = c.in_ok-flush.ensures.flushes in
     let writer = ap (λ p. p.writer) opened in
-    let emptied : c.self.inside.held.items ≡ [] = ap (λ p. p.held) opened ∙ flushed.empties in
-    let same_kind : kind c.self.inside.inner ≡ kind was.writer = ap kind writer ∙ c.in_ok-flush.ensures.same_kind in
-    let passes : was.format.capacity < size_of was.format line = search rules in
+    let emptied : c.self-then-required-self.inside.held.items ≡ [] = ap (λ p. p.held) opened ∙ flushed.empties in
+    let same_kind : kind c.self-then-required-self.inside.inner ≡ kind was.writer = ap kind writer ∙ c.in_ok-flush.ensures.same_kind in
+    let passes : was.format.capacity < size_of was.format line = omega (arith, ap (λ p. p.format.capacity) c.self.view_is, ap (λ p. length p.format.ending) c.self.view_is) in
     let over : is_oversize was.format line ≡ true = search rules in
     let old = history was.writer in
-    let mid = history c.self.inside.inner in
+    let mid = history c.self-then-required-self.inside.inner in
     let new = history c.write_packet.new.self in
     let ok = c.in_ok-flush.field-0 in
     record {
