@@ -40,7 +40,8 @@ impl<'a> Words<'a> {
 
     /// The next word, where there is one. An empty word makes the line unreadable.
     pub fn next(&mut self) -> Result<Option<&'a str>, LineError>
-        ensures fewer { IfOk result (λ word. IsSome word → bytes_left self.new < bytes_left self.old) }
+        ensures fewer { IfOk result (λ word.
+            IsSome word → bytes_left self.new < bytes_left self.old) }
         ensures no_more { bytes_left self.new ≤ bytes_left self.old }
     {
         let Some(rest) = self.rest else {
