@@ -3,6 +3,7 @@
 
 mod datagrams;
 mod metrics;
+mod report;
 
 use anyhow::Result;
 use cadence::sinks::Target;
@@ -44,15 +45,5 @@ fn main(rt: HostRuntime) -> Result<()> {
     metrics::send_late(&client);
 
     datagrams::print_all(&rt, &server, queue.stats().packets_sent)?;
-    let stats = queue.stats();
-    println!(rt;
-        "sent {} bytes in {} datagrams",
-        stats.bytes_sent, stats.packets_sent
-    )?;
-    println!(rt;
-        "dropped {} bytes in {} datagrams",
-        stats.bytes_dropped, stats.packets_dropped
-    )?;
-    println!(rt; "handled errors: {}", failures.load(Ordering::SeqCst))?;
-    Ok(())
+    report::tell(&rt, queue.stats(), failures.load(Ordering::SeqCst))
 }

@@ -3,11 +3,13 @@ ghost use Rattle.std.specs.Prelude.{◌≡◌, Err, IsErr, string_bytes};
 ghost use Rattle.cadence_text.specs.Line.{line_of};
 ghost use Rattle.cadence_schedule.specs.Call.{tagged, contained, timed, rated};
 ghost use Rattle.cadence_schedule.specs.Settings.{keyed, unkeyed};
-ghost use Rattle.cadence.specs.Sending.{Chooses, ChoosesOrHolds, HasLine, MadeFrom, Sent, SentPending};
+ghost use Rattle.cadence.specs.Sending.{Chooses, ChoosesOrHolds, StandsForMore};
+ghost use Rattle.cadence.specs.Sending.{HasLine, MadeFrom, Sent, SentPending};
 
 use crate::client::backend::MetricBackend;
 use crate::client::pending;
 use crate::client::statsd_client::StatsdClient;
+use crate::laws::choosing_stands_for_more;
 use crate::metrics::{Kind, Metric, MetricText};
 use cadence_errors::{MetricError, MetricResult};
 use cadence_text::decimal::Decimal;
@@ -77,12 +79,15 @@ impl<'m, 'c, T: Metric + From<String<C::Memory>>, C: MetricBackend> MetricBuilde
     pub fn with_tag(mut self, key: &'m str, value: &'m str) -> Self
         ensures pending { ChoosesOrHolds (pending_of self.entry)
             (tagged (keyed key.now value.now)) (pending_of result) }
+        ensures call { StandsForMore (pending_of self.entry)
+            (tagged (keyed key.now value.now)) (pending_of result) }
         ensures client { backend_of result ≡ backend_of self.entry }
     {
         let tag = Tag {
             key: Some(key),
             text: value,
         };
+        choosing_stands_for_more();
         pending::add_tag(&mut self.record, tag);
         self
     }
@@ -91,12 +96,15 @@ impl<'m, 'c, T: Metric + From<String<C::Memory>>, C: MetricBackend> MetricBuilde
     pub fn with_tag_value(mut self, value: &'m str) -> Self
         ensures pending { ChoosesOrHolds (pending_of self.entry)
             (tagged (unkeyed value.now)) (pending_of result) }
+        ensures call { StandsForMore (pending_of self.entry)
+            (tagged (unkeyed value.now)) (pending_of result) }
         ensures client { backend_of result ≡ backend_of self.entry }
     {
         let tag = Tag {
             key: None,
             text: value,
         };
+        choosing_stands_for_more();
         pending::add_tag(&mut self.record, tag);
         self
     }
@@ -105,8 +113,11 @@ impl<'m, 'c, T: Metric + From<String<C::Memory>>, C: MetricBackend> MetricBuilde
     pub fn with_container_id(mut self, container_id: &'m str) -> Self
         ensures pending { Chooses (pending_of self.entry)
             (contained container_id.now) (pending_of result) }
+        ensures call { StandsForMore (pending_of self.entry)
+            (contained container_id.now) (pending_of result) }
         ensures client { backend_of result ≡ backend_of self.entry }
     {
+        choosing_stands_for_more();
         pending::set_container(&mut self.record, container_id);
         self
     }
@@ -114,8 +125,10 @@ impl<'m, 'c, T: Metric + From<String<C::Memory>>, C: MetricBackend> MetricBuilde
     /// Sets the time, in the place of an earlier one. DogStatsD reads it as seconds.
     pub fn with_timestamp(mut self, timestamp: u64) -> Self
         ensures pending { Chooses (pending_of self.entry) (timed timestamp) (pending_of result) }
+        ensures call { StandsForMore (pending_of self.entry) (timed timestamp) (pending_of result) }
         ensures client { backend_of result ≡ backend_of self.entry }
     {
+        choosing_stands_for_more();
         pending::set_time(&mut self.record, timestamp);
         self
     }
@@ -124,8 +137,10 @@ impl<'m, 'c, T: Metric + From<String<C::Memory>>, C: MetricBackend> MetricBuilde
     /// sampled here.
     pub fn with_sampling_rate(mut self, rate: Decimal) -> Self
         ensures pending { Chooses (pending_of self.entry) (rated rate) (pending_of result) }
+        ensures call { StandsForMore (pending_of self.entry) (rated rate) (pending_of result) }
         ensures client { backend_of result ≡ backend_of self.entry }
     {
+        choosing_stands_for_more();
         pending::set_rate(&mut self.record, rate);
         self
     }

@@ -77,10 +77,7 @@ impl<R: Wait + Drop, A: Allocator> MetricSink for BufferedUdpMetricSink<R, A> {
     ghost may_flush = { λ _ answer. IsBufferedFlush is_io answer };
 
     fn emit(&self, metric: &str) -> Result<usize, SinkError> {
-        match self.socket.hold(metric) {
-            None => Ok(metric.len()),
-            Some(lines) => self.socket.write_out(lines, metric),
-        }
+        self.socket.emit(metric)
     }
 
     fn flush(&self) -> Result<(), SinkError> {
