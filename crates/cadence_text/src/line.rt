@@ -6,7 +6,7 @@ mod sink;
 mod tag;
 mod window;
 
-pub use record::Record;
+pub use record::{OwnedMetric, Record};
 use std::fmt;
 pub use tag::Tag;
 

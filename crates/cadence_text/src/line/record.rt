@@ -1,4 +1,5 @@
 //! A metric before it is text.
+mod owned;
 mod same;
 
 use crate::decimal::Decimal;
@@ -8,6 +9,7 @@ use crate::line::sink::LineSink;
 use crate::line::tag::Tag;
 use crate::value::MetricValue;
 use cadence_errors::MetricResult;
+pub use owned::OwnedMetric;
 use std::alloc::{AllocError, Allocator, Global};
 use std::marker::Model;
 
