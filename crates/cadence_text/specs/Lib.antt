@@ -9,3 +9,4 @@ pub mod OneReading
 pub mod Record
 pub mod Sink
 pub mod Owned
+pub mod Said
