@@ -112,8 +112,8 @@ module _ {W A : Type 0} (kind_of : W → Kind) (history_of : W → History) (set
           run_sums (kind_of writer) (kind_of run.packer.writer.inner) before (history_of run.packer.writer.inner) run.packer.writer.stats
           (same_kind ∙ kind_is) tells (after.text tells).extends bytes packets;
       earlier = λ tells. (after.text tells).extends;
-      one_reading = λ whole newline readable.
-          reads capacity (marks lines turns) (refusals lines turns) run.plan.items (kept (metric_of_data settings) turns) (packets_between before ended.writer) run.packer.held readable
+      one_reading = λ whole newline free.
+          reads capacity (marks lines turns) (refusals lines turns) run.plan.items (kept (metric_of_data settings) turns) (packets_between before ended.writer) run.packer.held free
           (subst (λ e. ArePacketsOf record { capacity = capacity; ending = e } (marks lines turns) (refusals lines turns) (map line_of (kept (metric_of_data settings) turns)) run.plan.items (packets_between before ended.writer) run.packer.held) newline
           (subst (λ ls. ArePacketsOf format (marks lines turns) (refusals lines turns) ls run.plan.items (packets_between before ended.writer) run.packer.held) (kept_mapped line_of (metric_of_data settings) turns)
           (run_cut lines filled kind format queue before turns ended after whole.0 whole.1)));

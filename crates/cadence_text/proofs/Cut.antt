@@ -79,6 +79,10 @@ pub each_mapped : {X Y : Type 0} (f : X → Y) (P : X → Type 0) (Q : Y → Typ
 each_mapped f P Q gives [] h = tt
 each_mapped f P Q gives (x ∷ xs) (h, hs) = (gives x h, each_mapped f P Q gives xs hs)
 
+pub each_image : {X Y : Type 0} (f : X → Y) (Q : Y → Type 0) → ((x : X) → Q (f x)) → (xs : List X) → AllByRecursion Q (map f xs)
+each_image f Q gives [] = tt
+each_image f Q gives (x ∷ xs) = (gives x, each_image f Q gives xs)
+
 pub each_append : {X : Type 0} (P : X → Type 0) (xs ys : List X) → AllByRecursion P xs → AllByRecursion P ys → AllByRecursion P (xs ++ ys)
 each_append P [] ys hx hy = hy
 each_append P (x ∷ xs) ys (h, hx) hy = (h, each_append P xs ys hx hy)

@@ -2,36 +2,33 @@
 use Rattle.std.proofs.Common.{ℕ, zero, suc, ◌+◌, ◌*◌, ◌/◌, ◌^◌, ◌<◌, ◌≤◌, ℤ, pos, negsuc, List, [], ◌∷◌, ◌++◌, length, Option, Some, None, ap, arith, unsigned_abs, lit<}
 use Rattle.std.specs.Prelude.{IfSome}
 use Rattle.std.specs.List.{AllByRecursion, flat_map}
-use Rattle.std.specs.Fmt.{decimal}
 use Rattle.std.proofs.lemmas.List.{length-append}
-use Rattle.std.proofs.lemmas.List.Elements.{All-weaker, recursion_from_All}
-use Rattle.std.proofs.lemmas.Fmt.{length-decimal-le_wide}
+use Rattle.std.proofs.lemmas.List.Elements.{recursion_from_All}
 use Rattle.std.proofs.Math.Nat.{div-le_self}
 use Rattle.cadence_text.specs.declared.line.MetricType.{MetricType}
 use Rattle.cadence_text.specs.declared.line.MetricType.TheVariants.{Counter, Timer, Gauge, Meter, Histogram, Set, Distribution}
-use Rattle.cadence_text.specs.Number.{Number, number_text, places_text}
+use Rattle.cadence_text.specs.Number.{Number, decimal_text, number_text, places_text}
 use Rattle.cadence_text.specs.Metric.{Metric, Tag}
 use Rattle.cadence_text.specs.Line.{separated, numbers_text, kind_text, rate_field, key_text, tag_text, tags_field, container_field, time_field, line_of}
 use Rattle.cadence_text.specs.RecordMetric.{IsRecordNumber, IsRecordTag, IsRecordMetric, IsRecordTime, FitsMemory, AreRecordNumbers, AreRecordTags}
-use Rattle.cadence_text.specs.OneReading.{HasWidth, HasWidths}
 use Rattle.cadence_text.proofs.Cut.{each_weaker}
-use Rattle.cadence_text.proofs.NumberText.{sign, unsigned_text, sign-pos, places_text-suc, length-places_of, fits_wide, quotient_below}
+use Rattle.cadence_text.proofs.Digits.{length-decimal_text-le}
+use Rattle.cadence_text.proofs.NumberText.{sign, unsigned_text, sign-pos, places_text-suc, length-places_of}
 
 sign_short : (z : ℤ) → length (sign z) ≤ 1
 sign_short (pos n) = omega (arith, ap (λ t. length t) (sign-pos n))
 sign_short (negsuc n) = omega arith
 
-places_short : (n p : ℕ) → n < 10 ^ 64 → length (places_text n p) ≤ p + 1
-places_short n zero h = omega arith
-places_short n (suc p) h = omega (arith, ap (λ t. length t) (places_text-suc n p), length-places_of n p h)
+places_short : (n p : ℕ) → length (places_text n p) ≤ p + 1
+places_short n zero = omega arith
+places_short n (suc p) = omega (arith, ap (λ t. length t) (places_text-suc n p), length-places_of n p)
 
 number_short : (a : Number) → IsRecordNumber a → length (number_text a) ≤ 71
 number_short a h =
     let n = unsigned_abs a.mantissa in
-    let wide : n < 10 ^ 64 = fits_wide a.mantissa h.mantissa in
     let low : n / 10 ^ a.places < 10 ^ 39 = omega (arith, div-le_self n (10 ^ a.places), h.mantissa) in
-    let whole : length (decimal (n / 10 ^ a.places)) ≤ 39 = length-decimal-le_wide 39 (n / 10 ^ a.places) (lit< tt) low (quotient_below n a.places wide) in
-    omega (arith, sign_short a.mantissa, whole, places_short n a.places wide, h.places, length-append (sign a.mantissa) (unsigned_text n a.places), length-append (decimal (n / 10 ^ a.places)) (places_text n a.places))
+    let whole : length (decimal_text (n / 10 ^ a.places)) ≤ 39 = length-decimal_text-le 39 (n / 10 ^ a.places) (lit< tt) low in
+    omega (arith, sign_short a.mantissa, whole, places_short n a.places, h.places, length-append (sign a.mantissa) (unsigned_text n a.places), length-append (decimal_text (n / 10 ^ a.places)) (places_text n a.places))
 
 rate_short : (o : Option Number) → IfSome o IsRecordNumber → length (rate_field o) ≤ 73
 rate_short (Some r) h = omega (arith, number_short r h)
@@ -68,7 +65,7 @@ container_short (Some c) h = omega (arith, h)
 container_short None h = omega arith
 
 time_short : (o : Option ℕ) → IsRecordTime o → length (time_field o) ≤ 22
-time_short (Some t) h = let digits : length (decimal t) ≤ 20 = length-decimal-le_wide 20 t (lit< tt) (omega (arith, h)) (omega (arith, h)) in omega arith
+time_short (Some t) h = let digits : length (decimal_text t) ≤ 20 = length-decimal_text-le 20 t (lit< tt) (omega (arith, h)) in omega arith
 time_short None h = omega arith
 
 kind_short : (k : MetricType) → length (kind_text k) ≤ 2
@@ -104,15 +101,3 @@ line_is_short m h =
       length-append (tags_field m.tags) last,
       length-append (container_field m.container) (time_field m.time),
     )
-
--- what a record means has numbers and a time of these widths
-pub record_widths : (m : Metric) → IsRecordMetric m → HasWidths m
-record_widths m h = record {
-  numbers = All-weaker IsRecordNumber HasWidth (λ n p. p.mantissa) m.numbers h.numbers.each;
-  rate = rate_width m.rate h.rate;
-  time = h.time;
-}
-  where
-    rate_width : (o : Option Number) → IfSome o IsRecordNumber → IfSome o HasWidth
-    rate_width (Some r) h = h.mantissa
-    rate_width None h = tt

@@ -1,23 +1,13 @@
--- The text of a list of numbers.
-use Rattle.std.proofs.Common.{◌≡◌, ℕ, ℤ, pos, negsuc, List, [], ◌∷◌, ◌++◌, map, codes, refl, arith}
+-- The text of a whole number.
+use Rattle.std.proofs.Common.{◌≡◌, ℕ, suc, ◌<◌, ◌^◌, ℤ, pos, negsuc, unsigned_abs, arith}
 use Rattle.std.proofs.lemmas.Grind.{common_steps}
 use Rattle.std.specs.Fmt.{decimal, signed_decimal}
-use Rattle.std.specs.List.{flat_map}
-use Rattle.cadence_text.specs.Number.{Number, number_text, whole, natural}
-use Rattle.cadence_text.specs.Line.{numbers_text, separated}
+use Rattle.cadence_text.specs.Number.{decimal_text, number_text, whole, natural}
+use Rattle.cadence_text.proofs.Digits.{decimal_text_is}
 
-pub whole_text : (n : ℤ) → number_text (whole n) ≡ signed_decimal n
-whole_text (pos n) = grind (arith, common_steps)
-whole_text (negsuc n) = grind (arith, common_steps)
+pub whole_text : (n : ℤ) → unsigned_abs n < 10 ^ 64 → number_text (whole n) ≡ signed_decimal n
+whole_text (pos n) fits = let same : decimal n ≡ decimal_text n = decimal_text_is n (omega arith) in rw same (grind (arith, common_steps))
+whole_text (negsuc n) fits = let same : decimal (suc n) ≡ decimal_text (suc n) = decimal_text_is (suc n) (omega arith) in rw same (grind (arith, common_steps))
 
-pub natural_text : (n : ℕ) → number_text (natural n) ≡ decimal n
-natural_text n = whole_text (pos n)
-
-more : {X : Type 0} (number : X → Number) (text : X → List ℕ) → ((x : X) → number_text (number x) ≡ text x) → (xs : List X) → flat_map (λ n. codes ":" ++ number_text n) (map number xs) ≡ flat_map (λ x. codes ":" ++ text x) xs
-more number text same [] = refl
-more number text same (x ∷ xs) = rw (same x, more number text same xs)
-
--- the text of numbers that stand for other values, each with a text of its own
-pub numbers_text-map : {X : Type 0} (number : X → Number) (text : X → List ℕ) → ((x : X) → number_text (number x) ≡ text x) → (xs : List X) → numbers_text (map number xs) ≡ separated (codes ":") text xs
-numbers_text-map number text same [] = refl
-numbers_text-map number text same (x ∷ xs) = rw (same x, more number text same xs)
+pub natural_text : (n : ℕ) → n < 10 ^ 64 → number_text (natural n) ≡ decimal n
+natural_text n fits = whole_text (pos n) (omega arith)

@@ -1,9 +1,8 @@
 //! The pieces of a line, in order.
 ghost use Rattle.std.specs.Prelude.{◌≡◌, ◌++◌, ◌/◌, ◌%◌, ◌^◌, ◌<◌, ◌≤◌, ◌==◌, if◌then◌else◌, [], IfSome, OnOk, codes, map, replicate};
-ghost use Rattle.std.specs.Fmt.{decimal};
 ghost use Rattle.std.specs.Option.{option_copied};
 ghost use Rattle.cadence_text.specs.Line.{container_field, kind_text, numbers_text, rate_field, tag_text, tags_field, time_field};
-ghost use Rattle.cadence_text.specs.Number.{Number, filled_to, number_text, places_text};
+ghost use Rattle.cadence_text.specs.Number.{Number, decimal_text, filled_to, number_text, places_text};
 ghost use Rattle.cadence_text.specs.Values.{numbers_of};
 ghost use Rattle.cadence_text.specs.Record.{tag_of};
 ghost use Rattle.cadence_text.specs.RecordMetric.{AreRecordNumbers, AreRecordTags, FitsMemory, IsRecordNumber, IsRecordTag, IsRecordTime};
@@ -76,6 +75,7 @@ pub(crate) fn push_container<S: LineSink>(
     Ok(())
 }
 
+#[tactic(auto, using(crate::proofs::Digits::decimal_text_is))]
 pub(crate) fn push_time<S: LineSink>(line: &mut S, time: Option<u64>) -> Result<(), S::Refusal>
     ensures taken { OnOk result (Takes S.ends_as line.old (time_field time) line.new) }
     ensures sized { OnOk result (IsRecordTime time) }
@@ -142,10 +142,11 @@ fn power_of_ten(places: u8) -> u64
 }
 
 // A magnitude over 10 to the power of `places`. Most of them fit 64 bits, which are faster.
+#[tactic(auto, using(crate::proofs::Digits::decimal_text_is))]
 fn push_magnitude<S: LineSink>(line: &mut S, magnitude: u128, places: u8) -> Result<(), S::Refusal>
     requires { places ≤ 30 }
     ensures { OnOk result (Takes S.ends_as line.old
-        (decimal (magnitude / 10 ^ places) ++ places_text magnitude places) line.new) }
+        (decimal_text (magnitude / 10 ^ places) ++ places_text magnitude places) line.new) }
 {
     if places <= 19 {
         if let Ok(small) = u64::try_from(magnitude) {

@@ -47,7 +47,6 @@ impl<'a, A: Allocator> Record<'a, A> {
     ghost use Rattle.cadence_text.specs.Line.{line_of};
     ghost use Rattle.cadence_text.specs.Metric.{Metric, plain_metric, with_tag};
     ghost use Rattle.cadence_text.specs.Record.{tag_of};
-    ghost use Rattle.cadence_text.specs.OneReading.{HasWidths};
     ghost use Rattle.cadence_text.specs.RecordMetric.{IsRecordMetric};
     ghost use Rattle.cadence_text.specs.Sink.{Takes};
     ghost use Rattle.cadence_text.specs.Values.{numbers_of};
@@ -153,7 +152,6 @@ impl<'a, A: Allocator> Record<'a, A> {
     pub fn format<B: Allocator>(&self, alloc: B) -> MetricResult<String<B>>
         ensures line { IfOk result (λ line. string_bytes line ≡ line_of self.now) }
         ensures refused { IfErr result (λ e. e ≡ out_of_memory) }
-        ensures widths { OnOk result (HasWidths self.now) }
         ensures not_empty { 0 < length (line_of self.now) }
     {
         let line = self.line(alloc)?;
@@ -161,10 +159,9 @@ impl<'a, A: Allocator> Record<'a, A> {
     }
 
     /// The line as `format` makes it. Its one refusal is want of memory, as a small error.
-    #[tactic(auto, using(crate::proofs::LineText::line_is_not_empty, crate::proofs::LineLength::record_widths))]
+    #[tactic(auto, using(crate::proofs::LineText::line_is_not_empty))]
     pub fn line<B: Allocator>(&self, alloc: B) -> Result<String<B>, AllocError>
         ensures line { IfOk result (λ line. string_bytes line ≡ line_of self.now) }
-        ensures widths { OnOk result (HasWidths self.now) }
         ensures not_empty { 0 < length (line_of self.now) }
     {
         let mut text = String::with_capacity(alloc, self.size_hint())?;
