@@ -11,40 +11,40 @@ use Rattle.cadence_text.specs.Number.{Number, decimal_text, number_text}
 use Rattle.cadence_text.specs.Metric.{Metric, Tag}
 use Rattle.cadence_text.specs.Line.{separated, numbers_text, kind_text, rate_field, key_text, tag_text, tags_field, container_field, time_field, line_of}
 use Rattle.cadence_text.specs.OneReading.{IsNoSeparator, IsFreeText, IsFreeTag, IsFreeOfSeparators, lines_of, IsPacketOf}
-use Rattle.cadence_text.proofs.Cut.{Lacks, cut_at, join_once, map_once, each_weaker, each_mapped, each_image, each_append, each_joined, cut_once, Stops, Passes}
+use Rattle.cadence_text.proofs.Cut.{Lacks, lacks_no, cut_at, join_once, map_once, each_weaker, each_mapped, each_image, each_append, each_joined, cut_once, Stops, Passes}
 use Rattle.cadence_text.proofs.Digits.{decimal_text_once}
 use Rattle.cadence_text.proofs.NumberText.{number_once, number_bytes, IsNumberByte, number_some, decimal_bytes}
 
 -- texts with a byte between each two are the texts joined by it
-separated-joined : {X : Type 0} (c : ℕ) (text : X → List ℕ) (xs : List X) → separated (c ∷ []) text xs ≡ join_with_byte c (map text xs)
+pub separated-joined : {X : Type 0} (c : ℕ) (text : X → List ℕ) (xs : List X) → separated (c ∷ []) text xs ≡ join_with_byte c (map text xs)
 separated-joined c text [] = refl
 separated-joined c text (x ∷ []) = append-nil (text x)
 separated-joined c text (x ∷ y ∷ xs) = ap (λ t. text x ++ (c ∷ t)) (separated-joined c text (y ∷ xs))
 
 -- the fields between the bars
-abbrev rate_part : Option Number → List (List ℕ)
+abbrev pub rate_part : Option Number → List (List ℕ)
 rate_part (Some rate) = (64 ∷ number_text rate) ∷ []
 rate_part None = []
 
-abbrev tags_part : List Tag → List (List ℕ)
+abbrev pub tags_part : List Tag → List (List ℕ)
 tags_part [] = []
 tags_part (tag ∷ tags) = (35 ∷ join_with_byte 44 (map tag_text (tag ∷ tags))) ∷ []
 
-abbrev container_part : Option (List ℕ) → List (List ℕ)
+abbrev pub container_part : Option (List ℕ) → List (List ℕ)
 container_part (Some container) = (99 ∷ 58 ∷ container) ∷ []
 container_part None = []
 
-abbrev time_part : Option ℕ → List (List ℕ)
+abbrev pub time_part : Option ℕ → List (List ℕ)
 time_part (Some time) = (84 ∷ decimal_text time) ∷ []
 time_part None = []
 
-abbrev front_of : Metric → List ℕ
+abbrev pub front_of : Metric → List ℕ
 front_of m = m.name ++ 58 ∷ join_with_byte 58 (map number_text m.numbers)
 
-abbrev last_of : Metric → List (List ℕ)
+abbrev pub last_of : Metric → List (List ℕ)
 last_of m = rate_part m.rate ++ (tags_part m.tags ++ (container_part m.container ++ time_part m.time))
 
-abbrev parts_of : Metric → List (List ℕ)
+abbrev pub parts_of : Metric → List (List ℕ)
 parts_of m = front_of m ∷ kind_text m.kind ∷ last_of m
 
 -- each part after a bar
@@ -80,7 +80,7 @@ barred-last m =
     ∙ ap₂ (λ s t. s ++ t) (barred-container m.container) (barred-time m.time)))
 
 -- a line is its fields with bars between them
-line_of-joined : (m : Metric) → line_of m ≡ join_with_byte 124 (parts_of m)
+pub line_of-joined : (m : Metric) → line_of m ≡ join_with_byte 124 (parts_of m)
 unfolding line_of
 line_of-joined m =
     let numbers : numbers_text m.numbers ≡ join_with_byte 58 (map number_text m.numbers) = separated-joined 58 number_text m.numbers in
@@ -95,7 +95,7 @@ PartByte b = (b ≢ 124) × (b ≢ 10)
 plain : (text : List ℕ) → IsFreeText text → AllByRecursion IsNoSeparator text
 plain text h = recursion_from_All IsNoSeparator text h
 
-plain_lacks_colon : (text : List ℕ) → IsFreeText text → Lacks 58 text
+pub plain_lacks_colon : (text : List ℕ) → IsFreeText text → Lacks 58 text
 plain_lacks_colon text h = each_weaker IsNoSeparator (λ b. b ≢ 58) (λ b p. p.0) text (plain text h)
 
 plain_part : (text : List ℕ) → IsFreeText text → AllByRecursion PartByte text
@@ -105,11 +105,11 @@ number_plain : (a : Number) → AllByRecursion IsNoSeparator (number_text a)
 number_plain a = each_weaker IsNumberByte IsNoSeparator (λ b p. let (low, high) = p in (λ e. absurd (omega arith), λ e. absurd (omega arith), λ e. absurd (omega arith), λ e. absurd (omega arith))) (number_text a) (number_bytes a)
 
 -- `key:text`, or the text alone
-abbrev keyed_text : Option (List ℕ) → List ℕ → List ℕ
+abbrev pub keyed_text : Option (List ℕ) → List ℕ → List ℕ
 keyed_text (Some key) text = key ++ 58 ∷ text
 keyed_text None text = text
 
-key_text-keyed : (k : Option (List ℕ)) (s : List ℕ) → key_text k ++ s ≡ keyed_text k s
+pub key_text-keyed : (k : Option (List ℕ)) (s : List ℕ) → key_text k ++ s ≡ keyed_text k s
 key_text-keyed (Some k) s = append_assoc k (58 ∷ []) s
 key_text-keyed None s = refl
 
@@ -158,7 +158,7 @@ joined_some c x [] some e = absurd (omega (arith, ap (λ t. length t) e))
 joined_some c x (y ∷ xs) some e = absurd (omega (arith, ap (λ t. length t) e, length-append x (c ∷ join_with_byte c (y ∷ xs))))
 
 -- numbers joined by colons
-number_lacks : (a : Number) → Lacks 58 (number_text a)
+pub number_lacks : (a : Number) → Lacks 58 (number_text a)
 number_lacks a = each_weaker IsNoSeparator (λ b. b ≢ 58) (λ b p. p.0) (number_text a) (number_plain a)
 
 numbers_alike : (xs ys : List Number) → map number_text xs ≡ map number_text ys → xs ≡ ys
@@ -182,7 +182,7 @@ numbers_once (x ∷ xs) (y ∷ ys) e =
     (each_image number_text (Lacks 58) number_lacks (x ∷ xs)) (each_image number_text (Lacks 58) number_lacks (y ∷ ys)) e)
 
 -- the parts that may be missing, each known by its first byte
-abbrev marked : ℕ → List ℕ → Bool
+abbrev pub marked : ℕ → List ℕ → Bool
 marked m part = eqb (get_or part 0 0) m
 
 passes_rate : (o : Option Number) → Passes (marked 64) (rate_part o)
@@ -218,7 +218,7 @@ rate_once (Some a) None e = absurd cc
 rate_once None (Some b) e = absurd cc
 rate_once None None e = refl
 
-tag_lacks : (a : Tag) → IsFreeTag a → Lacks 44 (tag_text a)
+pub tag_lacks : (a : Tag) → IsFreeTag a → Lacks 44 (tag_text a)
 tag_lacks a h = each_weaker TagByte (λ b. b ≢ 44) (λ b p. p.0) (tag_text a) (tag_bytes a h)
 
 tags_once : (xs ys : List Tag) → AllByRecursion IsFreeTag xs → AllByRecursion IsFreeTag ys → tags_part xs ≡ tags_part ys → xs ≡ ys
@@ -297,7 +297,7 @@ parts_bytes m h = (
   ),
 )
 
-lacks_bars : (m : Metric) → IsFreeOfSeparators m → AllByRecursion (Lacks 124) (parts_of m)
+pub lacks_bars : (m : Metric) → IsFreeOfSeparators m → AllByRecursion (Lacks 124) (parts_of m)
 lacks_bars m h = each_weaker (AllByRecursion PartByte) (Lacks 124) (λ part p. each_weaker PartByte (λ b. b ≢ 124) (λ b q. q.0) part p) (parts_of m) (parts_bytes m h)
 
 pub line_once : (a b : Metric) → IsFreeOfSeparators a → IsFreeOfSeparators b → line_of a ≡ line_of b → a ≡ b
@@ -329,7 +329,7 @@ line_some : (m : Metric) → line_of m ≡ [] → ⊥
 line_some m e = absurd (omega (arith, ap (λ t. length t) e, line_is_not_empty m))
 
 -- a line has no newline
-line_lacks : (m : Metric) → IsFreeOfSeparators m → Lacks 10 (line_of m)
+pub line_lacks : (m : Metric) → IsFreeOfSeparators m → Lacks 10 (line_of m)
 line_lacks m h =
     subst (λ t. Lacks 10 t) (sym (line_of-joined m)) (each_joined (λ b. b ≢ 10) 124 (λ e. absurd (omega arith)) (parts_of m) (each_weaker (AllByRecursion PartByte) (Lacks 10) (λ part p. each_weaker PartByte (λ b. b ≢ 10) (λ b q. q.1) part p) (parts_of m) (parts_bytes m h)))
 
@@ -349,10 +349,6 @@ lines_once (x ∷ xs) (y ∷ ys) (hx, hxs) (hy, hys) e =
 not_alone : (xs : List Metric) (y : Metric) → IsFreeOfSeparators y → lines_of xs ≡ line_of y → ⊥
 not_alone [] y hy e = line_some y (sym e)
 not_alone (x ∷ xs) y hy e = lacks_no 10 (line_of x) (lines_of xs) (subst (λ t. Lacks 10 t) (sym e ∙ append_assoc (line_of x) (10 ∷ []) (lines_of xs)) (line_lacks y hy))
-  where
-    lacks_no : (c : ℕ) (s t : List ℕ) → Lacks c (s ++ (c ∷ t)) → ⊥
-    lacks_no c [] t h = h.0 refl
-    lacks_no c (a ∷ s) t h = lacks_no c s t h.1
 
 pub packet_once : (xs ys : List Metric) (packet : List ℕ) → All IsFreeOfSeparators xs → All IsFreeOfSeparators ys → IsPacketOf xs packet → IsPacketOf ys packet → xs ≡ ys
 packet_once xs ys packet hx hy (inl e) (inl f) = lines_once xs ys (recursion_from_All IsFreeOfSeparators xs hx) (recursion_from_All IsFreeOfSeparators ys hy) (sym e ∙ f)

@@ -19,11 +19,11 @@ digits_value-zeros : (k : ℕ) (ds : List ℕ) → digits_value 10 (replicate k 
 digits_value-zeros zero ds = refl
 digits_value-zeros (suc k) ds = digits_value-zeros k ds
 
-digits_zeros : (k : ℕ) (ds : List ℕ) → AllDigits 10 ds → AllDigits 10 (replicate k 48 ++ ds)
+pub digits_zeros : (k : ℕ) (ds : List ℕ) → AllDigits 10 ds → AllDigits 10 (replicate k 48 ++ ds)
 digits_zeros zero ds h = h
 digits_zeros (suc k) ds h = (lit< tt, digits_zeros k ds h)
 
-numeral : (n : ℕ) → IsNumeral 10 (decimal_text n)
+pub numeral : (n : ℕ) → IsNumeral 10 (decimal_text n)
 numeral n = (text_numeral n).0
 
 -- the digits after the dot
@@ -36,7 +36,7 @@ length-places_of n p =
     let short : length (decimal_text r) ≤ suc p = length-decimal_text-le (suc p) r (omega arith) (mod-lt n (ten_to_pos (suc p))) in
     omega (arith, length-append (replicate (suc p - length (decimal_text r)) 48) (decimal_text r), length-replicate {A = ℕ} (suc p - length (decimal_text r)) 48)
 
-places_value : (n p : ℕ) → digits_value 10 (places_of n p) ≡ n % 10 ^ p
+pub places_value : (n p : ℕ) → digits_value 10 (places_of n p) ≡ n % 10 ^ p
 places_value n p =
     digits_value-zeros (p - length (decimal_text (n % 10 ^ p))) (decimal_text (n % 10 ^ p)) ∙ (text_numeral (n % 10 ^ p)).1
 
@@ -65,7 +65,7 @@ places_once m n (suc p) (suc q) e =
 abbrev pub unsigned_text : ℕ → ℕ → List ℕ
 unsigned_text n p = decimal_text (n / 10 ^ p) ++ places_text n p
 
-unsigned_once : (m n p q : ℕ) → unsigned_text m p ≡ unsigned_text n q → (m ≡ n) × (p ≡ q)
+pub unsigned_once : (m n p q : ℕ) → unsigned_text m p ≡ unsigned_text n q → (m ≡ n) × (p ≡ q)
 unsigned_once m n p q e =
     let (whole, rest) = cut_once (λ b. ltb 47 b) (decimal_text (m / 10 ^ p)) (decimal_text (n / 10 ^ q)) (places_text m p) (places_text n q) (passes_digits (decimal_text (m / 10 ^ p)) (numeral (m / 10 ^ p)).1) (passes_digits (decimal_text (n / 10 ^ q)) (numeral (n / 10 ^ q)).1) (stops_places m p) (stops_places n q) e in
     let (places, rests) = places_once m n p q rest in
@@ -83,7 +83,7 @@ sign-pos n = grind (arith, common_steps)
 after_sign : (n p : ℕ) → unsigned_text n p ≡ sign (pos n) ++ unsigned_text n p
 after_sign n p = ap (λ t. t ++ unsigned_text n p) (sym (sign-pos n))
 
-no_minus : (ds t u : List ℕ) → IsNumeral 10 ds → ds ++ t ≡ 45 ∷ u → ⊥
+pub no_minus : (ds t u : List ℕ) → IsNumeral 10 ds → ds ++ t ≡ 45 ∷ u → ⊥
 no_minus [] t u (some, digits) e = absurd (omega arith)
 no_minus (d ∷ ds) t u (some, (digit, digits)) e = let h : d ≡ 45 = cc in absurd (omega (arith, (digit_from_value d digit).0))
 
