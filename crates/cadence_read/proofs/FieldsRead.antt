@@ -3,21 +3,21 @@ use Rattle.std.proofs.Common.{◌≡◌, ◌≢◌, ℕ, ◌<◌, ◌^◌, List,
 use Rattle.std.specs.Prelude.{All, IfSome}
 use Rattle.std.specs.List.{join_with_byte}
 use Rattle.std.specs.Option.{option_map}
-use Rattle.std.specs.Fmt.{decimal}
 use Rattle.std.proofs.lemmas.List.Elements.{recursion_from_All}
 use Rattle.std.proofs.lemmas.List.Splits.{join_with_byte-slice_split, length-slice_split}
-use Rattle.cadence_text.specs.declared.read.ReadFault.{ReadFault}
-use Rattle.cadence_text.specs.declared.read.ReadFault.TheVariants.{NotMetrics, OutOfMemory}
+use Rattle.cadence_text.specs.Line.{numbers_text, separated, tag_text}
 use Rattle.cadence_text.specs.Metric.{Tag}
-use Rattle.cadence_text.specs.Line.{separated, tag_text}
-use Rattle.cadence_text.specs.LineTexts.{tags_text}
-use Rattle.cadence_text.specs.Listed.{FailsAs, ReadsOrFails, IsListedTag, IsText}
-use Rattle.cadence_text.proofs.Cut.{Lacks, cut_at, each_mapped}
-use Rattle.cadence_text.proofs.LineText.{separated-joined, keyed_text, key_text-keyed, plain_lacks_colon, tag_lacks}
-use Rattle.cadence_text.proofs.NumberText.{decimal_once}
-use Rattle.cadence_text.proofs.NumberRead.{lacks_no}
-use Rattle.cadence_text.proofs.LineParts.{free_tag}
-use Rattle.cadence_text.proofs.Pieces.{pieces, pieces-joined, refused_at}
+use Rattle.cadence_text.specs.Number.{Number, decimal_text, number_text}
+use Rattle.cadence_text.proofs.Cut.{Lacks, lacks_no, cut_at, each_image, each_mapped}
+use Rattle.cadence_text.proofs.Digits.{decimal_text_once}
+use Rattle.cadence_text.proofs.LineText.{separated-joined, keyed_text, key_text-keyed, plain_lacks_colon, number_lacks, tag_lacks}
+use Rattle.cadence_read.specs.declared.fault.ReadFault.{ReadFault}
+use Rattle.cadence_read.specs.declared.fault.ReadFault.TheVariants.{NotMetrics, OutOfMemory}
+use Rattle.cadence_read.specs.LineTexts.{tags_text}
+use Rattle.cadence_read.specs.Listed.{IsListedTag, IsText}
+use Rattle.cadence_read.specs.Reads.{FailsAs, ReadsOrFails}
+use Rattle.cadence_read.proofs.LineParts.{free_tag}
+use Rattle.cadence_read.proofs.Pieces.{pieces, pieces-joined, refused_at}
 
 -- where a good whole has a good part, a part that fails fails the whole
 pub fails_on : {Y Z S T : Type 0} (e : ReadFault) (Good : Y → Type 0) (shown : Y → S) (s : S) (Whole : Z → Type 0) (seen : Z → T) (t : T) → ((z : Z) → Whole z → seen z ≡ t → (y : Y) × Good y × (shown y ≡ s)) → FailsAs Good shown s e → FailsAs Whole seen t e
@@ -39,13 +39,23 @@ tag_cut tag key text whole good plain cut e = by_key tag.key tag.text good.key g
     by_key None s hk hs e = absurd (lacks_no 58 key text (subst (Lacks 58) e (plain_lacks_colon s hs.0)))
 
 -- a number of seconds past 64 bits is of no time
-pub time_refused : (text : Option (List ℕ)) (bytes : List ℕ) (time : ℕ) → text ≡ Some bytes → time < 2 ^ 128 → decimal time ≡ bytes → (time < 2 ^ 64 → ⊥) → (o : Option ℕ) → IfSome o (λ t. t < 2 ^ 64) → option_map decimal o ≡ text → ⊥
-time_refused text bytes time some fits shown wide (Some t) small e =
-    let both : Some (decimal t) ≡ Some bytes = e ∙ some in
-    let digits : decimal t ≡ bytes = cc both in
-    wide (omega (arith, small, decimal_once t time (omega (arith, small)) (omega (arith, fits)) (digits ∙ sym shown)))
-time_refused text bytes time some fits shown wide None small e = let both : None ≡ Some bytes = e ∙ some in absurd cc
+pub time_refused : (text : Option (List ℕ)) (bytes : List ℕ) (time : ℕ) → text ≡ Some bytes → decimal_text time ≡ bytes → (time < 2 ^ 64 → ⊥) → (o : Option ℕ) → IfSome o (λ t. t < 2 ^ 64) → option_map decimal_text o ≡ text → ⊥
+time_refused text bytes time some shown wide (Some t) small e =
+    let both : Some (decimal_text t) ≡ Some bytes = e ∙ some in
+    let digits : decimal_text t ≡ bytes = cc both in
+    wide (omega (arith, small, decimal_text_once t time (digits ∙ sym shown)))
+time_refused text bytes time some shown wide None small e = let both : None ≡ Some bytes = e ∙ some in absurd cc
 
+-- numbers with colons between them, and their pieces
+pub numbers_pieces : (ns : List Number) (text : List ℕ) → 0 < length text → numbers_text ns ≡ text → map number_text ns ≡ pieces 58 text
+numbers_pieces [] text some e = absurd (omega (arith, ap (λ t. length t) e))
+numbers_pieces (n ∷ ns) text some e =
+    sym (pieces-joined 58 (number_text n) (map number_text ns) (each_image number_text (Lacks 58) number_lacks (n ∷ ns))) ∙ ap (pieces 58) (sym (separated-joined 58 number_text (n ∷ ns)) ∙ e)
+
+pub numbers_found : (ns : List Number) (text : List ℕ) → map number_text ns ≡ pieces 58 text → numbers_text ns ≡ text
+numbers_found ns text e = separated-joined 58 number_text ns ∙ ap (join_with_byte 58) e ∙ join_with_byte-slice_split 58 text
+
+-- tags with commas between them, and their pieces
 pub tags_pieces : (tags : List Tag) (text : List ℕ) → All IsListedTag tags → tags_text tags ≡ Some text → map tag_text tags ≡ pieces 44 text
 tags_pieces [] text good e = absurd cc
 tags_pieces (tag ∷ tags) text good e =
@@ -58,9 +68,9 @@ tags_found [] text e = absurd (omega (arith, ap (λ ps. length ps) e, length-sli
 tags_found (tag ∷ tags) text e = ap Some (separated-joined 44 tag_text (tag ∷ tags) ∙ ap (join_with_byte 44) e ∙ join_with_byte-slice_split 44 text)
 
 -- a piece that fails fails the list
-pub fails_at : {X Y T : Type 0} (e : ReadFault) (now : X → List ℕ) (Good : Y → Type 0) (shown : Y → List ℕ) (items : List X) (k : ℕ) (d : X) (seen : List Y → T) (t : T) → k < length items → ((ys : List Y) → All Good ys → seen ys ≡ t → map shown ys ≡ map now items) → FailsAs Good shown (now (get_or items k d)) e → FailsAs (All Good) seen t e
-fails_at NotMetrics now Good shown items k d seen t within cut none = λ ys good e. refused_at now Good shown ys items k d within none good (cut ys good e)
-fails_at OutOfMemory now Good shown items k d seen t within cut none = tt
+pub fails_at : {Y T : Type 0} (e : ReadFault) (Good : Y → Type 0) (shown : Y → List ℕ) (all : List (List ℕ)) (k : ℕ) (piece : List ℕ) (seen : List Y → T) (t : T) → (k < length all) × (piece ≡ get_or all k piece) → ((ys : List Y) → All Good ys → seen ys ≡ t → map shown ys ≡ all) → FailsAs Good shown piece e → FailsAs (All Good) seen t e
+fails_at NotMetrics Good shown all k piece seen t here cut none = λ ys good e. refused_at Good shown ys all k piece here none good (cut ys good e)
+fails_at OutOfMemory Good shown all k piece seen t here cut none = tt
 
 -- what is read by one text is read by another, where a good value with the one has the other
 pub reads_through : {X Y S T : Type 0} (Good : Y → Type 0) (shown : Y → S) (s : S) (seen : Y → T) (t : T) (view : X → Y) (r : Result X ReadFault) → ((y : Y) → Good y → shown y ≡ s → seen y ≡ t) → ((y : Y) → Good y → seen y ≡ t → shown y ≡ s) → ReadsOrFails Good shown s view r → ReadsOrFails Good seen t view r

@@ -1,27 +1,24 @@
 -- A line's parts, and the texts of its fields in them.
-use Rattle.std.proofs.Common.{◌≡◌, ◌≢◌, ℕ, List, [], ◌∷◌, ◌++◌, length, take, drop, refl, sym, ap, ap₂, ◌∙◌, subst, eqb, true, false, Option, Some, None, codes}
+use Rattle.std.proofs.Common.{◌≡◌, ◌≢◌, ℕ, List, [], ◌∷◌, ◌++◌, length, take, drop, refl, sym, ap, ap₂, ◌∙◌, subst, arith, eqb, true, false, Option, Some, None, codes}
 use Rattle.std.specs.Prelude.{All, IfSome}
 use Rattle.std.specs.List.{join_with_byte}
 use Rattle.std.specs.Option.{option_map}
-use Rattle.std.specs.Fmt.{decimal}
 use lib.Pointwise.{pointwise}
 use Rattle.std.proofs.lemmas.Bool.{eq-eqb}
 use Rattle.std.proofs.lemmas.Bool.Decides.{Decides-eqb}
 use Rattle.std.proofs.lemmas.Slice.Eq.{slice_eq-Decides}
 use Rattle.std.proofs.lemmas.List.{append-nil, take-append-drop, take_at, drop_at}
 use Rattle.std.proofs.lemmas.List.Elements.{All-weaker, recursion_from_All}
-use Rattle.std.proofs.lemmas.List.Splits.{join_with_byte-slice_split}
-use Rattle.cadence_text.specs.Number.{Number, number_text}
-use Rattle.cadence_text.specs.Metric.{Metric, Tag}
+use Rattle.std.proofs.lemmas.List.Splits.{join_with_byte-slice_split, length-slice_split}
 use Rattle.cadence_text.specs.Line.{numbers_text, kind_text, tag_text, line_of}
-use Rattle.cadence_text.specs.LineTexts.{LineTexts, tags_text, texts_of, field_part, field_parts, parts_of_texts, IsMarked}
-use Rattle.cadence_text.specs.Listed.{IsListed, IsListedTag, IsText}
-use Rattle.cadence_text.specs.OneReading.{IsReadable, IsFreeText, IsFreeTag, HasWidth, IsNoSeparator}
-use Rattle.cadence_text.specs.Reads.{IsDecimal}
+use Rattle.cadence_text.specs.Metric.{Metric, Tag}
+use Rattle.cadence_text.specs.Number.{Number, decimal_text, number_text}
+use Rattle.cadence_text.specs.OneReading.{IsFreeOfSeparators, IsFreeText, IsFreeTag, IsNoSeparator}
 use Rattle.cadence_text.proofs.Cut.{Stops, cut_at}
 use Rattle.cadence_text.proofs.LineText.{marked, parts_of, front_of, last_of, rate_part, tags_part, container_part, time_part, separated-joined, line_of-joined, lacks_bars}
-use Rattle.cadence_text.proofs.NumbersRead.{decimal_width}
-use Rattle.cadence_text.proofs.Pieces.{pieces, pieces-joined}
+use Rattle.cadence_read.specs.LineTexts.{LineTexts, tags_text, texts_of, field_part, field_parts, parts_left, parts_of_texts, IsMarked}
+use Rattle.cadence_read.specs.Listed.{IsListed, IsListedTag, IsText}
+use Rattle.cadence_read.proofs.Pieces.{pieces, pieces-joined}
 
 -- what a stripped mark says
 pub marked_found : (first text mark : List ℕ) → pointwise eqb (take (length mark) first) mark ≡ true → text ≡ drop (length mark) first → first ≡ mark ++ text
@@ -47,6 +44,11 @@ marked_once b m parts (Some x) rest None more h e stop =
     let bad : true ≡ false = sym (eq-eqb b b refl) ∙ has in absurd cc
 marked_once b m parts None rest (Some y) more h e stop = absurd (h.1 y more (sym e))
 marked_once b m parts None rest None more h e stop = (refl, h.0 ∙ sym e)
+
+-- what is left has a part, where anything is left
+pub none_left : (left : Option (List ℕ)) → parts_left left ≡ [] → left ≡ None
+none_left None e = refl
+none_left (Some text) e = absurd (omega (arith, ap (λ ps. length ps) e, length-slice_split (λ b. eqb b 124) text))
 
 -- which marks can't stand later
 stops_rate : (tags container time : Option (List ℕ)) → Stops (marked 64) (field_part (codes "#") tags ++ (field_part (codes "c:") container ++ field_part (codes "T") time))
@@ -122,7 +124,7 @@ container_same : (o : Option (List ℕ)) → field_part (codes "c:") o ≡ conta
 container_same (Some c) = refl
 container_same None = refl
 
-time_same : (o : Option ℕ) → field_part (codes "T") (option_map decimal o) ≡ time_part o
+time_same : (o : Option ℕ) → field_part (codes "T") (option_map decimal_text o) ≡ time_part o
 time_same (Some t) = refl
 time_same None = refl
 
@@ -133,27 +135,20 @@ parts_same m =
     let last : field_parts (texts_of m) ≡ last_of m = ap₂ (λ a b. a ++ b) (rate_same m.rate) (ap₂ (λ a b. a ++ b) (tags_same m.tags) later) in
     ap₂ (λ a b. a ∷ kind_text m.kind ∷ b) front last
 
--- a listed metric is readable
+-- a listed metric is free of separators
 free_some : (o : Option (List ℕ)) → IfSome o IsText → IfSome o IsFreeText
 free_some (Some t) h = h.0
 free_some None h = tt
 
-width_some : (o : Option Number) → IfSome o IsDecimal → IfSome o HasWidth
-width_some (Some n) h = decimal_width n h
-width_some None h = tt
-
 pub free_tag : (tag : Tag) → IsListedTag tag → IsFreeTag tag
 free_tag tag h = record { key = free_some tag.key h.key; text = h.text.0 }
 
-pub readable : (m : Metric) → IsListed m → IsReadable m
-readable m h = record {
-  free = record { name = h.name.0; tags = All-weaker IsListedTag IsFreeTag free_tag m.tags h.tags; container = free_some m.container h.container };
-  widths = record { numbers = All-weaker IsDecimal HasWidth decimal_width m.numbers h.numbers; rate = width_some m.rate h.rate; time = h.time };
-}
+pub free : (m : Metric) → IsListed m → IsFreeOfSeparators m
+free m h = record { name = h.name.0; tags = All-weaker IsListedTag IsFreeTag free_tag m.tags h.tags; container = free_some m.container h.container }
 
 pub line_cut : (m : Metric) (line : List ℕ) → IsListed m → line_of m ≡ line → parts_of_texts (texts_of m) ≡ pieces 124 line
 line_cut m line h e =
-    parts_same m ∙ sym (pieces-joined 124 (front_of m) (kind_text m.kind ∷ last_of m) (lacks_bars m (readable m h))) ∙ ap (pieces 124) (sym (line_of-joined m) ∙ e)
+    parts_same m ∙ sym (pieces-joined 124 (front_of m) (kind_text m.kind ∷ last_of m) (lacks_bars m (free m h))) ∙ ap (pieces 124) (sym (line_of-joined m) ∙ e)
 
 pub line_found : (m : Metric) (line : List ℕ) → parts_of_texts (texts_of m) ≡ pieces 124 line → line_of m ≡ line
 line_found m line e = line_of-joined m ∙ ap (join_with_byte 124) (sym (parts_same m) ∙ e) ∙ join_with_byte-slice_split 124 line

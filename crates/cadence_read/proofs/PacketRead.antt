@@ -9,18 +9,19 @@ use Rattle.std.specs.List.{join_with_byte}
 use Rattle.std.proofs.lemmas.List.{append-nil, append_assoc, length-append, take_at, drop_at, take-append-drop}
 use Rattle.std.proofs.lemmas.List.Elements.{All-head, All-weaker, recursion_from_All}
 use Rattle.std.proofs.lemmas.List.Splits.{join_with_byte-slice_split, length-slice_split}
-use Rattle.cadence_text.specs.Metric.{Metric}
 use Rattle.cadence_text.specs.Line.{line_of}
-use Rattle.cadence_text.specs.declared.read.ReadFault.{ReadFault}
-use Rattle.cadence_text.specs.declared.read.ReadFault.TheVariants.{NotMetrics, OutOfMemory}
-use Rattle.cadence_text.specs.declared.line.owned.OwnedMetric.{OwnedMetric}
-use Rattle.cadence_text.specs.Listed.{IsListed, FailsAs, ReadsOrFails, ReadsPacket, metrics_of}
-use Rattle.cadence_text.specs.OneReading.{IsReadable, IsPacketOf, lines_of}
-use Rattle.cadence_text.proofs.Cut.{Lacks, each_mapped}
+use Rattle.cadence_text.specs.Metric.{Metric}
+use Rattle.cadence_text.specs.OneReading.{IsFreeOfSeparators, IsPacketOf, lines_of}
+use Rattle.cadence_text.specs.Owned.{metrics_of}
+use Rattle.cadence_text.specs.declared.line.record.owned.OwnedMetric.{OwnedMetric}
+use Rattle.cadence_text.proofs.Cut.{Lacks, lacks_no, each_mapped}
 use Rattle.cadence_text.proofs.LineText.{line_lacks, packet_once}
-use Rattle.cadence_text.proofs.NumberRead.{lacks_no}
-use Rattle.cadence_text.proofs.LineParts.{readable}
-use Rattle.cadence_text.proofs.Pieces.{pieces, pieces-joined}
+use Rattle.cadence_read.specs.declared.fault.ReadFault.{ReadFault}
+use Rattle.cadence_read.specs.declared.fault.ReadFault.TheVariants.{NotMetrics, OutOfMemory}
+use Rattle.cadence_read.specs.Listed.{IsListed, IsListOf, ReadsPacket}
+use Rattle.cadence_read.specs.Reads.{FailsAs, ReadsOrFails}
+use Rattle.cadence_read.proofs.LineParts.{free}
+use Rattle.cadence_read.proofs.Pieces.{pieces, pieces-joined}
 
 -- lines with their newlines are lines with a newline between each two, and one more
 pub lines_joined : (m : Metric) (ms : List Metric) → lines_of (m ∷ ms) ≡ join_with_byte 10 (map line_of (m ∷ ms)) ++ 10 ∷ []
@@ -40,10 +41,10 @@ pub packet_lines : (ms : List Metric) (lines packet : List ℕ) → All IsListed
 packet_lines [] lines packet good whole (inl e) = absurd (omega (arith, ap (λ l. length l) e, ap (λ l. length l) whole, length-append lines (10 ∷ [])))
 packet_lines (m ∷ ms) lines packet good whole (inl e) =
     let same : lines ≡ join_with_byte 10 (map line_of (m ∷ ms)) = cut_last lines (join_with_byte 10 (map line_of (m ∷ ms))) (sym whole ∙ e ∙ lines_joined m ms) in
-    let lack = each_mapped line_of IsListed (Lacks 10) (λ m g. line_lacks m (readable m g)) (m ∷ ms) (recursion_from_All IsListed (m ∷ ms) good) in
+    let lack = each_mapped line_of IsListed (Lacks 10) (λ m g. line_lacks m (free m g)) (m ∷ ms) (recursion_from_All IsListed (m ∷ ms) good) in
     sym (pieces-joined 10 (line_of m) (map line_of ms) lack) ∙ ap (pieces 10) (sym same)
 packet_lines ms lines packet good whole (inr (m, only, e)) =
-    absurd (lacks_no 10 lines [] (subst (Lacks 10) (sym e ∙ whole) (line_lacks m (readable m (All-head IsListed m [] (subst (λ l. All IsListed l) only good))))))
+    absurd (lacks_no 10 lines [] (subst (Lacks 10) (sym e ∙ whole) (line_lacks m (free m (All-head IsListed m [] (subst (λ l. All IsListed l) only good))))))
 
 pub packet_found : (ms : List Metric) (lines packet : List ℕ) → packet ≡ lines ++ 10 ∷ [] → map line_of ms ≡ pieces 10 lines → IsPacketOf ms packet
 packet_found [] lines packet whole e = absurd (omega (arith, ap (λ ps. length ps) e, length-slice_split (λ b. eqb b 10) lines))
@@ -56,9 +57,10 @@ packet_alone [] packet some open_end (inl e) = absurd (omega (arith, ap (λ l. l
 packet_alone (m ∷ ms) packet some open_end (inl e) = absurd (open_end (join_with_byte 10 (map line_of (m ∷ ms))) (e ∙ lines_joined m ms))
 packet_alone ms packet some open_end (inr h) = h
 
--- listed metrics have a packet that no other list has
-pub list_once : (xs ys : List Metric) (packet : List ℕ) → All IsListed xs → All IsListed ys → IsPacketOf xs packet → IsPacketOf ys packet → xs ≡ ys
-list_once xs ys packet hx hy ex ey = packet_once xs ys packet (All-weaker IsListed IsReadable readable xs hx) (All-weaker IsListed IsReadable readable ys hy) ex ey
+-- a packet has one list at the most
+pub list_once : (packet : List ℕ) (xs ys : List Metric) → IsListOf packet xs → IsListOf packet ys → xs ≡ ys
+list_once packet xs ys hx hy =
+    packet_once xs ys packet (All-weaker IsListed IsFreeOfSeparators free xs hx.listed) (All-weaker IsListed IsFreeOfSeparators free ys hy.listed) hx.whole hy.whole
 
 -- what a stripped end says
 pub suffix_found : (packet lines mark : List ℕ) → pointwise eqb (drop (length packet - length mark) packet) mark ≡ true → lines ≡ take (length packet - length mark) packet → packet ≡ lines ++ mark
@@ -76,19 +78,19 @@ suffix_none packet mark h lines e =
     let bad : true ≡ false = sym yes ∙ h in absurd cc
 
 -- a packet that ends in a newline is read as its lines are
-pub packet_through : {Z : Type 0} (packet lines : List ℕ) (r : Result (Vec OwnedMetric Z) ReadFault) → packet ≡ lines ++ 10 ∷ [] → ReadsOrFails (All IsListed) (map line_of) (pieces 10 lines) metrics_of r → ReadsPacket packet r
-packet_through packet lines (Ok v) whole h = (h.0, packet_found (metrics_of v) lines packet whole h.1)
-packet_through packet lines (Err NotMetrics) whole h = λ ms good e. h ms good (packet_lines ms lines packet good whole e)
+pub packet_through : {Z : Type 0} (packet lines : List ℕ) (r : Result (Vec (OwnedMetric Z) Z) ReadFault) → packet ≡ lines ++ 10 ∷ [] → ReadsOrFails (All IsListed) (map line_of) (pieces 10 lines) metrics_of r → ReadsPacket packet r
+packet_through packet lines (Ok v) whole h = record { listed = h.0; whole = packet_found (metrics_of v) lines packet whole h.1 }
+packet_through packet lines (Err NotMetrics) whole h = λ ms list. h ms list.listed (packet_lines ms lines packet list.listed whole list.whole)
 packet_through packet lines (Err OutOfMemory) whole h = tt
 
 -- and one that ends in none as its line is
-pub alone_fails : {Z : Type 0} (packet : List ℕ) (r : Result (Vec OwnedMetric Z) ReadFault) (e : ReadFault) → r ≡ Err e → 0 < length packet → ((lines : List ℕ) → packet ≡ lines ++ 10 ∷ [] → ⊥) → FailsAs IsListed line_of packet e → ReadsPacket packet r
-alone_fails packet r NotMetrics is some open_end none = rw is (λ ms good h.
-    let (m, only, e) = packet_alone ms packet some open_end h in
-    none m (All-head IsListed m [] (subst (λ l. All IsListed l) only good)) (sym e))
+pub alone_fails : {Z : Type 0} (packet : List ℕ) (r : Result (Vec (OwnedMetric Z) Z) ReadFault) (e : ReadFault) → r ≡ Err e → 0 < length packet → ((lines : List ℕ) → packet ≡ lines ++ 10 ∷ [] → ⊥) → FailsAs IsListed line_of packet e → ReadsPacket packet r
+alone_fails packet r NotMetrics is some open_end none = rw is (λ ms list.
+    let (m, only, e) = packet_alone ms packet some open_end list.whole in
+    none m (All-head IsListed m [] (subst (λ l. All IsListed l) only list.listed)) (sym e))
 alone_fails packet r OutOfMemory is some open_end none = rw is tt
 
-pub only_list : {Z : Type 0} (packet : List ℕ) (r : Result (Vec OwnedMetric Z) ReadFault) → ReadsPacket packet r → IfOk r (λ v. (others : List Metric) → All IsListed others → IsPacketOf others packet → others ≡ metrics_of v)
-only_list packet (Ok v) h = λ others good e. list_once others (metrics_of v) packet good h.0 e h.1
+pub only_list : {Z : Type 0} (packet : List ℕ) (r : Result (Vec (OwnedMetric Z) Z) ReadFault) → ReadsPacket packet r → IfOk r (λ v. (others : List Metric) → IsListOf packet others → others ≡ metrics_of v)
+only_list packet (Ok v) h = λ others list. list_once packet others (metrics_of v) list h
 only_list packet (Err NotMetrics) h = tt
 only_list packet (Err OutOfMemory) h = tt

@@ -5,13 +5,11 @@ use Rattle.std.specs.List.{AllZip, flat_map}
 use Rattle.std.proofs.lemmas.List.{append-nil, take_more, take_all, get_or-map, length-map}
 use Rattle.std.proofs.lemmas.List.Concat.{flat_map-append}
 use Rattle.std.proofs.lemmas.List.Elements.{All-nil}
-use Rattle.cadence_text.specs.declared.read.ReadFault.{ReadFault}
-use Rattle.cadence_text.specs.declared.read.ReadFault.TheVariants.{NotMetrics, OutOfMemory}
-use Rattle.cadence_text.specs.declared.line.owned.OwnedMetric.{OwnedMetric}
 use Rattle.cadence_text.specs.Metric.{Metric}
-use Rattle.cadence_text.specs.OneReading.{IsPacketOf}
-use Rattle.cadence_text.specs.Listed.{IsListed, IsListOf, AreListed, FailsPacket, ReadsRun, metrics_of}
-use Rattle.cadence_text.proofs.PacketRead.{list_once}
+use Rattle.cadence_read.specs.declared.fault.ReadFault.{ReadFault}
+use Rattle.cadence_read.specs.declared.fault.ReadFault.TheVariants.{NotMetrics, OutOfMemory}
+use Rattle.cadence_read.specs.Listed.{IsListed, IsListOf, AreListed, FailsPacket}
+use Rattle.cadence_read.proofs.PacketRead.{list_once}
 
 zip_more : {A B : Type 0} (R : A → B → Type 0) (xs : List A) (ys : List B) (x : A) (y : B) → AllZip R xs ys → R x y → AllZip R (xs ++ x ∷ []) (ys ++ y ∷ [])
 zip_more R [] [] x y h r = (r, tt)

@@ -22,8 +22,7 @@ use std::alloc::Allocator;
 fn is_free(text: &[u8]) -> bool
     ensures { IsTrue result ↔ All IsNoSeparator text.now }
 {
-    text.iter()
-        .all(|byte| *byte != b':' && *byte != b',' && *byte != b'|' && *byte != b'\n')
+    text.iter().all(|byte| *byte != b':' && *byte != b',' && *byte != b'|' && *byte != b'\n')
 }
 
 // A name, a tag's key or text, or a container.
