@@ -13,7 +13,7 @@ use Rattle.cadence_text.proofs.Digits.{decimal_text_once}
 use Rattle.cadence_text.proofs.LineText.{separated-joined, keyed_text, key_text-keyed, plain_lacks_colon, number_lacks, tag_lacks}
 use Rattle.cadence_read.specs.declared.fault.ReadFault.{ReadFault}
 use Rattle.cadence_read.specs.declared.fault.ReadFault.TheVariants.{NotMetrics, OutOfMemory}
-use Rattle.cadence_read.specs.LineTexts.{tags_text}
+use Rattle.cadence_read.specs.LineTexts.{pieces_left, tags_text}
 use Rattle.cadence_read.specs.Listed.{IsListedTag, IsText}
 use Rattle.cadence_read.specs.Reads.{FailsAs, ReadsOrFails}
 use Rattle.cadence_read.proofs.LineParts.{free_tag}
@@ -55,22 +55,26 @@ numbers_pieces (n ∷ ns) text some e =
 pub numbers_found : (ns : List Number) (text : List ℕ) → map number_text ns ≡ pieces 58 text → numbers_text ns ≡ text
 numbers_found ns text e = separated-joined 58 number_text ns ∙ ap (join_with_byte 58) e ∙ join_with_byte-slice_split 58 text
 
--- tags with commas between them, and their pieces
-pub tags_pieces : (tags : List Tag) (text : List ℕ) → All IsListedTag tags → tags_text tags ≡ Some text → map tag_text tags ≡ pieces 44 text
-tags_pieces [] text good e = absurd cc
-tags_pieces (tag ∷ tags) text good e =
+-- tags with commas between them, where there is one, and their pieces
+pub tags_pieces : (tags : List Tag) (text : Option (List ℕ)) → All IsListedTag tags → tags_text tags ≡ text → map tag_text tags ≡ pieces_left 44 text
+tags_pieces [] None good e = refl
+tags_pieces [] (Some text) good e = absurd cc
+tags_pieces (tag ∷ tags) None good e = absurd cc
+tags_pieces (tag ∷ tags) (Some text) good e =
     let lack = each_mapped tag_text IsListedTag (Lacks 44) (λ tag g. tag_lacks tag (free_tag tag g)) (tag ∷ tags) (recursion_from_All IsListedTag (tag ∷ tags) good) in
     let same : separated (44 ∷ []) tag_text (tag ∷ tags) ≡ text = cc e in
     sym (pieces-joined 44 (tag_text tag) (map tag_text tags) lack) ∙ ap (pieces 44) (sym (separated-joined 44 tag_text (tag ∷ tags)) ∙ same)
 
-pub tags_found : (tags : List Tag) (text : List ℕ) → map tag_text tags ≡ pieces 44 text → tags_text tags ≡ Some text
-tags_found [] text e = absurd (omega (arith, ap (λ ps. length ps) e, length-slice_split (λ b. eqb b 44) text))
-tags_found (tag ∷ tags) text e = ap Some (separated-joined 44 tag_text (tag ∷ tags) ∙ ap (join_with_byte 44) e ∙ join_with_byte-slice_split 44 text)
+pub tags_found : (tags : List Tag) (text : Option (List ℕ)) → map tag_text tags ≡ pieces_left 44 text → tags_text tags ≡ text
+tags_found [] None e = refl
+tags_found (tag ∷ tags) None e = absurd cc
+tags_found [] (Some text) e = absurd (omega (arith, ap (λ ps. length ps) e, length-slice_split (λ b. eqb b 44) text))
+tags_found (tag ∷ tags) (Some text) e = ap Some (separated-joined 44 tag_text (tag ∷ tags) ∙ ap (join_with_byte 44) e ∙ join_with_byte-slice_split 44 text)
 
 -- a piece that fails fails the list
-pub fails_at : {Y T : Type 0} (e : ReadFault) (Good : Y → Type 0) (shown : Y → List ℕ) (all : List (List ℕ)) (k : ℕ) (piece : List ℕ) (seen : List Y → T) (t : T) → (k < length all) × (piece ≡ get_or all k piece) → ((ys : List Y) → All Good ys → seen ys ≡ t → map shown ys ≡ all) → FailsAs Good shown piece e → FailsAs (All Good) seen t e
-fails_at NotMetrics Good shown all k piece seen t here cut none = λ ys good e. refused_at Good shown ys all k piece here none good (cut ys good e)
-fails_at OutOfMemory Good shown all k piece seen t here cut none = tt
+pub fails_at : {Y T : Type 0} (e : ReadFault) (Good : Y → Type 0) (shown : Y → List ℕ) (before left later all : List (List ℕ)) (piece : List ℕ) (seen : List Y → T) (t : T) → before ++ left ≡ all → left ≡ piece ∷ later → ((ys : List Y) → All Good ys → seen ys ≡ t → map shown ys ≡ all) → FailsAs Good shown piece e → FailsAs (All Good) seen t e
+fails_at NotMetrics Good shown before left later all piece seen t so_far next cut none = λ ys good e. refused_at Good shown ys before left later all piece so_far next none good (cut ys good e)
+fails_at OutOfMemory Good shown before left later all piece seen t so_far next cut none = tt
 
 -- what is read by one text is read by another, where a good value with the one has the other
 pub reads_through : {X Y S T : Type 0} (Good : Y → Type 0) (shown : Y → S) (s : S) (seen : Y → T) (t : T) (view : X → Y) (r : Result X ReadFault) → ((y : Y) → Good y → shown y ≡ s → seen y ≡ t) → ((y : Y) → Good y → seen y ≡ t → shown y ≡ s) → ReadsOrFails Good shown s view r → ReadsOrFails Good seen t view r

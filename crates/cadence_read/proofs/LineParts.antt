@@ -16,7 +16,7 @@ use Rattle.cadence_text.specs.Number.{Number, decimal_text, number_text}
 use Rattle.cadence_text.specs.OneReading.{IsFreeOfSeparators, IsFreeText, IsFreeTag, IsNoSeparator}
 use Rattle.cadence_text.proofs.Cut.{Stops, cut_at}
 use Rattle.cadence_text.proofs.LineText.{marked, parts_of, front_of, last_of, rate_part, tags_part, container_part, time_part, separated-joined, line_of-joined, lacks_bars}
-use Rattle.cadence_read.specs.LineTexts.{LineTexts, tags_text, texts_of, field_part, field_parts, parts_left, parts_of_texts, IsMarked}
+use Rattle.cadence_read.specs.LineTexts.{LineTexts, tags_text, texts_of, field_part, field_parts, parts_of_texts, pieces_left, IsMarked}
 use Rattle.cadence_read.specs.Listed.{IsListed, IsListedTag, IsText}
 use Rattle.cadence_read.proofs.Pieces.{pieces, pieces-joined}
 
@@ -46,9 +46,9 @@ marked_once b m parts None rest (Some y) more h e stop = absurd (h.1 y more (sym
 marked_once b m parts None rest None more h e stop = (refl, h.0 ∙ sym e)
 
 -- what is left has a part, where anything is left
-pub none_left : (left : Option (List ℕ)) → parts_left left ≡ [] → left ≡ None
-none_left None e = refl
-none_left (Some text) e = absurd (omega (arith, ap (λ ps. length ps) e, length-slice_split (λ b. eqb b 124) text))
+pub none_left : (mark : ℕ) (left : Option (List ℕ)) → pieces_left mark left ≡ [] → left ≡ None
+none_left mark None e = refl
+none_left mark (Some text) e = absurd (omega (arith, ap (λ ps. length ps) e, length-slice_split (λ b. eqb b mark) text))
 
 -- which marks can't stand later
 stops_rate : (tags container time : Option (List ℕ)) → Stops (marked 64) (field_part (codes "#") tags ++ (field_part (codes "c:") container ++ field_part (codes "T") time))

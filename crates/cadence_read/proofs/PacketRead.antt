@@ -7,12 +7,12 @@ use Rattle.std.proofs.lemmas.Slice.Eq.{slice_eq-Decides}
 use Rattle.std.specs.Prelude.{All}
 use Rattle.std.specs.List.{join_with_byte}
 use Rattle.std.proofs.lemmas.List.{append-nil, append_assoc, length-append, take_at, drop_at, take-append-drop}
-use Rattle.std.proofs.lemmas.List.Elements.{All-head, All-weaker, recursion_from_All}
+use Rattle.std.proofs.lemmas.List.Elements.{All-cons, All-head, All-nil, All-weaker, recursion_from_All}
 use Rattle.std.proofs.lemmas.List.Splits.{join_with_byte-slice_split, length-slice_split}
 use Rattle.cadence_text.specs.Line.{line_of}
 use Rattle.cadence_text.specs.Metric.{Metric}
 use Rattle.cadence_text.specs.OneReading.{IsFreeOfSeparators, IsPacketOf, lines_of}
-use Rattle.cadence_text.specs.Owned.{metrics_of}
+use Rattle.cadence_text.specs.Owned.{metric_of_owned, metrics_of}
 use Rattle.cadence_text.specs.declared.line.record.owned.OwnedMetric.{OwnedMetric}
 use Rattle.cadence_text.proofs.Cut.{Lacks, lacks_no, each_mapped}
 use Rattle.cadence_text.proofs.LineText.{line_lacks, packet_once}
@@ -94,3 +94,14 @@ pub only_list : {Z : Type 0} (packet : List ℕ) (r : Result (Vec (OwnedMetric Z
 only_list packet (Ok v) h = λ others list. list_once packet others (metrics_of v) list h
 only_list packet (Err NotMetrics) h = tt
 only_list packet (Err OutOfMemory) h = tt
+
+-- the empty packet has no metrics
+pub empty_packet : {Z : Type 0} (packet : List ℕ) (v : Vec (OwnedMetric Z) Z) → length packet ≡ 0 → v.items ≡ [] → IsListOf packet (metrics_of v)
+empty_packet [] v none e = subst (λ items. IsListOf [] (map metric_of_owned items)) (sym e) (record { listed = All-nil IsListed; whole = inl refl })
+empty_packet (b ∷ packet) v none e = absurd (omega arith)
+
+-- a packet that is one line has one metric
+pub alone_found : {Z : Type 0} (packet : List ℕ) (v : Vec (OwnedMetric Z) Z) (m : OwnedMetric Z) → v.items ≡ m ∷ [] → IsListed (metric_of_owned m) × (line_of (metric_of_owned m) ≡ packet) → IsListOf packet (metrics_of v)
+alone_found packet v m e h =
+    subst (λ items. IsListOf packet (map metric_of_owned items)) (sym e)
+    (record { listed = All-cons IsListed (metric_of_owned m) [] h.0 (All-nil IsListed); whole = inr (metric_of_owned m, refl, sym h.1) })

@@ -1,14 +1,12 @@
 -- Packets that are read one after the other.
-use Rattle.std.proofs.Common.{◌≡◌, ℕ, zero, suc, ◌+◌, ◌<◌, ◌≤◌, List, [], ◌∷◌, ◌++◌, length, map, take, get_or, refl, sym, ap, ap₂, ◌∙◌, subst, arith, Result, Err, Vec, inl, ◌≢◌, Ok}
-use Rattle.std.specs.Prelude.{All, IfOk}
+use Rattle.std.proofs.Common.{◌≡◌, ℕ, zero, suc, ◌+◌, ◌<◌, ◌≤◌, List, [], ◌∷◌, ◌++◌, length, map, take, get_or, refl, sym, ap, ap₂, ◌∙◌, subst, arith}
 use Rattle.std.specs.List.{AllZip, flat_map}
 use Rattle.std.proofs.lemmas.List.{append-nil, take_more, take_all, get_or-map, length-map}
 use Rattle.std.proofs.lemmas.List.Concat.{flat_map-append}
-use Rattle.std.proofs.lemmas.List.Elements.{All-nil}
 use Rattle.cadence_text.specs.Metric.{Metric}
 use Rattle.cadence_read.specs.declared.fault.ReadFault.{ReadFault}
 use Rattle.cadence_read.specs.declared.fault.ReadFault.TheVariants.{NotMetrics, OutOfMemory}
-use Rattle.cadence_read.specs.Listed.{IsListed, IsListOf, AreListed, FailsPacket}
+use Rattle.cadence_read.specs.Listed.{IsListOf, AreListed, FailsPacket}
 use Rattle.cadence_read.proofs.PacketRead.{list_once}
 
 zip_more : {A B : Type 0} (R : A → B → Type 0) (xs : List A) (ys : List B) (x : A) (y : B) → AllZip R xs ys → R x y → AllZip R (xs ++ x ∷ []) (ys ++ y ∷ [])
@@ -24,31 +22,35 @@ zip_at R (a ∷ xs) (b ∷ ys) zero d h within = (b, h.0)
 zip_at R (a ∷ xs) (b ∷ ys) (suc k) d h within = zip_at R xs ys k d h.1 (omega arith)
 
 -- one more packet was read
-pub listed_more : (packets : List (List ℕ)) (metrics more : List Metric) (packet : List ℕ) → AreListed packets metrics → All IsListed more → IsPacketOf more packet → AreListed (packets ++ packet ∷ []) (metrics ++ more)
-listed_more packets metrics more packet h good reads = (
+pub listed_more : (packets : List (List ℕ)) (metrics more : List Metric) (packet : List ℕ) → AreListed packets metrics → IsListOf packet more → AreListed (packets ++ packet ∷ []) (metrics ++ more)
+listed_more packets metrics more packet h list = (
   h.0 ++ more ∷ [],
-  zip_more IsListOf packets h.0 packet more h.1 (record { listed = good; reads = reads }),
+  zip_more IsListOf packets h.0 packet more h.1 list,
   flat_map-append (λ list. list) h.0 (more ∷ []) ∙ ap₂ (λ a b. a ++ b) h.2 (append-nil more),
 )
 
 -- a packet that has no list
-pub run_fails : {Z : Type 0} (packets : List (List ℕ)) (r : Result (Vec OwnedMetric Z) ReadFault) (e : ReadFault) (packet : List ℕ) (k : ℕ) (d : List ℕ) → r ≡ Err e → k < length packets → get_or packets k d ≡ packet → FailsPacket packet e → ReadsRun packets r
-run_fails packets r NotMetrics packet k d is within here none = rw is (λ lists h.
-    let (list, one) = zip_at IsListOf packets lists k d h within in
-    none list one.listed (subst (IsPacketOf list) here one.reads))
-run_fails packets r OutOfMemory packet k d is within here none = rw is tt
+pub run_fails : (packets : List (List ℕ)) (e : ReadFault) (packet : List ℕ) (k : ℕ) (d : List ℕ) → k < length packets → get_or packets k d ≡ packet → FailsPacket packet e → e ≡ NotMetrics → (metrics : List Metric) → AreListed packets metrics → ⊥
+run_fails packets NotMetrics packet k d within here none is metrics h =
+    let (list, one) = zip_at IsListOf packets h.0 k d h.1 within in
+    none list (subst (λ p. IsListOf p list) here one)
+run_fails packets OutOfMemory packet k d within here none is metrics h = absurd cc
 
 -- the packets have one choice of lists
-pub run_once : (packets : List (List ℕ)) (xs ys : List (List Metric)) → AllZip IsListOf packets xs → AllZip IsListOf packets ys → xs ≡ ys
-run_once [] [] [] hx hy = refl
-run_once [] (x ∷ xs) ys hx hy = absurd hx
-run_once [] [] (y ∷ ys) hx hy = absurd hy
-run_once (p ∷ ps) [] ys hx hy = absurd hx
-run_once (p ∷ ps) (x ∷ xs) [] hx hy = absurd hy
-run_once (p ∷ ps) (x ∷ xs) (y ∷ ys) hx hy =
-    let first : x ≡ y = list_once x y p hx.0.listed hy.0.listed hx.0.reads hy.0.reads in
-    let rest : xs ≡ ys = run_once ps xs ys hx.1 hy.1 in
+lists_once : (packets : List (List ℕ)) (xs ys : List (List Metric)) → AllZip IsListOf packets xs → AllZip IsListOf packets ys → xs ≡ ys
+lists_once [] [] [] hx hy = refl
+lists_once [] (x ∷ xs) ys hx hy = absurd hx
+lists_once [] [] (y ∷ ys) hx hy = absurd hy
+lists_once (p ∷ ps) [] ys hx hy = absurd hx
+lists_once (p ∷ ps) (x ∷ xs) [] hx hy = absurd hy
+lists_once (p ∷ ps) (x ∷ xs) (y ∷ ys) hx hy =
+    let first : x ≡ y = list_once p x y hx.0 hy.0 in
+    let rest : xs ≡ ys = lists_once ps xs ys hx.1 hy.1 in
     λ i. first i ∷ rest i
+
+pub run_once : (packets : List (List ℕ)) (metrics others : List Metric) → AreListed packets metrics → AreListed packets others → others ≡ metrics
+run_once packets metrics others found other =
+    sym other.2 ∙ ap (flat_map (λ list. list)) (lists_once packets other.0 found.0 other.1 found.1) ∙ found.2
 
 pub listed_same : (packets others : List (List ℕ)) (metrics same : List Metric) → packets ≡ others → metrics ≡ same → AreListed packets metrics → AreListed others same
 listed_same packets others metrics same e f h = subst (λ ms. AreListed others ms) f (subst (λ ps. AreListed ps metrics) e h)
@@ -64,24 +66,3 @@ taken_more items xs k x within is =
 
 pub taken_all : {X : Type 0} (items : X → List ℕ) (xs : List X) (k : ℕ) → length xs ≤ k → take k (map items xs) ≡ map items xs
 taken_all items xs k whole = let short : length (map items xs) ≤ k = omega (arith, whole, length-map xs items) in take_all k (map items xs) short
-
--- the held text as the last packet, where there is any
-abbrev held_packet : List ℕ → List (List ℕ)
-held_packet [] = []
-held_packet (byte ∷ rest) = (byte ∷ rest) ∷ []
-
--- an empty held text has the empty list
-with_held : (packets : List (List ℕ)) (held : List ℕ) (lists : List (List Metric)) → AllZip IsListOf (packets ++ held_packet held) lists → AreListed (packets ++ held ∷ []) (flat_map (λ list. list) lists)
-with_held packets [] lists h =
-    let none : AllZip IsListOf packets lists = subst (λ ps. AllZip IsListOf ps lists) (append-nil packets) h in
-    (lists ++ [] ∷ [], zip_more IsListOf packets lists [] [] none (record { listed = All-nil IsListed; reads = inl refl }), flat_map-append (λ list. list) lists ([] ∷ []) ∙ append-nil (flat_map (λ list. list) lists))
-with_held packets (byte ∷ rest) lists h = (lists, h, refl)
-
--- where packets and held text are those of listed metrics, a run that is read gives these, and isn't refused
-pub run_is_read : {Z : Type 0} (packets : List (List ℕ)) (held : List ℕ) (lists : List (List Metric)) (r : Result (Vec OwnedMetric Z) ReadFault) → AllZip IsListOf (packets ++ held_packet held) lists → ReadsRun (packets ++ held ∷ []) r → IfOk r (λ v. metrics_of v ≡ flat_map (λ list. list) lists) × (r ≢ Err NotMetrics)
-run_is_read packets held lists (Ok v) h (found, zipped, joined) =
-    let (all, zip, whole) = with_held packets held lists h in
-    (sym joined ∙ ap (flat_map (λ list. list)) (run_once (packets ++ held ∷ []) found all zipped zip) ∙ whole, λ e. absurd cc)
-run_is_read packets held lists (Err NotMetrics) h none =
-    let (all, zip, whole) = with_held packets held lists h in absurd (none all zip)
-run_is_read packets held lists (Err OutOfMemory) h none = (tt, λ e. absurd cc)

@@ -46,10 +46,10 @@ field_parts t = field_part (codes "@") t.rate ++ (field_part (codes "#") t.tags 
 abbrev pub parts_of_texts : LineTexts → List (List ℕ)
 parts_of_texts t = (t.name ++ (codes ":" ++ t.numbers)) ∷ t.kind ∷ field_parts t
 
--- the parts of what is left of a line after a bar, where there was one
-abbrev pub parts_left : Option (List ℕ) → List (List ℕ)
-parts_left None = []
-parts_left (Some text) = slice_split (λ byte. byte == 124) text
+-- the pieces of what is left after a mark, where there was one
+abbrev pub pieces_left : ℕ → Option (List ℕ) → List (List ℕ)
+pieces_left mark None = []
+pieces_left mark (Some text) = slice_split (λ byte. byte == mark) text
 
 -- a mark and what follows it, where the first part has that mark, and the parts after it
 abbrev pub IsMarked : List ℕ → List (List ℕ) → Option (List ℕ) → List (List ℕ) → Type 0

@@ -2,7 +2,7 @@
 ghost use Rattle.std.specs.Prelude.{◌≡◌, ◌≢◌, ◌==◌, ◌∷◌, ◌++◌, All, IfNone, IfSome};
 ghost use Rattle.std.specs.List.{AllByRecursion, slice_split};
 ghost use Rattle.std.specs.Option.{option_copied, option_map};
-ghost use Rattle.cadence_read.specs.LineTexts.{IsMarked, parts_left, parts_of_texts, texts_seen};
+ghost use Rattle.cadence_read.specs.LineTexts.{IsMarked, parts_of_texts, pieces_left, texts_seen};
 ghost use Rattle.cadence_read.specs.Reads.{Reads};
 
 // What stands before the first such byte, and what stands after it.
@@ -15,13 +15,13 @@ pub(crate) fn cut(text: &[u8], mark: u8) -> Option<(&[u8], &[u8])>
     Some((&text[..at], &text[at + 1..]))
 }
 
-// The first part of a text that is cut at its bars, and what stands after the first bar, where there is one.
-fn cut_part(text: &[u8]) -> (&[u8], Option<&[u8]>)
-    ensures { slice_split (λ byte. byte == 124) text.now
-        ≡ result.0.now ∷ parts_left (option_copied result.1) }
+// The first piece of a text that is cut at each mark, and what stands after the first mark, where there is one.
+pub(crate) fn cut_piece(text: &[u8], mark: u8) -> (&[u8], Option<&[u8]>)
+    ensures { slice_split (λ byte. byte == mark) text.now
+        ≡ result.0.now ∷ pieces_left mark (option_copied result.1) }
 {
-    match cut(text, b'|') {
-        Some((part, left)) => (part, Some(left)),
+    match cut(text, mark) {
+        Some((piece, left)) => (piece, Some(left)),
         None => (text, None),
     }
 }
@@ -29,8 +29,8 @@ fn cut_part(text: &[u8]) -> (&[u8], Option<&[u8]>)
 // What follows the mark in the first part, where it has that mark, and what is left after it.
 fn take_marked<'a>(left: Option<&'a [u8]>, mark: &[u8]) -> (Option<&'a [u8]>, Option<&'a [u8]>)
     requires { AllByRecursion (λ byte. byte ≢ 124) mark.now }
-    ensures { IsMarked mark.now (parts_left (option_copied left.entry))
-        (option_copied result.0) (parts_left (option_copied result.1)) }
+    ensures { IsMarked mark.now (pieces_left 124 (option_copied left.entry))
+        (option_copied result.0) (pieces_left 124 (option_copied result.1)) }
 {
     let Some(text) = left else {
         return (None, None);
@@ -38,7 +38,7 @@ fn take_marked<'a>(left: Option<&'a [u8]>, mark: &[u8]) -> (Option<&'a [u8]>, Op
     let Some(marked) = text.strip_prefix(mark) else {
         return (None, left);
     };
-    let (value, others) = cut_part(marked);
+    let (value, others) = cut_piece(marked, b'|');
     (Some(value), others)
 }
 
@@ -59,9 +59,9 @@ pub(crate) fn cut_line(line: &[u8]) -> Option<TextsOfLine<'_>>
     ensures { Reads (λ texts. All (λ byte. byte ≢ 58) texts.name) parts_of_texts
         (slice_split (λ byte. byte == 124) line.now) (option_map texts_seen result) }
 {
-    let (front, fields) = cut_part(line);
+    let (front, fields) = cut_piece(line, b'|');
     let (name, numbers) = cut(front, b':')?;
-    let (kind, fields) = cut_part(fields?);
+    let (kind, fields) = cut_piece(fields?, b'|');
     let (rate, fields) = take_marked(fields, b"@");
     let (tags, fields) = take_marked(fields, b"#");
     let (container, fields) = take_marked(fields, b"c:");

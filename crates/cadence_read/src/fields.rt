@@ -11,7 +11,7 @@ ghost use Rattle.cadence_read.specs.LineTexts.{tags_text};
 ghost use Rattle.cadence_read.specs.Listed.{IsListedTag, IsText};
 ghost use Rattle.cadence_read.specs.Reads.{Reads, ReadsOrFails};
 
-use crate::cuts::cut;
+use crate::cuts::{cut, cut_piece};
 use crate::fault::ReadFault;
 use crate::number::{read_number, read_whole};
 use cadence_text::decimal::Decimal;
@@ -49,11 +49,14 @@ pub(crate) fn read_numbers<A: Allocator>(
         return Ok(Vec::new(alloc));
     }
     let mut numbers = Vec::with_capacity(alloc, 1)?;
-    for piece in text.split(|byte| *byte == b':') {
+    let mut left = Some(text);
+    while let Some(text) = left {
+        let (piece, others) = cut_piece(text, b':');
         let Some(number) = read_number(piece) else {
             return Err(ReadFault::NotMetrics);
         };
         numbers.push(number)?;
+        left = others;
     }
     Ok(numbers)
 }
@@ -113,12 +116,12 @@ pub(crate) fn read_tags<A: Allocator + Clone>(
         (λ v. map tag_of_owned v.items) result }
 {
     let mut tags = Vec::new(alloc.clone()?);
-    let Some(text) = text else {
-        return Ok(tags);
-    };
-    for piece in text.split(|byte| *byte == b',') {
+    let mut left = text;
+    while let Some(text) = left {
+        let (piece, others) = cut_piece(text, b',');
         let tag = read_tag(alloc, piece)?;
         tags.push(tag)?;
+        left = others;
     }
     Ok(tags)
 }

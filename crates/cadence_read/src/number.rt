@@ -1,9 +1,9 @@
 //! The number of a text.
-ghost use Rattle.std.specs.Prelude.{Bool, false, if◌then◌else◌, codes, [], slice_index, ℕ, ◌≡◌, ◌≢◌, ◌∷◌, ◌++◌, ◌<◌, ◌^◌, All, SomeIff, unsigned_abs, FitsSigned};
+ghost use Rattle.std.specs.Prelude.{Bool, true, false, if◌then◌else◌, codes, [], slice_index, ℕ, ◌≡◌, ◌≢◌, ◌∷◌, ◌++◌, ◌<◌, ◌≤◌, ◌^◌, All, SomeIff, unsigned_abs, FitsSigned};
 ghost use mir.Syntax.{w128};
 ghost use Rattle.std.specs.Int.{is_negative};
 ghost use Rattle.std.specs.Str.Parse.{IsNumeral, digits_value};
-ghost use Rattle.cadence_text.specs.Number.{decimal_text, number_text};
+ghost use Rattle.cadence_text.specs.Number.{decimal_text, is_lowest, number, number_text};
 ghost use Rattle.cadence_text.specs.Said.{IsDecimal};
 ghost use Rattle.cadence_read.specs.Magnitude.{IsMagnitude, magnitude_text};
 ghost use Rattle.cadence_read.specs.Reads.{Reads};
@@ -34,6 +34,13 @@ pub(crate) fn read_whole(text: &[u8]) -> Option<u128>
     read_digits(text)
 }
 
+fn power_of_ten(places: u8) -> u128
+    requires { places ≤ 30 }
+    ensures { result ≡ 10 ^ places }
+{
+    10u128.pow(u32::from(places))
+}
+
 // A size and its places, which are printed as these two texts with a dot between them.
 fn read_dotted(whole: &[u8], fraction: &[u8]) -> Option<(u128, u8)>
     requires { All (λ byte. byte ≢ 46) whole.now }
@@ -47,7 +54,7 @@ fn read_dotted(whole: &[u8], fraction: &[u8]) -> Option<(u128, u8)>
     let whole = read_whole(whole)?;
     let fraction = read_digits(fraction)?;
     let size = whole
-        .checked_mul(10u128.pow(u32::from(places)))?
+        .checked_mul(power_of_ten(places))?
         .checked_add(fraction)?;
     Some((size, places))
 }
@@ -88,6 +95,18 @@ fn cut_sign(text: &[u8]) -> (bool, &[u8])
     }
 }
 
+// This number over 10 to the power of `places`, where it is in lowest form.
+fn in_lowest_form(mantissa: i128, places: u8) -> Option<Decimal>
+    requires { places ≤ 30 }
+    ensures { SomeIff result (is_lowest mantissa places ≡ true) (number mantissa places) }
+{
+    let lowest = Decimal::new(mantissa, places).ok()?;
+    if lowest.places() < places {
+        return None;
+    }
+    Some(lowest)
+}
+
 /// The decimal that prints as this text. Takes no memory. `None` where none does: each decimal has one text, so with
 /// needless zeros, a plus, a minus before zero, or nothing on a side of the dot there is none.
 pub fn read_number(text: &[u8]) -> Option<Decimal>
@@ -96,9 +115,5 @@ pub fn read_number(text: &[u8]) -> Option<Decimal>
     let (is_below, unsigned) = cut_sign(text);
     let (size, places) = read_magnitude(unsigned)?;
     let mantissa = signed(is_below, size)?;
-    let number = Decimal::new(mantissa, places).ok()?;
-    if number.places() < places {
-        return None;
-    }
-    Some(number)
+    in_lowest_form(mantissa, places)
 }

@@ -6,7 +6,9 @@ ghost use Rattle.cadence_text.specs.Metric.{Metric};
 ghost use Rattle.cadence_text.specs.Owned.{metrics_of};
 ghost use Rattle.cadence_read.specs.Listed.{AreListed, IsListed, IsListOf, ReadsPacket};
 ghost use Rattle.cadence_read.specs.Reads.{ReadsOrFails};
+ghost use Rattle.cadence_read.specs.declared.fault.ReadFault.TheVariants.{NotMetrics};
 
+use crate::cuts::cut_piece;
 use crate::fault::ReadFault;
 use crate::line::read_line;
 use cadence_text::line::OwnedMetric;
@@ -21,9 +23,12 @@ fn read_lines<A: Allocator + Clone>(
         (slice_split (λ byte. byte == 10) lines.now) metrics_of result }
 {
     let mut metrics = Vec::new(alloc.clone()?);
-    for line in lines.split(|byte| *byte == b'\n') {
+    let mut left = Some(lines);
+    while let Some(text) = left {
+        let (line, others) = cut_piece(text, b'\n');
         let metric = read_line(alloc, line)?;
         metrics.push(metric)?;
+        left = others;
     }
     Ok(metrics)
 }
@@ -75,6 +80,9 @@ pub fn read_run<A: Allocator + Clone>(
 ) -> Result<Vec<OwnedMetric<A>, A>, ReadFault>
     ensures found { IfOk result (λ metrics.
         AreListed (map (λ packet. packet.items) packets.now ++ held.now ∷ []) (metrics_of metrics)) }
+    ensures only { IfOk result (λ metrics. (others : List Metric) →
+        AreListed (map (λ packet. packet.items) packets.now ++ held.now ∷ []) others →
+        others ≡ metrics_of metrics) }
     ensures refused { result ≡ Err NotMetrics → (metrics : List Metric) →
         AreListed (map (λ packet. packet.items) packets.now ++ held.now ∷ []) metrics → ⊥ }
 {
