@@ -3,6 +3,7 @@ ghost use Rattle.std.specs.Prelude.{◌≡◌, ◌^◌, ◌≤◌, ◌↔◌, �
 ghost use Rattle.std.specs.Fmt.{DisplaysOnOk};
 ghost use Rattle.cadence_errors.specs.Errors.{IsInvalid};
 ghost use Rattle.cadence_text.specs.Number.{IsLowestForm, Number, decimal_text, filled_to, is_lowest, number, number_text};
+ghost use Rattle.cadence_text.specs.Said.{IsDecimal};
 
 use cadence_errors::{ErrorKind, MetricError, MetricResult};
 use std::fmt;
@@ -55,7 +56,8 @@ impl Decimal {
     /// The whole number of the lowest form.
     #[inline]
     pub fn mantissa(&self) -> i128
-        ensures { result ≡ self.now.mantissa }
+        ensures value { result ≡ self.now.mantissa }
+        ensures whole { IsDecimal self.now }
     {
         self.mantissa
     }

@@ -5,7 +5,8 @@ ghost use Rattle.cadence_text.specs.Line.{container_field, kind_text, numbers_te
 ghost use Rattle.cadence_text.specs.Number.{Number, decimal_text, filled_to, number_text, places_text};
 ghost use Rattle.cadence_text.specs.Values.{numbers_of};
 ghost use Rattle.cadence_text.specs.Record.{tag_of};
-ghost use Rattle.cadence_text.specs.RecordMetric.{AreRecordNumbers, AreRecordTags, FitsMemory, IsRecordNumber, IsRecordTag, IsRecordTime};
+ghost use Rattle.cadence_text.specs.RecordMetric.{AreRecordNumbers, AreRecordTags, FitsMemory, IsRecordTag, IsRecordTime};
+ghost use Rattle.cadence_text.specs.Said.{IsDecimal};
 ghost use Rattle.cadence_text.specs.Sink.{Takes};
 
 use crate::decimal::Decimal;
@@ -95,7 +96,7 @@ trait Printed {
     fn push_to<S: LineSink>(&self, line: &mut S) -> Result<(), S::Refusal>
         ensures taken { OnOk result (Takes S.ends_as line.old
             (number_text (number self.now)) line.new) }
-        ensures sized { OnOk result (IsRecordNumber (number self.now)) };
+        ensures sized { OnOk result (IsDecimal (number self.now)) };
 }
 
 impl Printed for i64 {
@@ -228,7 +229,7 @@ pub(crate) fn push_value<S: LineSink, A: Allocator>(
 #[inline]
 pub(crate) fn push_rate<S: LineSink>(line: &mut S, rate: Option<Decimal>) -> Result<(), S::Refusal>
     ensures taken { OnOk result (Takes S.ends_as line.old (rate_field rate) line.new) }
-    ensures sized { OnOk result (IfSome rate IsRecordNumber) }
+    ensures sized { OnOk result (IfSome rate IsDecimal) }
 {
     if let Some(rate) = rate {
         line.take_piece("|@")?;

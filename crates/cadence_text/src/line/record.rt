@@ -48,6 +48,7 @@ impl<'a, A: Allocator> Record<'a, A> {
     ghost use Rattle.cadence_text.specs.Metric.{Metric, plain_metric, with_tag};
     ghost use Rattle.cadence_text.specs.Record.{tag_of};
     ghost use Rattle.cadence_text.specs.RecordMetric.{IsRecordMetric};
+    ghost use Rattle.cadence_text.specs.Said.{IsSaid};
     ghost use Rattle.cadence_text.specs.Sink.{Takes};
     ghost use Rattle.cadence_text.specs.Values.{numbers_of};
 
@@ -128,7 +129,7 @@ impl<'a, A: Allocator> Record<'a, A> {
     }
 
     #[inline]
-    #[tactic(auto, using(std::proofs::lemmas::Grind::common_steps), unfolding(crate::specs::Line::line_of))]
+    #[tactic(auto, using(std::proofs::lemmas::Grind::common_steps, crate::proofs::LineLength::joined_utf8), unfolding(crate::specs::Line::line_of))]
     fn push_line<S: LineSink>(&self, line: &mut S) -> Result<(), S::Refusal>
         ensures taken { OnOk result (Takes S.ends_as line.old (line_of self.now) line.new) }
         ensures sized { OnOk result (IsRecordMetric self.now) }
@@ -152,6 +153,7 @@ impl<'a, A: Allocator> Record<'a, A> {
     pub fn format<B: Allocator>(&self, alloc: B) -> MetricResult<String<B>>
         ensures line { IfOk result (λ line. string_bytes line ≡ line_of self.now) }
         ensures refused { IfErr result (λ e. e ≡ out_of_memory) }
+        ensures said { OnOk result (IsSaid self.now) }
         ensures not_empty { 0 < length (line_of self.now) }
     {
         let line = self.line(alloc)?;
@@ -159,9 +161,10 @@ impl<'a, A: Allocator> Record<'a, A> {
     }
 
     /// The line as `format` makes it. Its one refusal is want of memory, as a small error.
-    #[tactic(auto, using(crate::proofs::LineText::line_is_not_empty))]
+    #[tactic(auto, using(crate::proofs::LineText::line_is_not_empty, crate::proofs::LineLength::record_said))]
     pub fn line<B: Allocator>(&self, alloc: B) -> Result<String<B>, AllocError>
         ensures line { IfOk result (λ line. string_bytes line ≡ line_of self.now) }
+        ensures said { OnOk result (IsSaid self.now) }
         ensures not_empty { 0 < length (line_of self.now) }
     {
         let mut text = String::with_capacity(alloc, self.size_hint())?;
