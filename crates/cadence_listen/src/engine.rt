@@ -56,7 +56,8 @@ impl From<ReadError> for Failure {
 
 impl Failure {
     fn status(self) -> u8
-        ensures { result ≤ 3 }
+        ensures told { 2 ≤ result }
+        ensures most { result ≤ 3 }
     {
         match self {
             Failure::OutOfMemory => 3,
