@@ -7,7 +7,7 @@ use Rattle.std.specs.Str.Parse.{digits_value, IsNumeral}
 use Rattle.std.proofs.lemmas.Bool.{ne_eqb, cases_lt}
 use Rattle.std.proofs.lemmas.Fmt.{decimal_digit, decimal_step_wide}
 use Rattle.std.proofs.lemmas.Int.Digits.{digits_of_step, length-digits_of-le, digits_push, digits_value_push}
-use Rattle.std.proofs.lemmas.List.{length-append, length-map, map-append}
+use Rattle.std.proofs.lemmas.List.{append_assoc, length-append, length-map, map-append}
 use Rattle.std.proofs.lemmas.Str.{digit_value_digit}
 use Rattle.cadence_text.specs.Number.{decimal_text}
 
@@ -77,3 +77,37 @@ pub length-decimal_text-le : (k n : ℕ) → 0 < k → n < 10 ^ k → length (de
 length-decimal_text-le k zero some h = omega (arith, ap (λ t. length t) (text_digit 0 (lit< tt)))
 length-decimal_text-le k (suc n) some h =
     omega (arith, ap (λ t. length t) (text_some (suc n) (omega arith)), length-map (digits_of 10 (suc n)) (λ d. 48 + d), length-digits_of-le 10 k (suc n) (lit< tt) h)
+
+-- two digits, the first of which may be 0
+abbrev pair : ℕ → List ℕ
+pair p = (48 + p / 10) ∷ (48 + p % 10) ∷ []
+
+pub text_two : (n : ℕ) → 10 ≤ n → n < 100 → decimal_text n ≡ (48 + n / 10) ∷ (48 + n % 10) ∷ []
+text_two n low high = text_step n low ∙ ap (λ t. t ++ ((48 + n % 10) ∷ [])) (text_digit (n / 10) (omega arith))
+
+-- the last two digits, and the last four
+pub text_pair : (n : ℕ) → 100 ≤ n → decimal_text n ≡ decimal_text (n / 100) ++ ((48 + n % 100 / 10) ∷ (48 + n % 100 % 10) ∷ [])
+text_pair n h =
+    let front : n / 10 / 10 ≡ n / 100 = omega arith in
+    let tens : n / 10 % 10 ≡ n % 100 / 10 = omega arith in
+    let ones : n % 10 ≡ n % 100 % 10 = omega arith in
+    rw (text_step n (omega arith), text_step (n / 10) (omega arith), append_assoc, front, tens, ones)
+
+pub text_four : (n : ℕ) → 10000 ≤ n → decimal_text n ≡ decimal_text (n / 10000) ++ (pair (n % 10000 / 100) ++ pair (n % 100))
+text_four n h =
+    let front : n / 100 / 100 ≡ n / 10000 = omega arith in
+    let second : n / 100 % 100 ≡ n % 10000 / 100 = omega arith in
+    rw (text_pair n (omega arith), text_pair (n / 100) (omega arith), append_assoc, front, second)
+
+-- and how many digits they leave
+pub length_digit : (n : ℕ) → n < 10 → length (decimal_text n) ≡ 1
+length_digit n h = ap (λ t. length t) (text_digit n h)
+
+pub length_pair : (n : ℕ) → 100 ≤ n → length (decimal_text n) ≡ length (decimal_text (n / 100)) + 2
+length_pair n h = ap (λ t. length t) (text_pair n h) ∙ length-append (decimal_text (n / 100)) (pair (n % 100))
+
+pub length_two : (n : ℕ) → 10 ≤ n → n < 100 → length (decimal_text n) ≡ 2
+length_two n low high = ap (λ t. length t) (text_two n low high)
+
+pub length_four : (n : ℕ) → 10000 ≤ n → length (decimal_text n) ≡ length (decimal_text (n / 10000)) + 4
+length_four n h = ap (λ t. length t) (text_four n h) ∙ length-append (decimal_text (n / 10000)) (pair (n % 10000 / 100) ++ pair (n % 100))

@@ -1,5 +1,8 @@
 //! The kinds of metrics and the line of a record.
 
+mod counter;
+mod digits;
+mod filled;
 mod pieces;
 mod record;
 mod sink;

@@ -2,7 +2,7 @@ use Rattle.std.proofs.Common.{rules, ◌≡◌, ◌∷◌, [], ◌++◌, ap, ◌
 use Rattle.cadence_text.specs.declared.line.tag.Tag.{Tag}
 use Rattle.cadence_text.specs.Owned.{tag_of_owned}
 use Rattle.cadence_text.specs.Record.{tag_of}
-use Rattle.cadence_text.proofs.Taken.{mapped_more, mapped_all}
+use Rattle.cadence_text.proofs.Mapped.{mapped_more, mapped_all}
 use Rattle.cadence_text.proofs.line.record.owned.lend_tags.Goals as goal
 
 pub loop-tag-preserved : goal.loop-tag-preserved
