@@ -1,7 +1,10 @@
--- The kept lines are those of the kept metrics.
-use Rattle.std.proofs.Common.{◌≡◌, ℕ, List, [], ◌∷◌, ◌++◌, Option, Some, None, Ok, refl, sym, ap, ◌∙◌, map}
+-- The kept lines are those of the kept metrics, and what holds of each accepted metric holds of each kept one.
+use Rattle.std.proofs.Common.{◌≡◌, ℕ, List, [], ◌∷◌, ◌++◌, Option, Some, None, Ok, Result, refl, sym, ap, ◌∙◌, map, subst}
+use Rattle.std.specs.Prelude.{All, IfSome}
+use Rattle.std.specs.List.{AllByRecursion}
 use Rattle.std.specs.Option.{option_map, option_to_list}
 use Rattle.std.proofs.lemmas.List.{map-append}
+use Rattle.std.proofs.lemmas.List.Elements.{All-nil, All-cons, All-from_recursion, recursion_from_All}
 use Rattle.cadence_schedule.specs.declared.call.Call.{Call}
 use Rattle.cadence_schedule.specs.declared.steps.Step.TheVariants as step
 use Rattle.cadence_schedule.specs.declared.steps.Reply.TheVariants as reply
@@ -35,3 +38,18 @@ module _ {X Y : Type 0} (f : X → Y) where
     kept_mapped h =
         ap (λ xs. map (λ (k : Y × ℕ). k.0) (answered xs (outcomes h))) (accepted_mapped h)
         ∙ ap (map (λ (k : Y × ℕ). k.0)) (answered_mapped (accepted of h) (outcomes h)) ∙ firsts_mapped (answered (accepted of h) (outcomes h))
+
+module _ {X : Type 0} (P : X → Type 0) where
+  -- what holds of a metric, where there is one, holds of the list of it
+  pub all_of_option : (o : Option X) → IfSome o P → All P (option_to_list o)
+  all_of_option (Some x) h = All-cons P x [] h (All-nil P)
+  all_of_option None h = All-nil P
+
+  each_answered : (xs : List X) (answers : List (Option ℕ)) → AllByRecursion P xs → AllByRecursion P (map (λ (k : X × ℕ). k.0) (answered xs answers))
+  each_answered [] answers h = tt
+  each_answered (x ∷ xs) [] h = tt
+  each_answered (x ∷ xs) (Some n ∷ answers) (h, hs) = (h, each_answered xs answers hs)
+  each_answered (x ∷ xs) (None ∷ answers) (h, hs) = each_answered xs answers hs
+
+  pub all_kept : {A : Type 0} (of : Call A → Option X) (h : List (Turn A)) → All P (accepted of h) → All P (kept of h)
+  all_kept of h all = All-from_recursion P (kept of h) (each_answered (accepted of h) (outcomes h) (recursion_from_All P (accepted of h) all))

@@ -1,12 +1,16 @@
 -- A run with one turn more.
 use Rattle.std.proofs.Common.{◌≡◌, ℕ, List, [], ◌∷◌, ◌++◌, Option, length, refl, sym, ap, ◌∙◌, arith, subst}
+use Rattle.std.specs.Prelude.{All}
 use Rattle.std.specs.List.{zip}
+use Rattle.std.proofs.lemmas.List.{append-nil}
+use Rattle.std.proofs.lemmas.List.Concat.{flat_map-append}
+use Rattle.std.proofs.lemmas.List.Elements.{All-append}
 use Rattle.cadence_flow.specs.Frame.{Format}
 use Rattle.cadence_flow.specs.Writer.{Kind}
 use Rattle.cadence_schedule.specs.declared.call.Call.{Call}
 use Rattle.cadence_schedule.specs.declared.steps.Step.{Step}
 use Rattle.cadence_schedule.specs.declared.steps.Reply.{Reply}
-use Rattle.cadence_schedule.specs.History.{Turn}
+use Rattle.cadence_schedule.specs.History.{Turn, accepted, accepted_by}
 use Rattle.cadence_schedule.specs.Moves.{State, Moves, Runs}
 
 module _ {A : Type 0} where
@@ -21,6 +25,14 @@ module _ {A : Type 0} where
   length-zip [] (b ∷ ys) e = refl
   length-zip (a ∷ xs) [] e = absurd (omega arith)
   length-zip (a ∷ xs) (b ∷ ys) e = omega (arith, length-zip xs ys (omega arith))
+
+  -- what holds of the accepted metrics so far and of those of one step more
+  pub accepted_push : {X : Type 0} (P : X → Type 0) (of : Call A → Option X) (xs xs' : List (Step A)) (ys ys' : List Reply) (x : Step A) (y : Reply) → length xs ≡ length ys → xs' ≡ xs ++ x ∷ [] → ys' ≡ ys ++ y ∷ []
+      → All P (accepted of (zip xs ys)) → All P (accepted_by of (x, y)) → All P (accepted of (zip xs' ys'))
+  accepted_push P of xs xs' ys ys' x y short e f before here =
+      subst (λ turns. All P (accepted of turns)) (sym (zip_push xs ys x y short) ∙ (λ i. zip (sym e i) (sym f i)))
+      (subst (All P) (sym (flat_map-append (accepted_by of) (zip xs ys) ((x, y) ∷ []) ∙ ap (λ l. accepted of (zip xs ys) ++ l) (append-nil (accepted_by of (x, y)))))
+      (All-append P (accepted of (zip xs ys)) (accepted_by of (x, y)) before here))
 
   module _ (line_of : Call A → Option (List ℕ)) (kind : Kind) (format : Format) (queue : Option ℕ) where
     runs_more : (old mid new : State) (turns : List (Turn A)) (t : Turn A) → Runs line_of kind format queue old turns mid → Moves line_of kind format queue mid t new → Runs line_of kind format queue old (turns ++ t ∷ []) new

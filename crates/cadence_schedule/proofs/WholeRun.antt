@@ -1,13 +1,14 @@
 -- The headline of a whole run, from its start, its steps and its outcome.
 use Rattle.std.proofs.Common.{◌≡◌, ℕ, ◌^◌, ◌<◌, List, [], length, sym, ap, ◌∙◌, ◌≢◌, arith, subst, Some, Option, Vec, map}
 use Rattle.std.specs.List.{zip}
-use Rattle.std.specs.Prelude.{string_bytes}
+use Rattle.std.specs.Prelude.{All, string_bytes}
 use Rattle.std.specs.Option.{option_map}
 use Rattle.cadence_flow.specs.Frame.{Format}
 use Rattle.cadence_flow.specs.Sums.{counted_kind, zero_sums}
 use Rattle.cadence_flow.specs.Writer.{History, Kind}
 use Rattle.cadence_text.specs.Line.{line_of}
 use Rattle.cadence_text.specs.Metric.{Metric}
+use Rattle.cadence_text.specs.Said.{IsSaid}
 use Rattle.cadence_schedule.specs.declared.call.Call.{Call}
 use Rattle.cadence_schedule.specs.declared.counting.CountingWriter.{CountingWriter}
 use Rattle.cadence_schedule.specs.declared.running.Running.{Running}
@@ -15,14 +16,14 @@ use Rattle.cadence_schedule.specs.declared.steps.Reply.{Reply}
 use Rattle.cadence_schedule.specs.declared.steps.Step.{Step}
 use Rattle.cadence_schedule.specs.Calls.{line_of_data, metric_of_data}
 use Rattle.cadence_schedule.specs.Headline.{given_of, packets_between, HasHeadline, IsAccounted}
-use Rattle.cadence_schedule.specs.History.{Turn, kept, marks, refusals}
+use Rattle.cadence_schedule.specs.History.{Turn, accepted, kept, marks, refusals}
 use Rattle.cadence_schedule.specs.Laws.{LeastPackets, PacketsReadOneWay}
 use Rattle.cadence_schedule.specs.Moves.{State, Runs}
 use Rattle.cadence_schedule.specs.Packets.{ArePacketsOf}
 use Rattle.cadence_schedule.specs.Ran.{outcome_after}
 use Rattle.cadence_schedule.specs.Running.{IsAtStart, state_of}
 use Rattle.cadence_schedule.specs.Settings.{Settings}
-use Rattle.cadence_schedule.proofs.KeptMetrics.{kept_mapped}
+use Rattle.cadence_schedule.proofs.KeptMetrics.{all_kept, kept_mapped}
 use Rattle.cadence_schedule.proofs.LineFilled.{line_filled}
 use Rattle.cadence_schedule.proofs.RunFacts.{run_after, run_taken, run_stream, run_cut, run_late, run_tight, run_submitted, run_drained, run_sums}
 use Rattle.cadence_schedule.proofs.RunTurns.{length-zip}
@@ -103,17 +104,18 @@ module _ {W A : Type 0} (kind_of : W → Kind) (history_of : W → History) (set
     }
 
     -- what stands beside it
-    pub is_accounted : PacketsReadOneWay → run.packer.writer.stats.bytes_sent < 2 ^ 64 → run.packer.writer.stats.packets_sent < 2 ^ 64
+    pub is_accounted : PacketsReadOneWay → All IsSaid (accepted (metric_of_data settings) turns) → run.packer.writer.stats.bytes_sent < 2 ^ 64 → run.packer.writer.stats.packets_sent < 2 ^ 64
         → IsAccounted history_of (given_of kind_of history_of settings capacity ending queue steps writer) (outcome_after run replies)
-    is_accounted reads bytes packets = record {
+    is_accounted reads each bytes packets = record {
       late = λ whole. run_late lines filled kind format queue before turns ended after whole.0 whole.1;
       taken = λ tells. run_taken lines filled kind format queue before turns ended after tells;
       stats = λ tells.
           run_sums (kind_of writer) (kind_of run.packer.writer.inner) before (history_of run.packer.writer.inner) run.packer.writer.stats
           (same_kind ∙ kind_is) tells (after.text tells).extends bytes packets;
       earlier = λ tells. (after.text tells).extends;
-      one_reading = λ whole newline readable.
-          reads capacity (marks lines turns) (refusals lines turns) run.plan.items (kept (metric_of_data settings) turns) (packets_between before ended.writer) run.packer.held readable
+      said = all_kept IsSaid (metric_of_data settings) turns each;
+      one_reading = λ whole newline free.
+          reads capacity (marks lines turns) (refusals lines turns) run.plan.items (kept (metric_of_data settings) turns) (packets_between before ended.writer) run.packer.held free
           (subst (λ e. ArePacketsOf record { capacity = capacity; ending = e } (marks lines turns) (refusals lines turns) (map line_of (kept (metric_of_data settings) turns)) run.plan.items (packets_between before ended.writer) run.packer.held) newline
           (subst (λ ls. ArePacketsOf format (marks lines turns) (refusals lines turns) ls run.plan.items (packets_between before ended.writer) run.packer.held) (kept_mapped line_of (metric_of_data settings) turns)
           (run_cut lines filled kind format queue before turns ended after whole.0 whole.1)));

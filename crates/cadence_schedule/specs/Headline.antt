@@ -4,7 +4,8 @@ use Rattle.std.specs.List.{concat, zip}
 use Rattle.std.specs.Option.{option_map}
 use Rattle.cadence_text.specs.Line.{line_of}
 use Rattle.cadence_text.specs.Metric.{Metric}
-use Rattle.cadence_text.specs.OneReading.{IsReadable}
+use Rattle.cadence_text.specs.OneReading.{IsFreeOfSeparators}
+use Rattle.cadence_text.specs.Said.{IsSaid}
 use Rattle.cadence_flow.specs.Frame.{Format, size_of, stream}
 use Rattle.cadence_flow.specs.Writer.{History, Kind, Extends}
 use Rattle.cadence_flow.specs.declared.stats.SinkStats.{SinkStats}
@@ -134,6 +135,8 @@ module _ {W A : Type 0} (history : W → History) (given : Given A) (outcome : O
     pub stats : given.kind.tells ≡ true → AreSumsBetween given.before after_of outcome.stats
     -- What the writer had taken before the run comes first.
     pub earlier : given.kind.tells ≡ true → Extends given.before after_of
+    -- The kept metrics have texts in UTF-8, numbers that a `Decimal` holds, and times of 64 bits.
+    pub said : All IsSaid (kept given.metric_of turns_of)
     -- With the newline as ending, and kept metrics that are free of separators: a listener reads the kept metrics, and
     -- no others.
-    pub one_reading : TellsWhole given.kind → given.format.ending ≡ codes "\n" → All IsReadable (kept given.metric_of turns_of) → ReadsAs (kept given.metric_of turns_of) packets_of outcome.held
+    pub one_reading : TellsWhole given.kind → given.format.ending ≡ codes "\n" → All IsFreeOfSeparators (kept given.metric_of turns_of) → ReadsAs (kept given.metric_of turns_of) packets_of outcome.held

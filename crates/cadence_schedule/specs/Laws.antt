@@ -2,7 +2,7 @@
 use Rattle.std.specs.Prelude.{◌≡◌, ℕ, List, All, codes, map}
 use Rattle.cadence_text.specs.Line.{line_of}
 use Rattle.cadence_text.specs.Metric.{Metric}
-use Rattle.cadence_text.specs.OneReading.{IsReadable}
+use Rattle.cadence_text.specs.OneReading.{IsFreeOfSeparators}
 use Rattle.cadence_schedule.specs.Call.{Choice, MetricCall, chosen, metric_of_call, with_choice}
 use Rattle.cadence_schedule.specs.Packets.{ArePacketsOf, ReadsAs}
 use Rattle.cadence_schedule.specs.Plan.{IsTight, IsFewest}
@@ -17,7 +17,7 @@ LeastPackets = (capacity : ℕ) (marks sizes plan : List ℕ) → IsTight capaci
 abbrev pub PacketsReadOneWay : Type 0
 PacketsReadOneWay =
     (capacity : ℕ) (marks refusals plan : List ℕ) (metrics : List Metric) (packets : List (List ℕ)) (held : List ℕ)
-    → All IsReadable metrics
+    → All IsFreeOfSeparators metrics
     → ArePacketsOf (record { capacity = capacity; ending = codes "\n" }) marks refusals (map line_of metrics) plan packets held
     → ReadsAs metrics packets held
 

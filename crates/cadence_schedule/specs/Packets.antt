@@ -2,7 +2,7 @@
 use Rattle.std.specs.Prelude.{◌≡◌, ◌≢◌, ℕ, true, false, List, [], ◌∷◌, ◌++◌, length, map, All, Contains}
 use Rattle.std.specs.List.{AllZip, flat_map}
 use Rattle.cadence_text.specs.Metric.{Metric}
-use Rattle.cadence_text.specs.OneReading.{IsPacketOf, IsReadable}
+use Rattle.cadence_text.specs.OneReading.{IsFreeOfSeparators, IsPacketOf}
 use Rattle.cadence_flow.specs.Frame.{Format, size_of, is_oversize, stream, held_packet}
 use Rattle.cadence_schedule.specs.Plan.{groups_of, IsAdmissible}
 
@@ -18,9 +18,9 @@ pub record ArePacketsOf (format : Format) (marks refusals : List ℕ) (lines : L
 
 -- the packet is of these metrics, which are free of separators, and of no other list of such metrics
 pub record IsPacketOfOnly (metrics : List Metric) (packet : List ℕ) : Type 0 where
-  pub readable : All IsReadable metrics
+  pub free : All IsFreeOfSeparators metrics
   pub reads : IsPacketOf metrics packet
-  pub only : (others : List Metric) → All IsReadable others → IsPacketOf others packet → others ≡ metrics
+  pub only : (others : List Metric) → All IsFreeOfSeparators others → IsPacketOf others packet → others ≡ metrics
 
 -- each packet, and the held text where there is any, reads as one list; joined, the lists are these metrics
 abbrev pub ReadsAs : List Metric → List (List ℕ) → List ℕ → Type 0

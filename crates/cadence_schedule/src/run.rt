@@ -1,9 +1,11 @@
 //! Runs of schedules.
-ghost use Rattle.std.specs.Prelude.{◌≡◌, ◌+◌, ◌<◌, ◌≤◌, ◌^◌, [], length, vec_len, vec_capacity, IfOk, IfErr};
+ghost use Rattle.std.specs.Prelude.{◌≡◌, ◌+◌, ◌<◌, ◌≤◌, ◌^◌, [], All, length, vec_len, vec_capacity, IfOk, IfErr};
 ghost use Rattle.std.specs.List.{zip};
 ghost use Rattle.cadence_flow.specs.Queue.{new_queue};
-ghost use Rattle.cadence_schedule.specs.Calls.{line_of_data};
+ghost use Rattle.cadence_text.specs.Said.{IsSaid};
+ghost use Rattle.cadence_schedule.specs.Calls.{line_of_data, metric_of_data};
 ghost use Rattle.cadence_schedule.specs.Headline.{given_of, HasHeadline, IsAccounted};
+ghost use Rattle.cadence_schedule.specs.History.{accepted};
 ghost use Rattle.cadence_schedule.specs.Moves.{Runs};
 ghost use Rattle.cadence_schedule.specs.Report.{outcome_of};
 ghost use Rattle.cadence_schedule.specs.Running.{IsAtStart, state_of};
@@ -80,6 +82,8 @@ fn run_steps<P: PacketWriter, A: Allocator + Clone>(
     ensures runs { Runs (line_of_data settings.now) (P.kind running.old.packer.writer)
         running.old.packer.format running.old.queue.capacity (state_of P.history running.old)
         (zip steps.now replies.new.items) (state_of P.history running.new) }
+    ensures said { All IsSaid (accepted (metric_of_data settings.now)
+        (zip steps.now replies.new.items)) }
     ensures one_each { length replies.new.items ≡ length steps.now }
     ensures same_kind { P.kind running.new.packer.writer ≡ P.kind running.old.packer.writer }
     ensures same_format { running.new.packer.format ≡ running.old.packer.format }

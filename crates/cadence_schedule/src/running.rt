@@ -1,6 +1,7 @@
 //! A run at one of its steps.
-ghost use Rattle.std.specs.Prelude.{◌≡◌, ◌+◌, ◌<◌, ◌≤◌, Some, IsTrue, IfOk, IfErr, vec_len, vec_capacity, string_bytes};
-ghost use Rattle.cadence_schedule.specs.Calls.{line_of_data};
+ghost use Rattle.std.specs.Prelude.{◌≡◌, ◌+◌, ◌<◌, ◌≤◌, Some, IsTrue, IfOk, IfErr, IfSome, OnOk, vec_len, vec_capacity, string_bytes};
+ghost use Rattle.cadence_text.specs.Said.{IsSaid};
+ghost use Rattle.cadence_schedule.specs.Calls.{line_of_data, metric_of_data};
 ghost use Rattle.cadence_schedule.specs.Moves.{HasLast, Counted, LineFails};
 
 use super::call::Call;
@@ -45,22 +46,27 @@ fn format_call<A: Allocator + Clone>(
     ensures line { IfOk result (λ line.
         line_of_data settings.now call.now ≡ Some (string_bytes line)) }
     ensures refused { IfErr result (LineFails (line_of_data settings.now call.now)) }
+    ensures said { OnOk result (IfSome (metric_of_data settings.now call.now) IsSaid) }
 {
     let record = settings.record_of(call)?;
     record.format(alloc.clone()?)
 }
 
 impl<P: PacketWriter, A: Allocator + Clone> Running<P, A> {
-    ghost use Rattle.std.specs.Prelude.{◌≡◌, ◌<◌, vec_len, vec_capacity};
-    ghost use Rattle.cadence_schedule.specs.Calls.{line_of_data};
+    ghost use Rattle.std.specs.Prelude.{◌≡◌, ◌<◌, All, vec_len, vec_capacity};
+    ghost use Rattle.cadence_text.specs.Said.{IsSaid};
+    ghost use Rattle.cadence_schedule.specs.Calls.{line_of_data, metric_of_data};
+    ghost use Rattle.cadence_schedule.specs.History.{accepted_by};
     ghost use Rattle.cadence_schedule.specs.Moves.{joins_held};
     ghost use Rattle.cadence_schedule.specs.Running.{MakesTurn};
     ghost use Rattle.cadence_schedule.specs.declared.steps.Step.TheVariants as step;
 
     /// Formats a call and submits its line.
     fn call(&mut self, alloc: &A, settings: &ClientSettings<A>, call: &Call<A>) -> Reply
-        ensures { MakesTurn P.kind P.history (line_of_data settings.now)
+        ensures turn { MakesTurn P.kind P.history (line_of_data settings.now)
             self.old (step.Call call.now, result) self.new }
+        ensures said { All IsSaid (accepted_by (metric_of_data settings.now)
+            (step.Call call.now, result)) }
     {
         let line = match format_call(alloc, settings, call) {
             Ok(line) => line,
@@ -138,8 +144,9 @@ impl<P: PacketWriter, A: Allocator + Clone> Running<P, A> {
     /// Makes one step.
     pub(crate) fn step(&mut self, alloc: &A, settings: &ClientSettings<A>, step: &Step<A>) -> Reply
         requires { vec_len self.old.plan < vec_capacity self.old.plan }
-        ensures { MakesTurn P.kind P.history (line_of_data settings.now)
+        ensures turn { MakesTurn P.kind P.history (line_of_data settings.now)
             self.old (step.now, result) self.new }
+        ensures said { All IsSaid (accepted_by (metric_of_data settings.now) (step.now, result)) }
     {
         match step {
             Step::Call(call) => self.call(alloc, settings, call),

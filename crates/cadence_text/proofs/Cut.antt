@@ -46,6 +46,10 @@ stops_begins c (x ∷ xs) h = not_from_true (eqb x c) (eq-eqb x c h)
 pub cut_at : (c : ℕ) (xs ys s t : List ℕ) → Lacks c xs → Lacks c ys → Begins c s → Begins c t → xs ++ s ≡ ys ++ t → (xs ≡ ys) × (s ≡ t)
 cut_at c xs ys s t hx hy hs ht e = cut_once (λ b. not (eqb b c)) xs ys s t (passes_lacks c xs hx) (passes_lacks c ys hy) (stops_begins c s hs) (stops_begins c t ht) e
 
+pub lacks_no : (c : ℕ) (s t : List ℕ) → Lacks c (s ++ (c ∷ t)) → ⊥
+lacks_no c [] t h = h.0 refl
+lacks_no c (a ∷ s) t h = lacks_no c s t h.1
+
 -- pieces without c, joined by c, are cut in one way, where there is a piece
 pub join_once : (c : ℕ) (x y : List ℕ) (xs ys : List (List ℕ)) → AllByRecursion (Lacks c) (x ∷ xs) → AllByRecursion (Lacks c) (y ∷ ys) → join_with_byte c (x ∷ xs) ≡ join_with_byte c (y ∷ ys) → ◌≡◌ {A = List (List ℕ)} (x ∷ xs) (y ∷ ys)
 join_once c x y [] [] hx hy e = cc
@@ -78,6 +82,10 @@ each_weaker P Q weaker (x ∷ xs) (h, hs) = (weaker x h, each_weaker P Q weaker 
 pub each_mapped : {X Y : Type 0} (f : X → Y) (P : X → Type 0) (Q : Y → Type 0) → ((x : X) → P x → Q (f x)) → (xs : List X) → AllByRecursion P xs → AllByRecursion Q (map f xs)
 each_mapped f P Q gives [] h = tt
 each_mapped f P Q gives (x ∷ xs) (h, hs) = (gives x h, each_mapped f P Q gives xs hs)
+
+pub each_image : {X Y : Type 0} (f : X → Y) (Q : Y → Type 0) → ((x : X) → Q (f x)) → (xs : List X) → AllByRecursion Q (map f xs)
+each_image f Q gives [] = tt
+each_image f Q gives (x ∷ xs) = (gives x, each_image f Q gives xs)
 
 pub each_append : {X : Type 0} (P : X → Type 0) (xs ys : List X) → AllByRecursion P xs → AllByRecursion P ys → AllByRecursion P (xs ++ ys)
 each_append P [] ys hx hy = hy

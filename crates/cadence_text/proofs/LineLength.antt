@@ -1,48 +1,54 @@
--- No line of a record has 2 ^ 126 bytes.
+-- No line of a record has 2 ^ 126 bytes, and each has texts, numbers and a time that a record can say.
 use Rattle.std.proofs.Common.{ℕ, zero, suc, ◌+◌, ◌*◌, ◌/◌, ◌^◌, ◌<◌, ◌≤◌, ℤ, pos, negsuc, List, [], ◌∷◌, ◌++◌, length, Option, Some, None, ap, arith, unsigned_abs, lit<}
-use Rattle.std.specs.Prelude.{IfSome}
+use Rattle.std.specs.Prelude.{FitsSigned, IfSome}
 use Rattle.std.specs.List.{AllByRecursion, flat_map}
-use Rattle.std.specs.Fmt.{decimal}
+use Rattle.std.specs.Str.{IsUtf8}
+use mir.Syntax.{w128}
 use Rattle.std.proofs.lemmas.List.{length-append}
 use Rattle.std.proofs.lemmas.List.Elements.{All-weaker, recursion_from_All}
-use Rattle.std.proofs.lemmas.Fmt.{length-decimal-le_wide}
+use Rattle.std.proofs.lemmas.Str.{IsUtf8-append}
 use Rattle.std.proofs.Math.Nat.{div-le_self}
 use Rattle.cadence_text.specs.declared.line.MetricType.{MetricType}
 use Rattle.cadence_text.specs.declared.line.MetricType.TheVariants.{Counter, Timer, Gauge, Meter, Histogram, Set, Distribution}
-use Rattle.cadence_text.specs.Number.{Number, number_text, places_text}
+use Rattle.cadence_text.specs.Number.{Number, decimal_text, number_text, places_text}
 use Rattle.cadence_text.specs.Metric.{Metric, Tag}
 use Rattle.cadence_text.specs.Line.{separated, numbers_text, kind_text, rate_field, key_text, tag_text, tags_field, container_field, time_field, line_of}
-use Rattle.cadence_text.specs.RecordMetric.{IsRecordNumber, IsRecordTag, IsRecordMetric, IsRecordTime, FitsMemory, AreRecordNumbers, AreRecordTags}
-use Rattle.cadence_text.specs.OneReading.{HasWidth, HasWidths}
+use Rattle.cadence_text.specs.RecordMetric.{IsRecordTag, IsRecordMetric, IsRecordTime, FitsMemory, AreRecordNumbers, AreRecordTags}
+use Rattle.cadence_text.specs.Said.{IsDecimal, IsSaid, IsSaidTag}
 use Rattle.cadence_text.proofs.Cut.{each_weaker}
-use Rattle.cadence_text.proofs.NumberText.{sign, unsigned_text, sign-pos, places_text-suc, length-places_of, fits_wide, quotient_below}
+use Rattle.cadence_text.proofs.Digits.{length-decimal_text-le}
+use Rattle.cadence_text.proofs.NumberText.{sign, unsigned_text, sign-pos, places_text-suc, length-places_of}
 
 sign_short : (z : ℤ) → length (sign z) ≤ 1
 sign_short (pos n) = omega (arith, ap (λ t. length t) (sign-pos n))
 sign_short (negsuc n) = omega arith
 
-places_short : (n p : ℕ) → n < 10 ^ 64 → length (places_text n p) ≤ p + 1
-places_short n zero h = omega arith
-places_short n (suc p) h = omega (arith, ap (λ t. length t) (places_text-suc n p), length-places_of n p h)
+places_short : (n p : ℕ) → length (places_text n p) ≤ p + 1
+places_short n zero = omega arith
+places_short n (suc p) = omega (arith, ap (λ t. length t) (places_text-suc n p), length-places_of n p)
 
-number_short : (a : Number) → IsRecordNumber a → length (number_text a) ≤ 71
+-- a number of 128 bits, its sign among them
+pub fits_size : (z : ℤ) → FitsSigned w128 z → unsigned_abs z ≤ 2 ^ 127
+fits_size (pos n) h = omega (arith, h.sfits)
+fits_size (negsuc n) h = omega (arith, h.sfits)
+
+number_short : (a : Number) → IsDecimal a → length (number_text a) ≤ 71
 number_short a h =
     let n = unsigned_abs a.mantissa in
-    let wide : n < 10 ^ 64 = fits_wide a.mantissa h.mantissa in
-    let low : n / 10 ^ a.places < 10 ^ 39 = omega (arith, div-le_self n (10 ^ a.places), h.mantissa) in
-    let whole : length (decimal (n / 10 ^ a.places)) ≤ 39 = length-decimal-le_wide 39 (n / 10 ^ a.places) (lit< tt) low (quotient_below n a.places wide) in
-    omega (arith, sign_short a.mantissa, whole, places_short n a.places wide, h.places, length-append (sign a.mantissa) (unsigned_text n a.places), length-append (decimal (n / 10 ^ a.places)) (places_text n a.places))
+    let low : n / 10 ^ a.places < 10 ^ 39 = omega (arith, div-le_self n (10 ^ a.places), fits_size a.mantissa h.mantissa) in
+    let whole : length (decimal_text (n / 10 ^ a.places)) ≤ 39 = length-decimal_text-le 39 (n / 10 ^ a.places) (lit< tt) low in
+    omega (arith, sign_short a.mantissa, whole, places_short n a.places, h.places, length-append (sign a.mantissa) (unsigned_text n a.places), length-append (decimal_text (n / 10 ^ a.places)) (places_text n a.places))
 
-rate_short : (o : Option Number) → IfSome o IsRecordNumber → length (rate_field o) ≤ 73
+rate_short : (o : Option Number) → IfSome o IsDecimal → length (rate_field o) ≤ 73
 rate_short (Some r) h = omega (arith, number_short r h)
 rate_short None h = omega arith
 
 key_short : (o : Option (List ℕ)) → IfSome o FitsMemory → length (key_text o) ≤ 2 ^ 63
-key_short (Some k) h = omega (arith, h, length-append k (58 ∷ []))
+key_short (Some k) h = omega (arith, h.0, length-append k (58 ∷ []))
 key_short None h = omega arith
 
 tag_short : (a : Tag) → IsRecordTag a → length (tag_text a) ≤ 2 ^ 64
-tag_short a h = omega (arith, key_short a.key h.key, h.text, length-append (key_text a.key) a.text)
+tag_short a h = omega (arith, key_short a.key h.key, h.text.0, length-append (key_text a.key) a.text)
 
 flat_map_short : {X : Type 0} (k : ℕ) (f : X → List ℕ) (xs : List X) → AllByRecursion (λ x. length (f x) ≤ k) xs → length (flat_map f xs) ≤ k * length xs
 flat_map_short k f [] h = omega arith
@@ -56,7 +62,7 @@ separated_short k c text (x ∷ xs) (h, hs) =
 
 numbers_short : (ns : List Number) → AreRecordNumbers ns → length (numbers_text ns) ≤ 72 * 2 ^ 64
 numbers_short ns h =
-    omega (arith, h.few, separated_short 71 58 number_text ns (each_weaker IsRecordNumber (λ n. length (number_text n) ≤ 71) number_short ns (recursion_from_All IsRecordNumber ns h.each)))
+    omega (arith, h.few, separated_short 71 58 number_text ns (each_weaker IsDecimal (λ n. length (number_text n) ≤ 71) number_short ns (recursion_from_All IsDecimal ns h.each)))
 
 tags_short : (ts : List Tag) → AreRecordTags ts → length (tags_field ts) ≤ 2 ^ 125
 tags_short [] h = omega arith
@@ -64,11 +70,11 @@ tags_short (t ∷ ts) h =
     omega (arith, h.few, separated_short (2 ^ 64) 44 tag_text (t ∷ ts) (each_weaker IsRecordTag (λ a. length (tag_text a) ≤ 2 ^ 64) tag_short (t ∷ ts) (recursion_from_All IsRecordTag (t ∷ ts) h.each)))
 
 container_short : (o : Option (List ℕ)) → IfSome o FitsMemory → length (container_field o) ≤ 2 ^ 64
-container_short (Some c) h = omega (arith, h)
+container_short (Some c) h = omega (arith, h.0)
 container_short None h = omega arith
 
 time_short : (o : Option ℕ) → IsRecordTime o → length (time_field o) ≤ 22
-time_short (Some t) h = let digits : length (decimal t) ≤ 20 = length-decimal-le_wide 20 t (lit< tt) (omega (arith, h)) (omega (arith, h)) in omega arith
+time_short (Some t) h = let digits : length (decimal_text t) ≤ 20 = length-decimal_text-le 20 t (lit< tt) (omega (arith, h)) in omega arith
 time_short None h = omega arith
 
 kind_short : (k : MetricType) → length (kind_text k) ≤ 2
@@ -105,14 +111,24 @@ line_is_short m h =
       length-append (container_field m.container) (time_field m.time),
     )
 
--- what a record means has numbers and a time of these widths
-pub record_widths : (m : Metric) → IsRecordMetric m → HasWidths m
-record_widths m h = record {
-  numbers = All-weaker IsRecordNumber HasWidth (λ n p. p.mantissa) m.numbers h.numbers.each;
-  rate = rate_width m.rate h.rate;
+-- what a record means is what a record may say
+pub record_said : (m : Metric) → IsRecordMetric m → IsSaid m
+record_said m h = record {
+  name = h.utf8;
+  numbers = h.numbers.each;
+  rate = h.rate;
+  tags = All-weaker IsRecordTag IsSaidTag said_tag m.tags h.tags.each;
+  container = said_text m.container h.container;
   time = h.time;
 }
   where
-    rate_width : (o : Option Number) → IfSome o IsRecordNumber → IfSome o HasWidth
-    rate_width (Some r) h = h.mantissa
-    rate_width None h = tt
+    said_text : (o : Option (List ℕ)) → IfSome o FitsMemory → IfSome o IsUtf8
+    said_text (Some t) h = h.1
+    said_text None h = tt
+
+    said_tag : (tag : Tag) → IsRecordTag tag → IsSaidTag tag
+    said_tag tag h = record { key = said_text tag.key h.key; text = h.text.1 }
+
+-- two texts in UTF-8, one after the other
+pub joined_utf8 : (prefix key : List ℕ) → IsUtf8 prefix → IsUtf8 key → IsUtf8 (prefix ++ key)
+joined_utf8 prefix key hp hk = IsUtf8-append prefix key hp hk

@@ -1,50 +1,50 @@
 -- A line is of one metric only.
-use Rattle.std.proofs.Common.{◌≡◌, ◌≢◌, ℕ, ◌<◌, ◌^◌, List, [], ◌∷◌, ◌++◌, length, Option, Some, None, Bool, refl, sym, ap, ◌∙◌, ap₂, subst, arith, eqb, map, lit<, get_or, inl, inr}
+use Rattle.std.proofs.Common.{◌≡◌, ◌≢◌, ℕ, ◌<◌, List, [], ◌∷◌, ◌++◌, length, Option, Some, None, Bool, refl, sym, ap, ◌∙◌, ap₂, subst, arith, eqb, map, lit<, get_or, inl, inr}
 use Rattle.std.specs.Prelude.{All, IfSome}
 use Rattle.std.specs.List.{AllByRecursion, join_with_byte, flat_map}
-use Rattle.std.specs.Fmt.{decimal}
 use Rattle.std.proofs.lemmas.List.{append-nil, append_assoc, length-append}
 use Rattle.std.proofs.lemmas.List.Concat.{flat_map-append}
 use Rattle.std.proofs.lemmas.List.Elements.{recursion_from_All, All-head}
 use Rattle.cadence_text.specs.declared.line.MetricType.{MetricType}
 use Rattle.cadence_text.specs.declared.line.MetricType.TheVariants.{Counter, Timer, Gauge, Meter, Histogram, Set, Distribution}
-use Rattle.cadence_text.specs.Number.{Number, number_text}
+use Rattle.cadence_text.specs.Number.{Number, decimal_text, number_text}
 use Rattle.cadence_text.specs.Metric.{Metric, Tag}
 use Rattle.cadence_text.specs.Line.{separated, numbers_text, kind_text, rate_field, key_text, tag_text, tags_field, container_field, time_field, line_of}
-use Rattle.cadence_text.specs.OneReading.{IsNoSeparator, IsFreeText, IsFreeTag, HasWidth, IsReadable, lines_of, IsPacketOf}
-use Rattle.cadence_text.proofs.Cut.{Lacks, cut_at, join_once, map_once, each_weaker, each_mapped, each_append, each_joined, cut_once, Stops, Passes}
-use Rattle.cadence_text.proofs.NumberText.{number_once, number_bytes, IsNumberByte, number_some, decimal_bytes, decimal_once}
+use Rattle.cadence_text.specs.OneReading.{IsNoSeparator, IsFreeText, IsFreeTag, IsFreeOfSeparators, lines_of, IsPacketOf}
+use Rattle.cadence_text.proofs.Cut.{Lacks, lacks_no, cut_at, join_once, map_once, each_weaker, each_mapped, each_image, each_append, each_joined, cut_once, Stops, Passes}
+use Rattle.cadence_text.proofs.Digits.{decimal_text_once}
+use Rattle.cadence_text.proofs.NumberText.{number_once, number_bytes, IsNumberByte, number_some, decimal_bytes}
 
 -- texts with a byte between each two are the texts joined by it
-separated-joined : {X : Type 0} (c : ℕ) (text : X → List ℕ) (xs : List X) → separated (c ∷ []) text xs ≡ join_with_byte c (map text xs)
+pub separated-joined : {X : Type 0} (c : ℕ) (text : X → List ℕ) (xs : List X) → separated (c ∷ []) text xs ≡ join_with_byte c (map text xs)
 separated-joined c text [] = refl
 separated-joined c text (x ∷ []) = append-nil (text x)
 separated-joined c text (x ∷ y ∷ xs) = ap (λ t. text x ++ (c ∷ t)) (separated-joined c text (y ∷ xs))
 
 -- the fields between the bars
-abbrev rate_part : Option Number → List (List ℕ)
+abbrev pub rate_part : Option Number → List (List ℕ)
 rate_part (Some rate) = (64 ∷ number_text rate) ∷ []
 rate_part None = []
 
-abbrev tags_part : List Tag → List (List ℕ)
+abbrev pub tags_part : List Tag → List (List ℕ)
 tags_part [] = []
 tags_part (tag ∷ tags) = (35 ∷ join_with_byte 44 (map tag_text (tag ∷ tags))) ∷ []
 
-abbrev container_part : Option (List ℕ) → List (List ℕ)
+abbrev pub container_part : Option (List ℕ) → List (List ℕ)
 container_part (Some container) = (99 ∷ 58 ∷ container) ∷ []
 container_part None = []
 
-abbrev time_part : Option ℕ → List (List ℕ)
-time_part (Some time) = (84 ∷ decimal time) ∷ []
+abbrev pub time_part : Option ℕ → List (List ℕ)
+time_part (Some time) = (84 ∷ decimal_text time) ∷ []
 time_part None = []
 
-abbrev front_of : Metric → List ℕ
+abbrev pub front_of : Metric → List ℕ
 front_of m = m.name ++ 58 ∷ join_with_byte 58 (map number_text m.numbers)
 
-abbrev last_of : Metric → List (List ℕ)
+abbrev pub last_of : Metric → List (List ℕ)
 last_of m = rate_part m.rate ++ (tags_part m.tags ++ (container_part m.container ++ time_part m.time))
 
-abbrev parts_of : Metric → List (List ℕ)
+abbrev pub parts_of : Metric → List (List ℕ)
 parts_of m = front_of m ∷ kind_text m.kind ∷ last_of m
 
 -- each part after a bar
@@ -68,7 +68,7 @@ barred-container (Some c) = append-nil (124 ∷ 99 ∷ 58 ∷ c)
 barred-container None = refl
 
 barred-time : (o : Option ℕ) → barred (time_part o) ≡ time_field o
-barred-time (Some t) = append-nil (124 ∷ 84 ∷ decimal t)
+barred-time (Some t) = append-nil (124 ∷ 84 ∷ decimal_text t)
 barred-time None = refl
 
 barred-last : (m : Metric) → barred (last_of m) ≡ rate_field m.rate ++ (tags_field m.tags ++ (container_field m.container ++ time_field m.time))
@@ -80,7 +80,7 @@ barred-last m =
     ∙ ap₂ (λ s t. s ++ t) (barred-container m.container) (barred-time m.time)))
 
 -- a line is its fields with bars between them
-line_of-joined : (m : Metric) → line_of m ≡ join_with_byte 124 (parts_of m)
+pub line_of-joined : (m : Metric) → line_of m ≡ join_with_byte 124 (parts_of m)
 unfolding line_of
 line_of-joined m =
     let numbers : numbers_text m.numbers ≡ join_with_byte 58 (map number_text m.numbers) = separated-joined 58 number_text m.numbers in
@@ -95,21 +95,21 @@ PartByte b = (b ≢ 124) × (b ≢ 10)
 plain : (text : List ℕ) → IsFreeText text → AllByRecursion IsNoSeparator text
 plain text h = recursion_from_All IsNoSeparator text h
 
-plain_lacks_colon : (text : List ℕ) → IsFreeText text → Lacks 58 text
+pub plain_lacks_colon : (text : List ℕ) → IsFreeText text → Lacks 58 text
 plain_lacks_colon text h = each_weaker IsNoSeparator (λ b. b ≢ 58) (λ b p. p.0) text (plain text h)
 
 plain_part : (text : List ℕ) → IsFreeText text → AllByRecursion PartByte text
 plain_part text h = each_weaker IsNoSeparator PartByte (λ b p. (p.2, p.3)) text (plain text h)
 
-number_plain : (a : Number) → HasWidth a → AllByRecursion IsNoSeparator (number_text a)
-number_plain a h = each_weaker IsNumberByte IsNoSeparator (λ b p. let (low, high) = p in (λ e. absurd (omega arith), λ e. absurd (omega arith), λ e. absurd (omega arith), λ e. absurd (omega arith))) (number_text a) (number_bytes a h)
+number_plain : (a : Number) → AllByRecursion IsNoSeparator (number_text a)
+number_plain a = each_weaker IsNumberByte IsNoSeparator (λ b p. let (low, high) = p in (λ e. absurd (omega arith), λ e. absurd (omega arith), λ e. absurd (omega arith), λ e. absurd (omega arith))) (number_text a) (number_bytes a)
 
 -- `key:text`, or the text alone
-abbrev keyed_text : Option (List ℕ) → List ℕ → List ℕ
+abbrev pub keyed_text : Option (List ℕ) → List ℕ → List ℕ
 keyed_text (Some key) text = key ++ 58 ∷ text
 keyed_text None text = text
 
-key_text-keyed : (k : Option (List ℕ)) (s : List ℕ) → key_text k ++ s ≡ keyed_text k s
+pub key_text-keyed : (k : Option (List ℕ)) (s : List ℕ) → key_text k ++ s ≡ keyed_text k s
 key_text-keyed (Some k) s = append_assoc k (58 ∷ []) s
 key_text-keyed None s = refl
 
@@ -158,20 +158,31 @@ joined_some c x [] some e = absurd (omega (arith, ap (λ t. length t) e))
 joined_some c x (y ∷ xs) some e = absurd (omega (arith, ap (λ t. length t) e, length-append x (c ∷ join_with_byte c (y ∷ xs))))
 
 -- numbers joined by colons
-number_lacks : (a : Number) → HasWidth a → Lacks 58 (number_text a)
-number_lacks a h = each_weaker IsNoSeparator (λ b. b ≢ 58) (λ b p. p.0) (number_text a) (number_plain a h)
+pub number_lacks : (a : Number) → Lacks 58 (number_text a)
+number_lacks a = each_weaker IsNoSeparator (λ b. b ≢ 58) (λ b p. p.0) (number_text a) (number_plain a)
 
-numbers_once : (xs ys : List Number) → AllByRecursion HasWidth xs → AllByRecursion HasWidth ys → join_with_byte 58 (map number_text xs) ≡ join_with_byte 58 (map number_text ys) → xs ≡ ys
-numbers_once [] [] hx hy e = refl
-numbers_once [] (y ∷ ys) hx (hy, hys) e = absurd (joined_some 58 (number_text y) (map number_text ys) (number_some y hy) (sym e))
-numbers_once (x ∷ xs) [] (hx, hxs) hy e = absurd (joined_some 58 (number_text x) (map number_text xs) (number_some x hx) e)
-numbers_once (x ∷ xs) (y ∷ ys) hx hy e =
-    map_once HasWidth number_text number_once (x ∷ xs) (y ∷ ys) hx hy
+numbers_alike : (xs ys : List Number) → map number_text xs ≡ map number_text ys → xs ≡ ys
+numbers_alike [] [] e = refl
+numbers_alike [] (y ∷ ys) e = absurd cc
+numbers_alike (x ∷ xs) [] e = absurd cc
+numbers_alike (x ∷ xs) (y ∷ ys) e =
+    let head : number_text x ≡ number_text y = cc in
+    let tail : map number_text xs ≡ map number_text ys = cc in
+    let first : x ≡ y = number_once x y head in
+    let rest : xs ≡ ys = numbers_alike xs ys tail in
+    cc
+
+numbers_once : (xs ys : List Number) → join_with_byte 58 (map number_text xs) ≡ join_with_byte 58 (map number_text ys) → xs ≡ ys
+numbers_once [] [] e = refl
+numbers_once [] (y ∷ ys) e = absurd (joined_some 58 (number_text y) (map number_text ys) (number_some y) (sym e))
+numbers_once (x ∷ xs) [] e = absurd (joined_some 58 (number_text x) (map number_text xs) (number_some x) e)
+numbers_once (x ∷ xs) (y ∷ ys) e =
+    numbers_alike (x ∷ xs) (y ∷ ys)
     (join_once 58 (number_text x) (number_text y) (map number_text xs) (map number_text ys)
-    (each_mapped number_text HasWidth (Lacks 58) number_lacks (x ∷ xs) hx) (each_mapped number_text HasWidth (Lacks 58) number_lacks (y ∷ ys) hy) e)
+    (each_image number_text (Lacks 58) number_lacks (x ∷ xs)) (each_image number_text (Lacks 58) number_lacks (y ∷ ys)) e)
 
 -- the parts that may be missing, each known by its first byte
-abbrev marked : ℕ → List ℕ → Bool
+abbrev pub marked : ℕ → List ℕ → Bool
 marked m part = eqb (get_or part 0 0) m
 
 passes_rate : (o : Option Number) → Passes (marked 64) (rate_part o)
@@ -201,13 +212,13 @@ stops_rate [] (Some c) t = refl
 stops_rate [] None (Some t) = refl
 stops_rate [] None None = tt
 
-rate_once : (a b : Option Number) → IfSome a HasWidth → IfSome b HasWidth → rate_part a ≡ rate_part b → a ≡ b
-rate_once (Some a) (Some b) ha hb e = let text : number_text a ≡ number_text b = cc in ap Some (number_once a b ha hb text)
-rate_once (Some a) None ha hb e = absurd cc
-rate_once None (Some b) ha hb e = absurd cc
-rate_once None None ha hb e = refl
+rate_once : (a b : Option Number) → rate_part a ≡ rate_part b → a ≡ b
+rate_once (Some a) (Some b) e = let text : number_text a ≡ number_text b = cc in ap Some (number_once a b text)
+rate_once (Some a) None e = absurd cc
+rate_once None (Some b) e = absurd cc
+rate_once None None e = refl
 
-tag_lacks : (a : Tag) → IsFreeTag a → Lacks 44 (tag_text a)
+pub tag_lacks : (a : Tag) → IsFreeTag a → Lacks 44 (tag_text a)
 tag_lacks a h = each_weaker TagByte (λ b. b ≢ 44) (λ b p. p.0) (tag_text a) (tag_bytes a h)
 
 tags_once : (xs ys : List Tag) → AllByRecursion IsFreeTag xs → AllByRecursion IsFreeTag ys → tags_part xs ≡ tags_part ys → xs ≡ ys
@@ -226,11 +237,11 @@ container_once (Some a) None e = absurd cc
 container_once None (Some b) e = absurd cc
 container_once None None e = refl
 
-time_once : (a b : Option ℕ) → IfSome a (λ t. t < 2 ^ 64) → IfSome b (λ t. t < 2 ^ 64) → time_part a ≡ time_part b → a ≡ b
-time_once (Some a) (Some b) ha hb e = let text : decimal a ≡ decimal b = cc in ap Some (decimal_once a b (omega arith) (omega arith) text)
-time_once (Some a) None ha hb e = absurd cc
-time_once None (Some b) ha hb e = absurd cc
-time_once None None ha hb e = refl
+time_once : (a b : Option ℕ) → time_part a ≡ time_part b → a ≡ b
+time_once (Some a) (Some b) e = let text : decimal_text a ≡ decimal_text b = cc in ap Some (decimal_text_once a b text)
+time_once (Some a) None e = absurd cc
+time_once None (Some b) e = absurd cc
+time_once None None e = refl
 
 -- no part has a bar or a newline
 letter : (b : ℕ) → 10 < b → b < 124 → PartByte b
@@ -245,8 +256,8 @@ kind_part Histogram = (letter 104 (lit< tt) (lit< tt), tt)
 kind_part Set = (letter 115 (lit< tt) (lit< tt), tt)
 kind_part Distribution = (letter 100 (lit< tt) (lit< tt), tt)
 
-number_part : (a : Number) → HasWidth a → AllByRecursion PartByte (number_text a)
-number_part a h = each_weaker IsNoSeparator PartByte (λ b p. (p.2, p.3)) (number_text a) (number_plain a h)
+number_part : (a : Number) → AllByRecursion PartByte (number_text a)
+number_part a = each_weaker IsNoSeparator PartByte (λ b p. (p.2, p.3)) (number_text a) (number_plain a)
 
 tag_part : (a : Tag) → IsFreeTag a → AllByRecursion PartByte (tag_text a)
 tag_part a h = each_weaker TagByte PartByte (λ b p. (p.1, p.2)) (tag_text a) (tag_bytes a h)
@@ -254,9 +265,9 @@ tag_part a h = each_weaker TagByte PartByte (λ b p. (p.1, p.2)) (tag_text a) (t
 abbrev PlainParts : List (List ℕ) → Type 0
 PlainParts parts = AllByRecursion (AllByRecursion PartByte) parts
 
-rate_bytes : (o : Option Number) → IfSome o HasWidth → PlainParts (rate_part o)
-rate_bytes (Some r) h = ((letter 64 (lit< tt) (lit< tt), number_part r h), tt)
-rate_bytes None h = tt
+rate_bytes : (o : Option Number) → PlainParts (rate_part o)
+rate_bytes (Some r) = ((letter 64 (lit< tt) (lit< tt), number_part r), tt)
+rate_bytes None = tt
 
 tags_bytes : (tags : List Tag) → AllByRecursion IsFreeTag tags → PlainParts (tags_part tags)
 tags_bytes [] h = tt
@@ -266,47 +277,47 @@ container_bytes : (o : Option (List ℕ)) → IfSome o IsFreeText → PlainParts
 container_bytes (Some c) h = ((letter 99 (lit< tt) (lit< tt), (letter 58 (lit< tt) (lit< tt), plain_part c h)), tt)
 container_bytes None h = tt
 
-time_bytes : (o : Option ℕ) → IfSome o (λ t. t < 2 ^ 64) → PlainParts (time_part o)
-time_bytes (Some t) h = ((letter 84 (lit< tt) (lit< tt), each_weaker IsNumberByte PartByte (λ b p. let (low, high) = p in letter b (omega arith) (omega arith)) (decimal t) (decimal_bytes t (omega arith))), tt)
-time_bytes None h = tt
+time_bytes : (o : Option ℕ) → PlainParts (time_part o)
+time_bytes (Some t) = ((letter 84 (lit< tt) (lit< tt), each_weaker IsNumberByte PartByte (λ b p. let (low, high) = p in letter b (omega arith) (omega arith)) (decimal_text t) (decimal_bytes t)), tt)
+time_bytes None = tt
 
-front_bytes : (m : Metric) → IsReadable m → AllByRecursion PartByte (front_of m)
+front_bytes : (m : Metric) → IsFreeOfSeparators m → AllByRecursion PartByte (front_of m)
 front_bytes m h =
-    each_append PartByte m.name (58 ∷ join_with_byte 58 (map number_text m.numbers)) (plain_part m.name h.free.name)
-    (letter 58 (lit< tt) (lit< tt), each_joined PartByte 58 (letter 58 (lit< tt) (lit< tt)) (map number_text m.numbers) (each_mapped number_text HasWidth (AllByRecursion PartByte) number_part m.numbers (recursion_from_All HasWidth m.numbers h.widths.numbers)))
+    each_append PartByte m.name (58 ∷ join_with_byte 58 (map number_text m.numbers)) (plain_part m.name h.name)
+    (letter 58 (lit< tt) (lit< tt), each_joined PartByte 58 (letter 58 (lit< tt) (lit< tt)) (map number_text m.numbers) (each_image number_text (AllByRecursion PartByte) number_part m.numbers))
 
-parts_bytes : (m : Metric) → IsReadable m → PlainParts (parts_of m)
+parts_bytes : (m : Metric) → IsFreeOfSeparators m → PlainParts (parts_of m)
 parts_bytes m h = (
   front_bytes m h,
   (
     kind_part m.kind,
-    each_append (AllByRecursion PartByte) (rate_part m.rate) (tags_part m.tags ++ (container_part m.container ++ time_part m.time)) (rate_bytes m.rate h.widths.rate)
-        (each_append (AllByRecursion PartByte) (tags_part m.tags) (container_part m.container ++ time_part m.time) (tags_bytes m.tags (recursion_from_All IsFreeTag m.tags h.free.tags))
-        (each_append (AllByRecursion PartByte) (container_part m.container) (time_part m.time) (container_bytes m.container h.free.container) (time_bytes m.time h.widths.time))),
+    each_append (AllByRecursion PartByte) (rate_part m.rate) (tags_part m.tags ++ (container_part m.container ++ time_part m.time)) (rate_bytes m.rate)
+        (each_append (AllByRecursion PartByte) (tags_part m.tags) (container_part m.container ++ time_part m.time) (tags_bytes m.tags (recursion_from_All IsFreeTag m.tags h.tags))
+        (each_append (AllByRecursion PartByte) (container_part m.container) (time_part m.time) (container_bytes m.container h.container) (time_bytes m.time))),
   ),
 )
 
-lacks_bars : (m : Metric) → IsReadable m → AllByRecursion (Lacks 124) (parts_of m)
+pub lacks_bars : (m : Metric) → IsFreeOfSeparators m → AllByRecursion (Lacks 124) (parts_of m)
 lacks_bars m h = each_weaker (AllByRecursion PartByte) (Lacks 124) (λ part p. each_weaker PartByte (λ b. b ≢ 124) (λ b q. q.0) part p) (parts_of m) (parts_bytes m h)
 
-pub line_once : (a b : Metric) → IsReadable a → IsReadable b → line_of a ≡ line_of b → a ≡ b
+pub line_once : (a b : Metric) → IsFreeOfSeparators a → IsFreeOfSeparators b → line_of a ≡ line_of b → a ≡ b
 line_once a b ha hb e =
     let joined : join_with_byte 124 (parts_of a) ≡ join_with_byte 124 (parts_of b) = sym (line_of-joined a) ∙ e ∙ line_of-joined b in
     let parts : parts_of a ≡ parts_of b = join_once 124 (front_of a) (front_of b) (kind_text a.kind ∷ last_of a) (kind_text b.kind ∷ last_of b) (lacks_bars a ha) (lacks_bars b hb) joined in
     let front : front_of a ≡ front_of b = cc parts in
     let kinds : kind_text a.kind ≡ kind_text b.kind = cc parts in
     let tail : last_of a ≡ last_of b = cc parts in
-    let (name, values) = cut_at 58 a.name b.name (58 ∷ join_with_byte 58 (map number_text a.numbers)) (58 ∷ join_with_byte 58 (map number_text b.numbers)) (plain_lacks_colon a.name ha.free.name) (plain_lacks_colon b.name hb.free.name) refl refl front in
+    let (name, values) = cut_at 58 a.name b.name (58 ∷ join_with_byte 58 (map number_text a.numbers)) (58 ∷ join_with_byte 58 (map number_text b.numbers)) (plain_lacks_colon a.name ha.name) (plain_lacks_colon b.name hb.name) refl refl front in
     let texts : join_with_byte 58 (map number_text a.numbers) ≡ join_with_byte 58 (map number_text b.numbers) = cc values in
-    let numbers : a.numbers ≡ b.numbers = numbers_once a.numbers b.numbers (recursion_from_All HasWidth a.numbers ha.widths.numbers) (recursion_from_All HasWidth b.numbers hb.widths.numbers) texts in
+    let numbers : a.numbers ≡ b.numbers = numbers_once a.numbers b.numbers texts in
     let kind : a.kind ≡ b.kind = kind_once a.kind b.kind kinds in
     let (rates, after_rate) = cut_once (marked 64) (rate_part a.rate) (rate_part b.rate) (tags_part a.tags ++ (container_part a.container ++ time_part a.time)) (tags_part b.tags ++ (container_part b.container ++ time_part b.time)) (passes_rate a.rate) (passes_rate b.rate) (stops_rate a.tags a.container a.time) (stops_rate b.tags b.container b.time) tail in
     let (tags, after_tags) = cut_once (marked 35) (tags_part a.tags) (tags_part b.tags) (container_part a.container ++ time_part a.time) (container_part b.container ++ time_part b.time) (passes_tags a.tags) (passes_tags b.tags) (stops_tags a.container a.time) (stops_tags b.container b.time) after_rate in
     let (containers, times) = cut_once (marked 99) (container_part a.container) (container_part b.container) (time_part a.time) (time_part b.time) (passes_container a.container) (passes_container b.container) (stops_container a.time) (stops_container b.time) after_tags in
-    let rate : a.rate ≡ b.rate = rate_once a.rate b.rate ha.widths.rate hb.widths.rate rates in
-    let tag : a.tags ≡ b.tags = tags_once a.tags b.tags (recursion_from_All IsFreeTag a.tags ha.free.tags) (recursion_from_All IsFreeTag b.tags hb.free.tags) tags in
+    let rate : a.rate ≡ b.rate = rate_once a.rate b.rate rates in
+    let tag : a.tags ≡ b.tags = tags_once a.tags b.tags (recursion_from_All IsFreeTag a.tags ha.tags) (recursion_from_All IsFreeTag b.tags hb.tags) tags in
     let container : a.container ≡ b.container = container_once a.container b.container containers in
-    let time : a.time ≡ b.time = time_once a.time b.time ha.widths.time hb.widths.time times in
+    let time : a.time ≡ b.time = time_once a.time b.time times in
     λ i. record { name = name i; numbers = numbers i; kind = kind i; rate = rate i; tags = tag i; container = container i; time = time i }
 
 -- a line isn't empty
@@ -318,12 +329,12 @@ line_some : (m : Metric) → line_of m ≡ [] → ⊥
 line_some m e = absurd (omega (arith, ap (λ t. length t) e, line_is_not_empty m))
 
 -- a line has no newline
-line_lacks : (m : Metric) → IsReadable m → Lacks 10 (line_of m)
+pub line_lacks : (m : Metric) → IsFreeOfSeparators m → Lacks 10 (line_of m)
 line_lacks m h =
     subst (λ t. Lacks 10 t) (sym (line_of-joined m)) (each_joined (λ b. b ≢ 10) 124 (λ e. absurd (omega arith)) (parts_of m) (each_weaker (AllByRecursion PartByte) (Lacks 10) (λ part p. each_weaker PartByte (λ b. b ≢ 10) (λ b q. q.1) part p) (parts_of m) (parts_bytes m h)))
 
 -- lines with their newlines are of one list
-lines_once : (xs ys : List Metric) → AllByRecursion IsReadable xs → AllByRecursion IsReadable ys → lines_of xs ≡ lines_of ys → xs ≡ ys
+lines_once : (xs ys : List Metric) → AllByRecursion IsFreeOfSeparators xs → AllByRecursion IsFreeOfSeparators ys → lines_of xs ≡ lines_of ys → xs ≡ ys
 lines_once [] [] hx hy e = refl
 lines_once [] (y ∷ ys) hx hy e = absurd (omega (arith, ap (λ t. length t) e, length-append (line_of y ++ 10 ∷ []) (lines_of ys), length-append (line_of y) (10 ∷ [])))
 lines_once (x ∷ xs) [] hx hy e = absurd (omega (arith, ap (λ t. length t) e, length-append (line_of x ++ 10 ∷ []) (lines_of xs), length-append (line_of x) (10 ∷ [])))
@@ -335,18 +346,14 @@ lines_once (x ∷ xs) (y ∷ ys) (hx, hxs) (hy, hys) e =
     λ i. head i ∷ same i
 
 -- a line alone has no newline, so it is no list of lines with theirs
-not_alone : (xs : List Metric) (y : Metric) → IsReadable y → lines_of xs ≡ line_of y → ⊥
+not_alone : (xs : List Metric) (y : Metric) → IsFreeOfSeparators y → lines_of xs ≡ line_of y → ⊥
 not_alone [] y hy e = line_some y (sym e)
 not_alone (x ∷ xs) y hy e = lacks_no 10 (line_of x) (lines_of xs) (subst (λ t. Lacks 10 t) (sym e ∙ append_assoc (line_of x) (10 ∷ []) (lines_of xs)) (line_lacks y hy))
-  where
-    lacks_no : (c : ℕ) (s t : List ℕ) → Lacks c (s ++ (c ∷ t)) → ⊥
-    lacks_no c [] t h = h.0 refl
-    lacks_no c (a ∷ s) t h = lacks_no c s t h.1
 
-pub packet_once : (xs ys : List Metric) (packet : List ℕ) → All IsReadable xs → All IsReadable ys → IsPacketOf xs packet → IsPacketOf ys packet → xs ≡ ys
-packet_once xs ys packet hx hy (inl e) (inl f) = lines_once xs ys (recursion_from_All IsReadable xs hx) (recursion_from_All IsReadable ys hy) (sym e ∙ f)
-packet_once xs ys packet hx hy (inl e) (inr (y, only, f)) = absurd (not_alone xs y (All-head IsReadable y [] (subst (λ l. All IsReadable l) only hy)) (sym e ∙ f))
-packet_once xs ys packet hx hy (inr (x, only, e)) (inl f) = absurd (not_alone ys x (All-head IsReadable x [] (subst (λ l. All IsReadable l) only hx)) (sym f ∙ e))
+pub packet_once : (xs ys : List Metric) (packet : List ℕ) → All IsFreeOfSeparators xs → All IsFreeOfSeparators ys → IsPacketOf xs packet → IsPacketOf ys packet → xs ≡ ys
+packet_once xs ys packet hx hy (inl e) (inl f) = lines_once xs ys (recursion_from_All IsFreeOfSeparators xs hx) (recursion_from_All IsFreeOfSeparators ys hy) (sym e ∙ f)
+packet_once xs ys packet hx hy (inl e) (inr (y, only, f)) = absurd (not_alone xs y (All-head IsFreeOfSeparators y [] (subst (λ l. All IsFreeOfSeparators l) only hy)) (sym e ∙ f))
+packet_once xs ys packet hx hy (inr (x, only, e)) (inl f) = absurd (not_alone ys x (All-head IsFreeOfSeparators x [] (subst (λ l. All IsFreeOfSeparators l) only hx)) (sym f ∙ e))
 packet_once xs ys packet hx hy (inr (x, onlyx, e)) (inr (y, onlyy, f)) =
-    let same : x ≡ y = line_once x y (All-head IsReadable x [] (subst (λ l. All IsReadable l) onlyx hx)) (All-head IsReadable y [] (subst (λ l. All IsReadable l) onlyy hy)) (sym e ∙ f) in
+    let same : x ≡ y = line_once x y (All-head IsFreeOfSeparators x [] (subst (λ l. All IsFreeOfSeparators l) onlyx hx)) (All-head IsFreeOfSeparators y [] (subst (λ l. All IsFreeOfSeparators l) onlyy hy)) (sym e ∙ f) in
     onlyx ∙ ap (λ m. m ∷ []) same ∙ sym onlyy

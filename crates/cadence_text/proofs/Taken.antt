@@ -1,7 +1,22 @@
 -- What a sink has taken.
-use Rattle.std.proofs.Common.{◌≡◌, ℕ, List, [], ◌++◌, sym, ap, ◌∙◌}
-use Rattle.std.proofs.lemmas.List.{append-nil}
+use Rattle.std.proofs.Common.{◌≡◌, ℕ, ◌+◌, ◌%◌, ◌^◌, ◌<◌, Bool, true, false, ltb, List, [], ◌++◌, length, replicate, sym, ap, ◌∙◌, arith}
+use Rattle.std.proofs.lemmas.List.{append-nil, length-append, length-replicate}
+use Rattle.std.proofs.lemmas.Bool.{cond-false, le-ltb}
+use Rattle.std.specs.Prelude.{if◌then◌else◌}
+use Rattle.cadence_text.specs.Sink.{up_to}
 
--- a text that was empty, and to which a text was added
-pub added_to_none : (old new text : List ℕ) → old ≡ [] → ((rest : List ℕ) → new ++ rest ≡ old ++ (text ++ rest)) → new ≡ text
-added_to_none old new text none added = sym (append-nil new) ∙ added [] ∙ ap (λ o. o ++ (text ++ [])) none ∙ append-nil text
+-- a counter that began at 0, and that a text was added to
+pub counted_whole : (count : ℕ) (text : List ℕ) → count < 2 ^ 128 → length text < 2 ^ 128 → replicate {A = ℕ} ((count + 0) % 2 ^ 128) 0 ≡ replicate ((0 + length (text ++ [])) % 2 ^ 128) 0 → count ≡ length text
+counted_whole count text fits short e =
+    omega (arith, ap (λ t. length t) e, length-replicate {A = ℕ} ((count + 0) % 2 ^ 128) 0, length-replicate {A = ℕ} ((0 + length (text ++ [])) % 2 ^ 128) 0, length-append text [])
+
+-- a room of a text's length that this text, and no more, came to
+kept : (longer : Bool) (held text : List ℕ) → 0 < length text → (if longer then [] else held) ≡ text → held ≡ text
+kept true held text some e = absurd (omega (arith, ap (λ t. length t) e))
+kept false held text some e = e
+
+pub filled_whole : (before after : ℕ) (old new text : List ℕ) → 0 < length text → old ≡ [] → before ≡ length text → up_to after (new ++ []) ≡ up_to before (old ++ (text ++ [])) → new ≡ text
+filled_whole before after old new text some none end e =
+    let whole : old ++ (text ++ []) ≡ text = ap (λ o. o ++ (text ++ [])) none ∙ append-nil text in
+    let within : up_to before text ≡ text = cond-false (ltb before (length text)) [] text (le-ltb before (length text) (omega arith)) in
+    sym (append-nil new) ∙ kept (ltb after (length (new ++ []))) (new ++ []) text some (e ∙ ap (up_to before) whole ∙ within)

@@ -2,17 +2,17 @@
 use Rattle.std.specs.Prelude.{◌≡◌, ℕ, ◌<◌, List, All, length}
 use Rattle.cadence_text.specs.Line.{line_of}
 use Rattle.cadence_text.specs.Metric.{Metric}
-use Rattle.cadence_text.specs.OneReading.{IsPacketOf, IsReadable}
+use Rattle.cadence_text.specs.OneReading.{IsFreeOfSeparators, IsPacketOf}
 
 -- two metrics that are free of separators have the same line only where they are the same
 abbrev pub LineReadsOneWay : Type 0
-LineReadsOneWay = (a b : Metric) → IsReadable a → IsReadable b → line_of a ≡ line_of b → a ≡ b
+LineReadsOneWay = (a b : Metric) → IsFreeOfSeparators a → IsFreeOfSeparators b → line_of a ≡ line_of b → a ≡ b
 
 -- a packet of lines, each with its newline, is of one list of such metrics at the most
 abbrev pub PacketReadsOneWay : Type 0
 PacketReadsOneWay =
     (xs ys : List Metric) (packet : List ℕ)
-    → All IsReadable xs → All IsReadable ys → IsPacketOf xs packet → IsPacketOf ys packet → xs ≡ ys
+    → All IsFreeOfSeparators xs → All IsFreeOfSeparators ys → IsPacketOf xs packet → IsPacketOf ys packet → xs ≡ ys
 
 -- no line is empty
 abbrev pub NoLineIsEmpty : Type 0

@@ -8,3 +8,5 @@ pub mod RecordMetric
 pub mod OneReading
 pub mod Record
 pub mod Sink
+pub mod Owned
+pub mod Said

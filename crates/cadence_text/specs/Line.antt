@@ -1,10 +1,9 @@
 -- The line of a metric.
 use Rattle.std.specs.Prelude.{ℕ, Option, None, Some, List, [], ◌∷◌, ◌++◌, codes}
 use Rattle.std.specs.List.{flat_map}
-use Rattle.std.specs.Fmt.{decimal}
 use Rattle.cadence_text.specs.declared.line.MetricType.{MetricType}
 use Rattle.cadence_text.specs.declared.line.MetricType.TheVariants.{Counter, Timer, Gauge, Meter, Histogram, Set, Distribution}
-use Rattle.cadence_text.specs.Number.{Number, number_text}
+use Rattle.cadence_text.specs.Number.{Number, decimal_text, number_text}
 use Rattle.cadence_text.specs.Metric.{Metric, Tag}
 
 -- the texts of xs in order, with the separator between each two
@@ -48,7 +47,7 @@ container_field (Some container) = codes "|c:" ++ container
 
 abbrev pub time_field : Option ℕ → List ℕ
 time_field None = []
-time_field (Some time) = codes "|T" ++ decimal time
+time_field (Some time) = codes "|T" ++ decimal_text time
 
 -- the line of a metric: the name, the numbers, the kind, and then each field that is there
 unfoldable pub line_of : Metric → List ℕ

@@ -1,7 +1,7 @@
 -- A number: a whole number over a power of ten, in lowest form, and its text.
-use Rattle.std.specs.Prelude.{◌≡◌, ℕ, ◌-◌, ◌/◌, ◌%◌, ◌^◌, ◌≤◌, ◌==◌, Bool, true, not, ◌||◌, if◌then◌else◌, List, [], ◌++◌, length, replicate, ℤ, pos, ◌*ℤ◌, unsigned_abs, codes}
+use Rattle.std.specs.Prelude.{◌≡◌, ℕ, ◌-◌, ◌/◌, ◌%◌, ◌^◌, ◌≤◌, ◌==◌, Bool, true, not, ◌||◌, ◌+◌, if◌then◌else◌, List, [], ◌++◌, length, map, replicate, ℤ, pos, ◌*ℤ◌, unsigned_abs, codes}
 use Rattle.std.specs.Int.{is_negative}
-use Rattle.std.specs.Fmt.{decimal}
+use Rattle.std.specs.Int.Digits.{digits_of}
 
 -- `mantissa` over 10 to the power `places`
 pub record Number : Type 0 where
@@ -28,14 +28,18 @@ pub record IsLowestForm (m : ℤ) (p : ℕ) (n : Number) : Type 0 where
   pub same : m ≡ n.mantissa *ℤ pos (10 ^ (p - n.places))
   pub lowest : is_lowest n.mantissa n.places ≡ true
 
+-- the digits of a whole number, all of them and without leading zeros, and `0` for 0
+unfoldable pub decimal_text : ℕ → List ℕ
+decimal_text n = if n == 0 then codes "0" else map (λ digit. 48 + digit) (digits_of 10 n)
+
 -- the digits, with zeros before them up to p digits
 abbrev pub filled_to : ℕ → List ℕ → List ℕ
 filled_to p digits = replicate (p - length digits) 48 ++ digits
 
 -- a dot and exactly p digits, or nothing where p is 0
 abbrev pub places_text : ℕ → ℕ → List ℕ
-places_text n p = if p == 0 then [] else codes "." ++ filled_to p (decimal (n % 10 ^ p))
+places_text n p = if p == 0 then [] else codes "." ++ filled_to p (decimal_text (n % 10 ^ p))
 
 -- a minus where it is below zero, the digits of the whole part, and the places
 abbrev pub number_text : Number → List ℕ
-number_text n = (if is_negative n.mantissa then codes "-" else []) ++ (decimal (unsigned_abs n.mantissa / 10 ^ n.places) ++ places_text (unsigned_abs n.mantissa) n.places)
+number_text n = (if is_negative n.mantissa then codes "-" else []) ++ (decimal_text (unsigned_abs n.mantissa / 10 ^ n.places) ++ places_text (unsigned_abs n.mantissa) n.places)

@@ -1,8 +1,7 @@
 -- Metrics that a line, or a packet of lines, says in one way only.
-use Rattle.std.specs.Prelude.{◌≡◌, ◌≢◌, ℕ, ◌<◌, ◌≤◌, ◌^◌, ◌⊎◌, List, [], ◌∷◌, ◌++◌, All, IfSome, codes, unsigned_abs}
+use Rattle.std.specs.Prelude.{◌≡◌, ◌≢◌, ℕ, ◌⊎◌, List, [], ◌∷◌, ◌++◌, All, IfSome, codes}
 use Rattle.std.specs.List.{flat_map}
 use Rattle.cadence_text.specs.Metric.{Metric, Tag}
-use Rattle.cadence_text.specs.Number.{Number}
 use Rattle.cadence_text.specs.Line.{line_of}
 
 -- a byte that is no colon, comma, bar or newline
@@ -21,20 +20,6 @@ pub record IsFreeOfSeparators (metric : Metric) : Type 0 where
   pub name : IsFreeText metric.name
   pub tags : All IsFreeTag metric.tags
   pub container : IfSome metric.container IsFreeText
-
--- a mantissa of 128 bits, its sign among them
-abbrev pub HasWidth : Number → Type 0
-HasWidth number = unsigned_abs number.mantissa ≤ 2 ^ 127
-
--- mantissas of 128 bits and a time of 64
-pub record HasWidths (metric : Metric) : Type 0 where
-  pub numbers : All HasWidth metric.numbers
-  pub rate : IfSome metric.rate HasWidth
-  pub time : IfSome metric.time (λ time. time < 2 ^ 64)
-
-pub record IsReadable (metric : Metric) : Type 0 where
-  pub free : IsFreeOfSeparators metric
-  pub widths : HasWidths metric
 
 -- each metric's line, with a newline
 abbrev pub lines_of : List Metric → List ℕ

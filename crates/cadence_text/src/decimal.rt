@@ -1,8 +1,9 @@
 //! Decimal numbers, exact.
 ghost use Rattle.std.specs.Prelude.{◌≡◌, ◌^◌, ◌≤◌, ◌↔◌, ◌<◌, ◌++◌, Some, true, IsOk, IfOk, IfErr, codes};
-ghost use Rattle.std.specs.Fmt.{DisplaysOnOk, decimal};
+ghost use Rattle.std.specs.Fmt.{DisplaysOnOk};
 ghost use Rattle.cadence_errors.specs.Errors.{IsInvalid};
-ghost use Rattle.cadence_text.specs.Number.{IsLowestForm, Number, filled_to, is_lowest, number, number_text};
+ghost use Rattle.cadence_text.specs.Number.{IsLowestForm, Number, decimal_text, filled_to, is_lowest, number, number_text};
+ghost use Rattle.cadence_text.specs.Said.{IsDecimal};
 
 use cadence_errors::{ErrorKind, MetricError, MetricResult};
 use std::fmt;
@@ -55,7 +56,8 @@ impl Decimal {
     /// The whole number of the lowest form.
     #[inline]
     pub fn mantissa(&self) -> i128
-        ensures { result ≡ self.now.mantissa }
+        ensures value { result ≡ self.now.mantissa }
+        ensures whole { IsDecimal self.now }
     {
         self.mantissa
     }
@@ -70,6 +72,48 @@ impl Decimal {
     }
 }
 
+// What is a number, and which one.
+pub(crate) trait AsDecimal {
+    ghost number: { Self → Number };
+
+    fn as_decimal(&self) -> Decimal
+        ensures { result ≡ number self.now };
+}
+
+impl AsDecimal for i64 {
+    ghost use Rattle.cadence_text.specs.Number.{whole};
+
+    ghost number = { whole };
+
+    fn as_decimal(&self) -> Decimal {
+        Decimal {
+            mantissa: i128::from(*self),
+            places: 0,
+        }
+    }
+}
+
+impl AsDecimal for u64 {
+    ghost use Rattle.cadence_text.specs.Number.{natural};
+
+    ghost number = { natural };
+
+    fn as_decimal(&self) -> Decimal {
+        Decimal {
+            mantissa: i128::from(*self),
+            places: 0,
+        }
+    }
+}
+
+impl AsDecimal for Decimal {
+    ghost number = { λ n. n };
+
+    fn as_decimal(&self) -> Decimal {
+        *self
+    }
+}
+
 pub(crate) fn power_of_ten(places: u8) -> u128
     requires { places ≤ 30 }
     ensures value { result ≡ 10 ^ places }
@@ -78,11 +122,18 @@ pub(crate) fn power_of_ten(places: u8) -> u128
     10u128.pow(u32::from(places))
 }
 
+// The digits without leading zeros.
+fn write_whole<W: fmt::Write>(f: &mut fmt::Formatter<W>, whole: u128) -> fmt::Result
+    ensures { DisplaysOnOk W.write_str_gives f.old result (Some (decimal_text whole)) f.new }
+{
+    write!(f, "{whole}")
+}
+
 // A dot, and `fraction` with zeros before it up to `places` digits.
 fn write_places<W: fmt::Write>(f: &mut fmt::Formatter<W>, fraction: u128, places: u8) -> fmt::Result
     requires { 0 < places }
     ensures { DisplaysOnOk W.write_str_gives f.old result
-        (Some (codes "." ++ filled_to places (decimal fraction))) f.new }
+        (Some (codes "." ++ filled_to places (decimal_text fraction))) f.new }
 {
     let width = usize::from(places);
     write!(f, ".{fraction:0width$}")
@@ -100,8 +151,7 @@ impl fmt::Display for Decimal {
         if mantissa < 0 {
             f.write_str("-")?;
         }
-        let whole = magnitude / scale;
-        write!(f, "{whole}")?;
+        write_whole(f, magnitude / scale)?;
         if places > 0 {
             write_places(f, magnitude % scale, places)?;
         }

@@ -1,12 +1,15 @@
 //! The kinds of metrics and the line of a record.
 
+mod counter;
+mod digits;
+mod filled;
 mod pieces;
 mod record;
 mod sink;
 mod tag;
 mod window;
 
-pub use record::Record;
+pub use record::{OwnedMetric, Record};
 use std::fmt;
 pub use tag::Tag;
 

@@ -1,7 +1,7 @@
 //! Values of metrics.
-ghost use Rattle.std.specs.Prelude.{◌≡◌, ℕ, List, Some, codes};
+ghost use Rattle.std.specs.Prelude.{◌≡◌, Some, map};
 ghost use Rattle.std.specs.Fmt.{DisplaysOnOk};
-ghost use Rattle.cadence_text.specs.Line.{separated};
+ghost use Rattle.cadence_text.specs.Line.{numbers_text};
 ghost use Rattle.cadence_text.specs.Values.{numbers_of};
 
 mod distributions;
@@ -10,7 +10,7 @@ mod histograms;
 mod plain;
 mod timers;
 
-use crate::decimal::Decimal;
+use crate::decimal::{AsDecimal, Decimal};
 pub use distributions::ToDistributionValue;
 pub use histograms::ToHistogramValue;
 pub use plain::{ToCounterValue, ToGaugeValue, ToMeterValue, ToSetValue};
@@ -41,20 +41,16 @@ pub enum MetricValue<A: Allocator = Global> {
 }
 
 // The texts of the numbers, with a colon between each two.
-fn write_list<W: fmt::Write, T: fmt::Display>(
-    f: &mut fmt::Formatter<W>,
-    numbers: &[T],
-) -> fmt::Result
-    ensures { (text : T → List ℕ) → ((x : T) → T.output x ≡ Some (text x)) →
-        DisplaysOnOk W.write_str_gives f.old result
-        (Some (separated (codes ":") text numbers.now)) f.new }
+fn write_list<W: fmt::Write, T: AsDecimal>(f: &mut fmt::Formatter<W>, numbers: &[T]) -> fmt::Result
+    ensures { DisplaysOnOk W.write_str_gives f.old result
+        (Some (numbers_text (map T.number numbers.now))) f.new }
 {
     let Some((first, others)) = numbers.split_first() else {
         return Ok(());
     };
-    write!(f, "{first}")?;
+    write!(f, "{}", first.as_decimal())?;
     for number in others {
-        write!(f, ":{number}")?;
+        write!(f, ":{}", number.as_decimal())?;
     }
     Ok(())
 }
@@ -69,9 +65,9 @@ impl<A: Allocator> fmt::Display for MetricValue<A> {
 
     fn fmt<W: fmt::Write>(&self, f: &mut fmt::Formatter<W>) -> fmt::Result {
         match self {
-            MetricValue::Signed(n) => write!(f, "{n}"),
+            MetricValue::Signed(n) => write!(f, "{}", n.as_decimal()),
             MetricValue::PackedSigned(ns) => write_list(f, ns),
-            MetricValue::Unsigned(n) => write!(f, "{n}"),
+            MetricValue::Unsigned(n) => write!(f, "{}", n.as_decimal()),
             MetricValue::PackedUnsigned(ns) => write_list(f, ns),
             MetricValue::Decimal(d) => write!(f, "{d}"),
             MetricValue::PackedDecimal(ds) => write_list(f, ds),

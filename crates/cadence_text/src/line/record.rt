@@ -1,13 +1,17 @@
 //! A metric before it is text.
+mod owned;
 mod same;
 
 use crate::decimal::Decimal;
 use crate::line::MetricType;
+use crate::line::counter::Counter;
+use crate::line::filled::Filled;
 use crate::line::pieces::{kind_end, push_container, push_rate, push_tags, push_time, push_value};
 use crate::line::sink::LineSink;
 use crate::line::tag::Tag;
 use crate::value::MetricValue;
 use cadence_errors::MetricResult;
+pub use owned::OwnedMetric;
 use std::alloc::{AllocError, Allocator, Global};
 use std::marker::Model;
 
@@ -38,15 +42,15 @@ impl<'a, A: Allocator> Model for Record<'a, A> {
 }
 
 impl<'a, A: Allocator> Record<'a, A> {
-    ghost use Rattle.std.specs.Prelude.{◌≡◌, ◌++◌, ◌<◌, Some, OnOk, OnErr, IfOk, IfErr, length, map};
+    ghost use Rattle.std.specs.Prelude.{◌≡◌, ◌++◌, ◌<◌, ◌^◌, [], Some, SomeIff, OnOk, OnErr, IfOk, IfErr, length, map};
     ghost use Rattle.std.specs.Option.{option_copied};
-    ghost use Rattle.std.specs.String.{string_bytes};
+    ghost use Rattle.std.specs.String.{string_bytes, string_capacity};
     ghost use Rattle.cadence_errors.specs.Errors.{out_of_memory};
     ghost use Rattle.cadence_text.specs.Line.{line_of};
     ghost use Rattle.cadence_text.specs.Metric.{Metric, plain_metric, with_tag};
     ghost use Rattle.cadence_text.specs.Record.{tag_of};
-    ghost use Rattle.cadence_text.specs.OneReading.{HasWidths};
     ghost use Rattle.cadence_text.specs.RecordMetric.{IsRecordMetric};
+    ghost use Rattle.cadence_text.specs.Said.{IsSaid};
     ghost use Rattle.cadence_text.specs.Sink.{Takes};
     ghost use Rattle.cadence_text.specs.Values.{numbers_of};
 
@@ -127,31 +131,65 @@ impl<'a, A: Allocator> Record<'a, A> {
     }
 
     #[inline]
-    #[tactic(auto, using(std::proofs::lemmas::Grind::common_steps), unfolding(crate::specs::Line::line_of))]
-    fn push_line<S: LineSink>(&self, line: &mut S) -> Result<(), S::Refusal>
-        ensures taken { OnOk result (Takes S.ends_as line.old (line_of self.now) line.new) }
-        ensures sized { OnOk result (IsRecordMetric self.now) }
+    #[tactic(auto, using(std::proofs::lemmas::Grind::common_steps, crate::proofs::LineLength::joined_utf8), unfolding(crate::specs::Line::line_of))]
+    fn push_line<S: LineSink>(&self, line: &mut S)
+        ensures taken { Takes S.ends_as line.old (line_of self.now) line.new }
+        ensures sized { IsRecordMetric self.now }
     {
-        line.take_piece(self.prefix)?;
-        line.take_piece(self.key)?;
-        line.take_char(':')?;
-        push_value(line, &self.value)?;
-        line.take_piece(kind_end(self.kind))?;
-        push_rate(line, self.rate)?;
-        push_tags(line, &self.tags)?;
-        push_container(line, self.container)?;
-        push_time(line, self.time)
+        line.take_piece(self.prefix);
+        line.take_piece(self.key);
+        line.take_char(':');
+        push_value(line, &self.value);
+        line.take_piece(kind_end(self.kind));
+        push_rate(line, self.rate);
+        push_tags(line, &self.tags);
+        push_container(line, self.container);
+        push_time(line, self.time);
     }
 
-    /// The line of the record's metric, which is never empty. Takes memory for the line alone, mostly by one request.
+    /// The length of the line in bytes, without making it. Takes no memory.
+    ///
+    /// It is `None` exactly where the length passes `usize::MAX`.
+    pub fn line_len(&self) -> Option<usize>
+        ensures { SomeIff result (length (line_of self.now) < 2 ^ 64) (length (line_of self.now)) }
+    {
+        usize::try_from(self.counted()).ok()
+    }
+
+    // The length of the line, which no line of a record passes.
+    #[inline(always)]
+    fn counted(&self) -> u128
+        ensures { result ≡ length (line_of self.now) }
+    {
+        let mut counter = Counter::new();
+        self.push_line(&mut counter);
+        counter.length()
+    }
+
+    // Room for the line, by one request for just its length.
+    #[inline]
+    fn reserved<B: Allocator>(&self, alloc: B) -> Result<Filled<B>, AllocError>
+        ensures empty { IfOk result (λ f. string_bytes f.text ≡ []) }
+        ensures end { IfOk result (λ f. f.end ≡ length (line_of self.now)) }
+        ensures exact { IfOk result (λ f. string_capacity f.text ≡ length (line_of self.now)) }
+    {
+        let Some(length) = self.line_len() else {
+            return Err(AllocError);
+        };
+        Filled::with_room(alloc, length)
+    }
+
+    /// The line of the record's metric, which is never empty. Takes memory for the line alone, by one request for just
+    /// its length (`line_len`).
     ///
     /// The fields stand in cadence's order: name, numbers, type text, rate, tags, container, time.
     ///
-    /// Refuses with `SinkError::OutOfMemory` alone; the record stays as it was.
+    /// Refuses with `SinkError::OutOfMemory` alone, where that request is refused or the length passes `usize::MAX`; the
+    /// record stays as it was.
     pub fn format<B: Allocator>(&self, alloc: B) -> MetricResult<String<B>>
         ensures line { IfOk result (λ line. string_bytes line ≡ line_of self.now) }
         ensures refused { IfErr result (λ e. e ≡ out_of_memory) }
-        ensures widths { OnOk result (HasWidths self.now) }
+        ensures said { OnOk result (IsSaid self.now) }
         ensures not_empty { 0 < length (line_of self.now) }
     {
         let line = self.line(alloc)?;
@@ -159,54 +197,14 @@ impl<'a, A: Allocator> Record<'a, A> {
     }
 
     /// The line as `format` makes it. Its one refusal is want of memory, as a small error.
-    #[tactic(auto, using(crate::proofs::LineText::line_is_not_empty, crate::proofs::LineLength::record_widths))]
+    #[tactic(auto, using(crate::proofs::LineText::line_is_not_empty, crate::proofs::LineLength::record_said))]
     pub fn line<B: Allocator>(&self, alloc: B) -> Result<String<B>, AllocError>
         ensures line { IfOk result (λ line. string_bytes line ≡ line_of self.now) }
-        ensures widths { OnOk result (HasWidths self.now) }
+        ensures said { OnOk result (IsSaid self.now) }
         ensures not_empty { 0 < length (line_of self.now) }
     {
-        let mut text = String::with_capacity(alloc, self.size_hint())?;
-        self.push_line(&mut text)?;
-        Ok(text)
-    }
-
-    // About the length of the line.
-    fn size_hint(&self) -> usize {
-        let mut size = self
-            .prefix
-            .len()
-            .saturating_add(self.key.len())
-            .saturating_add(numbers_hint(&self.value));
-        if self.rate.is_some() {
-            size = size.saturating_add(10);
-        }
-        if let Some(container) = self.container {
-            size = size.saturating_add(container.len()).saturating_add(3);
-        }
-        if self.time.is_some() {
-            size = size.saturating_add(22);
-        }
-        for tag in &self.tags {
-            let key = match tag.key {
-                Some(key) => key.len(),
-                None => 0,
-            };
-            size = size
-                .saturating_add(tag.text.len())
-                .saturating_add(key)
-                .saturating_add(2);
-        }
-        size
-    }
-}
-
-// About the length of the numbers and the kind, with what stands between.
-fn numbers_hint<A: Allocator>(value: &MetricValue<A>) -> usize {
-    match value {
-        MetricValue::Signed(_) | MetricValue::Unsigned(_) => 25,
-        MetricValue::PackedSigned(numbers) => numbers.len().saturating_mul(12).saturating_add(6),
-        MetricValue::PackedUnsigned(numbers) => numbers.len().saturating_mul(12).saturating_add(6),
-        MetricValue::Decimal(_) => 30,
-        MetricValue::PackedDecimal(numbers) => numbers.len().saturating_mul(18).saturating_add(6),
+        let mut line = self.reserved(alloc)?;
+        self.push_line(&mut line);
+        Ok(line.into_text())
     }
 }

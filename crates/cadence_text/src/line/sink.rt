@@ -1,41 +1,35 @@
 //! What takes the pieces of a line.
-ghost use Rattle.std.specs.Prelude.{List, ℕ, ◌++◌, OnOk};
+ghost use Rattle.std.specs.Prelude.{List, ℕ};
 ghost use Rattle.std.specs.Char.{encode_utf8};
+ghost use Rattle.cadence_text.specs.Number.{decimal_text};
 ghost use Rattle.cadence_text.specs.RecordMetric.{FitsMemory};
 ghost use Rattle.cadence_text.specs.Sink.{Takes};
 
-use std::alloc::{AllocError, Allocator};
-
-/// Takes the pieces of a line, one after the other.
-pub(crate) trait LineSink {
-    type Refusal;
-
+/// Takes characters, one after the other: what digits are written to.
+pub(crate) trait CharSink {
     // what it ends with, where this text still comes
     ghost ends_as: { Self → List ℕ → List ℕ };
 
-    fn take_piece(&mut self, piece: &str) -> Result<(), Self::Refusal>
-        ensures taken { OnOk result (Takes ends_as self.old piece.now self.new) }
-        ensures sized { FitsMemory piece.now };
-
-    fn take_char(&mut self, piece: char) -> Result<(), Self::Refusal>
-        ensures { OnOk result (Takes ends_as self.old (encode_utf8 piece) self.new) };
+    fn put_char(&mut self, piece: char)
+        ensures { Takes ends_as self.old (encode_utf8 piece) self.new };
 }
 
-impl<A: Allocator> LineSink for String<A> {
-    ghost use Rattle.std.specs.String.{string_bytes};
-    ghost use Rattle.std.specs.Prelude.{◌++◌};
+/// Takes the pieces of a line, one after the other.
+pub(crate) trait LineSink {
+    // what it ends with, where this text still comes
+    ghost ends_as: { Self → List ℕ → List ℕ };
 
-    type Refusal = AllocError;
+    fn take_piece(&mut self, piece: &str)
+        ensures taken { Takes ends_as self.old piece.now self.new }
+        ensures sized { FitsMemory piece.now };
 
-    ghost ends_as = { λ line rest. string_bytes line ++ rest };
+    fn take_char(&mut self, piece: char)
+        ensures { Takes ends_as self.old (encode_utf8 piece) self.new };
 
-    #[inline]
-    fn take_piece(&mut self, piece: &str) -> Result<(), AllocError> {
-        self.push_str(piece)
-    }
+    // the digits of a number of 64 bits, and of 128
+    fn take_number(&mut self, number: u64)
+        ensures { Takes ends_as self.old (decimal_text number) self.new };
 
-    #[inline]
-    fn take_char(&mut self, piece: char) -> Result<(), AllocError> {
-        self.push(piece)
-    }
+    fn take_wide(&mut self, number: u128)
+        ensures { Takes ends_as self.old (decimal_text number) self.new };
 }

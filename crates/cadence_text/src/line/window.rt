@@ -1,14 +1,11 @@
 //! A part of a line, made without memory.
 ghost use Rattle.std.specs.Prelude.{◌≡◌, ◌≤◌, []};
 
-use crate::line::sink::LineSink;
+use crate::line::digits::{push_number, push_wide};
+use crate::line::sink::{CharSink, LineSink};
 
 /// The most bytes that a window shows.
 pub(crate) const WINDOW: usize = 512;
-
-/// No value is of this type: a window refuses nothing.
-#[derive(Clone, Copy)]
-pub(crate) enum Never {}
 
 /// The bytes of a line after those that it skips, up to `WINDOW` of them.
 #[derive(Clone, Copy)]
@@ -65,21 +62,35 @@ impl Window {
     }
 }
 
-impl LineSink for Window {
+impl CharSink for Window {
     ghost use Rattle.cadence_text.specs.Sink.{window_ends};
-
-    type Refusal = Never;
 
     ghost ends_as = { window_ends };
 
-    fn take_piece(&mut self, piece: &str) -> Result<(), Never> {
-        self.pass(piece.as_bytes());
-        Ok(())
-    }
-
-    fn take_char(&mut self, piece: char) -> Result<(), Never> {
+    fn put_char(&mut self, piece: char) {
         let mut bytes = [0; 4];
         self.pass(piece.encode_utf8(&mut bytes).as_bytes());
-        Ok(())
+    }
+}
+
+impl LineSink for Window {
+    ghost use Rattle.cadence_text.specs.Sink.{window_ends};
+
+    ghost ends_as = { window_ends };
+
+    fn take_piece(&mut self, piece: &str) {
+        self.pass(piece.as_bytes());
+    }
+
+    fn take_char(&mut self, piece: char) {
+        self.put_char(piece);
+    }
+
+    fn take_number(&mut self, number: u64) {
+        push_number(self, number);
+    }
+
+    fn take_wide(&mut self, number: u128) {
+        push_wide(self, number);
     }
 }

@@ -3,7 +3,7 @@ use cadence_errors::{MetricError, MetricResult, SinkError};
 use cadence_text::decimal::Decimal;
 use cadence_text::line::{MetricType, Record, Tag};
 use cadence_text::value::MetricValue;
-use refusing::each_refused;
+use refusing::{Refusing, each_refused};
 use std::alloc::{Allocator, Global};
 use std::test::Fail;
 
@@ -134,6 +134,73 @@ fn long_lines_are_compared_whole(rt: HostRuntime) -> Result<(), Fail> {
     let record = long_record(rt.alloc(), "x")?;
     assert!(rt; record.same_line(&long_record(rt.alloc(), "x")?));
     assert!(rt; !record.same_line(&long_record(rt.alloc(), "y")?));
+    Ok(())
+}
+
+// Whether this is the record's line, and this its length.
+fn has_length(alloc: Global, record: &Record<'_>, line: &str, length: usize) -> Result<bool, Fail> {
+    let made = record.format(alloc)?;
+    Ok(made.as_str() == line && record.line_len() == Some(length))
+}
+
+#[test]
+fn a_length_is_exact(rt: HostRuntime) -> Result<(), Fail> {
+    let alloc = rt.alloc();
+    for (prefix, key, container, time, line, length) in [
+        (
+            "prefix.",
+            "some.key",
+            Some("1234"),
+            None,
+            "prefix.some.key:1|c|c:1234",
+            26,
+        ),
+        (
+            "prefix.",
+            "some.key",
+            None,
+            Some(1234567890),
+            "prefix.some.key:1|c|T1234567890",
+            31,
+        ),
+        (
+            "",
+            "k",
+            None,
+            Some(u64::MAX),
+            "k:1|c|T18446744073709551615",
+            27,
+        ),
+    ] {
+        let mut record = counted(alloc, prefix, key, 1);
+        if let Some(container) = container {
+            record.set_container(container);
+        }
+        if let Some(time) = time {
+            record.set_time(time);
+        }
+        assert!(rt; has_length(alloc, &record, line, length)?);
+    }
+    let none = MetricValue::PackedUnsigned(Vec::new(alloc));
+    let none = Record::new(alloc, "prefix.", "key", MetricType::Timer, none);
+    assert!(rt; has_length(alloc, &none, "prefix.key:|ms", 14)?);
+    let least = MetricValue::Decimal(Decimal::new(i128::MIN, 30)?);
+    let least = Record::new(alloc, "", "k", MetricType::Gauge, least);
+    let line = "k:-170141183.460469231731687303715884105728|g";
+    assert!(rt; has_length(alloc, &least, line, 45)?);
+    Ok(())
+}
+
+#[test]
+fn a_line_is_one_request(rt: HostRuntime) -> Result<(), Fail> {
+    let record = long_record(rt.alloc(), "x")?;
+    let refused = record.format(Refusing::after(rt.alloc(), rt.alloc(), 0)?);
+    assert!(rt; matches!(refused, Err(MetricError::Sink(SinkError::OutOfMemory))));
+    let heap = Refusing::after(rt.alloc(), rt.alloc(), 1)?;
+    let line = record.format(heap.clone()?)?;
+    assert_eq!(rt; heap.left(), 0, "a second request would be refused");
+    assert_eq!(rt; line.as_str(), record.format(rt.alloc())?.as_str());
+    assert_eq!(rt; record.line_len(), Some(line.len()));
     Ok(())
 }
 

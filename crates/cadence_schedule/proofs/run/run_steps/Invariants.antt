@@ -1,6 +1,8 @@
-use Rattle.std.proofs.Common.{◌≡◌, ◌+◌, ◌≤◌, length, take, vec_len, vec_capacity}
+use Rattle.std.proofs.Common.{◌≡◌, ◌+◌, ◌≤◌, All, length, take, vec_len, vec_capacity}
 use Rattle.std.specs.List.{zip}
-use Rattle.cadence_schedule.specs.Calls.{line_of_data}
+use Rattle.cadence_text.specs.Said.{IsSaid}
+use Rattle.cadence_schedule.specs.Calls.{line_of_data, metric_of_data}
+use Rattle.cadence_schedule.specs.History.{accepted}
 use Rattle.cadence_schedule.specs.Moves.{Runs}
 use Rattle.cadence_schedule.specs.Running.{state_of}
 use Rattle.cadence_schedule.proofs.run.run_steps.Given as goal
@@ -17,4 +19,5 @@ invariant-loop-step g l =
       same_format : l.running.packer.format ≡ first.packer.format;
       same_queue : l.running.queue.capacity ≡ first.queue.capacity;
       runs : Runs (line_of_data l.settings) (g.P.PacketWriter.kind first.packer.writer) first.packer.format first.queue.capacity (state_of g.P.PacketWriter.history first) (zip (take l.step-index l.steps) l.replies.items) (state_of g.P.PacketWriter.history l.running);
+      said : All IsSaid (accepted (metric_of_data l.settings) (zip (take l.step-index l.steps) l.replies.items));
     }

@@ -15,10 +15,8 @@ fn window_of<A: Allocator>(metric: &Record<'_, A>, skip: u128) -> Window
     ensures sized { IsRecordMetric metric.now }
 {
     let mut window = Window::after(skip);
-    match metric.push_line(&mut window) {
-        Ok(()) => window,
-        Err(never) => match never {},
-    }
+    metric.push_line(&mut window);
+    window
 }
 
 impl<'a, A: Allocator> Record<'a, A> {

@@ -11,13 +11,13 @@ pub loop-tag-preserved : goal.loop-tag-preserved
 loop-tag-preserved g c =
     record {
       taken = grind (arith, common_steps);
-      sized = All-more (λ tag. IsRecordTag (tag_of tag)) c.in-Some.others.now c.loop-tag.tag-index _ c.loop-tag-test.true c.loop-tag.invariant.sized c.in_ok-push_tag-2.ensures.sized;
+      sized = All-more (λ tag. IsRecordTag (tag_of tag)) c.in-Some.others.now c.loop-tag.tag-index _ c.loop-tag-test.true c.loop-tag.invariant.sized c.push_tag-in-loop-tag.ensures.sized;
     }
 
 pub returns-clause-sized : goal.returns-clause-sized
 returns-clause-sized g c =
     let split : c.args.tags.now ≡ c.in-Some.first.now ∷ c.in-Some.others.now = search rules in
     record {
-      each = All-split IsRecordTag tag_of c.args.tags.now c.in-Some.first.now c.in-Some.others.now c.loop-tag.tag-index split c.in_ok-push_tag.ensures.sized c.loop-tag-test.false c.loop-tag.invariant.sized;
+      each = All-split IsRecordTag tag_of c.args.tags.now c.in-Some.first.now c.in-Some.others.now c.loop-tag.tag-index split c.push_tag.ensures.sized c.loop-tag-test.false c.loop-tag.invariant.sized;
       few = omega (arith, length-map c.args.tags.now tag_of);
     }

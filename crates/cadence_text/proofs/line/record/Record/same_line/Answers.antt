@@ -1,7 +1,7 @@
 use Rattle.std.proofs.Common.{◌≡◌, ◌≤◌, ◌<◌, ◌^◌, ap, ◌∙◌, arith, rules, drop, length, take}
 use Rattle.std.proofs.lemmas.List.{length-take, length-drop}
 use Rattle.cadence_text.specs.Line.{line_of}
-use Rattle.cadence_text.proofs.LineLength.{line_is_short, record_widths}
+use Rattle.cadence_text.proofs.LineLength.{line_is_short}
 use Rattle.cadence_text.proofs.LineText.{line_once}
 use Rattle.cadence_text.proofs.Windows.{alike_further, alike_whole, windows_alike}
 use Rattle.cadence_text.proofs.line.record.Record.same_line.Goals as goal
@@ -19,7 +19,7 @@ returns-then-shown-lt-WINDOW-clause-lines g c =
 pub returns-then-shown-lt-WINDOW-clause-metrics : goal.returns-then-shown-lt-WINDOW-clause-metrics
 returns-then-shown-lt-WINDOW-clause-metrics g c = λ free other_free.
     let lines = returns-then-shown-lt-WINDOW-clause-lines g c in
-    (λ yes. line_once c.args.self.now c.args.other.now (record { free = free; widths = record_widths c.args.self.now c.window_of-ours.ensures.sized }) (record { free = other_free; widths = record_widths c.args.other.now c.window_of-theirs.ensures.sized }) (lines.0 yes), λ _. search rules)
+    (λ yes. line_once c.args.self.now c.args.other.now free other_free (lines.0 yes), λ _. search rules)
 
 pub loop-ours-preserved : goal.loop-ours-preserved
 loop-ours-preserved g c =

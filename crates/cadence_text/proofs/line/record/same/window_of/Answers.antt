@@ -8,4 +8,4 @@ pub returns-clause-shown : goal.returns-clause-shown
 returns-clause-shown g c =
     let begun = c.after-window.result in
     let ended = c.push_line.new.line in
-    window_whole (window_text begun) (window_text ended) (line_of c.args.metric.now) begun.length (512 - ended.length) begun.skip c.args.skip ended.skip c.after-window.ensures.shown c.after-window.ensures.length c.after-window.ensures.skip (c.in-Ok.ensures.taken [])
+    window_whole (window_text begun) (window_text ended) (line_of c.args.metric.now) begun.length (512 - ended.length) begun.skip c.args.skip ended.skip c.after-window.ensures.shown c.after-window.ensures.length c.after-window.ensures.skip (c.push_line.ensures.taken [])

@@ -1,0 +1,49 @@
+//! A run of a schedule whose packets are read.
+ghost use Rattle.std.specs.Prelude.{◌≡◌, List, All, Err, IfOk};
+ghost use Rattle.cadence_text.specs.Metric.{Metric};
+ghost use Rattle.cadence_text.specs.OneReading.{IsFreeOfSeparators};
+ghost use Rattle.cadence_text.specs.Owned.{metrics_of};
+ghost use Rattle.cadence_schedule.specs.Report.{Outcome, outcome_of};
+ghost use Rattle.cadence_flow.specs.Log.{LogState};
+ghost use Rattle.cadence_read.specs.Listed.{AreListed};
+ghost use Rattle.cadence_read.specs.declared.fault.ReadFault.TheVariants.{NotMetrics};
+ghost use Rattle.cadence_listen.specs.RunRead.{IsNewWhole, IsRun, given_to, kept_metrics, IsUnreadable, texts_of};
+
+use cadence_flow::io::PacketLog;
+use cadence_read::{ReadFault, read_run};
+use cadence_schedule::{ClientSettings, Report, Step, run_schedule};
+use cadence_text::line::OwnedMetric;
+use std::alloc::Allocator;
+
+/// Runs the steps as `run_schedule` does, over a packet log and with the newline as ending, and reads what the log and
+/// the packer then hold. Over a new log without short answers these are the kept metrics in order, where they are free
+/// of separators.
+///
+/// # Errors
+/// `NotMetrics` where the packets are those of no metrics, and `OutOfMemory`.
+pub fn run_and_read<A: Allocator + Clone>(
+    alloc: A,
+    settings: &ClientSettings<A>,
+    capacity: usize,
+    queue: Option<usize>,
+    steps: &[Step<A>],
+    log: PacketLog<A>,
+) -> Result<(Report<PacketLog<A>, A>, Vec<OwnedMetric<A>, A>), ReadFault>
+    ensures run { IfOk result (λ both.
+        IsRun (given_to settings.now capacity queue steps.now log) (outcome_of both.0)) }
+    ensures read { IfOk result (λ both.
+        AreListed (texts_of (outcome_of both.0)) (metrics_of both.1)) }
+    ensures kept { let given = given_to settings.now capacity queue steps.now log in
+        IsNewWhole log → IfOk result (λ both.
+        All IsFreeOfSeparators (kept_metrics given (outcome_of both.0)) →
+        metrics_of both.1 ≡ kept_metrics given (outcome_of both.0)) }
+    ensures refused { result ≡ Err NotMetrics →
+        IsUnreadable log (given_to settings.now capacity queue steps.now log) }
+{
+    let Ok(report) = run_schedule(alloc.clone()?, settings, capacity, "\n", queue, steps, log)
+    else {
+        return Err(ReadFault::OutOfMemory);
+    };
+    let metrics = read_run(alloc, report.writer().packets(), report.held())?;
+    Ok((report, metrics))
+}

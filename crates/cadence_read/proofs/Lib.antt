@@ -1,0 +1,7 @@
+pub mod DigitsRead
+pub mod NumberRead
+pub mod Pieces
+pub mod LineParts
+pub mod FieldsRead
+pub mod PacketRead
+pub mod RunRead

@@ -1,0 +1,148 @@
+-- A number's text is read in one way: its sign, its whole part, and the digits after the dot.
+use Rattle.std.proofs.Common.{◌≡◌, ◌≢◌, ℕ, zero, suc, ◌+◌, ◌-◌, ◌*◌, ◌/◌, ◌%◌, ◌^◌, ◌<◌, ◌≤◌, ℤ, pos, negsuc, ◌*ℤ◌, List, [], ◌∷◌, ◌++◌, length, refl, sym, ap, ◌∙◌, ap₂, subst, arith, get_or, unsigned_abs, neg_ℤ, lit<, Option, Some, None, Bool, true, false, not, ◌||◌, eqb}
+use Rattle.std.specs.Prelude.{All, FitsSigned, SomeIff, codes, if◌then◌else◌}
+use Rattle.std.specs.Int.{is_negative}
+use Rattle.std.specs.Str.Parse.{digits_value, AllDigits, IsNumeral}
+use mir.Syntax.{w128}
+use Rattle.std.proofs.lemmas.Bool.{ne_eqb, eq-eqb}
+use Rattle.std.proofs.lemmas.Grind.{common_steps}
+use Rattle.std.proofs.lemmas.Int.Digits.{digits_value-lt}
+use Rattle.std.proofs.lemmas.List.{append-nil}
+use Rattle.std.proofs.lemmas.List.Elements.{recursion_from_All}
+use Rattle.std.proofs.lemmas.Nat.{div-mul-add, mod-mul-add, div-add-mod'}
+use Rattle.std.proofs.Math.Nat.{pow-succ', mul_left_comm}
+use Rattle.std.proofs.lemmas.Str.Parse.{digit_from_value}
+use Rattle.cadence_text.specs.Number.{Number, IsLowestForm, number, decimal_text, number_text, places_text, filled_to, is_lowest}
+use Rattle.cadence_text.specs.Said.{IsDecimal}
+use Rattle.cadence_text.proofs.Cut.{Lacks, lacks_no, cut_at}
+use Rattle.cadence_text.proofs.Digits.{decimal_text_once}
+use Rattle.cadence_text.proofs.NumberText.{numeral, places_of, places_text-suc, length-places_of, places_value, digits_zeros, sign, sign-pos, no_minus, unsigned_once}
+use Rattle.cadence_read.specs.Reads.{Reads}
+use Rattle.cadence_read.specs.Magnitude.{magnitude_text, IsMagnitude}
+use Rattle.cadence_read.proofs.DigitsRead.{filled_digits}
+
+digits_lack_dot : (ds : List ℕ) → AllDigits 10 ds → Lacks 46 ds
+digits_lack_dot [] h = tt
+digits_lack_dot (d ∷ ds) (h, hs) = ((λ e. absurd (omega (arith, (digit_from_value d h).0))), digits_lack_dot ds hs)
+
+-- a number without places
+plain_text : (n : ℕ) → magnitude_text n 0 ≡ decimal_text n
+plain_text n = let one : n / 10 ^ 0 ≡ n = omega arith in append-nil (decimal_text (n / 10 ^ 0)) ∙ ap decimal_text one
+
+-- what a text with a dot says of its number
+pub record HasDot (n p : ℕ) (w f : List ℕ) : Type 0 where
+  pub some : 0 < p
+  pub count : length f ≡ p
+  pub whole : decimal_text (n / 10 ^ p) ≡ w
+  pub digits : IsNumeral 10 f
+  pub value : digits_value 10 f ≡ n % 10 ^ p
+
+pub has_dot : (n p : ℕ) (w f : List ℕ) → All (λ b. b ≢ 46) w → magnitude_text n p ≡ w ++ 46 ∷ f → HasDot n p w f
+has_dot n zero w f plain e =
+    absurd (lacks_no 46 w f (subst (Lacks 46) (sym (plain_text n) ∙ e) (digits_lack_dot (decimal_text n) (numeral n).1)))
+has_dot n (suc q) w f plain e =
+    let p = suc q in
+    let front : AllDigits 10 (decimal_text (n / 10 ^ p)) = (numeral (n / 10 ^ p)).1 in
+    let text : decimal_text (n / 10 ^ p) ++ (46 ∷ places_of n p) ≡ w ++ (46 ∷ f) = ap (λ t. decimal_text (n / 10 ^ p) ++ t) (sym (places_text-suc n q)) ∙ e in
+    let (whole, rest) = cut_at 46 (decimal_text (n / 10 ^ p)) w (46 ∷ places_of n p) (46 ∷ f) (digits_lack_dot (decimal_text (n / 10 ^ p)) front) (recursion_from_All (λ b. b ≢ 46) w plain) refl refl text in
+    let places : places_of n p ≡ f = cc rest in
+    let count : length f ≡ p = ap (λ t. length t) (sym places) ∙ length-places_of n q in
+    let digits : AllDigits 10 (places_of n p) = digits_zeros (p - length (decimal_text (n % 10 ^ p))) (decimal_text (n % 10 ^ p)) (numeral (n % 10 ^ p)).1 in
+    record {
+      some = omega arith;
+      count = count;
+      whole = whole;
+      digits = (omega (arith, count), subst (AllDigits 10) places digits);
+      value = ap (digits_value 10) (sym places) ∙ places_value n p;
+    }
+
+-- the two parts add up to the number
+pub dot_sum : (n p a : ℕ) (w f : List ℕ) → HasDot n p w f → decimal_text a ≡ w → a * 10 ^ length f + digits_value 10 f ≡ n
+dot_sum n p a w f parts e =
+    let same : a ≡ n / 10 ^ p = decimal_text_once a (n / 10 ^ p) (e ∙ sym parts.whole) in
+    ap₂ (λ x k. x * 10 ^ k + digits_value 10 f) same parts.count ∙ ap (λ x. n / 10 ^ p * 10 ^ p + x) parts.value ∙ div-add-mod' n (10 ^ p)
+
+pub dotted_text : (a : ℕ) (w f : List ℕ) → decimal_text a ≡ w → IsNumeral 10 f → magnitude_text (a * 10 ^ length f + digits_value 10 f) (length f) ≡ w ++ 46 ∷ f
+dotted_text a w [] e (some, digits) = absurd (omega arith)
+dotted_text a w (d ∷ ds) e (some, digits) =
+    let p = length (d ∷ ds) in
+    let v = digits_value 10 (d ∷ ds) in
+    let n = a * 10 ^ length (d ∷ ds) + digits_value 10 (d ∷ ds) in
+    let small : v < 10 ^ p = digits_value-lt 10 (d ∷ ds) digits in
+    let whole : n / 10 ^ p ≡ a = div-mul-add a (10 ^ p) v small in
+    let rest : n % 10 ^ p ≡ v = mod-mul-add a (10 ^ p) v small in
+    ap₂ (λ x t. decimal_text x ++ t) whole (places_text-suc n (length ds) ∙ ap (λ x. 46 ∷ filled_to (length (d ∷ ds)) (decimal_text x)) rest ∙ ap (λ t. 46 ∷ t) (filled_digits (d ∷ ds) digits some))
+    ∙ ap (λ t. t ++ (46 ∷ d ∷ ds)) e
+
+-- a text without a dot is of a whole number
+pub has_no_dot : (text : List ℕ) → All (λ b. b ≢ 46) text → ((n : ℕ) → n < 2 ^ 128 → decimal_text n ≡ text → ⊥) → (m : ℕ × ℕ) → IsMagnitude m → magnitude_text m.0 m.1 ≡ text → ⊥
+has_no_dot text plain none (n, zero) (small, few) e = none n small (sym (plain_text n) ∙ e)
+has_no_dot text plain none (n, suc q) (small, few) e =
+    lacks_no 46 (decimal_text (n / 10 ^ suc q)) (places_of n (suc q)) (subst (Lacks 46) (sym e ∙ ap (λ t. decimal_text (n / 10 ^ suc q) ++ t) (places_text-suc n q)) (recursion_from_All (λ b. b ≢ 46) text plain))
+
+-- a product with a power of ten has a last digit 0
+abs_product : (z : ℤ) (n : ℕ) → unsigned_abs (z *ℤ pos n) ≡ unsigned_abs z * n
+abs_product (pos a) n = refl
+abs_product (negsuc a) n = abs_neg (suc a * n)
+  where
+    abs_neg : (k : ℕ) → unsigned_abs (neg_ℤ (pos k)) ≡ k
+    abs_neg zero = refl
+    abs_neg (suc k) = refl
+
+last_zero : (a k : ℕ) → 0 < k → (a * 10 ^ k) % 10 ≡ 0
+last_zero a zero some = absurd (omega arith)
+last_zero a (suc k) some = let e : a * 10 ^ suc k ≡ a * 10 ^ k * 10 + 0 = omega (arith, ap (λ x. a * x) (pow-succ' 10 k), mul_left_comm a 10 (10 ^ k)) in ap (λ x. x % 10) e ∙ mod-mul-add (a * 10 ^ k) 10 0 (lit< tt)
+
+-- a number that has fewer places in lowest form is not in lowest form
+pub not_lowest : (m : ℤ) (p : ℕ) (n : Number) → IsLowestForm m p n → n.places < p → is_lowest m p ≡ true → ⊥
+not_lowest m p n form fewer lowest =
+    let k = p - n.places in
+    let size : unsigned_abs m ≡ unsigned_abs n.mantissa * 10 ^ k = ap unsigned_abs form.same ∙ abs_product n.mantissa (10 ^ k) in
+    let zero_last : unsigned_abs m % 10 ≡ 0 = ap (λ x. x % 10) size ∙ last_zero (unsigned_abs n.mantissa) k (omega arith) in
+    let places : eqb p 0 ≡ false = ne_eqb p 0 (λ e. omega arith) in
+    let last : eqb (unsigned_abs m % 10) 0 ≡ true = eq-eqb (unsigned_abs m % 10) 0 zero_last in
+    let bad : true ≡ false = sym lowest ∙ ap₂ (λ a b. a || not b) places last in
+    absurd cc
+
+pub fits_size : (z : ℤ) → FitsSigned w128 z → unsigned_abs z ≤ 2 ^ 127
+fits_size (pos n) h = omega (arith, h.sfits)
+fits_size (negsuc n) h = omega (arith, h.sfits)
+
+not_below : (n : ℕ) → is_negative (pos n) ≡ false
+not_below n = grind (arith, common_steps)
+
+-- a minus, and what is written after it
+pub has_sign : (below : Bool) (digits text : List ℕ) (z : ℤ) (p : ℕ) → text ≡ (if below then codes "-" else []) ++ digits → (below ≡ false → get_or text 0 0 ≢ 45) → sign z ++ magnitude_text (unsigned_abs z) p ≡ text → (is_negative z ≡ below) × (magnitude_text (unsigned_abs z) p ≡ digits)
+has_sign true digits text (pos n) p whole first e =
+    absurd (no_minus (decimal_text (n / 10 ^ p)) (places_text n p) digits (numeral (n / 10 ^ p)) (ap (λ t. t ++ magnitude_text n p) (sym (sign-pos n)) ∙ e ∙ whole))
+has_sign true digits text (negsuc n) p whole first e =
+    let rest : magnitude_text (suc n) p ≡ digits = cc in
+    (refl, rest)
+has_sign false digits text (pos n) p whole first e =
+    (not_below n, ap (λ t. t ++ magnitude_text n p) (sym (sign-pos n)) ∙ e ∙ whole)
+has_sign false digits text (negsuc n) p whole first e =
+    absurd (first refl (ap (λ t. get_or t 0 0) (sym e)))
+
+-- a number of this text has these parts
+pub has_parts : (n : Number) (below : Bool) (digits text : List ℕ) (size places : ℕ) → text ≡ (if below then codes "-" else []) ++ digits → (below ≡ false → get_or text 0 0 ≢ 45) → magnitude_text size places ≡ digits → number_text n ≡ text → (is_negative n.mantissa ≡ below) × (unsigned_abs n.mantissa ≡ size) × (n.places ≡ places)
+has_parts n below digits text size places whole first same e =
+    let (side, rest) = has_sign below digits text n.mantissa n.places whole first e in
+    let (sizes, count) = unsigned_once (unsigned_abs n.mantissa) size n.places places (rest ∙ sym same) in
+    (side, sizes, count)
+
+same_signed : (y z : ℤ) → is_negative y ≡ is_negative z → unsigned_abs y ≡ unsigned_abs z → y ≡ z
+same_signed (pos m) (pos n) side size = ap pos size
+same_signed (pos m) (negsuc n) side size = let bad : false ≡ true = sym (not_below m) ∙ side in absurd cc
+same_signed (negsuc m) (pos n) side size = let bad : false ≡ true = sym (not_below n) ∙ sym side in absurd cc
+same_signed (negsuc m) (negsuc n) side size = ap negsuc (omega arith)
+
+-- a sign, a size and its places are read as the one number in lowest form that has them
+pub number_read : (below : Bool) (digits text : List ℕ) (size p : ℕ) (m : ℤ) (o : Option Number) → text ≡ (if below then codes "-" else []) ++ digits → (below ≡ false → get_or text 0 0 ≢ 45) → magnitude_text size p ≡ digits → p ≤ 30 → FitsSigned w128 m → is_negative m ≡ below → unsigned_abs m ≡ size → SomeIff o (is_lowest m p ≡ true) (number m p) → Reads IsDecimal number_text text o
+number_read below digits text size p m (Some x) whole first shown few fits side abs (lowest, same) = (
+  subst IsDecimal (sym same) (record { mantissa = fits; places = few; lowest = lowest }),
+  ap number_text same ∙ ap₂ (λ b n. (if b then codes "-" else []) ++ magnitude_text n p) side abs ∙ ap (λ d. (if below then codes "-" else []) ++ d) shown ∙ sym whole,
+)
+number_read below digits text size p m None whole first shown few fits side abs none = λ n good e.
+    let (other, sizes, places) = has_parts n below digits text size p whole first shown e in
+    let mantissa : n.mantissa ≡ m = same_signed n.mantissa m (other ∙ sym side) (sizes ∙ sym abs) in
+    none (ap₂ is_lowest (sym mantissa) (sym places) ∙ good.lowest)

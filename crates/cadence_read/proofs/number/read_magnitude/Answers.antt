@@ -1,0 +1,8 @@
+use Rattle.std.proofs.Common.{rules, ◌≡◌, None}
+use Rattle.cadence_read.proofs.NumberRead.{has_no_dot}
+use Rattle.cadence_read.proofs.number.read_magnitude.Goals as goal
+
+pub returns-in_err-size : goal.returns-in_err-size
+returns-in_err-size c =
+    let none : c.from_residual.result ≡ None = search rules in
+    rw none (has_no_dot c.args.text.now c.in_default.ensures.none c.in_err-size.ensures)

@@ -1,0 +1,4 @@
+pub mod Listed
+pub mod LineTexts
+pub mod Magnitude
+pub mod Reads

@@ -1,0 +1,69 @@
+-- The texts between the separators of a line.
+use Rattle.std.specs.Prelude.{◌≡◌, ℕ, ◌==◌, Option, Some, None, List, [], ◌∷◌, ◌++◌, codes}
+use Rattle.std.specs.List.{slice_split}
+use Rattle.std.specs.Option.{option_map, option_copied}
+use Rattle.cadence_text.specs.Line.{separated, numbers_text, kind_text, tag_text}
+use Rattle.cadence_text.specs.Metric.{Metric, Tag}
+use Rattle.cadence_text.specs.Number.{decimal_text, number_text}
+use Rattle.cadence_read.specs.declared.cuts.TextsOfLine.{TextsOfLine}
+
+pub record LineTexts : Type 0 where
+  pub name : List ℕ
+  pub numbers : List ℕ
+  pub kind : List ℕ
+  pub rate : Option (List ℕ)
+  pub tags : Option (List ℕ)
+  pub container : Option (List ℕ)
+  pub time : Option (List ℕ)
+
+-- the tags with a comma between each two, where there is one
+abbrev pub tags_text : List Tag → Option (List ℕ)
+tags_text [] = None
+tags_text (tag ∷ tags) = Some (separated (codes ",") tag_text (tag ∷ tags))
+
+-- the texts of a metric's fields
+abbrev pub texts_of : Metric → LineTexts
+texts_of m = record {
+  name = m.name;
+  numbers = numbers_text m.numbers;
+  kind = kind_text m.kind;
+  rate = option_map number_text m.rate;
+  tags = tags_text m.tags;
+  container = m.container;
+  time = option_map decimal_text m.time;
+}
+
+-- a field's part of the line, where the field is there
+abbrev pub field_part : List ℕ → Option (List ℕ) → List (List ℕ)
+field_part mark None = []
+field_part mark (Some text) = (mark ++ text) ∷ []
+
+-- the parts after the kind
+abbrev pub field_parts : LineTexts → List (List ℕ)
+field_parts t = field_part (codes "@") t.rate ++ (field_part (codes "#") t.tags ++ (field_part (codes "c:") t.container ++ field_part (codes "T") t.time))
+
+-- the parts between the bars
+abbrev pub parts_of_texts : LineTexts → List (List ℕ)
+parts_of_texts t = (t.name ++ (codes ":" ++ t.numbers)) ∷ t.kind ∷ field_parts t
+
+-- the pieces of what is left after a mark, where there was one
+abbrev pub pieces_left : ℕ → Option (List ℕ) → List (List ℕ)
+pieces_left mark None = []
+pieces_left mark (Some text) = slice_split (λ byte. byte == mark) text
+
+-- a mark and what follows it, where the first part has that mark, and the parts after it
+abbrev pub IsMarked : List ℕ → List (List ℕ) → Option (List ℕ) → List (List ℕ) → Type 0
+IsMarked mark parts (Some text) rest = parts ≡ (mark ++ text) ∷ rest
+IsMarked mark parts None rest = (rest ≡ parts) × ((text : List ℕ) (more : List (List ℕ)) → parts ≡ (mark ++ text) ∷ more → ⊥)
+
+-- what was cut
+abbrev pub texts_seen : TextsOfLine → LineTexts
+texts_seen t = record {
+  name = t.name.now;
+  numbers = t.numbers.now;
+  kind = t.kind.now;
+  rate = option_copied t.rate;
+  tags = option_copied t.tags;
+  container = option_copied t.container;
+  time = option_copied t.time;
+}

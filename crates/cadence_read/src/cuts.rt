@@ -1,0 +1,81 @@
+//! A line, cut at its separators.
+ghost use Rattle.std.specs.Prelude.{◌≡◌, ◌≢◌, ◌==◌, ◌∷◌, ◌++◌, All, IfNone, IfSome};
+ghost use Rattle.std.specs.List.{AllByRecursion, slice_split};
+ghost use Rattle.std.specs.Option.{option_copied, option_map};
+ghost use Rattle.cadence_read.specs.LineTexts.{IsMarked, parts_of_texts, pieces_left, texts_seen};
+ghost use Rattle.cadence_read.specs.Reads.{Reads};
+
+// What stands before the first such byte, and what stands after it.
+pub(crate) fn cut(text: &[u8], mark: u8) -> Option<(&[u8], &[u8])>
+    ensures none { IfNone result (All (λ byte. byte ≢ mark) text.now) }
+    ensures front { IfSome result (λ parts. All (λ byte. byte ≢ mark) parts.0.now) }
+    ensures whole { IfSome result (λ parts. text.now ≡ parts.0.now ++ mark ∷ parts.1.now) }
+{
+    let at = text.iter().position(|byte| *byte == mark)?;
+    Some((&text[..at], &text[at + 1..]))
+}
+
+// The first piece of a text that is cut at each mark, and what stands after the first mark, where there is one.
+pub(crate) fn cut_piece(text: &[u8], mark: u8) -> (&[u8], Option<&[u8]>)
+    ensures { slice_split (λ byte. byte == mark) text.now
+        ≡ result.0.now ∷ pieces_left mark (option_copied result.1) }
+{
+    match cut(text, mark) {
+        Some((piece, left)) => (piece, Some(left)),
+        None => (text, None),
+    }
+}
+
+// What follows the mark in the first part, where it has that mark, and what is left after it.
+fn take_marked<'a>(left: Option<&'a [u8]>, mark: &[u8]) -> (Option<&'a [u8]>, Option<&'a [u8]>)
+    requires { AllByRecursion (λ byte. byte ≢ 124) mark.now }
+    ensures { IsMarked mark.now (pieces_left 124 (option_copied left.entry))
+        (option_copied result.0) (pieces_left 124 (option_copied result.1)) }
+{
+    let Some(text) = left else {
+        return (None, None);
+    };
+    let Some(marked) = text.strip_prefix(mark) else {
+        return (None, left);
+    };
+    let (value, others) = cut_piece(marked, b'|');
+    (Some(value), others)
+}
+
+// The texts of a line's fields.
+#[derive(Clone, Copy)]
+pub(crate) struct TextsOfLine<'a> {
+    pub(crate) name: &'a [u8],
+    pub(crate) numbers: &'a [u8],
+    pub(crate) kind: &'a [u8],
+    pub(crate) rate: Option<&'a [u8]>,
+    pub(crate) tags: Option<&'a [u8]>,
+    pub(crate) container: Option<&'a [u8]>,
+    pub(crate) time: Option<&'a [u8]>,
+}
+
+// The texts of a line's fields, each cut off in the order in which they stand, with nothing left.
+pub(crate) fn cut_line(line: &[u8]) -> Option<TextsOfLine<'_>>
+    ensures { Reads (λ texts. All (λ byte. byte ≢ 58) texts.name) parts_of_texts
+        (slice_split (λ byte. byte == 124) line.now) (option_map texts_seen result) }
+{
+    let (front, fields) = cut_piece(line, b'|');
+    let (name, numbers) = cut(front, b':')?;
+    let (kind, fields) = cut_piece(fields?, b'|');
+    let (rate, fields) = take_marked(fields, b"@");
+    let (tags, fields) = take_marked(fields, b"#");
+    let (container, fields) = take_marked(fields, b"c:");
+    let (time, fields) = take_marked(fields, b"T");
+    if fields.is_some() {
+        return None;
+    }
+    Some(TextsOfLine {
+        name,
+        numbers,
+        kind,
+        rate,
+        tags,
+        container,
+        time,
+    })
+}

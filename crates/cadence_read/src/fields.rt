@@ -1,0 +1,159 @@
+//! The fields of a line, each read from its text.
+ghost use Rattle.std.specs.Prelude.{◌≡◌, ◌↔◌, ◌<◌, ◌^◌, ⊤, All, IfSome, IsTrue, map};
+ghost use Rattle.std.specs.Option.{option_copied, option_map};
+ghost use Rattle.std.specs.String.{string_bytes};
+ghost use Rattle.cadence_text.specs.Line.{kind_text, numbers_text, tag_text};
+ghost use Rattle.cadence_text.specs.Number.{decimal_text, number_text};
+ghost use Rattle.cadence_text.specs.OneReading.{IsNoSeparator};
+ghost use Rattle.cadence_text.specs.Owned.{tag_of_owned};
+ghost use Rattle.cadence_text.specs.Said.{IsDecimal};
+ghost use Rattle.cadence_read.specs.LineTexts.{tags_text};
+ghost use Rattle.cadence_read.specs.Listed.{IsListedTag, IsText};
+ghost use Rattle.cadence_read.specs.Reads.{Reads, ReadsOrFails};
+
+use crate::cuts::{cut, cut_piece};
+use crate::fault::ReadFault;
+use crate::number::{read_number, read_whole};
+use cadence_text::decimal::Decimal;
+use cadence_text::line::MetricType;
+use std::alloc::Allocator;
+
+// Whether the text has no colon, comma, bar or newline.
+fn is_free(text: &[u8]) -> bool
+    ensures { IsTrue result ↔ All IsNoSeparator text.now }
+{
+    text.iter().all(|byte| *byte != b':' && *byte != b',' && *byte != b'|' && *byte != b'\n')
+}
+
+// A name, a tag's key or text, or a container.
+pub(crate) fn read_text<A: Allocator>(alloc: A, text: &[u8]) -> Result<String<A>, ReadFault>
+    ensures { ReadsOrFails IsText (λ t. t) text.now string_bytes result }
+{
+    if !is_free(text) {
+        return Err(ReadFault::NotMetrics);
+    }
+    let Ok(text) = str::from_utf8(text) else {
+        return Err(ReadFault::NotMetrics);
+    };
+    Ok(String::from_str(alloc, text)?)
+}
+
+// Numbers with a colon between each two. Mostly there is one.
+pub(crate) fn read_numbers<A: Allocator>(
+    alloc: A,
+    text: &[u8],
+) -> Result<Vec<Decimal, A>, ReadFault>
+    ensures { ReadsOrFails (All IsDecimal) numbers_text text.now (λ v. v.items) result }
+{
+    if text.is_empty() {
+        return Ok(Vec::new(alloc));
+    }
+    let mut numbers = Vec::with_capacity(alloc, 1)?;
+    let mut left = Some(text);
+    while let Some(text) = left {
+        let (piece, others) = cut_piece(text, b':');
+        let Some(number) = read_number(piece) else {
+            return Err(ReadFault::NotMetrics);
+        };
+        numbers.push(number)?;
+        left = others;
+    }
+    Ok(numbers)
+}
+
+// The kind with this type text.
+pub(crate) fn read_kind(text: &[u8]) -> Option<MetricType>
+    ensures { Reads (λ _. ⊤) kind_text text.now result }
+{
+    match text {
+        b"c" => Some(MetricType::Counter),
+        b"ms" => Some(MetricType::Timer),
+        b"g" => Some(MetricType::Gauge),
+        b"m" => Some(MetricType::Meter),
+        b"h" => Some(MetricType::Histogram),
+        b"s" => Some(MetricType::Set),
+        b"d" => Some(MetricType::Distribution),
+        _ => None,
+    }
+}
+
+// The rate, where there is one.
+pub(crate) fn read_rate(text: Option<&[u8]>) -> Result<Option<Decimal>, ReadFault>
+    ensures { ReadsOrFails (λ rate. IfSome rate IsDecimal) (option_map number_text)
+        (option_copied text.entry) (λ rate. rate) result }
+{
+    let Some(text) = text else {
+        return Ok(None);
+    };
+    match read_number(text) {
+        Some(rate) => Ok(Some(rate)),
+        None => Err(ReadFault::NotMetrics),
+    }
+}
+
+// A tag: its text, or its key and its text.
+fn read_tag<A: Allocator + Clone>(
+    alloc: &A,
+    text: &[u8],
+) -> Result<(Option<String<A>>, String<A>), ReadFault>
+    ensures { ReadsOrFails IsListedTag tag_text text.now tag_of_owned result }
+{
+    let Some((key, text)) = cut(text, b':') else {
+        let text = read_text(alloc.clone()?, text)?;
+        return Ok((None, text));
+    };
+    let key = read_text(alloc.clone()?, key)?;
+    let text = read_text(alloc.clone()?, text)?;
+    Ok((Some(key), text))
+}
+
+// Tags with a comma between each two, where there is one.
+pub(crate) fn read_tags<A: Allocator + Clone>(
+    alloc: &A,
+    text: Option<&[u8]>,
+) -> Result<Vec<(Option<String<A>>, String<A>), A>, ReadFault>
+    ensures { ReadsOrFails (All IsListedTag) tags_text (option_copied text.entry)
+        (λ v. map tag_of_owned v.items) result }
+{
+    let mut tags = Vec::new(alloc.clone()?);
+    let mut left = text;
+    while let Some(text) = left {
+        let (piece, others) = cut_piece(text, b',');
+        let tag = read_tag(alloc, piece)?;
+        tags.push(tag)?;
+        left = others;
+    }
+    Ok(tags)
+}
+
+// The container, where there is one.
+pub(crate) fn read_container<A: Allocator>(
+    alloc: A,
+    text: Option<&[u8]>,
+) -> Result<Option<String<A>>, ReadFault>
+    ensures { ReadsOrFails (λ container. IfSome container IsText) (λ container. container)
+        (option_copied text.entry) (option_map string_bytes) result }
+{
+    let Some(text) = text else {
+        return Ok(None);
+    };
+    let container = read_text(alloc, text)?;
+    Ok(Some(container))
+}
+
+// The time, where there is one.
+pub(crate) fn read_time(text: Option<&[u8]>) -> Result<Option<u64>, ReadFault>
+    ensures { ReadsOrFails (λ time. IfSome time (λ t. t < 2 ^ 64)) (option_map decimal_text)
+        (option_copied text.entry) (λ time. time) result }
+{
+    let Some(text) = text else {
+        return Ok(None);
+    };
+    let Some(time) = read_whole(text) else {
+        return Err(ReadFault::NotMetrics);
+    };
+    match u64::try_from(time) {
+        Ok(time) => Ok(Some(time)),
+        Err(_) => Err(ReadFault::NotMetrics),
+    }
+}

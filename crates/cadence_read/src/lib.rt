@@ -1,0 +1,14 @@
+//! Metrics that are read from a client's packets, each from the one line that it has.
+#![tactic(auto)]
+
+mod cuts;
+mod fault;
+mod fields;
+mod line;
+mod number;
+mod packet;
+
+pub use fault::ReadFault;
+pub use line::read_line;
+pub use number::read_number;
+pub use packet::{read_packet, read_run};

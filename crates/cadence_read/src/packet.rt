@@ -1,0 +1,97 @@
+//! The metrics of a packet, and of the packets of a run.
+ghost use Rattle.std.specs.Prelude.{◌≡◌, ◌==◌, ◌∷◌, ◌++◌, [], List, All, Err, IfOk, map};
+ghost use Rattle.std.specs.List.{slice_split};
+ghost use Rattle.cadence_text.specs.Line.{line_of};
+ghost use Rattle.cadence_text.specs.Metric.{Metric};
+ghost use Rattle.cadence_text.specs.Owned.{metrics_of};
+ghost use Rattle.cadence_read.specs.Listed.{AreListed, IsListed, IsListOf, ReadsPacket};
+ghost use Rattle.cadence_read.specs.Reads.{ReadsOrFails};
+ghost use Rattle.cadence_read.specs.declared.fault.ReadFault.TheVariants.{NotMetrics};
+
+use crate::cuts::cut_piece;
+use crate::fault::ReadFault;
+use crate::line::read_line;
+use cadence_text::line::OwnedMetric;
+use std::alloc::Allocator;
+
+// The metrics of these lines, with a newline between each two.
+fn read_lines<A: Allocator + Clone>(
+    alloc: &A,
+    lines: &[u8],
+) -> Result<Vec<OwnedMetric<A>, A>, ReadFault>
+    ensures { ReadsOrFails (All IsListed) (map line_of)
+        (slice_split (λ byte. byte == 10) lines.now) metrics_of result }
+{
+    let mut metrics = Vec::new(alloc.clone()?);
+    let mut left = Some(lines);
+    while let Some(text) = left {
+        let (line, others) = cut_piece(text, b'\n');
+        let metric = read_line(alloc, line)?;
+        metrics.push(metric)?;
+        left = others;
+    }
+    Ok(metrics)
+}
+
+// The metrics of this packet.
+fn read_list<A: Allocator + Clone>(
+    alloc: &A,
+    packet: &[u8],
+) -> Result<Vec<OwnedMetric<A>, A>, ReadFault>
+    ensures { ReadsPacket packet.now result }
+{
+    if packet.is_empty() {
+        return Ok(Vec::new(alloc.clone()?));
+    }
+    if let Some(lines) = packet.strip_suffix(b"\n") {
+        return read_lines(alloc, lines);
+    }
+    let metric = read_line(alloc, packet)?;
+    let mut metrics = Vec::new(alloc.clone()?);
+    metrics.push(metric)?;
+    Ok(metrics)
+}
+
+/// The one list of metrics whose packet this is.
+///
+/// # Errors
+/// `NotMetrics` where no list has this packet, and `OutOfMemory`.
+pub fn read_packet<A: Allocator + Clone>(
+    alloc: A,
+    packet: &[u8],
+) -> Result<Vec<OwnedMetric<A>, A>, ReadFault>
+    ensures found { IfOk result (λ metrics. IsListOf packet.now (metrics_of metrics)) }
+    ensures only { IfOk result (λ metrics. (others : List Metric) →
+        IsListOf packet.now others → others ≡ metrics_of metrics) }
+    ensures refused { result ≡ Err NotMetrics →
+        (metrics : List Metric) → IsListOf packet.now metrics → ⊥ }
+{
+    read_list(&alloc, packet)
+}
+
+/// The metrics of the packets and then of the held text, joined.
+///
+/// # Errors
+/// `NotMetrics` where one of them is the packet of no list, and `OutOfMemory`.
+pub fn read_run<A: Allocator + Clone>(
+    alloc: A,
+    packets: &[Vec<u8, A>],
+    held: &[u8],
+) -> Result<Vec<OwnedMetric<A>, A>, ReadFault>
+    ensures found { IfOk result (λ metrics.
+        AreListed (map (λ packet. packet.items) packets.now ++ held.now ∷ []) (metrics_of metrics)) }
+    ensures only { IfOk result (λ metrics. (others : List Metric) →
+        AreListed (map (λ packet. packet.items) packets.now ++ held.now ∷ []) others →
+        others ≡ metrics_of metrics) }
+    ensures refused { result ≡ Err NotMetrics → (metrics : List Metric) →
+        AreListed (map (λ packet. packet.items) packets.now ++ held.now ∷ []) metrics → ⊥ }
+{
+    let mut metrics = Vec::new(alloc.clone()?);
+    for packet in packets {
+        let mut list = read_list(&alloc, packet)?;
+        metrics.append(&mut list)?;
+    }
+    let mut last = read_list(&alloc, held)?;
+    metrics.append(&mut last)?;
+    Ok(metrics)
+}

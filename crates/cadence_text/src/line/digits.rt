@@ -1,0 +1,106 @@
+//! The digits of whole numbers, two at a time, and how many they are.
+ghost use Rattle.std.specs.Prelude.{◌≡◌, ◌+◌, ◌/◌, ◌%◌, ◌<◌, ◌∷◌, [], length};
+ghost use Rattle.cadence_text.specs.Number.{decimal_text};
+ghost use Rattle.cadence_text.specs.Sink.{Takes};
+
+use crate::line::sink::CharSink;
+
+// One digit.
+#[inline(always)]
+fn push_digit<S: CharSink>(line: &mut S, digit: u64)
+    requires { digit < 10 }
+    ensures { Takes S.ends_as line.old ((48 + digit) ∷ []) line.new }
+{
+    line.put_char(char::from(b'0' + digit as u8));
+}
+
+// Two digits, the first of which may be 0.
+#[inline(always)]
+fn push_pair<S: CharSink>(line: &mut S, pair: u64)
+    requires { pair < 100 }
+    ensures { Takes S.ends_as line.old ((48 + pair / 10) ∷ (48 + pair % 10) ∷ []) line.new }
+{
+    push_digit(line, pair / 10);
+    push_digit(line, pair % 10);
+}
+
+// One digit or two.
+#[inline(always)]
+fn push_first<S: CharSink>(line: &mut S, number: u64)
+    requires { number < 100 }
+    ensures { Takes S.ends_as line.old (decimal_text number) line.new }
+{
+    if number < 10 {
+        return push_digit(line, number);
+    }
+    push_pair(line, number);
+}
+
+/// The digits of a number, without leading zeros.
+#[inline]
+pub(crate) fn push_number<S: CharSink>(line: &mut S, number: u64)
+    ensures { Takes S.ends_as line.old (decimal_text number) line.new }
+{
+    if number >= 10_000 {
+        push_number(line, number / 10_000);
+        push_pair(line, number % 10_000 / 100);
+        return push_pair(line, number % 100);
+    }
+    if number >= 100 {
+        push_first(line, number / 100);
+        return push_pair(line, number % 100);
+    }
+    push_first(line, number);
+}
+
+/// The same of 128 bits.
+pub(crate) fn push_wide<S: CharSink>(line: &mut S, number: u128)
+    ensures { Takes S.ends_as line.old (decimal_text number) line.new }
+{
+    if let Ok(small) = u64::try_from(number) {
+        return push_number(line, small);
+    }
+    push_wide(line, number / 100);
+    push_pair(line, (number % 100) as u64);
+}
+
+/// How many digits a number has.
+#[inline]
+pub(crate) fn number_len(number: u64) -> usize
+    ensures { result ≡ length (decimal_text number) }
+{
+    let (mut left, mut count) = (number, 0);
+    while left >= 10_000 {
+        left /= 10_000;
+        count += 4;
+    }
+    count + short_len(left)
+}
+
+#[inline(always)]
+fn short_len(number: u64) -> usize
+    requires { number < 10000 }
+    ensures { result ≡ length (decimal_text number) }
+{
+    if number < 10 {
+        1
+    } else if number < 100 {
+        2
+    } else if number < 1000 {
+        3
+    } else {
+        4
+    }
+}
+
+/// The same of 128 bits.
+pub(crate) fn wide_len(number: u128) -> usize
+    ensures { result ≡ length (decimal_text number) }
+{
+    let (mut left, mut count) = (number, 0);
+    while left > u64::MAX as u128 {
+        left /= 10_000;
+        count += 4;
+    }
+    count + number_len(left as u64)
+}

@@ -1,0 +1,130 @@
+//! Worked rows: packets with the lines of their metrics, and packets of no metrics.
+use cadence_listen::{ReadFault, read_line, read_packet, read_run};
+use cadence_text::decimal::Decimal;
+use cadence_text::line::{MetricType, OwnedMetric};
+use std::alloc::Global;
+use std::test::Fail;
+
+// Packets that are read, each with its line, where it is one.
+const READ: [&str; 10] = [
+    "a:|ms",
+    ":1|c",
+    "a:1|c|#",
+    "a:1|c|#,",
+    "a:1|c|c:",
+    "k:0.5|c",
+    "a:1:2.5|ms|@0.5|#k:v,w|c:id|T7",
+    "a:-170141183460469231731687303715884105728|g",
+    "a:170141183460469231731687303715884105727|g",
+    "a:0|c|T18446744073709551615",
+];
+
+const REFUSED: [&str; 20] = [
+    "a:01|c",
+    "a:-0|c",
+    "a:1.50|g",
+    "a::|ms",
+    "a:1|x",
+    "a:1|c|T7|#t",
+    "a:1|c|#k:v:w",
+    "a:170141183460469231731687303715884105728|g",
+    "\n",
+    "a:1|c\nb:2|c",
+    "a,b:1|c",
+    "a:+1|c",
+    "a:1.|g",
+    "a:.5|g",
+    "a:0.0000000000000000000000000000001|g",
+    "a:1|c|T07",
+    "a:1|c|T18446744073709551616",
+    "a:1|c|",
+    "a:1|c|@",
+    "a:1|c|c:id|#t",
+];
+
+// The line of a metric that was read.
+fn line_of(alloc: Global, metric: &OwnedMetric) -> Result<String, Fail> {
+    Ok(metric.to_record()?.format(alloc)?)
+}
+
+fn is_refused(alloc: Global, packet: &[u8]) -> bool {
+    matches!(read_packet(alloc, packet), Err(ReadFault::NotMetrics))
+}
+
+#[test]
+fn each_field_is_read(rt: HostRuntime) -> Result<(), Fail> {
+    let alloc = rt.alloc();
+    let metric = read_line(&alloc, b"a:1:2.5|ms|@0.5|#k:v,w|c:id|T7")?;
+    assert_eq!(rt; metric.name.as_str(), "a");
+    assert!(rt; metric.numbers.as_slice() == [Decimal::new(1, 0)?, Decimal::new(25, 1)?]);
+    assert_eq!(rt; metric.kind, MetricType::Timer);
+    assert_eq!(rt; metric.rate, Some(Decimal::new(5, 1)?));
+    assert_eq!(rt; metric.tags.len(), 2);
+    assert!(rt;
+        metric.tags[0]
+            .0
+            .as_ref()
+            .is_some_and(|key| key.as_str() == "k")
+    );
+    assert_eq!(rt; metric.tags[0].1.as_str(), "v");
+    assert!(rt; metric.tags[1].0.is_none());
+    assert_eq!(rt; metric.tags[1].1.as_str(), "w");
+    assert!(rt;
+        metric
+            .container
+            .as_ref()
+            .is_some_and(|id| id.as_str() == "id")
+    );
+    assert_eq!(rt; metric.time, Some(7));
+    Ok(())
+}
+
+#[test]
+fn these_are_read(rt: HostRuntime) -> Result<(), Fail> {
+    let alloc = rt.alloc();
+    assert!(rt; read_packet(alloc, b"")?.is_empty());
+    for line in READ {
+        let metrics = read_packet(alloc, line.as_bytes())?;
+        assert_eq!(rt; metrics.len(), 1);
+        assert_eq!(rt; line_of(alloc, &metrics[0])?.as_str(), line);
+        let ended = format!(in alloc; "{line}\n{line}\n")?;
+        let both = read_packet(alloc, ended.as_bytes())?;
+        assert_eq!(rt; both.len(), 2);
+        assert!(rt; both[0] == metrics[0] && both[1] == metrics[0]);
+    }
+    Ok(())
+}
+
+#[test]
+fn these_are_refused(rt: HostRuntime) -> Result<(), Fail> {
+    let alloc = rt.alloc();
+    for packet in REFUSED {
+        assert!(rt; is_refused(alloc, packet.as_bytes()), packet);
+        let after = format!(in alloc; "a:1|c\n{packet}\n")?;
+        assert!(rt; is_refused(alloc, after.as_bytes()), packet);
+    }
+    for packet in [
+        b"\xff:1|c".as_slice(),
+        b"a:1|c|#\xc3",
+        b"a:1|c|#\xc3:w",
+        b"a:1|c|c:\x80",
+    ] {
+        assert!(rt; is_refused(alloc, packet));
+    }
+    let told = format!(in alloc; "{}", ReadFault::NotMetrics)?;
+    assert_eq!(rt; told.as_str(), "not a packet of metrics");
+    Ok(())
+}
+
+#[test]
+fn a_run_is_read_with_its_held_text(rt: HostRuntime) -> Result<(), Fail> {
+    let alloc = rt.alloc();
+    let packets = [Vec::from_slice(alloc, b"a:1|c")?];
+    let metrics = read_run(alloc, &packets, b"b:2|c\n")?;
+    assert_eq!(rt; metrics.len(), 2);
+    assert_eq!(rt; line_of(alloc, &metrics[0])?.as_str(), "a:1|c");
+    assert_eq!(rt; line_of(alloc, &metrics[1])?.as_str(), "b:2|c");
+    assert!(rt; matches!(read_run(alloc, &packets, b"b"), Err(ReadFault::NotMetrics)));
+    assert!(rt; read_run(alloc, &[], b"")?.is_empty());
+    Ok(())
+}
