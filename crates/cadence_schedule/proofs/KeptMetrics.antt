@@ -2,15 +2,22 @@
 use Rattle.std.proofs.Common.{◌≡◌, ℕ, List, [], ◌∷◌, ◌++◌, Option, Some, None, Ok, refl, sym, ap, ◌∙◌, map}
 use Rattle.std.specs.Option.{option_map, option_to_list}
 use Rattle.std.proofs.lemmas.List.{map-append}
+use Rattle.cadence_flow.specs.QueueModel.{Exit, by_take, by_drop}
 use Rattle.cadence_schedule.specs.declared.call.Call.{Call}
 use Rattle.cadence_schedule.specs.declared.steps.Step.TheVariants as step
 use Rattle.cadence_schedule.specs.declared.steps.Reply.TheVariants as reply
-use Rattle.cadence_schedule.specs.History.{Turn, answered, outcomes, accepted, accepted_by, kept}
+use Rattle.cadence_schedule.specs.History.{Turn, answered, undropped, outcomes, exits, accepted, accepted_by, staying, kept}
 
 module _ {X Y : Type 0} (f : X → Y) where
   option_mapped : (o : Option X) → option_to_list (option_map f o) ≡ map f (option_to_list o)
   option_mapped None = refl
   option_mapped (Some x) = refl
+
+  undropped_mapped : (xs : List X) (es : List Exit) → undropped (map f xs) es ≡ map f (undropped xs es)
+  undropped_mapped [] es = refl
+  undropped_mapped (x ∷ xs) [] = refl
+  undropped_mapped (x ∷ xs) (by_take ∷ es) = ap (λ l. f x ∷ l) (undropped_mapped xs es)
+  undropped_mapped (x ∷ xs) (by_drop ∷ es) = undropped_mapped xs es
 
   answered_mapped : (xs : List X) (answers : List (Option ℕ)) → answered (map f xs) answers ≡ map (λ (k : X × ℕ). (f k.0, k.1)) (answered xs answers)
   answered_mapped [] answers = refl
@@ -25,6 +32,7 @@ module _ {X Y : Type 0} (f : X → Y) where
   module _ {A : Type 0} (of : Call A → Option X) where
     turn_mapped : (t : Turn A) → accepted_by (λ c. option_map f (of c)) t ≡ map f (accepted_by of t)
     turn_mapped (step.Call call, reply.Called (Ok n)) = option_mapped (of call)
+    turn_mapped (step.Call call, reply.CallDropped n m) = option_mapped (of call)
     turn_mapped _ = refl
 
     accepted_mapped : (h : List (Turn A)) → accepted (λ c. option_map f (of c)) h ≡ map f (accepted of h)
@@ -33,5 +41,5 @@ module _ {X Y : Type 0} (f : X → Y) where
 
     pub kept_mapped : (h : List (Turn A)) → kept (λ c. option_map f (of c)) h ≡ map f (kept of h)
     kept_mapped h =
-        ap (λ xs. map (λ (k : Y × ℕ). k.0) (answered xs (outcomes h))) (accepted_mapped h)
-        ∙ ap (map (λ (k : Y × ℕ). k.0)) (answered_mapped (accepted of h) (outcomes h)) ∙ firsts_mapped (answered (accepted of h) (outcomes h))
+        ap (λ xs. map (λ (k : Y × ℕ). k.0) (answered xs (outcomes h))) (ap (λ xs. undropped xs (exits h)) (accepted_mapped h) ∙ undropped_mapped (accepted of h) (exits h))
+        ∙ ap (map (λ (k : Y × ℕ). k.0)) (answered_mapped (staying of h) (outcomes h)) ∙ firsts_mapped (answered (staying of h) (outcomes h))

@@ -25,8 +25,9 @@ loop-step-preserved g c =
       same_kind = call.same_kind ∙ before.same_kind;
       same_format = call.same_format ∙ before.same_format;
       same_queue = call.same_queue ∙ before.same_queue;
-      runs = runs_push (line_of_data c.args.settings.now) (g.P.PacketWriter.kind first.packer.writer) first.packer.format first.queue.capacity
+      same_policy = call.same_policy ∙ before.same_policy;
+      runs = runs_push (line_of_data c.args.settings.now) (g.P.PacketWriter.kind first.packer.writer) first.packer.format first.queue.capacity first.queue.policy
           (state_of g.P.PacketWriter.history first) (state_of g.P.PacketWriter.history c.loop-step.running) (state_of g.P.PacketWriter.history c.step-reply.new.self)
           (take i steps) (take (i + 1) steps) replies c.push.new.self.items one answer short more c.in-Ok.ensures.items before.runs
-          (moves_along (line_of_data c.args.settings.now) _ _ _ _ _ _ _ _ _ before.same_kind before.same_format before.same_queue call.moves);
+          (moves_along (line_of_data c.args.settings.now) _ _ _ _ _ _ _ _ _ _ _ before.same_kind before.same_format before.same_queue before.same_policy call.moves);
     }
