@@ -142,10 +142,10 @@ fn newest_lines_win(rt: HostRuntime) -> Result<(), Fail> {
     };
     let faults = Arc::new(rt.alloc(), AtomicU64::new(0))?;
     let counted = faults.clone()?;
-    let handler = Box::new(rt.alloc(), move |_fault| {
+    let heap = Refusing::after(rt.alloc(), rt.alloc(), 1000)?;
+    let handler = Box::new(heap.clone()?, move |_fault| {
         counted.fetch_add(1, Ordering::SeqCst);
     })?;
-    let heap = Refusing::after(rt.alloc(), rt.alloc(), 1000)?;
     let sink = QueuingMetricSinkBuilder::new()
         .with_capacity(1)
         .with_policy(QueuePolicy::DropOldest)
