@@ -2,5 +2,5 @@
 
 pub use cadence_schedule::{
     Call, CallOption, CallValue, Reply, Report, Step, check_plan, packets_read_one_way,
-    plan_packets, run_schedule, tight_is_fewest,
+    plan_packets, run_schedule, run_schedule_with, tight_is_fewest,
 };

@@ -1,17 +1,19 @@
 -- What a call leaves of the history and of the queue under the lock.
-use Rattle.std.proofs.Common.{drop, ◌≡◌, ℕ, zero, suc, ◌+◌, ◌<◌, ◌≤◌, ◌==◌, ◌||◌, ◌⊎◌, ◌≢◌, Bool, true, false, IsTrue, cond, List, [], ◌∷◌, ◌++◌, length, take, set, Option, Some, Result, Ok, Err, OnOk, IfErr, slice_get, slice_index, get_or, replicate, count_by, refl, sym, ap, subst, inl, inr, arith, ◌∙◌}
+use Rattle.std.proofs.Common.{drop, map, ◌≡◌, ℕ, zero, suc, ◌+◌, ◌<◌, ◌≤◌, ◌==◌, ◌||◌, ◌&&◌, ◌⊎◌, ◌≢◌, Bool, true, false, IsTrue, cond, List, [], ◌∷◌, ◌++◌, length, take, set, Option, Some, None, is_none, Result, Ok, Err, IfOk, IfErr, slice_get, slice_index, get_or, replicate, count_by, refl, sym, ap, subst, inl, inr, arith, ◌∙◌}
 use Rattle.std.proofs.lemmas.Grind.{common_steps, flat_map-append}
 use Rattle.std.proofs.lemmas.Bool.Decides.{nat_tests}
-use Rattle.std.proofs.lemmas.List.{get_or-set_same, get_or-set_other, length-set, take-append-le, append-nil, append_assoc, drop-append-le, drop_more, length-append}
+use Rattle.std.proofs.lemmas.List.{get_or-set_same, get_or-set_other, length-set, take-append-le, append-nil, append_assoc, drop-append-le, drop_more, length-append, length-map, map-append}
 use Rattle.std.proofs.lemmas.Option.{slice_get_within, get_or_from_slice_get}
-use Rattle.std.proofs.Math.Bool.{or-false, or-true}
+use Rattle.std.proofs.Math.Bool.{and-true, or-false, or-true}
 use Rattle.std.proofs.lemmas.List.Sums.{sum_by-append}
 use Rattle.std.proofs.lemmas.List.Folds.{list_any-append}
 use Rattle.cadence_errors.specs.declared.SinkError.{SinkError}
 use Rattle.cadence_errors.specs.declared.SinkError.TheVariants as refusal
 use Rattle.cadence_flow.specs.QueueState.{Queue}
-use Rattle.cadence_flow.specs.Queue.{IsTaken, IsRefusal, accepting, stopping, is_full, at_capacity}
-use Rattle.cadence_flow.specs.QueueModel.{IsQueueOf, IsAccepted, IsNext}
+use Rattle.cadence_flow.specs.Queue.{IsTaken, IsRefusal, Accepts, stopping, is_full, lacks_room, drops_for_room, at_capacity}
+use Rattle.cadence_flow.specs.QueueModel.{by_take, IsQueueOf, IsAccepted, IsNext}
+use Rattle.cadence_flow.specs.declared.queue.policy.QueuePolicy.{QueuePolicy}
+use Rattle.cadence_flow.specs.declared.queue.policy.QueuePolicy.TheVariants.{Refuse}
 use Rattle.cadence_flow.specs.declared.queue.queue_core.Taken.{Taken}
 use Rattle.cadence_flow.specs.declared.queue.queue_core.Taken.TheVariants as taken
 use Rattle.cadence_audit.specs.declared.event.Event.{Event}
@@ -21,7 +23,7 @@ use Rattle.cadence_audit.specs.declared.event.SubmitReply.{SubmitReply}
 use Rattle.cadence_audit.specs.declared.event.SubmitReply.TheVariants as submit
 use Rattle.cadence_audit.specs.AuditHistory.{IsLegal, MayFollow, accepted, taken_texts, taken_count, was_stopped, waiting, events_of, texts_of, text_given, is_stop, first_of, submit_reply}
 use Rattle.cadence_audit.specs.AuditSeats.{AreReceiptsOf}
-use Rattle.cadence_audit.specs.AuditDesk.{IsKept, IsTold, IsToldRefusal}
+use Rattle.cadence_audit.specs.AuditDesk.{IsKept, IsTold, IsToldRefusal, exits}
 
 -- an accepted text waits last
 order_accepted : (accepted given : List (List ℕ)) (t : ℕ) (x : List ℕ) → t ≤ length accepted → accepted ≡ given ++ drop t accepted
@@ -99,16 +101,25 @@ module _ {Z : Type 0} where
       let inside : j < length counts = omega (arith, length-set counts e.seat n) in
       rw push (rw is (rw get_or-set_other (omega (arith, k j inside))))
 
+  -- as many texts left as were taken
+  as_many : (es : List (Event Z)) → length (exits es) ≡ taken_count es
+  as_many es = length-map (taken_texts es) (λ _. by_take)
+
+  -- what waits in the queue is what the events leave
+  waits_after : (capacity : Option ℕ) (es : List (Event Z)) (core : Queue (List ℕ)) (counts : List ℕ) → IsKept capacity es core counts → core.waiting ≡ waiting es
+  waits_after capacity es core counts k = k.past.waits ∙ ap (λ n. drop n (accepted es)) (as_many es)
+
   -- what a call leaves, given the past that it gives the queue
   pub kept_push : (capacity : Option ℕ) (es : List (Event Z)) (core after : Queue (List ℕ)) (counts : List ℕ) (e : Event Z) (n t : ℕ)
       → IsKept capacity es core counts → MayFollow capacity es e → n ≡ e.count + 1
       → t ≡ taken_count es + length (text_given e.reply)
       → accepted es ++ texts_of e ≡ (taken_texts es ++ text_given e.reply) ++ drop t (accepted es ++ texts_of e)
-      → IsQueueOf (accepted es ++ texts_of e) t after
+      → IsQueueOf (accepted es ++ texts_of e) (map (λ _. by_take) (taken_texts es ++ text_given e.reply)) after
       → after.capacity ≡ core.capacity
+      → after.policy ≡ core.policy
       → after.stopped ≡ (core.stopped || is_stop e.call)
       → IsKept capacity (es ++ e ∷ []) after (set counts e.seat n)
-  kept_push capacity es core after counts e n t k m more now order past bound stop =
+  kept_push capacity es core after counts e n t k m more now order past bound same stop =
       let a : accepted (es ++ e ∷ []) ≡ accepted es ++ texts_of e = flat_map-append texts_of es (e ∷ []) ∙ ap (λ l. accepted es ++ l) (append-nil (texts_of e)) in
       let g : taken_texts (es ++ e ∷ []) ≡ taken_texts es ++ text_given e.reply = flat_map-append (λ (f : Event Z). text_given f.reply) es (e ∷ []) ∙ ap (λ l. taken_texts es ++ l) (append-nil (text_given e.reply)) in
       let c : length (taken_texts es ++ text_given e.reply) ≡ t = length-append (taken_texts es) (text_given e.reply) ∙ sym now in
@@ -116,8 +127,9 @@ module _ {Z : Type 0} where
       record {
         legal = legal_push capacity es e k.legal m;
         order = rw (a, g, c) order;
-        past = rw (a, g, c) past;
+        past = rw (a, g) past;
         bound = bound ∙ k.bound;
+        refuses = same ∙ k.refuses;
         stop = stop ∙ ap (λ b. b || is_stop e.call) k.stop ∙ sym s;
         counted = λ j lt. counted_at es counts e n j (e.seat == j) refl k.counted m.1 more lt;
       }
@@ -131,7 +143,8 @@ module _ {Z : Type 0} where
       kept_push capacity es core core counts e n (taken_count es) k may more
       (rw gave (omega arith))
       (rw (none, gave, append-nil, append-nil) k.order)
-      (rw (none, append-nil) k.past)
+      (rw (none, gave, append-nil, append-nil) k.past)
+      refl
       refl
       (rw stop (sym (or-false core.stopped)))
 
@@ -143,8 +156,8 @@ module _ {Z : Type 0} where
       → IsKept capacity es core counts → n ≡ events_of seat es → after ≡ stopping core
       → IsKept capacity (es ++ stop_event seat n ∷ []) after (set counts seat (n + 1))
   kept_stop capacity es core after counts seat n k is h =
-      let past : IsQueueOf (accepted es ++ []) (taken_count es) (stopping core) = rw append-nil (record { waits = k.past.waits; front = k.past.front; submitted = k.past.submitted; drained = k.past.drained }) in
-      rw h (kept_push capacity es core (stopping core) counts (stop_event seat n) (n + 1) (taken_count es) k (refl, is) refl (omega arith) (rw (append-nil, append-nil) k.order) past refl (sym (or-true core.stopped)))
+      let past : IsQueueOf (accepted es ++ []) (map (λ _. by_take) (taken_texts es ++ [])) (stopping core) = rw (append-nil, append-nil) (record { waits = k.past.waits; front = k.past.front; submitted = k.past.submitted; drained = k.past.drained; dropped = k.past.dropped }) in
+      rw h (kept_push capacity es core (stopping core) counts (stop_event seat n) (n + 1) (taken_count es) k (refl, is) refl (omega arith) (rw (append-nil, append-nil) k.order) past refl refl (sym (or-true core.stopped)))
 
   -- the event of a take
   abbrev take_event : ℕ → ℕ → Taken (List ℕ) → Event Z
@@ -155,9 +168,10 @@ module _ {Z : Type 0} where
       → IsKept capacity (es ++ take_event seat n t ∷ []) after (set counts seat (n + 1))
   kept_taken capacity es core after counts seat n (taken.Text x) k may h next =
       kept_push capacity es core after counts (take_event seat n (taken.Text x)) (n + 1) (taken_count es + 1) k may refl refl
-      (rw append-nil (order_taken (accepted es) (taken_texts es) (taken_count es) x k.order (next (accepted es) (taken_count es) k.past).0))
-      (rw append-nil (next (accepted es) (taken_count es) k.past).1)
+      (rw append-nil (order_taken (accepted es) (taken_texts es) (taken_count es) x k.order (ap (slice_get (accepted es)) (sym (as_many es)) ∙ (next (accepted es) (exits es) k.past).0)))
+      (rw (append-nil, map-append) (next (accepted es) (exits es) k.past).1)
       (ap (λ q. q.capacity) h.1)
+      (ap (λ q. q.policy) h.1)
       (ap (λ q. q.stopped) h.1 ∙ sym (or-false core.stopped))
   kept_taken capacity es core after counts seat n taken.Empty k may h next =
       rw h.2 (kept_same capacity es core counts (take_event seat n taken.Empty) (n + 1) k may refl refl refl refl)
@@ -169,6 +183,13 @@ pub taken_is_first : (q r : Queue (List ℕ)) (t : Taken (List ℕ)) → IsTaken
 taken_is_first q r (taken.Text x) h = rw h.0 refl
 taken_is_first q r taken.Empty h = rw (h.0, h.1) refl
 taken_is_first q r taken.Ended h = rw (h.0, h.1) refl
+
+-- a queue that refuses drops no text, and has no room exactly where it is full
+drops_none : (core : Queue (List ℕ)) (oldest : List ℕ) → core.policy ≡ Refuse → drops_for_room core.policy core.waiting ≡ Some oldest → ⊥
+drops_none core oldest refuses first = let bad : ◌≡◌ {A = Option (List ℕ)} None (Some oldest) = ap (λ p. drops_for_room p core.waiting) (sym refuses) ∙ first in cc
+
+refuses_full : (core : Queue (List ℕ)) → core.policy ≡ Refuse → lacks_room core ≡ is_full core
+refuses_full core refuses = ap (λ p. is_full core && is_none (drops_for_room p core.waiting)) refuses ∙ and-true (is_full core)
 
 -- a refused submit is told as the history says, and not as accepted
 submit_is : (s f : Bool) (e : SinkError) (x : List ℕ) (r : SubmitReply)
@@ -183,7 +204,7 @@ module _ {Z : Type 0} where
       → IsKept capacity es core counts → n ≡ events_of seat es → IsTaken core t after → IsNext core t after
       → IsKept capacity (es ++ take_event seat n t ∷ []) after (set counts seat (n + 1))
   kept_take capacity es core after counts seat n t k is h next =
-      let may : t ≡ first_of (was_stopped es) (waiting es) = taken_is_first core after t h ∙ ap (λ b. first_of b core.waiting) k.stop ∙ ap (first_of (was_stopped es)) k.past.waits in
+      let may : t ≡ first_of (was_stopped es) (waiting es) = taken_is_first core after t h ∙ ap (λ b. first_of b core.waiting) k.stop ∙ ap (first_of (was_stopped es)) (waits_after capacity es core counts k) in
       kept_taken capacity es core after counts seat n t k (ap reply.Take may, is) h next
 
   -- the event of a submit
@@ -199,26 +220,28 @@ module _ {Z : Type 0} where
   refused_submit capacity es core counts seat n x submit.Stopped k may not =
       kept_same capacity es core counts (submit_event seat n x submit.Stopped) (n + 1) k may refl refl refl refl
 
-  pub kept_submit : (capacity : Option ℕ) (es : List (Event Z)) (core after : Queue (List ℕ)) (counts : List ℕ) (seat n : ℕ) (x : List ℕ) (answer : Result (Unit {0}) (SinkError × List ℕ)) (r : SubmitReply)
+  pub kept_submit : (capacity : Option ℕ) (es : List (Event Z)) (core after : Queue (List ℕ)) (counts : List ℕ) (seat n : ℕ) (x : List ℕ) (answer : Result (Option (List ℕ)) (SinkError × List ℕ)) (r : SubmitReply)
       → IsKept capacity es core counts → n ≡ events_of seat es
-      → OnOk answer ((core.stopped ≡ false) × (is_full core ≡ false) × (after ≡ accepting core x))
-      → OnOk answer (IsAccepted core x after)
+      → IfOk answer (λ dropped. Accepts core x dropped after)
+      → IfOk answer (λ dropped. IsAccepted core x dropped after)
       → IfErr answer (λ e. IsRefusal core e.0 × (e.1 ≡ x) × (after ≡ core))
       → IsTold answer (Ok r)
       → IsKept capacity (es ++ submit_event seat n x r ∷ []) after (set counts seat (n + 1))
-  kept_submit capacity es core after counts seat n x (Ok u) r k is ok past err told =
-      let full : at_capacity capacity (waiting es) ≡ false = sym (ap (λ c. at_capacity c (waiting es)) k.bound) ∙ sym (ap (at_capacity core.capacity) k.past.waits) ∙ ok.1 in
+  kept_submit capacity es core after counts seat n x (Ok (Some oldest)) r k is ok past err told = absurd (drops_none core oldest k.refuses ok.2)
+  kept_submit capacity es core after counts seat n x (Ok None) r k is ok past err told =
+      let full : at_capacity capacity (waiting es) ≡ false = sym (ap (λ c. at_capacity c (waiting es)) k.bound) ∙ sym (ap (at_capacity core.capacity) (waits_after capacity es core counts k)) ∙ ok.1 in
       let here : r ≡ submit.Accepted = cc in
       let may : MayFollow capacity es (submit_event seat n x submit.Accepted) = (rw (← k.stop, ok.0, full) refl, is) in
-      let after_past : IsQueueOf (accepted es ++ x ∷ []) (taken_count es) after = past (accepted es) (taken_count es) k.past in
+      let after_past : IsQueueOf (accepted es ++ x ∷ []) (map (λ _. by_take) (taken_texts es ++ [])) after = rw append-nil (past (accepted es) (exits es) k.past) in
       rw here
       (kept_push capacity es core after counts (submit_event seat n x submit.Accepted) (n + 1) (taken_count es) k may refl (omega arith)
-      (order_accepted (accepted es) (taken_texts es) (taken_count es) x k.past.front k.order)
+      (order_accepted (accepted es) (taken_texts es) (taken_count es) x (omega (arith, k.past.front, as_many es)) k.order)
       after_past
       (ap (λ q. q.capacity) ok.2)
+      (ap (λ q. q.policy) ok.2)
       (ap (λ q. q.stopped) ok.2 ∙ sym (or-false core.stopped)))
   kept_submit capacity es core after counts seat n x (Err e) r k is ok past err told =
-      let both = submit_is core.stopped (is_full core) e.0 e.1 r err.0 told in
-      let full : is_full core ≡ at_capacity capacity (waiting es) = ap (λ c. at_capacity c core.waiting) k.bound ∙ ap (at_capacity capacity) k.past.waits in
+      let both = submit_is core.stopped (is_full core) e.0 e.1 r (err.0 ∙ ap (λ b. cond core.stopped refusal.ChannelDisconnected (cond b refusal.ChannelFull refusal.OutOfMemory)) (refuses_full core k.refuses)) told in
+      let full : is_full core ≡ at_capacity capacity (waiting es) = ap (λ c. at_capacity c core.waiting) k.bound ∙ ap (at_capacity capacity) (waits_after capacity es core counts k) in
       let reply_is : r ≡ submit_reply (was_stopped es) (at_capacity capacity (waiting es)) = both.0 ∙ ap (λ b. submit_reply b (is_full core)) k.stop ∙ ap (submit_reply (was_stopped es)) full in
       rw err.2 (refused_submit capacity es core counts seat n x r k (ap reply.Submit reply_is, is) both.1)

@@ -1,9 +1,10 @@
 -- What lies under the lock of an audited queue, and what a caller sees of the queue beside the lock.
-use Rattle.std.specs.Prelude.{◌≡◌, ℕ, ◌<◌, List, [], ◌∷◌, ◌++◌, length, slice_index, Option, Result, Ok, Err, MatchResult}
+use Rattle.std.specs.Prelude.{◌≡◌, ℕ, ◌<◌, List, [], ◌∷◌, ◌++◌, length, slice_index, map, Option, Result, Ok, Err, MatchResult}
 use Rattle.cadence_errors.specs.declared.SinkError.{SinkError}
 use Rattle.cadence_errors.specs.declared.SinkError.TheVariants as refusal
 use Rattle.cadence_flow.specs.QueueState.{Queue}
-use Rattle.cadence_flow.specs.QueueModel.{IsQueueOf}
+use Rattle.cadence_flow.specs.QueueModel.{Exit, by_take, IsQueueOf}
+use Rattle.cadence_flow.specs.declared.queue.policy.QueuePolicy.TheVariants.{Refuse}
 use Rattle.cadence_audit.specs.declared.event.Event.{Event}
 use Rattle.cadence_audit.specs.declared.event.AuditCall.{AuditCall}
 use Rattle.cadence_audit.specs.declared.event.AuditReply.{AuditReply}
@@ -11,7 +12,7 @@ use Rattle.cadence_audit.specs.declared.event.SubmitReply.{SubmitReply}
 use Rattle.cadence_audit.specs.declared.event.SubmitReply.TheVariants as submit
 use Rattle.cadence_audit.specs.declared.errors.AuditError.{AuditError}
 use Rattle.cadence_audit.specs.declared.errors.AuditError.TheVariants.{Stranger, OutOfMemory}
-use Rattle.cadence_audit.specs.AuditHistory.{IsLegal, AreInOrder, accepted, taken_count, was_stopped, events_of}
+use Rattle.cadence_audit.specs.AuditHistory.{IsLegal, AreInOrder, accepted, taken_texts, was_stopped, events_of}
 use Rattle.cadence_audit.specs.AuditSeats.{Held, next_event, receiving}
 
 -- an audited queue beside its lock: the capacity, and how many seats it has
@@ -25,12 +26,18 @@ pub record Past (Z : Type 0) : Type 0 where
   pub events : List (Event Z)
   pub seats : ℕ
 
--- the history is legal, and the queue is the one to which it leads; each seat's events are counted
+-- how each text left the queue: it was taken
+abbrev pub exits : {Z : Type 0} → List (Event Z) → List Exit
+exits events = map (λ _. by_take) (taken_texts events)
+
+-- the history is legal, and the queue is the one to which it leads, which refuses texts when it is full; each seat's
+-- events are counted
 pub record IsKept {Z : Type 0} (capacity : Option ℕ) (events : List (Event Z)) (core : Queue (List ℕ)) (counts : List ℕ) : Type 0 where
   pub legal : IsLegal capacity events
   pub order : AreInOrder events
-  pub past : IsQueueOf (accepted events) (taken_count events) core
+  pub past : IsQueueOf (accepted events) (exits events) core
   pub bound : core.capacity ≡ capacity
+  pub refuses : core.policy ≡ Refuse
   pub stop : core.stopped ≡ was_stopped events
   pub counted : (k : ℕ) → k < length counts → slice_index counts k ≡ events_of k events
 
@@ -66,5 +73,5 @@ IsToldRefusal refusal.ChannelDisconnected text told = told ≡ Ok submit.Stopped
 IsToldRefusal refusal.ChannelFull text told = told ≡ Ok submit.Full
 IsToldRefusal _ text told = told ≡ Err text
 
-abbrev pub IsTold : Result (Unit {0}) (SinkError × List ℕ) → Result SubmitReply (List ℕ) → Type 0
+abbrev pub IsTold : Result (Option (List ℕ)) (SinkError × List ℕ) → Result SubmitReply (List ℕ) → Type 0
 IsTold answer told = MatchResult answer (λ _. told ≡ Ok submit.Accepted) (λ e. IsToldRefusal e.0 e.1 told)

@@ -57,12 +57,12 @@ fn two_copies<A: Allocator + Clone>(text: &Text<A>) -> Result<(Text<A>, Text<A>)
 
 // What a submit is replied, or the text where memory ran out.
 fn submit_reply<A: Allocator>(
-    answer: Result<(), (SinkError, Text<A>)>,
+    answer: Result<Option<Text<A>>, (SinkError, Text<A>)>,
 ) -> Result<SubmitReply, Text<A>>
     ensures { IsTold answer result }
 {
     match answer {
-        Ok(()) => Ok(SubmitReply::Accepted),
+        Ok(_) => Ok(SubmitReply::Accepted),
         Err((SinkError::ChannelDisconnected, _)) => Ok(SubmitReply::Stopped),
         Err((SinkError::ChannelFull, _)) => Ok(SubmitReply::Full),
         Err((_, text)) => Err(text),

@@ -1,27 +1,52 @@
--- A queue by its past: the texts that it accepted, and how many of them were taken. Nothing is ever removed from it.
-use Rattle.std.specs.Prelude.{◌≡◌, ℕ, ◌+◌, ◌%◌, ◌^◌, ◌≤◌, List, [], ◌∷◌, ◌++◌, length, drop, slice_get, Some}
+-- A queue by its past: the texts that it accepted, and for a front part of them how each left it. Nothing is ever
+-- removed from it.
+use Rattle.std.specs.Prelude.{◌≡◌, ℕ, ◌+◌, ◌%◌, ◌^◌, ◌≤◌, Bool, true, false, List, [], ◌∷◌, ◌++◌, length, drop, slice_get, count_by, Option, Some, None}
 use Rattle.cadence_flow.specs.QueueState.{Queue}
 use Rattle.cadence_flow.specs.declared.queue.queue_core.Taken.{Taken}
 use Rattle.cadence_flow.specs.declared.queue.queue_core.Taken.TheVariants.{Text}
 
--- the accepted texts without the first taken ones wait, and the counts are the two numbers modulo 2 to the 64
-pub record IsQueueOf {T : Type 0} (accepted : List T) (taken : ℕ) (q : Queue T) : Type 0 where
-  pub waits : q.waiting ≡ drop taken accepted
-  pub front : taken ≤ length accepted
+-- how a text left a queue: it was taken, or dropped
+pub data Exit : Type 0 where
+  by_take : Exit
+  by_drop : Exit
+
+abbrev pub is_take : Exit → Bool
+is_take by_take = true
+is_take by_drop = false
+
+abbrev pub is_drop : Exit → Bool
+is_drop by_take = false
+is_drop by_drop = true
+
+-- the accepted texts without the front part that left wait, and the counts are the numbers of texts accepted, taken
+-- and dropped, modulo 2 to the 64
+pub record IsQueueOf {T : Type 0} (accepted : List T) (exits : List Exit) (q : Queue T) : Type 0 where
+  pub waits : q.waiting ≡ drop (length exits) accepted
+  pub front : length exits ≤ length accepted
   pub submitted : q.submitted ≡ length accepted % 2 ^ 64
-  pub drained : q.drained ≡ taken % 2 ^ 64
+  pub drained : q.drained ≡ count_by is_take exits % 2 ^ 64
+  pub dropped : q.dropped ≡ count_by is_drop exits % 2 ^ 64
 
 module _ {T : Type 0} where
-  -- whatever the past, the text is the last accepted one after it
-  abbrev pub IsAccepted : Queue T → T → Queue T → Type 0
-  IsAccepted q text r =
-      (accepted : List T) (taken : ℕ) → IsQueueOf accepted taken q → IsQueueOf (accepted ++ text ∷ []) taken r
+  -- whatever the past, the text is the last accepted one after it, and a text that was dropped for it was the next one
+  abbrev pub IsAccepted : Queue T → T → Option T → Queue T → Type 0
+  IsAccepted q text None r =
+      (accepted : List T) (exits : List Exit)
+      → IsQueueOf accepted exits q
+      → IsQueueOf (accepted ++ text ∷ []) exits r
+  IsAccepted q text (Some oldest) r =
+      (accepted : List T) (exits : List Exit)
+      → IsQueueOf accepted exits q
+      → (slice_get accepted (length exits) ≡ Some oldest)
+      × IsQueueOf (accepted ++ text ∷ []) (exits ++ by_drop ∷ []) r
 
-  -- whatever the past, one more text is taken after it: the next one; or all were taken, and nothing changes
+  -- whatever the past, one more text is taken after it: the next one; or all left, and nothing changes
   abbrev pub IsNext : Queue T → Taken T → Queue T → Type 0
   IsNext q (Text text) r =
-      (accepted : List T) (taken : ℕ)
-      → IsQueueOf accepted taken q
-      → (slice_get accepted taken ≡ Some text) × IsQueueOf accepted (taken + 1) r
+      (accepted : List T) (exits : List Exit)
+      → IsQueueOf accepted exits q
+      → (slice_get accepted (length exits) ≡ Some text) × IsQueueOf accepted (exits ++ by_take ∷ []) r
   IsNext q _ r =
-      (accepted : List T) (taken : ℕ) → IsQueueOf accepted taken q → (taken ≡ length accepted) × IsQueueOf accepted taken r
+      (accepted : List T) (exits : List Exit)
+      → IsQueueOf accepted exits q
+      → (length exits ≡ length accepted) × IsQueueOf accepted exits r

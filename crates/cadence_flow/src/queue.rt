@@ -1,10 +1,12 @@
 //! The queue between the callers of a sink and its worker.
 
+mod policy;
 mod queue_core;
 mod shared;
 mod text_ring;
 mod worker_end;
 
+pub use policy::QueuePolicy;
 pub use queue_core::{QueueCore, Taken};
 pub use shared::SharedQueue;
 pub use worker_end::WorkerEnd;

@@ -6,9 +6,10 @@ use Rattle.std.proofs.lemmas.List.Concat.{flat_map-append}
 use Rattle.std.proofs.lemmas.List.Sums.{sum_by_push}
 use Rattle.std.proofs.lemmas.List.Folds.{list_any-append}
 use Rattle.cadence_flow.specs.Frame.{Format}
+use Rattle.cadence_flow.specs.declared.queue.policy.QueuePolicy.{QueuePolicy}
 use Rattle.cadence_errors.specs.declared.SinkError.{SinkError}
 use Rattle.cadence_schedule.specs.declared.call.Call.{Call}
-use Rattle.cadence_schedule.specs.History.{Turn, answered, taken, takes_text, outcomes, outcome_by, stops, is_stopped, errors, is_error, accepted, accepted_by, kept, places_after, marks, mark_at, refusals, refusal_at}
+use Rattle.cadence_schedule.specs.History.{Turn, answered, taken, takes_text, dropped, drops_text, outcomes, outcome_by, stops, is_stopped, errors, is_error, accepted, accepted_by, kept, places_after, marks, mark_at, refusals, refusal_at}
 use Rattle.cadence_schedule.specs.Replies.{MayReply, MayReplyAfter}
 
 pub or_no : (b : Bool) → (b || false) ≡ b
@@ -55,6 +56,9 @@ module _ {A : Type 0} where
   pub taken-push : (h : List (Turn A)) (t : Turn A) → taken (h ++ t ∷ []) ≡ taken h + cond (takes_text t) 1 0
   taken-push h t = sum_by_push (λ u. cond (takes_text u) 1 0) h t
 
+  pub dropped-push : (h : List (Turn A)) (t : Turn A) → dropped (h ++ t ∷ []) ≡ dropped h + cond (drops_text t) 1 0
+  dropped-push h t = sum_by_push (λ u. cond (drops_text u) 1 0) h t
+
   pub errors-push : (h : List (Turn A)) (t : Turn A) → errors (h ++ t ∷ []) ≡ errors h + cond (is_error t) 1 0
   errors-push h t = sum_by_push (λ u. cond (is_error u) 1 0) h t
 
@@ -78,11 +82,11 @@ module _ {A : Type 0} (line_of : Call A → Option (List ℕ)) where
   pub refusals-push : (h : List (Turn A)) (t : Turn A) → refusals line_of (h ++ t ∷ []) ≡ refusals line_of h ++ refusal_at line_of (length (kept line_of h)) t
   refusals-push h t = places-push (refusal_at line_of) [] h t
 
-  module _ (may_give : SinkError → Bool) (takes_whole : Bool) (format : Format) (queue : Option ℕ) where
-    replies-push-after : (before h : List (Turn A)) (t : Turn A) → MayReplyAfter line_of may_give takes_whole format queue before h → MayReply line_of may_give takes_whole format queue (before ++ h) t → MayReplyAfter line_of may_give takes_whole format queue before (h ++ t ∷ [])
-    replies-push-after before [] t old new = (subst (λ b. MayReply line_of may_give takes_whole format queue b t) (append-nil before) new, tt)
+  module _ (may_give : SinkError → Bool) (takes_whole : Bool) (format : Format) (queue : Option ℕ) (policy : QueuePolicy) where
+    replies-push-after : (before h : List (Turn A)) (t : Turn A) → MayReplyAfter line_of may_give takes_whole format queue policy before h → MayReply line_of may_give takes_whole format queue policy (before ++ h) t → MayReplyAfter line_of may_give takes_whole format queue policy before (h ++ t ∷ [])
+    replies-push-after before [] t old new = (subst (λ b. MayReply line_of may_give takes_whole format queue policy b t) (append-nil before) new, tt)
     replies-push-after before (u ∷ h) t (first, old) new =
-        (first, replies-push-after (before ++ u ∷ []) h t old (subst (λ b. MayReply line_of may_give takes_whole format queue b t) (sym (append_assoc before (u ∷ []) h)) new))
+        (first, replies-push-after (before ++ u ∷ []) h t old (subst (λ b. MayReply line_of may_give takes_whole format queue policy b t) (sym (append_assoc before (u ∷ []) h)) new))
 
-    pub replies-push : (h : List (Turn A)) (t : Turn A) → MayReplyAfter line_of may_give takes_whole format queue [] h → MayReply line_of may_give takes_whole format queue h t → MayReplyAfter line_of may_give takes_whole format queue [] (h ++ t ∷ [])
+    pub replies-push : (h : List (Turn A)) (t : Turn A) → MayReplyAfter line_of may_give takes_whole format queue policy [] h → MayReply line_of may_give takes_whole format queue policy h t → MayReplyAfter line_of may_give takes_whole format queue policy [] (h ++ t ∷ [])
     replies-push h t old new = replies-push-after [] h t old new

@@ -5,15 +5,22 @@ use Rattle.std.specs.List.{AllByRecursion}
 use Rattle.std.specs.Option.{option_map, option_to_list}
 use Rattle.std.proofs.lemmas.List.{map-append}
 use Rattle.std.proofs.lemmas.List.Elements.{All-nil, All-cons, All-from_recursion, recursion_from_All}
+use Rattle.cadence_flow.specs.QueueModel.{Exit, by_take, by_drop}
 use Rattle.cadence_schedule.specs.declared.call.Call.{Call}
 use Rattle.cadence_schedule.specs.declared.steps.Step.TheVariants as step
 use Rattle.cadence_schedule.specs.declared.steps.Reply.TheVariants as reply
-use Rattle.cadence_schedule.specs.History.{Turn, answered, outcomes, accepted, accepted_by, kept}
+use Rattle.cadence_schedule.specs.History.{Turn, answered, undropped, outcomes, exits, accepted, accepted_by, staying, kept}
 
 module _ {X Y : Type 0} (f : X → Y) where
   option_mapped : (o : Option X) → option_to_list (option_map f o) ≡ map f (option_to_list o)
   option_mapped None = refl
   option_mapped (Some x) = refl
+
+  undropped_mapped : (xs : List X) (es : List Exit) → undropped (map f xs) es ≡ map f (undropped xs es)
+  undropped_mapped [] es = refl
+  undropped_mapped (x ∷ xs) [] = refl
+  undropped_mapped (x ∷ xs) (by_take ∷ es) = ap (λ l. f x ∷ l) (undropped_mapped xs es)
+  undropped_mapped (x ∷ xs) (by_drop ∷ es) = undropped_mapped xs es
 
   answered_mapped : (xs : List X) (answers : List (Option ℕ)) → answered (map f xs) answers ≡ map (λ (k : X × ℕ). (f k.0, k.1)) (answered xs answers)
   answered_mapped [] answers = refl
@@ -28,6 +35,7 @@ module _ {X Y : Type 0} (f : X → Y) where
   module _ {A : Type 0} (of : Call A → Option X) where
     turn_mapped : (t : Turn A) → accepted_by (λ c. option_map f (of c)) t ≡ map f (accepted_by of t)
     turn_mapped (step.Call call, reply.Called (Ok n)) = option_mapped (of call)
+    turn_mapped (step.Call call, reply.CallDropped n m) = option_mapped (of call)
     turn_mapped _ = refl
 
     accepted_mapped : (h : List (Turn A)) → accepted (λ c. option_map f (of c)) h ≡ map f (accepted of h)
@@ -36,8 +44,8 @@ module _ {X Y : Type 0} (f : X → Y) where
 
     pub kept_mapped : (h : List (Turn A)) → kept (λ c. option_map f (of c)) h ≡ map f (kept of h)
     kept_mapped h =
-        ap (λ xs. map (λ (k : Y × ℕ). k.0) (answered xs (outcomes h))) (accepted_mapped h)
-        ∙ ap (map (λ (k : Y × ℕ). k.0)) (answered_mapped (accepted of h) (outcomes h)) ∙ firsts_mapped (answered (accepted of h) (outcomes h))
+        ap (λ xs. map (λ (k : Y × ℕ). k.0) (answered xs (outcomes h))) (ap (λ xs. undropped xs (exits h)) (accepted_mapped h) ∙ undropped_mapped (accepted of h) (exits h))
+        ∙ ap (map (λ (k : Y × ℕ). k.0)) (answered_mapped (staying of h) (outcomes h)) ∙ firsts_mapped (answered (staying of h) (outcomes h))
 
 module _ {X : Type 0} (P : X → Type 0) where
   -- what holds of a metric, where there is one, holds of the list of it
@@ -51,5 +59,11 @@ module _ {X : Type 0} (P : X → Type 0) where
   each_answered (x ∷ xs) (Some n ∷ answers) (h, hs) = (h, each_answered xs answers hs)
   each_answered (x ∷ xs) (None ∷ answers) (h, hs) = each_answered xs answers hs
 
+  each_undropped : (xs : List X) (exits : List Exit) → AllByRecursion P xs → AllByRecursion P (undropped xs exits)
+  each_undropped [] exits h = tt
+  each_undropped (x ∷ xs) [] h = h
+  each_undropped (x ∷ xs) (by_take ∷ exits) (h, hs) = (h, each_undropped xs exits hs)
+  each_undropped (x ∷ xs) (by_drop ∷ exits) (h, hs) = each_undropped xs exits hs
+
   pub all_kept : {A : Type 0} (of : Call A → Option X) (h : List (Turn A)) → All P (accepted of h) → All P (kept of h)
-  all_kept of h all = All-from_recursion P (kept of h) (each_answered (accepted of h) (outcomes h) (recursion_from_All P (accepted of h) all))
+  all_kept of h all = All-from_recursion P (kept of h) (each_answered (staying of h) (outcomes h) (each_undropped (accepted of h) (exits h) (recursion_from_All P (accepted of h) all)))

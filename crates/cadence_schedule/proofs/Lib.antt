@@ -12,9 +12,11 @@ pub mod PlanSteps
 pub mod PrefixLemmas
 pub mod QueueTurns
 pub mod Reading
+pub mod Refusing
 pub mod RunFacts
 pub mod RunTurns
 pub mod Shown
+pub mod Staying
 pub mod Sums
 pub mod Turns
 pub mod WholeRun

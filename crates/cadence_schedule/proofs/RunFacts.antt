@@ -9,12 +9,13 @@ use Rattle.std.proofs.lemmas.List.Sums.{sum_by-cons}
 use Rattle.cadence_flow.specs.Frame.{Format, size_of, frame, stream, held_packet, taken_stream}
 use Rattle.cadence_flow.specs.Sums.{less, start_of, counted_kind, start_if, zero_sums}
 use Rattle.cadence_flow.specs.Writer.{History, Kind, Extends}
+use Rattle.cadence_flow.specs.declared.queue.policy.QueuePolicy.{QueuePolicy}
 use Rattle.cadence_flow.specs.declared.stats.SinkStats.{SinkStats}
 use Rattle.cadence_schedule.specs.declared.call.Call.{Call}
 use Rattle.cadence_schedule.specs.declared.steps.Step.TheVariants as step
 use Rattle.cadence_schedule.specs.declared.steps.Reply.TheVariants as reply
 use Rattle.cadence_schedule.specs.Headline.{packets_between, AreSumsBetween}
-use Rattle.cadence_schedule.specs.History.{Turn, accepted, accepted_by, taken, kept, kept_counts, errors, is_error, marks, refusals, refusal_at, places_after}
+use Rattle.cadence_schedule.specs.History.{Turn, accepted, accepted_by, taken, dropped, kept, kept_counts, errors, is_error, marks, refusals, refusal_at, places_after}
 use Rattle.cadence_schedule.specs.Packets.{ArePacketsOf}
 use Rattle.cadence_schedule.specs.Plan.{groups_of, IsTight, IsCutLate}
 use Rattle.cadence_flow.specs.Frame.{taken_stream}
@@ -74,13 +75,14 @@ module _ {A : Type 0} (line_of : Call A → Option (List ℕ)) where
 
   accepted_one : (t : Turn A) → length (accepted_by line_of t) ≤ 1
   accepted_one (step.Call call, reply.Called (Ok n)) = option_one (line_of call)
+  accepted_one (step.Call call, reply.CallDropped n m) = option_one (line_of call)
   accepted_one _ = zero-le
 
   accepted_le : (h : List (Turn A)) → length (accepted line_of h) ≤ length h
   accepted_le [] = zero-le
   accepted_le (t ∷ h) = omega (arith, length-append (accepted_by line_of t) (accepted line_of h), accepted_one t, accepted_le h)
 
-  module _ (filled : (call : Call A) (line : List ℕ) → line_of call ≡ Some line → line ≢ []) (kind : Kind) (format : Format) (queue : Option ℕ) (start : History) (h : List (Turn A)) (s : State) (a : After line_of filled kind format queue start h s) where
+  module _ (filled : (call : Call A) (line : List ℕ) → line_of call ≡ Some line → line ≢ []) (kind : Kind) (format : Format) (queue : Option ℕ) (policy : QueuePolicy) (start : History) (h : List (Turn A)) (s : State) (a : After line_of filled kind format queue policy start h s) where
     pub run_taken : kind.tells ≡ true → concat (packets_between start s.writer) ++ s.held ≡ taken_stream format (kept_counts line_of h)
     run_taken tells =
         let b = a.text tells in
@@ -125,7 +127,10 @@ module _ {A : Type 0} (line_of : Call A → Option (List ℕ)) where
     run_submitted short = a.line.submitted_is ∙ short_mod (length (accepted line_of h)) (length h) (accepted_le h) short
 
     pub run_drained : length h < 2 ^ 64 → s.drained ≡ taken h
-    run_drained short = a.line.drained_is ∙ short_mod (taken h) (length (accepted line_of h)) a.line.within (omega (arith, accepted_le h))
+    run_drained short = a.line.drained_is ∙ short_mod (taken h) (length h) (omega (arith, a.line.within, accepted_le h)) short
+
+    pub run_dropped : length h < 2 ^ 64 → s.dropped ≡ dropped h
+    run_dropped short = a.line.dropped_is ∙ short_mod (dropped h) (length h) (omega (arith, a.line.within, accepted_le h)) short
 
 -- the sums of a run that began with none
 sum_between : (s n0 n1 more : ℕ) → n1 ≡ n0 + more → s < 2 ^ 64 → less s n1 ≡ less 0 n0 → s ≡ more % 2 ^ 64
@@ -158,14 +163,15 @@ run_sums k0 k1 h0 h1 s same tells (more, e) bytes packets =
     }
 
 -- a whole run, from the state that its own lists begin with
-pub run_after : {A : Type 0} (line_of : Call A → Option (List ℕ)) (filled : (call : Call A) (line : List ℕ) → line_of call ≡ Some line → line ≢ []) (kind kind0 : Kind) (format format0 : Format) (queue queue0 : Option ℕ) (start : History) (s0 s1 : State) (turns : List (Turn A))
-    → kind0 ≡ kind → format0 ≡ format → queue0 ≡ queue → s0 ≡ at_start start → length turns < 2 ^ 64 → Runs line_of kind0 format0 queue0 s0 turns s1 → After line_of filled kind format queue start turns s1
-run_after line_of filled kind kind0 format format0 queue queue0 start s0 s1 turns k f q s short runs =
-    after line_of filled kind format queue start turns s1 short
-    (subst (λ x. Runs line_of kind format queue x turns s1) s
-    (subst (λ x. Runs line_of kind format x s0 turns s1) q
-    (subst (λ x. Runs line_of kind x queue0 s0 turns s1) f
-    (subst (λ x. Runs line_of x format0 queue0 s0 turns s1) k runs))))
+pub run_after : {A : Type 0} (line_of : Call A → Option (List ℕ)) (filled : (call : Call A) (line : List ℕ) → line_of call ≡ Some line → line ≢ []) (kind kind0 : Kind) (format format0 : Format) (queue queue0 : Option ℕ) (policy policy0 : QueuePolicy) (start : History) (s0 s1 : State) (turns : List (Turn A))
+    → kind0 ≡ kind → format0 ≡ format → queue0 ≡ queue → policy0 ≡ policy → s0 ≡ at_start start → length turns < 2 ^ 64 → Runs line_of kind0 format0 queue0 policy0 s0 turns s1 → After line_of filled kind format queue policy start turns s1
+run_after line_of filled kind kind0 format format0 queue queue0 policy policy0 start s0 s1 turns k f q p s short runs =
+    after line_of filled kind format queue policy start turns s1 short
+    (subst (λ x. Runs line_of kind format queue policy x turns s1) s
+    (subst (λ x. Runs line_of kind format queue x s0 turns s1) p
+    (subst (λ x. Runs line_of kind format x policy0 s0 turns s1) q
+    (subst (λ x. Runs line_of kind x queue0 policy0 s0 turns s1) f
+    (subst (λ x. Runs line_of x format0 queue0 policy0 s0 turns s1) k runs)))))
 
 -- what holds of a writer's history and held text holds of equal ones
 pub at_parts : (P : History → List ℕ → Type 0) (w w' : History) (x x' : List ℕ) → w' ≡ w → x' ≡ x → P w x → P w' x'

@@ -7,6 +7,7 @@ use Rattle.std.proofs.lemmas.List.Concat.{flat_map-append}
 use Rattle.std.proofs.lemmas.List.Elements.{All-append}
 use Rattle.cadence_flow.specs.Frame.{Format}
 use Rattle.cadence_flow.specs.Writer.{Kind}
+use Rattle.cadence_flow.specs.declared.queue.policy.QueuePolicy.{QueuePolicy}
 use Rattle.cadence_schedule.specs.declared.call.Call.{Call}
 use Rattle.cadence_schedule.specs.declared.steps.Step.{Step}
 use Rattle.cadence_schedule.specs.declared.steps.Reply.{Reply}
@@ -34,21 +35,22 @@ module _ {A : Type 0} where
       (subst (All P) (sym (flat_map-append (accepted_by of) (zip xs ys) ((x, y) ∷ []) ∙ ap (λ l. accepted of (zip xs ys) ++ l) (append-nil (accepted_by of (x, y)))))
       (All-append P (accepted of (zip xs ys)) (accepted_by of (x, y)) before here))
 
-  module _ (line_of : Call A → Option (List ℕ)) (kind : Kind) (format : Format) (queue : Option ℕ) where
-    runs_more : (old mid new : State) (turns : List (Turn A)) (t : Turn A) → Runs line_of kind format queue old turns mid → Moves line_of kind format queue mid t new → Runs line_of kind format queue old (turns ++ t ∷ []) new
-    runs_more old mid new [] t same move = (new, subst (λ s. Moves line_of kind format queue s t new) same move, refl)
+  module _ (line_of : Call A → Option (List ℕ)) (kind : Kind) (format : Format) (queue : Option ℕ) (policy : QueuePolicy) where
+    runs_more : (old mid new : State) (turns : List (Turn A)) (t : Turn A) → Runs line_of kind format queue policy old turns mid → Moves line_of kind format queue policy mid t new → Runs line_of kind format queue policy old (turns ++ t ∷ []) new
+    runs_more old mid new [] t same move = (new, subst (λ s. Moves line_of kind format queue policy s t new) same move, refl)
     runs_more old mid new (u ∷ turns) t (next, first, rest) move = (next, first, runs_more next mid new turns t rest move)
 
     -- one step and its reply more
     pub runs_push : (old mid new : State) (xs xs' : List (Step A)) (ys ys' : List Reply) (x : Step A) (y : Reply) → length xs ≡ length ys → xs' ≡ xs ++ x ∷ [] → ys' ≡ ys ++ y ∷ []
-        → Runs line_of kind format queue old (zip xs ys) mid → Moves line_of kind format queue mid (x, y) new → Runs line_of kind format queue old (zip xs' ys') new
+        → Runs line_of kind format queue policy old (zip xs ys) mid → Moves line_of kind format queue policy mid (x, y) new → Runs line_of kind format queue policy old (zip xs' ys') new
     runs_push old mid new xs xs' ys ys' x y short e f runs move =
-        subst (λ turns. Runs line_of kind format queue old turns new) (sym (zip_push xs ys x y short) ∙ (λ i. zip (sym e i) (sym f i)))
+        subst (λ turns. Runs line_of kind format queue policy old turns new) (sym (zip_push xs ys x y short) ∙ (λ i. zip (sym e i) (sym f i)))
         (runs_more old mid new (zip xs ys) (x, y) runs move)
 
-  -- a move, by an equal kind, format and capacity of the queue
-  pub moves_along : (line_of : Call A → Option (List ℕ)) (kind kind' : Kind) (format format' : Format) (queue queue' : Option ℕ) (old : State) (t : Turn A) (new : State) → kind ≡ kind' → format ≡ format' → queue ≡ queue' → Moves line_of kind format queue old t new → Moves line_of kind' format' queue' old t new
-  moves_along line_of kind kind' format format' queue queue' old t new k f q move =
-      subst (λ x. Moves line_of kind' format' x old t new) q
-      (subst (λ x. Moves line_of kind' x queue old t new) f
-      (subst (λ x. Moves line_of x format queue old t new) k move))
+  -- a move, by an equal kind, format, capacity and policy of the queue
+  pub moves_along : (line_of : Call A → Option (List ℕ)) (kind kind' : Kind) (format format' : Format) (queue queue' : Option ℕ) (policy policy' : QueuePolicy) (old : State) (t : Turn A) (new : State) → kind ≡ kind' → format ≡ format' → queue ≡ queue' → policy ≡ policy' → Moves line_of kind format queue policy old t new → Moves line_of kind' format' queue' policy' old t new
+  moves_along line_of kind kind' format format' queue queue' policy policy' old t new k f q p move =
+      subst (λ x. Moves line_of kind' format' queue' x old t new) p
+      (subst (λ x. Moves line_of kind' format' x policy old t new) q
+      (subst (λ x. Moves line_of kind' x queue policy old t new) f
+      (subst (λ x. Moves line_of x format queue policy old t new) k move)))

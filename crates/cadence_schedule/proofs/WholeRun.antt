@@ -6,6 +6,7 @@ use Rattle.std.specs.Option.{option_map}
 use Rattle.cadence_flow.specs.Frame.{Format}
 use Rattle.cadence_flow.specs.Sums.{counted_kind, zero_sums}
 use Rattle.cadence_flow.specs.Writer.{History, Kind}
+use Rattle.cadence_flow.specs.declared.queue.policy.QueuePolicy.{QueuePolicy}
 use Rattle.cadence_text.specs.Line.{line_of}
 use Rattle.cadence_text.specs.Metric.{Metric}
 use Rattle.cadence_text.specs.Said.{IsSaid}
@@ -25,12 +26,12 @@ use Rattle.cadence_schedule.specs.Running.{IsAtStart, state_of}
 use Rattle.cadence_schedule.specs.Settings.{Settings}
 use Rattle.cadence_schedule.proofs.KeptMetrics.{all_kept, kept_mapped}
 use Rattle.cadence_schedule.proofs.LineFilled.{line_filled}
-use Rattle.cadence_schedule.proofs.RunFacts.{run_after, run_taken, run_stream, run_cut, run_late, run_tight, run_submitted, run_drained, run_sums}
+use Rattle.cadence_schedule.proofs.RunFacts.{run_after, run_taken, run_stream, run_cut, run_late, run_tight, run_submitted, run_drained, run_dropped, run_sums}
 use Rattle.cadence_schedule.proofs.RunTurns.{length-zip}
 use Rattle.cadence_schedule.proofs.QueueTurns.{at_start}
 use Rattle.cadence_schedule.proofs.Turns.{After}
 
-module _ {W A : Type 0} (kind_of : W → Kind) (history_of : W → History) (settings : Settings) (capacity : ℕ) (ending : List ℕ) (queue : Option ℕ) (steps : List (Step A)) (writer : W) where
+module _ {W A : Type 0} (kind_of : W → Kind) (history_of : W → History) (settings : Settings) (capacity : ℕ) (ending : List ℕ) (queue : Option ℕ) (policy : QueuePolicy) (steps : List (Step A)) (writer : W) where
   abbrev counted : CountingWriter W → Kind
   counted w = counted_kind (kind_of w.inner) (history_of w.inner) w.stats
 
@@ -38,8 +39,8 @@ module _ {W A : Type 0} (kind_of : W → Kind) (history_of : W → History) (set
   inner w = history_of w.inner
 
   module _ (law : (metric : Metric) → 0 < length (line_of metric)) (begun run : Running (CountingWriter W) A) (none replies : Vec Reply A)
-      (start : IsAtStart capacity ending queue (length steps) (record { inner = writer; stats = zero_sums }) begun none)
-      (runs : Runs (line_of_data settings) (counted begun.packer.writer) begun.packer.format begun.queue.capacity (state_of inner begun) (zip steps replies.items) (state_of inner run))
+      (start : IsAtStart capacity ending queue policy (length steps) (record { inner = writer; stats = zero_sums }) begun none)
+      (runs : Runs (line_of_data settings) (counted begun.packer.writer) begun.packer.format begun.queue.capacity begun.queue.policy (state_of inner begun) (zip steps replies.items) (state_of inner run))
       (one_each : length replies.items ≡ length steps) (same_kind : counted run.packer.writer ≡ counted begun.packer.writer) where
     abbrev lines : Call A → Option (List ℕ)
     lines = line_of_data settings
@@ -71,6 +72,7 @@ module _ {W A : Type 0} (kind_of : W → Kind) (history_of : W → History) (set
       stopped = (start.queue_is i).stopped;
       submitted = (start.queue_is i).submitted;
       drained = (start.queue_is i).drained;
+      dropped = (start.queue_is i).dropped;
       hand = option_map string_bytes (start.hand_is i);
       plan = start.plan_is i;
       writer = history_of (start.packer_is i).writer.inner;
@@ -80,35 +82,36 @@ module _ {W A : Type 0} (kind_of : W → Kind) (history_of : W → History) (set
     filled : (call : Call A) (line : List ℕ) → line_of_data settings call ≡ Some line → line ≢ []
     filled = line_filled law settings
 
-    after : After lines filled kind format queue before turns ended
-    after = run_after lines filled kind _ format _ queue _ before (state_of inner begun) ended turns kind_is (ap (λ p. p.format) start.packer_is) (ap (λ q. q.capacity) start.queue_is) began short runs
+    after : After lines filled kind format queue policy before turns ended
+    after = run_after lines filled kind _ format _ queue _ policy _ before (state_of inner begun) ended turns kind_is (ap (λ p. p.format) start.packer_is) (ap (λ q. q.capacity) start.queue_is) (ap (λ q. q.policy) start.queue_is) began short runs
 
     -- the headline
-    pub has_headline : LeastPackets → HasHeadline history_of (given_of kind_of history_of settings capacity ending queue steps writer) (outcome_after run replies)
+    pub has_headline : LeastPackets → HasHeadline history_of (given_of kind_of history_of settings capacity ending queue policy steps writer) (outcome_after run replies)
     has_headline least = record {
-      stream = λ whole. run_stream lines filled kind format queue before turns ended after whole.0 whole.1;
-      cut = λ whole. run_cut lines filled kind format queue before turns ended after whole.0 whole.1;
+      stream = λ whole. run_stream lines filled kind format queue policy before turns ended after whole.0 whole.1;
+      cut = λ whole. run_cut lines filled kind format queue policy before turns ended after whole.0 whole.1;
       replies = record {
         one_each = one_each;
         causes = after.replies;
         waiting = after.line.waiting_is;
-        submitted = run_submitted lines filled kind format queue before turns ended after short;
-        drained = run_drained lines filled kind format queue before turns ended after short;
+        submitted = run_submitted lines filled kind format queue policy before turns ended after short;
+        drained = run_drained lines filled kind format queue policy before turns ended after short;
+        dropped = run_dropped lines filled kind format queue policy before turns ended after short;
         stopped = after.line.stopped_is;
         in_hand = after.line.hand_is;
       };
       errors = after.refusals;
       fewest = λ whole none.
-          let tight = run_tight lines filled kind format queue before turns ended after short whole.0 whole.1 none in
+          let tight = run_tight lines filled kind format queue policy before turns ended after short whole.0 whole.1 none in
           record { tight = tight; fewest = least _ _ _ _ tight };
     }
 
     -- what stands beside it
     pub is_accounted : PacketsReadOneWay → All IsSaid (accepted (metric_of_data settings) turns) → run.packer.writer.stats.bytes_sent < 2 ^ 64 → run.packer.writer.stats.packets_sent < 2 ^ 64
-        → IsAccounted history_of (given_of kind_of history_of settings capacity ending queue steps writer) (outcome_after run replies)
+        → IsAccounted history_of (given_of kind_of history_of settings capacity ending queue policy steps writer) (outcome_after run replies)
     is_accounted reads each bytes packets = record {
-      late = λ whole. run_late lines filled kind format queue before turns ended after whole.0 whole.1;
-      taken = λ tells. run_taken lines filled kind format queue before turns ended after tells;
+      late = λ whole. run_late lines filled kind format queue policy before turns ended after whole.0 whole.1;
+      taken = λ tells. run_taken lines filled kind format queue policy before turns ended after tells;
       stats = λ tells.
           run_sums (kind_of writer) (kind_of run.packer.writer.inner) before (history_of run.packer.writer.inner) run.packer.writer.stats
           (same_kind ∙ kind_is) tells (after.text tells).extends bytes packets;
@@ -118,5 +121,5 @@ module _ {W A : Type 0} (kind_of : W → Kind) (history_of : W → History) (set
           reads capacity (marks lines turns) (refusals lines turns) run.plan.items (kept (metric_of_data settings) turns) (packets_between before ended.writer) run.packer.held free
           (subst (λ e. ArePacketsOf record { capacity = capacity; ending = e } (marks lines turns) (refusals lines turns) (map line_of (kept (metric_of_data settings) turns)) run.plan.items (packets_between before ended.writer) run.packer.held) newline
           (subst (λ ls. ArePacketsOf format (marks lines turns) (refusals lines turns) ls run.plan.items (packets_between before ended.writer) run.packer.held) (kept_mapped line_of (metric_of_data settings) turns)
-          (run_cut lines filled kind format queue before turns ended after whole.0 whole.1)));
+          (run_cut lines filled kind format queue policy before turns ended after whole.0 whole.1)));
     }

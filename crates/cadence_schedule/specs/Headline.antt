@@ -8,11 +8,12 @@ use Rattle.cadence_text.specs.OneReading.{IsFreeOfSeparators}
 use Rattle.cadence_text.specs.Said.{IsSaid}
 use Rattle.cadence_flow.specs.Frame.{Format, size_of, stream}
 use Rattle.cadence_flow.specs.Writer.{History, Kind, Extends}
+use Rattle.cadence_flow.specs.declared.queue.policy.QueuePolicy.{QueuePolicy}
 use Rattle.cadence_flow.specs.declared.stats.SinkStats.{SinkStats}
 use Rattle.cadence_schedule.specs.declared.call.Call.{Call}
 use Rattle.cadence_schedule.specs.declared.steps.Step.{Step}
 use Rattle.cadence_schedule.specs.Calls.{metric_of_data}
-use Rattle.cadence_schedule.specs.History.{Turn, accepted, taken, kept, kept_counts, in_hand, is_stopped, errors, marks, refusals}
+use Rattle.cadence_schedule.specs.History.{Turn, accepted, taken, dropped, left, kept, kept_counts, in_hand, is_stopped, errors, marks, refusals}
 use Rattle.cadence_schedule.specs.Packets.{ArePacketsOf}
 use Rattle.cadence_schedule.specs.Plan.{groups_of, IsTight, IsFewest, IsCutLate}
 use Rattle.cadence_schedule.specs.Packets.{ReadsAs}
@@ -22,24 +23,26 @@ use Rattle.cadence_schedule.specs.Settings.{Settings}
 use Rattle.cadence_flow.specs.Frame.{taken_stream}
 
 -- what a run is given: the metric of each call, the writer's kind and its history before the run, the packer's
--- capacity and ending, the queue's capacity, and the steps
+-- capacity and ending, the queue's capacity and policy, and the steps
 pub record Given (A : Type 0) : Type 0 where
   pub metric_of : Call A → Option Metric
   pub kind : Kind
   pub before : History
   pub format : Format
   pub queue : Option ℕ
+  pub policy : QueuePolicy
   pub steps : List (Step A)
 
 -- the same, by the client's settings and the writer
-abbrev pub given_of : {W A : Type 0} → (W → Kind) → (W → History) → Settings → ℕ → List ℕ → Option ℕ → List (Step A) → W → Given A
-given_of kind history settings capacity ending queue steps writer =
+abbrev pub given_of : {W A : Type 0} → (W → Kind) → (W → History) → Settings → ℕ → List ℕ → Option ℕ → QueuePolicy → List (Step A) → W → Given A
+given_of kind history settings capacity ending queue policy steps writer =
     record {
       metric_of = metric_of_data settings;
       kind = kind writer;
       before = history writer;
       format = record { capacity = capacity; ending = ending };
       queue = queue;
+      policy = policy;
       steps = steps;
     }
 
@@ -89,10 +92,11 @@ module _ {W A : Type 0} (history : W → History) (given : Given A) (outcome : O
   -- each reply has its stated cause, and queue and hand are left as the history says
   pub record HasReplies : Type 0 where
     pub one_each : length outcome.replies ≡ length given.steps
-    pub causes : MayReplyAfter (line_by given) given.kind.may_give given.kind.takes_whole given.format given.queue [] turns_of
-    pub waiting : map string_bytes outcome.queue.waiting ≡ drop (taken turns_of) (accepted (line_by given) turns_of)
+    pub causes : MayReplyAfter (line_by given) given.kind.may_give given.kind.takes_whole given.format given.queue given.policy [] turns_of
+    pub waiting : map string_bytes outcome.queue.waiting ≡ drop (left turns_of) (accepted (line_by given) turns_of)
     pub submitted : outcome.queue.submitted ≡ length (accepted (line_by given) turns_of)
     pub drained : outcome.queue.drained ≡ taken turns_of
+    pub dropped : outcome.queue.dropped ≡ dropped turns_of
     pub stopped : outcome.queue.stopped ≡ is_stopped turns_of
     pub in_hand : outcome.in_hand ≡ in_hand (line_by given) turns_of
 
@@ -114,8 +118,8 @@ module _ {W A : Type 0} (history : W → History) (given : Given A) (outcome : O
     -- beyond the capacity but an oversize line alone, and a packet ends at each flush that was answered Ok.
     pub cut : TellsWhole given.kind → ArePacketsOf given.format marks_of (refusals (line_by given) turns_of) kept_of outcome.cut packets_of outcome.held
     -- Over every writer: each reply is one that the steps and replies before it allow, what waits are the accepted lines
-    -- after the first taken ones, the queue's counts are the numbers accepted and taken, and the line in hand is the one
-    -- that was taken and not handed on.
+    -- after the first ones, which were taken or dropped, the queue's counts are the numbers accepted, taken and dropped,
+    -- and the line in hand is the one that was taken and not handed on.
     pub replies : HasReplies
     -- Over a writer that takes each packet whole or refuses it: as many hands and flushes were answered by an error as the
     -- writer refused packets in the run, modulo 2 to the 64.

@@ -2,6 +2,7 @@
 use Rattle.std.specs.Prelude.{ℕ, ◌+◌, ◌==◌, List, [], ◌∷◌, ◌++◌, Option, Some, None, Ok, Err, Bool, true, false, length, map, slice_get, count_by, if◌then◌else◌}
 use Rattle.std.specs.List.{flat_map, list_any}
 use Rattle.std.specs.Option.{option_to_list}
+use Rattle.cadence_flow.specs.QueueModel.{Exit, by_take, by_drop}
 use Rattle.cadence_schedule.specs.declared.call.Call.{Call}
 use Rattle.cadence_schedule.specs.declared.steps.Step.{Step}
 use Rattle.cadence_schedule.specs.declared.steps.Step.TheVariants as step
@@ -19,6 +20,13 @@ answered (x ∷ xs) [] = []
 answered (x ∷ xs) (Some y ∷ answers) = (x, y) ∷ answered xs answers
 answered (x ∷ xs) (None ∷ answers) = answered xs answers
 
+-- the elements without those that were dropped, by how a front part of them left the queue
+abbrev pub undropped : {X : Type 0} → List X → List Exit → List X
+undropped [] exits = []
+undropped (x ∷ xs) [] = x ∷ xs
+undropped (x ∷ xs) (by_take ∷ exits) = x ∷ undropped xs exits
+undropped (x ∷ xs) (by_drop ∷ exits) = undropped xs exits
+
 module _ {A : Type 0} where
   abbrev pub takes_text : Turn A → Bool
   takes_text (step.Take, reply.Text n) = true
@@ -27,6 +35,28 @@ module _ {A : Type 0} where
   -- how many texts were taken
   abbrev pub taken : List (Turn A) → ℕ
   taken history = count_by takes_text history
+
+  abbrev pub drops_text : Turn A → Bool
+  drops_text (step.Call call, reply.CallDropped n m) = true
+  drops_text _ = false
+
+  -- how many texts were dropped
+  abbrev pub dropped : List (Turn A) → ℕ
+  dropped history = count_by drops_text history
+
+  -- how many texts left the queue
+  abbrev pub left : List (Turn A) → ℕ
+  left history = taken history + dropped history
+
+  abbrev pub exit_by : Turn A → List Exit
+  exit_by (step.Take, reply.Text n) = by_take ∷ []
+  exit_by (step.Call call, reply.CallDropped n m) = by_drop ∷ []
+  exit_by _ = []
+
+  -- how the accepted texts left the queue, the first ones first: each that was taken or dropped is the next one, which
+  -- comes after as many as were taken and dropped before it
+  abbrev pub exits : List (Turn A) → List Exit
+  exits history = flat_map exit_by history
 
   abbrev pub outcome_by : Turn A → List (Option ℕ)
   outcome_by (step.Hand, reply.Nothing) = []
@@ -63,15 +93,20 @@ module _ {A : Type 0} where
 module _ {A X : Type 0} (line_of : Call A → Option X) where
   abbrev pub accepted_by : Turn A → List X
   accepted_by (step.Call call, reply.Called (Ok n)) = option_to_list (line_of call)
+  accepted_by (step.Call call, reply.CallDropped n m) = option_to_list (line_of call)
   accepted_by _ = []
 
-  -- the lines of the calls that were answered Ok, in order
+  -- the lines of the calls that were answered Ok, whether or not another line was dropped for them, in order
   abbrev pub accepted : List (Turn A) → List X
   accepted history = flat_map accepted_by history
 
+  -- the accepted lines that are not dropped: the k-th text taken is the k-th of them, and so is the k-th handed on
+  abbrev pub staying : List (Turn A) → List X
+  staying history = undropped (accepted history) (exits history)
+
   -- the lines that were handed on and answered Ok, in order, each with the count that was answered
   abbrev pub kept_counts : List (Turn A) → List (X × ℕ)
-  kept_counts history = answered (accepted history) (outcomes history)
+  kept_counts history = answered (staying history) (outcomes history)
 
   -- the lines that were handed on and answered Ok, in order
   abbrev pub kept : List (Turn A) → List X
@@ -80,7 +115,7 @@ module _ {A X : Type 0} (line_of : Call A → Option X) where
   -- the line that was taken last and is not yet handed on
   abbrev pub in_hand : List (Turn A) → Option X
   in_hand history =
-      if taken history == handed_on history + 1 then slice_get (accepted history) (handed_on history) else None
+      if taken history == handed_on history + 1 then slice_get (staying history) (handed_on history) else None
 
   -- places among the kept lines: for each turn of the rest those that `at` gives it
   abbrev pub places_after : (ℕ → Turn A → List ℕ) → List (Turn A) → List (Turn A) → List ℕ

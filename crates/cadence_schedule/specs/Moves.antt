@@ -1,9 +1,10 @@
 -- One step of a run, as the layers below it do it: the queue, the hand, and the packer over its writer.
-use Rattle.std.specs.Prelude.{◌≡◌, ◌≢◌, ℕ, ◌+◌, ◌%◌, ◌^◌, ◌<◌, nat_le, List, [], ◌∷◌, ◌++◌, Option, Some, None, Ok, Err, Result, Bool, true, false, length}
+use Rattle.std.specs.Prelude.{◌≡◌, ◌≢◌, ℕ, ◌+◌, ◌%◌, ◌^◌, ◌<◌, nat_le, List, [], ◌∷◌, ◌++◌, Option, Some, None, Ok, Err, Result, Bool, true, false, length, drop}
 use Rattle.std.specs.Option.{option_to_list}
 use Rattle.cadence_flow.specs.Frame.{Format, size_of}
 use Rattle.cadence_flow.specs.Packer.{Writes, Flushes}
-use Rattle.cadence_flow.specs.Queue.{at_capacity}
+use Rattle.cadence_flow.specs.Queue.{at_capacity, drops_for_room}
+use Rattle.cadence_flow.specs.declared.queue.policy.QueuePolicy.{QueuePolicy}
 use Rattle.cadence_flow.specs.Writer.{History, Kind}
 use Rattle.cadence_errors.specs.declared.MetricError.{MetricError}
 use Rattle.cadence_errors.specs.declared.SinkError.{SinkError}
@@ -20,6 +21,7 @@ pub record State : Type 0 where
   pub stopped : Bool
   pub submitted : ℕ
   pub drained : ℕ
+  pub dropped : ℕ
   pub hand : Option (List ℕ)
   pub plan : List ℕ
   pub writer : History
@@ -49,13 +51,17 @@ abbrev pub LineFails : Option (List ℕ) → MetricError → Type 0
 LineFails None e = IsInvalid e
 LineFails (Some line) e = e ≡ out_of_memory
 
-module _ {A : Type 0} (line_of : Call A → Option (List ℕ)) (kind : Kind) (format : Format) (queue : Option ℕ) where
+module _ {A : Type 0} (line_of : Call A → Option (List ℕ)) (kind : Kind) (format : Format) (queue : Option ℕ) (policy : QueuePolicy) where
   abbrev pub Moves : State → Turn A → State → Type 0
   Moves old (step.Call call, reply.Called (Ok n)) new =
-      CallReplies (line_of call) old.stopped (at_capacity queue old.waiting) (Ok n)
+      CallReplies (line_of call) old.stopped (at_capacity queue old.waiting) (drops_for_room policy old.waiting) (reply.Called (Ok n))
       × (new ≡ record old { waiting = old.waiting ++ option_to_list (line_of call); submitted = (old.submitted + 1) % 2 ^ 64 })
   Moves old (step.Call call, reply.Called (Err e)) new =
-      CallReplies (line_of call) old.stopped (at_capacity queue old.waiting) (Err e) × (new ≡ old)
+      CallReplies (line_of call) old.stopped (at_capacity queue old.waiting) (drops_for_room policy old.waiting) (reply.Called (Err e))
+      × (new ≡ old)
+  Moves old (step.Call call, reply.CallDropped n m) new =
+      CallReplies (line_of call) old.stopped (at_capacity queue old.waiting) (drops_for_room policy old.waiting) (reply.CallDropped n m)
+      × (new ≡ record old { waiting = drop 1 old.waiting ++ option_to_list (line_of call); submitted = (old.submitted + 1) % 2 ^ 64; dropped = (old.dropped + 1) % 2 ^ 64 })
   Moves old (step.Take, reply.Text n) new =
       (old.hand ≡ None) × ((line : List ℕ) × (rest : List (List ℕ)) × (old.waiting ≡ line ∷ rest) × (n ≡ length line)
       × (new ≡ record old { waiting = rest; drained = (old.drained + 1) % 2 ^ 64; hand = Some line }))

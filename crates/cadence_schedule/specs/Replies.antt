@@ -1,24 +1,31 @@
 -- Which reply each step may have, after the steps and replies before it.
-use Rattle.std.specs.Prelude.{◌≡◌, ℕ, ◌≤◌, ◌⊎◌, List, [], ◌∷◌, ◌++◌, Option, Some, None, Ok, Err, Result, Bool, true, false, length, drop, slice_get}
+use Rattle.std.specs.Prelude.{◌≡◌, ℕ, ◌≤◌, ◌⊎◌, List, [], ◌∷◌, ◌++◌, Option, Some, None, Ok, Err, Bool, true, false, length, drop, slice_get}
 use Rattle.cadence_errors.specs.declared.MetricError.{MetricError}
 use Rattle.cadence_errors.specs.declared.MetricError.TheVariants.{Sink}
 use Rattle.cadence_errors.specs.declared.SinkError.{SinkError}
 use Rattle.cadence_errors.specs.declared.SinkError.TheVariants.{ChannelFull, ChannelDisconnected, NothingWritten}
 use Rattle.cadence_errors.specs.Errors.{IsInvalid, out_of_memory}
 use Rattle.cadence_flow.specs.Frame.{Format, is_oversize}
-use Rattle.cadence_flow.specs.Queue.{at_capacity}
+use Rattle.cadence_flow.specs.Queue.{at_capacity, drops_for_room}
+use Rattle.cadence_flow.specs.declared.queue.policy.QueuePolicy.{QueuePolicy}
 use Rattle.cadence_schedule.specs.declared.call.Call.{Call}
 use Rattle.cadence_schedule.specs.declared.steps.Step.TheVariants as step
 use Rattle.cadence_schedule.specs.declared.steps.Reply.{Reply}
 use Rattle.cadence_schedule.specs.declared.steps.Reply.TheVariants as reply
-use Rattle.cadence_schedule.specs.History.{Turn, accepted, taken, in_hand, is_stopped}
+use Rattle.cadence_schedule.specs.History.{Turn, accepted, left, in_hand, is_stopped}
 
--- a call, by its line, whether a stop came before, and whether the queue is full: the first case that holds
-abbrev pub CallReplies : Option (List ℕ) → Bool → Bool → Result ℕ MetricError → Type 0
-CallReplies None stopped full result = (e : MetricError) × IsInvalid e × (result ≡ Err e)
-CallReplies (Some line) true full result = (result ≡ Err (Sink ChannelDisconnected)) ⊎ (result ≡ Err out_of_memory)
-CallReplies (Some line) false true result = (result ≡ Err (Sink ChannelFull)) ⊎ (result ≡ Err out_of_memory)
-CallReplies (Some line) false false result = (result ≡ Ok (length line)) ⊎ (result ≡ Err out_of_memory)
+-- an answer to a call, or want of memory
+abbrev pub OrNoMemory : Reply → Reply → Type 0
+OrNoMemory wanted answer = (answer ≡ wanted) ⊎ (answer ≡ reply.Called (Err out_of_memory))
+
+-- a call, by its line, whether a stop came before, whether the queue is full, and the line that it drops for another
+-- then: the first case that holds
+abbrev pub CallReplies : Option (List ℕ) → Bool → Bool → Option (List ℕ) → Reply → Type 0
+CallReplies None stopped full drops answer = (e : MetricError) × IsInvalid e × (answer ≡ reply.Called (Err e))
+CallReplies (Some line) true full drops answer = OrNoMemory (reply.Called (Err (Sink ChannelDisconnected))) answer
+CallReplies (Some line) false true (Some oldest) answer = OrNoMemory (reply.CallDropped (length line) (length oldest)) answer
+CallReplies (Some line) false true None answer = OrNoMemory (reply.Called (Err (Sink ChannelFull))) answer
+CallReplies (Some line) false false drops answer = OrNoMemory (reply.Called (Ok (length line))) answer
 
 -- a take, by the line in hand, the next accepted line, and whether a stop came before: the first case that holds
 abbrev pub TakeReplies : Option (List ℕ) → Option (List ℕ) → Bool → Reply → Type 0
@@ -45,18 +52,18 @@ HandReplies may_give takes_whole format (Some line) answer =
     ⊎ ((e : SinkError) × MayFail may_give takes_whole e × (answer ≡ reply.Handed (Err e)))
 
 -- by the line of each call, which errors the writer may give, whether it takes each packet whole or refuses it, the
--- packer's capacity and ending, and the queue's capacity
-module _ {A : Type 0} (line_of : Call A → Option (List ℕ)) (may_give : SinkError → Bool) (takes_whole : Bool) (format : Format) (queue : Option ℕ) where
+-- packer's capacity and ending, and the queue's capacity and policy
+module _ {A : Type 0} (line_of : Call A → Option (List ℕ)) (may_give : SinkError → Bool) (takes_whole : Bool) (format : Format) (queue : Option ℕ) (policy : QueuePolicy) where
   -- the accepted lines that wait
   abbrev pub waiting : List (Turn A) → List (List ℕ)
-  waiting before = drop (taken before) (accepted line_of before)
+  waiting before = drop (left before) (accepted line_of before)
 
   -- a step's reply, by the turns before it
   abbrev pub MayReply : List (Turn A) → Turn A → Type 0
-  MayReply before (step.Call call, reply.Called result) =
-      CallReplies (line_of call) (is_stopped before) (at_capacity queue (waiting before)) result
+  MayReply before (step.Call call, answer) =
+      CallReplies (line_of call) (is_stopped before) (at_capacity queue (waiting before)) (drops_for_room policy (waiting before)) answer
   MayReply before (step.Take, answer) =
-      TakeReplies (in_hand line_of before) (slice_get (accepted line_of before) (taken before)) (is_stopped before) answer
+      TakeReplies (in_hand line_of before) (slice_get (accepted line_of before) (left before)) (is_stopped before) answer
   MayReply before (step.Hand, answer) = HandReplies may_give takes_whole format (in_hand line_of before) answer
   MayReply before (step.Flush, reply.Flushed (Ok done)) = Unit {0}
   MayReply before (step.Flush, reply.Flushed (Err e)) = MayFail may_give takes_whole e

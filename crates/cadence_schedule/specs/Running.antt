@@ -4,6 +4,7 @@ use Rattle.std.specs.Option.{option_map}
 use Rattle.cadence_flow.specs.Packer.{new_packer}
 use Rattle.cadence_flow.specs.Queue.{new_queue}
 use Rattle.cadence_flow.specs.Writer.{History, Kind}
+use Rattle.cadence_flow.specs.declared.queue.policy.QueuePolicy.{QueuePolicy}
 use Rattle.cadence_schedule.specs.declared.call.Call.{Call}
 use Rattle.cadence_schedule.specs.declared.running.Running.{Running}
 use Rattle.cadence_schedule.specs.declared.steps.Reply.{Reply}
@@ -16,6 +17,7 @@ state_of history run = record {
   stopped = run.queue.stopped;
   submitted = run.queue.submitted;
   drained = run.queue.drained;
+  dropped = run.queue.dropped;
   hand = option_map string_bytes run.hand;
   plan = run.plan.items;
   writer = history run.packer.writer;
@@ -23,8 +25,8 @@ state_of history run = record {
 }
 
 -- a run before its first step, with room for the replies and the cut of so many steps
-pub record IsAtStart {P A : Type 0} (capacity : ℕ) (ending : List ℕ) (queue : Option ℕ) (steps : ℕ) (writer : P) (run : Running P A) (replies : Vec Reply A) : Type 0 where
-  pub queue_is : run.queue ≡ new_queue queue
+pub record IsAtStart {P A : Type 0} (capacity : ℕ) (ending : List ℕ) (queue : Option ℕ) (policy : QueuePolicy) (steps : ℕ) (writer : P) (run : Running P A) (replies : Vec Reply A) : Type 0 where
+  pub queue_is : run.queue ≡ new_queue queue policy
   pub hand_is : run.hand ≡ None
   pub packer_is : run.packer ≡ new_packer writer capacity ending
   pub plan_is : run.plan.items ≡ []
@@ -33,11 +35,12 @@ pub record IsAtStart {P A : Type 0} (capacity : ℕ) (ending : List ℕ) (queue 
   pub replies_room : steps ≤ vec_capacity replies
   pub few : steps < 2 ^ 64
 
--- one turn of a run, which leaves its writer's kind, its format and its queue's capacity
+-- one turn of a run, which leaves its writer's kind, its format and its queue's capacity and policy
 pub record MakesTurn {P A : Type 0} (kind : P → Kind) (history : P → History) (line_of : Call A → Option (List ℕ)) (old : Running P A) (turn : Turn A) (new : Running P A) : Type 0 where
-  pub moves : Moves line_of (kind old.packer.writer) old.packer.format old.queue.capacity (state_of history old) turn (state_of history new)
+  pub moves : Moves line_of (kind old.packer.writer) old.packer.format old.queue.capacity old.queue.policy (state_of history old) turn (state_of history new)
   pub same_kind : kind new.packer.writer ≡ kind old.packer.writer
   pub same_format : new.packer.format ≡ old.packer.format
   pub same_queue : new.queue.capacity ≡ old.queue.capacity
+  pub same_policy : new.queue.policy ≡ old.queue.policy
   pub plan_length : vec_len new.plan ≤ vec_len old.plan + 1
   pub plan_room : vec_capacity old.plan ≤ vec_capacity new.plan

@@ -15,6 +15,6 @@ pub use call::{Call, CallOption, CallValue};
 pub use laws::{an_option_is_chosen, packets_read_one_way, tight_is_fewest};
 pub use plan::{check_plan, plan_packets};
 pub use reports::Report;
-pub use run::run_schedule;
+pub use run::{run_schedule, run_schedule_with};
 pub use settings::ClientSettings;
 pub use steps::{Reply, Step};

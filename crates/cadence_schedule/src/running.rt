@@ -74,7 +74,8 @@ impl<P: PacketWriter, A: Allocator + Clone> Running<P, A> {
         };
         let length = line.len();
         match self.queue.submit(line) {
-            Ok(()) => Reply::Called(Ok(length)),
+            Ok(None) => Reply::Called(Ok(length)),
+            Ok(Some(oldest)) => Reply::CallDropped(length, oldest.len()),
             Err((error, _line)) => Reply::Called(Err(MetricError::Sink(error))),
         }
     }

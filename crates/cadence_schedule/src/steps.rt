@@ -24,6 +24,9 @@ pub enum Step<A: Allocator = Global> {
 pub enum Reply {
     /// To a call: the length of its line in bytes, or why it was refused.
     Called(MetricResult<usize>),
+    /// To a call whose line found the queue full, which dropped its oldest line for it: the lengths of both in bytes,
+    /// that of the call's line first.
+    CallDropped(usize, usize),
     /// To a take: the length in bytes of the line that is now in hand.
     Text(usize),
     /// To a take: no line waits, and more may come.

@@ -4,7 +4,7 @@ ghost use Rattle.std.specs.Prelude.{◌≤◌};
 use crate::print::report_text;
 use crate::script::{ScriptError, read_script};
 use cadence::io::PacketLog;
-use cadence::schedule::run_schedule;
+use cadence::schedule::run_schedule_with;
 use cadence::types::MetricError;
 use cadence_console::{ReadError, print_all, read_all};
 use std::alloc::{AllocError, Allocator};
@@ -76,12 +76,13 @@ fn report_of<A: Allocator + Clone, I: Read>(alloc: A, input: &mut I) -> Result<S
     let settings = script.settings()?;
     let answers = script.answers.clone()?;
     let log = PacketLog::new(alloc.clone()?, answers);
-    let Ok(report) = run_schedule(
+    let Ok(report) = run_schedule_with(
         alloc.clone()?,
         &settings,
         script.capacity,
         &script.ending,
         script.queue,
+        script.policy,
         &script.steps,
         log,
     ) else {

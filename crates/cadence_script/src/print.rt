@@ -8,6 +8,9 @@ use std::alloc::{AllocError, Allocator};
 fn push_reply<A: Allocator>(out: &mut String<A>, reply: &Reply) -> Result<(), AllocError> {
     match reply {
         Reply::Called(Ok(length)) => writeln!(out, "call ok {length}"),
+        Reply::CallDropped(length, dropped) => {
+            writeln!(out, "call ok {length} dropped {dropped}")
+        }
         Reply::Called(Err(error)) => writeln!(out, "call err {error}"),
         Reply::Text(length) => writeln!(out, "take text {length}"),
         Reply::Empty => out.push_str("take empty\n"),

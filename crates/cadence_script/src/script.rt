@@ -4,6 +4,7 @@ use crate::calls::call_of;
 use crate::words::{LineError, Words, number, text_of};
 use cadence::client::ClientSettings;
 use cadence::io::Answer;
+use cadence::queue::QueuePolicy;
 use cadence::schedule::Step;
 use cadence::types::MetricError;
 use std::alloc::{AllocError, Allocator};
@@ -36,6 +37,8 @@ pub struct Script<A: Allocator> {
     pub ending: String<A>,
     /// The queue's capacity, in lines.
     pub queue: Option<usize>,
+    /// What a full queue does with one line more.
+    pub policy: QueuePolicy,
     /// The answers of the packet log.
     pub answers: Vec<Answer, A>,
     /// The steps, in order.
@@ -52,6 +55,7 @@ impl<A: Allocator + Clone> Script<A> {
             capacity: DEFAULT_CAPACITY,
             ending: String::from_str(alloc.clone()?, "\n")?,
             queue: None,
+            policy: QueuePolicy::Refuse,
             answers: Vec::new(alloc.clone()?),
             steps: Vec::new(alloc.clone()?),
             alloc,
@@ -111,6 +115,7 @@ impl<A: Allocator + Clone> Script<A> {
             "capacity" => self.capacity = number(words.word()?)?,
             "ending" => self.ending = self.next_text(words)?,
             "queue" => self.queue = Some(number(words.word()?)?),
+            "policy" => self.policy = policy_of(words.word()?)?,
             "writer" => self.read_answers(words)?,
             _ => return Err(LineError::Unreadable),
         }
@@ -139,6 +144,15 @@ impl<A: Allocator + Clone> Script<A> {
             None => return Err(LineError::Unreadable),
         }
         words.end()
+    }
+}
+
+// What a full queue does with one line more.
+fn policy_of(word: &str) -> Result<QueuePolicy, LineError> {
+    match word {
+        "refuse" => Ok(QueuePolicy::Refuse),
+        "drop" => Ok(QueuePolicy::DropOldest),
+        _ => Err(LineError::Unreadable),
     }
 }
 

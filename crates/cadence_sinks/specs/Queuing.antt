@@ -6,6 +6,7 @@ use Rattle.std.specs.declared.dyn_box.DynBox.{DynBox}
 use Rattle.cadence_errors.specs.declared.SinkError.TheVariants.{Io, OutOfMemory}
 use Rattle.cadence_errors.specs.declared.MetricError.{MetricError}
 use Rattle.cadence_errors.specs.declared.MetricError.TheVariants.{Sink}
+use Rattle.cadence_flow.specs.declared.queue.policy.QueuePolicy.{QueuePolicy}
 use Rattle.cadence_resolve.specs.Handler.{call_of}
 use Rattle.cadence_sinks.specs.declared.queuing.sink.QueuingMetricSink.{QueuingMetricSink}
 use Rattle.cadence_sinks.specs.declared.queuing.builder.QueuingMetricSinkBuilder.{QueuingMetricSinkBuilder}
@@ -24,6 +25,10 @@ module _ {A Y : Type 0} {G : Y → Type 0} {g : _} where
   -- the capacity that a builder's queue will have, or none
   abbrev pub capacity_of : QueuingMetricSinkBuilder A Y G g → Option ℕ
   capacity_of b = b.capacity
+
+  -- what a builder's queue will do with a line where it is full
+  abbrev pub policy_of : QueuingMetricSinkBuilder A Y G g → QueuePolicy
+  policy_of b = b.policy
 
   -- the error handler, where there is one
   abbrev pub handler_of : QueuingMetricSinkBuilder A Y G g → Option (DynBox Y A G)

@@ -18,6 +18,8 @@ pub enum Mode {
     Udp,
     /// Lines into a queue.
     Queue,
+    /// Lines into a queue that drops its oldest line when it is full.
+    Drop,
 }
 
 impl Mode {
@@ -29,6 +31,7 @@ impl Mode {
             "packer" => Some(Mode::Packer),
             "udp" => Some(Mode::Udp),
             "queue" => Some(Mode::Queue),
+            "drop" => Some(Mode::Drop),
             _ => None,
         }
     }
@@ -43,6 +46,7 @@ impl fmt::Display for Mode {
             Mode::Packer => "packer",
             Mode::Udp => "udp",
             Mode::Queue => "queue",
+            Mode::Drop => "drop",
         })
     }
 }
@@ -61,7 +65,7 @@ pub struct Arguments {
 }
 
 /// How to call the program.
-pub const USAGE: &str = "cadence_speed count|count_tags|histogram4|packer|udp|queue N [CAP LEN]";
+pub const USAGE: &str = "cadence_speed count|count_tags|histogram4|packer|udp|queue|drop N [CAP LEN]";
 
 /// The most lines of a run over UDP.
 const MOST_DATAGRAMS: u64 = 200_000;

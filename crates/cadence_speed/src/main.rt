@@ -30,6 +30,7 @@ fn main(rt: HostRuntime) -> Result<()> {
         Mode::Packer => packets::packer(&rt, &arguments)?,
         Mode::Udp => sinks::udp(&rt, rt.alloc(), &arguments)?,
         Mode::Queue => sinks::queue(&rt, rt.alloc(), &arguments)?,
+        Mode::Drop => sinks::dropping(&rt, rt.alloc(), &arguments)?,
     };
     report(&rt, &arguments, &done)?;
     Ok(())

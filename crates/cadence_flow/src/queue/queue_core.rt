@@ -1,12 +1,14 @@
 //! A queue of texts with a stop mark, a capacity and a count of handles, which one thread works with.
-ghost use Rattle.std.specs.Prelude.{◌≡◌, [], length, slice_get, option_copied, IfOk, IfErr, OnOk, OnErr, IsOk, IsTrue, Ok, Err, true, false};
+ghost use Rattle.std.specs.Prelude.{◌≡◌, [], length, slice_get, option_copied, IfOk, IfErr, OnOk, OnErr, IsOk, IsTrue, Ok, Err, Some, None, true, false};
 ghost use Rattle.std.specs.declared.alloc.AllocError.{AllocError};
 ghost use Rattle.cadence_errors.specs.Errors.{out_of_memory};
 ghost use Rattle.cadence_flow.specs.QueueRoom.{IsBounded, TakesRoom};
-ghost use Rattle.cadence_flow.specs.QueueState.{IsWithin, IsCounted};
-ghost use Rattle.cadence_flow.specs.Queue.{Accepts, IsRefusal, is_open, IsTaken, accepting, stopping, adding_handle, dropping_handle, new_queue, is_full, is_idle};
+ghost use Rattle.cadence_flow.specs.QueueState.{IsWithin, IsCounted, HasDropped};
+ghost use Rattle.cadence_flow.specs.Queue.{Accepts, IsRefusal, is_open, lacks_room, MakesRoom, IsTaken, accepting, stopping, adding_handle, dropping_handle, new_queue, is_full, is_idle};
 ghost use Rattle.cadence_flow.specs.QueueModel.{IsQueueOf, IsAccepted, IsNext};
+ghost use Rattle.cadence_flow.specs.declared.queue.policy.QueuePolicy.TheVariants.{Refuse};
 
+use super::policy::QueuePolicy;
 use super::text_ring::TextRing;
 use cadence_errors::{MetricResult, SinkError};
 use std::alloc::{AllocError, Allocator, Global};
@@ -28,47 +30,60 @@ pub enum Taken<T> {
 pub struct QueueCore<T, A: Allocator = Global> {
     texts: TextRing<T, A>,
     capacity: Option<usize>,
+    policy: QueuePolicy,
     stopped: bool,
     handles: u64,
     submitted: u64,
     drained: u64,
+    dropped: u64,
 }
 
 impl<T, A: Allocator> Model for QueueCore<T, A> {
-    ghost use Rattle.cadence_flow.specs.QueueState.{Queue, queue_code, IsWithin, IsCounted};
+    ghost use Rattle.cadence_flow.specs.QueueState.{Queue, queue_code, IsWithin, IsCounted, HasDropped};
     ghost use Rattle.cadence_flow.specs.QueueRoom.{HasRoom};
 
     ghost Value = { Queue T };
 
     ghost coded = { queue_code T.code };
 
-    ghost view = { λ q. record { waiting = q.texts.items; capacity = q.capacity; stopped = q.stopped; handles = q.handles; submitted = q.submitted; drained = q.drained } };
+    ghost view = { λ q. record { waiting = q.texts.items; capacity = q.capacity; policy = q.policy; stopped = q.stopped; handles = q.handles; submitted = q.submitted; drained = q.drained; dropped = q.dropped } };
 
-    ghost invariant = { λ q. IsWithin q.capacity q.texts.items × IsCounted q.texts.items q.submitted q.drained × HasRoom q.capacity q.texts.capacity };
+    ghost invariant = { λ q. IsWithin q.capacity q.texts.items × IsCounted q.texts.items q.submitted q.drained q.dropped × HasRoom q.capacity q.texts.capacity × HasDropped q.policy q.capacity q.dropped };
 }
 
 impl<T: Drop, A: Allocator + Clone> QueueCore<T, A> {
-    /// An empty queue with one handle, which holds at most `capacity` texts; `None` is no bound. A bounded queue
-    /// makes room for all its texts at once. The only error is `OutOfMemory`.
+    /// An empty queue with one handle, which holds at most `capacity` texts and refuses more; `None` is no bound. A
+    /// bounded queue makes room for all its texts at once. The only error is `OutOfMemory`.
     pub fn new(alloc: A, capacity: Option<usize>) -> MetricResult<Self>
-        ensures made { IfOk result (λ q. q ≡ new_queue capacity) }
-        ensures past { IfOk result (IsQueueOf [] 0) }
+        ensures made { IfOk result (λ q. q ≡ new_queue capacity Refuse) }
+        ensures past { IfOk result (IsQueueOf [] []) }
+        ensures refused { IfErr result (λ e. (e ≡ out_of_memory) × TakesRoom capacity) }
+    {
+        QueueCore::with_policy(alloc, capacity, QueuePolicy::Refuse)
+    }
+
+    /// As `new`, with what the queue does with one more text when it is full.
+    pub fn with_policy(alloc: A, capacity: Option<usize>, policy: QueuePolicy) -> MetricResult<Self>
+        ensures made { IfOk result (λ q. q ≡ new_queue capacity policy) }
+        ensures past { IfOk result (IsQueueOf [] []) }
         ensures refused { IfErr result (λ e. (e ≡ out_of_memory) × TakesRoom capacity) }
     {
         let texts = TextRing::with_room(alloc, capacity.unwrap_or(0))?;
         Ok(QueueCore {
             texts,
             capacity,
+            policy,
             stopped: false,
             handles: 1,
             submitted: 0,
             drained: 0,
+            dropped: 0,
         })
     }
 
-    // Puts a text last in an open queue, or gives it back where memory ran out.
-    fn push(&mut self, text: T) -> Result<(), T>
-        requires { IsTrue (is_open self.old) }
+    // Puts a text last in a queue that isn't full, or gives it back where memory ran out.
+    fn put_last(&mut self, text: T) -> Result<(), T>
+        requires { is_full self.old ≡ false }
         ensures pushed { OnOk result (self.new ≡ accepting self.old text) }
         ensures refused { IfErr result (λ back. (back ≡ text) × (self.new ≡ self.old)) }
         ensures bounded { IsBounded self.old.capacity → IsOk result }
@@ -78,35 +93,50 @@ impl<T: Drop, A: Allocator + Clone> QueueCore<T, A> {
         Ok(())
     }
 
-    /// Puts a text last. A stopped queue answers `ChannelDisconnected`, else a full one `ChannelFull`, else one for
-    /// which memory ran out `OutOfMemory`; the text comes back and nothing has changed then. A bounded queue takes no
-    /// memory.
-    pub fn submit(&mut self, text: T) -> Result<(), (SinkError, T)>
-        ensures accepted { OnOk result (Accepts self.old text self.new) }
+    // Puts a text last in an open queue, or gives it back where memory ran out. A full queue drops its oldest text,
+    // and answers it.
+    fn push(&mut self, text: T) -> Result<Option<T>, T>
+        requires { IsTrue (is_open self.old) }
+        ensures pushed { IfOk result (λ dropped. Accepts self.old text dropped self.new) }
+        ensures refused { IfErr result (λ back. (back ≡ text) × (self.new ≡ self.old)) }
+        ensures bounded { IsBounded self.old.capacity → IsOk result }
+    {
+        let dropped = self.make_room();
+        match self.put_last(text) {
+            Ok(()) => Ok(dropped),
+            Err(text) => Err(text),
+        }
+    }
+
+    /// Puts a text last. A stopped queue answers `ChannelDisconnected`, else a full one that refuses, or holds none,
+    /// `ChannelFull`, else one for which memory ran out `OutOfMemory`; the text comes back and nothing has changed
+    /// then. Where a full queue dropped its oldest text, that one is answered. A bounded queue takes no memory.
+    pub fn submit(&mut self, text: T) -> Result<Option<T>, (SinkError, T)>
+        ensures accepted { IfOk result (λ dropped. Accepts self.old text dropped self.new) }
         ensures refused { IfErr result (λ e.
             IsRefusal self.old e.0 × (e.1 ≡ text) × (self.new ≡ self.old)) }
         ensures bounded { IsBounded self.old.capacity → IsTrue (is_open self.old) → IsOk result }
-        ensures past { OnOk result (IsAccepted self.old text self.new) }
+        ensures past { IfOk result (λ dropped. IsAccepted self.old text dropped self.new) }
     {
         if !self.is_open() {
             return Err((self.why_closed(), text));
         }
         match self.push(text) {
-            Ok(()) => Ok(()),
+            Ok(dropped) => Ok(dropped),
             Err(text) => Err((SinkError::OutOfMemory, text)),
         }
     }
 
-    /// Puts last the text that `make` makes. It is called only where the queue is neither stopped nor full, so these
-    /// two refusals take no memory. The errors are those of `submit`, `OutOfMemory` also where `make` was refused;
-    /// nothing has changed then.
+    /// Puts last the text that `make` makes. It is called only where the queue would take it, so the refusals of a
+    /// stopped and of a full queue take no memory. The answer and the errors are those of `submit`, `OutOfMemory` also
+    /// where `make` was refused; nothing has changed after an error.
     pub fn submit_with<F: FnOnce() -> Result<T, AllocError>>(
         &mut self,
         make: F,
-    ) -> Result<(), SinkError>
+    ) -> Result<Option<T>, SinkError>
         requires { F.IsAlwaysCallable make }
-        ensures accepted { OnOk result
-            ((text : T) × F.post make (Ok text) × Accepts self.old text self.new) }
+        ensures accepted { IfOk result (λ dropped.
+            (text : T) × F.post make (Ok text) × Accepts self.old text dropped self.new) }
         ensures refused { IfErr result (λ e. IsRefusal self.old e × (self.new ≡ self.old)) }
         ensures bounded { IsBounded self.old.capacity → IsTrue (is_open self.old) →
             OnErr result ((error : AllocError) × F.post make (Err error)) }
@@ -116,7 +146,7 @@ impl<T: Drop, A: Allocator + Clone> QueueCore<T, A> {
         }
         let text = make()?;
         match self.push(text) {
-            Ok(()) => Ok(()),
+            Ok(dropped) => Ok(dropped),
             Err(_) => Err(SinkError::OutOfMemory),
         }
     }
@@ -133,11 +163,31 @@ impl<T: Drop, A: Allocator> QueueCore<T, A> {
         }
     }
 
+    // Whether the queue is full, and drops no text for another.
+    fn lacks_room(&self) -> bool
+        ensures { result ≡ lacks_room self.now }
+    {
+        self.is_full() && (self.policy == QueuePolicy::Refuse || self.texts.len() == 0)
+    }
+
     // Whether a text would be taken if memory allows.
     fn is_open(&self) -> bool
         ensures { result ≡ is_open self.now }
     {
-        !self.stopped && !self.is_full()
+        !self.stopped && !self.lacks_room()
+    }
+
+    // Drops the oldest text where the queue is full.
+    fn make_room(&mut self) -> Option<T>
+        requires { IsTrue (is_open self.old) }
+        ensures made { MakesRoom self.old result self.new }
+        ensures room { is_full self.new ≡ false }
+    {
+        if !self.is_full() {
+            return None;
+        }
+        self.dropped = self.dropped.wrapping_add(1);
+        self.texts.pop_front()
     }
 
     // Why a queue that isn't open refuses a text.
@@ -201,12 +251,12 @@ impl<T: Drop, A: Allocator> QueueCore<T, A> {
         !self.stopped && self.texts.len() == 0
     }
 
-    /// The number of texts that wait. It is within the capacity, and the texts submitted less those drained, modulo
-    /// 2 to the 64.
+    /// The number of texts that wait. It is within the capacity, and the texts submitted less those drained and those
+    /// dropped, modulo 2 to the 64.
     pub fn waiting(&self) -> usize
         ensures waiting { result ≡ length self.now.waiting }
         ensures within { IsWithin self.now.capacity self.now.waiting }
-        ensures counted { IsCounted self.now.waiting self.now.submitted self.now.drained }
+        ensures counted { IsCounted self.now.waiting self.now.submitted self.now.drained self.now.dropped }
     {
         self.texts.len()
     }
@@ -230,5 +280,13 @@ impl<T: Drop, A: Allocator> QueueCore<T, A> {
         ensures { result ≡ self.now.drained }
     {
         self.drained
+    }
+
+    /// The number of texts dropped to make room, modulo 2 to the 64: 0 where the queue refuses, or has no bound.
+    pub fn dropped(&self) -> u64
+        ensures dropped { result ≡ self.now.dropped }
+        ensures none { HasDropped self.now.policy self.now.capacity result }
+    {
+        self.dropped
     }
 }

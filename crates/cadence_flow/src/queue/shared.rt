@@ -4,6 +4,7 @@ ghost use Rattle.cadence_errors.specs.Errors.{out_of_memory};
 ghost use Rattle.cadence_flow.specs.Queue.{IsQueueRefusal};
 ghost use Rattle.cadence_flow.specs.QueueRoom.{TakesRoom};
 
+use super::policy::QueuePolicy;
 use super::queue_core::{QueueCore, Taken};
 use cadence_errors::{MetricResult, SinkError};
 use std::alloc::{AllocError, Allocator, Global};
@@ -31,21 +32,29 @@ pub struct SharedQueue<T, A: Allocator = Global> {
 }
 
 impl<T: Drop, A: Allocator + Clone> SharedQueue<T, A> {
-    /// An empty queue with one handle, which holds at most `capacity` texts; `None` is no bound. A bounded queue
-    /// makes room for all its texts at once. The only error is `OutOfMemory`.
+    /// An empty queue with one handle, which holds at most `capacity` texts and refuses more; `None` is no bound. A
+    /// bounded queue makes room for all its texts at once. The only error is `OutOfMemory`.
     pub fn new(alloc: A, capacity: Option<usize>) -> MetricResult<Self>
         ensures { IfErr result (λ e. (e ≡ out_of_memory) × TakesRoom capacity) }
     {
-        let core = QueueCore::new(alloc, capacity)?;
+        SharedQueue::with_policy(alloc, capacity, QueuePolicy::Refuse)
+    }
+
+    /// As `new`, with what the queue does with one more text when it is full.
+    pub fn with_policy(alloc: A, capacity: Option<usize>, policy: QueuePolicy) -> MetricResult<Self>
+        ensures { IfErr result (λ e. (e ≡ out_of_memory) × TakesRoom capacity) }
+    {
+        let core = QueueCore::with_policy(alloc, capacity, policy)?;
         Ok(SharedQueue {
             core: Mutex::new(core),
             changed: Condvar::new(),
         })
     }
 
-    /// Puts a text last, and wakes those who wait for one, which they do where the queue was idle. The errors are
-    /// those of `QueueCore::submit`; the text comes back and the queue has not changed then. It doesn't wait for room.
-    pub fn submit(&self, rt: &impl Wait, text: T) -> Result<(), (SinkError, T)>
+    /// Puts a text last, and wakes those who wait for one, which they do where the queue was idle. The answer and the
+    /// errors are those of `QueueCore::submit`; after an error the text comes back and the queue has not changed. It
+    /// doesn't wait for room.
+    pub fn submit(&self, rt: &impl Wait, text: T) -> Result<Option<T>, (SinkError, T)>
         ensures { IfErr result (λ e. IsQueueRefusal e.0 × (e.1 ≡ text)) }
     {
         let mut core = self.core.lock(rt);
@@ -57,13 +66,13 @@ impl<T: Drop, A: Allocator + Clone> SharedQueue<T, A> {
     }
 
     /// Puts last the text that `make` makes, and wakes those who wait for one. The lock is taken once, and `make` is
-    /// called under it, only where the queue is neither stopped nor full. The errors are those of
-    /// `QueueCore::submit_with`; the queue has not changed then.
+    /// called under it, only where the queue would take the text. The answer and the errors are those of
+    /// `QueueCore::submit_with`; the queue has not changed after an error.
     pub fn submit_with<F: FnOnce() -> Result<T, AllocError>>(
         &self,
         rt: &impl Wait,
         make: F,
-    ) -> Result<(), SinkError>
+    ) -> Result<Option<T>, SinkError>
         requires { F.IsAlwaysCallable make }
         ensures { IfErr result IsQueueRefusal }
     {
@@ -156,5 +165,10 @@ impl<T: Drop, A: Allocator> SharedQueue<T, A> {
     /// The number of texts taken, modulo 2 to the 64.
     pub fn drained(&self, rt: &impl Wait) -> u64 {
         self.core.lock(rt).drained()
+    }
+
+    /// The number of texts dropped to make room, modulo 2 to the 64.
+    pub fn dropped(&self, rt: &impl Wait) -> u64 {
+        self.core.lock(rt).dropped()
     }
 }

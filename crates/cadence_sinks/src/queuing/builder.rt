@@ -1,22 +1,24 @@
 //! The settings of a queuing sink.
 ghost use Rattle.std.specs.Prelude.{◌≡◌, IfOk, IfErr, Some, None};
-ghost use Rattle.cadence_sinks.specs.Queuing.{IsQueuingRefusal, wrapped_sink, capacity_of, handler_of};
+ghost use Rattle.cadence_sinks.specs.Queuing.{IsQueuingRefusal, wrapped_sink, capacity_of, policy_of, handler_of};
+ghost use Rattle.cadence_flow.specs.declared.queue.policy.QueuePolicy.TheVariants.{Refuse};
 
 use super::QueuingMetricSink;
 use super::worker::{Shared, Worker};
 use crate::{Handler, MetricSink, SinkErrorHandler};
 use cadence_errors::MetricResult;
-use cadence_flow::queue::{SharedQueue, WorkerEnd};
+use cadence_flow::queue::{QueuePolicy, SharedQueue, WorkerEnd};
 use cadence_resolve::thread::start;
 use std::alloc::{Allocator, Global};
 use std::sync::{Arc, Wait};
 use std::thread::Threads;
 
-/// Makes a `QueuingMetricSink`. Without a capacity its queue is unbounded, and without a handler the
-/// faults of the wrapped sink are dropped.
+/// Makes a `QueuingMetricSink`. Without a capacity its queue is unbounded, without a policy a full one refuses lines,
+/// and without a handler the faults of the wrapped sink are dropped.
 #[derive(Drop)]
 pub struct QueuingMetricSinkBuilder<A: Allocator = Global> {
     capacity: Option<usize>,
+    policy: QueuePolicy,
     handler: Option<Handler<A>>,
 }
 
@@ -24,10 +26,12 @@ impl<A: Allocator> QueuingMetricSinkBuilder<A> {
     /// A builder without any setting.
     pub fn new() -> Self
         ensures capacity { capacity_of result ≡ None }
+        ensures policy { policy_of result ≡ Refuse }
         ensures handler { handler_of result ≡ None }
     {
         QueuingMetricSinkBuilder {
             capacity: None,
+            policy: QueuePolicy::Refuse,
             handler: None,
         }
     }
@@ -35,9 +39,21 @@ impl<A: Allocator> QueuingMetricSinkBuilder<A> {
     /// The queue holds at most `capacity` lines.
     pub fn with_capacity(mut self, capacity: usize) -> Self
         ensures capacity { capacity_of result ≡ Some capacity }
+        ensures policy { policy_of result ≡ policy_of self }
         ensures handler { handler_of result ≡ handler_of self }
     {
         self.capacity = Some(capacity);
+        self
+    }
+
+    /// What the queue does with a line where it is full: it refuses the line, or drops its oldest one, whose `emit`
+    /// has been answered long before. Nobody is told of a dropped line but `QueuingMetricSink::dropped`.
+    pub fn with_policy(mut self, policy: QueuePolicy) -> Self
+        ensures capacity { capacity_of result ≡ capacity_of self }
+        ensures policy { policy_of result ≡ policy }
+        ensures handler { handler_of result ≡ handler_of self }
+    {
+        self.policy = policy;
         self
     }
 
@@ -46,6 +62,7 @@ impl<A: Allocator> QueuingMetricSinkBuilder<A> {
     pub fn with_error_handler(mut self, handler: SinkErrorHandler<A>) -> Self
         requires { IsAlwaysCallable handler }
         ensures capacity { capacity_of result ≡ capacity_of self }
+        ensures policy { policy_of result ≡ policy_of self }
         ensures handler { handler_of result ≡ Some handler }
     {
         self.handler = Some(Handler::new(handler));
@@ -63,7 +80,7 @@ impl<A: Allocator + Clone + Send + Sync + 'static> QueuingMetricSinkBuilder<A> {
         ensures wrapped { IfOk result (λ q. wrapped_sink q ≡ sink) }
         ensures refused { IfErr result IsQueuingRefusal }
     {
-        let queue = SharedQueue::new(alloc.clone()?, self.capacity)?;
+        let queue = SharedQueue::with_policy(alloc.clone()?, self.capacity, self.policy)?;
         let end = WorkerEnd::new();
         let shared = Arc::new(alloc.clone()?, Shared { sink, queue, end })?;
         let worker = Worker {

@@ -1,6 +1,7 @@
 //! The handles of a queuing sink.
 ghost use Rattle.std.specs.Prelude.{◌≡◌, IfOk, IfErr, None};
-ghost use Rattle.cadence_sinks.specs.Queuing.{IsQueuingRefusal, wrapped_sink, capacity_of, handler_of};
+ghost use Rattle.cadence_sinks.specs.Queuing.{IsQueuingRefusal, wrapped_sink, capacity_of, policy_of, handler_of};
+ghost use Rattle.cadence_flow.specs.declared.queue.policy.QueuePolicy.TheVariants.{Refuse};
 
 use super::QueuingMetricSinkBuilder;
 use super::worker::Shared;
@@ -50,6 +51,7 @@ impl<S: MetricSink, R: Wait + Drop, A: Allocator> QueuingMetricSink<S, R, A> {
     /// A builder without any setting.
     pub fn builder() -> QueuingMetricSinkBuilder<A>
         ensures capacity { capacity_of result ≡ None }
+        ensures policy { policy_of result ≡ Refuse }
         ensures handler { handler_of result ≡ None }
     {
         QueuingMetricSinkBuilder::new()
@@ -76,6 +78,12 @@ impl<S: MetricSink, R: Wait + Drop, A: Allocator> QueuingMetricSink<S, R, A> {
         self.shared.queue.drained(&self.rt)
     }
 
+    /// The number of lines that were dropped to make room for others, modulo 2 to the 64. None are where the queue
+    /// refuses lines when it is full, or has no bound.
+    pub fn dropped(&self) -> u64 {
+        self.shared.queue.dropped(&self.rt)
+    }
+
     /// How often the worker panicked: never.
     pub fn panics(&self) -> u64
         ensures { result ≡ 0 }
@@ -86,8 +94,9 @@ impl<S: MetricSink, R: Wait + Drop, A: Allocator> QueuingMetricSink<S, R, A> {
 
 /// `emit` puts a copy of the line last in the queue and answers its length, `ChannelDisconnected` where the queue is
 /// stopped, else `ChannelFull` where as many lines wait as its capacity, else `OutOfMemory`; nothing is queued then.
-/// An accepted line takes memory once, beside the growth of an unbounded queue, and one that is refused by a stop or
-/// by the capacity takes none. `flush` flushes the wrapped sink and doesn't wait for the queue; `stats` are the
+/// Under `DropOldest` a full queue of a capacity above 0 drops its oldest line in place of `ChannelFull`, and the
+/// handler isn't told. An accepted line takes memory once, beside the growth of an unbounded queue, and one that is
+/// refused by a stop or by the capacity takes none. `flush` flushes the wrapped sink and doesn't wait for the queue; `stats` are the
 /// wrapped sink's.
 impl<S: MetricSink, R: Wait + Drop, A: Allocator + Clone> MetricSink
     for QueuingMetricSink<S, R, A> {

@@ -1,7 +1,7 @@
 use cadence_errors::{MetricResult, SinkError};
-use cadence_flow::queue::{QueueCore, SharedQueue, Taken, WorkerEnd};
+use cadence_flow::queue::{QueueCore, QueuePolicy, SharedQueue, Taken, WorkerEnd};
 use refusing::Refusing;
-use std::alloc::Global;
+use std::alloc::{AllocError, Global};
 use std::test::Fail;
 use std::thread;
 
@@ -150,6 +150,48 @@ fn shared_queue_keeps_its_capacity(rt: HostRuntime) -> Result<(), Fail> {
     assert!(rt; matches!(queue.submit(&rt, 'B'), Err((SinkError::ChannelFull, 'B'))));
     assert!(rt; matches!(queue.try_take(&rt), Taken::Text('A')));
     assert!(rt; matches!(queue.try_take(&rt), Taken::Empty));
+    Ok(())
+}
+
+#[test]
+fn full_queue_drops_its_oldest(rt: HostRuntime) -> Result<(), Fail> {
+    let queue = SharedQueue::with_policy(rt.alloc(), Some(1), QueuePolicy::DropOldest)?;
+    assert!(rt; matches!(queue.submit(&rt, 'A'), Ok(None)));
+    assert!(rt; matches!(queue.submit(&rt, 'B'), Ok(Some('A'))));
+    assert!(rt; matches!(queue.submit_with(&rt, || Ok('C')), Ok(Some('B'))));
+    queue.stop(&rt);
+    assert!(rt;
+        matches!(
+            queue.submit(&rt, 'D'),
+            Err((SinkError::ChannelDisconnected, 'D'))
+        )
+    );
+    assert!(rt; matches!(queue.try_take(&rt), Taken::Text('C')));
+    assert_eq!(rt;
+        (queue.submitted(&rt), queue.drained(&rt), queue.dropped(&rt)),
+        (3, 1, 2)
+    );
+    Ok(())
+}
+
+#[test]
+fn a_drop_takes_no_memory(rt: HostRuntime) -> Result<(), Fail> {
+    let heap = Refusing::after(rt.alloc(), rt.alloc(), 1)?;
+    let mut queue = QueueCore::with_policy(heap.clone()?, Some(2), QueuePolicy::DropOldest)?;
+    for text in ['A', 'B', 'C'] {
+        assert!(rt; queue.submit(text).is_ok());
+    }
+    assert!(rt; matches!(queue.submit_with(|| Err(AllocError)), Err(SinkError::OutOfMemory)));
+    assert_eq!(rt; (queue.get(0), queue.get(1)), (Some(&'B'), Some(&'C')));
+    assert_eq!(rt; (queue.submitted(), queue.dropped(), heap.left()), (3, 1, 0));
+    Ok(())
+}
+
+#[test]
+fn capacity_0_drops_none(rt: HostRuntime) -> Result<(), Fail> {
+    let mut queue = QueueCore::with_policy(rt.alloc(), Some(0), QueuePolicy::DropOldest)?;
+    assert!(rt; matches!(queue.submit('A'), Err((SinkError::ChannelFull, 'A'))));
+    assert_eq!(rt; (queue.submitted(), queue.dropped()), (0, 0));
     Ok(())
 }
 

@@ -1,4 +1,5 @@
 use cadence_errors::{MetricError, SinkError};
+use cadence_flow::queue::QueuePolicy;
 use cadence_flow::stats::SinkStats;
 use cadence_sinks::{
     BufferedSpyMetricSink, MetricSink, NopMetricSink, QueuingMetricSink, QueuingMetricSinkBuilder,
@@ -122,6 +123,48 @@ fn caller_does_not_wait_for_the_sink(rt: HostRuntime) -> Result<(), Fail> {
     let second = passed.try_recv().ok_or("nothing")?;
     assert_eq!(rt; first.as_slice(), b"first:1|c".as_slice());
     assert_eq!(rt; second.as_slice(), b"second:1|c".as_slice());
+    Ok(())
+}
+
+#[test]
+fn newest_lines_win(rt: HostRuntime) -> Result<(), Fail> {
+    let gate = Gate {
+        open: AtomicBool::new(false),
+        flushed: AtomicBool::new(false),
+    };
+    let gate = Arc::new(rt.alloc(), gate)?;
+    let (coming, comes) = SpyMetricSink::new(rt.clone()?, rt.alloc())?;
+    let (passed, passes) = SpyMetricSink::new(rt.clone()?, rt.alloc())?;
+    let gated = Gated {
+        gate: gate.clone()?,
+        comes,
+        passes,
+    };
+    let faults = Arc::new(rt.alloc(), AtomicU64::new(0))?;
+    let counted = faults.clone()?;
+    let heap = Refusing::after(rt.alloc(), rt.alloc(), 1000)?;
+    let handler = Box::new(heap.clone()?, move |_fault| {
+        counted.fetch_add(1, Ordering::SeqCst);
+    })?;
+    let sink = QueuingMetricSinkBuilder::new()
+        .with_capacity(1)
+        .with_policy(QueuePolicy::DropOldest)
+        .with_error_handler(handler)
+        .build(rt.clone()?, heap.clone()?, gated)?;
+    assert!(rt; matches!(sink.emit("first:1|c"), Ok(9)));
+    assert!(rt; coming.recv().is_some());
+    assert!(rt; matches!(sink.emit("second:1|c"), Ok(10)));
+    let left = heap.left();
+    assert!(rt; matches!(sink.emit("third:1|c"), Ok(9)));
+    assert_eq!(rt; heap.left().wrapping_add(1), left);
+    gate.open.store(true, Ordering::SeqCst);
+    sink.stop_and_wait();
+    assert_eq!(rt; (sink.submitted(), sink.dropped(), sink.drained()), (3, 1, 2));
+    let first = passed.try_recv().ok_or("nothing")?;
+    let last = passed.try_recv().ok_or("nothing")?;
+    assert_eq!(rt; first.as_slice(), b"first:1|c".as_slice());
+    assert_eq!(rt; last.as_slice(), b"third:1|c".as_slice());
+    assert_eq!(rt; faults.load(Ordering::SeqCst), 0);
     Ok(())
 }
 

@@ -29,10 +29,11 @@ loop-step-preserved g c =
       same_kind = call.turn.same_kind ∙ before.same_kind;
       same_format = call.turn.same_format ∙ before.same_format;
       same_queue = call.turn.same_queue ∙ before.same_queue;
-      runs = runs_push (line_of_data c.args.settings.now) (g.P.PacketWriter.kind first.packer.writer) first.packer.format first.queue.capacity
+      same_policy = call.turn.same_policy ∙ before.same_policy;
+      runs = runs_push (line_of_data c.args.settings.now) (g.P.PacketWriter.kind first.packer.writer) first.packer.format first.queue.capacity first.queue.policy
           (state_of g.P.PacketWriter.history first) (state_of g.P.PacketWriter.history c.loop-step.running) (state_of g.P.PacketWriter.history c.step-reply.new.self)
           (take i steps) (take (i + 1) steps) replies c.push.new.self.items one answer short more c.in-Ok.ensures.items before.runs
-          (moves_along (line_of_data c.args.settings.now) _ _ _ _ _ _ _ _ _ before.same_kind before.same_format before.same_queue call.turn.moves);
+          (moves_along (line_of_data c.args.settings.now) _ _ _ _ _ _ _ _ _ _ _ before.same_kind before.same_format before.same_queue before.same_policy call.turn.moves);
       said = accepted_push IsSaid (metric_of_data c.args.settings.now) (take i steps) (take (i + 1) steps) replies c.push.new.self.items one answer short more c.in-Ok.ensures.items before.said call.said;
     }
 

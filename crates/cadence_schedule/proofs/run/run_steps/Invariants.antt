@@ -18,6 +18,7 @@ invariant-loop-step g l =
       same_kind : g.P.PacketWriter.kind l.running.packer.writer ≡ g.P.PacketWriter.kind first.packer.writer;
       same_format : l.running.packer.format ≡ first.packer.format;
       same_queue : l.running.queue.capacity ≡ first.queue.capacity;
-      runs : Runs (line_of_data l.settings) (g.P.PacketWriter.kind first.packer.writer) first.packer.format first.queue.capacity (state_of g.P.PacketWriter.history first) (zip (take l.step-index l.steps) l.replies.items) (state_of g.P.PacketWriter.history l.running);
+      same_policy : l.running.queue.policy ≡ first.queue.policy;
+      runs : Runs (line_of_data l.settings) (g.P.PacketWriter.kind first.packer.writer) first.packer.format first.queue.capacity first.queue.policy (state_of g.P.PacketWriter.history first) (zip (take l.step-index l.steps) l.replies.items) (state_of g.P.PacketWriter.history l.running);
       said : All IsSaid (accepted (metric_of_data l.settings) (zip (take l.step-index l.steps) l.replies.items));
     }

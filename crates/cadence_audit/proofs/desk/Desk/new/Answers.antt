@@ -8,6 +8,7 @@ invariant_of-result g c = record {
   order = rw c.new-2.ensures.items refl;
   past = rw c.new-2.ensures.items c.in_ok-new.ensures.past;
   bound = search rules;
+  refuses = search rules;
   stop = search rules;
   counted = rw c.new-2.ensures.items (zeros_index _ _ (c.in_ok-vec.ensures.items_if_clones_equal (λ y same. same)));
 }

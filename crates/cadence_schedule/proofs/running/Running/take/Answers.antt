@@ -14,11 +14,12 @@ returns-in-Text g c = λ line_of.
     record {
       moves = (
         ap (option_map string_bytes) none,
-        (string_bytes c.in-Text.line, map string_bytes c.take.new.self.waiting, ap (map string_bytes) queues.0, omega arith, (λ i. record (state_of g.P.PacketWriter.history c.args.self.now) { waiting = map string_bytes c.take.new.self.waiting; drained = (queues.1 i).drained; stopped = (queues.1 i).stopped; submitted = (queues.1 i).submitted; hand = Some (string_bytes c.in-Text.line) })),
+        (string_bytes c.in-Text.line, map string_bytes c.take.new.self.waiting, ap (map string_bytes) queues.0, omega arith, (λ i. record (state_of g.P.PacketWriter.history c.args.self.now) { waiting = map string_bytes c.take.new.self.waiting; drained = (queues.1 i).drained; stopped = (queues.1 i).stopped; submitted = (queues.1 i).submitted; dropped = (queues.1 i).dropped; hand = Some (string_bytes c.in-Text.line) })),
       );
       same_kind = refl;
       same_format = refl;
       same_queue = ap (λ k. k.capacity) queues.1;
+      same_policy = ap (λ k. k.policy) queues.1;
       plan_length = omega arith;
       plan_room = omega arith;
     }
