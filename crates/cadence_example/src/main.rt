@@ -5,17 +5,17 @@ mod datagrams;
 mod metrics;
 mod report;
 
-use anyhow::Result;
 use cadence::sinks::Target;
-use cadence::types::MetricError;
-use cadence::{BufferedUdpMetricSink, MetricSink, QueuingMetricSink, StatsdClient};
+use cadence::{
+    BufferedUdpMetricSink, MetricError, MetricResult, MetricSink, QueuingMetricSink, StatsdClient,
+};
 use std::sync::Arc;
 use std::sync::atomic::{AtomicU64, Ordering};
 
 /// How much a datagram holds, in bytes.
 const CAPACITY: usize = 128;
 
-fn main(rt: HostRuntime) -> Result<()> {
+fn main(rt: HostRuntime) -> MetricResult<()> {
     let alloc = rt.alloc();
     let server = datagrams::on_loopback(&rt)?;
     let target = Target::Addr(server.local_addr()?);

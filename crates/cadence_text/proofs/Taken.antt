@@ -1,8 +1,10 @@
 -- What a sink has taken.
-use Rattle.std.proofs.Common.{◌≡◌, ℕ, ◌+◌, ◌%◌, ◌^◌, ◌<◌, Bool, true, false, ltb, List, [], ◌++◌, length, replicate, sym, ap, ◌∙◌, arith}
+use Rattle.std.proofs.Common.{◌≡◌, ℕ, ◌+◌, ◌%◌, ◌^◌, ◌<◌, Bool, true, false, ltb, List, [], ◌∷◌, ◌++◌, subst, length, replicate, sym, ap, ◌∙◌, arith}
 use Rattle.std.proofs.lemmas.List.{append-nil, length-append, length-replicate}
 use Rattle.std.proofs.lemmas.Bool.{cond-false, le-ltb}
-use Rattle.std.specs.Prelude.{if◌then◌else◌}
+use Rattle.std.specs.Prelude.{if◌then◌else◌, IsUtf8}
+use Rattle.std.proofs.lemmas.Str.{IsUtf8-append, IsUtf8-from_ascii, IsUtf8-had}
+use Rattle.std.proofs.lemmas.Str.Ascii.{IsAscii-cons, IsAscii-nil}
 use Rattle.cadence_text.specs.Sink.{up_to}
 
 -- a counter that began at 0, and that a text was added to
@@ -20,3 +22,10 @@ filled_whole before after old new text some none end e =
     let whole : old ++ (text ++ []) ≡ text = ap (λ o. o ++ (text ++ [])) none ∙ append-nil text in
     let within : up_to before text ≡ text = cond-false (ltb before (length text)) [] text (le-ltb before (length text) (omega arith)) in
     sym (append-nil new) ∙ kept (ltb after (length (new ++ []))) (new ++ []) text some (e ∙ ap (up_to before) whole ∙ within)
+
+-- what is in UTF-8 stays so with more text, and with one more ASCII byte
+pub utf8_more : (old more new : List ℕ) → ∥ IsUtf8 old ∥₁ → IsUtf8 more → new ≡ old ++ more → ∥ IsUtf8 new ∥₁
+utf8_more old more new h k e = ∣ subst IsUtf8 (sym e) (IsUtf8-append old more (IsUtf8-had old h) k) ∣₁
+
+pub utf8_byte : (byte : ℕ) → byte < 128 → IsUtf8 (byte ∷ [])
+utf8_byte byte h = IsUtf8-from_ascii (byte ∷ []) (IsAscii-cons byte [] h IsAscii-nil)

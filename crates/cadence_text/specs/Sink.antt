@@ -1,5 +1,5 @@
 -- What takes the pieces of a line.
-use Rattle.std.specs.Prelude.{◌≡◌, ℕ, ◌+◌, ◌-◌, ◌%◌, ◌^◌, nat_lt, if◌then◌else◌, List, [], ◌++◌, length, take, drop, replicate, string_bytes}
+use Rattle.std.specs.Prelude.{◌≡◌, ℕ, ◌+◌, ◌-◌, ◌%◌, ◌^◌, nat_lt, if◌then◌else◌, List, [], ◌++◌, length, take, drop, replicate}
 use Rattle.cadence_text.specs.declared.line.counter.Counter.{Counter}
 use Rattle.cadence_text.specs.declared.line.filled.Filled.{Filled}
 use Rattle.cadence_text.specs.declared.line.window.Window.{Window}
@@ -22,7 +22,7 @@ up_to end text = if nat_lt end (length text) then [] else text
 
 -- a line in room of a fixed length ends with all that came, where it has this length at the most, and else with nothing
 abbrev pub filled_ends : {Z : Type 0} → Filled Z → List ℕ → List ℕ
-filled_ends f rest = up_to f.end (string_bytes f.text ++ rest)
+filled_ends f rest = up_to f.end (f.bytes.items ++ rest)
 
 -- a counter knows no text, but how many bytes it is, modulo 2 to the 128
 abbrev pub counted_ends : Counter → List ℕ → List ℕ

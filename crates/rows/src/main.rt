@@ -9,10 +9,9 @@
 mod plans;
 mod scripts;
 
-use anyhow::Result;
-use std::fs;
+use std::{fs, io};
 
-fn main(rt: HostRuntime) -> Result<()> {
+fn main(rt: HostRuntime) -> io::Result<()> {
     for name in fs::read_to_string(&rt, "index")?.lines() {
         let difference = scripts::row_difference(&rt, name)?;
         println!(rt; "{name} {difference}")?;

@@ -1,5 +1,4 @@
 //! A script, and what it has to give.
-use anyhow::{Result, anyhow};
 use cadence_console::push_bytes;
 use cadence_script::run_script;
 use std::alloc::{AllocError, Global};
@@ -42,28 +41,26 @@ fn outcome_of(alloc: Global, script: &[u8]) -> Outcome {
 }
 
 // The file of a row with this ending, where there is one.
-fn file_of<R: Files + AllocGlobal>(rt: &R, name: &str, ending: &str) -> Result<Option<Vec<u8>>> {
+fn file_of<R: Files + AllocGlobal>(rt: &R, name: &str, ending: &str) -> io::Result<Option<Vec<u8>>> {
     let path = format!(in rt.alloc(); "{name}.{ending}")?;
     match fs::read(rt, &path) {
         Ok(bytes) => Ok(Some(bytes)),
         Err(error) if error.kind() == ErrorKind::NotFound => Ok(None),
-        Err(error) => Err(error.into()),
+        Err(error) => Err(error),
     }
 }
 
 // The status that a file holds, and 0 where there is none.
-fn status_of(file: Option<Vec<u8>>) -> Result<u8> {
+fn status_of(file: Option<Vec<u8>>) -> Result<u8, ErrorKind> {
     let Some(bytes) = file else {
         return Ok(0);
     };
-    match str::from_utf8(&bytes) {
-        Ok(text) => Ok(text.trim().parse()?),
-        Err(_) => Err(anyhow!("a status is no text")),
-    }
+    let text = str::from_utf8(&bytes).map_err(|_| ErrorKind::InvalidData)?;
+    text.trim().parse().map_err(|_| ErrorKind::InvalidData)
 }
 
 /// Runs the row of this name: `ok`, or what is not as its files want it.
-pub fn row_difference<R: Files + AllocGlobal>(rt: &R, name: &str) -> Result<&'static str> {
+pub fn row_difference<R: Files + AllocGlobal>(rt: &R, name: &str) -> io::Result<&'static str> {
     let none = || Vec::new(rt.alloc());
     let wanted = Outcome {
         output: file_of(rt, name, "out")?.unwrap_or_else(none),

@@ -45,8 +45,8 @@ impl LineSink for Counter {
     }
 
     #[inline(always)]
-    fn take_char(&mut self, piece: char) {
-        self.add(piece.len_utf8());
+    fn take_byte(&mut self, _byte: u8) {
+        self.add(1);
     }
 
     #[inline]

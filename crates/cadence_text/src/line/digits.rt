@@ -3,20 +3,20 @@ ghost use Rattle.std.specs.Prelude.{◌≡◌, ◌+◌, ◌/◌, ◌%◌, ◌<�
 ghost use Rattle.cadence_text.specs.Number.{decimal_text};
 ghost use Rattle.cadence_text.specs.Sink.{Takes};
 
-use crate::line::sink::CharSink;
+use crate::line::sink::ByteSink;
 
 // One digit.
 #[inline(always)]
-fn push_digit<S: CharSink>(line: &mut S, digit: u64)
+fn push_digit<S: ByteSink>(line: &mut S, digit: u64)
     requires { digit < 10 }
     ensures { Takes S.ends_as line.old ((48 + digit) ∷ []) line.new }
 {
-    line.put_char(char::from(b'0' + digit as u8));
+    line.put_byte(b'0' + digit as u8);
 }
 
 // Two digits, the first of which may be 0.
 #[inline(always)]
-fn push_pair<S: CharSink>(line: &mut S, pair: u64)
+fn push_pair<S: ByteSink>(line: &mut S, pair: u64)
     requires { pair < 100 }
     ensures { Takes S.ends_as line.old ((48 + pair / 10) ∷ (48 + pair % 10) ∷ []) line.new }
 {
@@ -26,7 +26,7 @@ fn push_pair<S: CharSink>(line: &mut S, pair: u64)
 
 // One digit or two.
 #[inline(always)]
-fn push_first<S: CharSink>(line: &mut S, number: u64)
+fn push_first<S: ByteSink>(line: &mut S, number: u64)
     requires { number < 100 }
     ensures { Takes S.ends_as line.old (decimal_text number) line.new }
 {
@@ -36,25 +36,45 @@ fn push_first<S: CharSink>(line: &mut S, number: u64)
     push_pair(line, number);
 }
 
-/// The digits of a number, without leading zeros.
-#[inline]
-pub(crate) fn push_number<S: CharSink>(line: &mut S, number: u64)
+// Up to four digits.
+#[inline(always)]
+fn push_short<S: ByteSink>(line: &mut S, number: u64)
+    requires { number < 10000 }
     ensures { Takes S.ends_as line.old (decimal_text number) line.new }
 {
-    if number >= 10_000 {
-        push_number(line, number / 10_000);
-        push_pair(line, number % 10_000 / 100);
-        return push_pair(line, number % 100);
+    if number < 100 {
+        return push_first(line, number);
     }
-    if number >= 100 {
-        push_first(line, number / 100);
-        return push_pair(line, number % 100);
+    push_first(line, number / 100);
+    push_pair(line, number % 100);
+}
+
+// Any number of digits.
+#[inline(never)]
+fn push_long<S: ByteSink>(line: &mut S, number: u64)
+    ensures { Takes S.ends_as line.old (decimal_text number) line.new }
+{
+    if number < 10_000 {
+        return push_short(line, number);
     }
-    push_first(line, number);
+    push_long(line, number / 10_000);
+    push_pair(line, number % 10_000 / 100);
+    push_pair(line, number % 100);
+}
+
+/// The digits of a number, without leading zeros.
+#[inline]
+pub(crate) fn push_number<S: ByteSink>(line: &mut S, number: u64)
+    ensures { Takes S.ends_as line.old (decimal_text number) line.new }
+{
+    if number < 10_000 {
+        return push_short(line, number);
+    }
+    push_long(line, number);
 }
 
 /// The same of 128 bits.
-pub(crate) fn push_wide<S: CharSink>(line: &mut S, number: u128)
+pub(crate) fn push_wide<S: ByteSink>(line: &mut S, number: u128)
     ensures { Takes S.ends_as line.old (decimal_text number) line.new }
 {
     if let Ok(small) = u64::try_from(number) {

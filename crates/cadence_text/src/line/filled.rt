@@ -1,61 +1,63 @@
 //! A line in room of its length.
-ghost use Rattle.std.specs.Prelude.{◌≡◌, ◌≤◌, [], IfOk, string_bytes};
-ghost use Rattle.std.specs.String.{string_capacity};
+ghost use Rattle.std.specs.Prelude.{◌≡◌, ◌≤◌, [], IfOk, IsUtf8, string_bytes};
+ghost use Rattle.std.specs.Vec.{vec_capacity, vec_len};
 
 use crate::line::digits::{push_number, push_wide};
-use crate::line::sink::{CharSink, LineSink};
+use crate::line::sink::{ByteSink, LineSink};
 use std::alloc::{AllocError, Allocator};
 
 /// A line, in room that was reserved once. What is longer than its end is no line of this room: nothing is kept of it.
 #[derive(Drop)]
 pub(crate) struct Filled<A: Allocator> {
-    text: String<A>,
+    bytes: Vec<u8, A>,
     end: usize,
-    ghost within: { end ≤ string_capacity text },
+    ghost utf8: { ∥ IsUtf8 bytes.items ∥₁ },
+    ghost ahead: { vec_len bytes ≤ end },
+    ghost within: { end ≤ vec_capacity bytes },
 }
 
 impl<A: Allocator> Filled<A> {
     /// Room of this length, by one request for just so much.
     #[inline]
     pub(crate) fn with_room(alloc: A, length: usize) -> Result<Filled<A>, AllocError>
-        ensures empty { IfOk result (λ f. string_bytes f.text ≡ []) }
+        ensures empty { IfOk result (λ f. f.bytes.items ≡ []) }
         ensures end { IfOk result (λ f. f.end ≡ length) }
-        ensures exact { IfOk result (λ f. string_capacity f.text ≡ length) }
+        ensures exact { IfOk result (λ f. vec_capacity f.bytes ≡ length) }
     {
-        let text = String::with_capacity(alloc, length)?;
-        Ok(Filled { text, end: length })
+        let bytes = Vec::with_capacity(alloc, length)?;
+        Ok(Filled { bytes, end: length })
     }
 
     #[inline]
     pub(crate) fn into_text(self) -> String<A>
-        ensures { result ≡ self.text }
+        ensures { string_bytes result ≡ self.bytes.items }
     {
-        self.text
+        unsafe { String::from_utf8_unchecked(self.bytes) }
     }
 
     // Keeps nothing, and will keep nothing.
+    #[cold]
+    #[inline(never)]
     fn give_up(&mut self)
-        ensures text { string_bytes self.new.text ≡ [] }
+        ensures bytes { self.new.bytes.items ≡ [] }
         ensures end { self.new.end ≡ 0 }
     {
-        self.text.clear();
+        self.bytes.clear();
         self.end = 0;
     }
 }
 
-impl<A: Allocator> CharSink for Filled<A> {
+impl<A: Allocator> ByteSink for Filled<A> {
     ghost use Rattle.cadence_text.specs.Sink.{filled_ends};
 
     ghost ends_as = { filled_ends };
 
     #[inline(always)]
-    fn put_char(&mut self, piece: char) {
-        if self.text.len() + piece.len_utf8() > self.end {
+    fn put_byte(&mut self, byte: u8) {
+        if self.bytes.len() >= self.end {
             return self.give_up();
         }
-        let Ok(()) = self.text.push(piece) else {
-            unreachable!()
-        };
+        self.bytes.push_reserved(byte);
     }
 }
 
@@ -66,17 +68,17 @@ impl<A: Allocator> LineSink for Filled<A> {
 
     #[inline]
     fn take_piece(&mut self, piece: &str) {
-        if self.text.len() + piece.len() > self.end {
+        if piece.len() > self.end - self.bytes.len() {
             return self.give_up();
         }
-        let Ok(()) = self.text.push_str(piece) else {
+        let Ok(()) = self.bytes.extend_from_slice(piece.as_bytes()) else {
             unreachable!()
         };
     }
 
     #[inline(always)]
-    fn take_char(&mut self, piece: char) {
-        self.put_char(piece);
+    fn take_byte(&mut self, byte: u8) {
+        self.put_byte(byte);
     }
 
     #[inline]

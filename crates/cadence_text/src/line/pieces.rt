@@ -1,8 +1,8 @@
 //! The pieces of a line, in order.
-ghost use Rattle.std.specs.Prelude.{◌≡◌, ◌++◌, ◌/◌, ◌%◌, ◌^◌, ◌<◌, ◌≤◌, ◌==◌, if◌then◌else◌, ℕ, [], IfSome, codes, map, replicate, length};
+ghost use Rattle.std.specs.Prelude.{◌≡◌, ◌++◌, ◌/◌, ◌%◌, ◌^◌, ◌<◌, ◌≤◌, ◌-◌, IfSome, codes, map, replicate};
 ghost use Rattle.std.specs.Option.{option_copied};
 ghost use Rattle.cadence_text.specs.Line.{container_field, kind_text, numbers_text, rate_field, tag_text, tags_field, time_field};
-ghost use Rattle.cadence_text.specs.Number.{Number, decimal_text, filled_to, number_text, places_text};
+ghost use Rattle.cadence_text.specs.Number.{Number, decimal_text, number_text, places_text};
 ghost use Rattle.cadence_text.specs.Values.{numbers_of};
 ghost use Rattle.cadence_text.specs.Record.{tag_of};
 ghost use Rattle.cadence_text.specs.RecordMetric.{AreRecordNumbers, AreRecordTags, FitsMemory, IsRecordTag, IsRecordTime};
@@ -17,18 +17,23 @@ use crate::line::tag::Tag;
 use crate::value::MetricValue;
 use std::alloc::Allocator;
 
-// The bar and the type text, as one piece.
-pub(crate) fn kind_end(kind: MetricType) -> &'static str
-    ensures { result.now ≡ codes "|" ++ kind_text kind }
+// The bar and the type text.
+#[inline(always)]
+pub(crate) fn push_kind<S: LineSink>(line: &mut S, kind: MetricType)
+    ensures { Takes S.ends_as line.old (codes "|" ++ kind_text kind) line.new }
 {
+    line.take_byte(b'|');
     match kind {
-        MetricType::Counter => "|c",
-        MetricType::Timer => "|ms",
-        MetricType::Gauge => "|g",
-        MetricType::Meter => "|m",
-        MetricType::Histogram => "|h",
-        MetricType::Set => "|s",
-        MetricType::Distribution => "|d",
+        MetricType::Counter => line.take_byte(b'c'),
+        MetricType::Timer => {
+            line.take_byte(b'm');
+            line.take_byte(b's');
+        }
+        MetricType::Gauge => line.take_byte(b'g'),
+        MetricType::Meter => line.take_byte(b'm'),
+        MetricType::Histogram => line.take_byte(b'h'),
+        MetricType::Set => line.take_byte(b's'),
+        MetricType::Distribution => line.take_byte(b'd'),
     }
 }
 
@@ -39,7 +44,7 @@ fn push_tag<S: LineSink>(line: &mut S, tag: &Tag<'_>)
 {
     if let Some(key) = tag.key {
         line.take_piece(key);
-        line.take_char(':');
+        line.take_byte(b':');
     }
     line.take_piece(tag.text);
 }
@@ -51,11 +56,11 @@ pub(crate) fn push_tags<S: LineSink>(line: &mut S, tags: &[Tag<'_>])
     let Some((first, others)) = tags.split_first() else {
         return;
     };
-    line.take_char('|');
-    line.take_char('#');
+    line.take_byte(b'|');
+    line.take_byte(b'#');
     push_tag(line, first);
     for tag in others {
-        line.take_char(',');
+        line.take_byte(b',');
         push_tag(line, tag);
     }
 }
@@ -66,7 +71,9 @@ pub(crate) fn push_container<S: LineSink>(line: &mut S, container: Option<&str>)
     ensures sized { IfSome (option_copied container.entry) FitsMemory }
 {
     if let Some(container) = container {
-        line.take_piece("|c:");
+        line.take_byte(b'|');
+        line.take_byte(b'c');
+        line.take_byte(b':');
         line.take_piece(container);
     }
 }
@@ -76,7 +83,8 @@ pub(crate) fn push_time<S: LineSink>(line: &mut S, time: Option<u64>)
     ensures sized { IsRecordTime time }
 {
     if let Some(time) = time {
-        line.take_piece("|T");
+        line.take_byte(b'|');
+        line.take_byte(b'T');
         line.take_number(time);
     }
 }
@@ -99,7 +107,7 @@ impl Printed for i64 {
     #[tactic(auto, using(crate::proofs::Values::whole_text))]
     fn push_to<S: LineSink>(&self, line: &mut S) {
         if *self < 0 {
-            line.take_char('-');
+            line.take_byte(b'-');
         }
         line.take_number(self.unsigned_abs());
     }
@@ -122,46 +130,9 @@ impl Printed for Decimal {
 
     fn push_to<S: LineSink>(&self, line: &mut S) {
         if self.mantissa() < 0 {
-            line.take_char('-');
+            line.take_byte(b'-');
         }
         push_magnitude(line, self.mantissa().unsigned_abs(), self.places());
-    }
-}
-
-// The digits of a whole number, and how many they are, for 64 and 128 bits.
-trait Digits: Copy {
-    ghost value: { Self → ℕ };
-
-    fn push_digits<S: LineSink>(self, line: &mut S)
-        ensures { Takes S.ends_as line.old (decimal_text (value self)) line.new };
-
-    fn digits_len(self) -> usize
-        ensures { result ≡ length (decimal_text (value self)) };
-}
-
-impl Digits for u64 {
-    ghost value = { λ n. n };
-
-    #[inline]
-    fn push_digits<S: LineSink>(self, line: &mut S) {
-        line.take_number(self);
-    }
-
-    #[inline]
-    fn digits_len(self) -> usize {
-        number_len(self)
-    }
-}
-
-impl Digits for u128 {
-    ghost value = { λ n. n };
-
-    fn push_digits<S: LineSink>(self, line: &mut S) {
-        line.take_wide(self);
-    }
-
-    fn digits_len(self) -> usize {
-        wide_len(self)
     }
 }
 
@@ -181,38 +152,40 @@ fn push_magnitude<S: LineSink>(line: &mut S, magnitude: u128, places: u8)
 {
     if places <= 19 {
         if let Ok(small) = u64::try_from(magnitude) {
-            let scale = power_of_ten(places);
-            return push_parts(line, small / scale, small % scale, places);
+            return push_small(line, small, places);
         }
     }
     let scale = crate::decimal::power_of_ten(places);
-    push_parts(line, magnitude / scale, magnitude % scale, places);
-}
-
-// A whole number, and where there are places a dot and so many digits.
-fn push_parts<S: LineSink, D: Digits>(line: &mut S, whole: D, fraction: D, places: u8)
-    ensures { Takes S.ends_as line.old
-        (decimal_text (D.value whole) ++ (if places == 0 then []
-        else codes "." ++ filled_to places (decimal_text (D.value fraction))))
-        line.new }
-{
-    whole.push_digits(line);
-    if places == 0 {
-        return;
+    line.take_wide(magnitude / scale);
+    if places > 0 {
+        let fraction = magnitude % scale;
+        push_dot(line, places, wide_len(fraction));
+        line.take_wide(fraction);
     }
-    line.take_char('.');
-    push_zeros(
-        line,
-        usize::from(places).saturating_sub(fraction.digits_len()),
-    );
-    fraction.push_digits(line);
 }
 
-fn push_zeros<S: LineSink>(line: &mut S, count: usize)
-    ensures { Takes S.ends_as line.old (replicate count 48) line.new }
+// The same of 64 bits.
+fn push_small<S: LineSink>(line: &mut S, magnitude: u64, places: u8)
+    requires { places ≤ 19 }
+    ensures { Takes S.ends_as line.old
+        (decimal_text (magnitude / 10 ^ places) ++ places_text magnitude places) line.new }
 {
-    for _i in 0..count {
-        line.take_char('0');
+    let scale = power_of_ten(places);
+    line.take_number(magnitude / scale);
+    if places > 0 {
+        let fraction = magnitude % scale;
+        push_dot(line, places, number_len(fraction));
+        line.take_number(fraction);
+    }
+}
+
+// A dot, and as many zeros as this many digits lack to so many places.
+fn push_dot<S: LineSink>(line: &mut S, places: u8, digits: usize)
+    ensures { Takes S.ends_as line.old (codes "." ++ replicate (places - digits) 48) line.new }
+{
+    line.take_byte(b'.');
+    for _i in 0..usize::from(places).saturating_sub(digits) {
+        line.take_byte(b'0');
     }
 }
 
@@ -225,7 +198,7 @@ fn push_list<S: LineSink, T: Printed>(line: &mut S, numbers: &[T])
     };
     first.push_to(line);
     for number in others {
-        line.take_char(':');
+        line.take_byte(b':');
         number.push_to(line);
     }
 }
@@ -251,7 +224,8 @@ pub(crate) fn push_rate<S: LineSink>(line: &mut S, rate: Option<Decimal>)
     ensures sized { IfSome rate IsDecimal }
 {
     if let Some(rate) = rate {
-        line.take_piece("|@");
+        line.take_byte(b'|');
+        line.take_byte(b'@');
         rate.push_to(line);
     }
 }

@@ -6,7 +6,7 @@ use crate::decimal::Decimal;
 use crate::line::MetricType;
 use crate::line::counter::Counter;
 use crate::line::filled::Filled;
-use crate::line::pieces::{kind_end, push_container, push_rate, push_tags, push_time, push_value};
+use crate::line::pieces::{push_container, push_kind, push_rate, push_tags, push_time, push_value};
 use crate::line::sink::LineSink;
 use crate::line::tag::Tag;
 use crate::value::MetricValue;
@@ -44,7 +44,8 @@ impl<'a, A: Allocator> Model for Record<'a, A> {
 impl<'a, A: Allocator> Record<'a, A> {
     ghost use Rattle.std.specs.Prelude.{◌≡◌, ◌++◌, ◌<◌, ◌^◌, [], Some, SomeIff, OnOk, OnErr, IfOk, IfErr, length, map};
     ghost use Rattle.std.specs.Option.{option_copied};
-    ghost use Rattle.std.specs.String.{string_bytes, string_capacity};
+    ghost use Rattle.std.specs.String.{string_bytes};
+    ghost use Rattle.std.specs.Vec.{vec_capacity};
     ghost use Rattle.cadence_errors.specs.Errors.{out_of_memory};
     ghost use Rattle.cadence_text.specs.Line.{line_of};
     ghost use Rattle.cadence_text.specs.Metric.{Metric, plain_metric, with_tag};
@@ -138,9 +139,9 @@ impl<'a, A: Allocator> Record<'a, A> {
     {
         line.take_piece(self.prefix);
         line.take_piece(self.key);
-        line.take_char(':');
+        line.take_byte(b':');
         push_value(line, &self.value);
-        line.take_piece(kind_end(self.kind));
+        push_kind(line, self.kind);
         push_rate(line, self.rate);
         push_tags(line, &self.tags);
         push_container(line, self.container);
@@ -150,6 +151,7 @@ impl<'a, A: Allocator> Record<'a, A> {
     /// The length of the line in bytes, without making it. Takes no memory.
     ///
     /// It is `None` exactly where the length passes `usize::MAX`.
+    #[inline(always)]
     pub fn line_len(&self) -> Option<usize>
         ensures { SomeIff result (length (line_of self.now) < 2 ^ 64) (length (line_of self.now)) }
     {
@@ -167,11 +169,11 @@ impl<'a, A: Allocator> Record<'a, A> {
     }
 
     // Room for the line, by one request for just its length.
-    #[inline]
+    #[inline(always)]
     fn reserved<B: Allocator>(&self, alloc: B) -> Result<Filled<B>, AllocError>
-        ensures empty { IfOk result (λ f. string_bytes f.text ≡ []) }
+        ensures empty { IfOk result (λ f. f.bytes.items ≡ []) }
         ensures end { IfOk result (λ f. f.end ≡ length (line_of self.now)) }
-        ensures exact { IfOk result (λ f. string_capacity f.text ≡ length (line_of self.now)) }
+        ensures exact { IfOk result (λ f. vec_capacity f.bytes ≡ length (line_of self.now)) }
     {
         let Some(length) = self.line_len() else {
             return Err(AllocError);

@@ -1,17 +1,17 @@
 //! What takes the pieces of a line.
-ghost use Rattle.std.specs.Prelude.{List, ℕ};
-ghost use Rattle.std.specs.Char.{encode_utf8};
+ghost use Rattle.std.specs.Prelude.{◌<◌, List, ℕ, ◌∷◌, []};
 ghost use Rattle.cadence_text.specs.Number.{decimal_text};
 ghost use Rattle.cadence_text.specs.RecordMetric.{FitsMemory};
 ghost use Rattle.cadence_text.specs.Sink.{Takes};
 
-/// Takes characters, one after the other: what digits are written to.
-pub(crate) trait CharSink {
+/// Takes ASCII bytes, one after the other: what digits are written to.
+pub(crate) trait ByteSink {
     // what it ends with, where this text still comes
     ghost ends_as: { Self → List ℕ → List ℕ };
 
-    fn put_char(&mut self, piece: char)
-        ensures { Takes ends_as self.old (encode_utf8 piece) self.new };
+    fn put_byte(&mut self, byte: u8)
+        requires { byte < 128 }
+        ensures { Takes ends_as self.old (byte ∷ []) self.new };
 }
 
 /// Takes the pieces of a line, one after the other.
@@ -23,8 +23,10 @@ pub(crate) trait LineSink {
         ensures taken { Takes ends_as self.old piece.now self.new }
         ensures sized { FitsMemory piece.now };
 
-    fn take_char(&mut self, piece: char)
-        ensures { Takes ends_as self.old (encode_utf8 piece) self.new };
+    // an ASCII byte
+    fn take_byte(&mut self, byte: u8)
+        requires { byte < 128 }
+        ensures { Takes ends_as self.old (byte ∷ []) self.new };
 
     // the digits of a number of 64 bits, and of 128
     fn take_number(&mut self, number: u64)

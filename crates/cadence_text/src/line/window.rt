@@ -2,7 +2,7 @@
 ghost use Rattle.std.specs.Prelude.{◌≡◌, ◌≤◌, []};
 
 use crate::line::digits::{push_number, push_wide};
-use crate::line::sink::{CharSink, LineSink};
+use crate::line::sink::{ByteSink, LineSink};
 
 /// The most bytes that a window shows.
 pub(crate) const WINDOW: usize = 512;
@@ -62,14 +62,13 @@ impl Window {
     }
 }
 
-impl CharSink for Window {
+impl ByteSink for Window {
     ghost use Rattle.cadence_text.specs.Sink.{window_ends};
 
     ghost ends_as = { window_ends };
 
-    fn put_char(&mut self, piece: char) {
-        let mut bytes = [0; 4];
-        self.pass(piece.encode_utf8(&mut bytes).as_bytes());
+    fn put_byte(&mut self, byte: u8) {
+        self.pass(&[byte]);
     }
 }
 
@@ -82,8 +81,8 @@ impl LineSink for Window {
         self.pass(piece.as_bytes());
     }
 
-    fn take_char(&mut self, piece: char) {
-        self.put_char(piece);
+    fn take_byte(&mut self, byte: u8) {
+        self.put_byte(byte);
     }
 
     fn take_number(&mut self, number: u64) {

@@ -1,4 +1,4 @@
-use Rattle.std.proofs.Common.{◌∙◌, [], ap, string_bytes}
+use Rattle.std.proofs.Common.{◌∙◌, []}
 use Rattle.cadence_text.specs.Line.{line_of}
 use Rattle.cadence_text.proofs.LineText.{line_is_not_empty}
 use Rattle.cadence_text.proofs.Taken.{filled_whole}
@@ -8,5 +8,5 @@ pub returns-clause-line : goal.returns-clause-line
 returns-clause-line g c =
     let begun = c.in_ok-line.line in
     let ended = c.push_line.new.line in
-    ap (λ t. string_bytes t) c.into_text.ensures
-    ∙ filled_whole begun.end ended.end (string_bytes begun.text) (string_bytes ended.text) (line_of c.args.self.now) (line_is_not_empty c.args.self.now) c.in_ok-line.ensures.empty c.in_ok-line.ensures.end (c.push_line.ensures.taken [])
+    c.into_text.ensures
+    ∙ filled_whole begun.end ended.end begun.bytes.items ended.bytes.items (line_of c.args.self.now) (line_is_not_empty c.args.self.now) c.in_ok-line.ensures.empty c.in_ok-line.ensures.end (c.push_line.ensures.taken [])
