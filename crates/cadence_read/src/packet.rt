@@ -14,6 +14,15 @@ use crate::line::read_line;
 use cadence_text::line::OwnedMetric;
 use std::alloc::Allocator;
 
+/// The most metrics that room is made for before the first of them is read.
+const MOST_ROOM: usize = 1024;
+
+// How many metrics to make room for: as many as there are lines, up to a limit, since a packet may have other lines.
+fn room_for(lines: &[u8]) -> usize {
+    let newlines = lines.iter().filter(|byte| **byte == b'\n').count();
+    newlines.min(MOST_ROOM - 1) + 1
+}
+
 // The metrics of these lines, with a newline between each two.
 fn read_lines<A: Allocator + Clone>(
     alloc: &A,
@@ -22,7 +31,7 @@ fn read_lines<A: Allocator + Clone>(
     ensures { ReadsOrFails (All IsListed) (map line_of)
         (slice_split (λ byte. byte == 10) lines.now) metrics_of result }
 {
-    let mut metrics = Vec::new(alloc.clone()?);
+    let mut metrics = Vec::with_capacity(alloc.clone()?, room_for(lines))?;
     let mut left = Some(lines);
     while let Some(text) = left {
         let (line, others) = cut_piece(text, b'\n');

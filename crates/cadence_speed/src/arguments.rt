@@ -14,6 +14,10 @@ pub enum Mode {
     Histogram4,
     /// Lines into a packer.
     Packer,
+    /// Packets of plain counters that are read.
+    Read,
+    /// Packets of lines with every field that are read.
+    ReadFull,
     /// Lines into a buffered UDP sink.
     Udp,
     /// Lines into a queue.
@@ -29,6 +33,8 @@ impl Mode {
             "count_tags" => Some(Mode::CountTags),
             "histogram4" => Some(Mode::Histogram4),
             "packer" => Some(Mode::Packer),
+            "read" => Some(Mode::Read),
+            "read_full" => Some(Mode::ReadFull),
             "udp" => Some(Mode::Udp),
             "queue" => Some(Mode::Queue),
             "drop" => Some(Mode::Drop),
@@ -44,6 +50,8 @@ impl fmt::Display for Mode {
             Mode::CountTags => "count_tags",
             Mode::Histogram4 => "histogram4",
             Mode::Packer => "packer",
+            Mode::Read => "read",
+            Mode::ReadFull => "read_full",
             Mode::Udp => "udp",
             Mode::Queue => "queue",
             Mode::Drop => "drop",
@@ -58,14 +66,15 @@ pub struct Arguments {
     pub mode: Mode,
     /// How often.
     pub calls: u64,
-    /// The capacity of a packer or of a sink, in bytes, or that of a queue, in lines; a queue of 0 is unbounded.
+    /// The capacity of a packer, of a sink or of a packet that is read, in bytes, or that of a queue, in lines; a queue of 0 is unbounded.
     pub capacity: usize,
     /// The length of a line, in bytes.
     pub length: usize,
 }
 
 /// How to call the program.
-pub const USAGE: &str = "cadence_speed count|count_tags|histogram4|packer|udp|queue|drop N [CAP LEN]";
+pub const USAGE: &str =
+    "cadence_speed count|count_tags|histogram4|packer|read|read_full|udp|queue|drop N [CAP LEN]";
 
 /// The most lines of a run over UDP.
 const MOST_DATAGRAMS: u64 = 200_000;

@@ -6,6 +6,7 @@ mod counting;
 mod done;
 mod lines;
 mod packets;
+mod reading;
 mod sinks;
 
 use anyhow::Result;
@@ -28,6 +29,8 @@ fn main(rt: HostRuntime) -> Result<()> {
         Mode::CountTags => lines::count_tags(&rt, &client, arguments.calls)?,
         Mode::Histogram4 => lines::histogram4(&rt, &client, arguments.calls)?,
         Mode::Packer => packets::packer(&rt, &arguments)?,
+        Mode::Read => reading::counters(&rt, &arguments)?,
+        Mode::ReadFull => reading::full(&rt, &arguments)?,
         Mode::Udp => sinks::udp(&rt, rt.alloc(), &arguments)?,
         Mode::Queue => sinks::queue(&rt, rt.alloc(), &arguments)?,
         Mode::Drop => sinks::dropping(&rt, rt.alloc(), &arguments)?,

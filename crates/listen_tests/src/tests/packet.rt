@@ -19,7 +19,7 @@ const READ: [&str; 10] = [
     "a:0|c|T18446744073709551615",
 ];
 
-const REFUSED: [&str; 20] = [
+const REFUSED: [&str; 19] = [
     "a:01|c",
     "a:-0|c",
     "a:1.50|g",
@@ -29,7 +29,6 @@ const REFUSED: [&str; 20] = [
     "a:1|c|#k:v:w",
     "a:170141183460469231731687303715884105728|g",
     "\n",
-    "a:1|c\nb:2|c",
     "a,b:1|c",
     "a:+1|c",
     "a:1.|g",
@@ -56,7 +55,9 @@ fn each_field_is_read(rt: HostRuntime) -> Result<(), Fail> {
     let alloc = rt.alloc();
     let metric = read_line(&alloc, b"a:1:2.5|ms|@0.5|#k:v,w|c:id|T7")?;
     assert_eq!(rt; metric.name.as_str(), "a");
-    assert!(rt; metric.numbers.as_slice() == [Decimal::new(1, 0)?, Decimal::new(25, 1)?]);
+    assert!(rt;
+        metric.numbers.as_slice() == [Decimal::new(1, 0)?, Decimal::new(25, 1)?].as_slice()
+    );
     assert_eq!(rt; metric.kind, MetricType::Timer);
     assert_eq!(rt; metric.rate, Some(Decimal::new(5, 1)?));
     assert_eq!(rt; metric.tags.len(), 2);
@@ -99,12 +100,13 @@ fn these_are_read(rt: HostRuntime) -> Result<(), Fail> {
 fn these_are_refused(rt: HostRuntime) -> Result<(), Fail> {
     let alloc = rt.alloc();
     for packet in REFUSED {
-        assert!(rt; is_refused(alloc, packet.as_bytes()), packet);
+        assert!(rt; is_refused(alloc, packet.as_bytes()), "{packet}");
         let after = format!(in alloc; "a:1|c\n{packet}\n")?;
-        assert!(rt; is_refused(alloc, after.as_bytes()), packet);
+        assert!(rt; is_refused(alloc, after.as_bytes()), "{packet}");
     }
     for packet in [
-        b"\xff:1|c".as_slice(),
+        b"a:1|c\nb:2|c".as_slice(),
+        b"\xff:1|c",
         b"a:1|c|#\xc3",
         b"a:1|c|#\xc3:w",
         b"a:1|c|c:\x80",

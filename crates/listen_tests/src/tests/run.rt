@@ -36,7 +36,7 @@ fn a_run_gives_its_two_counters(rt: HostRuntime) -> Result<(), Fail> {
     for (metric, number) in metrics.iter().zip([54, 67]) {
         assert_eq!(rt; metric.name.as_str(), "p.foo");
         assert_eq!(rt; metric.kind, MetricType::Counter);
-        assert!(rt; metric.numbers.as_slice() == [Decimal::new(number, 0)?]);
+        assert!(rt; metric.numbers.as_slice() == [Decimal::new(number, 0)?].as_slice());
     }
     Ok(())
 }
