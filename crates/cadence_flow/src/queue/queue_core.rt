@@ -1,5 +1,5 @@
 //! A queue of texts with a stop mark, a capacity and a count of handles, which one thread works with.
-ghost use Rattle.std.specs.Prelude.{◌≡◌, [], length, slice_get, option_copied, IfOk, IfErr, OnOk, OnErr, IsOk, IsTrue, Ok, Err, Some, None, true, false};
+ghost use Rattle.std.specs.Prelude.{◌≡◌, [], length, slice_get, option_copied, IfOk, IfErr, OnOk, OnErr, IsOk, IsTrue, Option, Ok, Err, Some, None, true, false};
 ghost use Rattle.std.specs.declared.alloc.AllocError.{AllocError};
 ghost use Rattle.cadence_errors.specs.Errors.{out_of_memory};
 ghost use Rattle.cadence_flow.specs.QueueRoom.{IsBounded, TakesRoom};
@@ -128,15 +128,15 @@ impl<T: Drop, A: Allocator + Clone> QueueCore<T, A> {
     }
 
     /// Puts last the text that `make` makes. It is called only where the queue would take it, so the refusals of a
-    /// stopped and of a full queue take no memory. The answer and the errors are those of `submit`, `OutOfMemory` also
-    /// where `make` was refused; nothing has changed after an error.
+    /// stopped and of a full queue take no memory. A text that was dropped for it is let go. The errors are those of
+    /// `submit`, `OutOfMemory` also where `make` was refused; nothing has changed after an error.
     pub fn submit_with<F: FnOnce() -> Result<T, AllocError>>(
         &mut self,
         make: F,
-    ) -> Result<Option<T>, SinkError>
+    ) -> Result<(), SinkError>
         requires { F.IsAlwaysCallable make }
-        ensures accepted { IfOk result (λ dropped.
-            (text : T) × F.post make (Ok text) × Accepts self.old text dropped self.new) }
+        ensures accepted { OnOk result ((text : T) × (dropped : Option T)
+            × F.post make (Ok text) × Accepts self.old text dropped self.new) }
         ensures refused { IfErr result (λ e. IsRefusal self.old e × (self.new ≡ self.old)) }
         ensures bounded { IsBounded self.old.capacity → IsTrue (is_open self.old) →
             OnErr result ((error : AllocError) × F.post make (Err error)) }
@@ -146,7 +146,7 @@ impl<T: Drop, A: Allocator + Clone> QueueCore<T, A> {
         }
         let text = make()?;
         match self.push(text) {
-            Ok(dropped) => Ok(dropped),
+            Ok(_) => Ok(()),
             Err(_) => Err(SinkError::OutOfMemory),
         }
     }
@@ -256,7 +256,8 @@ impl<T: Drop, A: Allocator> QueueCore<T, A> {
     pub fn waiting(&self) -> usize
         ensures waiting { result ≡ length self.now.waiting }
         ensures within { IsWithin self.now.capacity self.now.waiting }
-        ensures counted { IsCounted self.now.waiting self.now.submitted self.now.drained self.now.dropped }
+        ensures counted { let q = self.now in
+            IsCounted q.waiting q.submitted q.drained q.dropped }
     {
         self.texts.len()
     }

@@ -66,13 +66,13 @@ impl<T: Drop, A: Allocator + Clone> SharedQueue<T, A> {
     }
 
     /// Puts last the text that `make` makes, and wakes those who wait for one. The lock is taken once, and `make` is
-    /// called under it, only where the queue would take the text. The answer and the errors are those of
-    /// `QueueCore::submit_with`; the queue has not changed after an error.
+    /// called under it, only where the queue would take the text. A text that was dropped for it is let go. The
+    /// errors are those of `QueueCore::submit_with`; the queue has not changed after an error.
     pub fn submit_with<F: FnOnce() -> Result<T, AllocError>>(
         &self,
         rt: &impl Wait,
         make: F,
-    ) -> Result<Option<T>, SinkError>
+    ) -> Result<(), SinkError>
         requires { F.IsAlwaysCallable make }
         ensures { IfErr result IsQueueRefusal }
     {
