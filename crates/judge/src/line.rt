@@ -49,8 +49,8 @@ fn push_numbers(out: &mut String, kind: &str, value: &str) -> Result<bool, Alloc
         }
         is_first = false;
         match form {
+            _ if item.is_empty() => {}
             "x" | "X" => push_decimal(out, item)?,
-            "t" | "T" if item.is_empty() => {}
             "t" | "T" => match duration_of(kind, item) {
                 Some(count) => write!(out, "{count}")?,
                 None => return Ok(false),

@@ -27,28 +27,100 @@ impl Chance {
     }
 }
 
-const TEXTS: &[&'static str] = &["\\e", "a", "some.key", "k\\n", "a|b", "x\\sy", "p..", "#,:|@", "\\\\", "\u{e9}"];
+const LONG_TEXT: &str =
+    "a text that is longer than the others, so that a line of it passes each capacity";
+
+const TEXTS: &[&'static str] = &[
+    "\\e",
+    "a",
+    "some.key",
+    "k\\n",
+    "a|b",
+    "x\\sy",
+    "p..",
+    "#,:|@",
+    "\\\\",
+    "\u{e9}",
+    "\t\r\u{7f}",
+    LONG_TEXT,
+];
 
 const VALUES: &[&'static str] = &[
-    "c i:0", "c i:-9223372036854775808", "c u:18446744073709551615", "s i:-12", "s i:7", "ms u:5", "ms U:1,2,3",
-    "ms U:", "ms t:1/500000", "ms T:0/999999,18446744073709551/0", "ms t:18446744073709552/0", "g u:8", "g x:-50/2",
-    "g x:-170141183460469231731687303715884105728/30", "m u:9", "h u:1", "h U:4,5", "h x:1/30", "h X:5/1,-5/1,0/3",
-    "h t:0/10", "h T:18446744073/709551615,18446744073/709551616", "d u:3", "d U:6", "d x:120/1", "d X:",
+    "c i:0",
+    "c i:-9223372036854775808",
+    "c u:18446744073709551615",
+    "s i:-12",
+    "s i:7",
+    "ms u:5",
+    "ms U:1,2,3",
+    "ms U:",
+    "ms t:1/500000",
+    "ms T:0/999999,18446744073709551/0",
+    "ms t:18446744073709552/0",
+    "g u:8",
+    "g x:-50/2",
+    "g x:-170141183460469231731687303715884105728/30",
+    "m u:9",
+    "h u:1",
+    "h U:4,5",
+    "h x:1/30",
+    "h X:5/1,-5/1,0/3",
+    "h t:0/10",
+    "h T:18446744073/709551615,18446744073/709551616",
+    "d u:3",
+    "d U:6",
+    "d x:120/1",
+    "d X:",
 ];
 
 const OPTIONS: &[&'static str] = &[
-    "", "", "", " tag a b", " tagvalue t", " tag \\e \\e", " container id", " container \\e", " time 7", " time 0",
-    " rate 5/1", " rate -1/0", " tag k v tagvalue w container x time 9 rate 25/2", " time 1 time 2",
+    "",
+    "",
+    "",
+    " tag a b",
+    " tagvalue t",
+    " tag \\e \\e",
+    " container id",
+    " container \\e",
+    " time 7",
+    " time 0",
+    " rate 5/1",
+    " rate -1/0",
+    " tag k v tagvalue w container x time 9 rate 25/2",
+    " time 1 time 2",
 ];
 
 const SETTINGS: &[&'static str] = &[
-    "prefix p", "prefix a..", "prefix ...", "tag h w", "tagvalue prod", "container def", "capacity 0", "capacity 4",
-    "capacity 6", "capacity 9", "capacity 16", "capacity 24", "capacity 40", "ending \\e", "ending ab", "ending \\n\\n",
-    "queue 0", "queue 1", "queue 2", "queue 3", "writer refuse", "writer whole refuse whole refuse",
-    "writer short:3", "writer short:0 whole short:5 refuse", "writer short:1 refuse short:2",
+    "prefix p",
+    "prefix a..",
+    "prefix ...",
+    "tag h w",
+    "tagvalue prod",
+    "container def",
+    "capacity 0",
+    "capacity 4",
+    "capacity 6",
+    "capacity 9",
+    "capacity 16",
+    "capacity 24",
+    "capacity 40",
+    "ending \\e",
+    "ending ab",
+    "ending \\n\\n",
+    "queue 0",
+    "queue 1",
+    "queue 2",
+    "queue 3",
+    "writer refuse",
+    "writer whole refuse whole refuse",
+    "writer short:3",
+    "writer short:0 whole short:5 refuse",
+    "writer short:1 refuse short:2",
 ];
 
-const STEPS: &[&'static str] = &["take", "hand", "take", "hand", "take", "hand", "flush", "stop"];
+const STEPS: &[&'static str] = &[
+    "take", "hand", "take", "hand", "take", "hand", "flush", "stop",
+];
 
 // A call with up to two options.
 fn push_call(out: &mut String, chance: &mut Chance) -> Result<(), AllocError> {

@@ -14,10 +14,10 @@ mod turns;
 
 use anyhow::Result;
 use std::fs;
-use turns::{Ends, turn};
+use turns::{Ends, turn, turn_bytes};
 
 /// How many scripts are generated.
-const GENERATED: u64 = 300;
+const GENERATED: u64 = 1000;
 
 fn main(rt: HostRuntime) -> Result<()> {
     for name in fs::read_to_string(&rt, "index")?.lines() {
@@ -46,6 +46,7 @@ fn turn_rows(rt: &HostRuntime) -> Result<()> {
     for name in fs::read_to_string(rt, "index")?.lines() {
         let script = scripts::script_of(rt, name)?;
         turn(rt.alloc(), &script, &mut ends)?;
+        turn_bytes(rt.alloc(), &script, &mut ends)?;
     }
     println!(rt; "turns of the rows: {ends}")?;
     Ok(())

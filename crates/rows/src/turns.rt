@@ -68,8 +68,14 @@ impl fmt::Display for Ends {
             unwritten,
             wrong,
         } = self;
-        write!(f, "{same} as without, {judged} in a report that is due, {lacking} for want of memory, ")?;
-        write!(f, "{unread} unread, {unwritten} unwritten, {wrong} otherwise")
+        write!(
+            f,
+            "{same} as without, {judged} in a report that is due, {lacking} for want of memory, "
+        )?;
+        write!(
+            f,
+            "{unread} unread, {unwritten} unwritten, {wrong} otherwise"
+        )
     }
 }
 
@@ -83,7 +89,12 @@ enum End {
 }
 
 // Whether the report of a run is due.
-fn is_judged(alloc: Global, script: &[u8], outcome: &Outcome, lacks: bool) -> Result<bool, AllocError> {
+fn is_judged(
+    alloc: Global,
+    script: &[u8],
+    outcome: &Outcome,
+    lacks: bool,
+) -> Result<bool, AllocError> {
     let (Ok(script), Ok(report)) = (str::from_utf8(script), str::from_utf8(&outcome.output)) else {
         return Ok(false);
     };
@@ -149,7 +160,11 @@ fn answers_refused(alloc: Global, script: &str, place: usize) -> Result<String, 
             Some(answer) if !answer.is_empty() => answer,
             _ => "whole",
         };
-        write!(&mut text, " {}", if index == place { "refuse" } else { answer })?;
+        write!(
+            &mut text,
+            " {}",
+            if index == place { "refuse" } else { answer }
+        )?;
     }
     for answer in own {
         write!(&mut text, " {answer}")?;
@@ -195,7 +210,10 @@ fn fail_reads(
             return Ok(());
         }
         let told = outcome.errors.as_slice() == b"statsd_schedule: input: cannot read\n".as_slice();
-        ends.note(status == 2 && told && outcome.output.is_empty(), End::Unread);
+        ends.note(
+            status == 2 && told && outcome.output.is_empty(),
+            End::Unread,
+        );
     }
     ends.note(false, End::Same);
     Ok(())
@@ -228,12 +246,18 @@ fn fail_writes(
     Ok(())
 }
 
-/// Runs a script, and then refuses each thing in turn. A script that is read has the report that is due.
+/// Runs a script, and then lets each read and each write fail in turn.
+pub fn turn_bytes(alloc: Global, script: &[u8], ends: &mut Ends) -> Result<(), AllocError> {
+    let plain = outcome_of(alloc, script);
+    fail_reads(alloc, script, &plain, ends)?;
+    fail_writes(alloc, script, &plain, ends)
+}
+
+/// Runs a script, and then refuses each request for memory and lets each answer of the writer refuse in turn. A script
+/// that is read has the report that is due.
 pub fn turn(alloc: Global, script: &[u8], ends: &mut Ends) -> Result<(), AllocError> {
     let plain = outcome_of(alloc, script);
     refuse_memory(alloc, script, &plain, ends)?;
-    fail_reads(alloc, script, &plain, ends)?;
-    fail_writes(alloc, script, &plain, ends)?;
     if plain.status != 0 {
         return Ok(());
     }
