@@ -1,10 +1,9 @@
 //! What the service saw of its metrics.
 
-use anyhow::Result;
-use cadence::SinkStats;
+use cadence::{MetricResult, SinkStats};
 
 /// Prints what was sent and dropped, and how many errors the handler got.
-pub fn tell(rt: &HostRuntime, stats: SinkStats, failures: u64) -> Result<()> {
+pub fn tell(rt: &HostRuntime, stats: SinkStats, failures: u64) -> MetricResult<()> {
     println!(rt;
         "sent {} bytes in {} datagrams",
         stats.bytes_sent, stats.packets_sent

@@ -3,13 +3,20 @@
 //! `index` names the rows of the script, one a line. Of each, `NAME.in` is the script, `NAME.out` what has to be
 //! printed, `NAME.err` what has to be told as an error (without that file: nothing) and `NAME.status` the status (without
 //! it: 0). Each line of `unreadable` is a script that has to be refused, and each line of `plans` a plan and whether it is
-//! the one that is made.
+//! the one that is made. Then each request for memory, answer of the writer, read and write is refused in turn, over each
+//! of these scripts and over generated ones, and the ends are counted.
 #![tactic(auto)]
 
+mod generated;
 mod plans;
 mod scripts;
+mod turns;
 
 use std::{fs, io};
+use turns::{Ends, turn, turn_bytes};
+
+/// How many scripts are generated.
+const GENERATED: u64 = 1000;
 
 fn main(rt: HostRuntime) -> io::Result<()> {
     for name in fs::read_to_string(&rt, "index")?.lines() {
@@ -28,5 +35,29 @@ fn main(rt: HostRuntime) -> io::Result<()> {
             println!(rt; "plan {line} {}", plans::plan_difference(rt.alloc(), line)?)?;
         }
     }
+    turn_rows(&rt)?;
+    turn_generated(&rt)
+}
+
+// Turns each worked row, and prints how the turns ended.
+fn turn_rows(rt: &HostRuntime) -> io::Result<()> {
+    let mut ends = Ends::none();
+    for name in fs::read_to_string(rt, "index")?.lines() {
+        let script = scripts::script_of(rt, name)?;
+        turn(rt.alloc(), &script, &mut ends)?;
+        turn_bytes(rt.alloc(), &script, &mut ends)?;
+    }
+    println!(rt; "turns of the rows: {ends}")?;
+    Ok(())
+}
+
+// The same of generated scripts, each of which is judged first.
+fn turn_generated(rt: &HostRuntime) -> io::Result<()> {
+    let mut ends = Ends::none();
+    for seed in 0..GENERATED {
+        let script = generated::script_of(rt.alloc(), seed)?;
+        turn(rt.alloc(), script.as_bytes(), &mut ends)?;
+    }
+    println!(rt; "turns of {GENERATED} generated scripts: {ends}")?;
     Ok(())
 }

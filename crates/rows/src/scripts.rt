@@ -8,15 +8,15 @@ use std::{fs, io};
 
 /// What a run gives, or has to give.
 #[derive(Drop)]
-struct Outcome {
-    output: Vec<u8>,
-    errors: Vec<u8>,
-    status: u8,
+pub struct Outcome {
+    pub output: Vec<u8>,
+    pub errors: Vec<u8>,
+    pub status: u8,
 }
 
 impl Outcome {
     /// `ok`, or the first part that is not as the row wants it.
-    fn difference(&self, wanted: &Outcome) -> &'static str {
+    pub fn difference(&self, wanted: &Outcome) -> &'static str {
         if self.status != wanted.status {
             "has another status"
         } else if self.errors != wanted.errors {
@@ -29,7 +29,8 @@ impl Outcome {
     }
 }
 
-fn outcome_of(alloc: Global, script: &[u8]) -> Outcome {
+/// What the run of a script gives.
+pub fn outcome_of(alloc: Global, script: &[u8]) -> Outcome {
     let (mut output, mut errors) = (Vec::new(alloc), Vec::new(alloc));
     let mut input = script;
     let status = run_script(alloc, &mut input, &mut output, &mut errors);
@@ -41,7 +42,11 @@ fn outcome_of(alloc: Global, script: &[u8]) -> Outcome {
 }
 
 // The file of a row with this ending, where there is one.
-fn file_of<R: Files + AllocGlobal>(rt: &R, name: &str, ending: &str) -> io::Result<Option<Vec<u8>>> {
+fn file_of<R: Files + AllocGlobal>(
+    rt: &R,
+    name: &str,
+    ending: &str,
+) -> io::Result<Option<Vec<u8>>> {
     let path = format!(in rt.alloc(); "{name}.{ending}")?;
     match fs::read(rt, &path) {
         Ok(bytes) => Ok(Some(bytes)),
@@ -59,6 +64,11 @@ fn status_of(file: Option<Vec<u8>>) -> Result<u8, ErrorKind> {
     text.trim().parse().map_err(|_| ErrorKind::InvalidData)
 }
 
+/// The script of the row of this name.
+pub fn script_of<R: Files + AllocGlobal>(rt: &R, name: &str) -> io::Result<Vec<u8>> {
+    Ok(file_of(rt, name, "in")?.unwrap_or_else(|| Vec::new(rt.alloc())))
+}
+
 /// Runs the row of this name: `ok`, or what is not as its files want it.
 pub fn row_difference<R: Files + AllocGlobal>(rt: &R, name: &str) -> io::Result<&'static str> {
     let none = || Vec::new(rt.alloc());
@@ -67,8 +77,7 @@ pub fn row_difference<R: Files + AllocGlobal>(rt: &R, name: &str) -> io::Result<
         errors: file_of(rt, name, "err")?.unwrap_or_else(none),
         status: status_of(file_of(rt, name, "status")?)?,
     };
-    let script = file_of(rt, name, "in")?.unwrap_or_else(none);
-    Ok(outcome_of(rt.alloc(), &script).difference(&wanted))
+    Ok(outcome_of(rt.alloc(), &script_of(rt, name)?).difference(&wanted))
 }
 
 /// Runs a script of one line that can't be read: `ok`, or what is not as it has to be then.

@@ -1,0 +1,39 @@
+//! A datagram socket that keeps what it takes, and refuses as it is told.
+use cadence::io::{PacketLog, PacketWriter};
+use cadence::sinks::PathSocket;
+use cadence::types::SinkError;
+use std::alloc::{AllocError, Global};
+use std::sync::{Arc, Mutex, Wait};
+
+/// Answers as the packet log that it shares.
+#[derive(Drop)]
+pub struct Recording<R: Wait + Drop> {
+    rt: R,
+    log: Arc<Mutex<PacketLog>>,
+}
+
+impl<R: Wait + Drop> Recording<R> {
+    pub fn new(rt: R, log: Arc<Mutex<PacketLog>>) -> Recording<R> {
+        Recording { rt, log }
+    }
+}
+
+impl<R: Wait + Drop> PathSocket for Recording<R> {
+    fn send_to(&self, packet: &[u8], _path: &str) -> Result<usize, SinkError> {
+        self.log.lock(&self.rt).write_packet(packet)
+    }
+}
+
+/// The packets taken so far.
+pub fn packets_of<R: Wait>(
+    alloc: Global,
+    rt: &R,
+    log: &Mutex<PacketLog>,
+) -> Result<Vec<Vec<u8>>, AllocError> {
+    let log = log.lock(rt);
+    let mut packets = Vec::new(alloc);
+    for packet in log.packets() {
+        packets.push(packet.clone()?)?;
+    }
+    Ok(packets)
+}

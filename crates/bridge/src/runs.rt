@@ -1,0 +1,98 @@
+//! The proved run of a list.
+use crate::lists::{Given, List};
+use cadence::client::ClientSettings;
+use cadence::io::PacketLog;
+use cadence::schedule::{Call, CallValue, Reply, Report, Step, run_schedule};
+use cadence::{MetricError, MetricResult, SinkStats};
+use std::alloc::{AllocError, Global};
+
+/// What a run gave: the answer to each line and flush as a text, the packets, and the sums.
+#[derive(Drop)]
+pub struct Run {
+    pub answers: Vec<String>,
+    pub packets: Vec<Vec<u8>>,
+    pub stats: SinkStats,
+    /// The packets after one flush more.
+    pub packets_at_the_end: Vec<Vec<u8>>,
+}
+
+// The steps of a list, where its flushes count, and then a flush where asked.
+fn steps_of(alloc: Global, list: &List, flushes: bool) -> Result<Vec<Step>, AllocError> {
+    let mut steps = Vec::new(alloc);
+    for given in &list.given {
+        match given {
+            Given::Line(key, count) => {
+                steps.push(Step::Call(Call {
+                    key: key.clone()?,
+                    value: CallValue::CountU64(*count),
+                    options: Vec::new(alloc),
+                }))?;
+                steps.push(Step::Take)?;
+                steps.push(Step::Hand)?;
+            }
+            Given::Flush if flushes => steps.push(Step::Flush)?,
+            Given::Flush => {}
+        }
+    }
+    Ok(steps)
+}
+
+fn report_of(alloc: Global, list: &List, steps: &[Step]) -> MetricResult<Report<PacketLog>> {
+    let settings = ClientSettings::new(alloc, "")?;
+    let log = list.log(alloc)?;
+    match run_schedule(alloc, &settings, list.capacity, "\n", None, steps, log) {
+        Ok(report) => Ok(report),
+        Err(_) => Err(MetricError::from(AllocError)),
+    }
+}
+
+// The replies to lines and flushes, as texts.
+fn answers_of(alloc: Global, replies: &[Reply]) -> Result<Vec<String>, AllocError> {
+    let mut answers = Vec::new(alloc);
+    for reply in replies {
+        match reply {
+            Reply::Handed(Ok(count)) => answers.push(format!(in alloc; "{count}")?)?,
+            Reply::Handed(Err(error)) => answers.push(format!(in alloc; "{error}")?)?,
+            Reply::Flushed(Ok(())) => answers.push(format!(in alloc; "flushed")?)?,
+            Reply::Flushed(Err(error)) => answers.push(format!(in alloc; "{error}")?)?,
+            _ => {}
+        }
+    }
+    Ok(answers)
+}
+
+fn copies(alloc: Global, packets: &[Vec<u8>]) -> Result<Vec<Vec<u8>>, AllocError> {
+    let mut all = Vec::new(alloc);
+    for packet in packets {
+        all.push(packet.clone()?)?;
+    }
+    Ok(all)
+}
+
+fn run_of(alloc: Global, list: &List, flushes: bool) -> MetricResult<Run> {
+    let mut steps = steps_of(alloc, list, flushes)?;
+    let report = report_of(alloc, list, &steps)?;
+    let answers = answers_of(alloc, report.replies())?;
+    let (packets, stats) = (copies(alloc, report.writer().packets())?, report.stats());
+    steps.push(Step::Flush)?;
+    let ended = report_of(alloc, list, &steps)?;
+    let packets_at_the_end = copies(alloc, ended.writer().packets())?;
+    Ok(Run {
+        answers,
+        packets,
+        stats,
+        packets_at_the_end,
+    })
+}
+
+impl Run {
+    /// The run of a list.
+    pub fn of(alloc: Global, list: &List) -> MetricResult<Run> {
+        run_of(alloc, list, true)
+    }
+
+    /// The run of its lines alone.
+    pub fn of_lines(alloc: Global, list: &List) -> MetricResult<Run> {
+        run_of(alloc, list, false)
+    }
+}

@@ -1,0 +1,48 @@
+//! Makes each call of the client, and prints the lines that its sink got, each once.
+#![tactic(auto)]
+
+mod kinds;
+
+use cadence::sinks::{SpyMetricSink, SpyReceiver};
+use cadence::{DEFAULT_PORT, MetricResult, MetricSink, StatsdClient};
+use std::alloc::{AllocError, Global};
+use std::sync::Wait;
+
+/// More lines than a group of calls makes.
+const MOST_LINES: u32 = 100;
+
+// What came to a sink so far, under a heading.
+fn told<R: Wait + Drop>(
+    alloc: Global,
+    heading: &str,
+    lines: &SpyReceiver<R>,
+) -> Result<String, AllocError> {
+    let mut text = format!(in alloc; "{heading}:\n")?;
+    for _ in 0..MOST_LINES {
+        let Some(line) = lines.try_recv() else {
+            break;
+        };
+        let line = String::from_utf8_lossy(alloc, &line)?;
+        writeln!(&mut text, "  {line}")?;
+    }
+    Ok(text)
+}
+
+fn main(rt: HostRuntime) -> MetricResult<()> {
+    let alloc = rt.alloc();
+    let (lines, spy) = SpyMetricSink::new(rt.clone()?, alloc)?;
+    let sink: Box<dyn MetricSink + Send + Sync> = Box::new(alloc, spy)?;
+    let client = StatsdClient::from_sink(alloc, "p", sink)?;
+    kinds::count_all(&client)?;
+    print!(rt; "{}", told(alloc, "counters", &lines)?)?;
+    kinds::time_all(alloc, &client)?;
+    print!(rt; "{}", told(alloc, "timers", &lines)?)?;
+    kinds::gauge_all(&client)?;
+    print!(rt; "{}", told(alloc, "gauges, meters and sets", &lines)?)?;
+    kinds::histogram_all(alloc, &client)?;
+    print!(rt; "{}", told(alloc, "histograms", &lines)?)?;
+    kinds::distribution_all(alloc, &client)?;
+    print!(rt; "{}", told(alloc, "distributions", &lines)?)?;
+    println!(rt; "port {DEFAULT_PORT}")?;
+    Ok(())
+}

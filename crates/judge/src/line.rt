@@ -1,0 +1,150 @@
+//! The line of a call, from its words.
+use crate::script::Settings;
+use crate::text::text_of;
+use std::alloc::{AllocError, Global};
+use std::str::Split;
+
+// A mantissa and its places, as a number without needless zeros.
+fn push_decimal(out: &mut String, item: &str) -> Result<(), AllocError> {
+    let (mantissa, places) = item.split_once('/').unwrap_or((item, "0"));
+    let (sign, digits) = match mantissa.strip_prefix('-') {
+        Some(digits) => ("-", digits),
+        None => ("", mantissa),
+    };
+    let places: usize = places.parse().unwrap_or(0);
+    let mut padded = String::new(out.allocator().clone()?);
+    for _ in digits.len()..places.saturating_add(1) {
+        padded.push('0')?;
+    }
+    padded.push_str(digits)?;
+    let dot = padded.len().saturating_sub(places);
+    let whole = padded.get(..dot).unwrap_or("");
+    let fraction = padded.get(dot..).unwrap_or("").trim_end_matches('0');
+    write!(out, "{sign}{whole}")?;
+    if !fraction.is_empty() {
+        write!(out, ".{fraction}")?;
+    }
+    Ok(())
+}
+
+// Seconds and nanoseconds in the unit of a kind, where 64 bits hold it.
+fn duration_of(kind: &str, item: &str) -> Option<u64> {
+    let (seconds, nanoseconds) = item.split_once('/')?;
+    let seconds: u128 = seconds.parse().ok()?;
+    let nanoseconds: u128 = nanoseconds.parse().ok()?;
+    let all = seconds
+        .saturating_mul(1_000_000_000)
+        .saturating_add(nanoseconds);
+    let count = if kind == "ms" { all / 1_000_000 } else { all };
+    u64::try_from(count).ok()
+}
+
+// Adds the numbers of a value with colons between. Answers whether each duration fits 64 bits.
+fn push_numbers(out: &mut String, kind: &str, value: &str) -> Result<bool, AllocError> {
+    let (form, items) = value.split_once(':').unwrap_or((value, ""));
+    let mut is_first = true;
+    for item in items.split(',') {
+        if !is_first {
+            out.push(':')?;
+        }
+        is_first = false;
+        match form {
+            _ if item.is_empty() => {}
+            "x" | "X" => push_decimal(out, item)?,
+            "t" | "T" => match duration_of(kind, item) {
+                Some(count) => write!(out, "{count}")?,
+                None => return Ok(false),
+            },
+            _ => out.push_str(item)?,
+        }
+    }
+    Ok(true)
+}
+
+// The fields that follow the numbers.
+#[derive(Drop)]
+struct Fields<'a> {
+    rate: Option<&'a str>,
+    tags: String,
+    container: Option<String>,
+    time: Option<&'a str>,
+}
+
+impl<'a> Fields<'a> {
+    fn of_defaults(alloc: Global, settings: &Settings<'_>) -> Result<Fields<'a>, AllocError> {
+        Ok(Fields {
+            rate: None,
+            tags: settings.tags.clone()?,
+            container: match &settings.container {
+                Some(container) => Some(String::from_str(alloc, container)?),
+                None => None,
+            },
+            time: None,
+        })
+    }
+
+    fn choose(
+        &mut self,
+        alloc: Global,
+        name: &str,
+        words: &mut Split<'a, char>,
+    ) -> Result<(), AllocError> {
+        let word = words.next().unwrap_or("");
+        match name {
+            "tag" => {
+                let value = text_of(alloc, words.next().unwrap_or(""))?;
+                write!(&mut self.tags, ",{}:{value}", text_of(alloc, word)?)?;
+            }
+            "tagvalue" => write!(&mut self.tags, ",{}", text_of(alloc, word)?)?,
+            "container" => self.container = Some(text_of(alloc, word)?),
+            "time" => self.time = Some(word),
+            _ => self.rate = Some(word),
+        }
+        Ok(())
+    }
+
+    fn push_to(&self, out: &mut String) -> Result<(), AllocError> {
+        if let Some(rate) = self.rate {
+            out.push_str("|@")?;
+            push_decimal(out, rate)?;
+        }
+        if let Some(tags) = self.tags.strip_prefix(",") {
+            write!(out, "|#{tags}")?;
+        }
+        if let Some(container) = &self.container {
+            write!(out, "|c:{container}")?;
+        }
+        match self.time {
+            Some(time) => write!(out, "|T{time}"),
+            None => Ok(()),
+        }
+    }
+}
+
+/// The line of a call, and none where a duration passes 64 bits.
+pub fn line_of(
+    alloc: Global,
+    settings: &Settings<'_>,
+    call: &str,
+) -> Result<Option<String>, AllocError> {
+    let mut words = call.split(' ');
+    let kind = words.next().unwrap_or("");
+    let mut line = String::new(alloc);
+    if !settings.prefix.is_empty() {
+        write!(&mut line, "{}.", settings.prefix.trim_end_matches('.'))?;
+    }
+    write!(&mut line, "{}:", text_of(alloc, words.next().unwrap_or(""))?)?;
+    if !push_numbers(&mut line, kind, words.next().unwrap_or(""))? {
+        return Ok(None);
+    }
+    write!(&mut line, "|{kind}")?;
+    let mut fields = Fields::of_defaults(alloc, settings)?;
+    for _ in 0..call.len() {
+        let Some(name) = words.next() else {
+            break;
+        };
+        fields.choose(alloc, name, &mut words)?;
+    }
+    fields.push_to(&mut line)?;
+    Ok(Some(line))
+}

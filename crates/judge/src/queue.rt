@@ -1,0 +1,60 @@
+//! The queue and the hand of a run.
+use std::alloc::{AllocError, Global};
+
+/// The accepted lines that were not taken.
+#[derive(Drop)]
+pub struct Queue {
+    pub waiting: Vec<String>,
+    pub in_hand: Option<String>,
+    pub is_stopped: bool,
+    capacity: Option<usize>,
+    drops_oldest: bool,
+}
+
+impl Queue {
+    pub fn new(alloc: Global, capacity: Option<usize>, drops_oldest: bool) -> Queue {
+        Queue {
+            waiting: Vec::new(alloc),
+            in_hand: None,
+            is_stopped: false,
+            capacity,
+            drops_oldest,
+        }
+    }
+
+    /// Accepts a line or refuses it, and adds the reply.
+    pub fn submit(&mut self, out: &mut String, line: String) -> Result<(), AllocError> {
+        if self.is_stopped {
+            return out.push_str("call err channel disconnected\n");
+        }
+        let length = line.len();
+        match self.capacity {
+            Some(capacity) if self.waiting.len() >= capacity => {
+                if !self.drops_oldest || self.waiting.is_empty() {
+                    return out.push_str("call err channel full\n");
+                }
+                let oldest = self.waiting.remove(0);
+                writeln!(out, "call ok {length} dropped {}", oldest.len())?;
+            }
+            _ => writeln!(out, "call ok {length}")?,
+        }
+        self.waiting.push(line)?;
+        Ok(())
+    }
+
+    /// Takes the oldest line into the hand, and adds the reply.
+    pub fn take(&mut self, out: &mut String) -> Result<(), AllocError> {
+        if self.in_hand.is_some() {
+            out.push_str("take busy\n")
+        } else if !self.waiting.is_empty() {
+            let oldest = self.waiting.remove(0);
+            writeln!(out, "take text {}", oldest.len())?;
+            self.in_hand = Some(oldest);
+            Ok(())
+        } else if self.is_stopped {
+            out.push_str("take ended\n")
+        } else {
+            out.push_str("take empty\n")
+        }
+    }
+}

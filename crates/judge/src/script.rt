@@ -1,0 +1,67 @@
+//! The settings and the steps of a script.
+use crate::text::text_of;
+use std::alloc::{AllocError, Global};
+
+/// What stands before the steps.
+#[derive(Drop)]
+pub struct Settings<'a> {
+    pub prefix: String,
+    /// Each default tag after a comma.
+    pub tags: String,
+    pub container: Option<String>,
+    pub capacity: usize,
+    pub ending: String,
+    pub queue: Option<usize>,
+    pub drops_oldest: bool,
+    /// The words of the writer's answers.
+    pub answers: &'a str,
+}
+
+impl<'a> Settings<'a> {
+    fn new(alloc: Global) -> Result<Settings<'a>, AllocError> {
+        Ok(Settings {
+            prefix: String::new(alloc),
+            tags: String::new(alloc),
+            container: None,
+            capacity: 512,
+            ending: String::from_str(alloc, "\n")?,
+            queue: None,
+            drops_oldest: false,
+            answers: "",
+        })
+    }
+
+    // Takes a setting; answers whether the line is one.
+    fn set(&mut self, alloc: Global, name: &str, rest: &'a str) -> Result<bool, AllocError> {
+        match name {
+            "prefix" => self.prefix = text_of(alloc, rest)?,
+            "tag" => {
+                let (key, value) = rest.split_once(' ').unwrap_or((rest, ""));
+                let value = text_of(alloc, value)?;
+                write!(&mut self.tags, ",{}:{value}", text_of(alloc, key)?)?;
+            }
+            "tagvalue" => write!(&mut self.tags, ",{}", text_of(alloc, rest)?)?,
+            "container" => self.container = Some(text_of(alloc, rest)?),
+            "capacity" => self.capacity = rest.parse().unwrap_or(0),
+            "ending" => self.ending = text_of(alloc, rest)?,
+            "queue" => self.queue = rest.parse().ok(),
+            "policy" => self.drops_oldest = rest == "drop",
+            "writer" => self.answers = rest,
+            _ => return Ok(false),
+        }
+        Ok(true)
+    }
+}
+
+/// The settings, and the lines of the steps.
+pub fn read(alloc: Global, script: &str) -> Result<(Settings<'_>, Vec<&str>), AllocError> {
+    let mut settings = Settings::new(alloc)?;
+    let mut steps = Vec::new(alloc);
+    for line in script.split('\n') {
+        let (name, rest) = line.split_once(' ').unwrap_or((line, ""));
+        if !line.is_empty() && !settings.set(alloc, name, rest)? {
+            steps.push(line)?;
+        }
+    }
+    Ok((settings, steps))
+}

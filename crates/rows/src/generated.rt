@@ -1,0 +1,150 @@
+//! Scripts of every shape, from a seed.
+use std::alloc::{AllocError, Global};
+
+/// Numbers that look like chance, the same for the same seed.
+#[derive(Clone, Copy)]
+pub struct Chance {
+    state: u64,
+}
+
+impl Chance {
+    pub fn from_seed(seed: u64) -> Chance {
+        Chance { state: seed }
+    }
+
+    // A number below `bound`.
+    fn below(&mut self, bound: u64) -> u64 {
+        self.state = self
+            .state
+            .wrapping_mul(6_364_136_223_846_793_005)
+            .wrapping_add(1_442_695_040_888_963_407);
+        (self.state >> 33).checked_rem(bound).unwrap_or(0)
+    }
+
+    fn one_of(&mut self, words: &[&'static str]) -> &'static str {
+        let index = self.below(words.len() as u64) as usize;
+        words.get(index).copied().unwrap_or("")
+    }
+}
+
+const LONG_TEXT: &str =
+    "a text that is longer than the others, so that a line of it passes each capacity";
+
+const TEXTS: &[&'static str] = &[
+    "\\e",
+    "a",
+    "some.key",
+    "k\\n",
+    "a|b",
+    "x\\sy",
+    "p..",
+    "#,:|@",
+    "\\\\",
+    "\u{e9}",
+    "\t\r\u{7f}",
+    LONG_TEXT,
+];
+
+const VALUES: &[&'static str] = &[
+    "c i:0",
+    "c i:-9223372036854775808",
+    "c u:18446744073709551615",
+    "s i:-12",
+    "s i:7",
+    "ms u:5",
+    "ms U:1,2,3",
+    "ms U:",
+    "ms t:1/500000",
+    "ms T:0/999999,18446744073709551/0",
+    "ms t:18446744073709552/0",
+    "g u:8",
+    "g x:-50/2",
+    "g x:-170141183460469231731687303715884105728/30",
+    "m u:9",
+    "h u:1",
+    "h U:4,5",
+    "h x:1/30",
+    "h X:5/1,-5/1,0/3",
+    "h t:0/10",
+    "h T:18446744073/709551615,18446744073/709551616",
+    "d u:3",
+    "d U:6",
+    "d x:120/1",
+    "d X:",
+];
+
+const OPTIONS: &[&'static str] = &[
+    "",
+    "",
+    "",
+    " tag a b",
+    " tagvalue t",
+    " tag \\e \\e",
+    " container id",
+    " container \\e",
+    " time 7",
+    " time 0",
+    " rate 5/1",
+    " rate -1/0",
+    " tag k v tagvalue w container x time 9 rate 25/2",
+    " time 1 time 2",
+];
+
+const SETTINGS: &[&'static str] = &[
+    "prefix p",
+    "prefix a..",
+    "prefix ...",
+    "tag h w",
+    "tagvalue prod",
+    "container def",
+    "capacity 0",
+    "capacity 4",
+    "capacity 6",
+    "capacity 9",
+    "capacity 16",
+    "capacity 24",
+    "capacity 40",
+    "ending \\e",
+    "ending ab",
+    "ending \\n\\n",
+    "queue 0",
+    "queue 1",
+    "queue 2",
+    "queue 3",
+    "writer refuse",
+    "writer whole refuse whole refuse",
+    "writer short:3",
+    "writer short:0 whole short:5 refuse",
+    "writer short:1 refuse short:2",
+];
+
+const STEPS: &[&'static str] = &[
+    "take", "hand", "take", "hand", "take", "hand", "flush", "stop",
+];
+
+// A call with up to two options.
+fn push_call(out: &mut String, chance: &mut Chance) -> Result<(), AllocError> {
+    let value = chance.one_of(VALUES);
+    let (kind, value) = value.split_once(' ').unwrap_or((value, ""));
+    let key = chance.one_of(TEXTS);
+    let (first, second) = (chance.one_of(OPTIONS), chance.one_of(OPTIONS));
+    writeln!(out, "call {kind} {key} {value}{first}{second}")
+}
+
+/// A script of up to 5 settings and 24 steps.
+pub fn script_of(alloc: Global, seed: u64) -> Result<String, AllocError> {
+    let mut chance = Chance::from_seed(seed);
+    let mut out = String::new(alloc);
+    for _ in 0..chance.below(6) {
+        writeln!(&mut out, "{}", chance.one_of(SETTINGS))?;
+    }
+    let calls = chance.below(12);
+    for _ in 0..chance.below(25) {
+        if chance.below(12) < calls {
+            push_call(&mut out, &mut chance)?;
+        } else {
+            writeln!(&mut out, "{}", chance.one_of(STEPS))?;
+        }
+    }
+    Ok(out)
+}
