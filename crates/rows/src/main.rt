@@ -9,9 +9,10 @@
 mod plans;
 mod scripts;
 
-use std::{fs, io};
+use cadence::MetricResult;
+use std::fs;
 
-fn main(rt: HostRuntime) -> io::Result<()> {
+fn main(rt: HostRuntime) -> MetricResult<()> {
     for name in fs::read_to_string(&rt, "index")?.lines() {
         let difference = scripts::row_difference(&rt, name)?;
         println!(rt; "{name} {difference}")?;
