@@ -12,13 +12,14 @@ mod plans;
 mod scripts;
 mod turns;
 
-use std::{fs, io};
+use cadence::MetricResult;
+use std::fs;
 use turns::{Ends, turn, turn_bytes};
 
 /// How many scripts are generated.
 const GENERATED: u64 = 1000;
 
-fn main(rt: HostRuntime) -> io::Result<()> {
+fn main(rt: HostRuntime) -> MetricResult<()> {
     for name in fs::read_to_string(&rt, "index")?.lines() {
         let difference = scripts::row_difference(&rt, name)?;
         println!(rt; "{name} {difference}")?;
@@ -40,7 +41,7 @@ fn main(rt: HostRuntime) -> io::Result<()> {
 }
 
 // Turns each worked row, and prints how the turns ended.
-fn turn_rows(rt: &HostRuntime) -> io::Result<()> {
+fn turn_rows(rt: &HostRuntime) -> MetricResult<()> {
     let mut ends = Ends::none();
     for name in fs::read_to_string(rt, "index")?.lines() {
         let script = scripts::script_of(rt, name)?;
@@ -52,7 +53,7 @@ fn turn_rows(rt: &HostRuntime) -> io::Result<()> {
 }
 
 // The same of generated scripts, each of which is judged first.
-fn turn_generated(rt: &HostRuntime) -> io::Result<()> {
+fn turn_generated(rt: &HostRuntime) -> MetricResult<()> {
     let mut ends = Ends::none();
     for seed in 0..GENERATED {
         let script = generated::script_of(rt.alloc(), seed)?;

@@ -1,15 +1,19 @@
 //! A plan, and whether it is the one that is made.
 use cadence::schedule::{check_plan, plan_packets};
+use cadence::{ErrorKind, MetricError, MetricResult};
 use std::alloc::Global;
-use std::io::{self, ErrorKind};
+
+fn malformed() -> MetricError {
+    MetricError::from((ErrorKind::InvalidInput, "no plan"))
+}
 
 // The number that a word is.
-fn number(word: &str) -> Result<usize, ErrorKind> {
-    word.trim().parse().map_err(|_| ErrorKind::InvalidData)
+fn number(word: &str) -> MetricResult<usize> {
+    word.trim().parse().map_err(|_| malformed())
 }
 
 // The numbers of a field, which one space parts.
-fn numbers(alloc: Global, field: &str) -> io::Result<Vec<usize>> {
+fn numbers(alloc: Global, field: &str) -> MetricResult<Vec<usize>> {
     let mut numbers = Vec::new(alloc);
     for word in field.split_whitespace() {
         numbers.push(number(word)?)?;
@@ -19,9 +23,9 @@ fn numbers(alloc: Global, field: &str) -> io::Result<Vec<usize>> {
 
 /// Reads `CAPACITY; SIZES; MARKS; PLAN; ANSWER` and compares the answer, `yes` or `no`, with that of `check_plan` and with
 /// whether `plan_packets` makes that plan: `ok`, or which of both differs.
-pub fn plan_difference(alloc: Global, line: &str) -> io::Result<&'static str> {
+pub fn plan_difference(alloc: Global, line: &str) -> MetricResult<&'static str> {
     let mut fields = line.split(';');
-    let mut next = || fields.next().ok_or(ErrorKind::InvalidData);
+    let mut next = || fields.next().ok_or(malformed());
     let capacity = number(next()?)?;
     let sizes = numbers(alloc, next()?)?;
     let marks = numbers(alloc, next()?)?;

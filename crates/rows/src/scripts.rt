@@ -56,12 +56,14 @@ fn file_of<R: Files + AllocGlobal>(
 }
 
 // The status that a file holds, and 0 where there is none.
-fn status_of(file: Option<Vec<u8>>) -> Result<u8, ErrorKind> {
+fn status_of(file: Option<Vec<u8>>) -> io::Result<u8> {
     let Some(bytes) = file else {
         return Ok(0);
     };
-    let text = str::from_utf8(&bytes).map_err(|_| ErrorKind::InvalidData)?;
-    text.trim().parse().map_err(|_| ErrorKind::InvalidData)
+    let text = str::from_utf8(&bytes).map_err(|_| io::Error::from(ErrorKind::InvalidData))?;
+    text.trim()
+        .parse()
+        .map_err(|_| io::Error::from(ErrorKind::InvalidData))
 }
 
 /// The script of the row of this name.
