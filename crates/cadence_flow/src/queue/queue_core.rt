@@ -108,6 +108,19 @@ impl<T: Drop, A: Allocator + Clone> QueueCore<T, A> {
         }
     }
 
+    // Puts a text last in a full queue that drops its oldest text for it, which is let go. It is apart, since a function
+    // clears its locals at its start.
+    #[inline(never)]
+    fn replace_oldest(&mut self, text: T)
+        requires full { is_full self.old ≡ true }
+        requires open { IsTrue (is_open self.old) }
+        ensures { (dropped : Option T) × Accepts self.old text dropped self.new }
+    {
+        let Ok(_) = self.push(text) else {
+            unreachable!()
+        };
+    }
+
     /// Puts a text last. A stopped queue answers `ChannelDisconnected`, else a full one that refuses, or holds none,
     /// `ChannelFull`, else one for which memory ran out `OutOfMemory`; the text comes back and nothing has changed
     /// then. Where a full queue dropped its oldest text, that one is answered. A bounded queue takes no memory.
@@ -145,8 +158,12 @@ impl<T: Drop, A: Allocator + Clone> QueueCore<T, A> {
             return Err(self.why_closed());
         }
         let text = make()?;
-        match self.push(text) {
-            Ok(_) => Ok(()),
+        if self.is_full() {
+            self.replace_oldest(text);
+            return Ok(());
+        }
+        match self.put_last(text) {
+            Ok(()) => Ok(()),
             Err(_) => Err(SinkError::OutOfMemory),
         }
     }
