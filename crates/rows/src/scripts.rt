@@ -41,7 +41,11 @@ fn outcome_of(alloc: Global, script: &[u8]) -> Outcome {
 }
 
 // The file of a row with this ending, where there is one.
-fn file_of<R: Files + AllocGlobal>(rt: &R, name: &str, ending: &str) -> io::Result<Option<Vec<u8>>> {
+fn file_of<R: Files + AllocGlobal>(
+    rt: &R,
+    name: &str,
+    ending: &str,
+) -> io::Result<Option<Vec<u8>>> {
     let path = format!(in rt.alloc(); "{name}.{ending}")?;
     match fs::read(rt, &path) {
         Ok(bytes) => Ok(Some(bytes)),
