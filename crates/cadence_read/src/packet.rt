@@ -88,7 +88,8 @@ pub fn read_run<A: Allocator + Clone>(
     held: &[u8],
 ) -> Result<Vec<OwnedMetric<A>, A>, ReadFault>
     ensures found { IfOk result (λ metrics.
-        AreListed (map (λ packet. packet.items) packets.now ++ held.now ∷ []) (metrics_of metrics)) }
+        AreListed (map (λ packet. packet.items) packets.now ++ held.now ∷ [])
+        (metrics_of metrics)) }
     ensures only { IfOk result (λ metrics. (others : List Metric) →
         AreListed (map (λ packet. packet.items) packets.now ++ held.now ∷ []) others →
         others ≡ metrics_of metrics) }

@@ -133,7 +133,11 @@ pub fn line_of(
     if !settings.prefix.is_empty() {
         write!(&mut line, "{}.", settings.prefix.trim_end_matches('.'))?;
     }
-    write!(&mut line, "{}:", text_of(alloc, words.next().unwrap_or(""))?)?;
+    write!(
+        &mut line,
+        "{}:",
+        text_of(alloc, words.next().unwrap_or(""))?
+    )?;
     if !push_numbers(&mut line, kind, words.next().unwrap_or(""))? {
         return Ok(None);
     }

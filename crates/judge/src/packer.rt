@@ -50,7 +50,11 @@ impl<'a> Packer<'a> {
             self.refusals = self.refusals.wrapping_add(1);
             self.refused_bytes = self.refused_bytes.wrapping_add(packet.len());
             let refused = answer == "refuse";
-            return Ok(Err(if refused { "packet refused" } else { "out of memory" }));
+            return Ok(Err(if refused {
+                "packet refused"
+            } else {
+                "out of memory"
+            }));
         }
         let count = match answer.strip_prefix("short:") {
             Some(count) => packet.len().min(count.parse().unwrap_or(0)),

@@ -71,7 +71,11 @@ fn push_end(
         }
     }
     let (packets, refusals) = (packer.packets.len(), packer.refusals);
-    writeln!(out, "\nstats {bytes} {packets} {} {refusals}", packer.refused_bytes)
+    writeln!(
+        out,
+        "\nstats {bytes} {packets} {} {refusals}",
+        packer.refused_bytes
+    )
 }
 
 /// The report of a script, where memory lacks as said.

@@ -6,6 +6,7 @@ use cadence_sinks::{
     SpyMetricSink,
 };
 use refusing::{Refusing, each_refused};
+use std::alloc::{AllocError, Global};
 use std::sync::atomic::{AtomicBool, AtomicU64, Ordering};
 use std::sync::{Arc, OnceLock, Wait};
 use std::test::Fail;
@@ -59,6 +60,15 @@ struct Gate {
     flushed: AtomicBool,
 }
 
+fn closed(alloc: Global) -> Result<Arc<Gate>, AllocError> {
+    let gate = Gate {
+        open: AtomicBool::new(false),
+        flushed: AtomicBool::new(false),
+    };
+    let gate = Arc::new(alloc, gate)?;
+    Ok(gate)
+}
+
 // Tells of each text that comes, and passes it on once the gate is open.
 #[derive(Drop)]
 struct Gated<R: Wait + Drop> {
@@ -99,11 +109,7 @@ impl<R: Wait + Drop> MetricSink for Gated<R> {
 
 #[test]
 fn caller_does_not_wait_for_the_sink(rt: HostRuntime) -> Result<(), Fail> {
-    let gate = Gate {
-        open: AtomicBool::new(false),
-        flushed: AtomicBool::new(false),
-    };
-    let gate = Arc::new(rt.alloc(), gate)?;
+    let gate = closed(rt.alloc())?;
     let (coming, comes) = SpyMetricSink::new(rt.clone()?, rt.alloc())?;
     let (passed, passes) = SpyMetricSink::new(rt.clone()?, rt.alloc())?;
     let gated = Gated {
@@ -128,11 +134,7 @@ fn caller_does_not_wait_for_the_sink(rt: HostRuntime) -> Result<(), Fail> {
 
 #[test]
 fn newest_lines_win(rt: HostRuntime) -> Result<(), Fail> {
-    let gate = Gate {
-        open: AtomicBool::new(false),
-        flushed: AtomicBool::new(false),
-    };
-    let gate = Arc::new(rt.alloc(), gate)?;
+    let gate = closed(rt.alloc())?;
     let (coming, comes) = SpyMetricSink::new(rt.clone()?, rt.alloc())?;
     let (passed, passes) = SpyMetricSink::new(rt.clone()?, rt.alloc())?;
     let gated = Gated {

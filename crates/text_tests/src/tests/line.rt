@@ -181,6 +181,12 @@ fn a_length_is_exact(rt: HostRuntime) -> Result<(), Fail> {
         }
         assert!(rt; has_length(alloc, &record, line, length)?);
     }
+    Ok(())
+}
+
+#[test]
+fn a_length_counts_no_number_and_the_least_one(rt: HostRuntime) -> Result<(), Fail> {
+    let alloc = rt.alloc();
     let none = MetricValue::PackedUnsigned(Vec::new(alloc));
     let none = Record::new(alloc, "prefix.", "key", MetricType::Timer, none);
     assert!(rt; has_length(alloc, &none, "prefix.key:|ms", 14)?);
