@@ -98,8 +98,8 @@ fn run_steps<P: PacketWriter, A: Allocator + Clone>(
 }
 
 /// Runs the steps, in order, over a client of these settings, a queue of this capacity in lines (`None` is no bound)
-/// and this policy, and a packer of this capacity in bytes and this ending over the writer. One worker has at most one line in hand.
-/// Whatever callers and one worker do, each in steps of its own, is such a list.
+/// and this policy, and a packer of this capacity in bytes and this ending over the writer. One worker has at most one
+/// line in hand. Whatever callers and one worker do, each in steps of its own, is such a list.
 ///
 /// After any list of metric calls, worker steps, flushes and stops, packets then held text are, in acceptance order,
 /// the grammar's lines of the accepted calls handed on and taken, each with its ending, oversize ones alone without;

@@ -65,7 +65,8 @@ pub struct Arguments {
 }
 
 /// How to call the program.
-pub const USAGE: &str = "cadence_speed count|count_tags|histogram4|packer|udp|queue|drop N [CAP LEN]";
+pub const USAGE: &str =
+    "cadence_speed count|count_tags|histogram4|packer|udp|queue|drop N [CAP LEN]";
 
 /// The most lines of a run over UDP.
 const MOST_DATAGRAMS: u64 = 200_000;

@@ -256,7 +256,8 @@ impl<T: Drop, A: Allocator> QueueCore<T, A> {
     pub fn waiting(&self) -> usize
         ensures waiting { result ≡ length self.now.waiting }
         ensures within { IsWithin self.now.capacity self.now.waiting }
-        ensures counted { IsCounted self.now.waiting self.now.submitted self.now.drained self.now.dropped }
+        ensures counted { let q = self.now in
+            IsCounted q.waiting q.submitted q.drained q.dropped }
     {
         self.texts.len()
     }

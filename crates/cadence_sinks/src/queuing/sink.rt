@@ -96,8 +96,8 @@ impl<S: MetricSink, R: Wait + Drop, A: Allocator> QueuingMetricSink<S, R, A> {
 /// stopped, else `ChannelFull` where as many lines wait as its capacity, else `OutOfMemory`; nothing is queued then.
 /// Under `DropOldest` a full queue of a capacity above 0 drops its oldest line in place of `ChannelFull`, and the
 /// handler isn't told. An accepted line takes memory once, beside the growth of an unbounded queue, and one that is
-/// refused by a stop or by the capacity takes none. `flush` flushes the wrapped sink and doesn't wait for the queue; `stats` are the
-/// wrapped sink's.
+/// refused by a stop or by the capacity takes none. `flush` flushes the wrapped sink and doesn't wait for the queue;
+/// `stats` are the wrapped sink's.
 impl<S: MetricSink, R: Wait + Drop, A: Allocator + Clone> MetricSink
     for QueuingMetricSink<S, R, A> {
     ghost use Rattle.std.specs.Arc.{arc_value};

@@ -84,7 +84,8 @@ fn each_refused_request_of_a_drop_is_told(rt: HostRuntime) -> Result<(), Fail> {
     let granted: Result<Option<u64>, Fail> = each_refused(rt.alloc(), |heap| {
         let log = PacketLog::new(rt.alloc(), Vec::new(rt.alloc()));
         let (one, policy) = (Some(1), QueuePolicy::DropOldest);
-        let Ok(report) = run_schedule_with(heap, &settings, 16, "\n", one, policy, &steps, log) else {
+        let Ok(report) = run_schedule_with(heap, &settings, 16, "\n", one, policy, &steps, log)
+        else {
             return Ok(false);
         };
         let refused = matches!(

@@ -159,7 +159,10 @@ fn newest_lines_win(rt: HostRuntime) -> Result<(), Fail> {
     assert_eq!(rt; heap.left().wrapping_add(1), left);
     gate.open.store(true, Ordering::SeqCst);
     sink.stop_and_wait();
-    assert_eq!(rt; (sink.submitted(), sink.dropped(), sink.drained()), (3, 1, 2));
+    assert_eq!(rt;
+        (sink.submitted(), sink.dropped(), sink.drained()),
+        (3, 1, 2)
+    );
     let first = passed.try_recv().ok_or("nothing")?;
     let last = passed.try_recv().ok_or("nothing")?;
     assert_eq!(rt; first.as_slice(), b"first:1|c".as_slice());
