@@ -7,6 +7,7 @@ use Rattle.cadence_flow.specs.declared.io.packet_log.Answer.{Answer}
 use Rattle.cadence_schedule.specs.declared.steps.Step.{Step}
 use Rattle.cadence_schedule.specs.Headline.{Given, given_of, HasHeadline, IsAccounted, turns_of}
 use Rattle.cadence_schedule.specs.History.{kept}
+use Rattle.cadence_flow.specs.declared.queue.policy.QueuePolicy.TheVariants.{Refuse}
 use Rattle.cadence_schedule.specs.Report.{Outcome}
 use Rattle.cadence_schedule.specs.Settings.{Settings}
 use Rattle.cadence_read.specs.Listed.{AreListed}
@@ -18,7 +19,7 @@ IsNewWhole log = (script : List Answer) × (log ≡ new_log script) × (has_no_s
 module _ {A : Type 0} where
   -- what the run is given
   abbrev pub given_to : Settings → ℕ → Option ℕ → List (Step A) → LogState → Given A
-  given_to settings capacity queue steps log = given_of log_kind log_history settings capacity (codes "\n") queue steps log
+  given_to settings capacity queue steps log = given_of log_kind log_history settings capacity (codes "\n") queue Refuse steps log
 
   -- all that is promised of a run
   pub record IsRun (given : Given A) (outcome : Outcome LogState A) : Type 0 where
