@@ -80,18 +80,23 @@ fn each_field_is_read(rt: HostRuntime) -> Result<(), Fail> {
     Ok(())
 }
 
+// Whether the packet of this line alone, and that of twice the line, are read as it.
+fn is_read(alloc: Global, line: &str) -> Result<bool, Fail> {
+    let metrics = read_packet(alloc, line.as_bytes())?;
+    let ended = format!(in alloc; "{line}\n{line}\n")?;
+    let both = read_packet(alloc, ended.as_bytes())?;
+    if metrics.len() != 1 || both.len() != 2 {
+        return Ok(false);
+    }
+    let is_same = both[0] == metrics[0] && both[1] == metrics[0];
+    Ok(is_same && line_of(alloc, &metrics[0])?.as_str() == line)
+}
+
 #[test]
 fn these_are_read(rt: HostRuntime) -> Result<(), Fail> {
-    let alloc = rt.alloc();
-    assert!(rt; read_packet(alloc, b"")?.is_empty());
+    assert!(rt; read_packet(rt.alloc(), b"")?.is_empty());
     for line in READ {
-        let metrics = read_packet(alloc, line.as_bytes())?;
-        assert_eq!(rt; metrics.len(), 1);
-        assert_eq!(rt; line_of(alloc, &metrics[0])?.as_str(), line);
-        let ended = format!(in alloc; "{line}\n{line}\n")?;
-        let both = read_packet(alloc, ended.as_bytes())?;
-        assert_eq!(rt; both.len(), 2);
-        assert!(rt; both[0] == metrics[0] && both[1] == metrics[0]);
+        assert!(rt; is_read(rt.alloc(), line)?, "{line}");
     }
     Ok(())
 }
