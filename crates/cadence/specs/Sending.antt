@@ -8,7 +8,7 @@ use Rattle.cadence_errors.specs.declared.SinkError.{SinkError}
 use Rattle.cadence_errors.specs.Errors.{IsInvalid, out_of_memory}
 use Rattle.cadence_text.specs.Line.{line_of}
 use Rattle.cadence_text.specs.Metric.{Metric}
-use Rattle.cadence_text.specs.Number.{Number}
+use Rattle.cadence_value.specs.Number.{Number}
 use Rattle.cadence_schedule.specs.Call.{Choice, MakesMetric, MetricCall, chosen, metric_of_call, plain_call, with_choice}
 use Rattle.cadence_schedule.specs.Settings.{Settings}
 

@@ -3,7 +3,7 @@
 pub use crate::client::MetricBackend;
 pub use cadence_flow::io::{MultiLineWriter, PacketWriter};
 pub use cadence_flow::stats::SocketStats;
-pub use cadence_text::value::{
+pub use cadence_value::value::{
     MetricValue, ToCounterValue, ToDistributionValue, ToGaugeValue, ToHistogramValue, ToMeterValue,
     ToSetValue, ToTimerValue,
 };

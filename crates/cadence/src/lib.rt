@@ -16,7 +16,8 @@ pub mod types;
 
 pub use cadence_flow::{io, stats};
 pub use cadence_sinks as sinks;
-pub use cadence_text::{decimal, line, value};
+pub use cadence_text::line;
+pub use cadence_value::{decimal, value};
 pub use client::{MetricBuilder, StatsdClient, StatsdClientBuilder};
 pub use prelude::{
     Counted, CountedExt, Distributed, Gauged, Histogrammed, Metered, MetricClient, Setted, Timed,

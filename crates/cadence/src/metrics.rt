@@ -4,14 +4,14 @@ ghost use Rattle.cadence_errors.specs.Errors.{Makes};
 ghost use Rattle.cadence.specs.Metrics.{MakesLine};
 ghost use Rattle.cadence_text.specs.Line.{line_of};
 ghost use Rattle.cadence_text.specs.Metric.{plain_metric};
-ghost use Rattle.cadence_text.specs.Number.{Number, natural, whole};
-ghost use Rattle.cadence_text.specs.Values.{numbers_of};
+ghost use Rattle.cadence_value.specs.Number.{Number, natural, whole};
+ghost use Rattle.cadence_value.specs.Values.{numbers_of};
 ghost use Rattle.cadence_text.specs.declared.line.MetricType.TheVariants as kind;
 
 use cadence_errors::MetricResult;
-use cadence_text::decimal::Decimal;
+use cadence_value::decimal::Decimal;
 use cadence_text::line::{MetricType, Record};
-use cadence_text::value::MetricValue;
+use cadence_value::value::MetricValue;
 use std::alloc::{Allocator, Global};
 use std::fmt;
 use std::hash::{Hash, Hasher};

@@ -11,8 +11,8 @@ use Rattle.std.proofs.lemmas.List.{append-nil, append_assoc}
 use Rattle.std.proofs.lemmas.Nat.{div-mul-add, mod-mul-add}
 use Rattle.std.proofs.lemmas.Str.{digit_value_digit, IsUtf8-from_ascii}
 use Rattle.std.proofs.lemmas.Str.Parse.{digit_from_value, IsNumeralModel, numerals_by_value, tells_digits, not_in_digits}
-use Rattle.cadence_text.specs.Number.{decimal_text, filled_to}
-use Rattle.cadence_text.proofs.Digits.{text_digit, text_step, text_by_steps, text_numeral, length-decimal_text-le}
+use Rattle.cadence_value.specs.Number.{decimal_text, filled_to}
+use Rattle.cadence_value.proofs.Digits.{text_digit, text_step, text_by_steps, text_numeral, length-decimal_text-le}
 use Rattle.cadence_read.specs.Reads.{Reads}
 
 -- a digit's byte

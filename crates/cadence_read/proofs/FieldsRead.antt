@@ -5,11 +5,11 @@ use Rattle.std.specs.List.{join_with_byte}
 use Rattle.std.specs.Option.{option_map}
 use Rattle.std.proofs.lemmas.List.Elements.{recursion_from_All}
 use Rattle.std.proofs.lemmas.List.Splits.{join_with_byte-slice_split, length-slice_split}
-use Rattle.cadence_text.specs.Line.{numbers_text, separated, tag_text}
+use Rattle.cadence_text.specs.Line.{tag_text}
 use Rattle.cadence_text.specs.Metric.{Tag}
-use Rattle.cadence_text.specs.Number.{Number, decimal_text, number_text}
-use Rattle.cadence_text.proofs.Cut.{Lacks, lacks_no, cut_at, each_image, each_mapped}
-use Rattle.cadence_text.proofs.Digits.{decimal_text_once}
+use Rattle.cadence_value.specs.Number.{Number, decimal_text, number_text, numbers_text, separated}
+use Rattle.cadence_value.proofs.Cut.{Lacks, lacks_no, cut_at, each_image, each_mapped}
+use Rattle.cadence_value.proofs.Digits.{decimal_text_once}
 use Rattle.cadence_text.proofs.LineText.{separated-joined, keyed_text, key_text-keyed, plain_lacks_colon, number_lacks, tag_lacks}
 use Rattle.cadence_read.specs.declared.fault.ReadFault.{ReadFault}
 use Rattle.cadence_read.specs.declared.fault.ReadFault.TheVariants.{NotMetrics, OutOfMemory}

@@ -10,11 +10,11 @@ use Rattle.std.proofs.lemmas.Slice.Eq.{slice_eq-Decides}
 use Rattle.std.proofs.lemmas.List.{append-nil, take-append-drop, take_at, drop_at}
 use Rattle.std.proofs.lemmas.List.Elements.{All-weaker, recursion_from_All}
 use Rattle.std.proofs.lemmas.List.Splits.{join_with_byte-slice_split, length-slice_split}
-use Rattle.cadence_text.specs.Line.{numbers_text, kind_text, tag_text, line_of}
+use Rattle.cadence_text.specs.Line.{kind_text, tag_text, line_of}
 use Rattle.cadence_text.specs.Metric.{Metric, Tag}
-use Rattle.cadence_text.specs.Number.{Number, decimal_text, number_text}
+use Rattle.cadence_value.specs.Number.{Number, decimal_text, number_text, numbers_text}
 use Rattle.cadence_text.specs.OneReading.{IsFreeOfSeparators, IsFreeText, IsFreeTag, IsNoSeparator}
-use Rattle.cadence_text.proofs.Cut.{Stops, cut_at}
+use Rattle.cadence_value.proofs.Cut.{Stops, cut_at}
 use Rattle.cadence_text.proofs.LineText.{marked, parts_of, front_of, last_of, rate_part, tags_part, container_part, time_part, separated-joined, line_of-joined, lacks_bars}
 use Rattle.cadence_read.specs.LineTexts.{LineTexts, tags_text, texts_of, field_part, field_parts, parts_of_texts, pieces_left, IsMarked}
 use Rattle.cadence_read.specs.Listed.{IsListed, IsListedTag, IsText}

@@ -12,11 +12,10 @@ use Rattle.std.proofs.lemmas.List.Elements.{recursion_from_All}
 use Rattle.std.proofs.lemmas.Nat.{div-mul-add, mod-mul-add, div-add-mod'}
 use Rattle.std.proofs.Math.Nat.{pow-succ', mul_left_comm}
 use Rattle.std.proofs.lemmas.Str.Parse.{digit_from_value}
-use Rattle.cadence_text.specs.Number.{Number, IsLowestForm, number, decimal_text, number_text, places_text, filled_to, is_lowest}
-use Rattle.cadence_text.specs.Said.{IsDecimal}
-use Rattle.cadence_text.proofs.Cut.{Lacks, lacks_no, cut_at}
-use Rattle.cadence_text.proofs.Digits.{decimal_text_once}
-use Rattle.cadence_text.proofs.NumberText.{numeral, places_of, places_text-suc, length-places_of, places_value, digits_zeros, sign, sign-pos, no_minus, unsigned_once}
+use Rattle.cadence_value.specs.Number.{Number, IsLowestForm, number, decimal_text, number_text, places_text, filled_to, is_lowest, IsDecimal}
+use Rattle.cadence_value.proofs.Cut.{Lacks, lacks_no, cut_at}
+use Rattle.cadence_value.proofs.Digits.{decimal_text_once}
+use Rattle.cadence_value.proofs.NumberText.{numeral, places_of, places_text-suc, length-places_of, places_value, digits_zeros, sign, sign-pos, no_minus, unsigned_once}
 use Rattle.cadence_read.specs.Reads.{Reads}
 use Rattle.cadence_read.specs.Magnitude.{magnitude_text, IsMagnitude}
 use Rattle.cadence_read.proofs.DigitsRead.{filled_digits}

@@ -5,7 +5,7 @@ use Rattle.std.proofs.lemmas.Bool.{ne_eqb, eq-eqb}
 use Rattle.std.proofs.lemmas.List.{append_assoc, append-nil, length-append, map-append}
 use Rattle.std.proofs.lemmas.List.Elements.{All-from_recursion, All-push, recursion_from_All}
 use Rattle.std.proofs.lemmas.List.Splits.{slice_split_none, slice_split_at, slice_split-cons_no, join_with_byte-slice_split}
-use Rattle.cadence_text.proofs.Cut.{Lacks, each_weaker}
+use Rattle.cadence_value.proofs.Cut.{Lacks, each_weaker}
 use Rattle.cadence_read.specs.LineTexts.{pieces_left}
 
 -- a text's pieces between these bytes

@@ -2,9 +2,9 @@
 use Rattle.std.specs.Prelude.{◌≡◌, ℕ, ◌==◌, Option, Some, None, List, [], ◌∷◌, ◌++◌, codes}
 use Rattle.std.specs.List.{slice_split}
 use Rattle.std.specs.Option.{option_map, option_copied}
-use Rattle.cadence_text.specs.Line.{separated, numbers_text, kind_text, tag_text}
+use Rattle.cadence_text.specs.Line.{kind_text, tag_text}
 use Rattle.cadence_text.specs.Metric.{Metric, Tag}
-use Rattle.cadence_text.specs.Number.{decimal_text, number_text}
+use Rattle.cadence_value.specs.Number.{decimal_text, number_text, separated, numbers_text}
 use Rattle.cadence_read.specs.declared.cuts.TextsOfLine.{TextsOfLine}
 
 pub record LineTexts : Type 0 where

@@ -6,7 +6,7 @@ use Rattle.cadence_text.specs.declared.line.record.owned.OwnedMetric.{OwnedMetri
 use Rattle.cadence_text.specs.Metric.{Metric, Tag}
 use Rattle.cadence_text.specs.OneReading.{IsFreeText, IsPacketOf}
 use Rattle.cadence_text.specs.Owned.{metrics_of}
-use Rattle.cadence_text.specs.Said.{IsDecimal}
+use Rattle.cadence_value.specs.Number.{IsDecimal}
 use Rattle.cadence_read.specs.declared.fault.ReadFault.{ReadFault}
 use Rattle.cadence_read.specs.declared.fault.ReadFault.TheVariants.{NotMetrics, OutOfMemory}
 

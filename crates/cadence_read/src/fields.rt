@@ -2,11 +2,11 @@
 ghost use Rattle.std.specs.Prelude.{◌≡◌, ◌↔◌, ◌<◌, ◌^◌, ⊤, All, IfSome, IsTrue, map};
 ghost use Rattle.std.specs.Option.{option_copied, option_map};
 ghost use Rattle.std.specs.String.{string_bytes};
-ghost use Rattle.cadence_text.specs.Line.{kind_text, numbers_text, tag_text};
-ghost use Rattle.cadence_text.specs.Number.{decimal_text, number_text};
+ghost use Rattle.cadence_text.specs.Line.{kind_text, tag_text};
+ghost use Rattle.cadence_value.specs.Number.{numbers_text};
+ghost use Rattle.cadence_value.specs.Number.{decimal_text, number_text, IsDecimal};
 ghost use Rattle.cadence_text.specs.OneReading.{IsNoSeparator};
 ghost use Rattle.cadence_text.specs.Owned.{tag_of_owned};
-ghost use Rattle.cadence_text.specs.Said.{IsDecimal};
 ghost use Rattle.cadence_read.specs.LineTexts.{tags_text};
 ghost use Rattle.cadence_read.specs.Listed.{IsListedTag, IsText};
 ghost use Rattle.cadence_read.specs.Reads.{Reads, ReadsOrFails};
@@ -14,7 +14,7 @@ ghost use Rattle.cadence_read.specs.Reads.{Reads, ReadsOrFails};
 use crate::cuts::{cut, cut_piece};
 use crate::fault::ReadFault;
 use crate::number::{read_number, read_whole};
-use cadence_text::decimal::Decimal;
+use cadence_value::decimal::Decimal;
 use cadence_text::line::MetricType;
 use std::alloc::Allocator;
 

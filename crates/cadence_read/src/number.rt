@@ -3,13 +3,12 @@ ghost use Rattle.std.specs.Prelude.{Bool, true, false, if◌then◌else◌, code
 ghost use mir.Syntax.{w128};
 ghost use Rattle.std.specs.Int.{is_negative};
 ghost use Rattle.std.specs.Str.Parse.{IsNumeral, digits_value};
-ghost use Rattle.cadence_text.specs.Number.{decimal_text, is_lowest, number, number_text};
-ghost use Rattle.cadence_text.specs.Said.{IsDecimal};
+ghost use Rattle.cadence_value.specs.Number.{decimal_text, is_lowest, number, number_text, IsDecimal};
 ghost use Rattle.cadence_read.specs.Magnitude.{IsMagnitude, magnitude_text};
 ghost use Rattle.cadence_read.specs.Reads.{Reads};
 
 use crate::cuts::cut;
-use cadence_text::decimal::{Decimal, MAX_PLACES};
+use cadence_value::decimal::{Decimal, MAX_PLACES, power_of_ten};
 
 // The number that digits say, also with zeros before them.
 #[tactic(auto, using(crate::proofs::DigitsRead::numeral_utf8))]
@@ -32,13 +31,6 @@ pub(crate) fn read_whole(text: &[u8]) -> Option<u128>
         return None;
     }
     read_digits(text)
-}
-
-fn power_of_ten(places: u8) -> u128
-    requires { places ≤ 30 }
-    ensures { result ≡ 10 ^ places }
-{
-    10u128.pow(u32::from(places))
 }
 
 // A size and its places, which are printed as these two texts with a dot between them.

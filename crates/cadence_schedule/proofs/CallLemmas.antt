@@ -6,10 +6,10 @@ use Rattle.std.proofs.lemmas.List.Sums.{fold-append}
 use Rattle.std.specs.List.{fold}
 use Rattle.std.specs.Option.{option_map}
 use Rattle.cadence_text.specs.declared.line.MetricType.{MetricType}
-use Rattle.cadence_text.specs.declared.value.MetricValue.{MetricValue}
+use Rattle.cadence_value.specs.declared.value.MetricValue.{MetricValue}
 use Rattle.cadence_text.specs.Metric.{Metric}
-use Rattle.cadence_text.specs.Number.{Number}
-use Rattle.cadence_text.specs.Values.{Converts, numbers_of}
+use Rattle.cadence_value.specs.Number.{Number}
+use Rattle.cadence_value.specs.Values.{Converts, numbers_of}
 use Rattle.cadence_schedule.specs.Settings.{Settings}
 use Rattle.cadence_schedule.specs.Call.{Choice, tagged, contained, timed, rated, MetricCall, plain_call, with_choice, chosen, metric_of_call, MakesMetric}
 

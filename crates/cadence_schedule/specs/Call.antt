@@ -6,7 +6,7 @@ use Rattle.cadence_text.specs.declared.line.MetricType.{MetricType}
 use Rattle.cadence_errors.specs.declared.MetricError.{MetricError}
 use Rattle.cadence_errors.specs.Errors.{IsInvalid, out_of_memory}
 use Rattle.cadence_text.specs.Metric.{Metric, Tag}
-use Rattle.cadence_text.specs.Number.{Number}
+use Rattle.cadence_value.specs.Number.{Number}
 use Rattle.cadence_schedule.specs.Settings.{Settings}
 
 -- what one option of a call chooses

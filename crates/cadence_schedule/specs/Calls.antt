@@ -5,8 +5,8 @@ use Rattle.cadence_text.specs.declared.line.MetricType.{MetricType}
 use Rattle.cadence_text.specs.declared.line.MetricType.TheVariants.{Counter, Timer, Gauge, Meter, Histogram, Set, Distribution}
 use Rattle.cadence_text.specs.Line.{line_of}
 use Rattle.cadence_text.specs.Metric.{Metric}
-use Rattle.cadence_text.specs.Number.{Number, whole, natural}
-use Rattle.cadence_text.specs.Values.{millis_of, nanos_of, numbers_in_u64}
+use Rattle.cadence_value.specs.Number.{Number, whole, natural}
+use Rattle.cadence_value.specs.Values.{millis_of, nanos_of, numbers_in_u64}
 use Rattle.cadence_schedule.specs.declared.call.Call.{Call}
 use Rattle.cadence_schedule.specs.declared.call.CallOption.{CallOption}
 use Rattle.cadence_schedule.specs.declared.call.CallOption.TheVariants.{Tag, TagValue, Container, Time, Rate}

@@ -16,6 +16,6 @@ pub use Rattle.cadence_errors.specs.Errors
 pub use Rattle.cadence_text.specs.Line
 pub use Rattle.cadence_text.specs.Metric
 pub use Rattle.cadence_text.specs.OneReading
-pub use Rattle.cadence_text.specs.Values
+pub use Rattle.cadence_value.specs.Values
 pub use Rattle.cadence_flow.specs.Writer
 pub use Rattle.cadence_flow.specs.Queue

@@ -1,14 +1,14 @@
 //! Calls that are kept as data.
 ghost use Rattle.std.specs.Prelude.{◌≡◌, OnOk, map};
 ghost use Rattle.std.specs.List.{fold};
-ghost use Rattle.cadence_text.specs.Values.{Converts};
+ghost use Rattle.cadence_value.specs.Values.{Converts};
 ghost use Rattle.cadence_schedule.specs.Call.{chosen};
 ghost use Rattle.cadence_schedule.specs.Calls.{choice_of, kind_of_value, numbers_of_value};
 
 use cadence_errors::MetricResult;
-use cadence_text::decimal::Decimal;
+use cadence_value::decimal::Decimal;
 use cadence_text::line::{MetricType, Record, Tag};
-use cadence_text::value::{MetricValue, ToHistogramValue, ToTimerValue};
+use cadence_value::value::{MetricValue, ToHistogramValue, ToTimerValue};
 use std::alloc::{AllocError, Allocator, Global};
 use std::time::Duration;
 

@@ -4,7 +4,7 @@ ghost use Rattle.std.specs.Option.{option_copied, option_map};
 ghost use Rattle.cadence_errors.specs.Errors.{out_of_memory};
 ghost use Rattle.cadence_text.specs.Line.{line_of};
 ghost use Rattle.cadence_text.specs.Record.{tag_of};
-ghost use Rattle.cadence_text.specs.Values.{numbers_of};
+ghost use Rattle.cadence_value.specs.Values.{numbers_of};
 ghost use Rattle.cadence_schedule.specs.Settings.{client_prefix, without_dots, settings_of, with_default_tag, with_default_container};
 ghost use Rattle.cadence_schedule.specs.Call.{metric_of_call, plain_call};
 ghost use Rattle.cadence_schedule.specs.SettingsParts.{owned_tag};
@@ -12,7 +12,7 @@ ghost use Rattle.cadence_schedule.specs.SettingsParts.{owned_tag};
 use super::call::{Call, choose_all};
 use cadence_errors::MetricResult;
 use cadence_text::line::{MetricType, Record, Tag};
-use cadence_text::value::MetricValue;
+use cadence_value::value::MetricValue;
 use std::alloc::{AllocError, Allocator, Global};
 use std::marker::Model;
 

@@ -10,14 +10,14 @@ use Rattle.std.proofs.lemmas.Str.{IsUtf8-append}
 use Rattle.std.proofs.Math.Nat.{div-le_self}
 use Rattle.cadence_text.specs.declared.line.MetricType.{MetricType}
 use Rattle.cadence_text.specs.declared.line.MetricType.TheVariants.{Counter, Timer, Gauge, Meter, Histogram, Set, Distribution}
-use Rattle.cadence_text.specs.Number.{Number, decimal_text, number_text, places_text}
+use Rattle.cadence_value.specs.Number.{Number, decimal_text, number_text, places_text, separated, numbers_text, IsDecimal}
 use Rattle.cadence_text.specs.Metric.{Metric, Tag}
-use Rattle.cadence_text.specs.Line.{separated, numbers_text, kind_text, rate_field, key_text, tag_text, tags_field, container_field, time_field, line_of}
+use Rattle.cadence_text.specs.Line.{kind_text, rate_field, key_text, tag_text, tags_field, container_field, time_field, line_of}
 use Rattle.cadence_text.specs.RecordMetric.{IsRecordTag, IsRecordMetric, IsRecordTime, FitsMemory, AreRecordNumbers, AreRecordTags}
-use Rattle.cadence_text.specs.Said.{IsDecimal, IsSaid, IsSaidTag}
-use Rattle.cadence_text.proofs.Cut.{each_weaker}
-use Rattle.cadence_text.proofs.Digits.{length-decimal_text-le}
-use Rattle.cadence_text.proofs.NumberText.{sign, unsigned_text, sign-pos, places_text-suc, length-places_of}
+use Rattle.cadence_text.specs.Said.{IsSaid, IsSaidTag}
+use Rattle.cadence_value.proofs.Cut.{each_weaker}
+use Rattle.cadence_value.proofs.Digits.{length-decimal_text-le}
+use Rattle.cadence_value.proofs.NumberText.{sign, unsigned_text, sign-pos, places_text-suc, length-places_of}
 
 sign_short : (z : ℤ) → length (sign z) ≤ 1
 sign_short (pos n) = omega (arith, ap (λ t. length t) (sign-pos n))

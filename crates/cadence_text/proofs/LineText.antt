@@ -7,13 +7,13 @@ use Rattle.std.proofs.lemmas.List.Concat.{flat_map-append}
 use Rattle.std.proofs.lemmas.List.Elements.{recursion_from_All, All-head}
 use Rattle.cadence_text.specs.declared.line.MetricType.{MetricType}
 use Rattle.cadence_text.specs.declared.line.MetricType.TheVariants.{Counter, Timer, Gauge, Meter, Histogram, Set, Distribution}
-use Rattle.cadence_text.specs.Number.{Number, decimal_text, number_text}
+use Rattle.cadence_value.specs.Number.{Number, decimal_text, number_text, separated, numbers_text}
 use Rattle.cadence_text.specs.Metric.{Metric, Tag}
-use Rattle.cadence_text.specs.Line.{separated, numbers_text, kind_text, rate_field, key_text, tag_text, tags_field, container_field, time_field, line_of}
+use Rattle.cadence_text.specs.Line.{kind_text, rate_field, key_text, tag_text, tags_field, container_field, time_field, line_of}
 use Rattle.cadence_text.specs.OneReading.{IsNoSeparator, IsFreeText, IsFreeTag, IsFreeOfSeparators, lines_of, IsPacketOf}
-use Rattle.cadence_text.proofs.Cut.{Lacks, lacks_no, cut_at, join_once, map_once, each_weaker, each_mapped, each_image, each_append, each_joined, cut_once, Stops, Passes}
-use Rattle.cadence_text.proofs.Digits.{decimal_text_once}
-use Rattle.cadence_text.proofs.NumberText.{number_once, number_bytes, IsNumberByte, number_some, decimal_bytes}
+use Rattle.cadence_value.proofs.Cut.{Lacks, lacks_no, cut_at, join_once, map_once, each_weaker, each_mapped, each_image, each_append, each_joined, cut_once, Stops, Passes}
+use Rattle.cadence_value.proofs.Digits.{decimal_text_once}
+use Rattle.cadence_value.proofs.NumberText.{number_once, number_bytes, IsNumberByte, number_some, decimal_bytes}
 
 -- texts with a byte between each two are the texts joined by it
 pub separated-joined : {X : Type 0} (c : ℕ) (text : X → List ℕ) (xs : List X) → separated (c ∷ []) text xs ≡ join_with_byte c (map text xs)

@@ -1,9 +1,7 @@
 pub use Rattle.cadence_errors.specs.Errors
-pub mod Number
 pub mod Metric
 pub mod Laws
 pub mod Line
-pub mod Values
 pub mod RecordMetric
 pub mod OneReading
 pub mod Record

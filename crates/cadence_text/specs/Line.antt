@@ -1,19 +1,9 @@
 -- The line of a metric.
 use Rattle.std.specs.Prelude.{ℕ, Option, None, Some, List, [], ◌∷◌, ◌++◌, codes}
-use Rattle.std.specs.List.{flat_map}
 use Rattle.cadence_text.specs.declared.line.MetricType.{MetricType}
 use Rattle.cadence_text.specs.declared.line.MetricType.TheVariants.{Counter, Timer, Gauge, Meter, Histogram, Set, Distribution}
-use Rattle.cadence_text.specs.Number.{Number, decimal_text, number_text}
+use Rattle.cadence_value.specs.Number.{Number, decimal_text, number_text, separated, numbers_text}
 use Rattle.cadence_text.specs.Metric.{Metric, Tag}
-
--- the texts of xs in order, with the separator between each two
-abbrev pub separated : {X : Type 0} → List ℕ → (X → List ℕ) → List X → List ℕ
-separated between text [] = []
-separated between text (x ∷ xs) = text x ++ flat_map (λ y. between ++ text y) xs
-
--- the numbers, with a colon between each two
-abbrev pub numbers_text : List Number → List ℕ
-numbers_text ns = separated (codes ":") number_text ns
 
 -- the type text of a kind
 abbrev pub kind_text : MetricType → List ℕ

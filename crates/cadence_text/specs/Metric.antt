@@ -1,7 +1,7 @@
 -- A metric.
 use Rattle.std.specs.Prelude.{ℕ, Option, None, List, [], ◌∷◌, ◌++◌}
 use Rattle.cadence_text.specs.declared.line.MetricType.{MetricType}
-use Rattle.cadence_text.specs.Number.{Number}
+use Rattle.cadence_value.specs.Number.{Number}
 
 -- a tag: its key, where it has one, and its text
 pub record Tag : Type 0 where

@@ -4,7 +4,7 @@ use Rattle.std.specs.Option.{option_copied}
 use Rattle.cadence_text.specs.declared.line.tag.Tag.{Tag as TagParts}
 use Rattle.cadence_text.specs.declared.line.record.Record.TheInside.{Inside}
 use Rattle.cadence_text.specs.Metric.{Metric, Tag}
-use Rattle.cadence_text.specs.Values.{numbers_of}
+use Rattle.cadence_value.specs.Values.{numbers_of}
 
 abbrev pub tag_of : TagParts → Tag
 tag_of tag = record { key = option_copied tag.key; text = tag.text.now }

@@ -2,8 +2,7 @@
 use Rattle.std.specs.Prelude.{ℕ, ◌<◌, ◌^◌, Option, List, All, IfSome, length}
 use Rattle.std.specs.Str.{IsUtf8}
 use Rattle.cadence_text.specs.Metric.{Metric, Tag}
-use Rattle.cadence_text.specs.Number.{Number}
-use Rattle.cadence_text.specs.Said.{IsDecimal}
+use Rattle.cadence_value.specs.Number.{Number, IsDecimal}
 
 pub record AreRecordNumbers (numbers : List Number) : Type 0 where
   pub each : All IsDecimal numbers

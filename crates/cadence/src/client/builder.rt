@@ -12,9 +12,9 @@ use crate::client::statsd_client::StatsdClient;
 use crate::laws::choosing_stands_for_more;
 use crate::metrics::{Kind, Metric, MetricText};
 use cadence_errors::{MetricError, MetricResult};
-use cadence_text::decimal::Decimal;
+use cadence_value::decimal::Decimal;
 use cadence_text::line::{Record, Tag};
-use cadence_text::value::MetricValue;
+use cadence_value::value::MetricValue;
 use std::alloc::Allocator;
 use std::marker::PhantomData;
 
@@ -206,7 +206,7 @@ impl<'m, 'c, T: Metric + From<String<C::Memory>>, C: MetricBackend> MetricBuilde
 }
 
 impl<'a, K: Kind, A: Allocator + Clone> MetricBuilder<'a, 'a, MetricText<K, A>, StatsdClient<A>> {
-    ghost use Rattle.cadence_text.specs.Values.{Converts};
+    ghost use Rattle.cadence_value.specs.Values.{Converts};
     ghost use Rattle.cadence.specs.Sending.{StartsPlain};
     ghost use Rattle.cadence.specs.Shown.{backend_of, pending_of, settings_of_client};
 

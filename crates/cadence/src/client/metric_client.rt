@@ -4,7 +4,7 @@ use crate::client::backend::MetricBackend;
 use crate::client::traits::{
     Counted, CountedExt, Distributed, Gauged, Histogrammed, Metered, Setted, Timed,
 };
-use cadence_text::decimal::Decimal;
+use cadence_value::decimal::Decimal;
 use std::time::Duration;
 
 /// Sends metrics of every kind and of every type of values: the bound of code that is generic over its client.

@@ -2,15 +2,15 @@
 ghost use Rattle.std.specs.Prelude.{◌≡◌, Err};
 ghost use Rattle.cadence_errors.specs.Errors.{out_of_memory};
 ghost use Rattle.cadence_text.specs.Record.{tag_of};
-ghost use Rattle.cadence_text.specs.Values.{Converts};
+ghost use Rattle.cadence_value.specs.Values.{Converts};
 ghost use Rattle.cadence_schedule.specs.Call.{tagged, contained, timed, rated};
 ghost use Rattle.cadence.specs.Sending.{Chooses, ChoosesOrHolds, StartsPlain};
 
 use cadence_errors::{MetricError, MetricResult};
 use cadence_schedule::ClientSettings;
-use cadence_text::decimal::Decimal;
+use cadence_value::decimal::Decimal;
 use cadence_text::line::{MetricType, Record, Tag};
-use cadence_text::value::MetricValue;
+use cadence_value::value::MetricValue;
 use std::alloc::{AllocError, Allocator};
 
 // The record of a call without options.

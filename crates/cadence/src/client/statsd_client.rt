@@ -1,6 +1,6 @@
 //! The client.
 ghost use Rattle.std.specs.Prelude.{◌≡◌, Some};
-ghost use Rattle.cadence_text.specs.Values.{Converts, numbers_of};
+ghost use Rattle.cadence_value.specs.Values.{Converts, numbers_of};
 ghost use Rattle.cadence.specs.Sending.{Flushed, SendsPlain};
 
 use crate::client::backend::MetricBackend;
@@ -10,7 +10,7 @@ use crate::sealed::Sealed;
 use cadence_errors::{MetricError, MetricResult};
 use cadence_schedule::ClientSettings;
 use cadence_sinks::MetricSink;
-use cadence_text::value::MetricValue;
+use cadence_value::value::MetricValue;
 use std::alloc::{Allocator, Global};
 
 /// A sink that the caller made.

@@ -6,7 +6,7 @@ use crate::client::statsd_client::StatsdClient;
 use crate::metrics::{Counter, Distribution, Gauge, Histogram, Meter, Set, Timer};
 use cadence_errors::MetricResult;
 use cadence_text::line::MetricType;
-use cadence_text::value::{
+use cadence_value::value::{
     ToCounterValue, ToDistributionValue, ToGaugeValue, ToHistogramValue, ToMeterValue, ToSetValue,
     ToTimerValue,
 };
@@ -56,7 +56,7 @@ impl<A: Allocator + Clone, T: ToCounterValue<A>> Counted<T> for StatsdClient<A> 
 /// Counts one up or down.
 pub trait CountedExt: Counted<i64> {
     ghost use Rattle.std.specs.Prelude.{◌≡◌, Some, ◌∷◌, [], pos, negsuc};
-    ghost use Rattle.cadence_text.specs.Number.{whole};
+    ghost use Rattle.cadence_value.specs.Number.{whole};
     ghost use Rattle.cadence.specs.Sending.{SendsPlain, StartsPlain};
     ghost use Rattle.cadence.specs.Shown.{backend_of, pending_of};
 

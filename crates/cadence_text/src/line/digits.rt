@@ -1,6 +1,6 @@
 //! The digits of whole numbers, two at a time, and how many they are.
 ghost use Rattle.std.specs.Prelude.{◌≡◌, ◌+◌, ◌/◌, ◌%◌, ◌<◌, ◌∷◌, [], length};
-ghost use Rattle.cadence_text.specs.Number.{decimal_text};
+ghost use Rattle.cadence_value.specs.Number.{decimal_text};
 ghost use Rattle.cadence_text.specs.Sink.{Takes};
 
 use crate::line::sink::ByteSink;

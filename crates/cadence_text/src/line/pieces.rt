@@ -1,20 +1,20 @@
 //! The pieces of a line, in order.
 ghost use Rattle.std.specs.Prelude.{◌≡◌, ◌++◌, ◌/◌, ◌%◌, ◌^◌, ◌<◌, ◌≤◌, ◌-◌, IfSome, codes, map, replicate};
 ghost use Rattle.std.specs.Option.{option_copied};
-ghost use Rattle.cadence_text.specs.Line.{container_field, kind_text, numbers_text, rate_field, tag_text, tags_field, time_field};
-ghost use Rattle.cadence_text.specs.Number.{Number, decimal_text, number_text, places_text};
-ghost use Rattle.cadence_text.specs.Values.{numbers_of};
+ghost use Rattle.cadence_text.specs.Line.{container_field, kind_text, rate_field, tag_text, tags_field, time_field};
+ghost use Rattle.cadence_value.specs.Number.{numbers_text};
+ghost use Rattle.cadence_value.specs.Number.{Number, decimal_text, number_text, places_text, IsDecimal};
+ghost use Rattle.cadence_value.specs.Values.{numbers_of};
 ghost use Rattle.cadence_text.specs.Record.{tag_of};
 ghost use Rattle.cadence_text.specs.RecordMetric.{AreRecordNumbers, AreRecordTags, FitsMemory, IsRecordTag, IsRecordTime};
-ghost use Rattle.cadence_text.specs.Said.{IsDecimal};
 ghost use Rattle.cadence_text.specs.Sink.{Takes};
 
-use crate::decimal::Decimal;
+use cadence_value::decimal::Decimal;
 use crate::line::MetricType;
 use crate::line::digits::{number_len, wide_len};
 use crate::line::sink::LineSink;
 use crate::line::tag::Tag;
-use crate::value::MetricValue;
+use cadence_value::value::MetricValue;
 use std::alloc::Allocator;
 
 // The bar and the type text.
@@ -99,7 +99,7 @@ trait Printed {
 }
 
 impl Printed for i64 {
-    ghost use Rattle.cadence_text.specs.Number.{whole};
+    ghost use Rattle.cadence_value.specs.Number.{whole};
 
     ghost number = { whole };
 
@@ -114,7 +114,7 @@ impl Printed for i64 {
 }
 
 impl Printed for u64 {
-    ghost use Rattle.cadence_text.specs.Number.{natural};
+    ghost use Rattle.cadence_value.specs.Number.{natural};
 
     ghost number = { natural };
 
@@ -155,7 +155,7 @@ fn push_magnitude<S: LineSink>(line: &mut S, magnitude: u128, places: u8)
             return push_small(line, small, places);
         }
     }
-    let scale = crate::decimal::power_of_ten(places);
+    let scale = cadence_value::decimal::power_of_ten(places);
     line.take_wide(magnitude / scale);
     if places > 0 {
         let fraction = magnitude % scale;

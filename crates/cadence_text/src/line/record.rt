@@ -2,14 +2,14 @@
 mod owned;
 mod same;
 
-use crate::decimal::Decimal;
+use cadence_value::decimal::Decimal;
 use crate::line::MetricType;
 use crate::line::counter::Counter;
 use crate::line::filled::Filled;
 use crate::line::pieces::{push_container, push_kind, push_rate, push_tags, push_time, push_value};
 use crate::line::sink::LineSink;
 use crate::line::tag::Tag;
-use crate::value::MetricValue;
+use cadence_value::value::MetricValue;
 use cadence_errors::MetricResult;
 pub use owned::OwnedMetric;
 use std::alloc::{AllocError, Allocator, Global};
@@ -53,7 +53,7 @@ impl<'a, A: Allocator> Record<'a, A> {
     ghost use Rattle.cadence_text.specs.RecordMetric.{IsRecordMetric};
     ghost use Rattle.cadence_text.specs.Said.{IsSaid};
     ghost use Rattle.cadence_text.specs.Sink.{Takes};
-    ghost use Rattle.cadence_text.specs.Values.{numbers_of};
+    ghost use Rattle.cadence_value.specs.Values.{numbers_of};
 
     /// A record without rate, tags, container and time. The name is the prefix as it stands, followed by the key.
     /// Takes no memory; `alloc` is for tags.

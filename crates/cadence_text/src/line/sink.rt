@@ -1,6 +1,6 @@
 //! What takes the pieces of a line.
 ghost use Rattle.std.specs.Prelude.{◌<◌, List, ℕ, ◌∷◌, []};
-ghost use Rattle.cadence_text.specs.Number.{decimal_text};
+ghost use Rattle.cadence_value.specs.Number.{decimal_text};
 ghost use Rattle.cadence_text.specs.RecordMetric.{FitsMemory};
 ghost use Rattle.cadence_text.specs.Sink.{Takes};
 

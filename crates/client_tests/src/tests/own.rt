@@ -1,6 +1,6 @@
 //! Types that a caller has of its own.
 ghost use Rattle.std.specs.Prelude.{[], ◌∷◌, None, Some, codes};
-ghost use Rattle.cadence_text.specs.Number.{natural};
+ghost use Rattle.cadence_value.specs.Number.{natural};
 
 use cadence::ext::{MetricValue, ToCounterValue};
 use cadence::types::{ErrorKind, Metric, MetricError, MetricResult};

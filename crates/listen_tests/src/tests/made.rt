@@ -1,6 +1,6 @@
 //! Metrics of every shape, each made, printed and read back.
 use cadence_listen::{ReadFault, read_line, read_packet};
-use cadence_text::decimal::Decimal;
+use cadence_value::decimal::Decimal;
 use cadence_text::line::{MetricType, OwnedMetric};
 use refusing::each_refused;
 use std::alloc::Global;

@@ -1,9 +1,9 @@
 //! Worked rows, equality and hashes.
 ghost use Rattle.std.specs.Prelude.{◌≡◌, ◌↔◌, IfOk, IsTrue};
-ghost use Rattle.cadence_text.specs.Number.{IsLowestForm};
+ghost use Rattle.cadence_value.specs.Number.{IsLowestForm};
 
 use cadence_errors::{ErrorKind, MetricResult};
-use cadence_text::decimal::{Decimal, MAX_PLACES};
+use cadence_value::decimal::{Decimal, MAX_PLACES};
 use std::hash::{DefaultHasher, Hash, Hasher};
 use std::test::Fail;
 

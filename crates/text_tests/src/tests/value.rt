@@ -1,10 +1,10 @@
 //! Each type of each kind through its trait, worked rows, and want of memory.
 ghost use Rattle.std.specs.Prelude.{◌≡◌, IfOk};
-ghost use Rattle.cadence_text.specs.Values.{numbers_of};
+ghost use Rattle.cadence_value.specs.Values.{numbers_of};
 
 use cadence_errors::{ErrorKind, MetricResult};
-use cadence_text::decimal::Decimal;
-use cadence_text::value::{
+use cadence_value::decimal::Decimal;
+use cadence_value::value::{
     MetricValue, ToCounterValue, ToDistributionValue, ToGaugeValue, ToHistogramValue, ToMeterValue,
     ToSetValue, ToTimerValue,
 };

@@ -1,7 +1,7 @@
 use Rattle.std.proofs.Common.{rules, ◌≡◌, ◌≢◌, ◌∷◌, ◌++◌, ap, ◌∙◌, sym, subst, List, ℕ, None, Some, true, false}
 use Rattle.std.specs.Option.{option_copied}
 use Rattle.std.proofs.lemmas.List.Elements.{recursion_from_All}
-use Rattle.cadence_text.proofs.Cut.{Lacks, lacks_no}
+use Rattle.cadence_value.proofs.Cut.{Lacks, lacks_no}
 use Rattle.cadence_read.specs.LineTexts.{field_parts, pieces_left}
 use Rattle.cadence_read.proofs.LineParts.{fields_once, none_left}
 use Rattle.cadence_read.proofs.cuts.cut_line.Goals as goal

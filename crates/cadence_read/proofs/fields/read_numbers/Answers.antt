@@ -1,8 +1,7 @@
 use Rattle.std.proofs.Common.{rules, arith, ◌≡◌, ◌<◌, ◌∙◌, sym, ap, map, length, ◌++◌, ◌∷◌, [], Some, None}
 use Rattle.std.specs.Option.{option_copied}
 use Rattle.std.proofs.lemmas.List.{map-id}
-use Rattle.cadence_text.specs.Number.{Number, number_text}
-use Rattle.cadence_text.specs.Said.{IsDecimal}
+use Rattle.cadence_value.specs.Number.{Number, number_text, IsDecimal}
 use Rattle.cadence_read.specs.LineTexts.{pieces_left}
 use Rattle.cadence_read.proofs.FieldsRead.{numbers_pieces, numbers_found}
 use Rattle.cadence_read.proofs.Pieces.{pieces, read_all, read_more, refused_at}

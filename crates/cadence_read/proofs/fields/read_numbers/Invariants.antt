@@ -1,7 +1,6 @@
 use Rattle.std.proofs.Common.{◌≡◌, ◌++◌, All, length, map}
 use Rattle.std.specs.Option.{option_copied}
-use Rattle.cadence_text.specs.Number.{Number, number_text}
-use Rattle.cadence_text.specs.Said.{IsDecimal}
+use Rattle.cadence_value.specs.Number.{Number, number_text, IsDecimal}
 use Rattle.cadence_read.specs.LineTexts.{pieces_left}
 use Rattle.cadence_read.proofs.Pieces.{pieces}
 use Rattle.cadence_read.proofs.fields.read_numbers.Given as goal

@@ -1,5 +1,5 @@
 use Rattle.std.proofs.Common.{rules, arith, ◌<◌}
-use Rattle.cadence_text.specs.Number.{IsLowestForm}
+use Rattle.cadence_value.specs.Number.{IsLowestForm}
 use Rattle.cadence_read.proofs.NumberRead.{not_lowest}
 use Rattle.cadence_read.proofs.number.in_lowest_form.Goals as goal
 

@@ -4,9 +4,9 @@ ghost use Rattle.std.specs.Option.{option_copied, option_map};
 ghost use Rattle.cadence_text.specs.Owned.{tag_of_owned};
 ghost use Rattle.cadence_text.specs.Record.{tag_of};
 
-use crate::decimal::Decimal;
+use cadence_value::decimal::Decimal;
 use crate::line::{MetricType, Record, Tag};
-use crate::value::MetricValue;
+use cadence_value::value::MetricValue;
 use cadence_errors::MetricResult;
 use std::alloc::{AllocError, Allocator, Global};
 

@@ -1,7 +1,7 @@
 use Rattle.std.proofs.Common.{rules, ◌≡◌, string_bytes}
 use Rattle.std.specs.Prelude.{map}
 use Rattle.std.specs.List.{fold}
-use Rattle.cadence_text.specs.Values.{numbers_of}
+use Rattle.cadence_value.specs.Values.{numbers_of}
 use Rattle.cadence_schedule.specs.Call.{chosen, metric_of_call, plain_call}
 use Rattle.cadence_schedule.specs.Calls.{choice_of, kind_of_value, numbers_of_value}
 use Rattle.cadence_schedule.proofs.CallLemmas.{makes_metric-fold}

@@ -1,5 +1,5 @@
 use Rattle.std.proofs.Common.{◌^◌, ◌≤◌, ◌∙◌, append_assoc, arith, rules}
-use Rattle.cadence_text.proofs.Digits.{text_pair}
+use Rattle.cadence_value.proofs.Digits.{text_pair}
 use Rattle.cadence_text.proofs.line.digits.+push_wide.Goals as goal
 
 pub returns : goal.returns

@@ -1,5 +1,5 @@
 use Rattle.std.proofs.Common.{arith}
-use Rattle.cadence_text.proofs.Digits.{length-decimal_text-le, length_four}
+use Rattle.cadence_value.proofs.Digits.{length-decimal_text-le, length_four}
 use Rattle.cadence_text.proofs.line.digits.wide_len.Goals as goal
 
 pub overflow_add-count : goal.overflow_add-count

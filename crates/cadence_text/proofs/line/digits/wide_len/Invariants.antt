@@ -1,5 +1,5 @@
 use Rattle.std.proofs.Common.{◌≡◌, ◌+◌, length}
-use Rattle.cadence_text.specs.Number.{decimal_text}
+use Rattle.cadence_value.specs.Number.{decimal_text}
 use Rattle.cadence_text.proofs.line.digits.wide_len.Given as goal
 
 abbrev pub invariant-loop-left : goal.invariant-loop-left

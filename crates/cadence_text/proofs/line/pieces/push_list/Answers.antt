@@ -1,7 +1,7 @@
 use Rattle.std.proofs.Common.{◌≡◌, ◌∷◌, arith, rules}
 use Rattle.std.proofs.lemmas.Grind.{common_steps}
 use Rattle.std.proofs.lemmas.List.{length-map}
-use Rattle.cadence_text.specs.Said.{IsDecimal}
+use Rattle.cadence_value.specs.Number.{IsDecimal}
 use Rattle.cadence_text.proofs.Listed.{All-one_more, All-split}
 use Rattle.cadence_text.proofs.line.pieces.push_list.Goals as goal
 

@@ -1,7 +1,6 @@
 use Rattle.std.proofs.Common.{◌++◌, codes, map, take}
 use Rattle.std.specs.List.{All, flat_map}
-use Rattle.cadence_text.specs.Number.{number_text}
-use Rattle.cadence_text.specs.Said.{IsDecimal}
+use Rattle.cadence_value.specs.Number.{number_text, IsDecimal}
 use Rattle.cadence_text.specs.Sink.{Takes}
 use Rattle.cadence_text.proofs.line.pieces.push_list.Given as goal
 

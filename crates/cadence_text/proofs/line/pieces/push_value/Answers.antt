@@ -1,7 +1,7 @@
 use Rattle.std.proofs.Common.{◌≡◌, map, sym, ap, ◌∙◌}
 use Rattle.std.proofs.lemmas.List.{map-id}
-use Rattle.cadence_text.specs.Number.{Number}
-use Rattle.cadence_text.specs.Values.{numbers_of}
+use Rattle.cadence_value.specs.Number.{Number}
+use Rattle.cadence_value.specs.Values.{numbers_of}
 use Rattle.cadence_text.proofs.line.pieces.push_value.Goals as goal
 
 pub returns-in-PackedDecimal : goal.returns-in-PackedDecimal

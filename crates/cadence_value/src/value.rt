@@ -1,0 +1,76 @@
+//! Values of metrics.
+ghost use Rattle.std.specs.Prelude.{◌≡◌, Some, map};
+ghost use Rattle.std.specs.Fmt.{DisplaysOnOk};
+ghost use Rattle.cadence_value.specs.Number.{numbers_text};
+ghost use Rattle.cadence_value.specs.Values.{numbers_of};
+
+mod distributions;
+mod durations;
+mod histograms;
+mod plain;
+mod timers;
+
+use crate::decimal::{AsDecimal, Decimal};
+pub use distributions::ToDistributionValue;
+pub use histograms::ToHistogramValue;
+pub use plain::{ToCounterValue, ToGaugeValue, ToMeterValue, ToSetValue};
+use std::alloc::{Allocator, Global};
+use std::fmt;
+pub use timers::ToTimerValue;
+
+/// The value of a metric, in the form that a caller has it in: one number, or a list of them. The form says nothing of
+/// the line, only the numbers do.
+///
+/// A clone takes memory for a list alone, and answers want of it.
+#[derive(Drop)]
+#[derive_where(Clone; A)]
+#[derive_where(Debug)]
+pub enum MetricValue<A: Allocator = Global> {
+    /// A signed whole number.
+    Signed(i64),
+    /// Signed whole numbers. No type of this crate is converted to it.
+    PackedSigned(Vec<i64, A>),
+    /// An unsigned whole number.
+    Unsigned(u64),
+    /// Unsigned whole numbers.
+    PackedUnsigned(Vec<u64, A>),
+    /// A decimal number, of this project's own.
+    Decimal(Decimal),
+    /// Decimal numbers.
+    PackedDecimal(Vec<Decimal, A>),
+}
+
+// The texts of the numbers, with a colon between each two.
+fn write_list<W: fmt::Write, T: AsDecimal>(f: &mut fmt::Formatter<W>, numbers: &[T]) -> fmt::Result
+    ensures { DisplaysOnOk W.write_str_gives f.old result
+        (Some (numbers_text (map T.number numbers.now))) f.new }
+{
+    let Some((first, others)) = numbers.split_first() else {
+        return Ok(());
+    };
+    write!(f, "{}", first.as_decimal())?;
+    for number in others {
+        write!(f, ":{}", number.as_decimal())?;
+    }
+    Ok(())
+}
+
+/// Its numbers, with a colon between each two. An empty list prints nothing.
+impl<A: Allocator> fmt::Display for MetricValue<A> {
+    ghost use Rattle.std.specs.Prelude.{Some};
+    ghost use Rattle.cadence_value.specs.Number.{numbers_text};
+    ghost use Rattle.cadence_value.specs.Values.{numbers_of};
+
+    ghost output = { λ v. Some (numbers_text (numbers_of v)) };
+
+    fn fmt<W: fmt::Write>(&self, f: &mut fmt::Formatter<W>) -> fmt::Result {
+        match self {
+            MetricValue::Signed(n) => write!(f, "{}", n.as_decimal()),
+            MetricValue::PackedSigned(ns) => write_list(f, ns),
+            MetricValue::Unsigned(n) => write!(f, "{}", n.as_decimal()),
+            MetricValue::PackedUnsigned(ns) => write_list(f, ns),
+            MetricValue::Decimal(d) => write!(f, "{d}"),
+            MetricValue::PackedDecimal(ds) => write_list(f, ds),
+        }
+    }
+}
