@@ -3,7 +3,9 @@
 #![tactic(auto)]
 
 mod escapes;
+mod report;
 mod streams;
 
 pub use escapes::{push_bytes, push_text};
+pub use report::{Failure, print_report};
 pub use streams::{ReadError, print_all, read_all};

@@ -4,73 +4,23 @@ ghost use Rattle.std.specs.Io.KnownBytes.{Appends};
 ghost use Rattle.cadence_text.specs.Owned.{metric_of_owned};
 ghost use Rattle.cadence_listen.specs.Lines.{IsLinesOf, lines_shown};
 
-use cadence_console::{ReadError, print_all, push_text, read_all};
-use cadence_errors::MetricError;
+use cadence_console::{Failure, print_report, push_text, read_all};
+use cadence_errors::MetricResult;
 use cadence_read::{ReadFault, read_packet};
 use cadence_text::line::OwnedMetric;
-use std::alloc::{AllocError, Allocator};
+use std::alloc::Allocator;
 use std::io::{Read, Write};
-use thiserror::Error;
 
-/// Why no lines are printed.
-#[derive(Clone, Copy, Debug, Error)]
-enum Failure {
-    #[error("not a packet of metrics")]
-    NotMetrics,
-    #[error("input: cannot read")]
-    Input,
-    #[error("out of memory")]
-    OutOfMemory,
-}
-
-impl From<AllocError> for Failure {
-    fn from(_error: AllocError) -> Failure {
-        Failure::OutOfMemory
+// A packet's fault, as a failure of the program.
+fn failure_of(fault: ReadFault) -> Failure<ReadFault> {
+    match fault {
+        ReadFault::NotMetrics => Failure::Unusable(fault),
+        ReadFault::OutOfMemory => Failure::OutOfMemory,
     }
 }
 
-// The record of a metric refuses for want of memory alone.
-impl From<MetricError> for Failure {
-    fn from(_error: MetricError) -> Failure {
-        Failure::OutOfMemory
-    }
-}
-
-impl From<ReadFault> for Failure {
-    fn from(fault: ReadFault) -> Failure {
-        match fault {
-            ReadFault::NotMetrics => Failure::NotMetrics,
-            ReadFault::OutOfMemory => Failure::OutOfMemory,
-        }
-    }
-}
-
-impl From<ReadError> for Failure {
-    fn from(error: ReadError) -> Failure {
-        match error {
-            ReadError::Reader => Failure::Input,
-            ReadError::OutOfMemory => Failure::OutOfMemory,
-        }
-    }
-}
-
-impl Failure {
-    fn status(self) -> u8
-        ensures told { 2 ≤ result }
-        ensures most { result ≤ 3 }
-    {
-        match self {
-            Failure::OutOfMemory => 3,
-            _ => 2,
-        }
-    }
-}
-
-// A line for each metric, with its length.
-fn text_of<A: Allocator + Clone>(
-    alloc: &A,
-    metrics: &[OwnedMetric<A>],
-) -> Result<String<A>, Failure>
+// A line for each metric, with its length. It is refused for want of memory alone.
+fn text_of<A: Allocator + Clone>(alloc: &A, metrics: &[OwnedMetric<A>]) -> MetricResult<String<A>>
     ensures { IfOk result (λ text.
         string_bytes text ≡ lines_shown (map metric_of_owned metrics.now)) }
 {
@@ -83,13 +33,19 @@ fn text_of<A: Allocator + Clone>(
 }
 
 // The lines of the metrics whose packet the input holds.
-fn lines_of<A: Allocator + Clone, I: Read>(alloc: A, input: &mut I) -> Result<String<A>, Failure>
+fn lines_of<A: Allocator + Clone, I: Read>(
+    alloc: A,
+    input: &mut I,
+) -> Result<String<A>, Failure<ReadFault>>
     ensures { IfOk result (λ text. IfSome (I.remaining input.old) (λ packet.
         IsLinesOf packet (string_bytes text))) }
 {
     let packet = read_all(alloc.clone()?, input)?;
-    let metrics = read_packet(alloc.clone()?, &packet)?;
-    text_of(&alloc, &metrics)
+    let metrics = read_packet(alloc.clone()?, &packet).map_err(failure_of)?;
+    let Ok(text) = text_of(&alloc, &metrics) else {
+        return Err(Failure::OutOfMemory);
+    };
+    Ok(text)
 }
 
 /// Reads the input as one packet, and prints a line for each of its metrics: `line`, the length in bytes, and the
@@ -108,14 +64,5 @@ pub fn run_listen<A: Allocator + Clone, I: Read, O: Write, E: Write>(
         (text : List ℕ) × IsLinesOf packet text
         × Appends (O.contents output.old) (O.contents output.new) text) }
 {
-    match lines_of(alloc, input) {
-        Ok(text) => match print_all(output, &text) {
-            Ok(()) => 0,
-            Err(_) => 1,
-        },
-        Err(failure) => {
-            let _ = writeln!(errors, "statsd_listen: {failure}");
-            failure.status()
-        }
-    }
+    print_report("statsd_listen", lines_of(alloc, input), output, errors)
 }

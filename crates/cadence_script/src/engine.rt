@@ -5,75 +5,41 @@ use crate::print::report_text;
 use crate::script::{ScriptError, read_script};
 use cadence::io::PacketLog;
 use cadence::schedule::run_schedule_with;
-use cadence::types::MetricError;
-use cadence_console::{ReadError, print_all, read_all};
-use std::alloc::{AllocError, Allocator};
+use cadence_console::{Failure, print_report, read_all};
+use std::alloc::Allocator;
 use std::io::{Read, Write};
 use thiserror::Error;
 
-/// Why no report is printed.
-#[derive(Debug, Drop, Error)]
-enum Failure {
+/// Why an input is no script.
+#[derive(Clone, Copy, Debug, Error)]
+enum Unreadable {
     #[error("line {0}: cannot read")]
     Line(usize),
     #[error("input: not UTF-8")]
     NotUtf8,
-    #[error("input: cannot read")]
-    Input,
-    #[error("out of memory")]
-    OutOfMemory,
 }
 
-impl From<AllocError> for Failure {
-    fn from(_error: AllocError) -> Failure {
-        Failure::OutOfMemory
-    }
-}
-
-// The settings of a client refuse for want of memory alone.
-impl From<MetricError> for Failure {
-    fn from(_error: MetricError) -> Failure {
-        Failure::OutOfMemory
-    }
-}
-
-impl From<ScriptError> for Failure {
-    fn from(error: ScriptError) -> Failure {
-        match error {
-            ScriptError::Line(number) => Failure::Line(number),
-            ScriptError::OutOfMemory => Failure::OutOfMemory,
-        }
-    }
-}
-
-impl From<ReadError> for Failure {
-    fn from(error: ReadError) -> Failure {
-        match error {
-            ReadError::Reader => Failure::Input,
-            ReadError::OutOfMemory => Failure::OutOfMemory,
-        }
-    }
-}
-
-impl Failure {
-    fn status(&self) -> u8
-        ensures { result ≤ 3 }
-    {
-        match self {
-            Failure::OutOfMemory => 3,
-            _ => 2,
-        }
+// A script's error, as a failure of the program.
+fn failure_of(error: ScriptError) -> Failure<Unreadable> {
+    match error {
+        ScriptError::Line(number) => Failure::Unusable(Unreadable::Line(number)),
+        ScriptError::OutOfMemory => Failure::OutOfMemory,
     }
 }
 
 // The report of the script that the input holds.
-fn report_of<A: Allocator + Clone, I: Read>(alloc: A, input: &mut I) -> Result<String<A>, Failure> {
+fn report_of<A: Allocator + Clone, I: Read>(
+    alloc: A,
+    input: &mut I,
+) -> Result<String<A>, Failure<Unreadable>> {
     let bytes = read_all(alloc.clone()?, input)?;
     let Ok(text) = str::from_utf8(&bytes) else {
-        return Err(Failure::NotUtf8);
+        return Err(Failure::Unusable(Unreadable::NotUtf8));
     };
-    let script = read_script(alloc.clone()?, text)?;
-    let settings = script.settings()?;
+    let script = read_script(alloc.clone()?, text).map_err(failure_of)?;
+    let Ok(settings) = script.settings() else {
+        return Err(Failure::OutOfMemory);
+    };
     let answers = script.answers.clone()?;
     let log = PacketLog::new(alloc.clone()?, answers);
     let Ok(report) = run_schedule_with(
@@ -103,14 +69,5 @@ pub fn run_script<A: Allocator + Clone, I: Read, O: Write, E: Write>(
 ) -> u8
     ensures { result ≤ 3 }
 {
-    match report_of(alloc, input) {
-        Ok(text) => match print_all(output, &text) {
-            Ok(()) => 0,
-            Err(_) => 1,
-        },
-        Err(failure) => {
-            let _ = writeln!(errors, "statsd_schedule: {failure}");
-            failure.status()
-        }
-    }
+    print_report("statsd_schedule", report_of(alloc, input), output, errors)
 }
