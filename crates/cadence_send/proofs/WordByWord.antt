@@ -1,0 +1,138 @@
+-- Words that are read one by one, and the word of a tag.
+use Rattle.std.proofs.Common.{◌≡◌, ◌≢◌, ℕ, zero, suc, ◌+◌, ◌<◌, ◌≤◌, ◌-◌, ◌⊎◌, Bor, drop, map, Result, Ok, Err, ◌++◌, List, [], ◌∷◌, length, take, get_or, refl, sym, ap, ◌∙◌, subst, arith, Option, Some, None, inl, inr, eqb, length-append}
+use Rattle.std.specs.Prelude.{All, IfSome}
+use Rattle.std.specs.List.{AllZip, slice_split}
+use Rattle.std.specs.Str.{IsUtf8}
+use Rattle.std.proofs.lemmas.Bool.{ne_eqb}
+use Rattle.std.proofs.lemmas.List.{append_assoc, get_or-map, length-drop, length-map, take_all, take_more}
+use Rattle.std.proofs.lemmas.List.Elements.{recursion_from_All}
+use Rattle.std.proofs.lemmas.List.Splits.{slice_split_none}
+use Rattle.std.proofs.lemmas.Slice.Zip.{all_zipped_more, AllZip-long}
+use Rattle.cadence_send.specs.Asked.{AskFor, Asked, IsNumberWord, IsTagWord, IsValueWord, IsWord, NamesKind, Packs}
+use Rattle.cadence_send.specs.Finds.{FailsAs, FindsOrFails}
+use Rattle.cadence_send.specs.declared.fault.Fault.{Fault}
+use Rattle.cadence_send.specs.declared.fault.Fault.TheVariants.{Unreadable, OutOfMemory}
+use Rattle.cadence_send.specs.Sent.{IsLineOfText, IsLineOfWords}
+use Rattle.cadence_send.specs.declared.defaults.Defaults.{Defaults}
+use Rattle.cadence_schedule.specs.Call.{metric_of_call, plain_call}
+use Rattle.cadence_schedule.specs.Settings.{Settings}
+use Rattle.cadence_text.proofs.LineText.{key_text-keyed, keyed_text, plain_lacks_colon}
+use Rattle.cadence_text.specs.declared.line.MetricType.{MetricType}
+use Rattle.cadence_text.specs.Metric.{Tag}
+use Rattle.cadence_text.specs.OneReading.{IsFreeText}
+use Rattle.cadence_value.proofs.Cut.{Lacks, cut_at, lacks_no}
+use Rattle.cadence_value.specs.Number.{Number}
+
+-- the texts of words
+abbrev pub texts : List (Bor (List ℕ)) → List (List ℕ)
+texts words = map (λ w. w.now) words
+
+-- each word has something with R
+pub word_at : {B : Type 0} (R : List ℕ → B → Type 0) (words : List (Bor (List ℕ))) (ys : List B) (i : ℕ) (d : Bor (List ℕ)) → i < length words → AllZip R (texts words) ys → (y : B) × R (get_or words i d).now y
+word_at R [] ys i d inside h = absurd (omega (arith, inside))
+word_at R (w ∷ words) [] i d inside h = absurd h
+word_at R (w ∷ words) (y ∷ ys) zero d inside h = (y, h.0)
+word_at R (w ∷ words) (y ∷ ys) (suc i) d inside h = word_at R words ys i d (omega (arith, inside)) h.1
+
+-- one word more that has something with R
+pub word_more : {B : Type 0} (R : List ℕ → B → Type 0) (words : List (Bor (List ℕ))) (ys : List B) (i : ℕ) (d : Bor (List ℕ)) (y : B) → i < length words → AllZip R (take i (texts words)) ys → R (get_or words i d).now y → AllZip R (take (i + 1) (texts words)) (ys ++ y ∷ [])
+word_more R words ys i d y inside h one =
+    let long : i < length (texts words) = omega (arith, inside, length-map words (λ (w : Bor (List ℕ)). w.now)) in
+    let is : get_or (texts words) i (get_or words i d).now ≡ (get_or words i d).now = get_or-map (λ (w : Bor (List ℕ)). w.now) words i d (get_or words i d).now inside in
+    subst (λ zs. AllZip R zs (ys ++ y ∷ [])) (sym (take_more (texts words) i (get_or words i d).now long ∙ ap (λ z. take i (texts words) ++ z ∷ []) is))
+    (all_zipped_more R (take i (texts words)) ys (get_or words i d).now y h one)
+
+-- the words after the first three, as they are lent
+abbrev pub rest_of : List (Bor (List ℕ)) → List (Bor (List ℕ))
+rest_of words = take (length words - 3) (drop 3 words)
+
+rest_is : (words : List (Bor (List ℕ))) → rest_of words ≡ drop 3 words
+rest_is words = take_all (length words - 3) (drop 3 words) (omega (arith, length-drop 3 words))
+
+-- the words of what is asked for
+pub asks : (words : List (Bor (List ℕ))) (k n v : Bor (List ℕ)) (a : Asked) → 3 ≤ length words → NamesKind (get_or words 0 k).now a.kind → a.name ≡ (get_or words 1 n).now → IsWord (get_or words 1 n).now → IsValueWord a.kind (get_or words 2 v).now a.numbers → AllZip IsTagWord (texts (rest_of words)) a.tags → AskFor (texts words) a
+asks [] k n v a long kind name word value tags = absurd (omega (arith, long))
+asks (w1 ∷ []) k n v a long kind name word value tags = absurd (omega (arith, long))
+asks (w1 ∷ w2 ∷ []) k n v a long kind name word value tags = absurd (omega (arith, long))
+asks (w1 ∷ w2 ∷ w3 ∷ ws) k n v a long kind name word value tags = (kind, name, word, value, subst (λ ws. AllZip IsTagWord (texts ws) a.tags) (rest_is (w1 ∷ w2 ∷ w3 ∷ ws)) tags)
+
+tags_after : (words : List (Bor (List ℕ))) (a : Asked) → AskFor (texts words) a → AllZip IsTagWord (texts (drop 3 words)) a.tags
+tags_after [] a h = absurd h
+tags_after (w1 ∷ []) a h = absurd h
+tags_after (w1 ∷ w2 ∷ []) a h = absurd h
+tags_after (w1 ∷ w2 ∷ w3 ∷ ws) a h = h.4
+
+pub tags_asked : (words : List (Bor (List ℕ))) (a : Asked) → AskFor (texts words) a → AllZip IsTagWord (texts (rest_of words)) a.tags
+tags_asked words a h = subst (λ ws. AllZip IsTagWord (texts ws) a.tags) (sym (rest_is words)) (tags_after words a h)
+
+-- where a part of what is looked for isn't there, the whole isn't
+pub hands_on : {C X Y : Type 0} (Has : X → Type 0) (view : C → X) (Part : Y → Type 0) (r : Result C Fault) (fault : Fault) → r ≡ Err fault → ((x : X) → Has x → (y : Y) × Part y) → FailsAs Part fault → FindsOrFails Has view r
+hands_on Has view Part r (Unreadable part) is from none = rw is (λ x h. let p = from x h in none p.0 p.1)
+hands_on Has view Part r OutOfMemory is from none = rw is tt
+
+-- a word without a comma is one item
+one_item : (word : List ℕ) → All (λ b. b ≢ 44) word → slice_split (λ b. eqb b 44) word ≡ word ∷ []
+one_item word h = slice_split_none (λ b. eqb b 44) word (λ k d inside. ne_eqb _ 44 (h k d inside))
+
+pub single_found : (kind : MetricType) (word : List ℕ) (n : Number) → All (λ b. b ≢ 44) word → IsNumberWord kind word n → IsValueWord kind word (n ∷ [])
+single_found kind word n plain h = record { each = subst (λ ws. AllZip (IsNumberWord kind) ws (n ∷ [])) (sym (one_item word plain)) (h, tt); few = inr refl }
+
+first_of : {A B : Type 0} (R : A → B → Type 0) (x : A) (ys : List B) → AllZip R (x ∷ []) ys → (y : B) × R x y
+first_of R x [] h = absurd h
+first_of R x (y ∷ ys) h = (y, h.0)
+
+pub single_none : (kind : MetricType) (word : List ℕ) (ns : List Number) → All (λ b. b ≢ 44) word → ((n : Number) → IsNumberWord kind word n → ⊥) → IsValueWord kind word ns → ⊥
+single_none kind word ns plain none h =
+    let (n, one) = first_of (IsNumberWord kind) word ns (subst (λ ws. AllZip (IsNumberWord kind) ws ns) (one_item word plain) h.each) in
+    none n one
+
+-- the items of a value
+pub items_found : (kind : MetricType) (word : List ℕ) (words : List (Bor (List ℕ))) (ns : List Number) → texts words ≡ slice_split (λ b. eqb b 44) word → AllZip (IsNumberWord kind) (texts words) ns → Packs kind ⊎ (length words ≡ 1) → IsValueWord kind word ns
+items_found kind word words ns is h few = record {
+  each = subst (λ ws. AllZip (IsNumberWord kind) ws ns) is h;
+  few = elim few [ inl packs ↦ inl packs | inr one ↦ inr (AllZip-long (IsNumberWord kind) (texts words) ns h ∙ length-map words (λ (w : Bor (List ℕ)). w.now) ∙ one) ];
+}
+
+-- several items of a kind that doesn't pack
+pub too_many : (kind : MetricType) (word : List ℕ) (words : List (Bor (List ℕ))) (ns : List Number) → texts words ≡ slice_split (λ b. eqb b 44) word → length words ≢ 1 → (Packs kind → ⊥) → IsValueWord kind word ns → ⊥
+too_many kind word words ns is other unpacked h = elim h.few [
+  | inl packs ↦ unpacked packs
+  | inr one ↦ other (sym (length-map words (λ (w : Bor (List ℕ)). w.now)) ∙ ap (λ ws. length ws) is ∙ sym (AllZip-long (IsNumberWord kind) (slice_split (λ b. eqb b 44) word) ns h.each) ∙ one)
+]
+
+-- a tag with a colon is its key and its text
+pub tag_keyed : (tag : Tag) (word key text : List ℕ) → All (λ b. b ≢ 58) key → word ≡ key ++ 58 ∷ text → IsTagWord word tag → IsFreeText key × IsFreeText text
+tag_keyed tag word key text front cut h = by_key tag.key tag.text h.free.key h.free.text (sym (key_text-keyed tag.key tag.text) ∙ h.whole ∙ cut)
+  where
+    by_key : (k : Option (List ℕ)) (s : List ℕ) → IfSome k IsFreeText → IsFreeText s → keyed_text k s ≡ key ++ (58 ∷ text) → IsFreeText key × IsFreeText text
+    by_key (Some k) s hk hs e =
+        let (same, rest) = cut_at 58 k key (58 ∷ s) (58 ∷ text) (plain_lacks_colon k hk) (recursion_from_All (λ b. b ≢ 58) key front) refl refl e in
+        let tails : s ≡ text = cc in
+        (subst IsFreeText same hk, subst IsFreeText tails hs)
+    by_key None s hk hs e = absurd (lacks_no 58 key text (subst (Lacks 58) e (plain_lacks_colon s hs)))
+
+-- a tag without one is its text
+pub tag_plain : (tag : Tag) (word : List ℕ) → All (λ b. b ≢ 58) word → IsTagWord word tag → IsFreeText word
+tag_plain tag word plain h = by_key tag.key tag.text h.free.text (sym (key_text-keyed tag.key tag.text) ∙ h.whole)
+  where
+    by_key : (k : Option (List ℕ)) (s : List ℕ) → IsFreeText s → keyed_text k s ≡ word → IsFreeText word
+    by_key (Some k) s hs e = absurd (lacks_no 58 k s (subst (Lacks 58) (sym e) (recursion_from_All (λ b. b ≢ 58) word plain)))
+    by_key None s hs e = subst IsFreeText e hs
+
+pub tag_found : (key text word : List ℕ) → word ≡ key ++ 58 ∷ text → IsFreeText key → IsFreeText text → IsTagWord word (record { key = Some key; text = text })
+tag_found key text word cut k t = record { whole = append_assoc key (58 ∷ []) text ∙ sym cut; free = record { key = k; text = t }; some = omega (arith, ap (λ w. length w) cut, length-append key (58 ∷ text)) }
+
+-- the line of the words of a text
+pub text_read : {Z C : Type 0} (d : Defaults Z) (view : C → List ℕ) (words : List (Bor (List ℕ))) (text seen : List ℕ) (r : Result C Fault) → seen ≡ text → IsUtf8 text → texts words ≡ slice_split (λ b. eqb b 32) seen → FindsOrFails (IsLineOfWords d (texts words)) view r → FindsOrFails (IsLineOfText d text) view r
+text_read d view words text seen (Ok c) same utf8 cut h = (utf8, subst (λ ws. IsLineOfWords d ws (view c)) (cut ∙ ap (slice_split (λ b. eqb b 32)) same) h)
+text_read d view words text seen (Err (Unreadable part)) same utf8 cut h = λ line l. h line (subst (λ ws. IsLineOfWords d ws line) (sym (cut ∙ ap (slice_split (λ b. eqb b 32)) same)) l.1)
+text_read d view words text seen (Err OutOfMemory) same utf8 cut h = tt
+
+-- a call without options has neither rate nor time
+pub plain_rate : (s : Settings) (kind : MetricType) (name : List ℕ) (ns : List Number) → (metric_of_call s (plain_call kind name ns)).rate ≡ None
+unfolding metric_of_call
+plain_rate s kind name ns = refl
+
+pub plain_time : (s : Settings) (kind : MetricType) (name : List ℕ) (ns : List Number) → (metric_of_call s (plain_call kind name ns)).time ≡ None
+unfolding metric_of_call
+plain_time s kind name ns = refl

@@ -1,0 +1,95 @@
+-- What the words of a line ask for.
+use Rattle.std.specs.Prelude.{◌≡◌, ◌<◌, ◌⊎◌, ◌==◌, ⊤, ℕ, List, [], ◌∷◌, ◌++◌, codes, length, Result, Ok, Err}
+use Rattle.std.specs.Int.{w64, FitsUnsigned}
+use Rattle.std.specs.Int.RustNames.{FitsSigned}
+use Rattle.std.specs.List.{AllZip, slice_split}
+use Rattle.cadence_text.specs.declared.line.MetricType.{MetricType}
+use Rattle.cadence_text.specs.declared.line.MetricType.TheVariants.{Counter, Timer, Gauge, Meter, Histogram, Set, Distribution}
+use Rattle.cadence_text.specs.Line.{kind_text, tag_text}
+use Rattle.cadence_text.specs.Metric.{Metric, Tag}
+use Rattle.cadence_text.specs.OneReading.{IsFreeTag, IsFreeText}
+use Rattle.cadence_send.specs.Finds.{FailsAs}
+use Rattle.cadence_send.specs.declared.fault.Fault.{Fault}
+use Rattle.cadence_value.specs.Number.{IsDecimal, Number, number_text}
+
+-- a kind's name, as the client's calls have it
+abbrev pub kind_name : MetricType → List ℕ
+kind_name Counter = codes "count"
+kind_name Timer = codes "time"
+kind_name Gauge = codes "gauge"
+kind_name Meter = codes "meter"
+kind_name Histogram = codes "histogram"
+kind_name Set = codes "set"
+kind_name Distribution = codes "distribution"
+
+-- a kind is named by its type text or by its name
+abbrev pub NamesKind : List ℕ → MetricType → Type 0
+NamesKind word kind = (word ≡ kind_text kind) ⊎ (word ≡ kind_name kind)
+
+-- a text that isn't empty, and has no separator
+abbrev pub IsWord : List ℕ → Type 0
+IsWord text = (0 < length text) × IsFreeText text
+
+-- the tag that is written so
+pub record IsTagWord (word : List ℕ) (tag : Tag) : Type 0 where
+  pub whole : tag_text tag ≡ word
+  pub free : IsFreeTag tag
+  pub some : 0 < length word
+
+-- a whole number of 64 bits, with a sign and without
+abbrev pub IsSigned : Number → Type 0
+IsSigned n = (n.places ≡ 0) × FitsSigned w64 n.mantissa
+
+abbrev pub IsUnsigned : Number → Type 0
+IsUnsigned n = (n.places ≡ 0) × FitsUnsigned w64 n.mantissa
+
+-- the numbers that a kind has
+abbrev pub Takes : MetricType → Number → Type 0
+Takes Counter n = IsSigned n ⊎ IsUnsigned n
+Takes Timer n = IsUnsigned n
+Takes Gauge n = ⊤
+Takes Meter n = IsUnsigned n
+Takes Histogram n = ⊤
+Takes Set n = IsSigned n
+Takes Distribution n = ⊤
+
+-- the number that is written so
+pub record IsNumberWord (kind : MetricType) (word : List ℕ) (n : Number) : Type 0 where
+  pub decimal : IsDecimal n
+  pub text : number_text n ≡ word
+  pub takes : Takes kind n
+
+-- a kind of which several values go into one line
+abbrev pub Packs : MetricType → Type 0
+Packs Counter = ⊥
+Packs Timer = ⊤
+Packs Gauge = ⊥
+Packs Meter = ⊥
+Packs Histogram = ⊤
+Packs Set = ⊥
+Packs Distribution = ⊤
+
+-- the numbers between the commas of a word: one, or several of a kind that packs
+pub record IsValueWord (kind : MetricType) (word : List ℕ) (numbers : List Number) : Type 0 where
+  pub each : AllZip (IsNumberWord kind) (slice_split (λ b. b == 44) word) numbers
+  pub few : Packs kind ⊎ (length numbers ≡ 1)
+
+-- what a line asks for
+pub record Asked : Type 0 where
+  pub kind : MetricType
+  pub name : List ℕ
+  pub numbers : List Number
+  pub tags : List Tag
+
+-- the words are a kind, a name, a value and tags
+abbrev pub AskFor : List (List ℕ) → Asked → Type 0
+AskFor [] asked = ⊥
+AskFor (kind ∷ []) asked = ⊥
+AskFor (kind ∷ name ∷ []) asked = ⊥
+AskFor (kind ∷ name ∷ value ∷ tags) asked =
+    NamesKind kind asked.kind × (asked.name ≡ name) × IsWord name × IsValueWord asked.kind value asked.numbers × AllZip IsTagWord tags asked.tags
+
+-- a metric gets the tags that these words are; or a word is none
+abbrev pub AddsTags : List (List ℕ) → Metric → Metric → Result (Unit {0}) Fault → Type 0
+AddsTags words old new (Ok done) = (tags : List Tag) × AllZip IsTagWord words tags × (new ≡ record old { tags = old.tags ++ tags })
+AddsTags words old new (Err fault) = FailsAs (AllZip IsTagWord words) fault

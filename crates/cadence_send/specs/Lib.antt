@@ -1,0 +1,5 @@
+pub mod Asked
+pub mod Fed
+pub mod Finds
+pub mod Sent
+pub mod Writers

@@ -1,0 +1,216 @@
+//! The run of `statsd_send` over a text, with any reader, writer of packets and writer of faults.
+ghost use Rattle.std.specs.Prelude.{◌≡◌, ◌≤◌, ◌∷◌, ◌++◌, [], IfNone, IfSome, OnOk};
+ghost use Rattle.cadence_send.specs.Fed.{Feeds, IsOneText};
+ghost use Rattle.cadence_send.specs.Sent.{TakesLines, TakesTexts, texts_of};
+
+use crate::defaults::Defaults;
+use crate::fault::{Fault, Part};
+use crate::line::line_of_text;
+use cadence_errors::SinkError;
+use cadence_flow::io::{LineBuffer, PacketWriter};
+use std::alloc::{AllocError, Allocator};
+use std::io::{Read, Write};
+use thiserror::Error;
+
+/// How many bytes are read at once.
+const CHUNK: usize = 16384;
+
+/// Why a run ended early.
+#[derive(Debug, Drop, Error)]
+pub enum Failure {
+    /// The input can't be read.
+    #[error("input: cannot read")]
+    Input,
+    /// The writer of packets refused.
+    #[error("cannot send: {0}")]
+    Writer(SinkError),
+    /// A growth was refused.
+    #[error("out of memory")]
+    OutOfMemory,
+}
+
+impl From<AllocError> for Failure {
+    fn from(_error: AllocError) -> Failure {
+        Failure::OutOfMemory
+    }
+}
+
+impl From<SinkError> for Failure {
+    fn from(error: SinkError) -> Failure {
+        Failure::Writer(error)
+    }
+}
+
+impl Failure {
+    /// The status: 1 for a writer, 2 for the input, 3 for memory.
+    pub fn status(&self) -> u8
+        ensures least { 1 ≤ result }
+        ensures most { result ≤ 3 }
+    {
+        match self {
+            Failure::Writer(_) => 1,
+            Failure::Input => 2,
+            Failure::OutOfMemory => 3,
+        }
+    }
+}
+
+/// When what is held is sent before more is read.
+pub trait Pace: Drop {
+    /// Whether it is time.
+    fn is_due(&mut self) -> bool;
+}
+
+/// Never: what is held is sent when a packet is full, and at the end.
+#[derive(Clone, Copy, Debug)]
+pub struct Unhurried;
+
+impl Pace for Unhurried {
+    fn is_due(&mut self) -> bool {
+        false
+    }
+}
+
+/// How many texts were taken, and how many of them can't be read.
+#[derive(Clone, Copy, Debug, PartialEq, Eq)]
+pub struct Counts {
+    /// All texts, empty ones too.
+    pub texts: u64,
+    /// Those that ask for nothing, but for empty ones.
+    pub unread: u64,
+}
+
+impl Counts {
+    // One more text. One that can't be read is told to the errors, with its number.
+    fn note<E: Write>(&mut self, unread: Option<Part>, errors: &mut E) {
+        self.texts = self.texts.saturating_add(1);
+        if let Some(part) = unread {
+            self.unread = self.unread.saturating_add(1);
+            let number = self.texts;
+            let _ = writeln!(errors, "statsd_send: line {number}: {part}");
+        }
+    }
+}
+
+// Takes the line of a text, where it has one, and answers why it has none.
+fn take_text<T: PacketWriter, A: Allocator + Clone>(
+    alloc: &A,
+    defaults: &Defaults<A>,
+    lines: &mut LineBuffer<T, A>,
+    text: &[u8],
+) -> Result<Option<Part>, Failure>
+    ensures { OnOk result
+        (TakesTexts defaults.now T.kind T.history lines.old lines.new (text.now ∷ [])) }
+{
+    match line_of_text(alloc, defaults, text) {
+        Ok(line) => {
+            lines.write(line.as_bytes())?;
+            Ok(None)
+        }
+        Err(Fault::Unreadable(part)) => Ok(if text.is_empty() { None } else { Some(part) }),
+        Err(Fault::OutOfMemory) => Err(Failure::OutOfMemory),
+    }
+}
+
+// What stands before the first newline, and what stands after it.
+fn cut_text(bytes: &[u8]) -> Option<(&[u8], &[u8])>
+    ensures none { IfNone result (IsOneText bytes.now) }
+    ensures front { IfSome result (λ parts. IsOneText parts.0.now) }
+    ensures whole { IfSome result (λ parts. bytes.now ≡ parts.0.now ++ 10 ∷ parts.1.now) }
+{
+    let at = bytes.iter().position(|byte| *byte == b'\n')?;
+    Some((&bytes[..at], &bytes[at + 1..]))
+}
+
+// Takes the texts that the bytes end. The rest of them waits.
+fn feed<T: PacketWriter, E: Write, A: Allocator + Clone>(
+    alloc: &A,
+    defaults: &Defaults<A>,
+    lines: &mut LineBuffer<T, A>,
+    errors: &mut E,
+    counts: &mut Counts,
+    waiting: &mut Vec<u8, A>,
+    bytes: &[u8],
+) -> Result<(), Failure>
+    requires { IsOneText waiting.old.items }
+    ensures { OnOk result (Feeds defaults.now T.kind T.history lines.old lines.new
+        waiting.old.items bytes.now waiting.new.items) }
+{
+    let mut left = bytes;
+    while let Some((front, others)) = cut_text(left) {
+        waiting.extend_from_slice(front)?;
+        let unread = take_text(alloc, defaults, lines, waiting)?;
+        counts.note(unread, errors);
+        waiting.clear();
+        left = others;
+    }
+    waiting.extend_from_slice(left)?;
+    Ok(())
+}
+
+// Sends what is held, where it is time.
+fn keep_pace<T: PacketWriter, P: Pace, A: Allocator>(
+    lines: &mut LineBuffer<T, A>,
+    pace: &mut P,
+) -> Result<(), Failure>
+    ensures { OnOk result (TakesLines T.kind T.history lines.old lines.new []) }
+{
+    if !pace.is_due() {
+        return Ok(());
+    }
+    lines.flush()?;
+    Ok(())
+}
+
+/// Reads texts with a newline between each two, and takes the line of each that has one. What is held when the input
+/// ends stays held. A text that can't be read is told to the errors, with its number; a fault of the errors changes
+/// nothing. Where it is time before more is read, what is held is flushed.
+///
+/// # Errors
+/// `Input` where the reader fails, `Writer` where a packet is refused, and `OutOfMemory`. The texts before it were
+/// taken.
+pub fn take_input<T, I, E, P, A>(
+    alloc: &A,
+    defaults: &Defaults<A>,
+    lines: &mut LineBuffer<T, A>,
+    input: &mut I,
+    errors: &mut E,
+    pace: &mut P,
+) -> Result<Counts, Failure>
+where
+    T: PacketWriter,
+    I: Read,
+    E: Write,
+    P: Pace,
+    A: Allocator + Clone,
+    ensures { OnOk result (IfSome (I.remaining input.old) (λ text.
+        TakesTexts defaults.now T.kind T.history lines.old lines.new (texts_of text))) }
+{
+    let mut counts = Counts {
+        texts: 0,
+        unread: 0,
+    };
+    let mut waiting = Vec::new(alloc.clone()?);
+    let mut buffer = [0u8; CHUNK];
+    for _ in 0..u64::MAX {
+        match input.read(&mut buffer) {
+            Ok(0) => {
+                let unread = take_text(alloc, defaults, lines, &waiting)?;
+                counts.note(unread, errors);
+                return Ok(counts);
+            }
+            Ok(count) => feed(
+                alloc,
+                defaults,
+                lines,
+                errors,
+                &mut counts,
+                &mut waiting,
+                &buffer[..count],
+            )?,
+            Err(_) => return Err(Failure::Input),
+        }
+        keep_pace(lines, pace)?;
+    }
+    Err(Failure::Input)
+}
