@@ -13,7 +13,7 @@ use Rattle.cadence_flow.specs.Frame.{Format, frame, frame_of, is_oversize, strea
 use Rattle.cadence_flow.specs.Packer.{FlushesHeld, Packer, WritesLine, given_by, whole_text}
 use Rattle.cadence_flow.specs.Writer.{History, Kind}
 use Rattle.cadence_send.specs.Fed.{Feeds, IsOneText, ended}
-use Rattle.cadence_send.specs.Sent.{AreLinesOf, Gives, TakesLines, TakesTexts, texts_of}
+use Rattle.cadence_send.specs.Sent.{AreLinesOf, Gives, SendsTexts, TakesLines, TakesTexts, texts_of}
 use Rattle.cadence_send.specs.declared.defaults.Defaults.{Defaults}
 
 -- a text without a newline is one text
@@ -182,3 +182,18 @@ consumes_more (Some xs) (Some ys) (Some zs) got more h k = h ∙ ap (λ rest. go
 pub of_known : (known : Option (List ℕ)) (got : List ℕ) (P : List ℕ → Type 0) → IfSome known (λ left. got ≡ left) → P got → IfSome known P
 of_known None got P e h = tt
 of_known (Some left) got P e h = subst P e h
+
+-- and what was held is sent
+pub sent_all : {W Z : Type 0} (kind : W → Kind) (history : W → History) (d : Defaults Z) (known : Option (List ℕ)) (p q r : Packer W) → IfSome known (λ text. TakesTexts d kind history p q (texts_of text)) → TakesLines kind history q r [] → r.held ≡ [] → IfSome known (λ text. SendsTexts d kind history p r (texts_of text))
+sent_all kind history d None p q r taken flushed none = tt
+sent_all kind history d (Some text) p q r taken flushed none = record {
+  taken = record {
+    lines = taken.lines;
+    are = taken.are;
+    takes = subst (TakesLines kind history p r) (append-nil taken.lines) (takes_more kind history p q r taken.lines [] taken.takes flushed);
+  };
+  none_held = none;
+}
+
+pub word_sent : {W : Type 0} (kind : W → Kind) (history : W → History) (p q r : Packer W) (line : List ℕ) (n : ℕ) (a : Result ℕ SinkError) → a ≡ Ok n → WritesLine kind history p q line a → TakesLines kind history q r [] → TakesLines kind history p r (line ∷ [])
+word_sent kind history p q r line n a e written flushed = takes_more kind history p q r (line ∷ []) [] (write_takes kind history p q line n a e written) flushed

@@ -1,5 +1,5 @@
 -- What is sent for the lines of a text.
-use Rattle.std.specs.Prelude.{◌≡◌, ℕ, ◌==◌, Option, None, Some, List, ◌++◌, true}
+use Rattle.std.specs.Prelude.{[], ◌∷◌, ◌≡◌, ℕ, ◌==◌, Option, None, Some, List, ◌++◌, true}
 use Rattle.std.specs.List.{AllZip, filter_map, slice_split}
 use Rattle.std.specs.Str.{IsUtf8}
 use Rattle.cadence_flow.specs.Frame.{stream}
@@ -49,3 +49,14 @@ pub record TakesTexts {W Z : Type 0} (d : Defaults Z) (kind : W → Kind) (histo
   pub lines : List (List ℕ)
   pub are : AreLinesOf d texts lines
   pub takes : TakesLines kind history old new lines
+
+-- the same, with nothing left that waits
+pub record SendsTexts {W Z : Type 0} (d : Defaults Z) (kind : W → Kind) (history : W → History) (old new : Packer W) (texts : List (List ℕ)) : Type 0 where
+  pub taken : TakesTexts d kind history old new texts
+  pub none_held : new.held ≡ []
+
+-- what was done with words: their line was sent, or they have none and nothing changed
+abbrev pub SendsWords : {W Z X : Type 0} → Defaults Z → (W → Kind) → (W → History) → Packer W → Packer W → List (List ℕ) → Option X → Type 0
+SendsWords d kind history old new words None =
+    (line : List ℕ) × IsLineOfWords d words line × TakesLines kind history old new (line ∷ []) × (new.held ≡ [])
+SendsWords d kind history old new words (Some why) = ((line : List ℕ) → IsLineOfWords d words line → ⊥) × (new ≡ old)

@@ -1,11 +1,12 @@
 //! The run of `statsd_send` over a text, with any reader, writer of packets and writer of faults.
-ghost use Rattle.std.specs.Prelude.{◌≡◌, ◌≤◌, ◌∷◌, ◌++◌, [], IfNone, IfSome, OnOk};
+ghost use Rattle.std.specs.Prelude.{◌≡◌, ◌⊎◌, ◌∷◌, ◌++◌, [], IfNone, IfSome, OnOk};
 ghost use Rattle.cadence_send.specs.Fed.{Feeds, IsOneText};
 ghost use Rattle.cadence_send.specs.Sent.{TakesLines, TakesTexts, texts_of};
 
 use crate::defaults::Defaults;
 use crate::fault::{Fault, Part};
 use crate::line::line_of_text;
+use crate::pace::Pace;
 use cadence_errors::SinkError;
 use cadence_flow::io::{LineBuffer, PacketWriter};
 use std::alloc::{AllocError, Allocator};
@@ -42,39 +43,21 @@ impl From<SinkError> for Failure {
 }
 
 impl Failure {
-    /// The status: 1 for a writer, 2 for the input, 3 for memory.
+    /// The status: 1 for the input and for a writer, 3 for memory.
     pub fn status(&self) -> u8
-        ensures least { 1 ≤ result }
-        ensures most { result ≤ 3 }
+        ensures { (result ≡ 1) ⊎ (result ≡ 3) }
     {
         match self {
-            Failure::Writer(_) => 1,
-            Failure::Input => 2,
+            Failure::Input | Failure::Writer(_) => 1,
             Failure::OutOfMemory => 3,
         }
-    }
-}
-
-/// When what is held is sent before more is read.
-pub trait Pace: Drop {
-    /// Whether it is time.
-    fn is_due(&mut self) -> bool;
-}
-
-/// Never: what is held is sent when a packet is full, and at the end.
-#[derive(Clone, Copy, Debug)]
-pub struct Unhurried;
-
-impl Pace for Unhurried {
-    fn is_due(&mut self) -> bool {
-        false
     }
 }
 
 /// How many texts were taken, and how many of them can't be read.
 #[derive(Clone, Copy, Debug, PartialEq, Eq)]
 pub struct Counts {
-    /// All texts, empty ones too.
+    /// All texts, but for an empty last one.
     pub texts: u64,
     /// Those that ask for nothing, but for empty ones.
     pub unread: u64,
@@ -196,7 +179,9 @@ where
         match input.read(&mut buffer) {
             Ok(0) => {
                 let unread = take_text(alloc, defaults, lines, &waiting)?;
-                counts.note(unread, errors);
+                if !waiting.is_empty() {
+                    counts.note(unread, errors);
+                }
                 return Ok(counts);
             }
             Ok(count) => feed(
