@@ -1,0 +1,180 @@
+//! `statsd_send`: sends a metric of its words, or the metrics of its standard input.
+#![tactic(auto)]
+
+use cadence_flow::io::{LineBuffer, PacketWriter};
+use cadence_send::{
+    Datagrams, Defaults, Every, OptionFault, Options, Printed, Request, Unhurried, read_options,
+    run_input, run_words,
+};
+use std::alloc::{AllocError, Global};
+use std::net::{Ipv4Addr, Ipv6Addr, SocketAddr, ToSocketAddrs, UdpSocket};
+use std::process::ExitCode;
+use std::time::Duration;
+use std::{env, io};
+
+const HELP: &str = "statsd_send [OPTIONS] KIND NAME VALUE [TAG ..]   sends one metric
+statsd_send [OPTIONS]   reads one metric a line, and packs them
+
+KIND         c, ms, g, m, h, s, d, or count, time, gauge, meter, histogram, set, distribution
+VALUE        a number, as 1 or 0.75; of ms, h and d several, as 12,250
+TAG          K:V or V
+--to HOST:PORT      where to (127.0.0.1:8125; STATSD_HOST, STATSD_PORT)
+--prefix NAME  --tag TAG  --container ID  --time SECONDS  --rate NUMBER
+--capacity BYTES    how much a packet holds (512)
+--flush-every MS    sends what is held before more is read, where so long has passed
+--print             prints the packets, and sends none
+--help  --version
+
+Status: 0 sent, 1 input or sending failed, 2 words or lines that can't be read, 3 memory.
+As in: tail -f log | statsd_send --flush-every 0
+";
+
+const VERSION: &str = "statsd_send 1.8.0\n";
+
+/// The port where nothing else is said.
+const PORT: u16 = 8125;
+
+fn main(rt: HostRuntime) -> ExitCode {
+    let mut words = Vec::new(rt.alloc());
+    let Ok(arguments) = env::args(&rt) else {
+        return told(&rt, "the words are not UTF-8, or out of memory", 2);
+    };
+    for word in arguments.skip(1) {
+        if words.push(word).is_err() {
+            return told(&rt, "out of memory", 3);
+        }
+    }
+    let mut lent = Vec::new(rt.alloc());
+    for word in &words {
+        if lent.push(word.as_str()).is_err() {
+            return told(&rt, "out of memory", 3);
+        }
+    }
+    match read_options(rt.alloc(), &lent) {
+        Ok(Request::Help) => printed(&rt, HELP),
+        Ok(Request::Version) => printed(&rt, VERSION),
+        Ok(Request::Send(options, words)) => send(&rt, &options, words),
+        Err(fault) => refused(&rt, fault),
+    }
+}
+
+// Tells which option can't be read.
+fn refused(rt: &HostRuntime, fault: OptionFault<'_>) -> ExitCode {
+    let _ = eprintln!(rt; "statsd_send: {fault}");
+    ExitCode::from(fault.status())
+}
+
+// Tells why nothing is sent.
+fn told(rt: &HostRuntime, why: &str, status: u8) -> ExitCode {
+    let _ = eprintln!(rt; "statsd_send: {why}");
+    ExitCode::from(status)
+}
+
+fn printed(rt: &HostRuntime, text: &str) -> ExitCode {
+    match print!(rt; "{text}") {
+        Ok(()) => ExitCode::from(0),
+        Err(_) => ExitCode::from(1),
+    }
+}
+
+// Where to: the option, or the environment, or this machine.
+fn target(rt: &HostRuntime, options: &Options<'_, Global>) -> io::Result<Option<SocketAddr>> {
+    if let Some(to) = options.to {
+        return Ok(to.to_socket_addrs(rt)?.next());
+    }
+    let port = match env::var(rt, "STATSD_PORT") {
+        Ok(text) => text.parse().unwrap_or(PORT),
+        Err(_) => PORT,
+    };
+    match env::var(rt, "STATSD_HOST") {
+        Ok(host) => Ok((host.as_str(), port).to_socket_addrs(rt)?.next()),
+        Err(_) => Ok(Some(SocketAddr::from((Ipv4Addr::LOCALHOST, port)))),
+    }
+}
+
+// A socket that can send to the target.
+fn socket(rt: &HostRuntime, target: SocketAddr) -> io::Result<UdpSocket> {
+    let any = if target.is_ipv4() {
+        SocketAddr::from((Ipv4Addr::UNSPECIFIED, 0))
+    } else {
+        SocketAddr::from((Ipv6Addr::UNSPECIFIED, 0))
+    };
+    UdpSocket::bind(rt, any)
+}
+
+fn send(rt: &HostRuntime, options: &Options<'_, Global>, words: &[&str]) -> ExitCode {
+    let Ok(defaults) = options.defaults(rt.alloc()) else {
+        return told(rt, "out of memory", 3);
+    };
+    if options.is_printing {
+        return drive(
+            rt,
+            options,
+            words,
+            &defaults,
+            Printed::new(rt.alloc(), rt.stdout()),
+        );
+    }
+    let target = match target(rt, options) {
+        Ok(Some(target)) => target,
+        Ok(None) => return told(rt, "the host has no address", 1),
+        Err(fault) => {
+            let _ = eprintln!(rt; "statsd_send: where to: {fault}");
+            return ExitCode::from(1);
+        }
+    };
+    match socket(rt, target) {
+        Ok(socket) => drive(
+            rt,
+            options,
+            words,
+            &defaults,
+            Datagrams::new(socket, target),
+        ),
+        Err(fault) => {
+            let _ = eprintln!(rt; "statsd_send: socket: {fault}");
+            ExitCode::from(1)
+        }
+    }
+}
+
+fn drive<T: PacketWriter>(
+    rt: &HostRuntime,
+    options: &Options<'_, Global>,
+    words: &[&str],
+    defaults: &Defaults,
+    writer: T,
+) -> ExitCode {
+    let alloc = rt.alloc();
+    let Ok(mut lines) = LineBuffer::new(alloc, writer, options.capacity) else {
+        return told(rt, "out of memory", 3);
+    };
+    let (mut input, mut errors) = (rt.stdin(), rt.stderr());
+    let status = if !words.is_empty() {
+        run_words(&alloc, defaults, &mut lines, words, &mut errors)
+    } else {
+        let clock: Result<HostRuntime, AllocError> = rt.clone();
+        match (options.flush_every, clock) {
+            (Some(period), Ok(clock)) => {
+                let mut pace = Every::new(clock, Duration::from_millis(period));
+                run_input(
+                    &alloc,
+                    defaults,
+                    &mut lines,
+                    &mut input,
+                    &mut errors,
+                    &mut pace,
+                )
+            }
+            _ => run_input(
+                &alloc,
+                defaults,
+                &mut lines,
+                &mut input,
+                &mut errors,
+                &mut Unhurried,
+            ),
+        }
+    };
+    ExitCode::from(status)
+}
