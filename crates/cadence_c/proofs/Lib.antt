@@ -1,0 +1,3 @@
+mod AsBox
+pub mod Lines
+pub mod Lists

@@ -1,0 +1,4 @@
+pub mod Status
+pub mod Calls
+pub mod State
+pub mod Slot

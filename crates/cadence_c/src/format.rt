@@ -1,0 +1,154 @@
+//! Lines without a client.
+ghost use Rattle.std.specs.Prelude.{◌≡◌, ◌≤◌, List, IfOk, Some, length, map, string_bytes, take};
+ghost use Rattle.cadence_value.specs.Number.{Number, natural, whole};
+ghost use Rattle.cadence_value.specs.Values.{numbers_of};
+ghost use Rattle.cadence_c.specs.Calls.{AreNumbersOf, IsLine, bare, durations_of};
+
+use crate::call::{CDecimal, COptions, kind_of, line_with};
+use crate::out::copy_out;
+use crate::status::Refusal;
+use crate::value::{decimal_value, duration_value, signed_value, unsigned_value};
+use cadence_text::line::Record;
+use cadence_value::value::MetricValue;
+use std::alloc::Global;
+use std::str;
+
+// The line of a call's value.
+fn line_of(
+    alloc: Global,
+    prefix: &[u8],
+    kind: u32,
+    key: &[u8],
+    value: MetricValue,
+    options: &COptions<'_>,
+) -> Result<String, Refusal>
+    ensures { IfOk result (λ line. IsLine (bare prefix.now) kind key.now (numbers_of value)
+        options.now (string_bytes line)) }
+{
+    let (Ok(prefix), Ok(key)) = (str::from_utf8(prefix), str::from_utf8(key)) else {
+        return Err(Refusal::NotUtf8);
+    };
+    let Some(kind) = kind_of(kind) else {
+        return Err(Refusal::Invalid);
+    };
+    let metric = Record::new(alloc, prefix, key, kind, value);
+    line_with(alloc, metric, options)
+}
+
+// Writes the line of a call's value into the first bytes of `out`, and tells its length.
+fn write_line(
+    alloc: Global,
+    prefix: &[u8],
+    kind: u32,
+    key: &[u8],
+    value: MetricValue,
+    options: &COptions<'_>,
+    out: &mut [u8],
+    size: &mut usize,
+) -> u32
+    ensures line { result ≡ 0 → IsLine (bare prefix.now) kind key.now (numbers_of value)
+        options.now (take size.new out.new) }
+    ensures within { result ≡ 0 → size.new ≤ length out.new }
+{
+    match line_of(alloc, prefix, kind, key, value, options) {
+        Ok(line) => copy_out(line.as_bytes(), out, size),
+        Err(refusal) => refusal.code(),
+    }
+}
+
+/// Writes the line of a metric of signed whole numbers into the first bytes of `out`, and tells its length. The prefix is printed as it
+/// stands. It keeps nothing, so threads may call it at once.
+#[unsafe(no_mangle)]
+pub extern "C" fn cadence_format_signed(
+    alloc: Global,
+    prefix: &[u8],
+    kind: u32,
+    key: &[u8],
+    values: &[i64],
+    options: &COptions<'_>,
+    out: &mut [u8],
+    size: &mut usize,
+) -> u32
+    ensures line { result ≡ 0 → IsLine (bare prefix.now) kind key.now (map whole values.now)
+        options.now (take size.new out.new) }
+    ensures within { result ≡ 0 → size.new ≤ length out.new }
+{
+    *size = 0;
+    match signed_value(alloc, values) {
+        Ok(value) => write_line(alloc, prefix, kind, key, value, options, out, size),
+        Err(refusal) => refusal.code(),
+    }
+}
+
+/// Writes the line of a metric of unsigned whole numbers into the first bytes of `out`, and tells its length. The prefix is printed as it
+/// stands. It keeps nothing, so threads may call it at once.
+#[unsafe(no_mangle)]
+pub extern "C" fn cadence_format_unsigned(
+    alloc: Global,
+    prefix: &[u8],
+    kind: u32,
+    key: &[u8],
+    values: &[u64],
+    options: &COptions<'_>,
+    out: &mut [u8],
+    size: &mut usize,
+) -> u32
+    ensures line { result ≡ 0 → IsLine (bare prefix.now) kind key.now (map natural values.now)
+        options.now (take size.new out.new) }
+    ensures within { result ≡ 0 → size.new ≤ length out.new }
+{
+    *size = 0;
+    match unsigned_value(alloc, values) {
+        Ok(value) => write_line(alloc, prefix, kind, key, value, options, out, size),
+        Err(refusal) => refusal.code(),
+    }
+}
+
+/// Writes the line of a metric of decimal numbers into the first bytes of `out`, and tells its length. The prefix is printed as it
+/// stands. It keeps nothing, so threads may call it at once.
+#[unsafe(no_mangle)]
+pub extern "C" fn cadence_format_decimal(
+    alloc: Global,
+    prefix: &[u8],
+    kind: u32,
+    key: &[u8],
+    values: &[CDecimal],
+    options: &COptions<'_>,
+    out: &mut [u8],
+    size: &mut usize,
+) -> u32
+    ensures line { result ≡ 0 → (numbers : List Number) × AreNumbersOf values.now numbers
+        × IsLine (bare prefix.now) kind key.now numbers options.now (take size.new out.new) }
+    ensures within { result ≡ 0 → size.new ≤ length out.new }
+{
+    *size = 0;
+    match decimal_value(alloc, values) {
+        Ok(value) => write_line(alloc, prefix, kind, key, value, options, out, size),
+        Err(refusal) => refusal.code(),
+    }
+}
+
+/// Writes the line of a metric of durations in nanoseconds, as `cadence_duration` into the first bytes of `out`, and tells its length. The prefix is printed as it
+/// stands. It keeps nothing, so threads may call it at once.
+#[unsafe(no_mangle)]
+pub extern "C" fn cadence_format_duration(
+    alloc: Global,
+    prefix: &[u8],
+    kind: u32,
+    key: &[u8],
+    nanos: &[u64],
+    options: &COptions<'_>,
+    out: &mut [u8],
+    size: &mut usize,
+) -> u32
+    ensures line { result ≡ 0 → (numbers : List Number)
+        × (durations_of kind nanos.now ≡ Some numbers)
+        × IsLine (bare prefix.now) kind key.now numbers options.now (take size.new out.new) }
+    ensures within { result ≡ 0 → size.new ≤ length out.new }
+{
+    *size = 0;
+    match duration_value(alloc, kind, nanos) {
+        Ok(value) => write_line(alloc, prefix, kind, key, value, options, out, size),
+        Err(refusal) => refusal.code(),
+    }
+}
