@@ -1,3 +1,4 @@
 mod AsBox
 pub mod Lines
 pub mod Lists
+pub mod Runs

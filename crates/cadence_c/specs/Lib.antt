@@ -2,3 +2,4 @@ pub mod Status
 pub mod Calls
 pub mod State
 pub mod Slot
+pub mod Run

@@ -81,10 +81,10 @@ pub record Overflows (s : State) (line : List ℕ) : Type 0 where
   pub passes : s.capacity < length s.held + (length line + 1)
   pub lacks : LacksRoom s.queue (length (packets_made s line))
 
--- the state after the oldest packet was dropped, since the host has sent it
-abbrev pub IsSent : State → State → Type 0
-IsSent s t = (packet : List ℕ) × (s.queue.waiting ≡ packet ∷ t.queue.waiting)
-    × (t ≡ record s { queue = record s.queue { waiting = t.queue.waiting; drained = (s.queue.drained + 1) % 2 ^ 64 } })
+-- the state after the oldest packet, which was this one, was dropped, since the host has sent it
+pub record IsSent (s : State) (packet : List ℕ) (t : State) : Type 0 where
+  pub oldest : s.queue.waiting ≡ packet ∷ t.queue.waiting
+  pub rest : t ≡ record s { queue = record s.queue { waiting = t.queue.waiting; drained = (s.queue.drained + 1) % 2 ^ 64 } }
 
 -- the counts of a client
 pub record IsCountOf (s : State) (c : CCounts) : Type 0 where
@@ -150,7 +150,7 @@ IsEmpty None = ⊥
 
 -- a call dropped the oldest packet
 abbrev pub Sent : Option State → Option State → Type 0
-Sent (Some s) (Some t) = IsSent s t
+Sent (Some s) (Some t) = (packet : List ℕ) × IsSent s packet t
 Sent (Some s) None = ⊥
 Sent None new = ⊥
 

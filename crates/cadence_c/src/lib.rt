@@ -4,6 +4,7 @@
 mod call;
 mod format;
 mod handle;
+mod laws;
 mod out;
 mod packet;
 mod packing;

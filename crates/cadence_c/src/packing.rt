@@ -285,7 +285,8 @@ impl Packing {
 
     /// Drops the oldest packet that waits, and answers whether there was one.
     pub fn drop_oldest(&mut self) -> bool
-        ensures dropped { result ≡ true → IsSent self.old self.new }
+        ensures dropped { result ≡ true →
+            (packet : List ℕ) × IsSent self.old packet self.new }
         ensures none { result ≡ false → (self.old.queue.waiting ≡ []) × (self.new ≡ self.old) }
     {
         match self.queue.take() {
