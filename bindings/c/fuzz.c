@@ -1,0 +1,215 @@
+/* Random calls, with a heap that refuses at random: fuzz SEQUENCES [SEED].
+ *
+ * What is sent is compared with the frames of the lines whose calls were answered 0, and where a call is answered
+ * otherwise, the counts have to be as they were. A fault is printed, and the status is 1.
+ */
+#include "cadence.h"
+#include <stdio.h>
+#include <stdlib.h>
+#include <string.h>
+
+typedef struct {
+    uint64_t given;
+    void *at;
+} block;
+
+static uint64_t seed, nowhere;
+static long blocks, refuse_at, requests, lines, packets_sent;
+
+static uint32_t below(uint32_t n) {
+    seed = seed * 6364136223846793005u + 1442695040888963407u;
+    return (uint32_t)(seed >> 33) % n;
+}
+
+static bool refused(void) {
+    return ++requests == refuse_at;
+}
+
+block rattle_alloc(size_t size, size_t align) {
+    void *at = refused() ? NULL : malloc(size != 0 ? size : align);
+    blocks += at != NULL;
+    return (block){ at != NULL, at != NULL ? at : &nowhere };
+}
+
+block rattle_realloc(void *at, size_t old_size, size_t size, size_t align) {
+    (void)old_size;
+    at = refused() ? NULL : realloc(at, size != 0 ? size : align);
+    return (block){ at != NULL, at != NULL ? at : &nowhere };
+}
+
+void rattle_dealloc(void *at) {
+    blocks -= at != NULL;
+    free(at);
+}
+
+static void fail(const char *what, uint32_t status) {
+    printf("%s: status %u\n", what, status);
+    exit(1);
+}
+
+enum { ROOM = 1 << 16, LONGEST = 4096 };
+
+/* A handle beside what it has to hold. */
+typedef struct {
+    cadence_handle handle;
+    uint8_t stream[ROOM]; /* the frames of all lines that were kept */
+    size_t kept, fetched;
+    size_t capacity;
+    bool drops;
+} host;
+
+/* The last ones are no UTF-8 where they are cut. */
+static uint8_t texts[] = "counter.of.things.that.happen.now.and.then:1|c#,\n@\x7f\xc3\xa9\xff";
+enum { PLAIN = 48 };
+
+typedef struct {
+    const uint8_t *at;
+    size_t length;
+} text;
+
+static text some_text(void) {
+    size_t end = below(16) == 0 ? sizeof texts : PLAIN, from = below((uint32_t)end);
+    text t = { texts + from, below((uint32_t)(end - from) + 1) };
+    if (below(8) == 0) t = (text){ NULL, 0 };
+    return t;
+}
+
+static cadence_tag some_tag(void) {
+    text key = some_text(), value = some_text();
+    cadence_tag tag = { key.at, key.length, value.at, value.length, below(2) };
+    return tag;
+}
+
+static cadence_tag tags[4];
+
+static cadence_options some_options(void) {
+    cadence_options options = CADENCE_NO_OPTIONS;
+    text container = some_text();
+    for (int i = 0; i < 4; i++) tags[i] = some_tag();
+    options.tags = below(2) ? tags : NULL;
+    options.tags_len = options.tags != NULL ? below(5) : 0;
+    options.container = container.at, options.container_len = container.length;
+    options.rate = (cadence_decimal_number){ (int64_t)below(1000) - 500, (uint8_t)below(32) };
+    options.time = (uint64_t)below(1u << 31) << below(33);
+    options.contained = below(3) == 0, options.rated = below(3) == 0, options.timed = below(3) == 0;
+    return options;
+}
+
+static void keeps(host *h, const uint8_t *line, size_t length) {
+    bool fits = length < h->capacity;
+    if (h->kept + length + 1 > ROOM) fail("the stream has no room", 0);
+    if (length != 0) memcpy(h->stream + h->kept, line, length);
+    h->kept += length;
+    if (fits) h->stream[h->kept++] = '\n';
+}
+
+static void fetch(host *h) {
+    static uint8_t packet[LONGEST];
+    size_t length = 1, room = below(4) == 0 ? below(64) : sizeof packet;
+    uint32_t status = cadence_next(&h->handle, room != 0 ? packet : NULL, room, &length);
+    if (status == CADENCE_TOO_SMALL && length <= room) fail("a packet that fits is too long", status);
+    if ((status == CADENCE_NO_PACKET || status == CADENCE_NO_CLIENT) && length != 0) fail("a length of no packet", status);
+    if (status != CADENCE_OK) return;
+    if (!h->drops && (h->fetched + length > h->kept || memcmp(packet, h->stream + h->fetched, length) != 0))
+        fail("a packet has other bytes", status);
+    if (below(3) == 0) return;
+    status = cadence_sent(&h->handle);
+    if (status != CADENCE_OK) fail("a packet can't be dropped", status);
+    h->fetched += length;
+    packets_sent++;
+}
+
+static void opens(host *h) {
+    text prefix = some_text();
+    size_t capacity = below(4) == 0 ? below(8) : below(200), packets = below(12) == 0 ? below(2) : 2 + below(3);
+    uint32_t policy = below(12) == 0 ? 2 : below(2), status = cadence_new(&h->handle, prefix.at, prefix.length, capacity, packets, policy);
+    if (status == CADENCE_OK && (packets < 2 || policy > 1)) fail("a client of nothing", status);
+    if (status != CADENCE_OK) return;
+    h->kept = h->fetched = 0;
+    h->capacity = capacity, h->drops = policy == CADENCE_DROP_OLDEST;
+}
+
+/* A line of the host's own, and one that the formatter made. */
+static uint32_t keeps_line(host *h) {
+    static uint8_t line[LONGEST];
+    text key = some_text();
+    cadence_options options = some_options();
+    int64_t values[3] = { below(5) - 2, (int64_t)below(1u << 31) << below(33), INT64_MIN };
+    size_t length = 0, n = below(4);
+    uint32_t status = cadence_format_signed(NULL, 0, below(12) == 0 ? 7 : below(7), key.at, key.length, n != 0 ? values : NULL, n, &options, line,
+                                            below(6) == 0 ? below(40) : sizeof line, &length);
+    if (status != CADENCE_OK) return status;
+    status = cadence_line(&h->handle, line, length);
+    if (status == CADENCE_OK) keeps(h, line, length);
+    return status;
+}
+
+/* The call of a value: what it keeps is not known before it is fetched, so it goes to a client that drops. */
+static uint32_t keeps_value(host *h) {
+    text key = some_text();
+    cadence_options options = some_options();
+    uint64_t whole[3] = { below(5), UINT64_MAX, (uint64_t)below(1u << 31) << below(33) };
+    cadence_decimal_number numbers[3] = { { -25, 1 }, { INT64_MIN, (uint8_t)below(33) }, { (int64_t)below(100), 30 } };
+    size_t n = below(4);
+    uint32_t kind = below(12) == 0 ? 7 : below(7);
+    if (!h->drops) return keeps_line(h);
+    switch (below(4)) {
+    case 0: return cadence_unsigned(&h->handle, kind, key.at, key.length, n != 0 ? whole : NULL, n, &options);
+    case 1: return cadence_decimal(&h->handle, kind, key.at, key.length, numbers, n, &options);
+    case 2: return cadence_duration(&h->handle, kind, key.at, key.length, whole, n, &options);
+    default: return cadence_signed(&h->handle, kind, key.at, key.length, (const int64_t *)whole, n, &options);
+    }
+}
+
+static uint32_t acts(host *h) {
+    cadence_tag tag = some_tag();
+    text container = some_text();
+    switch (below(6)) {
+    case 0: return cadence_flush(&h->handle);
+    case 1: return cadence_add_tag(&h->handle, &tag);
+    case 2: return cadence_set_container(&h->handle, container.at, container.length);
+    case 3: return keeps_line(h);
+    default: return keeps_value(h);
+    }
+}
+
+static void step(host *h) {
+    cadence_counts_of before = { 0, 0, 0, 0, 0 }, after = { 0, 0, 0, 0, 0 };
+    uint32_t closed = cadence_counts(&h->handle, &before), status;
+    requests = 0, refuse_at = below(3) == 0 ? 1 + below(5) : 0;
+    status = acts(h);
+    refuse_at = 0;
+    cadence_counts(&h->handle, &after);
+    if (closed != CADENCE_OK && status == CADENCE_OK) fail("a closed handle kept a line", status);
+    lines += status == CADENCE_OK;
+    if (status != CADENCE_OK && memcmp(&before, &after, sizeof before) != 0) fail("a refusal changed the counts", status);
+    if (status == CADENCE_FULL && (h->drops || before.waiting == 0)) fail("full with room", status);
+    if (after.made - after.sent - after.dropped != after.waiting) fail("the counts do not add up", status);
+}
+
+static void run(host *h) {
+    opens(h);
+    for (uint32_t n = 2 + below(12); n > 0; n--) {
+        if (below(24) == 0) cadence_free(&h->handle);
+        else if (below(24) == 0) opens(h);
+        else if (below(4) == 0) fetch(h);
+        else step(h);
+    }
+    while (cadence_flush(&h->handle) == CADENCE_FULL) fetch(h);
+    for (cadence_counts_of c; cadence_counts(&h->handle, &c) == CADENCE_OK && c.waiting != 0;) fetch(h);
+    if (h->handle.open && !h->drops && h->fetched != h->kept) fail("some lines were not sent", 0);
+    cadence_free(&h->handle);
+    if (blocks != 0) fail("blocks are left", (uint32_t)blocks);
+}
+
+int main(int count, char **words) {
+    static host h;
+    long sequences = count > 1 ? atol(words[1]) : 1000;
+    seed = count > 2 ? strtoull(words[2], NULL, 10) : 1;
+    for (long i = 0; i < sequences; i++) {
+        h.handle = (cadence_handle)CADENCE_CLOSED;
+        run(&h);
+    }
+    printf("%ld sequences, %ld calls answered 0, %ld packets\n", sequences, lines, packets_sent);
+    return 0;
+}
