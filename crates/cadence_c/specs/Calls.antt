@@ -1,5 +1,6 @@
 -- A call as C makes it, and the metric that it means.
-use Rattle.std.specs.Prelude.{◌≡◌, ℕ, ◌/◌, ◌==◌, if◌then◌else◌, ⊤, true, false, List, [], ◌∷◌, ◌++◌, map, Option, Some, None, cond}
+use Rattle.std.specs.Prelude.{◌≡◌, ◌⊎◌, ◌<◌, ◌≤◌, All, ℕ, ◌/◌, ◌==◌, if◌then◌else◌, ⊤, true, false, List, [], ◌∷◌, ◌++◌, map, Option, Some, None, cond}
+use Rattle.std.specs.Str.{IsUtf8}
 use Rattle.cadence_text.specs.declared.line.MetricType.{MetricType}
 use Rattle.cadence_text.specs.declared.line.MetricType.TheVariants.{Counter, Timer, Gauge, Meter, Histogram, Set, Distribution}
 use Rattle.cadence_text.specs.Line.{line_of}
@@ -70,3 +71,30 @@ IsLine s k key numbers o line = (m : Metric) × IsCall s k key numbers o m × (l
 -- settings that print a prefix as it stands, and add nothing else
 abbrev pub bare : List ℕ → Settings
 bare prefix = record { prefix = prefix; tags = []; container = None }
+
+-- the texts of a tag are UTF-8, its key where it has one
+pub record IsTextTag (tag : CTag) : Type 0 where
+  pub text : IsUtf8 tag.text.now
+  pub key : tag.keyed ≡ true → IsUtf8 tag.key.now
+
+-- the texts of options are UTF-8
+pub record AreTexts (o : COptions) : Type 0 where
+  pub tags : All IsTextTag o.tags.now
+  pub container : o.contained ≡ true → IsUtf8 o.container.now
+
+-- the rate of the options has too many places
+pub record IsNoRate (o : COptions) : Type 0 where
+  pub rated : o.rated ≡ true
+  pub many : 30 < o.rate.places
+
+-- the key and the options are UTF-8
+abbrev pub IsText : List ℕ → COptions → Type 0
+IsText key o = IsUtf8 key × AreTexts o
+
+-- there is no such kind, or the rate has too many places
+abbrev pub IsNoCall : ℕ → COptions → Type 0
+IsNoCall k o = (kind_named k ≡ None) ⊎ IsNoRate o
+
+-- each decimal has at most 30 places
+abbrev pub AreDecimals : List CDecimal → Type 0
+AreDecimals ds = All (λ (d : CDecimal). d.places ≤ 30) ds

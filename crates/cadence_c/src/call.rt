@@ -1,11 +1,12 @@
 //! A call as C makes it.
-ghost use Rattle.std.specs.Prelude.{◌≡◌, ◌≢◌, ◌++◌, ◌<◌, ◌∷◌, [], IfOk, IfErr, OnOk, IfSome, map, cond, None, Option, Some, string_bytes};
+ghost use Rattle.std.specs.Prelude.{◌≡◌, ◌≢◌, ◌++◌, ◌<◌, ◌∷◌, [], IfOk, IfErr, OnOk, IfSome, IfNone, All, true, map, cond, None, Option, Some, string_bytes};
+ghost use Rattle.std.specs.Str.{IsUtf8};
 ghost use Rattle.cadence_text.specs.Line.{line_of};
 ghost use Rattle.cadence_text.specs.Record.{tag_of as record_tag};
 ghost use Rattle.cadence_value.specs.Number.{Number};
 ghost use Rattle.cadence_c.specs.Status.{status};
 ghost use Rattle.cadence_c.specs.declared.status.Refusal.TheVariants.{Invalid};
-ghost use Rattle.cadence_c.specs.Calls.{c_tag, kind_named, IsNumberOf, IsRateOf, with_options};
+ghost use Rattle.cadence_c.specs.Calls.{c_tag, kind_named, AreTexts, IsNoRate, IsNumberOf, IsRateOf, IsTextTag, with_options};
 
 use crate::status::Refusal;
 use cadence_text::line::{MetricType, Record, Tag};
@@ -73,7 +74,8 @@ pub fn decimal_of(decimal: CDecimal) -> Result<Decimal, Refusal>
 
 /// The tag, where its texts are UTF-8.
 pub fn tag_of<'a>(tag: &CTag<'a>) -> Option<Tag<'a>>
-    ensures { IfSome result (λ t. record_tag t ≡ c_tag tag.now) }
+    ensures tag { IfSome result (λ t. record_tag t ≡ c_tag tag.now) }
+    ensures none { IfNone result (IsTextTag tag.now → ⊥) }
 {
     let text = str::from_utf8(tag.text).ok()?;
     if !tag.keyed {
@@ -91,6 +93,8 @@ fn add_tags<'a>(metric: &mut Record<'a>, tags: &[CTag<'a>]) -> Result<(), Refusa
     ensures added { OnOk result (metric.new ≡
         record metric.old { tags = metric.old.tags ++ map c_tag tags.now }) }
     ensures room { status result ≢ 3 }
+    ensures text { status result ≡ 5 → All IsTextTag tags.now → ⊥ }
+    ensures invalid { status result ≢ 4 }
 {
     for tag in tags {
         let Some(tag) = tag_of(tag) else {
@@ -110,6 +114,9 @@ fn set_container<'a>(metric: &mut Record<'a>, options: &COptions<'a>) -> Result<
           cond options.now.contained (Some options.now.container.now) metric.old.container;
     }) }
     ensures room { status result ≢ 3 }
+    ensures text { status result ≡ 5 →
+        (options.now.contained ≡ true → IsUtf8 options.now.container.now) → ⊥ }
+    ensures invalid { status result ≢ 4 }
 {
     if options.contained {
         let Ok(container) = str::from_utf8(options.container) else {
@@ -126,6 +133,8 @@ fn set_rate(metric: &mut Record<'_>, options: &COptions<'_>) -> Result<(), Refus
     ensures rate { OnOk result (IsRateOf options.now metric.new.rate) }
     ensures rest { metric.new ≡ record metric.old { rate = metric.new.rate } }
     ensures room { status result ≢ 3 }
+    ensures text { status result ≢ 5 }
+    ensures invalid { status result ≡ 4 → IsNoRate options.now }
 {
     if options.rated {
         metric.set_rate(decimal_of(options.rate)?);
@@ -141,6 +150,8 @@ fn add_options<'a>(metric: &mut Record<'a>, options: &COptions<'a>) -> Result<()
     ensures added { OnOk result
         (metric.new ≡ with_options metric.old options.now metric.new.rate) }
     ensures room { status result ≢ 3 }
+    ensures text { status result ≡ 5 → AreTexts options.now → ⊥ }
+    ensures invalid { status result ≡ 4 → IsNoRate options.now }
 {
     add_tags(metric, options.tags)?;
     set_container(metric, options)?;
@@ -162,6 +173,8 @@ pub fn line_with<'a>(
     ensures line { IfOk result (λ line. (rate : Option Number) × IsRateOf options.now rate
         × (string_bytes line ≡ line_of (with_options metric.entry options.now rate))) }
     ensures room { status result ≢ 3 }
+    ensures text { status result ≡ 5 → AreTexts options.now → ⊥ }
+    ensures invalid { status result ≡ 4 → IsNoRate options.now }
 {
     let mut metric = metric;
     add_options(&mut metric, options)?;

@@ -1,8 +1,10 @@
 //! Lines without a client.
-ghost use Rattle.std.specs.Prelude.{◌≡◌, ◌≤◌, List, IfOk, Some, length, map, string_bytes, take};
+ghost use Rattle.std.specs.Prelude.{◌≡◌, ◌⊎◌, None, ◌≤◌, List, IfOk, Some, length, map, string_bytes, take};
 ghost use Rattle.cadence_value.specs.Number.{Number, natural, whole};
 ghost use Rattle.cadence_value.specs.Values.{numbers_of};
-ghost use Rattle.cadence_c.specs.Calls.{AreNumbersOf, IsLine, bare, durations_of};
+ghost use Rattle.std.specs.Str.{IsUtf8};
+ghost use Rattle.cadence_c.specs.Status.{status};
+ghost use Rattle.cadence_c.specs.Calls.{AreDecimals, AreNumbersOf, IsLine, IsNoCall, IsText, bare, durations_of};
 
 use crate::call::{CDecimal, COptions, kind_of, line_with};
 use crate::out::copy_out;
@@ -22,10 +24,15 @@ fn line_of(
     value: MetricValue,
     options: &COptions<'_>,
 ) -> Result<String, Refusal>
-    ensures { IfOk result (λ line. IsLine (bare prefix.now) kind key.now (numbers_of value)
+    ensures line { IfOk result (λ line. IsLine (bare prefix.now) kind key.now (numbers_of value)
         options.now (string_bytes line)) }
+    ensures text { status result ≡ 5 → IsUtf8 prefix.now → IsText key.now options.now → ⊥ }
+    ensures invalid { status result ≡ 4 → IsNoCall kind options.now }
 {
-    let (Ok(prefix), Ok(key)) = (str::from_utf8(prefix), str::from_utf8(key)) else {
+    let Ok(prefix) = str::from_utf8(prefix) else {
+        return Err(Refusal::NotUtf8);
+    };
+    let Ok(key) = str::from_utf8(key) else {
         return Err(Refusal::NotUtf8);
     };
     let Some(kind) = kind_of(kind) else {
@@ -49,6 +56,8 @@ fn write_line(
     ensures line { result ≡ 0 → IsLine (bare prefix.now) kind key.now (numbers_of value)
         options.now (take size.new out.new) }
     ensures within { result ≡ 0 → size.new ≤ length out.new }
+    ensures text { result ≡ 5 → IsUtf8 prefix.now → IsText key.now options.now → ⊥ }
+    ensures invalid { result ≡ 4 → IsNoCall kind options.now }
 {
     match line_of(alloc, prefix, kind, key, value, options) {
         Ok(line) => copy_out(line.as_bytes(), out, size),
@@ -72,6 +81,8 @@ pub extern "C" fn cadence_format_signed(
     ensures line { result ≡ 0 → IsLine (bare prefix.now) kind key.now (map whole values.now)
         options.now (take size.new out.new) }
     ensures within { result ≡ 0 → size.new ≤ length out.new }
+    ensures text { result ≡ 5 → IsUtf8 prefix.now → IsText key.now options.now → ⊥ }
+    ensures invalid { result ≡ 4 → IsNoCall kind options.now }
 {
     *size = 0;
     match signed_value(alloc, values) {
@@ -96,6 +107,8 @@ pub extern "C" fn cadence_format_unsigned(
     ensures line { result ≡ 0 → IsLine (bare prefix.now) kind key.now (map natural values.now)
         options.now (take size.new out.new) }
     ensures within { result ≡ 0 → size.new ≤ length out.new }
+    ensures text { result ≡ 5 → IsUtf8 prefix.now → IsText key.now options.now → ⊥ }
+    ensures invalid { result ≡ 4 → IsNoCall kind options.now }
 {
     *size = 0;
     match unsigned_value(alloc, values) {
@@ -120,6 +133,9 @@ pub extern "C" fn cadence_format_decimal(
     ensures line { result ≡ 0 → (numbers : List Number) × AreNumbersOf values.now numbers
         × IsLine (bare prefix.now) kind key.now numbers options.now (take size.new out.new) }
     ensures within { result ≡ 0 → size.new ≤ length out.new }
+    ensures text { result ≡ 5 → IsUtf8 prefix.now → IsText key.now options.now → ⊥ }
+    ensures invalid { result ≡ 4 → IsNoCall kind options.now
+        ⊎ (AreDecimals values.now → ⊥) }
 {
     *size = 0;
     match decimal_value(alloc, values) {
@@ -145,6 +161,9 @@ pub extern "C" fn cadence_format_duration(
         × (durations_of kind nanos.now ≡ Some numbers)
         × IsLine (bare prefix.now) kind key.now numbers options.now (take size.new out.new) }
     ensures within { result ≡ 0 → size.new ≤ length out.new }
+    ensures text { result ≡ 5 → IsUtf8 prefix.now → IsText key.now options.now → ⊥ }
+    ensures invalid { result ≡ 4 → IsNoCall kind options.now
+        ⊎ (durations_of kind nanos.now ≡ None) }
 {
     *size = 0;
     match duration_value(alloc, kind, nanos) {

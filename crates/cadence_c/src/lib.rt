@@ -12,10 +12,11 @@ mod parts;
 mod status;
 mod value;
 
-ghost use Rattle.std.specs.Prelude.{◌≡◌, ◌≢◌, ◌≤◌, ◌<◌, List, None, Some, length, map, take};
+ghost use Rattle.std.specs.Prelude.{◌≡◌, ◌≢◌, ◌⊎◌, ◌≤◌, ◌<◌, List, None, Some, length, map, take};
+ghost use Rattle.std.specs.Str.{IsUtf8};
 ghost use Rattle.cadence_value.specs.Number.{Number, natural, whole};
 ghost use Rattle.cadence_value.specs.Values.{numbers_of};
-ghost use Rattle.cadence_c.specs.Calls.{AreNumbersOf, c_tag, durations_of};
+ghost use Rattle.cadence_c.specs.Calls.{AreDecimals, AreNumbersOf, IsNoCall, IsText, IsTextTag, c_tag, durations_of};
 ghost use Rattle.cadence_c.specs.State.{policy_named, Contained, Counted, Defaulted, Flushed, FullFor, FullForHeld, FullForLine, IsEmpty, IsNew, IsOldest, Kept, KeptLine, Sent};
 
 use cadence_flow::queue::QueuePolicy;
@@ -55,6 +56,8 @@ pub extern "C" fn cadence_new(
     ensures refused { result ≢ 0 → handle.new.seal.client ≡ handle.old.seal.client }
     ensures closed { result ≢ 1 }
     ensures full { result ≢ 3 }
+    ensures text { result ≡ 5 → IsUtf8 prefix.now → ⊥ }
+    ensures invalid { result ≡ 4 → (policy_named policy ≡ None) ⊎ (packets < 2) }
 {
     let Ok(prefix) = str::from_utf8(prefix) else {
         return Refusal::NotUtf8.code();
@@ -91,6 +94,7 @@ pub extern "C" fn cadence_add_tag(alloc: Global, handle: &mut Handle, tag: &CTag
     ensures refused { result ≢ 0 → handle.new.seal.client ≡ handle.old.seal.client }
     ensures closed { result ≡ 1 → handle.old.seal.client ≡ None }
     ensures full { result ≢ 3 }
+    ensures text { result ≡ 5 → IsTextTag tag.now → ⊥ }
 {
     let Some(tag) = tag_of(tag) else {
         return Refusal::NotUtf8.code();
@@ -111,6 +115,7 @@ pub extern "C" fn cadence_set_container(alloc: Global, handle: &mut Handle, cont
     ensures refused { result ≢ 0 → handle.new.seal.client ≡ handle.old.seal.client }
     ensures closed { result ≡ 1 → handle.old.seal.client ≡ None }
     ensures full { result ≢ 3 }
+    ensures text { result ≡ 5 → IsUtf8 container.now → ⊥ }
 {
     let Ok(container) = str::from_utf8(container) else {
         return Refusal::NotUtf8.code();
@@ -138,6 +143,8 @@ fn keep(
     ensures closed { result ≡ 1 → handle.old.seal.client ≡ None }
     ensures full { result ≡ 3 → FullFor kind key.now (numbers_of value) options.now
         handle.old.seal.client }
+    ensures text { result ≡ 5 → IsText key.now options.now → ⊥ }
+    ensures invalid { result ≡ 4 → IsNoCall kind options.now }
 {
     let Some(mut client) = handle.take(alloc) else {
         return CLOSED;
@@ -163,6 +170,8 @@ pub extern "C" fn cadence_signed(
     ensures closed { result ≡ 1 → handle.old.seal.client ≡ None }
     ensures full { result ≡ 3 → FullFor kind key.now (map whole values.now) options.now
         handle.old.seal.client }
+    ensures text { result ≡ 5 → IsText key.now options.now → ⊥ }
+    ensures invalid { result ≡ 4 → IsNoCall kind options.now }
 {
     match signed_value(alloc, values) {
         Ok(value) => keep(alloc, handle, kind, key, value, options),
@@ -186,6 +195,8 @@ pub extern "C" fn cadence_unsigned(
     ensures closed { result ≡ 1 → handle.old.seal.client ≡ None }
     ensures full { result ≡ 3 → FullFor kind key.now (map natural values.now) options.now
         handle.old.seal.client }
+    ensures text { result ≡ 5 → IsText key.now options.now → ⊥ }
+    ensures invalid { result ≡ 4 → IsNoCall kind options.now }
 {
     match unsigned_value(alloc, values) {
         Ok(value) => keep(alloc, handle, kind, key, value, options),
@@ -209,6 +220,9 @@ pub extern "C" fn cadence_decimal(
     ensures closed { result ≡ 1 → handle.old.seal.client ≡ None }
     ensures full { result ≡ 3 → (numbers : List Number) × AreNumbersOf values.now numbers
         × FullFor kind key.now numbers options.now handle.old.seal.client }
+    ensures text { result ≡ 5 → IsText key.now options.now → ⊥ }
+    ensures invalid { result ≡ 4 → IsNoCall kind options.now
+        ⊎ (AreDecimals values.now → ⊥) }
 {
     match decimal_value(alloc, values) {
         Ok(value) => keep(alloc, handle, kind, key, value, options),
@@ -235,6 +249,9 @@ pub extern "C" fn cadence_duration(
     ensures full { result ≡ 3 → (numbers : List Number)
         × (durations_of kind nanos.now ≡ Some numbers)
         × FullFor kind key.now numbers options.now handle.old.seal.client }
+    ensures text { result ≡ 5 → IsText key.now options.now → ⊥ }
+    ensures invalid { result ≡ 4 → IsNoCall kind options.now
+        ⊎ (durations_of kind nanos.now ≡ None) }
 {
     match duration_value(alloc, kind, nanos) {
         Ok(value) => keep(alloc, handle, kind, key, value, options),

@@ -75,7 +75,7 @@ impl Packing {
     ghost use Rattle.cadence_flow.specs.Frame.{held_packet};
     ghost use Rattle.cadence_schedule.specs.Settings.{with_default_tag, with_default_container};
     ghost use Rattle.cadence_value.specs.Values.{numbers_of};
-    ghost use Rattle.cadence_c.specs.Calls.{IsLine};
+    ghost use Rattle.cadence_c.specs.Calls.{IsLine, IsNoCall, IsText};
     ghost use Rattle.cadence_c.specs.Status.{status};
     ghost use Rattle.cadence_c.specs.State.{new_state, flushed, alone, put, Packs, Overflows, LacksRoom, IsSent, IsCountOf};
 
@@ -126,6 +126,8 @@ impl Packing {
         ensures refused { OnErr result (self.new ≡ self.old) }
         ensures full { status result ≡ 3 →
             LacksRoom self.old.queue (length (held_packet self.old.held)) }
+        ensures invalid { status result ≢ 4 }
+        ensures text { status result ≢ 5 }
     {
         if self.lines.held().is_empty() {
             return Ok(());
@@ -146,6 +148,8 @@ impl Packing {
         ensures packed { OnOk result (self.new ≡ alone self.old line.now) }
         ensures refused { OnErr result (self.new ≡ self.old) }
         ensures full { status result ≡ 3 → Overflows self.old line.now }
+        ensures invalid { status result ≢ 4 }
+        ensures text { status result ≢ 5 }
     {
         let packets = if self.lines.held().is_empty() { 1 } else { 2 };
         if self.lacks_room(packets) {
@@ -164,6 +168,8 @@ impl Packing {
         ensures packed { OnOk result (Packs self.old line.now self.new) }
         ensures refused { OnErr result (self.new ≡ self.old) }
         ensures full { status result ≡ 3 → Overflows self.old line.now }
+        ensures invalid { status result ≢ 4 }
+        ensures text { status result ≢ 5 }
     {
         if self.lines.hold(line) {
             return Ok(());
@@ -192,6 +198,8 @@ impl Packing {
         ensures line { IfOk result (λ line. IsLine self.now.settings kind key.now (numbers_of value)
             options.now (string_bytes line)) }
         ensures room { status result ≢ 3 }
+        ensures text { status result ≡ 5 → IsText key.now options.now → ⊥ }
+        ensures invalid { status result ≡ 4 → IsNoCall kind options.now }
     {
         let Ok(key) = str::from_utf8(key) else {
             return Err(Refusal::NotUtf8);
@@ -221,6 +229,8 @@ impl Packing {
         ensures full { status result ≡ 3 → (line : List ℕ)
             × IsLine self.old.settings kind key.now (numbers_of value) options.now line
             × Overflows self.old line }
+        ensures text { status result ≡ 5 → IsText key.now options.now → ⊥ }
+        ensures invalid { status result ≡ 4 → IsNoCall kind options.now }
     {
         let line = self.line_of(alloc, kind, key, value, options)?;
         self.pack(alloc, line.as_bytes())
@@ -234,6 +244,7 @@ impl Packing {
         }) }
         ensures refused { OnErr result (self.new ≡ self.old) }
         ensures full { status result ≢ 3 }
+        ensures text { status result ≢ 5 }
     {
         match self.settings.add_tag(key, text) {
             Ok(()) => Ok(()),
@@ -249,6 +260,7 @@ impl Packing {
         }) }
         ensures refused { OnErr result (self.new ≡ self.old) }
         ensures full { status result ≢ 3 }
+        ensures text { status result ≢ 5 }
     {
         match self.settings.set_container(container) {
             Ok(()) => Ok(()),

@@ -3,7 +3,7 @@ ghost use Rattle.std.specs.Prelude.{◌≡◌, ◌≢◌, IfOk, IfErr, map, Some
 ghost use Rattle.cadence_value.specs.Number.{natural, whole};
 ghost use Rattle.cadence_value.specs.Values.{numbers_of};
 ghost use Rattle.cadence_c.specs.Status.{status};
-ghost use Rattle.cadence_c.specs.Calls.{AreNumbersOf, durations_of, millis_of};
+ghost use Rattle.cadence_c.specs.Calls.{AreDecimals, AreNumbersOf, durations_of, millis_of};
 
 use crate::call::{CDecimal, decimal_of};
 use crate::status::Refusal;
@@ -17,6 +17,8 @@ const NANOS: u64 = 1_000_000;
 pub fn signed_value(alloc: Global, values: &[i64]) -> Result<MetricValue, Refusal>
     ensures numbers { IfOk result (λ v. numbers_of v ≡ map whole values.now) }
     ensures room { status result ≢ 3 }
+    ensures invalid { status result ≢ 4 }
+    ensures text { status result ≢ 5 }
 {
     if let [value] = values {
         return Ok(MetricValue::Signed(*value));
@@ -31,6 +33,8 @@ pub fn signed_value(alloc: Global, values: &[i64]) -> Result<MetricValue, Refusa
 pub fn unsigned_value(alloc: Global, values: &[u64]) -> Result<MetricValue, Refusal>
     ensures numbers { IfOk result (λ v. numbers_of v ≡ map natural values.now) }
     ensures room { status result ≢ 3 }
+    ensures invalid { status result ≢ 4 }
+    ensures text { status result ≢ 5 }
 {
     if let [value] = values {
         return Ok(MetricValue::Unsigned(*value));
@@ -45,6 +49,8 @@ pub fn unsigned_value(alloc: Global, values: &[u64]) -> Result<MetricValue, Refu
 pub fn decimal_value(alloc: Global, values: &[CDecimal]) -> Result<MetricValue, Refusal>
     ensures numbers { IfOk result (λ v. AreNumbersOf values.now (numbers_of v)) }
     ensures room { status result ≢ 3 }
+    ensures invalid { status result ≡ 4 → AreDecimals values.now → ⊥ }
+    ensures text { status result ≢ 5 }
 {
     if let [value] = values {
         return Ok(MetricValue::Decimal(decimal_of(*value)?));
@@ -64,6 +70,8 @@ pub fn decimal_value(alloc: Global, values: &[CDecimal]) -> Result<MetricValue, 
 fn millis_value(alloc: Global, nanos: &[u64]) -> Result<MetricValue, Refusal>
     ensures numbers { IfOk result (λ v. numbers_of v ≡ map natural (map millis_of nanos.now)) }
     ensures room { status result ≢ 3 }
+    ensures invalid { status result ≢ 4 }
+    ensures text { status result ≢ 5 }
 {
     if let [nanos] = nanos {
         return Ok(MetricValue::Unsigned(*nanos / NANOS));
@@ -83,6 +91,8 @@ fn millis_value(alloc: Global, nanos: &[u64]) -> Result<MetricValue, Refusal>
 pub fn duration_value(alloc: Global, kind: u32, nanos: &[u64]) -> Result<MetricValue, Refusal>
     ensures numbers { IfOk result (λ v. durations_of kind nanos.now ≡ Some (numbers_of v)) }
     ensures room { status result ≢ 3 }
+    ensures invalid { status result ≡ 4 → durations_of kind nanos.now ≡ None }
+    ensures text { status result ≢ 5 }
 {
     match kind {
         1 => millis_value(alloc, nanos),

@@ -6,8 +6,8 @@ use Rattle.cadence_c.specs.Calls.{bare, kind_named}
 use Rattle.cadence_c.proofs.Lines.{bare_metric, ok_line_of_call}
 use Rattle.cadence_c.proofs.format.line_of.Goals as goal
 
-pub returns : goal.returns
-returns c =
+pub returns-clause-line : goal.returns-clause-line
+returns-clause-line c =
     let prefix = c.args.prefix.now in
     let key = c.args.key.now in
     let numbers = numbers_of c.args.value in
