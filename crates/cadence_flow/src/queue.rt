@@ -2,11 +2,9 @@
 
 mod policy;
 mod queue_core;
-mod shared;
 mod text_ring;
 mod worker_end;
 
 pub use policy::QueuePolicy;
 pub use queue_core::{QueueCore, Taken};
-pub use shared::SharedQueue;
 pub use worker_end::WorkerEnd;

@@ -1,14 +1,20 @@
 //! The steps of a buffered sink, each under its lock.
+ghost use Rattle.std.specs.Prelude.{◌≡◌, ◌∷◌, ◌++◌, [], length, IfOk, IsTrue};
 ghost use Rattle.cadence_flow.specs.Packer.{HoldsLine, WritesLine};
+ghost use Rattle.cadence_ledger.specs.Ledger.{accepted_of, packer_of};
+ghost use Rattle.cadence_ledger.specs.Telling.{telling_history, telling_kind};
 
 use cadence_errors::SinkError;
-use cadence_flow::io::{LineBuffer, PacketWriter};
+use cadence_flow::io::PacketWriter;
+use cadence_ledger::LineLedger;
 use std::alloc::Allocator;
 
 /// Holds the line of a metric where it fits the free room, and answers whether it did; nothing goes out.
 #[inline(always)]
-pub fn hold_line<T: PacketWriter, A: Allocator>(lines: &mut LineBuffer<T, A>, metric: &str) -> bool
-    ensures { HoldsLine lines.old lines.new metric.now result }
+pub fn hold_line<T: PacketWriter, A: Allocator>(lines: &mut LineLedger<T, A>, metric: &str) -> bool
+    ensures holds { HoldsLine (packer_of lines.old) (packer_of lines.new) metric.now result }
+    ensures accepted { IsTrue result →
+        accepted_of lines.new ≡ accepted_of lines.old ++ (metric.now, length metric.now) ∷ [] }
 {
     lines.hold(metric.as_bytes())
 }
@@ -16,10 +22,13 @@ pub fn hold_line<T: PacketWriter, A: Allocator>(lines: &mut LineBuffer<T, A>, me
 /// Writes the line of a metric: it is held, where need be after what is held went out, or goes out alone.
 #[inline]
 pub fn write_line<T: PacketWriter, A: Allocator>(
-    lines: &mut LineBuffer<T, A>,
+    lines: &mut LineLedger<T, A>,
     metric: &str,
 ) -> Result<usize, SinkError>
-    ensures { WritesLine T.kind T.history lines.old lines.new metric.now result }
+    ensures writes { WritesLine (telling_kind T.kind) (telling_history T.history)
+        (packer_of lines.old) (packer_of lines.new) metric.now result }
+    ensures accepted { IfOk result (λ n.
+        accepted_of lines.new ≡ accepted_of lines.old ++ (metric.now, n) ∷ []) }
 {
     lines.write(metric.as_bytes())
 }

@@ -5,9 +5,10 @@ ghost use Rattle.cadence_errors.specs.declared.SinkError.{SinkError};
 ghost use Rattle.cadence_sinks.specs.Sockets.{IsBufferedAnswer, IsBufferedFlush, IsSocketAnswer};
 
 use super::buffered::{hold_line, write_line};
-use cadence_errors::{MetricError, MetricResult, SinkError};
-use cadence_flow::io::{LineBuffer, PacketWriter, Refusals};
+use cadence_errors::{MetricResult, SinkError};
+use cadence_flow::io::{PacketWriter, Refusals};
 use cadence_flow::stats::{SinkStats, SocketStats};
+use cadence_ledger::LineLedger;
 use std::alloc::Allocator;
 use std::sync::{Mutex, MutexGuard, Wait};
 
@@ -51,7 +52,7 @@ impl<D: Datagrams, R: Wait + Drop, A: Allocator> CountedSocket<D, R, A> {
     }
 }
 
-/// Writes packets to a socket. It doesn't tell its packets.
+/// Writes packets to a socket. It doesn't tell its packets; the ledger round it does.
 #[derive(Drop)]
 pub struct SocketWriter<D: Datagrams, R: Wait + Drop, A: Allocator> {
     socket: CountedSocket<D, R, A>,
@@ -77,11 +78,11 @@ impl<D: Datagrams, R: Wait + Drop, A: Allocator> PacketWriter for SocketWriter<D
     }
 }
 
-/// A packer with the newline as its ending, under a lock, over a socket each answer of which is counted. Its drop
-/// tries one flush.
+/// A packer with the newline as its ending and with a ledger, under a lock, over a socket each answer of which is
+/// counted. Its drop tries one flush.
 pub struct PackedSocket<D: Datagrams, R: Wait + Drop, A: Allocator> {
     rt: R,
-    writer: Mutex<LineBuffer<SocketWriter<D, R, A>, A>>,
+    writer: Mutex<LineLedger<SocketWriter<D, R, A>, A>>,
     stats: SocketStats<R, A>,
     capacity: usize,
 }
@@ -100,12 +101,10 @@ impl<D: Datagrams, R: Wait + Clone + Drop, A: Allocator + Clone> PackedSocket<D,
             socket,
             refusals: Refusals::none(),
         };
-        let Ok(writer) = LineBuffer::new(alloc, writer, capacity) else {
-            return Err(MetricError::Sink(SinkError::OutOfMemory));
-        };
+        let lines = LineLedger::new(alloc, writer, capacity)?;
         Ok(PackedSocket {
             rt,
-            writer: Mutex::new(writer),
+            writer: Mutex::new(lines),
             stats,
             capacity,
         })
@@ -176,7 +175,7 @@ impl<D: Datagrams, R: Wait + Drop, A: Allocator> PackedSocket<D, R, A> {
 }
 
 // The lock of a packed socket.
-type SocketLines<'a, D, R, A> = MutexGuard<'a, LineBuffer<SocketWriter<D, R, A>, A>>;
+type SocketLines<'a, D, R, A> = MutexGuard<'a, LineLedger<SocketWriter<D, R, A>, A>>;
 
 impl<D: Datagrams, R: Wait + Drop, A: Allocator> Drop for PackedSocket<D, R, A> {
     fn drop(self) {

@@ -1,7 +1,8 @@
 //! The thread that calls the wrapped sink.
 use crate::worklist::{Worklist, work};
 use crate::{Handler, MetricSink};
-use cadence_flow::queue::{SharedQueue, WorkerEnd};
+use cadence_flow::queue::WorkerEnd;
+use cadence_ledger::SharedQueue;
 use cadence_resolve::thread::Job;
 use std::alloc::Allocator;
 use std::sync::{Arc, Wait};

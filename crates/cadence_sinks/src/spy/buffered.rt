@@ -4,12 +4,14 @@ ghost use Rattle.cadence_errors.specs.Errors.{OnlyWantsMemory};
 use super::channel::{Sender, SpyReceiver, new_channel};
 use crate::buffered::write_line;
 use crate::{DEFAULT_BUFFER_SIZE, MetricSink};
-use cadence_errors::{MetricError, MetricResult, SinkError};
-use cadence_flow::io::{LineBuffer, PacketWriter, Refusals};
+use cadence_errors::{MetricResult, SinkError};
+use cadence_flow::io::{PacketWriter, Refusals};
+use cadence_ledger::LineLedger;
 use std::alloc::{Allocator, Global};
 use std::sync::{Mutex, Wait};
 
-// Makes each packet a message. It takes a packet whole or refuses it, and doesn't tell its packets.
+// Makes each packet a message. It takes a packet whole or refuses it. It doesn't tell its packets; the ledger round
+// it does.
 #[derive(Drop)]
 struct MessageWriter<R: Wait + Drop, A: Allocator> {
     sender: Sender<R, A>,
@@ -42,7 +44,7 @@ impl<R: Wait + Drop, A: Allocator + Clone> PacketWriter for MessageWriter<R, A> 
 /// The held text stays then. It keeps no counts, and holds the runtime `R`, whose locks it takes.
 pub struct BufferedSpyMetricSink<R: Wait + Drop, A: Allocator + Clone = Global> {
     rt: R,
-    writer: Mutex<LineBuffer<MessageWriter<R, A>, A>>,
+    writer: Mutex<LineLedger<MessageWriter<R, A>, A>>,
 }
 
 impl<R: Wait + Clone + Drop, A: Allocator + Clone> BufferedSpyMetricSink<R, A> {
@@ -69,13 +71,9 @@ impl<R: Wait + Clone + Drop, A: Allocator + Clone> BufferedSpyMetricSink<R, A> {
             sender,
             refusals: Refusals::none(),
         };
-        match LineBuffer::new(alloc, inner, buffer.unwrap_or(DEFAULT_BUFFER_SIZE)) {
-            Ok(writer) => {
-                let writer = Mutex::new(writer);
-                Ok((receiver, BufferedSpyMetricSink { rt, writer }))
-            }
-            Err(_) => Err(MetricError::Sink(SinkError::OutOfMemory)),
-        }
+        let lines = LineLedger::new(alloc, inner, buffer.unwrap_or(DEFAULT_BUFFER_SIZE))?;
+        let writer = Mutex::new(lines);
+        Ok((receiver, BufferedSpyMetricSink { rt, writer }))
     }
 }
 

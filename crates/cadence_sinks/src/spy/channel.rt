@@ -3,7 +3,8 @@ ghost use Rattle.cadence_errors.specs.Errors.{OnlyWantsMemory};
 ghost use Rattle.cadence_sinks.specs.Answers.{IsQueueAnswer};
 
 use cadence_errors::{MetricResult, SinkError};
-use cadence_flow::queue::{SharedQueue, Taken};
+use cadence_flow::queue::Taken;
+use cadence_ledger::SharedQueue;
 use std::alloc::{Allocator, Global};
 use std::sync::{Arc, Wait};
 

@@ -1,5 +1,6 @@
 use cadence_errors::{MetricResult, SinkError};
-use cadence_flow::queue::{QueueCore, QueuePolicy, SharedQueue, Taken, WorkerEnd};
+use cadence_flow::queue::{QueueCore, QueuePolicy, Taken, WorkerEnd};
+use cadence_ledger::SharedQueue;
 use refusing::Refusing;
 use std::alloc::{AllocError, Global};
 use std::test::Fail;

@@ -4,9 +4,9 @@ ghost use Rattle.cadence_errors.specs.Errors.{out_of_memory};
 ghost use Rattle.cadence_flow.specs.Queue.{IsQueueRefusal};
 ghost use Rattle.cadence_flow.specs.QueueRoom.{TakesRoom};
 
-use super::policy::QueuePolicy;
-use super::queue_core::{QueueCore, Taken};
+use super::queue_ledger::QueueLedger;
 use cadence_errors::{MetricResult, SinkError};
+use cadence_flow::queue::{QueuePolicy, Taken};
 use std::alloc::{AllocError, Allocator, Global};
 use std::sync::{Condvar, Mutex, Wait};
 use std::{hint, thread};
@@ -24,10 +24,11 @@ fn stand_aside() {
     }
 }
 
-/// A `QueueCore` under a lock, which threads share by reference. Each call is one step of the core.
+/// A `QueueCore` under a lock, which threads share by reference. Each call is one step of the core, and whenever the
+/// lock is free, a ledger that only proofs read tells its past: `QueueLedger`.
 #[derive(Drop)]
 pub struct SharedQueue<T, A: Allocator = Global> {
-    core: Mutex<QueueCore<T, A>>,
+    core: Mutex<QueueLedger<T, A>>,
     changed: Condvar,
 }
 
@@ -44,7 +45,7 @@ impl<T: Drop, A: Allocator + Clone> SharedQueue<T, A> {
     pub fn with_policy(alloc: A, capacity: Option<usize>, policy: QueuePolicy) -> MetricResult<Self>
         ensures { IfErr result (λ e. (e ≡ out_of_memory) × TakesRoom capacity) }
     {
-        let core = QueueCore::with_policy(alloc, capacity, policy)?;
+        let core = QueueLedger::new(alloc, capacity, policy)?;
         Ok(SharedQueue {
             core: Mutex::new(core),
             changed: Condvar::new(),
@@ -58,7 +59,7 @@ impl<T: Drop, A: Allocator + Clone> SharedQueue<T, A> {
         ensures { IfErr result (λ e. IsQueueRefusal e.0 × (e.1 ≡ text)) }
     {
         let mut core = self.core.lock(rt);
-        let (idle, full) = (core.is_idle(), core.is_full());
+        let (idle, full) = (core.core().is_idle(), core.core().is_full());
         let answer = core.submit(text);
         drop(core);
         self.after_submit(idle, full, answer.is_ok());
@@ -77,7 +78,7 @@ impl<T: Drop, A: Allocator + Clone> SharedQueue<T, A> {
         ensures { IfErr result IsQueueRefusal }
     {
         let mut core = self.core.lock(rt);
-        let (idle, full) = (core.is_idle(), core.is_full());
+        let (idle, full) = (core.core().is_idle(), core.core().is_full());
         let answer = core.submit_with(make);
         drop(core);
         self.after_submit(idle, full, answer.is_ok());
@@ -127,7 +128,7 @@ impl<T: Drop, A: Allocator> SharedQueue<T, A> {
     fn take_asleep(&self, rt: &impl Wait) -> Option<T> {
         let mut core = self
             .changed
-            .wait_while(rt, self.core.lock(rt), |core| core.is_idle());
+            .wait_while(rt, self.core.lock(rt), |core| core.core().is_idle());
         match core.take() {
             Taken::Text(text) => Some(text),
             Taken::Ended => None,
@@ -154,21 +155,21 @@ impl<T: Drop, A: Allocator> SharedQueue<T, A> {
 
     /// The number of texts that wait.
     pub fn waiting(&self, rt: &impl Wait) -> usize {
-        self.core.lock(rt).waiting()
+        self.core.lock(rt).core().waiting()
     }
 
     /// The number of texts accepted, modulo 2 to the 64.
     pub fn submitted(&self, rt: &impl Wait) -> u64 {
-        self.core.lock(rt).submitted()
+        self.core.lock(rt).core().submitted()
     }
 
     /// The number of texts taken, modulo 2 to the 64.
     pub fn drained(&self, rt: &impl Wait) -> u64 {
-        self.core.lock(rt).drained()
+        self.core.lock(rt).core().drained()
     }
 
     /// The number of texts dropped to make room, modulo 2 to the 64.
     pub fn dropped(&self, rt: &impl Wait) -> u64 {
-        self.core.lock(rt).dropped()
+        self.core.lock(rt).core().dropped()
     }
 }

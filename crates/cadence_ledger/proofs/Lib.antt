@@ -1,0 +1,2 @@
+pub mod QueuePast
+mod Walks

@@ -1,0 +1,9 @@
+pub mod Ledger
+pub mod QueueLedger
+pub mod QueuePast
+pub mod QueueTaken
+pub mod Telling
+pub use Rattle.cadence_errors.specs.Errors
+pub use Rattle.cadence_flow.specs.Packer
+pub use Rattle.cadence_flow.specs.Queue
+pub use Rattle.cadence_flow.specs.Writer

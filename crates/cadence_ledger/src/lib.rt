@@ -1,0 +1,13 @@
+//! What lies under the locks of the sinks: a packer and a queue, each with a ledger that only proofs read.
+#![tactic(auto)]
+
+mod item_log;
+mod line_ledger;
+mod queue_ledger;
+mod shared_queue;
+mod telling;
+mod text_log;
+
+pub use line_ledger::LineLedger;
+pub use shared_queue::SharedQueue;
+pub use telling::Telling;

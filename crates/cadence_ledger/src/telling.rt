@@ -1,0 +1,55 @@
+//! A writer that tells its packets.
+ghost use Rattle.std.specs.Prelude.{◌≡◌, true};
+
+use super::text_log::TextLog;
+use cadence_errors::SinkError;
+use cadence_flow::io::PacketWriter;
+
+/// A writer, and in proofs alone each packet that was offered to it, with how many of its bytes the writer said it
+/// took. Whatever the writer is, this one tells its packets.
+#[derive(Drop)]
+pub struct Telling<W> {
+    inner: W,
+    told: TextLog,
+}
+
+impl<W> Telling<W> {
+    ghost use Rattle.std.specs.Prelude.{[]};
+    ghost use Rattle.cadence_ledger.specs.Telling.{writer_of, offers_of};
+
+    /// Nothing was offered yet.
+    pub fn new(inner: W) -> Self
+        ensures writer { writer_of result ≡ inner }
+        ensures none { offers_of result ≡ [] }
+    {
+        Telling {
+            inner,
+            told: TextLog::new(),
+        }
+    }
+}
+
+impl<W: PacketWriter> PacketWriter for Telling<W> {
+    ghost use Rattle.cadence_flow.specs.Writer.{WritesPacket};
+    ghost use Rattle.cadence_ledger.specs.Telling.{packets_of, telling_history, telling_kind, writer_of};
+
+    ghost history = { telling_history W.history };
+
+    ghost kind = { telling_kind W.kind };
+
+    fn write_packet(&mut self, packet: &[u8]) -> Result<usize, SinkError>
+        ensures same_kind { telling_kind W.kind self.new ≡ telling_kind W.kind self.old }
+        ensures writes { WritesPacket (telling_kind W.kind self.old)
+            (telling_history W.history self.old) (telling_history W.history self.new)
+            packet.now result }
+        ensures ties { (W.kind (writer_of self.old)).tells ≡ true →
+            packets_of self.old ≡ (W.history (writer_of self.old)).packets →
+            packets_of self.new ≡ (W.history (writer_of self.new)).packets }
+    {
+        let answer = self.inner.write_packet(packet);
+        if let Ok(n) = &answer {
+            self.told.note(packet, *n);
+        }
+        answer
+    }
+}
