@@ -1,5 +1,3 @@
-pub mod DigitsRead
-pub mod NumberRead
 pub mod Pieces
 pub mod LineParts
 pub mod FieldsRead

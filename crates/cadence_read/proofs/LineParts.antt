@@ -1,24 +1,25 @@
 -- A line's parts, and the texts of its fields in them.
-use Rattle.std.proofs.Common.{◌≡◌, ◌≢◌, ℕ, List, [], ◌∷◌, ◌++◌, length, take, drop, refl, sym, ap, ap₂, ◌∙◌, subst, arith, eqb, true, false, Option, Some, None, codes}
+use Rattle.std.proofs.Common.{◌≡◌, ◌≢◌, ℕ, List, [], ◌∷◌, ◌++◌, length, take, drop, refl, sym, ap, ap₂, ◌∙◌, subst, arith, eqb, true, false, Option, Some, None, codes, get_or, ◌<◌, ◌≤◌, ◌⊎◌, inl, inr}
 use Rattle.std.specs.Prelude.{All, IfSome}
 use Rattle.std.specs.List.{join_with_byte}
 use Rattle.std.specs.Option.{option_map}
 use lib.Pointwise.{pointwise}
-use Rattle.std.proofs.lemmas.Bool.{eq-eqb}
+use Rattle.std.proofs.lemmas.Bool.{eq-eqb, cases_lt}
 use Rattle.std.proofs.lemmas.Bool.Decides.{Decides-eqb}
 use Rattle.std.proofs.lemmas.Slice.Eq.{slice_eq-Decides}
-use Rattle.std.proofs.lemmas.List.{append-nil, take-append-drop, take_at, drop_at}
+use Rattle.std.proofs.lemmas.List.{append-nil, length-append, get_or_append_left, take-append-drop, take_at, drop_at}
 use Rattle.std.proofs.lemmas.List.Elements.{All-weaker, recursion_from_All}
 use Rattle.std.proofs.lemmas.List.Splits.{join_with_byte-slice_split, length-slice_split}
+use Rattle.std.proofs.Math.Seq.{get_or-append_seam}
 use Rattle.cadence_text.specs.Line.{kind_text, tag_text, line_of}
 use Rattle.cadence_text.specs.Metric.{Metric, Tag}
 use Rattle.cadence_value.specs.Number.{Number, decimal_text, number_text, numbers_text}
 use Rattle.cadence_text.specs.OneReading.{IsFreeOfSeparators, IsFreeText, IsFreeTag, IsNoSeparator}
-use Rattle.cadence_value.proofs.Cut.{Stops, cut_at}
+use Rattle.cadence_value.proofs.Cut.{Lacks, Stops, cut_at}
 use Rattle.cadence_text.proofs.LineText.{marked, parts_of, front_of, last_of, rate_part, tags_part, container_part, time_part, separated-joined, line_of-joined, lacks_bars}
 use Rattle.cadence_read.specs.LineTexts.{LineTexts, tags_text, texts_of, field_part, field_parts, parts_of_texts, pieces_left, IsMarked}
 use Rattle.cadence_read.specs.Listed.{IsListed, IsListedTag, IsText}
-use Rattle.cadence_read.proofs.Pieces.{pieces, pieces-joined}
+use Rattle.cadence_read.proofs.Pieces.{named_front, pieces, pieces-joined}
 
 -- what a stripped mark says
 pub marked_found : (first text mark : List ℕ) → pointwise eqb (take (length mark) first) mark ≡ true → text ≡ drop (length mark) first → first ≡ mark ++ text
@@ -163,3 +164,45 @@ line_from_texts m line t parts e = line_found m line (ap parts_of_texts e ∙ pa
 
 pub texts_from_line : (m : Metric) (line : List ℕ) (t : LineTexts) → IsListed m → All (λ byte. byte ≢ 58) t.name → parts_of_texts t ≡ pieces 124 line → line_of m ≡ line → texts_of m ≡ t
 texts_from_line m line t h plain parts e = texts_once (texts_of m) t (name_plain m h) plain (line_cut m line h e ∙ sym parts)
+
+-- a text without separators lacks the colon, the bar and the newline
+pub plain_colon : (name : List ℕ) → All IsNoSeparator name → All (λ byte. byte ≢ 58) name
+plain_colon name h = All-weaker IsNoSeparator (λ byte. byte ≢ 58) (λ b p. p.0) name h
+
+pub lacks_bar : (name : List ℕ) → All IsNoSeparator name → Lacks 124 name
+lacks_bar name h = recursion_from_All (λ byte. byte ≢ 124) name (All-weaker IsNoSeparator (λ byte. byte ≢ 124) (λ b p. p.2) name h)
+
+pub lacks_newline : (name : List ℕ) → All IsNoSeparator name → Lacks 10 name
+lacks_newline name h = recursion_from_All (λ byte. byte ≢ 10) name (All-weaker IsNoSeparator (λ byte. byte ≢ 10) (λ b p. p.3) name h)
+
+-- the first separator of a text that begins with a name and a colon is that colon
+colon_by : (text name rest : List ℕ) (at : ℕ) → length name < length text → get_or text (length name) 0 ≡ 58 → ((k : ℕ) → k < at → IsNoSeparator (get_or text k 0)) → (at < length text → IsNoSeparator (get_or text at 0) → ⊥) → All IsNoSeparator name → text ≡ name ++ 58 ∷ rest → (at < length name) ⊎ (length name ≤ at) → (length name < at) ⊎ (at ≤ length name) → (at < length text) × (get_or text at 0 ≡ 58)
+colon_by text name rest at long colon front stops plain e (inl less) other =
+    let here : get_or text at 0 ≡ get_or name at 0 = ap (λ t. get_or t at 0) e ∙ get_or_append_left name (58 ∷ rest) 0 at less in
+    absurd (stops (omega arith) (subst IsNoSeparator (sym here) (plain at 0 less)))
+colon_by text name rest at long colon front stops plain e (inr _) (inl more) = absurd ((front (length name) more).0 colon)
+colon_by text name rest at long colon front stops plain e (inr low) (inr high) =
+    let same : at ≡ length name = omega arith in
+    (omega arith, ap (λ k. get_or text k 0) same ∙ colon)
+
+pub first_is_colon : (text name rest : List ℕ) (at : ℕ) → ((k : ℕ) → k < at → IsNoSeparator (get_or text k 0)) → (at < length text → IsNoSeparator (get_or text at 0) → ⊥) → All IsNoSeparator name → text ≡ name ++ 58 ∷ rest → (at < length text) × (get_or text at 0 ≡ 58)
+first_is_colon text name rest at front stops plain e =
+    let long : length name < length text = omega (arith, ap (λ t. length t) e, length-append name (58 ∷ rest)) in
+    let colon : get_or text (length name) 0 ≡ 58 = ap (λ t. get_or t (length name) 0) e ∙ get_or-append_seam name 58 rest 0 in
+    colon_by text name rest at long colon front stops plain e (cases_lt at (length name)) (cases_lt (length name) at)
+
+-- the fields that were taken off one after the other make the parts
+marked_back : (mark : List ℕ) (parts rest : List (List ℕ)) (f : Option (List ℕ)) → IsMarked mark parts f rest → field_part mark f ++ rest ≡ parts
+marked_back mark parts rest (Some text) h = sym h
+marked_back mark parts rest None h = h.0
+
+pub taken_fields : (t : LineTexts) (parts r1 r2 r3 r4 : List (List ℕ)) → IsMarked (codes "@") parts t.rate r1 → IsMarked (codes "#") r1 t.tags r2 → IsMarked (codes "c:") r2 t.container r3 → IsMarked (codes "T") r3 t.time r4 → r4 ≡ [] → field_parts t ≡ parts
+taken_fields t parts r1 r2 r3 r4 h1 h2 h3 h4 none =
+    let fourth : field_part (codes "T") t.time ≡ r3 = sym (append-nil (field_part (codes "T") t.time)) ∙ ap (λ r. field_part (codes "T") t.time ++ r) (sym none) ∙ marked_back (codes "T") r3 r4 t.time h4 in
+    let third = ap (λ r. field_part (codes "c:") t.container ++ r) fourth ∙ marked_back (codes "c:") r2 r3 t.container h3 in
+    let second = ap (λ r. field_part (codes "#") t.tags ++ r) third ∙ marked_back (codes "#") r1 r2 t.tags h2 in
+    ap (λ r. field_part (codes "@") t.rate ++ r) second ∙ marked_back (codes "@") parts r1 t.rate h1
+
+-- a listed metric's line begins with its name and a colon
+pub line_named : (m : Metric) (line : List ℕ) → IsListed m → line_of m ≡ line → line ≡ m.name ++ 58 ∷ join_with_byte 124 (numbers_text m.numbers ∷ kind_text m.kind ∷ field_parts (texts_of m))
+line_named m line h e = named_front 124 line m.name (numbers_text m.numbers) (kind_text m.kind ∷ field_parts (texts_of m)) (sym (line_cut m line h e))

@@ -1,11 +1,11 @@
 -- A text that is cut at each mark, and what is read from each piece.
-use Rattle.std.proofs.Common.{◌≡◌, ◌≢◌, ℕ, ◌<◌, List, [], ◌∷◌, ◌++◌, length, map, get_or, refl, sym, ap, ap₂, ◌∙◌, subst, arith, eqb, true, false, Option, None}
+use Rattle.std.proofs.Common.{◌≡◌, ◌≢◌, ℕ, ◌<◌, List, [], ◌∷◌, ◌++◌, length, map, get_or, refl, sym, ap, ◌∙◌, subst, arith, eqb, false, Option, Some, None}
 use Rattle.std.specs.List.{All, AllByRecursion, join_with_byte, slice_split}
 use Rattle.std.proofs.lemmas.Bool.{ne_eqb, eq-eqb}
 use Rattle.std.proofs.lemmas.List.{append_assoc, append-nil, length-append, map-append}
 use Rattle.std.proofs.lemmas.List.Elements.{All-from_recursion, All-push, recursion_from_All}
-use Rattle.std.proofs.lemmas.List.Splits.{slice_split_none, slice_split_at, slice_split-cons_no, join_with_byte-slice_split}
-use Rattle.cadence_value.proofs.Cut.{Lacks, each_weaker}
+use Rattle.std.proofs.lemmas.List.Splits.{slice_split_none, slice_split_at, slice_split-cons_no, join_with_byte-slice_split, length-slice_split}
+use Rattle.cadence_value.proofs.Cut.{Lacks, each_append}
 use Rattle.cadence_read.specs.LineTexts.{pieces_left}
 
 -- a text's pieces between these bytes
@@ -67,3 +67,29 @@ refused_at Good shown ys before left later all piece so_far next none good e =
 -- nothing is left
 pub read_all : (read all : List (List ℕ)) (mark : ℕ) (left : Option (List ℕ)) → left ≡ None → read ++ pieces_left mark left ≡ all → read ≡ all
 read_all read all mark left none e = sym (append-nil read) ∙ ap (λ o. read ++ pieces_left mark o) (sym none) ∙ e
+
+-- a text that is cut at each mark has a first piece
+pub first_piece : (c : ℕ) (text : List ℕ) → (piece : List ℕ) × (later : List (List ℕ)) × (pieces c text ≡ piece ∷ later)
+first_piece c text = at (pieces c text) (omega (arith, length-slice_split (λ b. eqb b c) text)) refl
+  where
+    at : (ps : List (List ℕ)) → 0 < length ps → pieces c text ≡ ps → (piece : List ℕ) × (later : List (List ℕ)) × (pieces c text ≡ piece ∷ later)
+    at [] some e = absurd (omega arith)
+    at (p ∷ ps) some e = (p, ps, e)
+
+-- a name and a colon stand at the front of the first piece
+pub pieces-named : (c : ℕ) (name rest first : List ℕ) (others : List (List ℕ)) → Lacks c name → 58 ≢ c → pieces c rest ≡ first ∷ others → pieces c (name ++ 58 ∷ rest) ≡ (name ++ 58 ∷ first) ∷ others
+pieces-named c name rest first others plain other e =
+    let both : Lacks c (name ++ 58 ∷ []) = each_append (λ b. b ≢ c) name (58 ∷ []) plain (other, tt) in
+    ap (pieces c) (sym (append_assoc name (58 ∷ []) rest)) ∙ pieces-marked c (name ++ 58 ∷ []) rest first others both e
+    ∙ ap (λ t. t ∷ others) (append_assoc name (58 ∷ []) first)
+
+-- and of the text, where they stand at the front of its first piece
+pub named_front : (c : ℕ) (text name first : List ℕ) (others : List (List ℕ)) → pieces c text ≡ (name ++ 58 ∷ first) ∷ others → text ≡ name ++ 58 ∷ join_with_byte c (first ∷ others)
+named_front c text name first others e =
+    marked_front c text (name ++ 58 ∷ []) first others (e ∙ ap (λ t. t ∷ others) (sym (append_assoc name (58 ∷ []) first)))
+    ∙ append_assoc name (58 ∷ []) (join_with_byte c (first ∷ others))
+
+-- the first piece of what is left begins with a name and a colon
+pub next_named : (c : ℕ) (left : Option (List ℕ)) (text name rest first : List ℕ) (later : List (List ℕ)) → left ≡ Some text → text ≡ name ++ 58 ∷ rest → Lacks c name → 58 ≢ c → pieces c rest ≡ first ∷ later → pieces_left c left ≡ (name ++ 58 ∷ first) ∷ later
+next_named c left text name rest first later some whole plain other e =
+    ap (pieces_left c) some ∙ ap (pieces c) whole ∙ pieces-named c name rest first later plain other e

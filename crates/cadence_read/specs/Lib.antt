@@ -1,4 +1,3 @@
 pub mod Listed
 pub mod LineTexts
-pub mod Magnitude
 pub mod Reads

@@ -1,12 +1,7 @@
--- What a reading answers.
-use Rattle.std.specs.Prelude.{◌≡◌, ⊤, Option, Some, None, Result, Ok, Err}
+-- What a reading that may want memory answers.
+use Rattle.std.specs.Prelude.{◌≡◌, ⊤, Result, Ok, Err}
 use Rattle.cadence_read.specs.declared.fault.ReadFault.{ReadFault}
 use Rattle.cadence_read.specs.declared.fault.ReadFault.TheVariants.{NotMetrics, OutOfMemory}
-
--- a good value that is shown so; none where no good value is
-abbrev pub Reads : {X Y : Type 0} → (X → Type 0) → (X → Y) → Y → Option X → Type 0
-Reads Good shown y (Some x) = Good x × (shown x ≡ y)
-Reads {X} Good shown y None = (x : X) → Good x → shown x ≡ y → ⊥
 
 -- no good value is shown so; or memory was refused
 abbrev pub FailsAs : {X Y : Type 0} → (X → Type 0) → (X → Y) → Y → ReadFault → Type 0

@@ -1,9 +1,10 @@
 //! A line, cut at its separators.
-ghost use Rattle.std.specs.Prelude.{◌≡◌, ◌≢◌, ◌==◌, ◌∷◌, ◌++◌, All, IfNone, IfSome};
+ghost use Rattle.std.specs.Prelude.{◌≡◌, ◌≢◌, ◌==◌, ◌∷◌, ◌++◌, ◌<◌, ◌≤◌, ◌↔◌, ℕ, List, All, IfNone, IfSome, IsTrue, length, slice_index};
 ghost use Rattle.std.specs.List.{AllByRecursion, slice_split};
 ghost use Rattle.std.specs.Option.{option_copied, option_map};
+ghost use Rattle.cadence_text.specs.OneReading.{IsNoSeparator};
 ghost use Rattle.cadence_read.specs.LineTexts.{IsMarked, parts_of_texts, pieces_left, texts_seen};
-ghost use Rattle.cadence_read.specs.Reads.{Reads};
+ghost use Rattle.cadence_value.specs.Reads.{Reads};
 
 // What stands before the first such byte, and what stands after it.
 pub(crate) fn cut(text: &[u8], mark: u8) -> Option<(&[u8], &[u8])>
@@ -42,6 +43,39 @@ fn take_marked<'a>(left: Option<&'a [u8]>, mark: &[u8]) -> (Option<&'a [u8]>, Op
     (Some(value), others)
 }
 
+fn is_no_separator(byte: u8) -> bool
+    ensures { IsTrue result ↔ IsNoSeparator byte }
+{
+    byte != b':' && byte != b',' && byte != b'|' && byte != b'\n'
+}
+
+// Where the first colon, comma, bar or newline stands, or the length where there is none.
+fn first_separator(text: &[u8]) -> usize
+    ensures bound { result ≤ length text.now }
+    ensures front { (k : ℕ) → k < result → IsNoSeparator (slice_index text.now k) }
+    ensures stops { result < length text.now → IsNoSeparator (slice_index text.now result) → ⊥ }
+{
+    let mut at = 0;
+    while at < text.len() && is_no_separator(text[at]) {
+        at += 1;
+    }
+    at
+}
+
+// A name, and what stands after the colon behind it.
+pub(crate) fn cut_name(text: &[u8]) -> Option<(&[u8], &[u8])>
+    ensures none { IfNone result ((name rest : List ℕ) →
+        All IsNoSeparator name → text.now ≡ name ++ 58 ∷ rest → ⊥) }
+    ensures name { IfSome result (λ parts. All IsNoSeparator parts.0.now) }
+    ensures whole { IfSome result (λ parts. text.now ≡ parts.0.now ++ 58 ∷ parts.1.now) }
+{
+    let at = first_separator(text);
+    if at == text.len() || text[at] != b':' {
+        return None;
+    }
+    Some((&text[..at], &text[at + 1..]))
+}
+
 // The texts of a line's fields.
 #[derive(Clone, Copy)]
 pub(crate) struct TextsOfLine<'a> {
@@ -54,13 +88,16 @@ pub(crate) struct TextsOfLine<'a> {
     pub(crate) time: Option<&'a [u8]>,
 }
 
-// The texts of a line's fields, each cut off in the order in which they stand, with nothing left.
-pub(crate) fn cut_line(line: &[u8]) -> Option<TextsOfLine<'_>>
-    ensures { Reads (λ texts. All (λ byte. byte ≢ 58) texts.name) parts_of_texts
-        (slice_split (λ byte. byte == 124) line.now) (option_map texts_seen result) }
+// The texts of a line's fields, each cut off in the order in which they stand, with nothing left. The line is this name, a
+// colon and the rest.
+pub(crate) fn cut_line<'a>(name: &'a [u8], rest: &'a [u8]) -> Option<TextsOfLine<'a>>
+    requires { All IsNoSeparator name.now }
+    ensures texts { Reads (λ texts. All (λ byte. byte ≢ 58) texts.name) parts_of_texts
+        (slice_split (λ byte. byte == 124) (name.now ++ 58 ∷ rest.now))
+        (option_map texts_seen result) }
+    ensures name { IfSome result (λ texts. texts.name.now ≡ name.now) }
 {
-    let (front, fields) = cut_piece(line, b'|');
-    let (name, numbers) = cut(front, b':')?;
+    let (numbers, fields) = cut_piece(rest, b'|');
     let (kind, fields) = cut_piece(fields?, b'|');
     let (rate, fields) = take_marked(fields, b"@");
     let (tags, fields) = take_marked(fields, b"#");

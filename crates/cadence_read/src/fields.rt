@@ -9,13 +9,13 @@ ghost use Rattle.cadence_text.specs.OneReading.{IsNoSeparator};
 ghost use Rattle.cadence_text.specs.Owned.{tag_of_owned};
 ghost use Rattle.cadence_read.specs.LineTexts.{tags_text};
 ghost use Rattle.cadence_read.specs.Listed.{IsListedTag, IsText};
-ghost use Rattle.cadence_read.specs.Reads.{Reads, ReadsOrFails};
+ghost use Rattle.cadence_value.specs.Reads.{Reads};
+ghost use Rattle.cadence_read.specs.Reads.{ReadsOrFails};
 
 use crate::cuts::{cut, cut_piece};
 use crate::fault::ReadFault;
-use crate::number::{read_number, read_whole};
-use cadence_value::decimal::Decimal;
 use cadence_text::line::MetricType;
+use cadence_value::decimal::{Decimal, read_number, read_whole};
 use std::alloc::Allocator;
 
 // Whether the text has no colon, comma, bar or newline.
@@ -25,17 +25,25 @@ fn is_free(text: &[u8]) -> bool
     text.iter().all(|byte| *byte != b':' && *byte != b',' && *byte != b'|' && *byte != b'\n')
 }
 
-// A name, a tag's key or text, or a container.
-pub(crate) fn read_text<A: Allocator>(alloc: A, text: &[u8]) -> Result<String<A>, ReadFault>
+// A text that has no separator.
+pub(crate) fn read_free<A: Allocator>(alloc: A, text: &[u8]) -> Result<String<A>, ReadFault>
+    requires { All IsNoSeparator text.now }
+    ensures { ReadsOrFails IsText (λ t. t) text.now string_bytes result }
+{
+    let Ok(text) = str::from_utf8(text) else {
+        return Err(ReadFault::NotMetrics);
+    };
+    Ok(String::from_str(alloc, text)?)
+}
+
+// A tag's key or text, or a container.
+fn read_text<A: Allocator>(alloc: A, text: &[u8]) -> Result<String<A>, ReadFault>
     ensures { ReadsOrFails IsText (λ t. t) text.now string_bytes result }
 {
     if !is_free(text) {
         return Err(ReadFault::NotMetrics);
     }
-    let Ok(text) = str::from_utf8(text) else {
-        return Err(ReadFault::NotMetrics);
-    };
-    Ok(String::from_str(alloc, text)?)
+    read_free(alloc, text)
 }
 
 // Numbers with a colon between each two. Mostly there is one.

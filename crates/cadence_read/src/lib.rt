@@ -5,10 +5,9 @@ mod cuts;
 mod fault;
 mod fields;
 mod line;
-mod number;
 mod packet;
 
+pub use cadence_value::decimal::read_number;
 pub use fault::ReadFault;
 pub use line::read_line;
-pub use number::read_number;
 pub use packet::{read_packet, read_run};

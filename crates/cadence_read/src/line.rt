@@ -1,15 +1,16 @@
 //! The metric of a line.
-ghost use Rattle.std.specs.Prelude.{◌≡◌};
+ghost use Rattle.std.specs.Prelude.{◌≡◌, ◌∷◌, ◌++◌, All};
 ghost use Rattle.cadence_text.specs.Line.{line_of};
+ghost use Rattle.cadence_text.specs.OneReading.{IsNoSeparator};
 ghost use Rattle.cadence_text.specs.Owned.{metric_of_owned};
 ghost use Rattle.cadence_read.specs.LineTexts.{texts_of, texts_seen};
 ghost use Rattle.cadence_read.specs.Listed.{IsListed};
 ghost use Rattle.cadence_read.specs.Reads.{ReadsOrFails};
 
-use crate::cuts::{TextsOfLine, cut_line};
+use crate::cuts::{TextsOfLine, cut_line, cut_name};
 use crate::fault::ReadFault;
 use crate::fields::{
-    read_container, read_kind, read_numbers, read_rate, read_tags, read_text, read_time,
+    read_container, read_free, read_kind, read_numbers, read_rate, read_tags, read_time,
 };
 use cadence_text::line::OwnedMetric;
 use std::alloc::Allocator;
@@ -19,6 +20,7 @@ fn read_texts<A: Allocator + Clone>(
     alloc: &A,
     texts: TextsOfLine<'_>,
 ) -> Result<OwnedMetric<A>, ReadFault>
+    requires { All IsNoSeparator texts.name.now }
     ensures { ReadsOrFails IsListed texts_of (texts_seen texts.entry) metric_of_owned result }
 {
     let Some(kind) = read_kind(texts.kind) else {
@@ -26,7 +28,7 @@ fn read_texts<A: Allocator + Clone>(
     };
     let rate = read_rate(texts.rate)?;
     let time = read_time(texts.time)?;
-    let name = read_text(alloc.clone()?, texts.name)?;
+    let name = read_free(alloc.clone()?, texts.name)?;
     let numbers = read_numbers(alloc.clone()?, texts.numbers)?;
     let tags = read_tags(alloc, texts.tags)?;
     let container = read_container(alloc.clone()?, texts.container)?;
@@ -41,6 +43,21 @@ fn read_texts<A: Allocator + Clone>(
     })
 }
 
+// The metric whose line is this name, a colon and the rest.
+pub(crate) fn read_named<A: Allocator + Clone>(
+    alloc: &A,
+    name: &[u8],
+    rest: &[u8],
+) -> Result<OwnedMetric<A>, ReadFault>
+    requires { All IsNoSeparator name.now }
+    ensures { ReadsOrFails IsListed line_of (name.now ++ 58 ∷ rest.now) metric_of_owned result }
+{
+    let Some(texts) = cut_line(name, rest) else {
+        return Err(ReadFault::NotMetrics);
+    };
+    read_texts(alloc, texts)
+}
+
 /// The one metric whose line this is.
 ///
 /// # Errors
@@ -48,8 +65,8 @@ fn read_texts<A: Allocator + Clone>(
 pub fn read_line<A: Allocator + Clone>(alloc: &A, line: &[u8]) -> Result<OwnedMetric<A>, ReadFault>
     ensures { ReadsOrFails IsListed line_of line.now metric_of_owned result }
 {
-    let Some(texts) = cut_line(line) else {
+    let Some((name, rest)) = cut_name(line) else {
         return Err(ReadFault::NotMetrics);
     };
-    read_texts(alloc, texts)
+    read_named(alloc, name, rest)
 }

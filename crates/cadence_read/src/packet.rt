@@ -8,19 +8,21 @@ ghost use Rattle.cadence_read.specs.Listed.{AreListed, IsListed, IsListOf, Reads
 ghost use Rattle.cadence_read.specs.Reads.{ReadsOrFails};
 ghost use Rattle.cadence_read.specs.declared.fault.ReadFault.TheVariants.{NotMetrics};
 
-use crate::cuts::cut_piece;
+use crate::cuts::{cut_name, cut_piece};
 use crate::fault::ReadFault;
-use crate::line::read_line;
+use crate::line::{read_line, read_named};
 use cadence_text::line::OwnedMetric;
 use std::alloc::Allocator;
 
 /// The most metrics that room is made for before the first of them is read.
 const MOST_ROOM: usize = 1024;
 
-// How many metrics to make room for: as many as there are lines, up to a limit, since a packet may have other lines.
+/// The bytes of a short line.
+const SHORT_LINE: usize = 24;
+
+// How many metrics to make room for: as many as there are short lines, up to a limit, since a packet may have other lines.
 fn room_for(lines: &[u8]) -> usize {
-    let newlines = lines.iter().filter(|byte| **byte == b'\n').count();
-    newlines.min(MOST_ROOM - 1) + 1
+    (lines.len() / SHORT_LINE).min(MOST_ROOM - 1) + 1
 }
 
 // The metrics of these lines, with a newline between each two.
@@ -34,8 +36,11 @@ fn read_lines<A: Allocator + Clone>(
     let mut metrics = Vec::with_capacity(alloc.clone()?, room_for(lines))?;
     let mut left = Some(lines);
     while let Some(text) = left {
-        let (line, others) = cut_piece(text, b'\n');
-        let metric = read_line(alloc, line)?;
+        let Some((name, rest)) = cut_name(text) else {
+            return Err(ReadFault::NotMetrics);
+        };
+        let (fields, others) = cut_piece(rest, b'\n');
+        let metric = read_named(alloc, name, fields)?;
         metrics.push(metric)?;
         left = others;
     }

@@ -4,3 +4,6 @@ pub mod Zeros
 pub mod Cut
 pub mod NumberText
 pub mod Counts
+pub mod DigitsRead
+pub mod NumberRead
+pub mod TextRead

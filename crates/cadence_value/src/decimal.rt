@@ -8,6 +8,10 @@ use cadence_errors::{ErrorKind, MetricError, MetricResult};
 use std::fmt;
 use std::marker::Model;
 
+mod read;
+
+pub use read::{ParseDecimalError, read_number, read_whole};
+
 /// The most digits that a `Decimal` has after the dot. A limit of this project's own.
 pub const MAX_PLACES: u8 = 30;
 

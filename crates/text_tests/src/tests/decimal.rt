@@ -2,8 +2,8 @@
 ghost use Rattle.std.specs.Prelude.{◌≡◌, ◌↔◌, IfOk, IsTrue};
 ghost use Rattle.cadence_value.specs.Number.{IsLowestForm};
 
-use cadence_errors::{ErrorKind, MetricResult};
-use cadence_value::decimal::{Decimal, MAX_PLACES};
+use cadence_errors::{ErrorKind, MetricError, MetricResult};
+use cadence_value::decimal::{Decimal, ParseDecimalError};
 use std::hash::{DefaultHasher, Hash, Hasher};
 use std::test::Fail;
 
@@ -73,5 +73,98 @@ fn is_equal_in_lowest_form(rt: HostRuntime) -> Result<(), Fail> {
     assert!(rt; !is_same(&half, &Decimal::new(5, 2)?));
     let shown = format!(in rt.alloc(); "{half:?}")?;
     assert!(rt; !shown.is_empty());
+    Ok(())
+}
+
+// Texts that say a number, and the number's own text.
+const SAID: [(&str, &str); 12] = [
+    ("5", "5"),
+    ("5.00", "5"),
+    ("0", "0"),
+    ("0.0", "0"),
+    ("-0.50", "-0.5"),
+    ("1.50", "1.5"),
+    ("10", "10"),
+    ("10.010", "10.01"),
+    (
+        "0.0000000000000000000000000000010000",
+        "0.000000000000000000000000000001",
+    ),
+    (
+        "-170141183.460469231731687303715884105728000000000000000000000000000000000000000000000000000",
+        "-170141183.460469231731687303715884105728",
+    ),
+    (
+        "-170141183460469231731687303715884105728.0",
+        "-170141183460469231731687303715884105728",
+    ),
+    (
+        "170141183460469231731687303715884105727",
+        "170141183460469231731687303715884105727",
+    ),
+];
+
+#[test]
+fn reads_what_a_text_says(rt: HostRuntime) -> Result<(), Fail> {
+    for (text, own) in SAID {
+        let read: Decimal = text.parse()?;
+        let printed = format!(in rt.alloc(); "{read}")?;
+        assert_eq!(rt; printed.as_str(), own);
+        let again: Decimal = own.parse()?;
+        assert!(rt; read == again, "{text}");
+    }
+    Ok(())
+}
+
+// Texts that are refused, and why.
+const REFUSED: [(&str, ParseDecimalError); 20] = [
+    ("", ParseDecimalError::NotANumber),
+    ("-", ParseDecimalError::NotANumber),
+    (".", ParseDecimalError::NotANumber),
+    ("5.", ParseDecimalError::NotANumber),
+    (".5", ParseDecimalError::NotANumber),
+    ("+5", ParseDecimalError::NotANumber),
+    ("05", ParseDecimalError::NotANumber),
+    ("00.5", ParseDecimalError::NotANumber),
+    ("-0", ParseDecimalError::NotANumber),
+    ("-0.00", ParseDecimalError::NotANumber),
+    ("1.2.0", ParseDecimalError::NotANumber),
+    ("1e3", ParseDecimalError::NotANumber),
+    ("1.5 ", ParseDecimalError::NotANumber),
+    ("1.\u{661}", ParseDecimalError::NotANumber),
+    ("99999999999999999999.x", ParseDecimalError::NotANumber),
+    (
+        "0.0000000000000000000000000000001",
+        ParseDecimalError::TooManyPlaces,
+    ),
+    (
+        "170141183460469231731687303715884105728",
+        ParseDecimalError::TooLarge,
+    ),
+    (
+        "-170141183460469231731687303715884105729",
+        ParseDecimalError::TooLarge,
+    ),
+    (
+        "1000000000000000000000000000000000000000",
+        ParseDecimalError::TooLarge,
+    ),
+    (
+        "17014118346.0469231731687303715884105728",
+        ParseDecimalError::TooLarge,
+    ),
+];
+
+#[test]
+fn names_why_a_text_is_refused(rt: HostRuntime) -> Result<(), Fail> {
+    for (text, why) in REFUSED {
+        assert_eq!(rt; text.parse::<Decimal>(), Err(why), "{text}");
+    }
+    let told = format!(in rt.alloc(); "{}", ParseDecimalError::TooLarge)?;
+    assert_eq!(rt; told.as_str(), "decimal number too large");
+    let error = MetricError::from(ParseDecimalError::NotANumber);
+    assert_eq!(rt; error.kind(), ErrorKind::InvalidInput);
+    let told = format!(in rt.alloc(); "{error}")?;
+    assert_eq!(rt; told.as_str(), "not a decimal number");
     Ok(())
 }

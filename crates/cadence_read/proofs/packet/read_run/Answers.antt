@@ -3,7 +3,6 @@ use Rattle.std.proofs.lemmas.List.{map-append, length-append, length-map, get_or
 use Rattle.std.proofs.Math.Seq.{get_or-append_seam}
 use Rattle.cadence_text.specs.Owned.{metrics_of, metric_of_owned}
 use Rattle.cadence_read.specs.declared.fault.ReadFault.TheVariants.{NotMetrics}
-use Rattle.cadence_read.specs.Listed.{AreListed}
 use Rattle.cadence_read.proofs.RunRead.{listed_more, listed_same, packet_at, run_fails, run_once, taken_more, taken_all}
 use Rattle.cadence_read.proofs.packet.read_run.Goals as goal
 

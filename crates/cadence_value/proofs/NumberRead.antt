@@ -1,31 +1,29 @@
 -- A number's text is read in one way: its sign, its whole part, and the digits after the dot.
-use Rattle.std.proofs.Common.{◌≡◌, ◌≢◌, ℕ, zero, suc, ◌+◌, ◌-◌, ◌*◌, ◌/◌, ◌%◌, ◌^◌, ◌<◌, ◌≤◌, ℤ, pos, negsuc, ◌*ℤ◌, List, [], ◌∷◌, ◌++◌, length, refl, sym, ap, ◌∙◌, ap₂, subst, arith, get_or, unsigned_abs, neg_ℤ, lit<, Option, Some, None, Bool, true, false, not, ◌||◌, eqb}
+use Rattle.std.proofs.Common.{◌≡◌, ◌≢◌, ℕ, zero, suc, ◌+◌, ◌-◌, ◌*◌, ◌/◌, ◌%◌, ◌^◌, ◌<◌, ◌≤◌, ℤ, pos, negsuc, List, [], ◌∷◌, ◌++◌, length, refl, sym, ap, ◌∙◌, ap₂, subst, arith, get_or, unsigned_abs, Option, Some, None, Bool, true, false}
 use Rattle.std.specs.Prelude.{All, FitsSigned, SomeIff, codes, if◌then◌else◌}
 use Rattle.std.specs.Int.{is_negative}
 use Rattle.std.specs.Str.Parse.{digits_value, AllDigits, IsNumeral}
 use mir.Syntax.{w128}
-use Rattle.std.proofs.lemmas.Bool.{ne_eqb, eq-eqb}
 use Rattle.std.proofs.lemmas.Grind.{common_steps}
 use Rattle.std.proofs.lemmas.Int.Digits.{digits_value-lt}
 use Rattle.std.proofs.lemmas.List.{append-nil}
 use Rattle.std.proofs.lemmas.List.Elements.{recursion_from_All}
 use Rattle.std.proofs.lemmas.Nat.{div-mul-add, mod-mul-add, div-add-mod'}
-use Rattle.std.proofs.Math.Nat.{pow-succ', mul_left_comm}
 use Rattle.std.proofs.lemmas.Str.Parse.{digit_from_value}
-use Rattle.cadence_value.specs.Number.{Number, IsLowestForm, number, decimal_text, number_text, places_text, filled_to, is_lowest, IsDecimal}
+use Rattle.cadence_value.specs.Number.{Number, number, decimal_text, number_text, places_text, filled_to, is_lowest, IsDecimal}
 use Rattle.cadence_value.proofs.Cut.{Lacks, lacks_no, cut_at}
 use Rattle.cadence_value.proofs.Digits.{decimal_text_once}
 use Rattle.cadence_value.proofs.NumberText.{numeral, places_of, places_text-suc, length-places_of, places_value, digits_zeros, sign, sign-pos, no_minus, unsigned_once}
-use Rattle.cadence_read.specs.Reads.{Reads}
-use Rattle.cadence_read.specs.Magnitude.{magnitude_text, IsMagnitude}
-use Rattle.cadence_read.proofs.DigitsRead.{filled_digits}
+use Rattle.cadence_value.specs.Reads.{Reads}
+use Rattle.cadence_value.specs.Magnitude.{magnitude_text, IsMagnitude}
+use Rattle.cadence_value.proofs.DigitsRead.{filled_digits}
 
 digits_lack_dot : (ds : List ℕ) → AllDigits 10 ds → Lacks 46 ds
 digits_lack_dot [] h = tt
 digits_lack_dot (d ∷ ds) (h, hs) = ((λ e. absurd (omega (arith, (digit_from_value d h).0))), digits_lack_dot ds hs)
 
 -- a number without places
-plain_text : (n : ℕ) → magnitude_text n 0 ≡ decimal_text n
+pub plain_text : (n : ℕ) → magnitude_text n 0 ≡ decimal_text n
 plain_text n = let one : n / 10 ^ 0 ≡ n = omega arith in append-nil (decimal_text (n / 10 ^ 0)) ∙ ap decimal_text one
 
 -- what a text with a dot says of its number
@@ -79,35 +77,11 @@ has_no_dot text plain none (n, zero) (small, few) e = none n small (sym (plain_t
 has_no_dot text plain none (n, suc q) (small, few) e =
     lacks_no 46 (decimal_text (n / 10 ^ suc q)) (places_of n (suc q)) (subst (Lacks 46) (sym e ∙ ap (λ t. decimal_text (n / 10 ^ suc q) ++ t) (places_text-suc n q)) (recursion_from_All (λ b. b ≢ 46) text plain))
 
--- a product with a power of ten has a last digit 0
-abs_product : (z : ℤ) (n : ℕ) → unsigned_abs (z *ℤ pos n) ≡ unsigned_abs z * n
-abs_product (pos a) n = refl
-abs_product (negsuc a) n = abs_neg (suc a * n)
-  where
-    abs_neg : (k : ℕ) → unsigned_abs (neg_ℤ (pos k)) ≡ k
-    abs_neg zero = refl
-    abs_neg (suc k) = refl
-
-last_zero : (a k : ℕ) → 0 < k → (a * 10 ^ k) % 10 ≡ 0
-last_zero a zero some = absurd (omega arith)
-last_zero a (suc k) some = let e : a * 10 ^ suc k ≡ a * 10 ^ k * 10 + 0 = omega (arith, ap (λ x. a * x) (pow-succ' 10 k), mul_left_comm a 10 (10 ^ k)) in ap (λ x. x % 10) e ∙ mod-mul-add (a * 10 ^ k) 10 0 (lit< tt)
-
--- a number that has fewer places in lowest form is not in lowest form
-pub not_lowest : (m : ℤ) (p : ℕ) (n : Number) → IsLowestForm m p n → n.places < p → is_lowest m p ≡ true → ⊥
-not_lowest m p n form fewer lowest =
-    let k = p - n.places in
-    let size : unsigned_abs m ≡ unsigned_abs n.mantissa * 10 ^ k = ap unsigned_abs form.same ∙ abs_product n.mantissa (10 ^ k) in
-    let zero_last : unsigned_abs m % 10 ≡ 0 = ap (λ x. x % 10) size ∙ last_zero (unsigned_abs n.mantissa) k (omega arith) in
-    let places : eqb p 0 ≡ false = ne_eqb p 0 (λ e. omega arith) in
-    let last : eqb (unsigned_abs m % 10) 0 ≡ true = eq-eqb (unsigned_abs m % 10) 0 zero_last in
-    let bad : true ≡ false = sym lowest ∙ ap₂ (λ a b. a || not b) places last in
-    absurd cc
-
 pub fits_size : (z : ℤ) → FitsSigned w128 z → unsigned_abs z ≤ 2 ^ 127
 fits_size (pos n) h = omega (arith, h.sfits)
 fits_size (negsuc n) h = omega (arith, h.sfits)
 
-not_below : (n : ℕ) → is_negative (pos n) ≡ false
+pub not_below : (n : ℕ) → is_negative (pos n) ≡ false
 not_below n = grind (arith, common_steps)
 
 -- a minus, and what is written after it
@@ -129,7 +103,7 @@ has_parts n below digits text size places whole first same e =
     let (sizes, count) = unsigned_once (unsigned_abs n.mantissa) size n.places places (rest ∙ sym same) in
     (side, sizes, count)
 
-same_signed : (y z : ℤ) → is_negative y ≡ is_negative z → unsigned_abs y ≡ unsigned_abs z → y ≡ z
+pub same_signed : (y z : ℤ) → is_negative y ≡ is_negative z → unsigned_abs y ≡ unsigned_abs z → y ≡ z
 same_signed (pos m) (pos n) side size = ap pos size
 same_signed (pos m) (negsuc n) side size = let bad : false ≡ true = sym (not_below m) ∙ side in absurd cc
 same_signed (negsuc m) (pos n) side size = let bad : false ≡ true = sym (not_below n) ∙ sym side in absurd cc

@@ -1,8 +1,8 @@
 use Rattle.std.proofs.Common.{rules, arith, ◌≡◌, ap, ℕ, Bool, true, None, unsigned_abs}
 use Rattle.std.specs.Prelude.{SomeIff}
 use Rattle.cadence_value.specs.Number.{is_lowest, number}
-use Rattle.cadence_read.proofs.NumberRead.{fits_size, has_sign, has_parts, number_read}
-use Rattle.cadence_read.proofs.number.read_number.Goals as goal
+use Rattle.cadence_value.proofs.NumberRead.{fits_size, has_sign, has_parts, number_read}
+use Rattle.cadence_value.proofs.decimal.read.read_number.Goals as goal
 
 pub returns-in_err-size : goal.returns-in_err-size
 returns-in_err-size c =

@@ -1,7 +1,7 @@
 use Rattle.std.proofs.Common.{rules, arith}
-use Rattle.cadence_read.proofs.DigitsRead.{whole_read, zero_refused}
-use Rattle.cadence_read.proofs.number.read_whole.Goals as goal
-use Rattle.cadence_read.proofs.number.read_whole.Goals.{else-text-gt1-via-then-text-gt1+else-text-eq48, else-text-gt1-via-else-text-gt1}
+use Rattle.cadence_value.proofs.DigitsRead.{whole_read, zero_refused}
+use Rattle.cadence_value.proofs.decimal.read.read_whole.Goals as goal
+use Rattle.cadence_value.proofs.decimal.read.read_whole.Goals.{else-text-gt1-via-then-text-gt1+else-text-eq48, else-text-gt1-via-else-text-gt1}
 
 pub returns-then-text-eq48 : goal.returns-then-text-eq48
 returns-then-text-eq48 c = zero_refused c.args.text.now (omega arith) (search rules)

@@ -1,10 +1,10 @@
 use Rattle.std.proofs.Common.{rules, arith, ◌≡◌, ◌^◌, ◌*◌, ◌+◌, ◌/◌, ◌≤◌, ◌∙◌, ap, None, length}
 use Rattle.std.proofs.Math.Nat.{div-le_self, mod-le}
-use Rattle.cadence_read.specs.Magnitude.{magnitude_text}
+use Rattle.cadence_value.specs.Magnitude.{magnitude_text}
 use Rattle.std.specs.Str.Parse.{digits_value}
-use Rattle.cadence_read.proofs.NumberRead.{has_dot, dot_sum, dotted_text}
-use Rattle.cadence_read.proofs.number.read_dotted.Goals as goal
-use Rattle.cadence_read.proofs.number.read_dotted.Goals.{then-is_empty-via-then-is_empty, then-is_empty-via-else-is_empty+then-fraction-from}
+use Rattle.cadence_value.proofs.NumberRead.{has_dot, dot_sum, dotted_text}
+use Rattle.cadence_value.proofs.decimal.read.read_dotted.Goals as goal
+use Rattle.cadence_value.proofs.decimal.read.read_dotted.Goals.{then-is_empty-via-then-is_empty, then-is_empty-via-else-is_empty+then-fraction-from}
 
 pub returns-then-is_empty : goal.returns-then-is_empty
 returns-then-is_empty c = λ m good e.

@@ -1,6 +1,6 @@
 use Rattle.std.proofs.Common.{rules, ◌≡◌, None}
-use Rattle.cadence_read.proofs.NumberRead.{has_no_dot}
-use Rattle.cadence_read.proofs.number.read_magnitude.Goals as goal
+use Rattle.cadence_value.proofs.NumberRead.{has_no_dot}
+use Rattle.cadence_value.proofs.decimal.read.read_magnitude.Goals as goal
 
 pub returns-in_err-size : goal.returns-in_err-size
 returns-in_err-size c =

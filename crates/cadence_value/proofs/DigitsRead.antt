@@ -2,7 +2,7 @@
 use Rattle.std.proofs.Common.{◌≡◌, ◌≢◌, ℕ, zero, suc, ◌+◌, ◌*◌, ◌-◌, ◌/◌, ◌%◌, ◌^◌, ◌<◌, ◌≤◌, List, [], ◌∷◌, ◌++◌, length, replicate, refl, sym, ap, ◌∙◌, ap₂, subst, arith, get_or, eqb, lit<, Option, Some, None, inl, inr, ◌⊎◌, true, false}
 use Rattle.std.specs.Prelude.{SomeIff}
 use Rattle.std.specs.Str.{IsUtf8}
-use Rattle.std.specs.Char.{digit_value}
+use Rattle.std.specs.Char.{digit_value, IsNotAsciiDigit}
 use Rattle.std.specs.Str.Parse.{digits_value, digits_value_after, AllDigits, IsNumeral}
 use Rattle.std.proofs.lemmas.Bool.Decides.{eqb_tells}
 use Rattle.std.proofs.lemmas.Fmt.{IsAscii-from_digits}
@@ -10,13 +10,14 @@ use Rattle.std.proofs.lemmas.Int.Digits.{digits_value-lt}
 use Rattle.std.proofs.lemmas.List.{append-nil, append_assoc}
 use Rattle.std.proofs.lemmas.Nat.{div-mul-add, mod-mul-add}
 use Rattle.std.proofs.lemmas.Str.{digit_value_digit, IsUtf8-from_ascii}
-use Rattle.std.proofs.lemmas.Str.Parse.{digit_from_value, IsNumeralModel, numerals_by_value, tells_digits, not_in_digits}
+use Rattle.std.proofs.lemmas.Str.Parse.{digit_at, digit_from_value, IsNumeralModel, numerals_by_value, tells_digits, not_in_digits}
+use Rattle.std.proofs.Math.Nat.{pow-le-pow_right}
 use Rattle.cadence_value.specs.Number.{decimal_text, filled_to}
 use Rattle.cadence_value.proofs.Digits.{text_digit, text_step, text_by_steps, text_numeral, length-decimal_text-le}
-use Rattle.cadence_read.specs.Reads.{Reads}
+use Rattle.cadence_value.specs.Reads.{Reads}
 
 -- a digit's byte
-digit_byte : (d : ℕ) → digit_value d < 10 → 48 + digit_value d ≡ d
+pub digit_byte : (d : ℕ) → digit_value d < 10 → 48 + digit_value d ≡ d
 digit_byte d h = omega (arith, digit_value_digit d (digit_from_value d h))
 
 -- more digits after those of a number that isn't zero
@@ -30,7 +31,7 @@ text_more n (d ∷ ds) some (h, hs) =
     let here : decimal_text m ≡ decimal_text n ++ (d ∷ []) = step ∙ ap₂ (λ a b. decimal_text a ++ (b ∷ [])) front (ap (λ x. 48 + x) last ∙ digit_byte d h) in
     text_more m ds (omega arith) hs ∙ ap (λ t. t ++ ds) here ∙ append_assoc (decimal_text n) (d ∷ []) ds
 
-nonzero : (v d : ℕ) → 48 + v ≡ d → (d ≡ 48 → ⊥) → 0 < v
+pub nonzero : (v d : ℕ) → 48 + v ≡ d → (d ≡ 48 → ⊥) → 0 < v
 nonzero zero d e other = absurd (other (sym e))
 nonzero (suc v) d e other = omega arith
 
@@ -52,7 +53,7 @@ first_is_plain n = text_by_steps (λ n ds. (0 < length ds) × (get_or ds 0 0 ≡
     more n [] big (some, zero_first) = absurd (omega arith)
     more n (d ∷ ds) big (some, zero_first) = (omega arith, λ e. absurd (omega (arith, zero_first e)))
 
-text_plain : (n : ℕ) → get_or (decimal_text n) 0 0 ≡ 48 → length (decimal_text n) ≡ 1
+pub text_plain : (n : ℕ) → get_or (decimal_text n) 0 0 ≡ 48 → length (decimal_text n) ≡ 1
 text_plain n e =
     let none : n ≡ 0 = (first_is_plain n).1 e in
     ap (λ t. length t) (ap decimal_text none ∙ text_digit 0 (lit< tt))
@@ -112,3 +113,12 @@ whole_read text None plain none = λ n small same.
 pub zero_refused : (text : List ℕ) → 1 < length text → get_or text 0 0 ≡ 48 → (n : ℕ) → n < 2 ^ 128 → decimal_text n ≡ text → ⊥
 zero_refused text long zero_first n small same =
     absurd (omega (arith, long, ap (λ t. length t) same, text_plain n (ap (λ t. get_or t 0 0) same ∙ zero_first)))
+
+-- a byte that is no digit
+pub not_digit : (text : List ℕ) (k : ℕ) → k < length text → IsNotAsciiDigit (get_or text k 0) → AllDigits 10 text → ⊥
+not_digit text k within other digits = absurd (grind (arith, digit_at text k digits within, other))
+
+-- one digit more after up to 17 of them fits 64 bits
+pub short_fits : (ds : List ℕ) → AllDigits 10 ds → length ds ≤ 17 → digits_value 10 ds * 10 + 9 < 2 ^ 64
+short_fits ds digits few =
+    omega (arith, digits_value-lt 10 ds digits, pow-le-pow_right {n = 10} (lit< tt) {i = length ds} {j = 17} few)

@@ -1,0 +1,303 @@
+//! Decimals from their texts.
+ghost use Rattle.std.specs.Prelude.{Bool, true, false, if◌then◌else◌, codes, [], slice_index, ℕ, ◌≡◌, ◌≢◌, ◌∷◌, ◌++◌, ◌-◌, ◌<◌, ◌≤◌, ◌^◌, ◌↔◌, All, IfNone, IfSome, IsTrue, SomeIff, length, replicate, unsigned_abs, FitsSigned};
+ghost use mir.Syntax.{w128};
+ghost use Rattle.std.specs.Int.{is_negative};
+ghost use Rattle.std.specs.Str.Parse.{AllDigits, IsNumeral, digits_value};
+ghost use Rattle.cadence_errors.specs.Errors.{IsInvalid};
+ghost use Rattle.cadence_value.specs.Digits.{ArePlain, EndsPlain, ReadsDigits, size_of};
+ghost use Rattle.cadence_value.specs.Magnitude.{IsMagnitude, magnitude_text};
+ghost use Rattle.cadence_value.specs.Number.{decimal_text, is_lowest, number, number_text, IsDecimal};
+ghost use Rattle.cadence_value.specs.Reads.{Reads};
+ghost use Rattle.cadence_value.specs.Said.{ReadsDecimal};
+
+use super::{Decimal, MAX_PLACES, power_of_ten};
+use cadence_errors::{ErrorKind, MetricError};
+use std::error::Error;
+use std::fmt;
+use std::str::FromStr;
+
+/// Why a text is read as no decimal.
+#[derive(Clone, Copy, Debug, PartialEq, Eq)]
+pub enum ParseDecimalError {
+    /// It is no number's text: an optional minus, digits without a needless zero before them, and, where there is a
+    /// dot, digits after it. There is no minus before zero.
+    NotANumber,
+    /// The number's lowest form has more than `MAX_PLACES` places.
+    TooManyPlaces,
+    /// The whole number of the lowest form passes 128 bits.
+    TooLarge,
+}
+
+impl ParseDecimalError {
+    fn text(self) -> &'static str {
+        match self {
+            ParseDecimalError::NotANumber => "not a decimal number",
+            ParseDecimalError::TooManyPlaces => "too many decimal places",
+            ParseDecimalError::TooLarge => "decimal number too large",
+        }
+    }
+}
+
+impl fmt::Display for ParseDecimalError {
+    fn fmt<W: fmt::Write>(&self, f: &mut fmt::Formatter<W>) -> fmt::Result {
+        f.write_str(self.text())
+    }
+}
+
+impl Error for ParseDecimalError {}
+
+/// Of kind `InvalidInput`, with the error's text.
+impl From<ParseDecimalError> for MetricError {
+    ghost from_gives = { λ _ e. IsInvalid e };
+
+    fn from(error: ParseDecimalError) -> MetricError {
+        MetricError::from((ErrorKind::InvalidInput, error.text()))
+    }
+}
+
+// What stands before the first such byte, and what stands after it.
+fn cut(text: &[u8], mark: u8) -> Option<(&[u8], &[u8])>
+    ensures none { IfNone result (All (λ byte. byte ≢ mark) text.now) }
+    ensures front { IfSome result (λ parts. All (λ byte. byte ≢ mark) parts.0.now) }
+    ensures whole { IfSome result (λ parts. text.now ≡ parts.0.now ++ mark ∷ parts.1.now) }
+{
+    let at = text.iter().position(|byte| *byte == mark)?;
+    Some((&text[..at], &text[at + 1..]))
+}
+
+// The number that digits say, also with zeros before them.
+#[tactic(auto, using(crate::proofs::DigitsRead::numeral_utf8))]
+fn read_long(text: &[u8]) -> Option<u128>
+    ensures { SomeIff result (IsNumeral 10 text.now × (digits_value 10 text.now < 2 ^ 128))
+        (digits_value 10 text.now) }
+{
+    if text.first() == Some(&b'+') {
+        return None;
+    }
+    let digits = str::from_utf8(text).ok()?;
+    digits.parse().ok()
+}
+
+/// The most digits whose number is read in 64 bits.
+const SHORT: usize = 18;
+
+// The number that up to 18 digits say.
+fn read_short(text: &[u8]) -> Option<u64>
+    requires { length text.now ≤ 18 }
+    ensures { SomeIff result (AllDigits 10 text.now) (digits_value 10 text.now) }
+{
+    let mut value = 0u64;
+    for byte in text {
+        if !byte.is_ascii_digit() {
+            return None;
+        }
+        value = value * 10 + u64::from(*byte - b'0');
+    }
+    Some(value)
+}
+
+// The number that digits say, also with zeros before them. Mostly there are few.
+fn read_digits(text: &[u8]) -> Option<u128>
+    ensures { SomeIff result (IsNumeral 10 text.now × (digits_value 10 text.now < 2 ^ 128))
+        (digits_value 10 text.now) }
+{
+    if text.len() > SHORT {
+        return read_long(text);
+    }
+    if text.is_empty() {
+        return None;
+    }
+    let value = read_short(text)?;
+    Some(u128::from(value))
+}
+
+/// The whole number that is printed as this text: digits without a sign, and with no zero before other digits. Takes no
+/// memory. `None` where none is that 128 bits hold.
+pub fn read_whole(text: &[u8]) -> Option<u128>
+    ensures { Reads (λ n. n < 2 ^ 128) decimal_text text.now result }
+{
+    if text.len() > 1 && text[0] == b'0' {
+        return None;
+    }
+    read_digits(text)
+}
+
+// A size and its places, which are printed as these two texts with a dot between them.
+fn read_dotted(whole: &[u8], fraction: &[u8]) -> Option<(u128, u8)>
+    requires { All (λ byte. byte ≢ 46) whole.now }
+    ensures { Reads IsMagnitude (λ m. magnitude_text m.0 m.1)
+        (whole.now ++ 46 ∷ fraction.now) result }
+{
+    if fraction.is_empty() || fraction.len() > usize::from(MAX_PLACES) {
+        return None;
+    }
+    let places = fraction.len() as u8;
+    let whole = read_whole(whole)?;
+    let fraction = read_digits(fraction)?;
+    let size = whole
+        .checked_mul(power_of_ten(places))?
+        .checked_add(fraction)?;
+    Some((size, places))
+}
+
+// The size and the places of a number that is printed so, but for its sign.
+fn read_magnitude(text: &[u8]) -> Option<(u128, u8)>
+    ensures { Reads IsMagnitude (λ m. magnitude_text m.0 m.1) text.now result }
+{
+    let Some((whole, fraction)) = cut(text, b'.') else {
+        let size = read_whole(text)?;
+        return Some((size, 0));
+    };
+    read_dotted(whole, fraction)
+}
+
+// The number of this size, below zero or not. Zero isn't below zero.
+fn signed(is_below: bool, size: u128) -> Option<i128>
+    ensures { Reads {Y = Bool × ℕ} (FitsSigned w128) (λ z. (is_negative z, unsigned_abs z))
+        (is_below, size) result }
+{
+    if !is_below {
+        return i128::try_from(size).ok();
+    }
+    if size == 0 {
+        return None;
+    }
+    0i128.checked_sub_unsigned(size)
+}
+
+// Whether a minus stands first, and what stands after it.
+fn cut_sign(text: &[u8]) -> (bool, &[u8])
+    ensures whole { text.now ≡ (if result.0 then codes "-" else []) ++ result.1.now }
+    ensures first { result.0 ≡ false → slice_index text.now 0 ≢ 45 }
+{
+    match text.strip_prefix(b"-") {
+        Some(unsigned) => (true, unsigned),
+        None => (false, text),
+    }
+}
+
+// This number over 10 to the power of `places`, where it is in lowest form.
+fn in_lowest_form(mantissa: i128, places: u8) -> Option<Decimal>
+    requires { places ≤ 30 }
+    ensures { SomeIff result (is_lowest mantissa places ≡ true) (number mantissa places) }
+{
+    if places == 0 {
+        return Some(Decimal { mantissa, places });
+    }
+    if mantissa % 10 == 0 {
+        return None;
+    }
+    Some(Decimal { mantissa, places })
+}
+
+/// The decimal that prints as this text. Takes no memory. `None` where none does: each decimal has one text, so with
+/// needless zeros, a plus, a minus before zero, or nothing on a side of the dot there is none.
+pub fn read_number(text: &[u8]) -> Option<Decimal>
+    ensures { Reads IsDecimal number_text text.now result }
+{
+    let (is_below, unsigned) = cut_sign(text);
+    let (size, places) = read_magnitude(unsigned)?;
+    let mantissa = signed(is_below, size)?;
+    in_lowest_form(mantissa, places)
+}
+
+// Whether each byte is a digit.
+fn are_digits(text: &[u8]) -> bool
+    ensures { IsTrue result ↔ AllDigits 10 text.now }
+{
+    for byte in text {
+        if !byte.is_ascii_digit() {
+            return false;
+        }
+    }
+    true
+}
+
+// Whether these are digits before a dot, without a needless zero, and digits after it.
+fn are_plain(whole: &[u8], fraction: &[u8]) -> bool
+    ensures { IsTrue result ↔ ArePlain whole.now fraction.now }
+{
+    if whole.is_empty() || whole.len() > 1 && whole[0] == b'0' {
+        return false;
+    }
+    are_digits(whole) && are_digits(fraction)
+}
+
+// The digits on both sides of a dot as one whole number.
+fn whole_of(whole: &[u8], fraction: &[u8]) -> Option<u128>
+    requires plain { ArePlain whole.now fraction.now }
+    requires places { length fraction.now ≤ 30 }
+    ensures { SomeIff result (size_of whole.now fraction.now < 2 ^ 128)
+        (size_of whole.now fraction.now) }
+{
+    let size = read_digits(whole)?;
+    if fraction.is_empty() {
+        return Some(size);
+    }
+    let rest = read_digits(fraction)?;
+    size.checked_mul(power_of_ten(fraction.len() as u8))?
+        .checked_add(rest)
+}
+
+// The digits without the zeros at their end.
+fn without_zeros(digits: &[u8]) -> &[u8]
+    ensures zeros { digits.now ≡ result.now
+        ++ replicate (length digits.now - length result.now) 48 }
+    ensures plain { EndsPlain result.now }
+{
+    let mut count = digits.len();
+    while count > 0 && digits[count - 1] == b'0' {
+        count -= 1;
+    }
+    &digits[..count]
+}
+
+// The decimal of a sign and of the digits on each side of a dot, the last of which is no zero.
+fn number_of(is_below: bool, whole: &[u8], fraction: &[u8]) -> Result<Decimal, ParseDecimalError>
+    requires { EndsPlain fraction.now }
+    ensures { ReadsDigits is_below whole.now fraction.now result }
+{
+    if !are_plain(whole, fraction) {
+        return Err(ParseDecimalError::NotANumber);
+    }
+    if fraction.len() > usize::from(MAX_PLACES) {
+        return Err(ParseDecimalError::TooManyPlaces);
+    }
+    let places = fraction.len() as u8;
+    let Some(size) = whole_of(whole, fraction) else {
+        return Err(ParseDecimalError::TooLarge);
+    };
+    if is_below && size == 0 {
+        return Err(ParseDecimalError::NotANumber);
+    }
+    match signed(is_below, size) {
+        Some(mantissa) => Ok(Decimal { mantissa, places }),
+        None => Err(ParseDecimalError::TooLarge),
+    }
+}
+
+// The decimal that a text says.
+fn read(text: &[u8]) -> Result<Decimal, ParseDecimalError>
+    ensures { ReadsDecimal text.now result }
+{
+    let (is_below, unsigned) = cut_sign(text);
+    let Some((whole, digits)) = cut(unsigned, b'.') else {
+        return number_of(is_below, unsigned, &[]);
+    };
+    if digits.is_empty() {
+        return Err(ParseDecimalError::NotANumber);
+    }
+    number_of(is_below, whole, without_zeros(digits))
+}
+
+/// The number whose text it is, exact, in lowest form: zeros at the end of the places are read. Takes no memory. Each other
+/// text is refused, by the first of the variants that fits.
+impl FromStr for Decimal {
+    type Err = ParseDecimalError;
+
+    ghost from_str_gives = { ReadsDecimal };
+
+    fn from_str(text: &str) -> Result<Decimal, ParseDecimalError> {
+        read(text.as_bytes())
+    }
+}
