@@ -1,9 +1,8 @@
 -- One more option of a call, and a builder that stands for it.
-use Rattle.std.proofs.Common.{◌≡◌, Result, Ok, Err, ap, ◌∙◌, sym, subst}
+use Rattle.std.proofs.Common.{Result, Ok, Err, ap, ◌∙◌, sym, subst}
 use Rattle.cadence_text.specs.Metric.{Metric}
 use Rattle.cadence_errors.specs.declared.MetricError.{MetricError}
 use Rattle.cadence.specs.Sending.{Chooses, ChoosesOrHolds, StandsFor, StandsForMore}
-use Rattle.cadence_schedule.specs.Settings.{Settings}
 use Rattle.cadence_schedule.specs.Call.{Choice, with_choice, chosen}
 use Rattle.cadence_schedule.specs.Laws.{OptionsAreChosen}
 

@@ -1,3 +1,4 @@
 pub mod Metrics
 pub mod Sending
 pub mod Shown
+pub mod Own

@@ -18,35 +18,35 @@ module _ {T C Z : Type 0} where
   abbrev pub backend_of : MetricBuilder T C Z → C
   backend_of b = b.client.now
 
-module _ {Z X Y : Type 0} {F : X → Type 0} {G : Y → Type 0} {g : _} where
-  abbrev pub settings_of_client : StatsdClient Z X Y F G g → Settings
+module _ {Z S Y : Type 0} {G : Y → Type 0} {g : _} where
+  abbrev pub settings_of_client : StatsdClient Z S Y G g → Settings
   settings_of_client c = c.settings
 
-  abbrev pub sink_of_client : StatsdClient Z X Y F G g → DynBox X Z F
+  abbrev pub sink_of_client : StatsdClient Z S Y G g → S
   sink_of_client c = c.sink
 
   -- the error handler, where there is one
-  abbrev pub handler_of_client : StatsdClient Z X Y F G g → Option (DynBox Y Z G)
+  abbrev pub handler_of_client : StatsdClient Z S Y G g → Option (DynBox Y Z G)
   handler_of_client c = option_map (λ h. h.call) c.handler
 
   -- the settings that a client's builder has so far, or none where a growth was refused
-  abbrev pub settings_of_builder : StatsdClientBuilder Z X Y F G g → Option Settings
+  abbrev pub settings_of_builder : StatsdClientBuilder Z S Y G g → Option Settings
   settings_of_builder b = b.settings
 
-  abbrev pub sink_of_builder : StatsdClientBuilder Z X Y F G g → DynBox X Z F
+  abbrev pub sink_of_builder : StatsdClientBuilder Z S Y G g → S
   sink_of_builder b = b.sink
 
-  abbrev pub handler_of_builder : StatsdClientBuilder Z X Y F G g → Option (DynBox Y Z G)
+  abbrev pub handler_of_builder : StatsdClientBuilder Z S Y G g → Option (DynBox Y Z G)
   handler_of_builder b = option_map (λ h. h.call) b.handler
 
   -- the builder has a default more, unless a growth was refused, and keeps its sink and its handler
-  pub record AddsDefault (change : Settings → Settings) (old new : StatsdClientBuilder Z X Y F G g) : Type 0 where
+  pub record AddsDefault (change : Settings → Settings) (old new : StatsdClientBuilder Z S Y G g) : Type 0 where
     pub settings : Changes (settings_of_builder old) change (settings_of_builder new)
     pub sink : sink_of_builder new ≡ sink_of_builder old
     pub handler : handler_of_builder new ≡ handler_of_builder old
 
   -- the client has the builder's settings, sink and handler
-  pub record IsBuiltFrom (b : StatsdClientBuilder Z X Y F G g) (c : StatsdClient Z X Y F G g) : Type 0 where
+  pub record IsBuiltFrom (b : StatsdClientBuilder Z S Y G g) (c : StatsdClient Z S Y G g) : Type 0 where
     pub settings : settings_of_builder b ≡ Some (settings_of_client c)
     pub sink : sink_of_client c ≡ sink_of_builder b
     pub handler : handler_of_client c ≡ handler_of_builder b

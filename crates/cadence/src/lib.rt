@@ -9,6 +9,7 @@ pub mod laws;
 mod metrics;
 pub mod prelude;
 pub mod queue;
+pub mod ready;
 pub mod resolve;
 pub mod schedule;
 mod sealed;

@@ -1,9 +1,11 @@
 //! The interface of a sink, and the sink that drops everything.
-ghost use Rattle.std.specs.Prelude.{◌≡◌, List, ℕ, Result, Ok, IfErr};
+ghost use Rattle.std.specs.Prelude.{◌≡◌, ◌⊎◌, List, ℕ, Result, Ok, IfErr};
 ghost use Rattle.cadence_errors.specs.declared.SinkError.{SinkError};
+ghost use Rattle.std.proofs.Common.{inl, refl};
 
 use cadence_errors::SinkError;
 use cadence_flow::stats::SinkStats;
+use std::alloc::Allocator;
 
 /// Takes lines and sends them somewhere. A line has no newline at its end. An impl states which
 /// answers a line may get, and which a flush may get; a flush may always succeed.
@@ -31,6 +33,27 @@ pub trait MetricSink: Drop {
     }
 
     ghost flush_may_succeed: { (s : Self) → may_flush s (Ok tt) };
+}
+
+/// A box is the sink in it.
+impl<A: Allocator> MetricSink for Box<dyn MetricSink + Send + Sync, A> {
+    ghost may_answer = { λ b. (MetricSink-box b).may_answer b.value };
+
+    ghost may_flush = { λ b r. (r ≡ Ok tt) ⊎ (MetricSink-box b).may_flush b.value r };
+
+    fn emit(&self, metric: &str) -> Result<usize, SinkError> {
+        (**self).emit(metric)
+    }
+
+    fn flush(&self) -> Result<(), SinkError> {
+        (**self).flush()
+    }
+
+    fn stats(&self) -> SinkStats {
+        (**self).stats()
+    }
+
+    ghost flush_may_succeed = { λ b. inl refl };
 }
 
 /// A sink that drops each line and answers 0.

@@ -12,8 +12,9 @@ use crate::client::statsd_client::StatsdClient;
 use crate::laws::choosing_stands_for_more;
 use crate::metrics::{Kind, Metric, MetricText};
 use cadence_errors::{MetricError, MetricResult};
-use cadence_value::decimal::Decimal;
+use cadence_sinks::MetricSink;
 use cadence_text::line::{Record, Tag};
+use cadence_value::decimal::Decimal;
 use cadence_value::value::MetricValue;
 use std::alloc::Allocator;
 use std::marker::PhantomData;
@@ -205,7 +206,12 @@ impl<'m, 'c, T: Metric + From<String<C::Memory>>, C: MetricBackend> MetricBuilde
     }
 }
 
-impl<'a, K: Kind, A: Allocator + Clone> MetricBuilder<'a, 'a, MetricText<K, A>, StatsdClient<A>> {
+impl<'a, K: Kind, A: Allocator + Clone, S: MetricSink> MetricBuilder<
+    'a,
+    'a,
+    MetricText<K, A>,
+    StatsdClient<A, S>,
+> {
     ghost use Rattle.cadence_value.specs.Values.{Converts};
     ghost use Rattle.cadence.specs.Sending.{StartsPlain};
     ghost use Rattle.cadence.specs.Shown.{backend_of, pending_of, settings_of_client};
@@ -213,7 +219,7 @@ impl<'a, K: Kind, A: Allocator + Clone> MetricBuilder<'a, 'a, MetricText<K, A>, 
     // The builder of a call without options, whose value was converted.
     #[inline]
     pub(crate) fn start(
-        client: &'a StatsdClient<A>,
+        client: &'a StatsdClient<A, S>,
         key: &'a str,
         value: MetricResult<MetricValue<A>>,
     ) -> Self

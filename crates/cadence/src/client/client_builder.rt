@@ -5,7 +5,7 @@ ghost use Rattle.cadence_errors.specs.Errors.{OnlyWantsMemory};
 ghost use Rattle.cadence_schedule.specs.Settings.{Changes, keyed, unkeyed, with_default_tag, with_default_container};
 
 use crate::client::handler::ErrorHandler;
-use crate::client::statsd_client::StatsdClient;
+use crate::client::statsd_client::{BoxedSink, StatsdClient};
 use cadence_errors::{MetricError, MetricResult};
 use cadence_schedule::ClientSettings;
 use cadence_sinks::MetricSink;
@@ -13,9 +13,9 @@ use std::alloc::{AllocError, Allocator, Global};
 
 /// Makes a client, as in cadence. Where a growth is refused it has no settings from then on, and `build` tells it.
 #[derive(Drop)]
-pub struct StatsdClientBuilder<A: Allocator = Global> {
+pub struct StatsdClientBuilder<A: Allocator = Global, S: MetricSink = BoxedSink<A>> {
     pub(crate) settings: Option<ClientSettings<A>>,
-    pub(crate) sink: Box<dyn MetricSink + Send + Sync, A>,
+    pub(crate) sink: S,
     pub(crate) handler: Option<ErrorHandler<A>>,
 }
 
@@ -47,7 +47,7 @@ fn with_container<A: Allocator + Clone>(
     }
 }
 
-impl<A: Allocator + Clone> StatsdClientBuilder<A> {
+impl<A: Allocator + Clone, S: MetricSink> StatsdClientBuilder<A, S> {
     ghost use Rattle.cadence.specs.Shown.{settings_of_builder, sink_of_builder, handler_of_builder, AddsDefault, IsBuiltFrom};
 
     /// Sets the handler of the errors that `send` and `consume_error` meet, in the place of an earlier one.
@@ -87,7 +87,7 @@ impl<A: Allocator + Clone> StatsdClientBuilder<A> {
 
     /// Makes the client. Refuses with kind `OutOfMemory` alone, exactly where a growth was refused so far; the sink
     /// and the handler are dropped then.
-    pub fn build(self) -> MetricResult<StatsdClient<A>>
+    pub fn build(self) -> MetricResult<StatsdClient<A, S>>
         ensures ok { IfOk result (IsBuiltFrom self) }
         ensures refused { OnlyWantsMemory result }
         ensures missing { OnErr result (settings_of_builder self ≡ None) }
@@ -108,18 +108,14 @@ impl<A: Allocator + Clone> StatsdClientBuilder<A> {
     }
 }
 
-impl<A: Allocator + Clone> StatsdClient<A> {
+impl<A: Allocator + Clone, S: MetricSink> StatsdClient<A, S> {
     ghost use Rattle.std.specs.Prelude.{IfSome};
     ghost use Rattle.cadence.specs.Shown.{settings_of_client, sink_of_client, handler_of_client, settings_of_builder, sink_of_builder, handler_of_builder};
     ghost use Rattle.cadence_schedule.specs.Settings.{settings_of};
 
     /// A client without further settings: it drops the errors of `send`. Refuses with kind `OutOfMemory` alone; the
     /// sink is dropped then.
-    pub fn from_sink(
-        alloc: A,
-        prefix: &str,
-        sink: Box<dyn MetricSink + Send + Sync, A>,
-    ) -> MetricResult<StatsdClient<A>>
+    pub fn from_sink(alloc: A, prefix: &str, sink: S) -> MetricResult<StatsdClient<A, S>>
         ensures settings { IfOk result (λ c. settings_of_client c ≡ settings_of prefix.now) }
         ensures sink { IfOk result (λ c. sink_of_client c ≡ sink) }
         ensures handler { IfOk result (λ c. handler_of_client c ≡ None) }
@@ -131,11 +127,7 @@ impl<A: Allocator + Clone> StatsdClient<A> {
     /// A builder of a client, which so far has the prefix and the sink alone.
     ///
     /// An empty prefix prints nothing. Another loses all its trailing dots and gains one.
-    pub fn builder(
-        alloc: A,
-        prefix: &str,
-        sink: Box<dyn MetricSink + Send + Sync, A>,
-    ) -> StatsdClientBuilder<A>
+    pub fn builder(alloc: A, prefix: &str, sink: S) -> StatsdClientBuilder<A, S>
         ensures settings { IfSome (settings_of_builder result) (λ s. s ≡ settings_of prefix.now) }
         ensures sink { sink_of_builder result ≡ sink }
         ensures handler { handler_of_builder result ≡ None }

@@ -17,19 +17,28 @@ use std::alloc::{Allocator, Global};
 pub type BoxedSink<A = Global> = Box<dyn MetricSink + Send + Sync, A>;
 
 /// A client of a Statsd server, as in cadence. Threads may share it by reference.
+/// It keeps its sink as it is, so any function can make a client and hand it out. `StatsdClient` alone is a client of a
+/// boxed sink.
 #[derive(Drop)]
-pub struct StatsdClient<A: Allocator = Global> {
+pub struct StatsdClient<A: Allocator = Global, S: MetricSink = BoxedSink<A>> {
     pub(crate) settings: ClientSettings<A>,
-    pub(crate) sink: Box<dyn MetricSink + Send + Sync, A>,
+    pub(crate) sink: S,
     pub(crate) handler: Option<ErrorHandler<A>>,
 }
 
-impl<A: Allocator + Clone> StatsdClient<A> {
+impl<A: Allocator + Clone, S: MetricSink> StatsdClient<A, S> {
     ghost use Rattle.cadence.specs.Shown.{settings_of_client, sink_of_client};
+
+    /// The sink.
+    pub fn sink(&self) -> &S
+        ensures { result.now ≡ sink_of_client self.now }
+    {
+        &self.sink
+    }
 
     /// Flushes the sink: sends what it holds. A refusal of the sink is answered as a `MetricError`.
     pub fn flush(&self) -> MetricResult<()>
-        ensures { Flushed (may_flush (sink_of_client self.now)) result }
+        ensures { Flushed (S.may_flush (sink_of_client self.now)) result }
     {
         self.sink.flush()?;
         Ok(())
@@ -41,7 +50,7 @@ impl<A: Allocator + Clone> StatsdClient<A> {
         key: &str,
         value: MetricValue<A>,
     ) -> MetricResult<MetricText<K, A>>
-        ensures { SendsPlain (settings_of_client self.now) (may_answer (sink_of_client self.now))
+        ensures { SendsPlain (settings_of_client self.now) (S.may_answer (sink_of_client self.now))
             K.TYPE key.now (Some (numbers_of value)) result }
     {
         let text = self.settings.line(key, K::TYPE, value)?;
@@ -57,21 +66,21 @@ impl<A: Allocator + Clone> StatsdClient<A> {
         value: MetricResult<MetricValue<A>>,
     ) -> MetricResult<MetricText<K, A>>
         ensures { (numbers : _) → Converts numbers value →
-            SendsPlain (settings_of_client self.now) (may_answer (sink_of_client self.now))
+            SendsPlain (settings_of_client self.now) (S.may_answer (sink_of_client self.now))
             K.TYPE key.now numbers result }
     {
         self.send_value(key, value?)
     }
 }
 
-impl<A: Allocator + Clone> Sealed for StatsdClient<A> {}
+impl<A: Allocator + Clone, S: MetricSink> Sealed for StatsdClient<A, S> {}
 
-impl<A: Allocator + Clone> MetricBackend for StatsdClient<A> {
+impl<A: Allocator + Clone, S: MetricSink> MetricBackend for StatsdClient<A, S> {
     type Memory = A;
 
     ghost settings = { λ c. c.settings };
 
-    ghost line_may_get = { λ c. (MetricSink-box c.sink).may_answer c.sink.value };
+    ghost line_may_get = { λ c. S.may_answer c.sink };
 
     fn send_metric<M: Metric>(&self, metric: &M) -> MetricResult<()> {
         self.sink.emit(metric.as_metric_str())?;

@@ -5,6 +5,7 @@ use crate::client::builder::MetricBuilder;
 use crate::client::statsd_client::StatsdClient;
 use crate::metrics::{Counter, Distribution, Gauge, Histogram, Meter, Set, Timer};
 use cadence_errors::MetricResult;
+use cadence_sinks::MetricSink;
 use cadence_text::line::MetricType;
 use cadence_value::value::{
     ToCounterValue, ToDistributionValue, ToGaugeValue, ToHistogramValue, ToMeterValue, ToSetValue,
@@ -37,7 +38,7 @@ pub trait Counted<T: ToCounterValue<Self::Memory>>: MetricBackend {
         ensures client { backend_of result ≡ self.now };
 }
 
-impl<A: Allocator + Clone, T: ToCounterValue<A>> Counted<T> for StatsdClient<A> {
+impl<A: Allocator + Clone, S: MetricSink, T: ToCounterValue<A>> Counted<T> for StatsdClient<A, S> {
     #[inline]
     fn count(&self, key: &str, value: T) -> MetricResult<Counter<A>> {
         self.send_plain(key, value.try_to_value())
@@ -48,7 +49,7 @@ impl<A: Allocator + Clone, T: ToCounterValue<A>> Counted<T> for StatsdClient<A> 
         &'a self,
         key: &'a str,
         value: T,
-    ) -> MetricBuilder<'a, 'a, Counter<A>, StatsdClient<A>> {
+    ) -> MetricBuilder<'a, 'a, Counter<A>, StatsdClient<A, S>> {
         MetricBuilder::start(self, key, value.try_to_value())
     }
 }
@@ -101,7 +102,7 @@ pub trait CountedExt: Counted<i64> {
     }
 }
 
-impl<A: Allocator + Clone> CountedExt for StatsdClient<A> {}
+impl<A: Allocator + Clone, S: MetricSink> CountedExt for StatsdClient<A, S> {}
 
 /// Tells how long things took, in milliseconds. A `Duration` is cut off to whole milliseconds.
 pub trait Timed<T: ToTimerValue<Self::Memory>>: MetricBackend {
@@ -128,7 +129,7 @@ pub trait Timed<T: ToTimerValue<Self::Memory>>: MetricBackend {
         ensures client { backend_of result ≡ self.now };
 }
 
-impl<A: Allocator + Clone, T: ToTimerValue<A>> Timed<T> for StatsdClient<A> {
+impl<A: Allocator + Clone, S: MetricSink, T: ToTimerValue<A>> Timed<T> for StatsdClient<A, S> {
     #[inline]
     fn time(&self, key: &str, value: T) -> MetricResult<Timer<A>> {
         self.send_plain(key, value.try_to_value())
@@ -139,7 +140,7 @@ impl<A: Allocator + Clone, T: ToTimerValue<A>> Timed<T> for StatsdClient<A> {
         &'a self,
         key: &'a str,
         value: T,
-    ) -> MetricBuilder<'a, 'a, Timer<A>, StatsdClient<A>> {
+    ) -> MetricBuilder<'a, 'a, Timer<A>, StatsdClient<A, S>> {
         MetricBuilder::start(self, key, value.try_to_value())
     }
 }
@@ -169,7 +170,7 @@ pub trait Gauged<T: ToGaugeValue<Self::Memory>>: MetricBackend {
         ensures client { backend_of result ≡ self.now };
 }
 
-impl<A: Allocator + Clone, T: ToGaugeValue<A>> Gauged<T> for StatsdClient<A> {
+impl<A: Allocator + Clone, S: MetricSink, T: ToGaugeValue<A>> Gauged<T> for StatsdClient<A, S> {
     #[inline]
     fn gauge(&self, key: &str, value: T) -> MetricResult<Gauge<A>> {
         self.send_plain(key, value.try_to_value())
@@ -180,7 +181,7 @@ impl<A: Allocator + Clone, T: ToGaugeValue<A>> Gauged<T> for StatsdClient<A> {
         &'a self,
         key: &'a str,
         value: T,
-    ) -> MetricBuilder<'a, 'a, Gauge<A>, StatsdClient<A>> {
+    ) -> MetricBuilder<'a, 'a, Gauge<A>, StatsdClient<A, S>> {
         MetricBuilder::start(self, key, value.try_to_value())
     }
 }
@@ -210,7 +211,7 @@ pub trait Metered<T: ToMeterValue<Self::Memory>>: MetricBackend {
         ensures client { backend_of result ≡ self.now };
 }
 
-impl<A: Allocator + Clone, T: ToMeterValue<A>> Metered<T> for StatsdClient<A> {
+impl<A: Allocator + Clone, S: MetricSink, T: ToMeterValue<A>> Metered<T> for StatsdClient<A, S> {
     #[inline]
     fn meter(&self, key: &str, value: T) -> MetricResult<Meter<A>> {
         self.send_plain(key, value.try_to_value())
@@ -221,7 +222,7 @@ impl<A: Allocator + Clone, T: ToMeterValue<A>> Metered<T> for StatsdClient<A> {
         &'a self,
         key: &'a str,
         value: T,
-    ) -> MetricBuilder<'a, 'a, Meter<A>, StatsdClient<A>> {
+    ) -> MetricBuilder<'a, 'a, Meter<A>, StatsdClient<A, S>> {
         MetricBuilder::start(self, key, value.try_to_value())
     }
 }
@@ -251,7 +252,8 @@ pub trait Histogrammed<T: ToHistogramValue<Self::Memory>>: MetricBackend {
         ensures client { backend_of result ≡ self.now };
 }
 
-impl<A: Allocator + Clone, T: ToHistogramValue<A>> Histogrammed<T> for StatsdClient<A> {
+impl<A: Allocator + Clone, S: MetricSink, T: ToHistogramValue<A>> Histogrammed<T>
+    for StatsdClient<A, S> {
     #[inline]
     fn histogram(&self, key: &str, value: T) -> MetricResult<Histogram<A>> {
         self.send_plain(key, value.try_to_value())
@@ -262,7 +264,7 @@ impl<A: Allocator + Clone, T: ToHistogramValue<A>> Histogrammed<T> for StatsdCli
         &'a self,
         key: &'a str,
         value: T,
-    ) -> MetricBuilder<'a, 'a, Histogram<A>, StatsdClient<A>> {
+    ) -> MetricBuilder<'a, 'a, Histogram<A>, StatsdClient<A, S>> {
         MetricBuilder::start(self, key, value.try_to_value())
     }
 }
@@ -292,7 +294,8 @@ pub trait Distributed<T: ToDistributionValue<Self::Memory>>: MetricBackend {
         ensures client { backend_of result ≡ self.now };
 }
 
-impl<A: Allocator + Clone, T: ToDistributionValue<A>> Distributed<T> for StatsdClient<A> {
+impl<A: Allocator + Clone, S: MetricSink, T: ToDistributionValue<A>> Distributed<T>
+    for StatsdClient<A, S> {
     #[inline]
     fn distribution(&self, key: &str, value: T) -> MetricResult<Distribution<A>> {
         self.send_plain(key, value.try_to_value())
@@ -303,7 +306,7 @@ impl<A: Allocator + Clone, T: ToDistributionValue<A>> Distributed<T> for StatsdC
         &'a self,
         key: &'a str,
         value: T,
-    ) -> MetricBuilder<'a, 'a, Distribution<A>, StatsdClient<A>> {
+    ) -> MetricBuilder<'a, 'a, Distribution<A>, StatsdClient<A, S>> {
         MetricBuilder::start(self, key, value.try_to_value())
     }
 }
@@ -333,7 +336,7 @@ pub trait Setted<T: ToSetValue<Self::Memory>>: MetricBackend {
         ensures client { backend_of result ≡ self.now };
 }
 
-impl<A: Allocator + Clone, T: ToSetValue<A>> Setted<T> for StatsdClient<A> {
+impl<A: Allocator + Clone, S: MetricSink, T: ToSetValue<A>> Setted<T> for StatsdClient<A, S> {
     #[inline]
     fn set(&self, key: &str, value: T) -> MetricResult<Set<A>> {
         self.send_plain(key, value.try_to_value())
@@ -344,7 +347,7 @@ impl<A: Allocator + Clone, T: ToSetValue<A>> Setted<T> for StatsdClient<A> {
         &'a self,
         key: &'a str,
         value: T,
-    ) -> MetricBuilder<'a, 'a, Set<A>, StatsdClient<A>> {
+    ) -> MetricBuilder<'a, 'a, Set<A>, StatsdClient<A, S>> {
         MetricBuilder::start(self, key, value.try_to_value())
     }
 }
