@@ -5,6 +5,8 @@ use Rattle.cadence_errors.specs.declared.SinkError.TheVariants.{ChannelFull, Cha
 use Rattle.cadence_flow.specs.QueueState.{Queue}
 use Rattle.cadence_flow.specs.declared.queue.policy.QueuePolicy.{QueuePolicy}
 use Rattle.cadence_flow.specs.declared.queue.policy.QueuePolicy.TheVariants.{Refuse, DropOldest}
+use Rattle.cadence_flow.specs.declared.queue.refusal.Refusal.{Refusal}
+use Rattle.cadence_flow.specs.declared.queue.refusal.Refusal.TheVariants as Small
 use Rattle.cadence_flow.specs.declared.queue.queue_core.Taken.{Taken}
 use Rattle.cadence_flow.specs.declared.queue.queue_core.Taken.TheVariants.{Text, Empty, Ended}
 
@@ -90,6 +92,12 @@ module _ {T : Type 0} where
   abbrev pub dropping_handle : Queue T → Queue T
   dropping_handle q =
       cond (q.handles == 0 || q.handles == 18446744073709551615) q (record q { handles = q.handles - 1; stopped = cond (q.handles == 1) true q.stopped })
+
+-- a small refusal as an error
+abbrev pub error_of : Refusal → SinkError
+error_of Small.Stopped = ChannelDisconnected
+error_of Small.Full = ChannelFull
+error_of Small.OutOfMemory = OutOfMemory
 
 -- whether an error is one that a queue may refuse with, whatever is known of it
 abbrev pub is_queue_refusal : SinkError → Bool

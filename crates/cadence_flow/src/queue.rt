@@ -2,9 +2,11 @@
 
 mod policy;
 mod queue_core;
+mod refusal;
 mod text_ring;
 mod worker_end;
 
 pub use policy::QueuePolicy;
 pub use queue_core::{QueueCore, Taken};
+pub use refusal::Refusal;
 pub use worker_end::WorkerEnd;

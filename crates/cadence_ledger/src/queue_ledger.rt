@@ -4,7 +4,7 @@ ghost use Rattle.cadence_ledger.specs.QueuePast.{IsPast};
 
 use super::item_log::ItemLog;
 use cadence_errors::{MetricResult, SinkError};
-use cadence_flow::queue::{QueueCore, QueuePolicy, Taken};
+use cadence_flow::queue::{QueueCore, QueuePolicy, Refusal, Taken};
 use std::alloc::{AllocError, Allocator, Global};
 
 /// A `QueueCore`, and in proofs alone the texts that it accepted and those that were taken from it. Whoever has one
@@ -22,7 +22,7 @@ impl<T: Drop, A: Allocator + Clone> QueueLedger<T, A> {
     ghost use Rattle.std.specs.declared.alloc.AllocError.{AllocError};
     ghost use Rattle.cadence_errors.specs.Errors.{out_of_memory};
     ghost use Rattle.cadence_flow.specs.QueueRoom.{TakesRoom};
-    ghost use Rattle.cadence_flow.specs.Queue.{Accepts, IsRefusal, new_queue};
+    ghost use Rattle.cadence_flow.specs.Queue.{Accepts, IsRefusal, error_of, new_queue};
     ghost use Rattle.cadence_ledger.specs.QueueLedger.{accepted_by, core_of, taken_from};
 
     /// An empty queue that has accepted no text, as `QueueCore::with_policy`.
@@ -58,11 +58,8 @@ impl<T: Drop, A: Allocator + Clone> QueueLedger<T, A> {
         answer
     }
 
-    /// Puts last the text that `make` makes, as `QueueCore::submit_with`.
-    pub fn submit_with<F: FnOnce() -> Result<T, AllocError>>(
-        &mut self,
-        make: F,
-    ) -> Result<(), SinkError>
+    /// Puts last the text that `make` makes, as `QueueCore::offer`.
+    pub fn offer<F: FnOnce() -> Result<T, AllocError>>(&mut self, make: F) -> Result<(), Refusal>
         requires { F.IsAlwaysCallable make }
         ensures accepted { OnOk result ((text : T) × (dropped : Option T)
             × F.post make (Ok text)
@@ -70,10 +67,10 @@ impl<T: Drop, A: Allocator + Clone> QueueLedger<T, A> {
             × Accepts (core_of self.old) text dropped (core_of self.new)) }
         ensures refused { OnErr result (accepted_by self.new ≡ accepted_by self.old) }
         ensures same { taken_from self.new ≡ taken_from self.old }
-        ensures refuses { IfErr result (λ e. IsRefusal (core_of self.old) e
+        ensures refuses { IfErr result (λ e. IsRefusal (core_of self.old) (error_of e)
             × (core_of self.new ≡ core_of self.old)) }
     {
-        self.core.submit_with(make)?;
+        self.core.offer(make)?;
         // the text that was made is the newest now
         let newest = self.core.waiting() - 1;
         if let Some(text) = self.core.get(newest) {

@@ -6,7 +6,7 @@ ghost use Rattle.cadence_flow.specs.QueueRoom.{TakesRoom};
 
 use super::queue_ledger::QueueLedger;
 use cadence_errors::{MetricResult, SinkError};
-use cadence_flow::queue::{QueuePolicy, Taken};
+use cadence_flow::queue::{QueuePolicy, Refusal, Taken};
 use std::alloc::{AllocError, Allocator, Global};
 use std::sync::{Condvar, Mutex, Wait};
 use std::{hint, thread};
@@ -14,7 +14,7 @@ use std::{hint, thread};
 /// How often a taker looks for a text before it sleeps.
 const LOOKS: u32 = 16;
 
-/// How many turns of a spinning loop a caller leaves the lock alone that found the queue full.
+/// How many turns of a spinning loop a caller leaves the lock alone that a full queue refused.
 const TURNS_ASIDE: u32 = 2;
 
 // Leaves the lock to the taker for a moment. A caller that tries again at once would else have it nearly always.
@@ -77,22 +77,40 @@ impl<T: Drop, A: Allocator + Clone> SharedQueue<T, A> {
         requires { F.IsAlwaysCallable make }
         ensures { IfErr result IsQueueRefusal }
     {
-        let mut core = self.core.lock(rt);
-        let (idle, full) = (core.core().is_idle(), core.core().is_full());
-        let answer = core.submit_with(make);
+        Ok(self.offer(rt, make)?)
+    }
+
+    // As `submit_with`, with a small error.
+    fn offer<F: FnOnce() -> Result<T, AllocError>>(
+        &self,
+        rt: &impl Wait,
+        make: F,
+    ) -> Result<(), Refusal>
+        requires { F.IsAlwaysCallable make }
+    {
+        // a lock that is free is taken inline
+        let mut core = match self.core.try_lock() {
+            Some(core) => core,
+            None => self.core.lock(rt),
+        };
+        let idle = core.core().is_idle();
+        let answer = core.offer(make);
         drop(core);
-        self.after_submit(idle, full, answer.is_ok());
+        self.after_submit(idle, answer == Err(Refusal::Full), answer.is_ok());
         answer
     }
 }
 
 impl<T: Drop, A: Allocator> SharedQueue<T, A> {
-    // Wakes those who wait where a queue that was idle has a text now. A caller that found it full stands aside.
+    // Wakes those who wait where a queue that was idle has a text now. A caller that is refused by a full queue stands
+    // aside.
     #[inline(always)]
     fn after_submit(&self, idle: bool, full: bool, accepted: bool) {
-        if full {
-            stand_aside();
-        } else if idle && accepted {
+        if !accepted {
+            if full {
+                stand_aside();
+            }
+        } else if idle {
             self.changed.notify_all();
         }
     }

@@ -43,7 +43,9 @@ impl<D: Datagrams, R: Wait + Drop, A: Allocator> CountedSocket<D, R, A> {
     pub fn send(&self, packet: &[u8]) -> Result<usize, SinkError>
         ensures { IsSocketAnswer D.may_give packet.now result }
     {
-        self.stats.update(self.socket.send(packet), packet.len())
+        let answer = self.socket.send(packet);
+        self.stats.note(&answer, packet.len());
+        answer
     }
 
     /// The counts of this moment.
@@ -130,6 +132,7 @@ impl<D: Datagrams, R: Wait + Drop, A: Allocator> PackedSocket<D, R, A> {
     // Holds the line of a metric where it fits the free room. Else nothing has changed, and the lock is given for
     // `write_out`. The answer is made above, since it is as wide as an `io::Error`, and a copy of it would cost more
     // than the rest of the call.
+    #[inline(always)]
     fn hold(&self, metric: &str) -> Option<SocketLines<'_, D, R, A>> {
         // a lock that is free is taken inline
         let mut lines = match self.writer.try_lock() {

@@ -23,26 +23,30 @@ pub(super) fn remove_front<A: Allocator>(bytes: &mut Vec<u8, A>, n: usize)
 }
 
 /// Appends bytes where there is room for them.
+#[inline(always)]
 pub(super) fn append<A: Allocator>(held: &mut Vec<u8, A>, bytes: &[u8])
     requires { vec_len held.old + length bytes.now ≤ vec_capacity held.old }
     ensures items { held.new.items ≡ held.old.items ++ bytes.now }
     ensures capacity { vec_capacity held.old ≤ vec_capacity held.new }
 {
+    // so the compiler leaves the growth out
+    if bytes.len() > held.capacity() - held.len() {
+        unreachable!()
+    }
     let Ok(()) = held.extend_from_slice(bytes) else {
         unreachable!()
     };
 }
 
 /// Appends a line's ending where there is room for it. Most endings are one byte, which costs less alone.
+#[inline(always)]
 pub(super) fn append_ending<A: Allocator>(held: &mut Vec<u8, A>, ending: &[u8])
     requires { vec_len held.old + length ending.now ≤ vec_capacity held.old }
     ensures items { held.new.items ≡ held.old.items ++ ending.now }
     ensures capacity { vec_capacity held.old ≤ vec_capacity held.new }
 {
     if let [byte] = ending {
-        let Ok(()) = held.push(*byte) else {
-            unreachable!()
-        };
+        held.push_reserved(*byte);
     } else {
         append(held, ending);
     }

@@ -4,11 +4,12 @@ ghost use Rattle.std.specs.declared.alloc.AllocError.{AllocError};
 ghost use Rattle.cadence_errors.specs.Errors.{out_of_memory};
 ghost use Rattle.cadence_flow.specs.QueueRoom.{IsBounded, TakesRoom};
 ghost use Rattle.cadence_flow.specs.QueueState.{IsWithin, IsCounted, HasDropped};
-ghost use Rattle.cadence_flow.specs.Queue.{Accepts, IsRefusal, is_open, lacks_room, MakesRoom, IsTaken, accepting, stopping, adding_handle, dropping_handle, new_queue, is_full, is_idle};
+ghost use Rattle.cadence_flow.specs.Queue.{Accepts, IsRefusal, error_of, is_open, lacks_room, MakesRoom, IsTaken, accepting, stopping, adding_handle, dropping_handle, new_queue, is_full, is_idle};
 ghost use Rattle.cadence_flow.specs.QueueModel.{IsQueueOf, IsAccepted, IsNext};
 ghost use Rattle.cadence_flow.specs.declared.queue.policy.QueuePolicy.TheVariants.{Refuse};
 
 use super::policy::QueuePolicy;
+use super::refusal::Refusal;
 use super::text_ring::TextRing;
 use cadence_errors::{MetricResult, SinkError};
 use std::alloc::{AllocError, Allocator, Global};
@@ -132,7 +133,7 @@ impl<T: Drop, A: Allocator + Clone> QueueCore<T, A> {
         ensures past { IfOk result (λ dropped. IsAccepted self.old text dropped self.new) }
     {
         if !self.is_open() {
-            return Err((self.why_closed(), text));
+            return Err((self.why_closed().into(), text));
         }
         match self.push(text) {
             Ok(dropped) => Ok(dropped),
@@ -154,17 +155,36 @@ impl<T: Drop, A: Allocator + Clone> QueueCore<T, A> {
         ensures bounded { IsBounded self.old.capacity → IsTrue (is_open self.old) →
             OnErr result ((error : AllocError) × F.post make (Err error)) }
     {
+        Ok(self.offer(make)?)
+    }
+
+    /// As `submit_with`, with a small error.
+    #[inline(always)]
+    pub fn offer<F: FnOnce() -> Result<T, AllocError>>(
+        &mut self,
+        make: F,
+    ) -> Result<(), Refusal>
+        requires { F.IsAlwaysCallable make }
+        ensures accepted { OnOk result ((text : T) × (dropped : Option T)
+            × F.post make (Ok text) × Accepts self.old text dropped self.new) }
+        ensures refused { IfErr result (λ e.
+            IsRefusal self.old (error_of e) × (self.new ≡ self.old)) }
+        ensures bounded { IsBounded self.old.capacity → IsTrue (is_open self.old) →
+            OnErr result ((error : AllocError) × F.post make (Err error)) }
+    {
         if !self.is_open() {
             return Err(self.why_closed());
         }
-        let text = make()?;
+        let Ok(text) = make() else {
+            return Err(Refusal::OutOfMemory);
+        };
         if self.is_full() {
             self.replace_oldest(text);
             return Ok(());
         }
         match self.put_last(text) {
             Ok(()) => Ok(()),
-            Err(_) => Err(SinkError::OutOfMemory),
+            Err(_) => Err(Refusal::OutOfMemory),
         }
     }
 }
@@ -208,14 +228,14 @@ impl<T: Drop, A: Allocator> QueueCore<T, A> {
     }
 
     // Why a queue that isn't open refuses a text.
-    fn why_closed(&self) -> SinkError
+    fn why_closed(&self) -> Refusal
         requires { is_open self.now ≡ false }
-        ensures { IsRefusal self.now result }
+        ensures { IsRefusal self.now (error_of result) }
     {
         if self.stopped {
-            SinkError::ChannelDisconnected
+            Refusal::Stopped
         } else {
-            SinkError::ChannelFull
+            Refusal::Full
         }
     }
 

@@ -44,11 +44,21 @@ impl<R: Wait + Drop, A: Allocator> SocketStats<R, A> {
         self.counts.lock(&self.rt).add_packet_dropped();
     }
 
-    /// Counts what a socket answered to a packet of `len` bytes, under one lock, and gives the answer back.
+    /// Counts what a socket answered to a packet of `len` bytes, under one lock.
+    pub fn note(&self, answer: &Result<usize, SinkError>, len: usize) {
+        // a lock that is free is taken inline
+        let mut counts = match self.counts.try_lock() {
+            Some(counts) => counts,
+            None => self.counts.lock(&self.rt),
+        };
+        counts.add_answer(answer, len);
+    }
+
+    /// As `note`, and gives the answer back.
     pub fn update(&self, answer: Result<usize, SinkError>, len: usize) -> Result<usize, SinkError>
         ensures { result ≡ answer }
     {
-        self.counts.lock(&self.rt).add_answer(&answer, len);
+        self.note(&answer, len);
         answer
     }
 }

@@ -76,6 +76,7 @@ impl<R: Wait + Drop, A: Allocator> MetricSink for BufferedUdpMetricSink<R, A> {
 
     ghost may_flush = { λ _ answer. IsBufferedFlush is_io answer };
 
+    #[inline(always)]
     fn emit(&self, metric: &str) -> Result<usize, SinkError> {
         self.socket.emit(metric)
     }

@@ -35,9 +35,8 @@ impl<A: Allocator> Filled<A> {
         unsafe { String::from_utf8_unchecked(self.bytes) }
     }
 
-    // Keeps nothing, and will keep nothing.
-    #[cold]
-    #[inline(never)]
+    // Keeps nothing, and will keep nothing. It is inline, so that the line's place and length stay in registers.
+    #[inline(always)]
     fn give_up(&mut self)
         ensures bytes { self.new.bytes.items ≡ [] }
         ensures end { self.new.end ≡ 0 }
@@ -70,6 +69,10 @@ impl<A: Allocator> LineSink for Filled<A> {
     fn take_piece(&mut self, piece: &str) {
         if piece.len() > self.end - self.bytes.len() {
             return self.give_up();
+        }
+        // so the compiler leaves the growth out
+        if piece.len() > self.bytes.capacity() - self.bytes.len() {
+            unreachable!()
         }
         let Ok(()) = self.bytes.extend_from_slice(piece.as_bytes()) else {
             unreachable!()
