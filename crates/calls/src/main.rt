@@ -2,11 +2,23 @@
 #![tactic(auto)]
 
 mod kinds;
+mod options;
 
 use cadence::sinks::{SpyMetricSink, SpyReceiver};
-use cadence::{DEFAULT_PORT, MetricResult, MetricSink, StatsdClient};
+use cadence::{DEFAULT_PORT, MetricResult, StatsdClient};
+use options::{Setting, Sink};
 use std::alloc::{AllocError, Global};
 use std::sync::Wait;
+
+/// The clients that send beside the first.
+const SETTINGS: [Setting; 6] = [
+    Setting::Prefix("..."),
+    Setting::Prefix(""),
+    Setting::Prefix("a.."),
+    Setting::Prefix("a.b"),
+    Setting::Tags,
+    Setting::Container,
+];
 
 /// More lines than a group of calls makes.
 const MOST_LINES: u32 = 100;
@@ -31,7 +43,7 @@ fn told<R: Wait + Drop>(
 fn main(rt: HostRuntime) -> MetricResult<()> {
     let alloc = rt.alloc();
     let (lines, spy) = SpyMetricSink::new(rt.clone()?, alloc)?;
-    let sink: Box<dyn MetricSink + Send + Sync> = Box::new(alloc, spy)?;
+    let sink: Sink = Box::new(alloc, spy)?;
     let client = StatsdClient::from_sink(alloc, "p", sink)?;
     kinds::count_all(&client)?;
     print!(rt; "{}", told(alloc, "counters", &lines)?)?;
@@ -43,6 +55,14 @@ fn main(rt: HostRuntime) -> MetricResult<()> {
     print!(rt; "{}", told(alloc, "histograms", &lines)?)?;
     kinds::distribution_all(alloc, &client)?;
     print!(rt; "{}", told(alloc, "distributions", &lines)?)?;
+    options::choose_all(alloc, &client)?;
+    print!(rt; "{}", told(alloc, "options", &lines)?)?;
+    for setting in SETTINGS {
+        let (lines, spy) = SpyMetricSink::new(rt.clone()?, alloc)?;
+        let sink: Sink = Box::new(alloc, spy)?;
+        setting.send(alloc, sink)?;
+        print!(rt; "{}", told(alloc, setting.heading(), &lines)?)?;
+    }
     println!(rt; "port {DEFAULT_PORT}")?;
     Ok(())
 }

@@ -1,9 +1,9 @@
-//! Worked rows, a writer of the tests' own, the drop, and each refused request for memory.
+//! Writers that are replaced, lent and given back, the drop, and each refused request for memory. What a packer makes of
+//! lines, flushes and answers is shown by the rows of the program `rows`.
 use cadence_errors::SinkError;
 use cadence_flow::io::{Answer, LineBuffer, MultiLineWriter, PacketLog, PacketWriter, Refusals};
 use refusing::{Refusing, each_refused};
 use std::alloc::Global;
-use std::process::Abort;
 use std::test::Fail;
 
 #[derive(Debug, Drop)]
@@ -45,136 +45,6 @@ fn stands(packer: &MultiLineWriter<PacketLog>, packets: &[&str], held: &str) -> 
 
 fn counted(answer: Result<usize, SinkError>) -> Option<usize> {
     answer.ok()
-}
-
-fn is_refused<T: Drop>(answer: Result<T, SinkError>) -> bool {
-    matches!(answer, Err(SinkError::PacketRefused))
-}
-
-// Capacity and ending, the lines that are written, the packets that are taken then, and the text that waits.
-type Packing<'a> = (usize, &'a str, &'a [&'a str], &'a [&'a str], &'a str);
-
-// Each line is taken whole, and leaves what its row says.
-fn pack(rt: &(impl Abort + AllocGlobal), rows: &[Packing<'_>]) -> Result<(), Fail> {
-    for (capacity, ending, lines, packets, held) in rows {
-        let mut p = made(rt.alloc(), *capacity, ending, &[])?;
-        for line in *lines {
-            assert_eq!(rt; counted(p.write(line.as_bytes())), Some(line.len()));
-        }
-        assert!(rt; stands(&p, packets, held), "{lines:?}");
-    }
-    Ok(())
-}
-
-#[test]
-fn holds_until_full(rt: HostRuntime) -> Result<(), Fail> {
-    pack(
-        &rt,
-        &[
-            (
-                16,
-                "\n",
-                &["a:1234|c", "b:5678|c"],
-                &["a:1234|c\n"],
-                "b:5678|c\n",
-            ),
-            (16, "\n", &["ab:1|c", "abc:12|c"], &[], "ab:1|c\nabc:12|c\n"),
-            (9, "\n", &["foo:42|c"], &[], "foo:42|c\n"),
-            (5, "", &["a:1|c", "b:2|c"], &["a:1|c"], "b:2|c"),
-        ],
-    )
-}
-
-#[test]
-fn oversize_goes_alone(rt: HostRuntime) -> Result<(), Fail> {
-    pack(
-        &rt,
-        &[
-            (8, "\n", &["foo:42|c"], &["foo:42|c"], ""),
-            (
-                8,
-                "\n",
-                &["foobar:42|c", "a:1|c"],
-                &["foobar:42|c"],
-                "a:1|c\n",
-            ),
-            (
-                8,
-                "\n",
-                &["a:1|c", "foobar:42|c"],
-                &["a:1|c\n", "foobar:42|c"],
-                "",
-            ),
-        ],
-    )
-}
-
-#[test]
-fn no_room_and_no_text(rt: HostRuntime) -> Result<(), Fail> {
-    pack(
-        &rt,
-        &[
-            (0, "\n", &["a:1|c"], &["a:1|c"], ""),
-            (0, "", &[""], &[], ""),
-            (1, "\n", &[""], &[], "\n"),
-            (1, "\n", &["", ""], &["\n"], "\n"),
-        ],
-    )
-}
-
-#[test]
-fn flush_sends_what_is_held(rt: HostRuntime) -> Result<(), Fail> {
-    let mut p = made(rt.alloc(), 16, "\n", &[])?;
-    assert!(rt; p.flush().is_ok());
-    assert_eq!(rt; counted(p.write(b"foo:54|c")), Some(8));
-    assert_eq!(rt; counted(p.write(b"foo:67|c")), Some(8));
-    assert!(rt; p.flush().is_ok());
-    assert!(rt; p.flush().is_ok());
-    assert!(rt; stands(&p, &["foo:54|c\n", "foo:67|c\n"], ""));
-    Ok(())
-}
-
-#[test]
-fn refused_stays_held(rt: HostRuntime) -> Result<(), Fail> {
-    let mut p = made(rt.alloc(), 16, "\n", &[Answer::Refuse])?;
-    assert_eq!(rt; counted(p.write(b"foo:54|c")), Some(8));
-    assert!(rt; is_refused(p.write(b"foo:67|c")));
-    assert!(rt; stands(&p, &[], "foo:54|c\n"));
-    assert!(rt; p.flush().is_ok());
-    assert!(rt; stands(&p, &["foo:54|c\n"], ""));
-    Ok(())
-}
-
-#[test]
-fn short_count_keeps_the_rest(rt: HostRuntime) -> Result<(), Fail> {
-    let mut p = made(rt.alloc(), 32, "\n", &[Answer::Short(3), Answer::Refuse])?;
-    assert_eq!(rt; counted(p.write(b"xyz")), Some(3));
-    assert_eq!(rt; counted(p.write(b"abc")), Some(3));
-    assert!(rt; is_refused(p.flush()));
-    assert!(rt; stands(&p, &["xyz"], "\nabc\n"));
-    assert!(rt; p.flush().is_ok());
-    assert!(rt; stands(&p, &["xyz", "\nabc\n"], ""));
-    Ok(())
-}
-
-#[test]
-fn count_of_zero(rt: HostRuntime) -> Result<(), Fail> {
-    let mut p = made(rt.alloc(), 16, "\n", &[Answer::Short(0)])?;
-    assert_eq!(rt; counted(p.write(b"a:1|c")), Some(5));
-    assert!(rt; matches!(p.flush(), Err(SinkError::NothingWritten)));
-    assert!(rt; stands(&p, &[""], "a:1|c\n"));
-    assert!(rt; p.flush().is_ok());
-    assert!(rt; stands(&p, &["", "a:1|c\n"], ""));
-    Ok(())
-}
-
-#[test]
-fn count_of_zero_past_the_capacity(rt: HostRuntime) -> Result<(), Fail> {
-    let mut p = made(rt.alloc(), 4, "\n", &[Answer::Short(0)])?;
-    assert_eq!(rt; counted(p.write(b"a:1|c")), Some(0));
-    assert!(rt; p.flush().is_ok());
-    assert!(rt; stands(&p, &[""], ""));
-    Ok(())
 }
 
 #[test]

@@ -7,6 +7,8 @@ use cadence::sinks::{MetricSink, NopMetricSink};
 use cadence::types::{ErrorKind, Metric, MetricError, MetricResult, SinkError};
 use refusing::{Refusing, each_refused};
 use std::alloc::{AllocError, Allocator, Global};
+use std::sync::Arc;
+use std::sync::atomic::{AtomicU64, Ordering};
 use std::test::Fail;
 use std::time::Duration;
 
@@ -58,6 +60,44 @@ fn a_call_takes_its_tag_list_and_its_line(rt: HostRuntime) -> Result<(), Fail> {
         is_made(answer)
     });
     assert_eq!(rt; granted?, Some(9));
+    Ok(())
+}
+
+// Such a client, whose handler adds 1 for want of memory and 100 for another error. Takes eight requests.
+fn telling(
+    heap: &Refusing<Global>,
+    told: Arc<AtomicU64>,
+) -> MetricResult<StatsdClient<Refusing<Global>>> {
+    let boxed = Box::new(heap.clone()?, NopMetricSink)?;
+    let sink: Box<dyn MetricSink + Send + Sync, Refusing<Global>> = boxed;
+    let handler: Box<dyn Fn(MetricError) + Send + Sync, Refusing<Global>> = Box::new(
+        heap.clone()?,
+        move |error: MetricError| {
+            let wants_memory = error.kind() == ErrorKind::OutOfMemory;
+            told.fetch_add(if wants_memory { 1 } else { 100 }, Ordering::SeqCst);
+        },
+    )?;
+    StatsdClient::builder(heap.clone()?, "p", sink)
+        .with_error_handler(handler)
+        .with_tag("a", "b")
+        .with_tag_value("c")
+        .with_container_id("id")
+        .build()
+}
+
+#[test]
+fn a_handler_is_told_want_of_memory_once(rt: HostRuntime) -> Result<(), Fail> {
+    let granted: Result<Option<u64>, Fail> = each_refused(rt.alloc(), |heap| {
+        let told = Arc::new(rt.alloc(), AtomicU64::new(0))?;
+        let Ok(client) = telling(&heap, told.clone()?) else {
+            return Ok(false);
+        };
+        client.incr_with_tags("k").with_tag("d", "e").send();
+        let told = told.load(Ordering::SeqCst);
+        assert!(rt; told < 2);
+        Ok(told == 0)
+    });
+    assert_eq!(rt; granted?, Some(10));
     Ok(())
 }
 

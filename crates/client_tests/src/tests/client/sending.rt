@@ -38,7 +38,7 @@ impl MetricSink for RefusingSink {
     ghost flush_may_succeed = { λ _. tt };
 }
 
-// Takes each line and counts its calls.
+// Takes each line and counts its calls, a flush as 100.
 #[derive(Drop)]
 struct CountingSink {
     calls: Arc<AtomicU64>,
@@ -50,6 +50,13 @@ impl MetricSink for CountingSink {
     fn emit(&self, metric: &str) -> Result<usize, SinkError> {
         self.calls.fetch_add(1, Ordering::SeqCst);
         Ok(metric.len())
+    }
+
+    ghost may_flush = { λ _ _. Unit {0} };
+
+    fn flush(&self) -> Result<(), SinkError> {
+        self.calls.fetch_add(100, Ordering::SeqCst);
+        Ok(())
     }
 
     ghost flush_may_succeed = { λ _. tt };
@@ -85,7 +92,7 @@ fn each_call_reaches_the_sink_once(rt: HostRuntime) -> Result<(), Fail> {
     client.send_metric(&Event)?;
     assert_eq!(rt; calls.load(Ordering::SeqCst), 4);
     assert!(rt; client.flush().is_ok());
-    assert_eq!(rt; calls.load(Ordering::SeqCst), 4);
+    assert_eq!(rt; calls.load(Ordering::SeqCst), 104);
     Ok(())
 }
 
@@ -113,7 +120,18 @@ fn a_held_error_keeps_the_sink_uncalled(rt: HostRuntime) -> Result<(), Fail> {
     Ok(())
 }
 
-// A client whose sink refuses each line, the count of its calls, and the count of the handler's.
+// A number that tells an error from others.
+fn weight_of(error: &MetricError) -> u64 {
+    match error.sink_error() {
+        Some(SinkError::PacketRefused) => 1,
+        Some(SinkError::ChannelFull) => 10,
+        Some(_) => 100,
+        None if error.kind() == ErrorKind::InvalidInput => 1_000,
+        None => 10_000,
+    }
+}
+
+// A client whose sink refuses each line, the count of its calls, and the weights of the errors that its handler got.
 fn refused(alloc: Global) -> Result<(Arc<AtomicU64>, Arc<AtomicU64>, StatsdClient), Fail> {
     let (calls, handled) = (zero(alloc)?, zero(alloc)?);
     let refusing = RefusingSink {
@@ -123,8 +141,8 @@ fn refused(alloc: Global) -> Result<(Arc<AtomicU64>, Arc<AtomicU64>, StatsdClien
     let seen = handled.clone()?;
     let handler: Box<dyn Fn(MetricError) + Send + Sync> = Box::new(
         alloc,
-        move |_error: MetricError| {
-            seen.fetch_add(1, Ordering::SeqCst);
+        move |error: MetricError| {
+            seen.fetch_add(weight_of(&error), Ordering::SeqCst);
         },
     )?;
     let client = StatsdClient::builder(alloc, "p", sink)
@@ -143,7 +161,8 @@ fn a_refusal_is_answered_and_not_handled(rt: HostRuntime) -> Result<(), Fail> {
     assert_eq!(rt; error.kind(), ErrorKind::IoError);
     assert!(rt; matches!(error.sink_error(), Some(SinkError::PacketRefused)));
     assert!(rt; client.flush().is_err());
-    assert_eq!(rt; calls.load(Ordering::SeqCst), 1);
+    assert!(rt; client.count_with_tags("k", 1).try_send().is_err());
+    assert_eq!(rt; calls.load(Ordering::SeqCst), 2);
     assert_eq!(rt; handled.load(Ordering::SeqCst), 0);
     Ok(())
 }
@@ -154,9 +173,9 @@ fn a_refusal_reaches_the_handler_once(rt: HostRuntime) -> Result<(), Fail> {
     client.count_with_tags("k", 1).with_tag("a", "b").send();
     assert_eq!(rt; handled.load(Ordering::SeqCst), 1);
     client.consume_error(MetricError::from(SinkError::ChannelFull));
-    assert_eq!(rt; handled.load(Ordering::SeqCst), 2);
+    assert_eq!(rt; handled.load(Ordering::SeqCst), 11);
     client.count_with_tags("k", Nothing).send();
-    assert_eq!(rt; handled.load(Ordering::SeqCst), 3);
+    assert_eq!(rt; handled.load(Ordering::SeqCst), 1_011);
     assert_eq!(rt; calls.load(Ordering::SeqCst), 1);
     Ok(())
 }

@@ -1,0 +1,103 @@
+//! The options of a call, and what a client adds to each of its calls.
+use cadence::decimal::Decimal;
+use cadence::prelude::*;
+use cadence::types::MetricResult;
+use cadence::{MetricSink, StatsdClient};
+use std::alloc::Global;
+
+/// A sink of any type.
+pub type Sink = Box<dyn MetricSink + Send + Sync>;
+
+/// The options stand in the order of the line, the last of each counts, and texts are kept as they stand.
+pub fn choose_all<C: MetricClient<Memory = Global>>(alloc: Global, client: &C) -> MetricResult<()> {
+    let (half, whole) = (Decimal::new(5, 1)?, Decimal::new(1, 0)?);
+    client
+        .count_with_tags("k", 1)
+        .with_timestamp(7)
+        .with_container_id("id")
+        .with_tag("a", "b")
+        .with_sampling_rate(half)
+        .try_send()?;
+    client
+        .incr_with_tags("k")
+        .with_sampling_rate(half)
+        .with_container_id("x")
+        .with_timestamp(1)
+        .with_timestamp(2)
+        .with_container_id("y")
+        .with_sampling_rate(whole)
+        .send();
+    client.incr_with_tags("k").with_tag_value("").send();
+    client
+        .decr_with_tags("a|b")
+        .with_tag("x:y", "1,2|3")
+        .with_container_id("c|T1")
+        .send();
+    client.time("key", vec![in alloc; 0u64; 0]?)?;
+    client
+        .distribution_with_tags("k", vec![in alloc; 29u64, 30]?)
+        .with_tag("host", "a.b")
+        .with_tag_value("beta-test")
+        .send();
+    Ok(())
+}
+
+/// What a client is made with.
+#[derive(Clone, Copy)]
+pub enum Setting {
+    /// A prefix, whose end is one dot in each line.
+    Prefix(&'static str),
+    /// Tags, which stand before a call's own.
+    Tags,
+    /// A container, which a call's own replaces.
+    Container,
+}
+
+impl Setting {
+    pub fn heading(self) -> &'static str {
+        match self {
+            Setting::Prefix(_) => "under a prefix",
+            Setting::Tags => "with a client's tags",
+            Setting::Container => "with a client's container",
+        }
+    }
+
+    /// Sends over a client that is made so.
+    pub fn send(self, alloc: Global, sink: Sink) -> MetricResult<()> {
+        match self {
+            Setting::Prefix(prefix) => send_under(alloc, sink, prefix),
+            Setting::Tags => send_with_tags(alloc, sink),
+            Setting::Container => send_with_container(alloc, sink),
+        }
+    }
+}
+
+fn send_under(alloc: Global, sink: Sink, prefix: &str) -> MetricResult<()> {
+    let client = StatsdClient::from_sink(alloc, prefix, sink)?;
+    client.incr("k")?;
+    Ok(())
+}
+
+fn send_with_tags(alloc: Global, sink: Sink) -> MetricResult<()> {
+    let client = StatsdClient::builder(alloc, "prefix", sink)
+        .with_tag("hello", "world")
+        .with_tag_value("production")
+        .build()?;
+    client
+        .count_with_tags("some.counter", 3)
+        .with_tag("foo", "bar")
+        .with_tag_value("fizz")
+        .with_tag("bucket", "123")
+        .send();
+    Ok(())
+}
+
+fn send_with_container(alloc: Global, sink: Sink) -> MetricResult<()> {
+    let client = StatsdClient::builder(alloc, "p", sink)
+        .with_container_id("w")
+        .with_container_id("x")
+        .build()?;
+    client.incr("k")?;
+    client.incr_with_tags("k").with_container_id("y").send();
+    Ok(())
+}
