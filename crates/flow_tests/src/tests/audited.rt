@@ -48,6 +48,7 @@ fn events_stand_in_the_order_of_the_calls(rt: HostRuntime) -> Result<(), Fail> {
     assert_eq!(rt; history.events().len(), wanted.len());
     for (event, place) in history.events().iter().zip(wanted) {
         assert_eq!(rt; (event.seat, event.count), place);
+        assert!(rt; event.clone()? == *event);
     }
     Ok(())
 }

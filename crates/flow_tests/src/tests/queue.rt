@@ -113,6 +113,7 @@ fn bounded_queue_reserves(rt: HostRuntime) -> Result<(), Fail> {
     let mut queue = QueueCore::new(heap.clone()?, Some(2))?;
     assert!(rt; queue.submit('A').is_ok());
     assert!(rt; queue.submit('B').is_ok());
+    assert!(rt; matches!(queue.submit('C'), Err((SinkError::ChannelFull, 'C'))));
     assert_eq!(rt; heap.left(), 0);
     Ok(())
 }
