@@ -7,33 +7,6 @@ use std::test::Fail;
 use std::thread;
 
 #[test]
-fn bounded_queue_with_a_stop(rt: HostRuntime) -> Result<(), Fail> {
-    let mut queue = QueueCore::new(rt.alloc(), Some(1))?;
-    assert!(rt; queue.submit('A').is_ok());
-    assert!(rt; matches!(queue.submit('B'), Err((SinkError::ChannelFull, 'B'))));
-    assert!(rt; matches!(queue.take(), Taken::Text('A')));
-    assert!(rt; queue.submit('C').is_ok());
-    queue.stop();
-    assert!(rt;
-        matches!(
-            queue.submit('D'),
-            Err((SinkError::ChannelDisconnected, 'D'))
-        )
-    );
-    assert!(rt; matches!(queue.take(), Taken::Text('C')));
-    assert!(rt; matches!(queue.take(), Taken::Ended));
-    Ok(())
-}
-
-#[test]
-fn capacity_0_refuses(rt: HostRuntime) -> Result<(), Fail> {
-    let mut queue = QueueCore::new(rt.alloc(), Some(0))?;
-    assert!(rt; matches!(queue.submit('A'), Err((SinkError::ChannelFull, 'A'))));
-    assert!(rt; matches!(queue.take(), Taken::Empty));
-    Ok(())
-}
-
-#[test]
 fn stopped_before_full(rt: HostRuntime) -> Result<(), Fail> {
     let mut queue = QueueCore::new(rt.alloc(), Some(1))?;
     assert!(rt; queue.submit('A').is_ok());
@@ -194,14 +167,6 @@ fn a_drop_takes_no_memory(rt: HostRuntime) -> Result<(), Fail> {
         (queue.submitted(), queue.dropped(), heap.left()),
         (3, 1, 0)
     );
-    Ok(())
-}
-
-#[test]
-fn capacity_0_drops_none(rt: HostRuntime) -> Result<(), Fail> {
-    let mut queue = QueueCore::with_policy(rt.alloc(), Some(0), QueuePolicy::DropOldest)?;
-    assert!(rt; matches!(queue.submit('A'), Err((SinkError::ChannelFull, 'A'))));
-    assert_eq!(rt; (queue.submitted(), queue.dropped()), (0, 0));
     Ok(())
 }
 
