@@ -1,7 +1,7 @@
 //! What was done, and how it is told.
 
 use crate::arguments::Arguments;
-use anyhow::Result;
+use cadence::MetricResult;
 use std::sync::atomic::{AtomicU64, Ordering};
 use std::time::Duration;
 
@@ -65,7 +65,7 @@ fn per_call(time: Duration, calls: u64) -> (u128, u128) {
 }
 
 /// Tells the check on standard output, and the time of a call in nanoseconds on standard error.
-pub fn report(rt: &HostRuntime, arguments: &Arguments, done: &Done) -> Result<()> {
+pub fn report(rt: &HostRuntime, arguments: &Arguments, done: &Done) -> MetricResult<()> {
     let Arguments { mode, calls, .. } = arguments;
     let check = done.check;
     println!(rt; "{mode} n={calls} check={check}")?;
@@ -74,7 +74,10 @@ pub fn report(rt: &HostRuntime, arguments: &Arguments, done: &Done) -> Result<()
         Note::Packets(packets) => eprint!(rt; "packets={packets} ")?,
         Note::Accepted(accepted, time) => {
             let (whole, tenth) = per_call(time, *calls);
-            eprint!(rt; "accepted={accepted} drained_ns_per={whole}.{tenth} ")?;
+            let per_ms = u128::from(accepted).saturating_mul(1_000_000) / time.as_nanos().max(1);
+            eprint!(rt;
+                "accepted={accepted} drained_ns_per={whole}.{tenth} lines_per_ms={per_ms} "
+            )?;
         }
     }
     let (whole, tenth) = per_call(done.time, *calls);

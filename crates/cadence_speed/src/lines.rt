@@ -1,13 +1,12 @@
 //! Calls of a client.
 
 use crate::done::{BlackBox, Done, Note};
-use anyhow::Result;
 use cadence::prelude::*;
-use cadence::{Metric, StatsdClient};
+use cadence::{Metric, MetricResult, StatsdClient};
 use std::time::Instant;
 
 /// A counter without tags.
-pub fn count(rt: &HostRuntime, client: &StatsdClient, calls: u64) -> Result<Done> {
+pub fn count(rt: &HostRuntime, client: &StatsdClient, calls: u64) -> MetricResult<Done> {
     let hidden = BlackBox::new();
     let mut check = 0u64;
     let start = Instant::now(rt)?;
@@ -26,7 +25,7 @@ pub fn count(rt: &HostRuntime, client: &StatsdClient, calls: u64) -> Result<Done
 }
 
 /// A counter with three tags of the call's own, two of them with a key.
-pub fn count_tags(rt: &HostRuntime, client: &StatsdClient, calls: u64) -> Result<Done> {
+pub fn count_tags(rt: &HostRuntime, client: &StatsdClient, calls: u64) -> MetricResult<Done> {
     let hidden = BlackBox::new();
     let mut check = 0u64;
     let start = Instant::now(rt)?;
@@ -50,7 +49,7 @@ pub fn count_tags(rt: &HostRuntime, client: &StatsdClient, calls: u64) -> Result
 }
 
 /// A histogram of four values.
-pub fn histogram4(rt: &HostRuntime, client: &StatsdClient, calls: u64) -> Result<Done> {
+pub fn histogram4(rt: &HostRuntime, client: &StatsdClient, calls: u64) -> MetricResult<Done> {
     let hidden = BlackBox::new();
     let mut check = 0u64;
     let start = Instant::now(rt)?;

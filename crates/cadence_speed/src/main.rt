@@ -1,21 +1,22 @@
-//! `cadence_speed MODE N [CAP LEN]`: does one mode's work N times, and tells how long a call takes.
+//! `cadence_speed MODE N [SIZES]`: does one mode's work N times, and tells how long a call takes.
 #![tactic(auto)]
 
 mod arguments;
+mod callers;
 mod counting;
 mod done;
 mod lines;
 mod packets;
 mod reading;
 mod sinks;
+mod sizes;
 
-use anyhow::Result;
 use arguments::Mode;
-use cadence::{MetricSink, NopMetricSink, StatsdClient};
+use cadence::{MetricResult, MetricSink, NopMetricSink, StatsdClient};
 use done::report;
 use std::env;
 
-fn main(rt: HostRuntime) -> Result<()> {
+fn main(rt: HostRuntime) -> MetricResult<()> {
     let mut words = env::args(&rt)?;
     let _program = words.next();
     let Some(arguments) = arguments::read(&mut words) else {
@@ -23,18 +24,34 @@ fn main(rt: HostRuntime) -> Result<()> {
         return Ok(());
     };
     let sink: Box<dyn MetricSink + Send + Sync> = Box::new(rt.alloc(), NopMetricSink)?;
-    let client = StatsdClient::from_sink(rt.alloc(), "some.prefix", sink)?;
+    let mut builder = StatsdClient::builder(rt.alloc(), "some.prefix", sink);
+    for _ in 0..arguments.default_tags() {
+        builder = builder.with_tag("region", "us-east-2");
+    }
+    let client = builder.build()?;
+    let (calls, size, tags) = (arguments.calls, arguments.size, arguments.own_tags());
     let done = match arguments.mode {
-        Mode::Count => lines::count(&rt, &client, arguments.calls)?,
-        Mode::CountTags => lines::count_tags(&rt, &client, arguments.calls)?,
-        Mode::Histogram4 => lines::histogram4(&rt, &client, arguments.calls)?,
+        Mode::Count => lines::count(&rt, &client, calls)?,
+        Mode::CountTags => lines::count_tags(&rt, &client, calls)?,
+        Mode::Histogram4 => lines::histogram4(&rt, &client, calls)?,
+        Mode::Tags | Mode::DefaultTags => sizes::tags(&rt, &client, calls, tags)?,
+        Mode::Values => sizes::values(&rt, &client, calls, size)?,
+        Mode::Key => sizes::key(&rt, &client, calls, size)?,
         Mode::Packer => packets::packer(&rt, &arguments)?,
         Mode::Read => reading::counters(&rt, &arguments)?,
         Mode::ReadFull => reading::full(&rt, &arguments)?,
         Mode::Udp => sinks::udp(&rt, rt.alloc(), &arguments)?,
         Mode::Queue => sinks::queue(&rt, rt.alloc(), &arguments)?,
         Mode::Drop => sinks::dropping(&rt, rt.alloc(), &arguments)?,
+        Mode::Callers => callers::queue(&rt, rt.alloc(), &arguments)?,
+        Mode::UdpCallers => callers::udp(&rt, rt.alloc(), &arguments)?,
+        Mode::Service => {
+            let (_server, udp) = sinks::buffered(&rt, rt.alloc(), 512)?;
+            let queue = sinks::queue_over(&rt, rt.alloc(), udp, arguments.capacity)?;
+            let sink: Box<dyn MetricSink + Send + Sync> = Box::new(rt.alloc(), queue.clone()?)?;
+            let client = StatsdClient::from_sink(rt.alloc(), "my.service", sink)?;
+            callers::service(&rt, rt.alloc(), &arguments, &client, &queue)?
+        }
     };
-    report(&rt, &arguments, &done)?;
-    Ok(())
+    report(&rt, &arguments, &done)
 }

@@ -3,13 +3,13 @@
 use crate::arguments::Arguments;
 use crate::counting::Counting;
 use crate::done::{BlackBox, Done, Note};
-use anyhow::Result;
+use cadence::MetricResult;
 use cadence::ext::MultiLineWriter;
 use std::alloc::{AllocError, Global};
 use std::time::Instant;
 
 /// A text that looks like a counter's line, of just so many bytes where they are four at least.
-pub fn text(alloc: Global, length: usize) -> std::result::Result<String, AllocError> {
+pub fn text(alloc: Global, length: usize) -> Result<String, AllocError> {
     let mut text = String::with_capacity(alloc, length.max(4))?;
     for _ in 0..length.saturating_sub(4) {
         text.push('k')?;
@@ -19,7 +19,7 @@ pub fn text(alloc: Global, length: usize) -> std::result::Result<String, AllocEr
 }
 
 /// Lines into a packer over a writer that counts.
-pub fn packer(rt: &HostRuntime, arguments: &Arguments) -> Result<Done> {
+pub fn packer(rt: &HostRuntime, arguments: &Arguments) -> MetricResult<Done> {
     let line = text(rt.alloc(), arguments.length)?;
     let counting = Counting {
         bytes: 0,

@@ -3,18 +3,41 @@
 use crate::arguments::Arguments;
 use crate::done::{BlackBox, Done, Note};
 use crate::packets::text;
-use anyhow::Result;
 use cadence::queue::{QueuePolicy, SharedQueue};
 use cadence::sinks::Target;
-use cadence::{BufferedUdpMetricSink, MetricSink, NopMetricSink, QueuingMetricSink};
+use cadence::{BufferedUdpMetricSink, MetricResult, MetricSink, NopMetricSink, QueuingMetricSink};
 use std::alloc::Global;
 use std::net::{Ipv4Addr, Net, SocketAddr, UdpSocket};
 use std::sync::Wait;
 use std::thread::{self, Threads};
-use std::time::{Clock, Instant};
+use std::time::{Clock, Duration, Instant};
 
-fn on_loopback(rt: &impl Net) -> Result<UdpSocket> {
+fn on_loopback(rt: &impl Net) -> MetricResult<UdpSocket> {
     Ok(UdpSocket::bind(rt, SocketAddr::from((Ipv4Addr::LOCALHOST, 0)))?)
+}
+
+/// A buffered UDP sink, and the socket of this process that it sends to.
+pub fn buffered<R: Net + Wait + Clone + Drop>(
+    rt: &R,
+    alloc: Global,
+    capacity: usize,
+) -> MetricResult<(UdpSocket, BufferedUdpMetricSink<R>)> {
+    let server = on_loopback(rt)?;
+    let target = Target::Addr(server.local_addr()?);
+    let socket = on_loopback(rt)?;
+    let sink = BufferedUdpMetricSink::with_capacity(rt.clone()?, alloc, target, socket, capacity)?;
+    Ok((server, sink))
+}
+
+/// What a buffered UDP sink sent.
+pub fn sent<R: Wait + Drop>(time: Duration, sink: &BufferedUdpMetricSink<R>) -> Done {
+    let stats = sink.stats();
+    let bytes = stats.bytes_sent.wrapping_mul(1_000_003);
+    Done {
+        time,
+        check: bytes.wrapping_add(stats.packets_sent),
+        note: Note::Packets(stats.packets_sent),
+    }
 }
 
 /// Lines into a buffered UDP sink, to a socket of this process that nobody reads.
@@ -22,34 +45,33 @@ pub fn udp<R: Clock + Net + Wait + Clone + Drop>(
     rt: &R,
     alloc: Global,
     arguments: &Arguments,
-) -> Result<Done> {
+) -> MetricResult<Done> {
     let line = text(alloc, arguments.length)?;
-    let server = on_loopback(rt)?;
-    let target = Target::Addr(server.local_addr()?);
-    let (socket, capacity) = (on_loopback(rt)?, arguments.capacity);
-    let sink = BufferedUdpMetricSink::with_capacity(rt.clone()?, alloc, target, socket, capacity)?;
+    let (_server, sink) = buffered(rt, alloc, arguments.capacity)?;
     let hidden = BlackBox::new();
     let start = Instant::now(rt)?;
     for _ in 0..arguments.calls {
         sink.emit(hidden.text(&line))?;
     }
     sink.flush()?;
-    let time = start.elapsed(rt)?;
-    let stats = sink.stats();
-    Ok(Done {
-        time,
-        check: stats
-            .bytes_sent
-            .wrapping_mul(1_000_003)
-            .wrapping_add(stats.packets_sent),
-        note: Note::Packets(stats.packets_sent),
-    })
+    Ok(sent(start.elapsed(rt)?, &sink))
 }
 
-// Turns until so many lines were taken.
-fn wait_until_drained<R: Wait + Drop>(
+/// A queue over a sink; one of capacity 0 is unbounded.
+pub fn queue_over<
+    S: MetricSink + Send + Sync + 'static,
+    R: Wait + Threads + Clone + Drop + Send + Sync + 'static,
+>(rt: &R, alloc: Global, sink: S, capacity: usize) -> MetricResult<QueuingMetricSink<S, R>> {
+    match capacity {
+        0 => QueuingMetricSink::from(rt.clone()?, alloc, sink),
+        capacity => QueuingMetricSink::with_capacity(rt.clone()?, alloc, sink, capacity),
+    }
+}
+
+/// Turns until so many lines were taken.
+pub fn wait_until_drained<S: MetricSink, R: Wait + Drop>(
     rt: &R,
-    queue: &QueuingMetricSink<NopMetricSink, R>,
+    queue: &QueuingMetricSink<S, R>,
     lines: u64,
 ) {
     for _ in rt.forever() {
@@ -65,14 +87,9 @@ pub fn queue<R: Clock + Wait + Threads + Clone + Drop + Send + Sync + 'static>(
     rt: &R,
     alloc: Global,
     arguments: &Arguments,
-) -> Result<Done> {
+) -> MetricResult<Done> {
     let line = text(alloc, arguments.length)?;
-    let queue = match arguments.capacity {
-        0 => QueuingMetricSink::from(rt.clone()?, alloc, NopMetricSink)?,
-        capacity => {
-            QueuingMetricSink::with_capacity(rt.clone()?, alloc, NopMetricSink, capacity)?
-        }
-    };
+    let queue = queue_over(rt, alloc, NopMetricSink, arguments.capacity)?;
     queue.emit(&line)?;
     wait_until_drained(rt, &queue, 1);
     let hidden = BlackBox::new();
@@ -95,7 +112,11 @@ pub fn queue<R: Clock + Wait + Threads + Clone + Drop + Send + Sync + 'static>(
 }
 
 /// Lines into a queue that drops its oldest line when it is full, and from which nobody takes.
-pub fn dropping<R: Clock + Wait>(rt: &R, alloc: Global, arguments: &Arguments) -> Result<Done> {
+pub fn dropping<R: Clock + Wait>(
+    rt: &R,
+    alloc: Global,
+    arguments: &Arguments,
+) -> MetricResult<Done> {
     let line = text(alloc, arguments.length)?;
     let capacity = Some(arguments.capacity);
     let queue = SharedQueue::with_policy(alloc, capacity, QueuePolicy::DropOldest)?;

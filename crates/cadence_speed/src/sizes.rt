@@ -1,0 +1,82 @@
+//! Calls of a client that grow.
+
+use crate::done::{BlackBox, Done, Note};
+use cadence::prelude::*;
+use cadence::{Metric, MetricResult, StatsdClient};
+use std::time::Instant;
+
+/// A counter with so many tags of the call's own.
+pub fn tags(
+    rt: &HostRuntime,
+    client: &StatsdClient,
+    calls: u64,
+    tags: usize,
+) -> MetricResult<Done> {
+    let hidden = BlackBox::new();
+    let mut check = 0u64;
+    let start = Instant::now(rt)?;
+    for i in 0..calls {
+        let mut call = client.count_with_tags(
+            hidden.text("some.counter"),
+            hidden.hide((i % 1000) as i64, 0),
+        );
+        for _ in 0..tags {
+            call = call.with_tag(hidden.text("region"), hidden.text("us-east-2"));
+        }
+        let metric = call.try_send()?;
+        check = check.wrapping_add(metric.as_metric_str().len() as u64);
+    }
+    Ok(Done {
+        time: start.elapsed(rt)?,
+        check,
+        note: Note::Nothing,
+    })
+}
+
+/// A histogram of so many values.
+pub fn values(
+    rt: &HostRuntime,
+    client: &StatsdClient,
+    calls: u64,
+    count: usize,
+) -> MetricResult<Done> {
+    let hidden = BlackBox::new();
+    let mut check = 0u64;
+    let start = Instant::now(rt)?;
+    for i in 0..calls {
+        let first = hidden.hide(i % 1000, 0);
+        let mut values = Vec::with_capacity(rt.alloc(), count)?;
+        for j in 0..count {
+            values.push(first.wrapping_add(j as u64))?;
+        }
+        let metric = client.histogram(hidden.text("some.histogram"), values)?;
+        check = check.wrapping_add(metric.as_metric_str().len() as u64);
+    }
+    Ok(Done {
+        time: start.elapsed(rt)?,
+        check,
+        note: Note::Nothing,
+    })
+}
+
+/// A counter with a key of so many bytes.
+pub fn key(
+    rt: &HostRuntime,
+    client: &StatsdClient,
+    calls: u64,
+    length: usize,
+) -> MetricResult<Done> {
+    let key = "k".repeat(rt.alloc(), length)?;
+    let hidden = BlackBox::new();
+    let mut check = 0u64;
+    let start = Instant::now(rt)?;
+    for i in 0..calls {
+        let metric = client.count(hidden.text(&key), hidden.hide((i % 1000) as i64, 0))?;
+        check = check.wrapping_add(metric.as_metric_str().len() as u64);
+    }
+    Ok(Done {
+        time: start.elapsed(rt)?,
+        check,
+        note: Note::Nothing,
+    })
+}
