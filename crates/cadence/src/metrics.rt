@@ -9,8 +9,8 @@ ghost use Rattle.cadence_value.specs.Values.{numbers_of};
 ghost use Rattle.cadence_text.specs.declared.line.MetricType.TheVariants as kind;
 
 use cadence_errors::MetricResult;
-use cadence_value::decimal::Decimal;
 use cadence_text::line::{MetricType, Record};
+use cadence_value::decimal::Decimal;
 use cadence_value::value::MetricValue;
 use std::alloc::{Allocator, Global};
 use std::fmt;

@@ -6,8 +6,8 @@ ghost use Rattle.cadence_schedule.specs.Call.{chosen};
 ghost use Rattle.cadence_schedule.specs.Calls.{choice_of, kind_of_value, numbers_of_value};
 
 use cadence_errors::MetricResult;
-use cadence_value::decimal::Decimal;
 use cadence_text::line::{MetricType, Record, Tag};
+use cadence_value::decimal::Decimal;
 use cadence_value::value::{MetricValue, ToHistogramValue, ToTimerValue};
 use std::alloc::{AllocError, Allocator, Global};
 use std::time::Duration;

@@ -8,8 +8,8 @@ ghost use Rattle.cadence.specs.Sending.{Chooses, ChoosesOrHolds, StartsPlain};
 
 use cadence_errors::{MetricError, MetricResult};
 use cadence_schedule::ClientSettings;
-use cadence_value::decimal::Decimal;
 use cadence_text::line::{MetricType, Record, Tag};
+use cadence_value::decimal::Decimal;
 use cadence_value::value::MetricValue;
 use std::alloc::{AllocError, Allocator};
 

@@ -160,10 +160,7 @@ impl<T: Drop, A: Allocator + Clone> QueueCore<T, A> {
 
     /// As `submit_with`, with a small error.
     #[inline(always)]
-    pub fn offer<F: FnOnce() -> Result<T, AllocError>>(
-        &mut self,
-        make: F,
-    ) -> Result<(), Refusal>
+    pub fn offer<F: FnOnce() -> Result<T, AllocError>>(&mut self, make: F) -> Result<(), Refusal>
         requires { F.IsAlwaysCallable make }
         ensures accepted { OnOk result ((text : T) × (dropped : Option T)
             × F.post make (Ok text) × Accepts self.old text dropped self.new) }

@@ -9,11 +9,11 @@ ghost use Rattle.cadence_text.specs.Record.{tag_of};
 ghost use Rattle.cadence_text.specs.RecordMetric.{AreRecordNumbers, AreRecordTags, FitsMemory, IsRecordTag, IsRecordTime};
 ghost use Rattle.cadence_text.specs.Sink.{Takes};
 
-use cadence_value::decimal::Decimal;
 use crate::line::MetricType;
 use crate::line::digits::{number_len, wide_len};
 use crate::line::sink::LineSink;
 use crate::line::tag::Tag;
+use cadence_value::decimal::Decimal;
 use cadence_value::value::MetricValue;
 use std::alloc::Allocator;
 

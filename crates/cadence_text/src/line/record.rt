@@ -2,15 +2,15 @@
 mod owned;
 mod same;
 
-use cadence_value::decimal::Decimal;
 use crate::line::MetricType;
 use crate::line::counter::Counter;
 use crate::line::filled::Filled;
 use crate::line::pieces::{push_container, push_kind, push_rate, push_tags, push_time, push_value};
 use crate::line::sink::LineSink;
 use crate::line::tag::Tag;
-use cadence_value::value::MetricValue;
 use cadence_errors::MetricResult;
+use cadence_value::decimal::Decimal;
+use cadence_value::value::MetricValue;
 pub use owned::OwnedMetric;
 use std::alloc::{AllocError, Allocator, Global};
 use std::marker::Model;

@@ -1,7 +1,7 @@
 //! Metrics of every shape, each made, printed and read back.
 use cadence_listen::{ReadFault, read_line, read_packet};
-use cadence_value::decimal::Decimal;
 use cadence_text::line::{MetricType, OwnedMetric};
+use cadence_value::decimal::Decimal;
 use refusing::each_refused;
 use std::alloc::Global;
 use std::test::Fail;

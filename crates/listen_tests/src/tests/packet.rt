@@ -1,7 +1,7 @@
 //! Worked rows: packets with the lines of their metrics, and packets of no metrics.
 use cadence_listen::{ReadFault, read_line, read_packet, read_run};
-use cadence_value::decimal::Decimal;
 use cadence_text::line::{MetricType, OwnedMetric};
+use cadence_value::decimal::Decimal;
 use std::alloc::Global;
 use std::test::Fail;
 

@@ -2,8 +2,8 @@
 use cadence_flow::io::PacketLog;
 use cadence_listen::{ReadFault, run_and_read};
 use cadence_schedule::{Call, CallValue, ClientSettings, Step};
-use cadence_value::decimal::Decimal;
 use cadence_text::line::MetricType;
+use cadence_value::decimal::Decimal;
 use refusing::{Refusing, each_refused};
 use std::alloc::Allocator;
 use std::test::Fail;

@@ -1,7 +1,7 @@
 //! Worked rows of the line, lines that are the same, and want of memory.
 use cadence_errors::{MetricError, MetricResult, SinkError};
-use cadence_value::decimal::Decimal;
 use cadence_text::line::{MetricType, Record, Tag};
+use cadence_value::decimal::Decimal;
 use cadence_value::value::MetricValue;
 use refusing::{Refusing, each_refused};
 use std::alloc::{Allocator, Global};

@@ -4,10 +4,10 @@ ghost use Rattle.std.specs.Option.{option_copied, option_map};
 ghost use Rattle.cadence_text.specs.Owned.{tag_of_owned};
 ghost use Rattle.cadence_text.specs.Record.{tag_of};
 
-use cadence_value::decimal::Decimal;
 use crate::line::{MetricType, Record, Tag};
-use cadence_value::value::MetricValue;
 use cadence_errors::MetricResult;
+use cadence_value::decimal::Decimal;
+use cadence_value::value::MetricValue;
 use std::alloc::{AllocError, Allocator, Global};
 
 // A text that may be there, lent.
