@@ -1,0 +1,5 @@
+//! The tests, a module for each thing.
+
+mod faults;
+mod options;
+mod sent;

@@ -1,0 +1,134 @@
+//! What is sent for words and for texts.
+use cadence_flow::io::{LineBuffer, PacketLog};
+use cadence_send::{Datagrams, Defaults, Request, Unhurried, read_options, run_input, run_words};
+use refusing::reader::ByteReader;
+use std::alloc::Global;
+use std::net::{Ipv4Addr, SocketAddr, UdpSocket};
+use std::test::Fail;
+use std::time::Duration;
+
+/// What is read, the lines that are packed, the status, and how what is told begins.
+const ROWS: [(&[u8], &[u8], u8, &[u8]); 7] = [
+    (b"", b"", 0, b""),
+    (b"c visits 1", b"p.visits:1|c|#k:v\n", 0, b""),
+    (
+        b"\n\nms wait 12,250 beta\n\n",
+        b"p.wait:12:250|ms|#k:v,beta\n",
+        0,
+        b"",
+    ),
+    (
+        b"gauge load 0.75\nset users -5\n",
+        b"p.load:0.75|g|#k:v\np.users:-5|s|#k:v\n",
+        0,
+        b"",
+    ),
+    (
+        b"count a 18446744073709551615\nc b -9223372036854775808",
+        b"p.a:18446744073709551615|c|#k:v\np.b:-9223372036854775808|c|#k:v\n",
+        0,
+        b"",
+    ),
+    (
+        b"c a 1\nc\nd b 0.5,2\nx y 1\nc z 1.5\n",
+        b"p.a:1|c|#k:v\np.b:0.5:2|d|#k:v\n",
+        2,
+        b"statsd_send: line 2: wants KIND",
+    ),
+    (
+        b"c \xff 1\nc a\0 1\n",
+        b"p.a\0:1|c|#k:v\n",
+        2,
+        b"statsd_send: line 1: not UTF-8\n",
+    ),
+];
+
+/// Lines that ask for nothing.
+const UNREAD: &str =
+    "c a 1,2\nc a:b 1\nc a 1 b:c:d\nc a 1  b\nc  1\ns a 9223372036854775808\nm a -1\nms a 1.5\nc a 01";
+
+const OPTIONS: [&str; 4] = ["--prefix", "p", "--tag", "k:v"];
+
+// What the options of the tests add.
+fn defaults(alloc: Global) -> Result<Defaults, Fail> {
+    match read_options(alloc, &OPTIONS) {
+        Ok(Request::Send(options, [])) => Ok(options.defaults(alloc)?),
+        _ => Err(Fail::new("options")),
+    }
+}
+
+// A packer over a new log.
+fn packer(alloc: Global, capacity: usize) -> Result<LineBuffer<PacketLog>, Fail> {
+    match LineBuffer::new(alloc, PacketLog::new(alloc, Vec::new(alloc)), capacity) {
+        Ok(lines) => Ok(lines),
+        Err(_) => Err(Fail::new("memory")),
+    }
+}
+
+// The packets, joined.
+fn joined(alloc: Global, lines: &LineBuffer<PacketLog>) -> Result<Vec<u8>, Fail> {
+    let mut all = Vec::new(alloc);
+    for packet in lines.get_ref().packets() {
+        all.extend_from_slice(packet)?;
+    }
+    Ok(all)
+}
+
+#[test]
+fn rows_are_sent(rt: HostRuntime) -> Result<(), Fail> {
+    let defaults = defaults(rt.alloc())?;
+    for (text, sent, status, told) in ROWS {
+        let (mut input, mut errors) = (ByteReader::new(text), Vec::new(rt.alloc()));
+        let mut lines = packer(rt.alloc(), 64)?;
+        let got = run_input(
+            &rt.alloc(),
+            &defaults,
+            &mut lines,
+            &mut input,
+            &mut errors,
+            &mut Unhurried,
+        );
+        assert_eq!(rt; got, status);
+        assert!(rt; joined(rt.alloc(), &lines)?.as_slice() == sent && lines.held().is_empty());
+        assert!(rt; errors.starts_with(told) && errors.is_empty() == (status == 0));
+    }
+    Ok(())
+}
+
+#[test]
+fn unread_lines_send_nothing(rt: HostRuntime) -> Result<(), Fail> {
+    let defaults = defaults(rt.alloc())?;
+    for text in UNREAD.split('\n') {
+        let (mut input, mut errors) = (text.as_bytes(), Vec::new(rt.alloc()));
+        let mut lines = packer(rt.alloc(), 64)?;
+        let got = run_input(
+            &rt.alloc(),
+            &defaults,
+            &mut lines,
+            &mut input,
+            &mut errors,
+            &mut Unhurried,
+        );
+        assert!(rt; got == 2 && lines.get_ref().packets().is_empty());
+    }
+    Ok(())
+}
+
+#[test]
+fn words_are_sent_to_a_socket(rt: HostRuntime) -> Result<(), Fail> {
+    let server = UdpSocket::bind(&rt, SocketAddr::from((Ipv4Addr::LOCALHOST, 0)))?;
+    server.set_read_timeout(Some(Duration::from_secs(5)))?;
+    let socket = UdpSocket::bind(&rt, SocketAddr::from((Ipv4Addr::LOCALHOST, 0)))?;
+    let writer = Datagrams::new(socket, server.local_addr()?);
+    let Ok(mut lines) = LineBuffer::new(rt.alloc(), writer, 512) else {
+        return Err(Fail::new("memory"));
+    };
+    let (defaults, mut errors) = (defaults(rt.alloc())?, Vec::new(rt.alloc()));
+    let words = ["c", "visits", "1", "page:new york"];
+    let status = run_words(&rt.alloc(), &defaults, &mut lines, &words, &mut errors);
+    assert!(rt; status == 0 && errors.is_empty());
+    let mut bytes = [0u8; 64];
+    let (count, _from) = server.recv_from(&mut bytes)?;
+    assert!(rt; &bytes[..count] == b"p.visits:1|c|#k:v,page:new york\n".as_slice());
+    Ok(())
+}
