@@ -1,5 +1,6 @@
 pub mod Frame
 pub mod Log
+pub mod Offers
 pub mod Packer
 pub mod Queue
 pub mod QueueModel

@@ -1,5 +1,6 @@
 //! Plain work on bytes.
-ghost use Rattle.std.specs.Prelude.{◌≡◌, ◌+◌, ◌<◌, ◌≤◌, ◌∷◌, ◌++◌, [], length, take, drop, true, vec_len, vec_capacity, OnOk, OnErr, IfErr};
+ghost use Rattle.std.specs.Prelude.{◌≡◌, ◌+◌, ◌<◌, ◌≤◌, ◌∷◌, ◌++◌, [], length, take, drop, true, is_ok, vec_len, vec_capacity, OnOk, OnErr, IfErr};
+ghost use Rattle.cadence_flow.specs.Offers.{SendsOffers};
 ghost use Rattle.cadence_flow.specs.Packer.{HasCause};
 ghost use Rattle.cadence_flow.specs.Writer.{RefusedNothing, Sends};
 
@@ -70,6 +71,8 @@ pub(super) fn send<T: PacketWriter>(bytes: &[u8], to: &mut T) -> (usize, Result<
     ensures no_packet { (T.kind to.old).takes_whole ≡ true →
         OnErr result.1 ((result.0 ≡ 0)
         × ((T.history to.new).packets ≡ (T.history to.old).packets)) }
+    ensures offers { 0 < length bytes.now →
+        SendsOffers (T.offers to.old) (T.offers to.new) (is_ok result.1) }
 {
     let mut sent = 0;
     while sent < bytes.len() {

@@ -70,8 +70,9 @@ impl<T: PacketWriter, A: Allocator + Clone> LineBuffer<T, A> {
 }
 
 impl<T: PacketWriter, A: Allocator> LineBuffer<T, A> {
-    ghost use Rattle.std.specs.Prelude.{◌≡◌, ◌↔◌, ◌≤◌, length, IsTrue};
+    ghost use Rattle.std.specs.Prelude.{◌≡◌, ◌↔◌, ◌≤◌, length, is_ok, IsTrue};
     ghost use Rattle.std.specs.Borrow.{Lends, sem};
+    ghost use Rattle.cadence_flow.specs.Offers.{FlushesOffers, WritesOffers};
     ghost use Rattle.cadence_flow.specs.Packer.{Fits, FlushesHeld, HoldsLine, ReplacesWriter, WritesLine, holding, with_writer};
     ghost use Rattle.cadence_flow.specs.contracts.io.line_buffer.LineBuffer.{the_row};
 
@@ -85,7 +86,9 @@ impl<T: PacketWriter, A: Allocator> LineBuffer<T, A> {
     /// An error is the writer's own, or `NothingWritten` where it took 0 bytes of held text. Nothing of the line is
     /// kept then; what the writer didn't take of the held text stays.
     pub fn write(&mut self, line: &[u8]) -> Result<usize, SinkError>
-        ensures { WritesLine T.kind T.history self.old self.new line.now result }
+        ensures writes { WritesLine T.kind T.history self.old self.new line.now result }
+        ensures offers { WritesOffers self.old.format (T.offers self.old.writer)
+            (T.offers self.new.writer) self.old.held self.new.held line.now result }
     {
         let required = line.len() + self.ending.len();
         if required > self.capacity {
@@ -136,7 +139,9 @@ impl<T: PacketWriter, A: Allocator> LineBuffer<T, A> {
     /// An error is the writer's own, or `NothingWritten` where it took 0 bytes. What it didn't take stays held, and
     /// the free room is what the held text leaves. An interrupted write is an error like any other.
     pub fn flush(&mut self) -> Result<(), SinkError>
-        ensures { FlushesHeld T.kind T.history self.old self.new result }
+        ensures flushes { FlushesHeld T.kind T.history self.old self.new result }
+        ensures offers { FlushesOffers (T.offers self.old.writer)
+            (T.offers self.new.writer) self.old.held (is_ok result) }
     {
         if self.held.is_empty() {
             return Ok(());

@@ -1,5 +1,6 @@
 //! What takes packets.
-ghost use Rattle.std.specs.Prelude.{◌≡◌};
+ghost use Rattle.std.specs.Prelude.{◌≡◌, ℕ, List, Option, None};
+ghost use Rattle.cadence_flow.specs.Offers.{IsOffered};
 ghost use Rattle.cadence_flow.specs.Writer.{History, Kind, WritesPacket};
 
 use cadence_errors::SinkError;
@@ -12,10 +13,15 @@ pub trait PacketWriter: Drop {
     /// The errors that it may give, whether it tells its packets and takes each whole, and the sums it began with.
     ghost kind: { Self → Kind };
 
+    /// Where the writer tells them, the packets that were offered and not refused, each with how many of its bytes were
+    /// taken. By default it doesn't.
+    ghost offers: { Self → Option (List (List ℕ × ℕ)) } = { λ _. None };
+
     /// Offers one packet. Answers how many of its first bytes were taken as one packet. An error is one refusal, and
     /// nothing was taken.
     fn write_packet(&mut self, packet: &[u8]) -> Result<usize, SinkError>
         ensures same_kind { kind self.new ≡ kind self.old }
         ensures writes { WritesPacket (kind self.old)
-            (history self.old) (history self.new) packet.now result };
+            (history self.old) (history self.new) packet.now result }
+        ensures offers { IsOffered (offers self.old) (offers self.new) packet.now result };
 }

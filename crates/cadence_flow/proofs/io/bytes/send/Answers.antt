@@ -1,5 +1,6 @@
-use Rattle.std.proofs.Common.{length, take, ap, ◌∙◌, arith, ℕ, List}
+use Rattle.std.proofs.Common.{length, length-drop, take, ap, ◌∙◌, arith, rules, ℕ, List}
 use Rattle.cadence_flow.specs.Writer.{after_packet, Kind}
+use Rattle.cadence_flow.proofs.Offering.{offered_more, offered_nothing}
 use Rattle.cadence_flow.proofs.Sending.{SentSoFar-more, rest_is}
 use Rattle.cadence_flow.proofs.io.bytes.send.Goals as goal
 
@@ -15,4 +16,11 @@ loop-sent-preserved g c =
     record {
       same_kind = h.same_kind ∙ so_far.same_kind;
       so_far = SentSoFar-more _ _ _ _ xs sent c.in-Ok.n so_far.so_far c.loop-sent-test.true (omega (arith, c.in-Ok.n-test.1)) (rw rest at h.writes.count) (λ w. h.writes.whole (whole ∙ w) ∙ ap length rest) (λ t. h.writes.taken (tells ∙ t) ∙ ap (λ (l : List ℕ). after_packet (g.T.PacketWriter.history c.loop-sent.to) (take c.in-Ok.n l)) rest) h.writes.kept;
+      offered = offered_more _ _ _ _ (length xs) sent c.in-Ok.n c.loop-sent.invariant.offered c.loop-sent-test.true (ap length rest ∙ length-drop sent xs) h.offers;
     }
+
+pub returns-in-Ok-eq0-clause-offers : goal.returns-in-Ok-eq0-clause-offers
+returns-in-Ok-eq0-clause-offers g c some =
+    let xs = c.args.bytes.now in
+    let sent = c.loop-sent.sent in
+    offered_nothing _ _ _ _ (length xs) sent c.in-Ok-eq0.field-0 c.loop-sent.invariant.offered c.loop-sent-test.true (ap length (rest_is xs sent) ∙ length-drop sent xs) (search rules) c.in-Ok-eq0.ensures.offers
