@@ -1,2 +1,4 @@
+pub mod Cuts
+pub mod Cutting
 pub mod QueuePast
 mod Walks

@@ -1,3 +1,4 @@
+pub mod Cut
 pub mod Ledger
 pub mod QueueLedger
 pub mod QueuePast

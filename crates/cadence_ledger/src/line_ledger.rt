@@ -2,7 +2,8 @@
 ghost use Rattle.std.specs.Prelude.{◌≡◌, ◌++◌};
 ghost use Rattle.std.specs.List.{concat};
 ghost use Rattle.cadence_flow.specs.Frame.{taken_stream};
-ghost use Rattle.cadence_ledger.specs.Telling.{packets_of};
+ghost use Rattle.cadence_ledger.specs.Cut.{IsCut};
+ghost use Rattle.cadence_ledger.specs.Telling.{offers_of, packets_of};
 
 use super::telling::Telling;
 use super::text_log::TextLog;
@@ -12,13 +13,14 @@ use std::alloc::{Allocator, Global};
 
 /// A packer with the newline as its ending, and in proofs alone the lines that it accepted, each with what was
 /// answered. Whoever has one knows that the packets that its writer took, joined, and then the held text are the
-/// frames of these lines, in order: `stream`.
+/// frames of these lines, in order (`stream`), and that between two short counts each packet is whole frames (`cut`).
 #[derive(Drop)]
 pub struct LineLedger<W, A: Allocator = Global> {
     lines: LineBuffer<Telling<W>, A>,
     accepted: TextLog,
     pub ghost stream: { concat (packets_of lines.writer) ++ lines.held
         ≡ taken_stream lines.format accepted.items },
+    pub ghost cut: { ∥ IsCut lines.format (offers_of lines.writer) accepted.items lines.held ∥₁ },
 }
 
 impl<W: PacketWriter, A: Allocator + Clone> LineLedger<W, A> {

@@ -30,17 +30,23 @@ impl<W> Telling<W> {
 }
 
 impl<W: PacketWriter> PacketWriter for Telling<W> {
+    ghost use Rattle.std.specs.Prelude.{Some};
+    ghost use Rattle.cadence_flow.specs.Offers.{IsOffered};
     ghost use Rattle.cadence_flow.specs.Writer.{WritesPacket};
-    ghost use Rattle.cadence_ledger.specs.Telling.{packets_of, telling_history, telling_kind, writer_of};
+    ghost use Rattle.cadence_ledger.specs.Telling.{offers_of, packets_of, telling_history, telling_kind, writer_of};
 
     ghost history = { telling_history W.history };
 
     ghost kind = { telling_kind W.kind };
 
+    ghost offers = { λ t. Some (offers_of t) };
+
     fn write_packet(&mut self, packet: &[u8]) -> Result<usize, SinkError>
         ensures same_kind { telling_kind W.kind self.new ≡ telling_kind W.kind self.old }
         ensures writes { WritesPacket (telling_kind W.kind self.old)
             (telling_history W.history self.old) (telling_history W.history self.new)
+            packet.now result }
+        ensures offers { IsOffered (Some (offers_of self.old)) (Some (offers_of self.new))
             packet.now result }
         ensures ties { (W.kind (writer_of self.old)).tells ≡ true →
             packets_of self.old ≡ (W.history (writer_of self.old)).packets →
