@@ -8,6 +8,7 @@ mod shared_queue;
 mod telling;
 mod text_log;
 
+pub use item_log::ItemLog;
 pub use line_ledger::LineLedger;
 pub use shared_queue::SharedQueue;
 pub use telling::Telling;

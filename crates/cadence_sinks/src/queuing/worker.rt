@@ -1,8 +1,10 @@
 //! The thread that calls the wrapped sink.
+ghost use Rattle.std.specs.Prelude.{◌≡◌};
+
 use crate::worklist::{Worklist, work};
 use crate::{Handler, MetricSink};
 use cadence_flow::queue::WorkerEnd;
-use cadence_ledger::SharedQueue;
+use cadence_ledger::{ItemLog, SharedQueue};
 use cadence_resolve::thread::Job;
 use std::alloc::Allocator;
 use std::sync::{Arc, Wait};
@@ -15,29 +17,43 @@ pub struct Shared<S: MetricSink, A: Allocator> {
     pub end: WorkerEnd,
 }
 
+// What a worker took from the queue, what it handed on, and the end where it was told, all in proofs alone.
+#[derive(Drop)]
+struct Passed<A: Allocator> {
+    taken: ItemLog<String<A>>,
+    handed: ItemLog<String<A>>,
+    ends: ItemLog<bool>,
+}
+
 // The worker's list: it takes from the queue, and hands on to the wrapped sink.
 #[derive(Drop)]
 struct QueueWorklist<'a, S: MetricSink, R: Wait + Drop, A: Allocator> {
     rt: &'a R,
     shared: &'a Shared<S, A>,
     handler: &'a Option<Handler<A>>,
+    passed: Passed<A>,
 }
 
 impl<'a, S: MetricSink, R: Wait + Drop, A: Allocator> Worklist for QueueWorklist<'a, S, R, A> {
-    ghost use Rattle.std.specs.Prelude.{[], false};
+    ghost use Rattle.std.specs.Prelude.{true, ltb, length};
 
     type Text = String<A>;
 
-    ghost given = { λ _. [] };
+    ghost given = { λ w. w.passed.taken.items };
 
-    ghost handed = { λ _. [] };
+    ghost handed = { λ w. w.passed.handed.items };
 
-    ghost ended = { λ _. false };
+    ghost ended = { λ w. ltb 0 (length w.passed.ends.items) };
 
-    ghost tells = { λ _. false };
+    ghost tells = { λ _. true };
 
     fn next(&mut self) -> Option<String<A>> {
-        self.shared.queue.take_wait(self.rt)
+        let next = self.shared.queue.take_wait(self.rt);
+        match &next {
+            Some(text) => self.passed.taken = self.passed.taken.and(text),
+            None => self.passed.ends = self.passed.ends.and(&true),
+        }
+        next
     }
 
     fn hand(&mut self, text: String<A>) {
@@ -46,7 +62,31 @@ impl<'a, S: MetricSink, R: Wait + Drop, A: Allocator> Worklist for QueueWorklist
                 handler.tell(fault);
             }
         }
+        self.passed.handed = self.passed.handed.and(&text);
     }
+}
+
+// Goes through the queue to its end. What was taken was handed on, in order.
+fn pass_on<S: MetricSink, R: Wait + Drop, A: Allocator>(
+    rt: &R,
+    shared: &Shared<S, A>,
+    handler: &Option<Handler<A>>,
+) -> Passed<A>
+    ensures { result.handed.items ≡ result.taken.items }
+{
+    let passed = Passed {
+        taken: ItemLog::new(),
+        handed: ItemLog::new(),
+        ends: ItemLog::new(),
+    };
+    let mut list = QueueWorklist {
+        rt,
+        shared,
+        handler,
+        passed,
+    };
+    work(rt, &mut list);
+    list.passed
 }
 
 /// What the worker needs beside the handler.
@@ -58,12 +98,7 @@ pub struct Worker<S: MetricSink, R: Wait + Drop, A: Allocator> {
 
 impl<S: MetricSink, R: Wait + Drop, A: Allocator> Job<Option<Handler<A>>> for Worker<S, R, A> {
     fn run(self, handler: Option<Handler<A>>) {
-        let mut list = QueueWorklist {
-            rt: &self.rt,
-            shared: &self.shared,
-            handler: &handler,
-        };
-        work(&self.rt, &mut list);
-        list.shared.end.mark(&self.rt);
+        let _passed = pass_on(&self.rt, &self.shared, &handler);
+        self.shared.end.mark(&self.rt);
     }
 }
