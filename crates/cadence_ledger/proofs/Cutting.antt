@@ -20,7 +20,7 @@ joined_append a b = ap concat (map-append (λ p. take p.1 p.0) a b) ∙ concat-a
 joined_one : (packet : List ℕ) (n : ℕ) → joined ((packet, n) ∷ []) ≡ take n packet
 joined_one packet n = append-nil (take n packet)
 
-stream_more : (format : Format) (lines : Offers) (line : List ℕ) (n : ℕ) → taken_stream format (lines ++ (line, n) ∷ []) ≡ taken_stream format lines ++ frame_of format line n
+pub stream_more : (format : Format) (lines : Offers) (line : List ℕ) (n : ℕ) → taken_stream format (lines ++ (line, n) ∷ []) ≡ taken_stream format lines ++ frame_of format line n
 stream_more format lines line n =
     flat_map-append (λ (k : List ℕ × ℕ). frame_of format k.0 k.1) lines ((line, n) ∷ []) ∙ ap (λ l. taken_stream format lines ++ l) (append-nil (frame_of format line n))
 

@@ -2,3 +2,4 @@ pub mod Cuts
 pub mod Cutting
 pub mod QueuePast
 mod Walks
+pub mod Wholes

@@ -4,6 +4,8 @@ pub mod QueueLedger
 pub mod QueuePast
 pub mod QueueTaken
 pub mod Telling
+pub mod Whole
+pub mod WholeLedgers
 pub use Rattle.cadence_errors.specs.Errors
 pub use Rattle.cadence_flow.specs.Packer
 pub use Rattle.cadence_flow.specs.Queue

@@ -7,8 +7,10 @@ mod queue_ledger;
 mod shared_queue;
 mod telling;
 mod text_log;
+mod whole_ledger;
 
 pub use item_log::ItemLog;
 pub use line_ledger::LineLedger;
 pub use shared_queue::SharedQueue;
 pub use telling::Telling;
+pub use whole_ledger::WholeLedger;

@@ -2,11 +2,10 @@
 ghost use Rattle.cadence_errors.specs.Errors.{OnlyWantsMemory};
 
 use super::channel::{Sender, SpyReceiver, new_channel};
-use crate::buffered::write_line;
 use crate::{DEFAULT_BUFFER_SIZE, MetricSink};
 use cadence_errors::{MetricResult, SinkError};
 use cadence_flow::io::{PacketWriter, Refusals};
-use cadence_ledger::LineLedger;
+use cadence_ledger::WholeLedger;
 use std::alloc::{Allocator, Global};
 use std::sync::{Mutex, Wait};
 
@@ -44,7 +43,7 @@ impl<R: Wait + Drop, A: Allocator + Clone> PacketWriter for MessageWriter<R, A> 
 /// The held text stays then. It keeps no counts, and holds the runtime `R`, whose locks it takes.
 pub struct BufferedSpyMetricSink<R: Wait + Drop, A: Allocator + Clone = Global> {
     rt: R,
-    writer: Mutex<LineLedger<MessageWriter<R, A>, A>>,
+    writer: Mutex<WholeLedger<MessageWriter<R, A>, A>>,
 }
 
 impl<R: Wait + Clone + Drop, A: Allocator + Clone> BufferedSpyMetricSink<R, A> {
@@ -71,7 +70,7 @@ impl<R: Wait + Clone + Drop, A: Allocator + Clone> BufferedSpyMetricSink<R, A> {
             sender,
             refusals: Refusals::none(),
         };
-        let lines = LineLedger::new(alloc, inner, buffer.unwrap_or(DEFAULT_BUFFER_SIZE))?;
+        let lines = WholeLedger::new(alloc, inner, buffer.unwrap_or(DEFAULT_BUFFER_SIZE))?;
         let writer = Mutex::new(lines);
         Ok((receiver, BufferedSpyMetricSink { rt, writer }))
     }
@@ -85,7 +84,7 @@ impl<R: Wait + Drop, A: Allocator + Clone> MetricSink for BufferedSpyMetricSink<
     ghost may_flush = { λ _ answer. IsQueueFlush answer };
 
     fn emit(&self, metric: &str) -> Result<usize, SinkError> {
-        write_line(&mut self.writer.lock(&self.rt), metric)
+        self.writer.lock(&self.rt).write(metric.as_bytes())
     }
 
     fn flush(&self) -> Result<(), SinkError> {
