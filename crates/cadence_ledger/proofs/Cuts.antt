@@ -50,17 +50,17 @@ module _ {W : Type 0} (kind : W → Kind) (history : W → History) (old new : P
         (write_fails old.format (offers_of old.writer) (offers_of new.writer) accepted old.held new.held line cut (offered.refused over) (w.writes.text refl))
     written (Ok n) w offered false within cut = ⊎_elim
         (λ more.
-            in_format (accepted ++ (line, n) ∷ []) w.same_format
-            (write_closes old.format (offers_of old.writer) (offers_of new.writer) accepted old.held new.held line cut n within (offered.closes more within) (w.writes.begins more within) (w.writes.text refl)))
+        in_format (accepted ++ (line, n) ∷ []) w.same_format
+        (write_closes old.format (offers_of old.writer) (offers_of new.writer) accepted old.held new.held line cut n within (offered.closes more within) (w.writes.begins more within) (w.writes.text refl)))
         (λ fits.
-            let is = w.only_held fits in
-            in_format (accepted ++ (line, n) ∷ []) w.same_format
-            (write_held old.format (offers_of old.writer) (offers_of new.writer) accepted old.held new.held line cut n within (ap (λ p. offers_of p.writer) is) (ap (λ p. p.held) is)))
+        let is = w.only_held fits in
+        in_format (accepted ++ (line, n) ∷ []) w.same_format
+        (write_held old.format (offers_of old.writer) (offers_of new.writer) accepted old.held new.held line cut n within (ap (λ p. offers_of p.writer) is) (ap (λ p. p.held) is)))
         (cases_lt old.format.capacity (length old.held + size_of old.format line))
     written (Err e) w offered false within cut = ⊎_elim
         (λ more.
-            in_format accepted w.same_format
-            (cut_flush old.format (offers_of old.writer) (offers_of new.writer) accepted old.held new.held false cut (offered.closes more within) (λ no. absurd cc) (w.writes.text refl ∙ append-nil _)))
+        in_format accepted w.same_format
+        (cut_flush old.format (offers_of old.writer) (offers_of new.writer) accepted old.held new.held false cut (offered.closes more within) (λ no. absurd cc) (w.writes.text refl ∙ append-nil _)))
         (λ fits. absurd (let no = (w.writes.fits fits).0 in cc))
         (cases_lt old.format.capacity (length old.held + size_of old.format line))
 

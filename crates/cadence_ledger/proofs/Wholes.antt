@@ -73,8 +73,8 @@ module _ {W : Type 0} (kind : W → Kind) (history : W → History) (old new : P
         ⊎_elim
         (λ more. becomes _ _ (frame_of old.format line n) w.same_format (w.writes.closes refl takes more within) (w.writes.begins more within ∙ sym frame) (whole_held old.format _ accepted [] (whole_out old.format _ accepted old.held cut) line n))
         (λ fits.
-            let is = w.only_held fits in
-            becomes _ _ (old.held ++ frame_of old.format line n) w.same_format (ap (λ p. packets_of p.writer) is) (ap (λ p. p.held) is ∙ ap (λ f. old.held ++ f) (sym frame)) (whole_held old.format _ accepted old.held cut line n))
+        let is = w.only_held fits in
+        becomes _ _ (old.held ++ frame_of old.format line n) w.same_format (ap (λ p. packets_of p.writer) is) (ap (λ p. p.held) is ∙ ap (λ f. old.held ++ f) (sym frame)) (whole_held old.format _ accepted old.held cut line n))
         (cases_lt old.format.capacity (length old.held + size_of old.format line))
 
     refuses : (e : SinkError) → WritesLine (telling_kind kind) (telling_history history) old new line (Err e) → (rest : List ℕ) → new.held ≡ rest → PackerWhole old accepted → PackerWhole new accepted
