@@ -252,15 +252,30 @@ fn capacity_0_refuses(rt: HostRuntime) -> Result<(), Fail> {
 }
 
 #[test]
-fn accepted_text_takes_memory_once(rt: HostRuntime) -> Result<(), Fail> {
-    let heap = Refusing::after(rt.alloc(), rt.alloc(), 1000)?;
-    let sink = QueuingMetricSink::with_capacity(rt.clone()?, heap.clone()?, NopMetricSink, 1)?;
-    let left = heap.left();
-    assert!(rt; matches!(sink.emit("a:1|c"), Ok(5)));
-    assert_eq!(rt; heap.left().wrapping_add(1), left);
-    sink.stop_and_wait();
-    assert!(rt; matches!(sink.emit("b:1|c"), Err(SinkError::ChannelDisconnected)));
-    assert_eq!(rt; heap.left().wrapping_add(1), left);
+fn a_full_queue_takes_no_memory(rt: HostRuntime) -> Result<(), Fail> {
+    for capacity in [2usize, 1000] {
+        let gate = closed(rt.alloc())?;
+        let (coming, comes) = SpyMetricSink::new(rt.clone()?, rt.alloc())?;
+        let gated = Gated {
+            gate: gate.clone()?,
+            comes,
+            passes: SpyMetricSink::new(rt.clone()?, rt.alloc())?.1,
+        };
+        let heap = Refusing::after(rt.alloc(), rt.alloc(), 9_999)?;
+        let sink = QueuingMetricSink::with_capacity(rt.clone()?, heap.clone()?, gated, capacity)?;
+        let left = heap.left();
+        assert!(rt; sink.emit("a:1|c").is_ok() && coming.recv().is_some());
+        for _ in 0..capacity {
+            assert!(rt; matches!(sink.emit("a:1|c"), Ok(5)));
+        }
+        assert!(rt; matches!(sink.emit("a:1|c"), Err(SinkError::ChannelFull)));
+        assert_eq!(rt; sink.queued(), capacity as u64);
+        gate.open.store(true, Ordering::SeqCst);
+        sink.stop_and_wait();
+        assert!(rt; matches!(sink.emit("a:1|c"), Err(SinkError::ChannelDisconnected)));
+        assert_eq!(rt; left.wrapping_sub(heap.left()), sink.submitted());
+        assert_eq!(rt; sink.drained(), (capacity as u64).wrapping_add(1));
+    }
     Ok(())
 }
 

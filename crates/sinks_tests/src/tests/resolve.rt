@@ -88,16 +88,19 @@ fn each_request_of_a_first_lookup_is_refused_in_turn(rt: HostRuntime) -> Result<
     Ok(())
 }
 
-// Answers each lookup by a fault, and counts them.
+// Answers its second lookup by an address, and each other one by a fault, and counts them.
 #[derive(Drop)]
-struct Failing {
+struct Wavering {
+    alloc: Global,
     asked: Arc<AtomicU64>,
 }
 
-impl NameLookup<Global> for Failing {
+impl NameLookup<Global> for Wavering {
     fn look_up(&self) -> Lookup {
-        self.asked.fetch_add(1, Ordering::SeqCst);
-        Err(SinkError::PacketRefused)
+        match self.asked.fetch_add(1, Ordering::SeqCst) {
+            1 => found(self.alloc, &[loopback(1)]),
+            _ => Err(SinkError::PacketRefused),
+        }
     }
 }
 
@@ -136,7 +139,8 @@ fn run_until<R: Wait + Drop>(
         resolver: resolver.clone()?,
         left: AtomicU64::new(sleeps),
     };
-    let lookup = Failing {
+    let lookup = Wavering {
+        alloc,
         asked: asked.clone()?,
     };
     resolver.run(&lookup, &sleeper, &Some(Handler::new(handler)));
@@ -146,16 +150,19 @@ fn run_until<R: Wait + Drop>(
 
 #[test]
 fn a_stop_in_the_nth_sleep_allows_n_lookups(rt: HostRuntime) -> Result<(), Fail> {
-    for lookups in [0, 1, 3] {
+    for (lookups, port, successes, failures) in [(0, 8125, 0, 0), (1, 8125, 0, 1), (3, 1, 1, 2)] {
         let told = Arc::new(rt.alloc(), AtomicU64::new(0))?;
         let theirs = told.clone()?;
         let handler: SinkErrorHandler = Box::new(rt.alloc(), move |_| {
             theirs.fetch_add(1, Ordering::SeqCst);
         })?;
         let (resolver, asked) = run_until(rt.clone()?, rt.alloc(), lookups, handler)?;
-        assert_eq!(rt; (asked, told.load(Ordering::SeqCst)), (lookups, lookups));
-        assert_eq!(rt; resolver.get_addr(), loopback(8125));
-        assert_eq!(rt; (resolver.successes(), resolver.failures()), (0, lookups));
+        assert_eq!(rt; (asked, told.load(Ordering::SeqCst)), (lookups, failures));
+        assert_eq!(rt; resolver.get_addr(), loopback(port));
+        assert_eq!(rt;
+            (resolver.successes(), resolver.failures()),
+            (successes, failures)
+        );
     }
     Ok(())
 }
@@ -174,7 +181,8 @@ fn a_dropped_resolver_ends_its_run(rt: HostRuntime) -> Result<(), Fail> {
         left: AtomicU64::new(1),
     };
     let asked = Arc::new(alloc, AtomicU64::new(0))?;
-    let lookup = Failing {
+    let lookup = Wavering {
+        alloc,
         asked: asked.clone()?,
     };
     resolver.run(&lookup, &sleeper, &None);
