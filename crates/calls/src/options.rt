@@ -5,6 +5,12 @@ use cadence::types::MetricResult;
 use cadence::{MetricSink, StatsdClient};
 use std::alloc::Global;
 
+/// A text of 300 bytes.
+const LONG: &str =
+    "0123456789012345678901234567890123456789012345678901234567890123456789012345678901234567890123456789\
+    0123456789012345678901234567890123456789012345678901234567890123456789012345678901234567890123456789\
+    0123456789012345678901234567890123456789012345678901234567890123456789012345678901234567890123456789";
+
 /// A sink of any type.
 pub type Sink = Box<dyn MetricSink + Send + Sync>;
 
@@ -33,6 +39,7 @@ pub fn choose_all<C: MetricClient<Memory = Global>>(alloc: Global, client: &C) -
         .with_tag("x:y", "1,2|3")
         .with_container_id("c|T1")
         .send();
+    client.incr_with_tags("k").with_tag_value(LONG).send();
     client.time("key", vec![in alloc; 0u64; 0]?)?;
     client
         .distribution_with_tags("k", vec![in alloc; 29u64, 30]?)
