@@ -23,7 +23,6 @@ fn main(rt: HostRuntime) -> MetricResult<()> {
     let udp = BufferedUdpMetricSink::with_capacity(rt.clone()?, alloc, target, socket, CAPACITY)?;
     let queue = QueuingMetricSink::from(rt.clone()?, alloc, udp)?;
 
-    let sink: Box<dyn MetricSink + Send + Sync> = Box::new(alloc, queue.clone()?)?;
     let failures = Arc::new(alloc, AtomicU64::new(0))?;
     let seen = failures.clone()?;
     let handler: Box<dyn Fn(MetricError) + Send + Sync> = Box::new(
@@ -32,7 +31,7 @@ fn main(rt: HostRuntime) -> MetricResult<()> {
             seen.fetch_add(1, Ordering::SeqCst);
         },
     )?;
-    let client = StatsdClient::builder(alloc, "my.service", sink)
+    let client = StatsdClient::builder(alloc, "my.service", queue.clone()?)
         .with_tag("env", "prod")
         .with_error_handler(handler)
         .build()?;

@@ -1,13 +1,13 @@
 //! What the service tells.
 
+use cadence::MetricResult;
 use cadence::decimal::Decimal;
 use cadence::prelude::*;
-use cadence::{MetricResult, StatsdClient};
 use std::alloc::Global;
 use std::time::Duration;
 
 /// Sends one metric of each kind that the service has.
-pub fn send_all(alloc: Global, client: &StatsdClient) -> MetricResult<()> {
+pub fn send_all<C: MetricClient<Memory = Global>>(alloc: Global, client: &C) -> MetricResult<()> {
     client.count("visits", 1i64)?;
     client.incr("logins")?;
     client.time("startup", Duration::from_millis(1250))?;
@@ -26,6 +26,6 @@ pub fn send_all(alloc: Global, client: &StatsdClient) -> MetricResult<()> {
 }
 
 /// Sends a gauge, and leaves an error to the client's handler.
-pub fn send_late(client: &StatsdClient) {
+pub fn send_late<C: MetricClient>(client: &C) {
     client.gauge_with_tags("late", 1u64).send();
 }
