@@ -1,13 +1,16 @@
 //! What the service tells.
 
-use cadence::MetricResult;
 use cadence::decimal::Decimal;
 use cadence::prelude::*;
+use cadence::{MetricResult, MetricSink, StatsdClient};
 use std::alloc::Global;
 use std::time::Duration;
 
 /// Sends one metric of each kind that the service has.
-pub fn send_all<C: MetricClient<Memory = Global>>(alloc: Global, client: &C) -> MetricResult<()> {
+pub fn send_all<S: MetricSink>(
+    alloc: Global,
+    client: &StatsdClient<Global, S>,
+) -> MetricResult<()> {
     client.count("visits", 1i64)?;
     client.incr("logins")?;
     client.time("startup", Duration::from_millis(1250))?;
@@ -26,6 +29,6 @@ pub fn send_all<C: MetricClient<Memory = Global>>(alloc: Global, client: &C) -> 
 }
 
 /// Sends a gauge, and leaves an error to the client's handler.
-pub fn send_late<C: MetricClient>(client: &C) {
+pub fn send_late<S: MetricSink>(client: &StatsdClient<Global, S>) {
     client.gauge_with_tags("late", 1u64).send();
 }

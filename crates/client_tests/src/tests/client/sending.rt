@@ -69,12 +69,11 @@ fn zero(alloc: Global) -> Result<Arc<AtomicU64>, AllocError> {
 }
 
 // A client over a counting sink, and the count.
-fn counted(alloc: Global) -> Result<(Arc<AtomicU64>, StatsdClient), Fail> {
+fn counted(alloc: Global) -> Result<(Arc<AtomicU64>, StatsdClient<Global, CountingSink>), Fail> {
     let calls = zero(alloc)?;
-    let counting = CountingSink {
+    let sink = CountingSink {
         calls: calls.clone()?,
     };
-    let sink: Box<dyn MetricSink + Send + Sync> = Box::new(alloc, counting)?;
     let client = StatsdClient::from_sink(alloc, "p", sink)?;
     Ok((calls, client))
 }
@@ -132,12 +131,20 @@ fn weight_of(error: &MetricError) -> u64 {
 }
 
 // A client whose sink refuses each line, the count of its calls, and the weights of the errors that its handler got.
-fn refused(alloc: Global) -> Result<(Arc<AtomicU64>, Arc<AtomicU64>, StatsdClient), Fail> {
+fn refused(
+    alloc: Global,
+) -> Result<
+    (
+        Arc<AtomicU64>,
+        Arc<AtomicU64>,
+        StatsdClient<Global, RefusingSink>,
+    ),
+    Fail,
+> {
     let (calls, handled) = (zero(alloc)?, zero(alloc)?);
-    let refusing = RefusingSink {
+    let sink = RefusingSink {
         calls: calls.clone()?,
     };
-    let sink: Box<dyn MetricSink + Send + Sync> = Box::new(alloc, refusing)?;
     let seen = handled.clone()?;
     let handler: Box<dyn Fn(MetricError) + Send + Sync> = Box::new(
         alloc,
