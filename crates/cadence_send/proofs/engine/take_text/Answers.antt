@@ -6,7 +6,7 @@ use Rattle.cadence_send.proofs.engine.take_text.Goals as goal
 pub returns-in_ok-write-in-Ok : goal.returns-in_ok-write-in-Ok
 returns-in_ok-write-in-Ok g c =
     let same : c.as_bytes.result.now ≡ string_bytes c.in-Ok.line = search rules in
-    text_written g.T.PacketWriter.kind g.T.PacketWriter.history c.args.defaults.now _ _ _ c.as_bytes.result.now _ _ (subst (IsLineOfText c.args.defaults.now c.args.text.now) (sym same) c.in-Ok.ensures) c.in_ok-write-in-Ok.was c.write.ensures
+    text_written g.T.PacketWriter.kind g.T.PacketWriter.history c.args.defaults.now _ _ _ c.as_bytes.result.now _ _ (subst (IsLineOfText c.args.defaults.now c.args.text.now) (sym same) c.in-Ok.ensures) c.in_ok-write-in-Ok.was c.write.ensures.writes
 
 pub returns-then-is_empty : goal.returns-then-is_empty
 returns-then-is_empty g c = text_without g.T.PacketWriter.kind g.T.PacketWriter.history c.args.defaults.now _ _ (search rules)

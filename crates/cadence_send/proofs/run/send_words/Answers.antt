@@ -8,7 +8,7 @@ returns-in_ok-flush_all-in-Ok g c =
     let same : c.as_bytes.result.now ≡ string_bytes c.in-Ok.line = search rules in (
       c.as_bytes.result.now,
       subst (IsLineOfWords c.args.defaults.now (map (λ w. w.now) c.args.words.now)) (sym same) c.in-Ok.ensures,
-      word_sent g.T.PacketWriter.kind g.T.PacketWriter.history c.args.lines.now c.write.new.self c.flush_all.new.lines c.as_bytes.result.now _ c.write.result c.in_ok-write-in-Ok.was c.write.ensures c.in_ok-flush_all-in-Ok.ensures.same,
+      word_sent g.T.PacketWriter.kind g.T.PacketWriter.history c.args.lines.now c.write.new.self c.flush_all.new.lines c.as_bytes.result.now _ c.write.result c.in_ok-write-in-Ok.was c.write.ensures.writes c.in_ok-flush_all-in-Ok.ensures.same,
       c.in_ok-flush_all-in-Ok.ensures.empty,
     )
 
