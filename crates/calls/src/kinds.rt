@@ -1,11 +1,12 @@
 //! Every call of each kind, for every type of its values: plain, and with tags.
+use cadence::StatsdClient;
 use cadence::decimal::Decimal;
 use cadence::prelude::*;
 use cadence::types::MetricResult;
 use std::alloc::Global;
 use std::time::Duration;
 
-pub fn count_all<C: MetricClient>(client: &C) -> MetricResult<()> {
+pub fn count_all(client: &StatsdClient) -> MetricResult<()> {
     client.count("a", i64::MIN)?;
     client.count("b", i32::MIN)?;
     client.count("c", u64::MAX)?;
@@ -27,7 +28,7 @@ pub fn count_all<C: MetricClient>(client: &C) -> MetricResult<()> {
     Ok(())
 }
 
-pub fn time_all<C: MetricClient<Memory = Global>>(alloc: Global, client: &C) -> MetricResult<()> {
+pub fn time_all(alloc: Global, client: &StatsdClient) -> MetricResult<()> {
     let long = Duration::from_micros(1_999);
     client.time("a", 34u64)?;
     client.time("b", long)?;
@@ -49,7 +50,7 @@ pub fn time_all<C: MetricClient<Memory = Global>>(alloc: Global, client: &C) -> 
     Ok(())
 }
 
-pub fn gauge_all<C: MetricClient>(client: &C) -> MetricResult<()> {
+pub fn gauge_all(client: &StatsdClient) -> MetricResult<()> {
     let half = Decimal::new(-5, 1)?;
     client.gauge("a", 7u64)?;
     client.gauge("b", half)?;
@@ -68,10 +69,7 @@ pub fn gauge_all<C: MetricClient>(client: &C) -> MetricResult<()> {
     Ok(())
 }
 
-pub fn histogram_all<C: MetricClient<Memory = Global>>(
-    alloc: Global,
-    client: &C,
-) -> MetricResult<()> {
+pub fn histogram_all(alloc: Global, client: &StatsdClient) -> MetricResult<()> {
     let (half, long) = (Decimal::new(5, 1)?, Duration::from_nanos(10));
     client.histogram("a", 9u64)?;
     client.histogram("b", half)?;
@@ -106,10 +104,7 @@ pub fn histogram_all<C: MetricClient<Memory = Global>>(
     Ok(())
 }
 
-pub fn distribution_all<C: MetricClient<Memory = Global>>(
-    alloc: Global,
-    client: &C,
-) -> MetricResult<()> {
+pub fn distribution_all(alloc: Global, client: &StatsdClient) -> MetricResult<()> {
     let half = Decimal::new(5, 1)?;
     client.distribution("a", 11u64)?;
     client.distribution("b", half)?;

@@ -15,7 +15,7 @@ const LONG: &str =
 pub type Sink = Box<dyn MetricSink + Send + Sync>;
 
 /// The options stand in the order of the line, the last of each counts, and texts are kept as they stand.
-pub fn choose_all<C: MetricClient<Memory = Global>>(alloc: Global, client: &C) -> MetricResult<()> {
+pub fn choose_all(alloc: Global, client: &StatsdClient) -> MetricResult<()> {
     let (half, whole) = (Decimal::new(5, 1)?, Decimal::new(1, 0)?);
     client
         .count_with_tags("k", 1)
