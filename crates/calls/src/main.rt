@@ -5,8 +5,8 @@ mod kinds;
 mod options;
 
 use cadence::sinks::{SpyMetricSink, SpyReceiver};
-use cadence::{DEFAULT_PORT, MetricResult, StatsdClient};
-use options::{Setting, Sink};
+use cadence::{DEFAULT_PORT, MetricResult, MetricSink, StatsdClient};
+use options::Setting;
 use std::alloc::{AllocError, Global};
 use std::sync::Wait;
 
@@ -43,7 +43,7 @@ fn told<R: Wait + Drop>(
 fn main(rt: HostRuntime) -> MetricResult<()> {
     let alloc = rt.alloc();
     let (lines, spy) = SpyMetricSink::new(rt.clone()?, alloc)?;
-    let sink: Sink = Box::new(alloc, spy)?;
+    let sink: Box<dyn MetricSink + Send + Sync> = Box::new(alloc, spy)?;
     let client = StatsdClient::from_sink(alloc, "p", sink)?;
     kinds::count_all(&client)?;
     print!(rt; "{}", told(alloc, "counters", &lines)?)?;
@@ -59,8 +59,7 @@ fn main(rt: HostRuntime) -> MetricResult<()> {
     print!(rt; "{}", told(alloc, "options", &lines)?)?;
     for setting in SETTINGS {
         let (lines, spy) = SpyMetricSink::new(rt.clone()?, alloc)?;
-        let sink: Sink = Box::new(alloc, spy)?;
-        setting.send(alloc, sink)?;
+        setting.send(alloc, spy)?;
         print!(rt; "{}", told(alloc, setting.heading(), &lines)?)?;
     }
     println!(rt; "port {DEFAULT_PORT}")?;

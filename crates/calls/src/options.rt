@@ -11,9 +11,6 @@ const LONG: &str =
     0123456789012345678901234567890123456789012345678901234567890123456789012345678901234567890123456789\
     0123456789012345678901234567890123456789012345678901234567890123456789012345678901234567890123456789";
 
-/// A sink of any type.
-pub type Sink = Box<dyn MetricSink + Send + Sync>;
-
 /// The options stand in the order of the line, the last of each counts, and texts are kept as they stand.
 pub fn choose_all(alloc: Global, client: &StatsdClient) -> MetricResult<()> {
     let (half, whole) = (Decimal::new(5, 1)?, Decimal::new(1, 0)?);
@@ -70,7 +67,7 @@ impl Setting {
     }
 
     /// Sends over a client that is made so.
-    pub fn send(self, alloc: Global, sink: Sink) -> MetricResult<()> {
+    pub fn send<S: MetricSink>(self, alloc: Global, sink: S) -> MetricResult<()> {
         match self {
             Setting::Prefix(prefix) => send_under(alloc, sink, prefix),
             Setting::Tags => send_with_tags(alloc, sink),
@@ -79,13 +76,13 @@ impl Setting {
     }
 }
 
-fn send_under(alloc: Global, sink: Sink, prefix: &str) -> MetricResult<()> {
+fn send_under<S: MetricSink>(alloc: Global, sink: S, prefix: &str) -> MetricResult<()> {
     let client = StatsdClient::from_sink(alloc, prefix, sink)?;
     client.incr("k")?;
     Ok(())
 }
 
-fn send_with_tags(alloc: Global, sink: Sink) -> MetricResult<()> {
+fn send_with_tags<S: MetricSink>(alloc: Global, sink: S) -> MetricResult<()> {
     let client = StatsdClient::builder(alloc, "prefix", sink)
         .with_tag("hello", "world")
         .with_tag_value("production")
@@ -99,7 +96,7 @@ fn send_with_tags(alloc: Global, sink: Sink) -> MetricResult<()> {
     Ok(())
 }
 
-fn send_with_container(alloc: Global, sink: Sink) -> MetricResult<()> {
+fn send_with_container<S: MetricSink>(alloc: Global, sink: S) -> MetricResult<()> {
     let client = StatsdClient::builder(alloc, "p", sink)
         .with_container_id("w")
         .with_container_id("x")
