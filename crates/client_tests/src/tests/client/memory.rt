@@ -12,23 +12,13 @@ use std::sync::atomic::{AtomicU64, Ordering};
 use std::test::Fail;
 use std::time::Duration;
 
-// A client with default tags and a container. Takes six requests for memory.
-fn client_of<A: Allocator + Clone>(
-    alloc: A,
-    sink: Box<dyn MetricSink + Send + Sync, A>,
-) -> MetricResult<StatsdClient<A>> {
-    StatsdClient::builder(alloc, "p", sink)
+// A client with default tags and a container, whose sink takes and drops every line. Takes six requests for memory.
+fn made(heap: &Refusing<Global>) -> MetricResult<StatsdClient<Refusing<Global>, NopMetricSink>> {
+    StatsdClient::builder(heap.clone()?, "p", NopMetricSink)
         .with_tag("a", "b")
         .with_tag_value("c")
         .with_container_id("id")
         .build()
-}
-
-// Such a client, whose sink takes and drops every line. Takes seven requests.
-fn made(heap: &Refusing<Global>) -> MetricResult<StatsdClient<Refusing<Global>>> {
-    let boxed = Box::new(heap.clone()?, NopMetricSink)?;
-    let sink: Box<dyn MetricSink + Send + Sync, Refusing<Global>> = boxed;
-    client_of(heap.clone()?, sink)
 }
 
 // Whether it was made, where want of memory is the one error.
@@ -43,7 +33,7 @@ fn is_made<T: Drop>(answer: MetricResult<T>) -> Result<bool, Fail> {
 #[test]
 fn a_client_is_made_or_refused(rt: HostRuntime) -> Result<(), Fail> {
     let granted: Result<Option<u64>, Fail> = each_refused(rt.alloc(), |heap| is_made(made(&heap)));
-    assert_eq!(rt; granted?, Some(7));
+    assert_eq!(rt; granted?, Some(6));
     Ok(())
 }
 
@@ -59,11 +49,11 @@ fn a_call_takes_its_tag_list_and_its_line(rt: HostRuntime) -> Result<(), Fail> {
         }
         is_made(answer)
     });
-    assert_eq!(rt; granted?, Some(9));
+    assert_eq!(rt; granted?, Some(8));
     Ok(())
 }
 
-// Such a client without a box, whose handler adds 1 for want of memory and 100 for another error. Takes seven requests.
+// Such a client, whose handler adds 1 for want of memory and 100 for another error. Takes seven requests.
 fn telling(
     heap: &Refusing<Global>,
     told: Arc<AtomicU64>,
