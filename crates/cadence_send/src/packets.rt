@@ -2,10 +2,10 @@
 ghost use Rattle.std.specs.Prelude.{◌≡◌, ◌≤◌, [], true, length, MatchResult};
 ghost use Rattle.cadence_send.specs.Writers.{is_of_packets, packets_kind};
 
-use cadence_console::push_text;
+use cadence_console::push_bytes;
 use cadence_errors::SinkError;
 use cadence_flow::io::{PacketWriter, Refusals};
-use std::alloc::{Allocator, Global};
+use std::alloc::{AllocError, Allocator, Global};
 use std::io::Write;
 use std::net::{SocketAddr, UdpSocket};
 
@@ -51,33 +51,66 @@ impl PacketWriter for Datagrams {
 #[derive(Drop)]
 pub struct Printed<O, A: Allocator = Global> {
     output: O,
-    text: String<A>,
+    text: Vec<u8, A>,
+    piece: String<A>,
     refusals: Refusals,
 }
 
-impl<O: Write + Drop, A: Allocator> Printed<O, A> {
+impl<O: Write + Drop, A: Allocator + Clone> Printed<O, A> {
     /// Prints to the output.
-    pub fn new(alloc: A, output: O) -> Printed<O, A> {
-        Printed {
+    pub fn new(alloc: A, output: O) -> Result<Printed<O, A>, AllocError> {
+        Ok(Printed {
             output,
-            text: String::new(alloc),
+            text: Vec::new(alloc.clone()?),
+            piece: String::new(alloc),
             refusals: Refusals::none(),
-        }
+        })
     }
+}
+
+// Whether the byte is shown as it stands.
+fn is_plain(byte: u8) -> bool {
+    byte >= b' ' && byte <= b'~' && byte != b'\\'
+}
+
+// Adds the bytes as they are shown, those between two escapes at once. A piece is made anew for each escape.
+fn push_shown<A: Allocator>(
+    text: &mut Vec<u8, A>,
+    piece: &mut String<A>,
+    bytes: &[u8],
+) -> Result<(), AllocError> {
+    let mut left = bytes;
+    while let Some(at) = left.iter().position(|byte| !is_plain(*byte)) {
+        text.extend_from_slice(&left[..at])?;
+        piece.clear();
+        push_bytes(piece, &left[at..at + 1])?;
+        text.extend_from_slice(piece.as_bytes())?;
+        left = &left[at + 1..];
+    }
+    text.extend_from_slice(left)
 }
 
 // Prints a packet, by a text that is made anew. It answers the length of the packet.
 fn print_packet<O: Write, A: Allocator>(
     output: &mut O,
-    text: &mut String<A>,
+    text: &mut Vec<u8, A>,
+    piece: &mut String<A>,
     packet: &[u8],
 ) -> Result<usize, SinkError>
     ensures { MatchResult result (λ n. n ≤ length packet.now) (λ e. is_of_packets e ≡ true) }
 {
+    let length = packet.len();
+    piece.clear();
+    write!(piece, "packet {length}")?;
     text.clear();
-    push_text(text, "packet", packet)?;
-    match output.write_all(text.as_bytes()) {
-        Ok(()) => Ok(packet.len()),
+    text.extend_from_slice(piece.as_bytes())?;
+    if length > 0 {
+        text.extend_from_slice(b" ")?;
+    }
+    push_shown(text, piece, packet)?;
+    text.extend_from_slice(b"\n")?;
+    match output.write_all(text) {
+        Ok(()) => Ok(length),
         Err(fault) => Err(SinkError::Io(fault)),
     }
 }
@@ -92,7 +125,7 @@ impl<O: Write + Drop, A: Allocator> PacketWriter for Printed<O, A> {
     ghost kind = { λ _. packets_kind };
 
     fn write_packet(&mut self, packet: &[u8]) -> Result<usize, SinkError> {
-        let answer = print_packet(&mut self.output, &mut self.text, packet);
+        let answer = print_packet(&mut self.output, &mut self.text, &mut self.piece, packet);
         self.refusals.note(&answer, packet.len());
         answer
     }

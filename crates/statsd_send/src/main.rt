@@ -107,13 +107,10 @@ fn send(rt: &HostRuntime, options: &Options<'_, Global>, words: &[&str]) -> Exit
         return told(rt, "out of memory", 3);
     };
     if options.is_printing {
-        return drive(
-            rt,
-            options,
-            words,
-            &defaults,
-            Printed::new(rt.alloc(), rt.stdout()),
-        );
+        return match Printed::new(rt.alloc(), rt.stdout()) {
+            Ok(writer) => drive(rt, options, words, &defaults, writer),
+            Err(_) => told(rt, "out of memory", 3),
+        };
     }
     let target = match target(rt, options) {
         Ok(Some(target)) => target,
