@@ -1,2 +1,3 @@
+pub mod Durations
 pub mod Feeding
 pub mod WordByWord

@@ -10,6 +10,7 @@ use Rattle.cadence_text.specs.Metric.{Metric, Tag}
 use Rattle.cadence_text.specs.OneReading.{IsFreeTag, IsFreeText}
 use Rattle.cadence_send.specs.Finds.{FailsAs}
 use Rattle.cadence_send.specs.declared.fault.Fault.{Fault}
+use Rattle.cadence_send.specs.Duration.{IsDurationWord}
 use Rattle.cadence_value.specs.Number.{IsDecimal, Number, number_text}
 
 -- a kind's name, as the client's calls have it
@@ -54,10 +55,14 @@ Takes Set n = IsSigned n
 Takes Distribution n = ⊤
 
 -- the number that is written so
-pub record IsNumberWord (kind : MetricType) (word : List ℕ) (n : Number) : Type 0 where
+pub record IsPlainWord (kind : MetricType) (word : List ℕ) (n : Number) : Type 0 where
   pub decimal : IsDecimal n
   pub text : number_text n ≡ word
   pub takes : Takes kind n
+
+-- a plain number, or a duration that the kind counts
+abbrev pub IsNumberWord : MetricType → List ℕ → Number → Type 0
+IsNumberWord kind word n = IsPlainWord kind word n ⊎ IsDurationWord kind word n
 
 -- a kind of which several values go into one line
 abbrev pub Packs : MetricType → Type 0

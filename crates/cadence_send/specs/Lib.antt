@@ -1,4 +1,5 @@
 pub mod Asked
+pub mod Duration
 pub mod Fed
 pub mod Finds
 pub mod Sent

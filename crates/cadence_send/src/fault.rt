@@ -21,7 +21,7 @@ pub enum Part {
     #[error("NAME has no colon, comma, bar or newline, as in `c site.visits 1`")]
     Name,
     /// A value that the kind doesn't have.
-    #[error("VALUE is a number of its kind, as in `c visits 1`, `g load 0.75` or `ms wait 12,250`")]
+    #[error("VALUE is a number of its kind, as in `c visits 1`, `g load 0.75` or `ms wait 12,1.25s`")]
     Value,
     /// A tag.
     #[error("TAG is K:V or V, and has no comma, bar or second colon, as in `c visits 1 page:home`")]

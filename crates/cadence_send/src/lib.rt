@@ -2,6 +2,7 @@
 #![tactic(auto)]
 
 mod defaults;
+mod duration;
 mod engine;
 mod fault;
 mod line;

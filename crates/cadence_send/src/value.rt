@@ -1,10 +1,11 @@
 //! The value of a metric, read from its word.
 ghost use Rattle.std.specs.Prelude.{◌↔◌, ◌≢◌, All, IsTrue, map};
 ghost use Rattle.std.specs.List.{AllZip};
-ghost use Rattle.cadence_send.specs.Asked.{IsNumberWord, IsValueWord, Packs, Takes};
+ghost use Rattle.cadence_send.specs.Asked.{IsNumberWord, IsPlainWord, IsValueWord, Packs, Takes};
 ghost use Rattle.cadence_send.specs.Finds.{Finds, FindsOrFails};
 ghost use Rattle.cadence_value.specs.Values.{numbers_of};
 
+use crate::duration::read_duration;
 use crate::fault::{Fault, Part};
 use crate::words::cut_items;
 use cadence_read::read_number;
@@ -38,15 +39,26 @@ fn packs(kind: MetricType) -> bool
     }
 }
 
-// The number of a kind that a word is.
-fn read_item(kind: MetricType, word: &str) -> Option<Decimal>
-    ensures { Finds (IsNumberWord kind word.now) result }
+// The number of a kind that a word says.
+fn read_plain(kind: MetricType, word: &[u8]) -> Option<Decimal>
+    ensures { Finds (IsPlainWord kind word.now) result }
 {
-    let number = read_number(word.as_bytes())?;
+    let number = read_number(word)?;
     if !takes(kind, number) {
         return None;
     }
     Some(number)
+}
+
+// The number of a kind that a word is.
+fn read_item(kind: MetricType, word: &str) -> Option<Decimal>
+    ensures { Finds (IsNumberWord kind word.now) result }
+{
+    let bytes = word.as_bytes();
+    match read_plain(kind, bytes) {
+        Some(number) => Some(number),
+        None => read_duration(kind, bytes),
+    }
 }
 
 // The numbers that the words are.

@@ -16,7 +16,8 @@ const HELP: &str = "statsd_send [OPTIONS] KIND NAME VALUE [TAG ..]   sends one m
 statsd_send [OPTIONS]   reads one metric a line, and packs them
 
 KIND         c, ms, g, m, h, s, d, or count, time, gauge, meter, histogram, set, distribution
-VALUE        a number, as 1 or 0.75; of ms, h and d several, as 12,250
+VALUE        a number, as 1 or 0.75, or of ms and h a duration, as 1250ms or 1.25s;
+             of ms, h and d several, as 12,250
 TAG          K:V or V
 --to HOST:PORT      where to (127.0.0.1:8125; STATSD_HOST, STATSD_PORT)
 --prefix NAME  --tag TAG  --container ID  --time SECONDS  --rate NUMBER

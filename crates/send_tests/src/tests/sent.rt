@@ -8,7 +8,7 @@ use std::test::Fail;
 use std::time::Duration;
 
 /// What is read, the lines that are packed, the status, and how what is told begins.
-const ROWS: [(&[u8], &[u8], u8, &[u8]); 7] = [
+const ROWS: [(&[u8], &[u8], u8, &[u8]); 8] = [
     (b"", b"", 0, b""),
     (b"c visits 1", b"p.visits:1|c|#k:v\n", 0, b""),
     (
@@ -20,6 +20,12 @@ const ROWS: [(&[u8], &[u8], u8, &[u8]); 7] = [
     (
         b"gauge load 0.75\nset users -5\n",
         b"p.load:0.75|g|#k:v\np.users:-5|s|#k:v\n",
+        0,
+        b"",
+    ),
+    (
+        b"ms a 1250ms,1.25s,1.999999ms,7\ntime b 999us\nh c 1.25s,2us,3ns,0.5\n",
+        b"p.a:1250:1250:1:7|ms|#k:v\np.b:0|ms|#k:v\np.c:1250000000:2000:3:0.5|h|#k:v\n",
         0,
         b"",
     ),
@@ -45,7 +51,8 @@ const ROWS: [(&[u8], &[u8], u8, &[u8]); 7] = [
 
 /// Lines that ask for nothing.
 const UNREAD: &str =
-    "c a 1,2\nc a:b 1\nc a 1 b:c:d\nc a 1  b\nc  1\ns a 9223372036854775808\nm a -1\nms a 1.5\nc a 01";
+    "c a 1,2\nc a:b 1\nc a 1 b:c:d\nc a 1  b\nc  1\ns a 9223372036854775808\nm a -1\nms a 1.5\nc a 01\n\
+    c a 1s\ng a 1ms\nd a 1ns\nms a 0.5ns\nms a -1s\nms a 1m\nms a s\nh a 18446744074s";
 
 const OPTIONS: [&str; 4] = ["--prefix", "p", "--tag", "k:v"];
 

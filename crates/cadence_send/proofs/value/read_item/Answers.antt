@@ -1,11 +1,10 @@
-use Rattle.std.proofs.Common.{rules, ◌≡◌, ◌∙◌, sym, subst}
-use Rattle.cadence_send.specs.Asked.{Takes}
-use Rattle.cadence_value.proofs.NumberText.{number_once}
-use Rattle.cadence_value.specs.Number.{number_text}
+use Rattle.std.proofs.Common.{rules, ◌≡◌, subst}
+use Rattle.cadence_send.specs.Asked.{IsNumberWord}
+use Rattle.cadence_send.specs.Finds.{Finds}
+use Rattle.cadence_send.proofs.Durations.{neither}
 use Rattle.cadence_send.proofs.value.read_item.Goals as goal
 
-pub returns-then-not-takes : goal.returns-then-not-takes
-returns-then-not-takes c n h =
-    let text : number_text c.in_ok-number.number ≡ c.args.word.now = search rules in
-    let takes : Takes c.args.kind c.in_ok-number.number = subst (Takes c.args.kind) (number_once n c.in_ok-number.number (h.text ∙ sym text)) h.takes in
-    absurd (search (rules, takes))
+pub returns-in-None : goal.returns-in-None
+returns-in-None c =
+    let same : c.as_bytes-bytes.result.now ≡ c.args.word.now = search rules in
+    subst (λ w. Finds (IsNumberWord c.args.kind w) c.read_duration.result) same (neither c.args.kind c.as_bytes-bytes.result.now c.read_duration.result c.in-None.ensures c.read_duration.ensures)

@@ -1,0 +1,114 @@
+//! Durations, read from a number and a unit.
+ghost use Rattle.std.specs.Prelude.{◌≡◌, ◌≤◌, ◌<◌, ◌^◌, ◌++◌, All, IfNone, IfSome, SomeIff, slice_index};
+ghost use Rattle.cadence_send.specs.Duration.{Counts, IsDurationWord, IsNanos, IsTimeWord, unit_tens, unit_text};
+ghost use Rattle.cadence_send.specs.Finds.{Finds};
+ghost use Rattle.cadence_value.specs.Number.{natural};
+
+use cadence_read::read_number;
+use cadence_text::line::MetricType;
+use cadence_value::decimal::{Decimal, power_of_ten};
+
+// A unit of time.
+#[derive(Clone, Copy)]
+pub(crate) enum Unit {
+    Second,
+    Milli,
+    Micro,
+    Nano,
+}
+
+impl Unit {
+    // How many nanoseconds it has, as a power of ten.
+    fn tens(self) -> u8
+        ensures value { result ≡ unit_tens self }
+        ensures most { result ≤ 9 }
+    {
+        match self {
+            Unit::Second => 9,
+            Unit::Milli => 6,
+            Unit::Micro => 3,
+            Unit::Nano => 0,
+        }
+    }
+}
+
+// The unit that is written so.
+fn read_unit(word: &[u8]) -> Option<Unit>
+    ensures { Finds (λ unit. unit_text unit ≡ word.now) result }
+{
+    match word {
+        [b's'] => Some(Unit::Second),
+        [b'm', b's'] => Some(Unit::Milli),
+        [b'u', b's'] => Some(Unit::Micro),
+        [b'n', b's'] => Some(Unit::Nano),
+        _ => None,
+    }
+}
+
+// What stands before the first byte above the digits, and the rest with it.
+fn cut_unit(word: &[u8]) -> Option<(&[u8], &[u8])>
+    ensures none { IfNone result (All (λ byte. byte ≤ 57) word.now) }
+    ensures front { IfSome result (λ parts. All (λ byte. byte ≤ 57) parts.0.now) }
+    ensures rest { IfSome result (λ parts. 57 < slice_index parts.1.now 0) }
+    ensures whole { IfSome result (λ parts. word.now ≡ parts.0.now ++ parts.1.now) }
+{
+    let at = word.iter().position(|byte| *byte > b'9')?;
+    Some((&word[..at], &word[at..]))
+}
+
+// The nanoseconds of so many of a unit, where they are whole ones.
+fn nanos_of(number: Decimal, unit: Unit) -> Option<u128>
+    ensures { Finds (λ nanos. IsNanos number unit nanos × (nanos < 2 ^ 128)) result }
+{
+    let (places, tens) = (number.places(), unit.tens());
+    if places > tens {
+        return None;
+    }
+    let size = u128::try_from(number.mantissa()).ok()?;
+    size.checked_mul(power_of_ten(tens - places))
+}
+
+// The nanoseconds that are written so.
+fn read_nanos(word: &[u8]) -> Option<u128>
+    ensures { Finds (λ nanos. IsTimeWord word.now nanos × (nanos < 2 ^ 128)) result }
+{
+    let (digits, unit) = cut_unit(word)?;
+    let unit = read_unit(unit)?;
+    let number = read_number(digits)?;
+    nanos_of(number, unit)
+}
+
+// What a kind counts of so many nanoseconds.
+fn count_of(kind: MetricType, nanos: u128) -> Option<u128>
+    ensures { Finds (Counts kind nanos) result }
+{
+    match kind {
+        MetricType::Timer => Some(nanos / 1_000_000),
+        MetricType::Histogram => Some(nanos),
+        _ => None,
+    }
+}
+
+// The same, where 64 bits hold it.
+fn in_64_bits(count: u128) -> Option<u64>
+    ensures { SomeIff result (count < 2 ^ 64) count }
+{
+    u64::try_from(count).ok()
+}
+
+// A whole number.
+fn whole(count: u64) -> Option<Decimal>
+    ensures { Finds (λ n. n ≡ natural count) result }
+{
+    Decimal::new(i128::from(count), 0).ok()
+}
+
+// The count of the duration that is written so.
+pub(crate) fn read_duration(kind: MetricType, word: &[u8]) -> Option<Decimal>
+    ensures { Finds (IsDurationWord kind word.now) result }
+{
+    let nanos = read_nanos(word)?;
+    let count = count_of(kind, nanos)?;
+    let fits = in_64_bits(count)?;
+    whole(fits)
+}
