@@ -1,5 +1,5 @@
 -- A number and a unit are cut in one way.
-use Rattle.std.proofs.Common.{◌≡◌, ℕ, ◌<◌, ◌≤◌, ◌*◌, ◌/◌, ◌^◌, ◌-◌, Bool, List, [], ◌∷◌, ◌++◌, Option, Some, None, inl, inr, get_or, refl, sym, ◌∙◌, ap, ap₂, subst, ltb, true, arith, ℤ, pos}
+use Rattle.std.proofs.Common.{◌≡◌, ℕ, ◌<◌, ◌≤◌, ◌*◌, ◌^◌, ◌-◌, Bool, List, [], ◌∷◌, ◌++◌, Option, Some, None, inl, inr, get_or, refl, sym, ◌∙◌, ap, ap₂, subst, ltb, true, arith, pos}
 use Rattle.std.specs.Prelude.{All}
 use Rattle.std.proofs.lemmas.Bool.{le-ltb, lt-ltb}
 use Rattle.std.proofs.lemmas.List.{append-nil}
@@ -81,7 +81,7 @@ nanos_found word front rest n u None low high cut good number unit h = λ nanos 
     let (same, units) = parts_once t.0.number t.0.unit front rest word low high cut t.0.text in
     h nanos (
       subst (λ m. IsNanos m u nanos) (number_once t.0.number n (same ∙ sym number))
-      (subst (λ v. IsNanos t.0.number v nanos) (unit_once t.0.unit u (units ∙ sym unit)) t.0.is),
+          (subst (λ v. IsNanos t.0.number v nanos) (unit_once t.0.unit u (units ∙ sym unit)) t.0.is),
       t.1,
     )
 

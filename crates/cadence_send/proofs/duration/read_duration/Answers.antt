@@ -1,4 +1,4 @@
-use Rattle.std.proofs.Common.{rules, ◌≡◌, ◌∙◌, arith, None, subst}
+use Rattle.std.proofs.Common.{rules, ◌≡◌, arith, None, subst}
 use Rattle.cadence_send.specs.Duration.{Counts}
 use Rattle.cadence_send.proofs.Durations.{counts_once, duration_found, few_nanos, nanos_once}
 use Rattle.cadence_send.proofs.duration.read_duration.Goals as goal
