@@ -24,11 +24,7 @@ fn main(rt: HostRuntime) -> MetricResult<()> {
         return Ok(());
     };
     let sink: Box<dyn MetricSink + Send + Sync> = Box::new(rt.alloc(), NopMetricSink)?;
-    let mut builder = StatsdClient::builder(rt.alloc(), "some.prefix", sink);
-    for _ in 0..arguments.default_tags() {
-        builder = builder.with_tag("region", "us-east-2");
-    }
-    let client = builder.build()?;
+    let client = sizes::tagged(rt.alloc(), sink, arguments.default_tags())?;
     let (calls, size, tags) = (arguments.calls, arguments.size, arguments.own_tags());
     let done = match arguments.mode {
         Mode::Count => lines::count(&rt, &client, calls)?,

@@ -2,8 +2,22 @@
 
 use crate::done::{BlackBox, Done, Note};
 use cadence::prelude::*;
-use cadence::{Metric, MetricResult, StatsdClient};
+use cadence::{Metric, MetricResult, MetricSink, StatsdClient};
+use std::alloc::Global;
 use std::time::Instant;
+
+/// A client with so many default tags.
+pub fn tagged<S: MetricSink>(
+    alloc: Global,
+    sink: S,
+    tags: usize,
+) -> MetricResult<StatsdClient<Global, S>> {
+    let mut builder = StatsdClient::builder(alloc, "some.prefix", sink);
+    for _ in 0..tags {
+        builder = builder.with_tag("region", "us-east-2");
+    }
+    builder.build()
+}
 
 /// A counter with so many tags of the call's own.
 pub fn tags(
