@@ -100,26 +100,6 @@ pub struct Arguments {
     pub callers: usize,
 }
 
-impl Arguments {
-    /// How many tags a client has.
-    pub fn default_tags(&self) -> usize {
-        if self.mode == Mode::DefaultTags {
-            self.size
-        } else {
-            0
-        }
-    }
-
-    /// How many tags a call has.
-    pub fn own_tags(&self) -> usize {
-        if self.mode == Mode::Tags {
-            self.size
-        } else {
-            0
-        }
-    }
-}
-
 /// How to call the program.
 pub const USAGE: &str = "cadence_speed count|count_tags|histogram4 N
 cadence_speed tags|dtags|values|key N [SIZE]

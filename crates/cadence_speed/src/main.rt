@@ -24,13 +24,17 @@ fn main(rt: HostRuntime) -> MetricResult<()> {
         return Ok(());
     };
     let sink: Box<dyn MetricSink + Send + Sync> = Box::new(rt.alloc(), NopMetricSink)?;
-    let client = sizes::tagged(rt.alloc(), sink, arguments.default_tags())?;
-    let (calls, size, tags) = (arguments.calls, arguments.size, arguments.own_tags());
+    let client = StatsdClient::from_sink(rt.alloc(), "some.prefix", sink)?;
+    let (calls, size) = (arguments.calls, arguments.size);
     let done = match arguments.mode {
         Mode::Count => lines::count(&rt, &client, calls)?,
         Mode::CountTags => lines::count_tags(&rt, &client, calls)?,
         Mode::Histogram4 => lines::histogram4(&rt, &client, calls)?,
-        Mode::Tags | Mode::DefaultTags => sizes::tags(&rt, &client, calls, tags)?,
+        Mode::Tags => sizes::tags(&rt, &client, calls, size)?,
+        Mode::DefaultTags => {
+            let sink: Box<dyn MetricSink + Send + Sync> = Box::new(rt.alloc(), NopMetricSink)?;
+            sizes::default_tags(&rt, sink, calls, size)?
+        }
         Mode::Values => sizes::values(&rt, &client, calls, size)?,
         Mode::Key => sizes::key(&rt, &client, calls, size)?,
         Mode::Packer => packets::packer(&rt, &arguments)?,

@@ -6,23 +6,25 @@ use cadence::{Metric, MetricResult, MetricSink, StatsdClient};
 use std::alloc::Global;
 use std::time::Instant;
 
-/// A client with so many default tags.
-pub fn tagged<S: MetricSink>(
-    alloc: Global,
+/// A counter of a client with so many default tags.
+pub fn default_tags<S: MetricSink>(
+    rt: &HostRuntime,
     sink: S,
-    tags: usize,
-) -> MetricResult<StatsdClient<Global, S>> {
-    let mut builder = StatsdClient::builder(alloc, "some.prefix", sink);
-    for _ in 0..tags {
+    calls: u64,
+    count: usize,
+) -> MetricResult<Done> {
+    let mut builder = StatsdClient::builder(rt.alloc(), "some.prefix", sink);
+    for _ in 0..count {
         builder = builder.with_tag("region", "us-east-2");
     }
-    builder.build()
+    let client = builder.build()?;
+    tags(rt, &client, calls, 0)
 }
 
 /// A counter with so many tags of the call's own.
-pub fn tags(
+pub fn tags<S: MetricSink>(
     rt: &HostRuntime,
-    client: &StatsdClient,
+    client: &StatsdClient<Global, S>,
     calls: u64,
     tags: usize,
 ) -> MetricResult<Done> {
