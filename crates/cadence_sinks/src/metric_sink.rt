@@ -1,7 +1,6 @@
 //! The interface of a sink, and the sink that drops everything.
-ghost use Rattle.std.specs.Prelude.{◌≡◌, ◌⊎◌, List, ℕ, Result, Ok, IfErr};
+ghost use Rattle.std.specs.Prelude.{◌≡◌, List, ℕ, Result, Ok, IfErr};
 ghost use Rattle.cadence_errors.specs.declared.SinkError.{SinkError};
-ghost use Rattle.std.proofs.Common.{inl, refl};
 
 use cadence_errors::SinkError;
 use cadence_flow::stats::SinkStats;
@@ -15,6 +14,9 @@ pub trait MetricSink: Drop {
 
     /// The answers that a flush may get; by default it can't fail.
     ghost may_flush: { Self → Result (Unit {0}) SinkError → Type 0 } = { λ _ r. IfErr r (λ _. ⊥) };
+
+    /// A flush may always succeed.
+    ghost flush_may_succeed: { (s : Self) → may_flush s (Ok tt) };
 
     /// Takes a line, and answers how many of its bytes, or why it refused it.
     fn emit(&self, metric: &str) -> Result<usize, SinkError>
@@ -31,15 +33,15 @@ pub trait MetricSink: Drop {
     fn stats(&self) -> SinkStats {
         SinkStats::default()
     }
-
-    ghost flush_may_succeed: { (s : Self) → may_flush s (Ok tt) };
 }
 
 /// A box is the sink in it.
 impl<A: Allocator> MetricSink for Box<dyn MetricSink + Send + Sync, A> {
     ghost may_answer = { λ b. (MetricSink-box b).may_answer b.value };
 
-    ghost may_flush = { λ b r. (r ≡ Ok tt) ⊎ (MetricSink-box b).may_flush b.value r };
+    ghost may_flush = { λ b. (MetricSink-box b).may_flush b.value };
+
+    ghost flush_may_succeed = { λ b. (MetricSink-box b).flush_may_succeed b.value };
 
     fn emit(&self, metric: &str) -> Result<usize, SinkError> {
         (**self).emit(metric)
@@ -52,8 +54,6 @@ impl<A: Allocator> MetricSink for Box<dyn MetricSink + Send + Sync, A> {
     fn stats(&self) -> SinkStats {
         (**self).stats()
     }
-
-    ghost flush_may_succeed = { λ b. inl refl };
 }
 
 /// A sink that drops each line and answers 0.
