@@ -1,10 +1,10 @@
 -- What contracts show of a client and of its builders.
 use Rattle.std.specs.Prelude.{◌≡◌, Option, Some, Result}
-use Rattle.std.specs.Option.{option_map}
 use Rattle.std.specs.declared.dyn_box.DynBox.{DynBox}
 use Rattle.cadence_errors.specs.declared.MetricError.{MetricError}
 use Rattle.cadence_text.specs.Metric.{Metric}
 use Rattle.cadence.specs.declared.client.builder.MetricBuilder.{MetricBuilder}
+use Rattle.cadence.specs.declared.client.handler.BoxedErrorHandler.{BoxedErrorHandler}
 use Rattle.cadence.specs.declared.client.statsd_client.StatsdClient.{StatsdClient}
 use Rattle.cadence.specs.declared.client.client_builder.StatsdClientBuilder.{StatsdClientBuilder}
 use Rattle.cadence_schedule.specs.Settings.{Settings, Changes}
@@ -18,35 +18,39 @@ module _ {T C Z : Type 0} where
   abbrev pub backend_of : MetricBuilder T C Z → C
   backend_of b = b.client.now
 
-module _ {Z S Y : Type 0} {G : Y → Type 0} {g : _} where
-  abbrev pub settings_of_client : StatsdClient Z S Y G g → Settings
+module _ {Z Y : Type 0} {G : Y → Type 0} {g : _} where
+  -- the box that a handler keeps
+  abbrev pub box_of_handler : BoxedErrorHandler Z Y G g → DynBox Y Z G
+  box_of_handler h = h.call
+
+module _ {Z S H : Type 0} where
+  abbrev pub settings_of_client : StatsdClient Z S H → Settings
   settings_of_client c = c.settings
 
-  abbrev pub sink_of_client : StatsdClient Z S Y G g → S
+  abbrev pub sink_of_client : StatsdClient Z S H → S
   sink_of_client c = c.sink
 
-  -- the error handler, where there is one
-  abbrev pub handler_of_client : StatsdClient Z S Y G g → Option (DynBox Y Z G)
-  handler_of_client c = option_map (λ h. h.call) c.handler
+  abbrev pub handler_of_client : StatsdClient Z S H → H
+  handler_of_client c = c.handler
 
   -- the settings that a client's builder has so far, or none where a growth was refused
-  abbrev pub settings_of_builder : StatsdClientBuilder Z S Y G g → Option Settings
+  abbrev pub settings_of_builder : StatsdClientBuilder Z S H → Option Settings
   settings_of_builder b = b.settings
 
-  abbrev pub sink_of_builder : StatsdClientBuilder Z S Y G g → S
+  abbrev pub sink_of_builder : StatsdClientBuilder Z S H → S
   sink_of_builder b = b.sink
 
-  abbrev pub handler_of_builder : StatsdClientBuilder Z S Y G g → Option (DynBox Y Z G)
-  handler_of_builder b = option_map (λ h. h.call) b.handler
+  abbrev pub handler_of_builder : StatsdClientBuilder Z S H → H
+  handler_of_builder b = b.handler
 
   -- the builder has a default more, unless a growth was refused, and keeps its sink and its handler
-  pub record AddsDefault (change : Settings → Settings) (old new : StatsdClientBuilder Z S Y G g) : Type 0 where
+  pub record AddsDefault (change : Settings → Settings) (old new : StatsdClientBuilder Z S H) : Type 0 where
     pub settings : Changes (settings_of_builder old) change (settings_of_builder new)
     pub sink : sink_of_builder new ≡ sink_of_builder old
     pub handler : handler_of_builder new ≡ handler_of_builder old
 
   -- the client has the builder's settings, sink and handler
-  pub record IsBuiltFrom (b : StatsdClientBuilder Z S Y G g) (c : StatsdClient Z S Y G g) : Type 0 where
+  pub record IsBuiltFrom (b : StatsdClientBuilder Z S H) (c : StatsdClient Z S H) : Type 0 where
     pub settings : settings_of_builder b ≡ Some (settings_of_client c)
     pub sink : sink_of_client c ≡ sink_of_builder b
     pub handler : handler_of_client c ≡ handler_of_builder b

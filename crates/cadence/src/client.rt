@@ -13,7 +13,7 @@ pub use backend::MetricBackend;
 pub use builder::MetricBuilder;
 pub use cadence_schedule::ClientSettings;
 pub use client_builder::StatsdClientBuilder;
-pub use handler::BoxedHandler;
+pub use handler::{BoxedErrorHandler, BoxedHandler, ErrorHandler, NopErrorHandler};
 pub use metric_client::MetricClient;
 pub use statsd_client::{BoxedSink, StatsdClient};
 pub use traits::{Counted, CountedExt, Distributed, Gauged, Histogrammed, Metered, Setted, Timed};

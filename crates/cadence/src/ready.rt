@@ -1,6 +1,6 @@
 //! Sinks and clients over UDP, ready made: from a runtime, an allocator and a target.
-ghost use Rattle.std.specs.Prelude.{◌≡◌, IfOk, IfErr, None};
-ghost use Rattle.cadence.specs.Shown.{settings_of_client, sink_of_client, handler_of_client};
+ghost use Rattle.std.specs.Prelude.{◌≡◌, IfOk, IfErr};
+ghost use Rattle.cadence.specs.Shown.{settings_of_client, sink_of_client};
 ghost use Rattle.cadence_resolve.specs.Refusals.{IsSocketRefusal};
 ghost use Rattle.cadence_schedule.specs.Settings.{settings_of};
 ghost use Rattle.cadence_sinks.specs.Buffers.{udp_buffer};
@@ -32,7 +32,6 @@ pub fn udp_client<R: Net + Wait + Clone + Drop, A: Allocator + Clone>(
     target: Target<A>,
 ) -> MetricResult<UdpClient<R, A>>
     ensures settings { IfOk result (λ c. settings_of_client c ≡ settings_of prefix.now) }
-    ensures handler { IfOk result (λ c. handler_of_client c ≡ None) }
     ensures refused { IfErr result (λ e. IsSocketRefusal e) }
 {
     let sink = udp_sink(rt, alloc.clone()?, target)?;
@@ -48,7 +47,6 @@ pub fn buffered_udp_client<R: Net + Wait + Clone + Drop, A: Allocator + Clone>(
     capacity: usize,
 ) -> MetricResult<BufferedUdpClient<R, A>>
     ensures settings { IfOk result (λ c. settings_of_client c ≡ settings_of prefix.now) }
-    ensures handler { IfOk result (λ c. handler_of_client c ≡ None) }
     ensures buffer { IfOk result (λ c. udp_buffer (sink_of_client c) ≡ capacity) }
     ensures refused { IfErr result (λ e. IsSocketRefusal e) }
 {
@@ -71,7 +69,6 @@ pub fn queued_udp_client<
     lines: Option<usize>,
 ) -> MetricResult<QueuedUdpClient<R, A>>
     ensures settings { IfOk result (λ c. settings_of_client c ≡ settings_of prefix.now) }
-    ensures handler { IfOk result (λ c. handler_of_client c ≡ None) }
     ensures buffer { IfOk result (λ c. udp_buffer (wrapped_sink (sink_of_client c)) ≡ capacity) }
     ensures refused { IfErr result (λ e. IsSocketRefusal e) }
 {

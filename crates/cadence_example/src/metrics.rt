@@ -1,5 +1,6 @@
 //! What the service tells.
 
+use cadence::client::ErrorHandler;
 use cadence::decimal::Decimal;
 use cadence::prelude::*;
 use cadence::{MetricResult, MetricSink, StatsdClient};
@@ -7,9 +8,9 @@ use std::alloc::Global;
 use std::time::Duration;
 
 /// Sends one metric of each kind that the service has.
-pub fn send_all<S: MetricSink>(
+pub fn send_all<S: MetricSink, H: ErrorHandler>(
     alloc: Global,
-    client: &StatsdClient<Global, S>,
+    client: &StatsdClient<Global, S, H>,
 ) -> MetricResult<()> {
     client.count("visits", 1i64)?;
     client.incr("logins")?;
@@ -29,6 +30,6 @@ pub fn send_all<S: MetricSink>(
 }
 
 /// Sends a gauge, and leaves an error to the client's handler.
-pub fn send_late<S: MetricSink>(client: &StatsdClient<Global, S>) {
+pub fn send_late<S: MetricSink, H: ErrorHandler>(client: &StatsdClient<Global, S, H>) {
     client.gauge_with_tags("late", 1u64).send();
 }

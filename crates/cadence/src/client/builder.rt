@@ -7,6 +7,7 @@ ghost use Rattle.cadence.specs.Sending.{Chooses, ChoosesOrHolds, StandsForMore};
 ghost use Rattle.cadence.specs.Sending.{HasLine, MadeFrom, Sent, SentPending};
 
 use crate::client::backend::MetricBackend;
+use crate::client::handler::ErrorHandler;
 use crate::client::pending;
 use crate::client::statsd_client::StatsdClient;
 use crate::laws::choosing_stands_for_more;
@@ -206,11 +207,11 @@ impl<'m, 'c, T: Metric + From<String<C::Memory>>, C: MetricBackend> MetricBuilde
     }
 }
 
-impl<'a, K: Kind, A: Allocator + Clone, S: MetricSink> MetricBuilder<
+impl<'a, K: Kind, A: Allocator + Clone, S: MetricSink, H: ErrorHandler> MetricBuilder<
     'a,
     'a,
     MetricText<K, A>,
-    StatsdClient<A, S>,
+    StatsdClient<A, S, H>,
 > {
     ghost use Rattle.cadence_value.specs.Values.{Converts};
     ghost use Rattle.cadence.specs.Sending.{StartsPlain};
@@ -219,7 +220,7 @@ impl<'a, K: Kind, A: Allocator + Clone, S: MetricSink> MetricBuilder<
     // The builder of a call without options, whose value was converted.
     #[inline]
     pub(crate) fn start(
-        client: &'a StatsdClient<A, S>,
+        client: &'a StatsdClient<A, S, H>,
         key: &'a str,
         value: MetricResult<MetricValue<A>>,
     ) -> Self

@@ -4,7 +4,7 @@ ghost use Rattle.std.specs.Option.{option_copied};
 ghost use Rattle.cadence_errors.specs.Errors.{OnlyWantsMemory};
 ghost use Rattle.cadence_schedule.specs.Settings.{Changes, keyed, unkeyed, with_default_tag, with_default_container};
 
-use crate::client::handler::ErrorHandler;
+use crate::client::handler::{BoxedErrorHandler, BoxedHandler, ErrorHandler, NopErrorHandler};
 use crate::client::statsd_client::{BoxedSink, StatsdClient};
 use cadence_errors::{MetricError, MetricResult};
 use cadence_schedule::ClientSettings;
@@ -13,10 +13,14 @@ use std::alloc::{AllocError, Allocator, Global};
 
 /// Makes a client, as in cadence. Where a growth is refused it has no settings from then on, and `build` tells it.
 #[derive(Drop)]
-pub struct StatsdClientBuilder<A: Allocator = Global, S: MetricSink = BoxedSink<A>> {
+pub struct StatsdClientBuilder<
+    A: Allocator = Global,
+    S: MetricSink = BoxedSink<A>,
+    H: ErrorHandler = NopErrorHandler,
+> {
     pub(crate) settings: Option<ClientSettings<A>>,
     pub(crate) sink: S,
-    pub(crate) handler: Option<ErrorHandler<A>>,
+    pub(crate) handler: H,
 }
 
 fn with_tag<A: Allocator + Clone>(
@@ -47,18 +51,38 @@ fn with_container<A: Allocator + Clone>(
     }
 }
 
-impl<A: Allocator + Clone, S: MetricSink> StatsdClientBuilder<A, S> {
-    ghost use Rattle.cadence.specs.Shown.{settings_of_builder, sink_of_builder, handler_of_builder, AddsDefault, IsBuiltFrom};
+impl<A: Allocator + Clone, S: MetricSink, H: ErrorHandler> StatsdClientBuilder<A, S, H> {
+    ghost use Rattle.cadence.specs.Shown.{settings_of_builder, sink_of_builder, handler_of_builder, box_of_handler, AddsDefault, IsBuiltFrom};
 
-    /// Sets the handler of the errors that `send` and `consume_error` meet, in the place of an earlier one.
-    pub fn with_error_handler(mut self, handler: Box<dyn Fn(MetricError) + Send + Sync, A>) -> Self
+    /// Sets a boxed handler of the errors that `send` and `consume_error` meet, in the place of an earlier one.
+    pub fn with_error_handler(
+        self,
+        handler: BoxedHandler<A>,
+    ) -> StatsdClientBuilder<A, S, BoxedErrorHandler<A>>
         requires { IsAlwaysCallable handler }
-        ensures handler { handler_of_builder result ≡ Some handler }
+        ensures handler { box_of_handler (handler_of_builder result) ≡ handler }
         ensures settings { settings_of_builder result ≡ settings_of_builder self }
         ensures sink { sink_of_builder result ≡ sink_of_builder self }
     {
-        self.handler = Some(ErrorHandler { call: handler });
-        self
+        self.with_handler(BoxedErrorHandler::new(handler))
+    }
+
+    /// Sets a handler of any type, in the place of an earlier one.
+    pub fn with_handler<G: ErrorHandler>(self, handler: G) -> StatsdClientBuilder<A, S, G>
+        ensures handler { handler_of_builder result ≡ handler }
+        ensures settings { settings_of_builder result ≡ settings_of_builder self }
+        ensures sink { sink_of_builder result ≡ sink_of_builder self }
+    {
+        let StatsdClientBuilder {
+            settings,
+            sink,
+            handler: _,
+        } = self;
+        StatsdClientBuilder {
+            settings,
+            sink,
+            handler,
+        }
     }
 
     /// Adds a default tag with a key, after the others.
@@ -87,7 +111,7 @@ impl<A: Allocator + Clone, S: MetricSink> StatsdClientBuilder<A, S> {
 
     /// Makes the client. Refuses with kind `OutOfMemory` alone, exactly where a growth was refused so far; the sink
     /// and the handler are dropped then.
-    pub fn build(self) -> MetricResult<StatsdClient<A, S>>
+    pub fn build(self) -> MetricResult<StatsdClient<A, S, H>>
         ensures ok { IfOk result (IsBuiltFrom self) }
         ensures refused { OnlyWantsMemory result }
         ensures missing { OnErr result (settings_of_builder self ≡ None) }
@@ -110,7 +134,7 @@ impl<A: Allocator + Clone, S: MetricSink> StatsdClientBuilder<A, S> {
 
 impl<A: Allocator + Clone, S: MetricSink> StatsdClient<A, S> {
     ghost use Rattle.std.specs.Prelude.{IfSome};
-    ghost use Rattle.cadence.specs.Shown.{settings_of_client, sink_of_client, handler_of_client, settings_of_builder, sink_of_builder, handler_of_builder};
+    ghost use Rattle.cadence.specs.Shown.{settings_of_client, sink_of_client, settings_of_builder, sink_of_builder};
     ghost use Rattle.cadence_schedule.specs.Settings.{settings_of};
 
     /// A client without further settings: it drops the errors of `send`. Refuses with kind `OutOfMemory` alone; the
@@ -118,7 +142,6 @@ impl<A: Allocator + Clone, S: MetricSink> StatsdClient<A, S> {
     pub fn from_sink(alloc: A, prefix: &str, sink: S) -> MetricResult<StatsdClient<A, S>>
         ensures settings { IfOk result (λ c. settings_of_client c ≡ settings_of prefix.now) }
         ensures sink { IfOk result (λ c. sink_of_client c ≡ sink) }
-        ensures handler { IfOk result (λ c. handler_of_client c ≡ None) }
         ensures refused { OnlyWantsMemory result }
     {
         StatsdClient::builder(alloc, prefix, sink).build()
@@ -130,12 +153,11 @@ impl<A: Allocator + Clone, S: MetricSink> StatsdClient<A, S> {
     pub fn builder(alloc: A, prefix: &str, sink: S) -> StatsdClientBuilder<A, S>
         ensures settings { IfSome (settings_of_builder result) (λ s. s ≡ settings_of prefix.now) }
         ensures sink { sink_of_builder result ≡ sink }
-        ensures handler { handler_of_builder result ≡ None }
     {
         StatsdClientBuilder {
             settings: ClientSettings::new(alloc, prefix).ok(),
             sink,
-            handler: None,
+            handler: NopErrorHandler,
         }
     }
 }

@@ -4,7 +4,7 @@ ghost use Rattle.cadence_value.specs.Values.{Converts, numbers_of};
 ghost use Rattle.cadence.specs.Sending.{Flushed, SendsPlain};
 
 use crate::client::backend::MetricBackend;
-use crate::client::handler::ErrorHandler;
+use crate::client::handler::{ErrorHandler, NopErrorHandler};
 use crate::metrics::{Kind, Metric, MetricText};
 use crate::sealed::Sealed;
 use cadence_errors::{MetricError, MetricResult};
@@ -17,16 +17,20 @@ use std::alloc::{Allocator, Global};
 pub type BoxedSink<A = Global> = Box<dyn MetricSink + Send + Sync, A>;
 
 /// A client of a Statsd server, as in cadence. Threads may share it by reference.
-/// It keeps its sink as it is, so any function can make a client and hand it out. `StatsdClient` alone is a client of a
-/// boxed sink.
+/// It keeps its sink and its handler as they are, so any function can make a client and hand it out. `StatsdClient` alone
+/// is a client of a boxed sink, without a handler.
 #[derive(Drop)]
-pub struct StatsdClient<A: Allocator = Global, S: MetricSink = BoxedSink<A>> {
+pub struct StatsdClient<
+    A: Allocator = Global,
+    S: MetricSink = BoxedSink<A>,
+    H: ErrorHandler = NopErrorHandler,
+> {
     pub(crate) settings: ClientSettings<A>,
     pub(crate) sink: S,
-    pub(crate) handler: Option<ErrorHandler<A>>,
+    pub(crate) handler: H,
 }
 
-impl<A: Allocator + Clone, S: MetricSink> StatsdClient<A, S> {
+impl<A: Allocator + Clone, S: MetricSink, H: ErrorHandler> StatsdClient<A, S, H> {
     ghost use Rattle.cadence.specs.Shown.{settings_of_client, sink_of_client};
 
     /// The sink.
@@ -73,9 +77,9 @@ impl<A: Allocator + Clone, S: MetricSink> StatsdClient<A, S> {
     }
 }
 
-impl<A: Allocator + Clone, S: MetricSink> Sealed for StatsdClient<A, S> {}
+impl<A: Allocator + Clone, S: MetricSink, H: ErrorHandler> Sealed for StatsdClient<A, S, H> {}
 
-impl<A: Allocator + Clone, S: MetricSink> MetricBackend for StatsdClient<A, S> {
+impl<A: Allocator + Clone, S: MetricSink, H: ErrorHandler> MetricBackend for StatsdClient<A, S, H> {
     type Memory = A;
 
     ghost settings = { λ c. c.settings };
@@ -88,8 +92,6 @@ impl<A: Allocator + Clone, S: MetricSink> MetricBackend for StatsdClient<A, S> {
     }
 
     fn consume_error(&self, err: MetricError) {
-        if let Some(handler) = &self.handler {
-            handler.handle(err);
-        }
+        self.handler.handle(err);
     }
 }

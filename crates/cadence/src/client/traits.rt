@@ -2,6 +2,7 @@
 
 use crate::client::backend::MetricBackend;
 use crate::client::builder::MetricBuilder;
+use crate::client::handler::ErrorHandler;
 use crate::client::statsd_client::StatsdClient;
 use crate::metrics::{Counter, Distribution, Gauge, Histogram, Meter, Set, Timer};
 use cadence_errors::MetricResult;
@@ -38,7 +39,8 @@ pub trait Counted<T: ToCounterValue<Self::Memory>>: MetricBackend {
         ensures client { backend_of result ≡ self.now };
 }
 
-impl<A: Allocator + Clone, S: MetricSink, T: ToCounterValue<A>> Counted<T> for StatsdClient<A, S> {
+impl<A: Allocator + Clone, S: MetricSink, H: ErrorHandler, T: ToCounterValue<A>> Counted<T>
+    for StatsdClient<A, S, H> {
     #[inline]
     fn count(&self, key: &str, value: T) -> MetricResult<Counter<A>> {
         self.send_plain(key, value.try_to_value())
@@ -49,7 +51,7 @@ impl<A: Allocator + Clone, S: MetricSink, T: ToCounterValue<A>> Counted<T> for S
         &'a self,
         key: &'a str,
         value: T,
-    ) -> MetricBuilder<'a, 'a, Counter<A>, StatsdClient<A, S>> {
+    ) -> MetricBuilder<'a, 'a, Counter<A>, StatsdClient<A, S, H>> {
         MetricBuilder::start(self, key, value.try_to_value())
     }
 }
@@ -102,7 +104,7 @@ pub trait CountedExt: Counted<i64> {
     }
 }
 
-impl<A: Allocator + Clone, S: MetricSink> CountedExt for StatsdClient<A, S> {}
+impl<A: Allocator + Clone, S: MetricSink, H: ErrorHandler> CountedExt for StatsdClient<A, S, H> {}
 
 /// Tells how long things took, in milliseconds. A `Duration` is cut off to whole milliseconds.
 pub trait Timed<T: ToTimerValue<Self::Memory>>: MetricBackend {
@@ -129,7 +131,8 @@ pub trait Timed<T: ToTimerValue<Self::Memory>>: MetricBackend {
         ensures client { backend_of result ≡ self.now };
 }
 
-impl<A: Allocator + Clone, S: MetricSink, T: ToTimerValue<A>> Timed<T> for StatsdClient<A, S> {
+impl<A: Allocator + Clone, S: MetricSink, H: ErrorHandler, T: ToTimerValue<A>> Timed<T>
+    for StatsdClient<A, S, H> {
     #[inline]
     fn time(&self, key: &str, value: T) -> MetricResult<Timer<A>> {
         self.send_plain(key, value.try_to_value())
@@ -140,7 +143,7 @@ impl<A: Allocator + Clone, S: MetricSink, T: ToTimerValue<A>> Timed<T> for Stats
         &'a self,
         key: &'a str,
         value: T,
-    ) -> MetricBuilder<'a, 'a, Timer<A>, StatsdClient<A, S>> {
+    ) -> MetricBuilder<'a, 'a, Timer<A>, StatsdClient<A, S, H>> {
         MetricBuilder::start(self, key, value.try_to_value())
     }
 }
@@ -170,7 +173,8 @@ pub trait Gauged<T: ToGaugeValue<Self::Memory>>: MetricBackend {
         ensures client { backend_of result ≡ self.now };
 }
 
-impl<A: Allocator + Clone, S: MetricSink, T: ToGaugeValue<A>> Gauged<T> for StatsdClient<A, S> {
+impl<A: Allocator + Clone, S: MetricSink, H: ErrorHandler, T: ToGaugeValue<A>> Gauged<T>
+    for StatsdClient<A, S, H> {
     #[inline]
     fn gauge(&self, key: &str, value: T) -> MetricResult<Gauge<A>> {
         self.send_plain(key, value.try_to_value())
@@ -181,7 +185,7 @@ impl<A: Allocator + Clone, S: MetricSink, T: ToGaugeValue<A>> Gauged<T> for Stat
         &'a self,
         key: &'a str,
         value: T,
-    ) -> MetricBuilder<'a, 'a, Gauge<A>, StatsdClient<A, S>> {
+    ) -> MetricBuilder<'a, 'a, Gauge<A>, StatsdClient<A, S, H>> {
         MetricBuilder::start(self, key, value.try_to_value())
     }
 }
@@ -211,7 +215,8 @@ pub trait Metered<T: ToMeterValue<Self::Memory>>: MetricBackend {
         ensures client { backend_of result ≡ self.now };
 }
 
-impl<A: Allocator + Clone, S: MetricSink, T: ToMeterValue<A>> Metered<T> for StatsdClient<A, S> {
+impl<A: Allocator + Clone, S: MetricSink, H: ErrorHandler, T: ToMeterValue<A>> Metered<T>
+    for StatsdClient<A, S, H> {
     #[inline]
     fn meter(&self, key: &str, value: T) -> MetricResult<Meter<A>> {
         self.send_plain(key, value.try_to_value())
@@ -222,7 +227,7 @@ impl<A: Allocator + Clone, S: MetricSink, T: ToMeterValue<A>> Metered<T> for Sta
         &'a self,
         key: &'a str,
         value: T,
-    ) -> MetricBuilder<'a, 'a, Meter<A>, StatsdClient<A, S>> {
+    ) -> MetricBuilder<'a, 'a, Meter<A>, StatsdClient<A, S, H>> {
         MetricBuilder::start(self, key, value.try_to_value())
     }
 }
@@ -252,8 +257,8 @@ pub trait Histogrammed<T: ToHistogramValue<Self::Memory>>: MetricBackend {
         ensures client { backend_of result ≡ self.now };
 }
 
-impl<A: Allocator + Clone, S: MetricSink, T: ToHistogramValue<A>> Histogrammed<T>
-    for StatsdClient<A, S> {
+impl<A: Allocator + Clone, S: MetricSink, H: ErrorHandler, T: ToHistogramValue<A>> Histogrammed<T>
+    for StatsdClient<A, S, H> {
     #[inline]
     fn histogram(&self, key: &str, value: T) -> MetricResult<Histogram<A>> {
         self.send_plain(key, value.try_to_value())
@@ -264,7 +269,7 @@ impl<A: Allocator + Clone, S: MetricSink, T: ToHistogramValue<A>> Histogrammed<T
         &'a self,
         key: &'a str,
         value: T,
-    ) -> MetricBuilder<'a, 'a, Histogram<A>, StatsdClient<A, S>> {
+    ) -> MetricBuilder<'a, 'a, Histogram<A>, StatsdClient<A, S, H>> {
         MetricBuilder::start(self, key, value.try_to_value())
     }
 }
@@ -294,8 +299,8 @@ pub trait Distributed<T: ToDistributionValue<Self::Memory>>: MetricBackend {
         ensures client { backend_of result ≡ self.now };
 }
 
-impl<A: Allocator + Clone, S: MetricSink, T: ToDistributionValue<A>> Distributed<T>
-    for StatsdClient<A, S> {
+impl<A: Allocator + Clone, S: MetricSink, H: ErrorHandler, T: ToDistributionValue<A>> Distributed<T>
+    for StatsdClient<A, S, H> {
     #[inline]
     fn distribution(&self, key: &str, value: T) -> MetricResult<Distribution<A>> {
         self.send_plain(key, value.try_to_value())
@@ -306,7 +311,7 @@ impl<A: Allocator + Clone, S: MetricSink, T: ToDistributionValue<A>> Distributed
         &'a self,
         key: &'a str,
         value: T,
-    ) -> MetricBuilder<'a, 'a, Distribution<A>, StatsdClient<A, S>> {
+    ) -> MetricBuilder<'a, 'a, Distribution<A>, StatsdClient<A, S, H>> {
         MetricBuilder::start(self, key, value.try_to_value())
     }
 }
@@ -336,7 +341,8 @@ pub trait Setted<T: ToSetValue<Self::Memory>>: MetricBackend {
         ensures client { backend_of result ≡ self.now };
 }
 
-impl<A: Allocator + Clone, S: MetricSink, T: ToSetValue<A>> Setted<T> for StatsdClient<A, S> {
+impl<A: Allocator + Clone, S: MetricSink, H: ErrorHandler, T: ToSetValue<A>> Setted<T>
+    for StatsdClient<A, S, H> {
     #[inline]
     fn set(&self, key: &str, value: T) -> MetricResult<Set<A>> {
         self.send_plain(key, value.try_to_value())
@@ -347,7 +353,7 @@ impl<A: Allocator + Clone, S: MetricSink, T: ToSetValue<A>> Setted<T> for Statsd
         &'a self,
         key: &'a str,
         value: T,
-    ) -> MetricBuilder<'a, 'a, Set<A>, StatsdClient<A, S>> {
+    ) -> MetricBuilder<'a, 'a, Set<A>, StatsdClient<A, S, H>> {
         MetricBuilder::start(self, key, value.try_to_value())
     }
 }

@@ -1,6 +1,6 @@
 //! Each request for memory refused in turn.
 
-use cadence::client::{ClientSettings, StatsdClient};
+use cadence::client::{BoxedErrorHandler, BoxedHandler, ClientSettings, StatsdClient};
 use cadence::prelude::*;
 use cadence::schedule::{Call, CallOption, CallValue};
 use cadence::sinks::{MetricSink, NopMetricSink};
@@ -53,12 +53,16 @@ fn a_call_takes_its_tag_list_and_its_line(rt: HostRuntime) -> Result<(), Fail> {
     Ok(())
 }
 
+// A client of this allocator with a boxed handler.
+type TellingClient = StatsdClient<
+    Refusing<Global>,
+    NopMetricSink,
+    BoxedErrorHandler<Refusing<Global>>,
+>;
+
 // Such a client, whose handler adds 1 for want of memory and 100 for another error. Takes seven requests.
-fn telling(
-    heap: &Refusing<Global>,
-    told: Arc<AtomicU64>,
-) -> MetricResult<StatsdClient<Refusing<Global>, NopMetricSink>> {
-    let handler: Box<dyn Fn(MetricError) + Send + Sync, Refusing<Global>> = Box::new(
+fn telling(heap: &Refusing<Global>, told: Arc<AtomicU64>) -> MetricResult<TellingClient> {
+    let handler: BoxedHandler<Refusing<Global>> = Box::new(
         heap.clone()?,
         move |error: MetricError| {
             let wants_memory = error.kind() == ErrorKind::OutOfMemory;

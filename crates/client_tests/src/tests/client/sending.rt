@@ -4,7 +4,7 @@ ghost use Rattle.cadence_errors.specs.declared.SinkError.TheVariants.{PacketRefu
 
 use super::nop_client;
 use crate::tests::own::{Event, Nothing};
-use cadence::client::StatsdClient;
+use cadence::client::{BoxedErrorHandler, BoxedHandler, BoxedSink, ErrorHandler, StatsdClient};
 use cadence::ext::MetricBackend;
 use cadence::prelude::*;
 use cadence::sinks::{MetricSink, NopMetricSink, SpyMetricSink};
@@ -60,6 +60,18 @@ impl MetricSink for CountingSink {
     }
 
     ghost flush_may_succeed = { λ _. tt };
+}
+
+// Adds up the weights of the errors that it is told.
+#[derive(Drop)]
+struct WeighingHandler {
+    weights: Arc<AtomicU64>,
+}
+
+impl ErrorHandler for WeighingHandler {
+    fn handle(&self, error: MetricError) {
+        self.weights.fetch_add(weight_of(&error), Ordering::SeqCst);
+    }
 }
 
 // A counter that starts at 0.
@@ -137,7 +149,7 @@ fn refused(
     (
         Arc<AtomicU64>,
         Arc<AtomicU64>,
-        StatsdClient<Global, RefusingSink>,
+        StatsdClient<Global, RefusingSink, BoxedErrorHandler>,
     ),
     Fail,
 > {
@@ -146,12 +158,9 @@ fn refused(
         calls: calls.clone()?,
     };
     let seen = handled.clone()?;
-    let handler: Box<dyn Fn(MetricError) + Send + Sync> = Box::new(
-        alloc,
-        move |error: MetricError| {
-            seen.fetch_add(weight_of(&error), Ordering::SeqCst);
-        },
-    )?;
+    let handler: BoxedHandler = Box::new(alloc, move |error: MetricError| {
+        seen.fetch_add(weight_of(&error), Ordering::SeqCst);
+    })?;
     let client = StatsdClient::builder(alloc, "p", sink)
         .with_error_handler(handler)
         .with_tag_value("a")
@@ -184,6 +193,50 @@ fn a_refusal_reaches_the_handler_once(rt: HostRuntime) -> Result<(), Fail> {
     client.count_with_tags("k", Nothing).send();
     assert_eq!(rt; handled.load(Ordering::SeqCst), 1_011);
     assert_eq!(rt; calls.load(Ordering::SeqCst), 1);
+    Ok(())
+}
+
+#[test]
+fn a_handler_of_a_type_of_its_own_is_told_once(rt: HostRuntime) -> Result<(), Fail> {
+    let (calls, weights) = (zero(rt.alloc())?, zero(rt.alloc())?);
+    let sink = RefusingSink {
+        calls: calls.clone()?,
+    };
+    let handler = WeighingHandler {
+        weights: weights.clone()?,
+    };
+    let client = StatsdClient::builder(rt.alloc(), "p", sink)
+        .with_handler(handler)
+        .with_tag_value("a")
+        .build()?;
+    client.incr_with_tags("k").send();
+    client.count_with_tags("k", Nothing).send();
+    assert_eq!(rt; weights.load(Ordering::SeqCst), 1_001);
+    assert!(rt; client.incr("k").is_err());
+    assert_eq!(rt; weights.load(Ordering::SeqCst), 1_001);
+    assert_eq!(rt; calls.load(Ordering::SeqCst), 2);
+    Ok(())
+}
+
+#[test]
+fn a_boxed_sink_takes_tags_and_a_boxed_handler(rt: HostRuntime) -> Result<(), Fail> {
+    let (calls, handled) = (zero(rt.alloc())?, zero(rt.alloc())?);
+    let seen = handled.clone()?;
+    let handler: BoxedHandler = Box::new(rt.alloc(), move |error: MetricError| {
+        seen.fetch_add(weight_of(&error), Ordering::SeqCst);
+    })?;
+    let refusing = RefusingSink {
+        calls: calls.clone()?,
+    };
+    let sink: BoxedSink = Box::new(rt.alloc(), refusing)?;
+    let client = StatsdClient::builder(rt.alloc(), "p", sink)
+        .with_tag("a", "b")
+        .with_error_handler(handler)
+        .build()?;
+    client.incr_with_tags("k").send();
+    assert_eq!(rt; calls.load(Ordering::SeqCst), 1);
+    assert_eq!(rt; handled.load(Ordering::SeqCst), 1);
+    assert!(rt; client.flush().is_err());
     Ok(())
 }
 
