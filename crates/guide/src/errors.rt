@@ -1,0 +1,47 @@
+//! What a service does with errors.
+
+use crate::runtime::Runtime;
+use cadence::client::ErrorHandler;
+use cadence::prelude::*;
+use cadence::ready::{host, udp_sink};
+use cadence::{MetricError, MetricResult, MetricSink, StatsdClient, UdpMetricSink};
+use std::alloc::Global;
+use std::sync::Arc;
+use std::sync::atomic::{AtomicU64, Ordering};
+
+/// Counts the metrics that are lost.
+#[derive(Drop)]
+pub struct LostMetrics {
+    number: Arc<AtomicU64>,
+}
+
+impl ErrorHandler for LostMetrics {
+    fn handle(&self, _error: MetricError) {
+        self.number.fetch_add(1, Ordering::SeqCst);
+    }
+}
+
+pub fn counting<R: Runtime>(
+    rt: &R,
+    alloc: Global,
+    number: Arc<AtomicU64>,
+) -> MetricResult<StatsdClient<Global, UdpMetricSink<R>, LostMetrics>> {
+    let sink = udp_sink(rt, alloc, host(alloc, "localhost", 8125)?)?;
+    StatsdClient::builder(alloc, "my.service", sink)
+        .with_handler(LostMetrics { number })
+        .build()
+}
+
+pub fn quietly<S: MetricSink, H: ErrorHandler>(client: &StatsdClient<Global, S, H>) {
+    client
+        .count_with_tags("visits", 1)
+        .with_tag("page", "home")
+        .send();
+}
+
+/// Sends a metric over a client that counts what is lost, and answers how many were.
+pub fn lost<R: Runtime>(rt: &R, alloc: Global) -> MetricResult<u64> {
+    let number = Arc::new(alloc, AtomicU64::new(0))?;
+    quietly(&counting(rt, alloc, number.clone()?)?);
+    Ok(number.load(Ordering::SeqCst))
+}
