@@ -1,5 +1,5 @@
 -- A number and a unit are cut in one way.
-use Rattle.std.proofs.Common.{◌≡◌, ℕ, ◌<◌, ◌≤◌, ◌*◌, ◌^◌, ◌-◌, Bool, List, [], ◌∷◌, ◌++◌, Option, Some, None, inl, inr, get_or, refl, sym, ◌∙◌, ap, ap₂, subst, ltb, true, arith, pos}
+use Rattle.std.proofs.Common.{◌≡◌, ℕ, ◌<◌, ◌≤◌, ◌*◌, ◌^◌, ◌-◌, Bool, List, [], ◌∷◌, ◌++◌, Option, Some, None, inl, inr, get_or, refl, sym, ◌∙◌, ap, subst, ltb, true, arith, pos}
 use Rattle.std.specs.Prelude.{All}
 use Rattle.std.proofs.lemmas.Bool.{le-ltb, lt-ltb}
 use Rattle.std.proofs.lemmas.List.{append-nil}
@@ -12,8 +12,10 @@ use Rattle.cadence_text.specs.declared.line.MetricType.TheVariants.{Counter, Tim
 use Rattle.cadence_send.specs.declared.duration.Unit.{Unit}
 use Rattle.cadence_send.specs.declared.duration.Unit.TheVariants.{Second, Milli, Micro, Nano}
 use Rattle.cadence_value.proofs.Cut.{cut_once, each_weaker, Passes, Stops}
-use Rattle.cadence_value.proofs.NumberText.{IsNumberByte, number_bytes, number_once}
-use Rattle.cadence_value.specs.Number.{IsDecimal, Number, natural, number_text}
+use Rattle.cadence_value.proofs.NumberText.{IsNumberByte}
+use Rattle.cadence_value.specs.Said.{Says}
+use Rattle.cadence_send.proofs.Lowest.{said_bytes, says_once}
+use Rattle.cadence_value.specs.Number.{IsDecimal, Number, natural}
 
 first : {xs ys : List ℕ} → xs ≡ ys → get_or xs 0 0 ≡ get_or ys 0 0
 first e = ap (λ t. get_or t 0 0) e
@@ -22,8 +24,8 @@ first e = ap (λ t. get_or t 0 0) e
 abbrev up_to_digits : ℕ → Bool
 up_to_digits b = ltb b 58
 
-digits_pass : (n : Number) → Passes up_to_digits (number_text n)
-digits_pass n = each_weaker IsNumberByte (λ b. up_to_digits b ≡ true) (λ b h. lt-ltb b 58 h.1) (number_text n) (number_bytes n)
+digits_pass : (digits : List ℕ) (n : Number) → Says digits n → Passes up_to_digits digits
+digits_pass digits n h = each_weaker IsNumberByte (λ b. up_to_digits b ≡ true) (λ b h. lt-ltb b 58 h.1) digits (said_bytes digits n h)
 
 front_passes : (front : List ℕ) → All (λ b. b ≤ 57) front → Passes up_to_digits front
 front_passes front h = each_weaker (λ b. b ≤ 57) (λ b. up_to_digits b ≡ true) (λ b low. lt-ltb b 58 (omega (arith, low))) front (recursion_from_All (λ b. b ≤ 57) front h)
@@ -39,9 +41,9 @@ rest_stops [] h = tt
 rest_stops (b ∷ rest) h = le-ltb b 58 (omega (arith, h))
 
 -- the number is the front, and the unit is the rest
-pub parts_once : (n : Number) (u : Unit) (front rest word : List ℕ) → All (λ b. b ≤ 57) front → 57 < get_or rest 0 0 → word ≡ front ++ rest → number_text n ++ unit_text u ≡ word → (number_text n ≡ front) × (unit_text u ≡ rest)
-parts_once n u front rest word low high cut text =
-    cut_once up_to_digits (number_text n) front (unit_text u) rest (digits_pass n) (front_passes front low) (unit_stops u) (rest_stops rest high) (text ∙ cut)
+pub parts_once : (digits : List ℕ) (n : Number) (u : Unit) (front rest word : List ℕ) → All (λ b. b ≤ 57) front → 57 < get_or rest 0 0 → word ≡ front ++ rest → Says digits n → digits ++ unit_text u ≡ word → (digits ≡ front) × (unit_text u ≡ rest)
+parts_once digits n u front rest word low high cut says text =
+    cut_once up_to_digits digits front (unit_text u) rest (digits_pass digits n says) (front_passes front low) (unit_stops u) (rest_stops rest high) (text ∙ cut)
 
 unit_some : (u : Unit) → unit_text u ≡ [] → ⊥
 unit_some Second e = absurd (omega (arith, first e))
@@ -50,9 +52,9 @@ unit_some Micro e = absurd (omega (arith, first e))
 unit_some Nano e = absurd (omega (arith, first e))
 
 -- without a unit it is no duration
-pub no_unit : (n : Number) (u : Unit) (word : List ℕ) → All (λ b. b ≤ 57) word → number_text n ++ unit_text u ≡ word → ⊥
-no_unit n u word low text =
-    unit_some u (cut_once up_to_digits (number_text n) word (unit_text u) [] (digits_pass n) (front_passes word low) (unit_stops u) tt (text ∙ sym (append-nil word))).1
+pub no_unit : (digits : List ℕ) (n : Number) (u : Unit) (word : List ℕ) → All (λ b. b ≤ 57) word → Says digits n → digits ++ unit_text u ≡ word → ⊥
+no_unit digits n u word low says text =
+    unit_some u (cut_once up_to_digits digits word (unit_text u) [] (digits_pass digits n says) (front_passes word low) (unit_stops u) tt (text ∙ sym (append-nil word))).1
 
 -- the texts of two units differ
 unit_once : (a b : Unit) → unit_text a ≡ unit_text b → a ≡ b
@@ -74,13 +76,13 @@ unit_once Nano Micro e = absurd (omega (arith, first e))
 unit_once Nano Nano e = refl
 
 -- so many of a unit are so many nanoseconds
-pub nanos_found : (word front rest : List ℕ) (n : Number) (u : Unit) (r : Option ℕ) → All (λ b. b ≤ 57) front → 57 < get_or rest 0 0 → word ≡ front ++ rest → IsDecimal n → number_text n ≡ front → unit_text u ≡ rest → Finds (λ nanos. IsNanos n u nanos × (nanos < 2 ^ 128)) r → Finds (λ nanos. IsTimeWord word nanos × (nanos < 2 ^ 128)) r
-nanos_found word front rest n u (Some nanos) low high cut good number unit h =
-    (record { number = n; unit = u; decimal = good; text = ap₂ (λ a b. a ++ b) number unit ∙ sym cut; is = h.0 }, h.1)
-nanos_found word front rest n u None low high cut good number unit h = λ nanos t.
-    let (same, units) = parts_once t.0.number t.0.unit front rest word low high cut t.0.text in
+pub nanos_found : (word front rest : List ℕ) (n : Number) (u : Unit) (r : Option ℕ) → All (λ b. b ≤ 57) front → 57 < get_or rest 0 0 → word ≡ front ++ rest → IsDecimal n → Says front n → unit_text u ≡ rest → Finds (λ nanos. IsNanos n u nanos × (nanos < 2 ^ 128)) r → Finds (λ nanos. IsTimeWord word nanos × (nanos < 2 ^ 128)) r
+nanos_found word front rest n u (Some nanos) low high cut good says unit h =
+    (record { digits = front; number = n; unit = u; decimal = good; says = says; text = ap (λ b. front ++ b) unit ∙ sym cut; is = h.0 }, h.1)
+nanos_found word front rest n u None low high cut good says unit h = λ nanos t.
+    let (same, units) = parts_once t.0.digits t.0.number t.0.unit front rest word low high cut t.0.says t.0.text in
     h nanos (
-      subst (λ m. IsNanos m u nanos) (number_once t.0.number n (same ∙ sym number))
+      subst (λ m. IsNanos m u nanos) (says_once front t.0.number n (subst (λ ds. Says ds t.0.number) same t.0.says) says)
           (subst (λ v. IsNanos t.0.number v nanos) (unit_once t.0.unit u (units ∙ sym unit)) t.0.is),
       t.1,
     )
@@ -94,9 +96,9 @@ nanos_same n u a b h k = h.same ∙ ap (λ s. s * 10 ^ (unit_tens u - n.places))
 -- a word is that of one duration
 pub nanos_once : (word : List ℕ) (a b : ℕ) → IsTimeWord word a → IsTimeWord word b → a ≡ b
 nanos_once word a b h k =
-    let (texts, units) = cut_once up_to_digits (number_text h.number) (number_text k.number) (unit_text h.unit) (unit_text k.unit) (digits_pass h.number) (digits_pass k.number) (unit_stops h.unit) (unit_stops k.unit) (h.text ∙ sym k.text) in
+    let (texts, units) = cut_once up_to_digits h.digits k.digits (unit_text h.unit) (unit_text k.unit) (digits_pass h.digits h.number h.says) (digits_pass k.digits k.number k.says) (unit_stops h.unit) (unit_stops k.unit) (h.text ∙ sym k.text) in
     nanos_same k.number k.unit a b
-    (subst (λ m. IsNanos m k.unit a) (number_once h.number k.number texts) (subst (λ v. IsNanos h.number v a) (unit_once h.unit k.unit units) h.is))
+    (subst (λ m. IsNanos m k.unit a) (says_once k.digits h.number k.number (subst (λ ds. Says ds h.number) texts h.says) k.says) (subst (λ v. IsNanos h.number v a) (unit_once h.unit k.unit units) h.is))
     k.is
 
 -- what 64 bits count is not much

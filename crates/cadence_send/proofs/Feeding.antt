@@ -1,16 +1,16 @@
 -- Input that comes piece by piece, and what a packer took of its texts.
-use Rattle.std.proofs.Common.{◌≡◌, ◌≢◌, ℕ, ◌++◌, List, [], ◌∷◌, length, take, refl, sym, ap, ap₂, ◌∙◌, subst, eqb, arith, true, false, if◌then◌else◌, Option, Some, None, Result, Ok}
+use Rattle.std.proofs.Common.{◌≡◌, ◌≢◌, ◌≤◌, ℕ, ◌++◌, List, [], ◌∷◌, length, take, refl, sym, ap, ap₂, ◌∙◌, subst, eqb, arith, true, false, if◌then◌else◌, Option, Some, None, Result, Ok}
 use Rattle.std.specs.Prelude.{All, IfSome, IfOk}
 use Rattle.std.specs.Io.KnownBytes.{Consumes}
-use Rattle.std.specs.List.{AllByRecursion, AllZip}
-use Rattle.std.proofs.lemmas.Bool.{ne_eqb}
+use Rattle.std.specs.List.{AllByRecursion, AllZip, concat}
+use Rattle.std.proofs.lemmas.Bool.{ltb-true, ne_eqb}
 use Rattle.std.proofs.lemmas.List.{append_assoc, append-nil, take_all}
 use Rattle.std.proofs.lemmas.List.Concat.{flat_map-append}
 use Rattle.std.proofs.lemmas.List.Elements.{All-append, All-nil, All-cons, recursion_from_All, filter_map-append}
 use Rattle.std.proofs.lemmas.List.Splits.{slice_split_none, slice_split_at}
 use Rattle.cadence_errors.specs.declared.SinkError.{SinkError}
-use Rattle.cadence_flow.specs.Frame.{Format, frame, frame_of, is_oversize, stream}
-use Rattle.cadence_flow.specs.Packer.{FlushesHeld, Packer, WritesLine, given_by, whole_text}
+use Rattle.cadence_flow.specs.Frame.{Format, frame, frame_of, is_oversize, size_of, stream}
+use Rattle.cadence_flow.specs.Packer.{Fits, FlushesHeld, Packer, WritesLine, given_by, holding, whole_text}
 use Rattle.cadence_flow.specs.Writer.{History, Kind}
 use Rattle.cadence_send.specs.Fed.{Feeds, IsOneText, ended}
 use Rattle.cadence_send.specs.Sent.{AreLinesOf, Gives, SendsTexts, TakesLines, TakesTexts, texts_of}
@@ -76,6 +76,24 @@ module _ {W : Type 0} (kind : W → Kind) (history : W → History) where
         ∙ ap (λ t. whole_text (history p.writer) p.held ++ t) (frame_whole p.format line n count ∙ sym (append-nil (frame p.format line)));
   }
 
+  frame_fits : (f : Format) (line : List ℕ) → size_of f line ≤ f.capacity → frame f line ≡ line ++ f.ending
+  frame_fits f line fits = by_size (is_oversize f line) refl
+    where
+      by_size : (b : _) → is_oversize f line ≡ b → frame f line ≡ line ++ f.ending
+      by_size true is = absurd (omega (arith, fits, ltb-true _ _ is))
+      by_size false is = ap (λ b. if b then line else line ++ f.ending) is
+
+  -- a line that is held
+  pub hold_takes : (p q : Packer W) (line : List ℕ) → Fits p line → q ≡ holding p line → TakesLines kind history p q (line ∷ [])
+  hold_takes p q line fits is = record {
+    same_kind = ap (λ (r : Packer W). kind r.writer) is;
+    same_format = ap (λ (r : Packer W). r.format) is;
+    text = λ tells whole.
+        ap (λ (r : Packer W). whole_text (history r.writer) r.held) is
+        ∙ sym (append_assoc (concat (history p.writer).packets) p.held (line ++ p.format.ending))
+        ∙ ap (λ t. whole_text (history p.writer) p.held ++ t) (sym (frame_fits p.format line (omega (arith, fits))) ∙ sym (append-nil (frame p.format line)));
+  }
+
   -- a flush takes no lines
   pub flush_takes : {A : Type 0} (p q : Packer W) (r : Result A SinkError) → FlushesHeld kind history p q r → TakesLines kind history p q []
   flush_takes p q r h = record {
@@ -95,9 +113,9 @@ module _ {W : Type 0} (kind : W → Kind) (history : W → History) where
       takes = takes_more p q r h.lines k.lines h.takes k.takes;
     }
 
-    -- a text with a line, which is written, and one without
-    pub text_written : (p q : Packer W) (text line : List ℕ) (n : ℕ) (r : Result ℕ SinkError) → Gives d text (Some line) → r ≡ Ok n → WritesLine kind history p q line r → TakesTexts d kind history p q (text ∷ [])
-    text_written p q text line n r given e h = record { lines = line ∷ []; are = (Some line ∷ [], (given, tt), refl); takes = write_takes p q line n r e h }
+    -- a text with a line, which is taken, and one without
+    pub text_taken : (p q : Packer W) (text line : List ℕ) → Gives d text (Some line) → TakesLines kind history p q (line ∷ []) → TakesTexts d kind history p q (text ∷ [])
+    text_taken p q text line given takes = record { lines = line ∷ []; are = (Some line ∷ [], (given, tt), refl); takes = takes }
 
     pub text_without : (p : Packer W) (text : List ℕ) → Gives d text None → TakesTexts d kind history p p (text ∷ [])
     text_without p text given = record { lines = []; are = (None ∷ [], (given, tt), refl); takes = takes_none p }

@@ -8,17 +8,18 @@ use Rattle.std.proofs.lemmas.List.{append_assoc, get_or-map, length-drop, length
 use Rattle.std.proofs.lemmas.List.Elements.{recursion_from_All}
 use Rattle.std.proofs.lemmas.List.Splits.{slice_split_none}
 use Rattle.std.proofs.lemmas.Slice.Zip.{all_zipped_more, AllZip-long}
-use Rattle.cadence_send.specs.Asked.{AskFor, Asked, IsNumberWord, IsTagWord, IsValueWord, IsWord, NamesKind, Packs}
+use Rattle.cadence_send.specs.Asked.{AddsTags, AreHead, IsNumberWord, IsTagWord, IsValueWord, Packs, words_of}
 use Rattle.cadence_send.specs.Finds.{FailsAs, FindsOrFails}
 use Rattle.cadence_send.specs.declared.fault.Fault.{Fault}
 use Rattle.cadence_send.specs.declared.fault.Fault.TheVariants.{Unreadable, OutOfMemory}
-use Rattle.cadence_send.specs.Sent.{IsLineOfText, IsLineOfWords}
+use Rattle.cadence_send.specs.Sent.{IsLineOfText, IsLineOfWords, finished}
+use Rattle.cadence_text.specs.Line.{line_of}
 use Rattle.cadence_send.specs.declared.defaults.Defaults.{Defaults}
 use Rattle.cadence_schedule.specs.Call.{metric_of_call, plain_call}
 use Rattle.cadence_schedule.specs.Settings.{Settings}
 use Rattle.cadence_text.proofs.LineText.{key_text-keyed, keyed_text, plain_lacks_colon}
 use Rattle.cadence_text.specs.declared.line.MetricType.{MetricType}
-use Rattle.cadence_text.specs.Metric.{Tag}
+use Rattle.cadence_text.specs.Metric.{Metric, Tag}
 use Rattle.cadence_text.specs.OneReading.{IsFreeText}
 use Rattle.cadence_value.proofs.Cut.{Lacks, cut_at, lacks_no}
 use Rattle.cadence_value.specs.Number.{Number}
@@ -49,21 +50,12 @@ rest_of words = take (length words - 3) (drop 3 words)
 rest_is : (words : List (Bor (List ℕ))) → rest_of words ≡ drop 3 words
 rest_is words = take_all (length words - 3) (drop 3 words) (omega (arith, length-drop 3 words))
 
--- the words of what is asked for
-pub asks : (words : List (Bor (List ℕ))) (k n v : Bor (List ℕ)) (a : Asked) → 3 ≤ length words → NamesKind (get_or words 0 k).now a.kind → a.name ≡ (get_or words 1 n).now → IsWord (get_or words 1 n).now → IsValueWord a.kind (get_or words 2 v).now a.numbers → AllZip IsTagWord (texts (rest_of words)) a.tags → AskFor (texts words) a
-asks [] k n v a long kind name word value tags = absurd (omega (arith, long))
-asks (w1 ∷ []) k n v a long kind name word value tags = absurd (omega (arith, long))
-asks (w1 ∷ w2 ∷ []) k n v a long kind name word value tags = absurd (omega (arith, long))
-asks (w1 ∷ w2 ∷ w3 ∷ ws) k n v a long kind name word value tags = (kind, name, word, value, subst (λ ws. AllZip IsTagWord (texts ws) a.tags) (rest_is (w1 ∷ w2 ∷ w3 ∷ ws)) tags)
-
-tags_after : (words : List (Bor (List ℕ))) (a : Asked) → AskFor (texts words) a → AllZip IsTagWord (texts (drop 3 words)) a.tags
-tags_after [] a h = absurd h
-tags_after (w1 ∷ []) a h = absurd h
-tags_after (w1 ∷ w2 ∷ []) a h = absurd h
-tags_after (w1 ∷ w2 ∷ w3 ∷ ws) a h = h.4
-
-pub tags_asked : (words : List (Bor (List ℕ))) (a : Asked) → AskFor (texts words) a → AllZip IsTagWord (texts (rest_of words)) a.tags
-tags_asked words a h = subst (λ ws. AllZip IsTagWord (texts ws) a.tags) (sym (rest_is words)) (tags_after words a h)
+-- three words and the others
+pub three_words : (words : List (Bor (List ℕ))) (k n v : Bor (List ℕ)) → 3 ≤ length words → texts words ≡ (get_or words 0 k).now ∷ (get_or words 1 n).now ∷ (get_or words 2 v).now ∷ texts (rest_of words)
+three_words [] k n v long = absurd (omega (arith, long))
+three_words (w1 ∷ []) k n v long = absurd (omega (arith, long))
+three_words (w1 ∷ w2 ∷ []) k n v long = absurd (omega (arith, long))
+three_words (w1 ∷ w2 ∷ w3 ∷ ws) k n v long = ap (λ others. w1.now ∷ w2.now ∷ w3.now ∷ texts others) (sym (rest_is (w1 ∷ w2 ∷ w3 ∷ ws)))
 
 -- where a part of what is looked for isn't there, the whole isn't
 pub hands_on : {C X Y : Type 0} (Has : X → Type 0) (view : C → X) (Part : Y → Type 0) (r : Result C Fault) (fault : Fault) → r ≡ Err fault → ((x : X) → Has x → (y : Y) × Part y) → FailsAs Part fault → FindsOrFails Has view r
@@ -122,12 +114,6 @@ tag_plain tag word plain h = by_key tag.key tag.text h.free.text (sym (key_text-
 pub tag_found : (key text word : List ℕ) → word ≡ key ++ 58 ∷ text → IsFreeText key → IsFreeText text → IsTagWord word (record { key = Some key; text = text })
 tag_found key text word cut k t = record { whole = append_assoc key (58 ∷ []) text ∙ sym cut; free = record { key = k; text = t }; some = omega (arith, ap (λ w. length w) cut, length-append key (58 ∷ text)) }
 
--- the line of the words of a text
-pub text_read : {Z C : Type 0} (d : Defaults Z) (view : C → List ℕ) (words : List (Bor (List ℕ))) (text seen : List ℕ) (r : Result C Fault) → seen ≡ text → IsUtf8 text → texts words ≡ slice_split (λ b. eqb b 32) seen → FindsOrFails (IsLineOfWords d (texts words)) view r → FindsOrFails (IsLineOfText d text) view r
-text_read d view words text seen (Ok c) same utf8 cut h = (utf8, subst (λ ws. IsLineOfWords d ws (view c)) (cut ∙ ap (slice_split (λ b. eqb b 32)) same) h)
-text_read d view words text seen (Err (Unreadable part)) same utf8 cut h = λ line l. h line (subst (λ ws. IsLineOfWords d ws line) (sym (cut ∙ ap (slice_split (λ b. eqb b 32)) same)) l.1)
-text_read d view words text seen (Err OutOfMemory) same utf8 cut h = tt
-
 -- a call without options has neither rate nor time
 pub plain_rate : (s : Settings) (kind : MetricType) (name : List ℕ) (ns : List Number) → (metric_of_call s (plain_call kind name ns)).rate ≡ None
 unfolding metric_of_call
@@ -136,3 +122,72 @@ plain_rate s kind name ns = refl
 pub plain_time : (s : Settings) (kind : MetricType) (name : List ℕ) (ns : List Number) → (metric_of_call s (plain_call kind name ns)).time ≡ None
 unfolding metric_of_call
 plain_time s kind name ns = refl
+
+-- the tag of one of the words
+pub tag_of_word : (front rest : List (List ℕ)) (word : List ℕ) (tags : List Tag) → AllZip IsTagWord (front ++ word ∷ rest) tags → (tag : Tag) × IsTagWord word tag
+tag_of_word [] rest word [] h = absurd h
+tag_of_word [] rest word (t ∷ tags) h = (t, h.0)
+tag_of_word (w ∷ front) rest word [] h = absurd h
+tag_of_word (w ∷ front) rest word (t ∷ tags) h = tag_of_word front rest word tags h.1
+
+-- where one of the words is no tag, they aren't
+pub tags_fail : (words : List (List ℕ)) (word : List ℕ) (old new : Metric) (r : Result (Unit {0}) Fault) (fault : Fault) → r ≡ Err fault → ((tags : List Tag) → AllZip IsTagWord words tags → (tag : Tag) × IsTagWord word tag) → FailsAs (IsTagWord word) fault → AddsTags words old new r
+tags_fail words word old new r (Unreadable part) is from none = rw is (λ tags h. let p = from tags h in none p.0 p.1)
+tags_fail words word old new r OutOfMemory is from none = rw is tt
+
+-- a metric with some tags, and then with one more
+pub tagged_more : (old mid new : Metric) (tags : List Tag) (tag : Tag) → mid ≡ record old { tags = old.tags ++ tags } → new ≡ record mid { tags = mid.tags ++ tag ∷ [] } → new ≡ record old { tags = old.tags ++ (tags ++ tag ∷ []) }
+tagged_more old mid new tags tag was is =
+    is ∙ ap (λ (m : Metric). record m { tags = m.tags ++ tag ∷ [] }) was ∙ ap (λ ts. record old { tags = ts }) (append_assoc old.tags tags (tag ∷ []))
+
+module _ {Z : Type 0} (d : Defaults Z) (k n v : List ℕ) (others words : List (List ℕ)) (are : words ≡ k ∷ n ∷ v ∷ others) where
+  asked : (line : List ℕ) → IsLineOfWords d words line → IsLineOfWords d (k ∷ n ∷ v ∷ others) line
+  asked line h = subst (λ ws. IsLineOfWords d ws line) are h
+
+  -- what the words of a line ask for
+  pub head_asked : (line : List ℕ) → IsLineOfWords d words line → (h : MetricType × List Number) × AreHead k n v h.0 h.1
+  head_asked line l =
+      let h = asked line l in
+      ((h.0.kind, h.0.numbers), record { named = h.1.0; word = h.1.2; valued = h.1.3 })
+
+  pub tags_asked : (line : List ℕ) → IsLineOfWords d words line → (tags : List Tag) × AllZip IsTagWord others tags
+  tags_asked line l = let h = asked line l in (h.0.tags, h.1.4)
+
+  -- the line of the metric of these words
+  pub line_found : (kind : MetricType) (numbers : List Number) (old new : Metric) (line : List ℕ) → AreHead k n v kind numbers → old ≡ metric_of_call d.settings (plain_call kind n numbers) → AddsTags others old new (Ok tt) → line ≡ line_of (finished d new) → IsLineOfWords d words line
+  line_found kind numbers old new line head is (tags, each, added) e =
+      subst (λ ws. IsLineOfWords d ws line) (sym are) (
+        record { kind = kind; name = n; numbers = numbers; tags = tags },
+        (head.named, refl, head.word, head.valued, each),
+        e ∙ ap (λ m. line_of (finished d m)) (added ∙ ap (λ (m : Metric). record m { tags = m.tags ++ tags }) is),
+      )
+
+-- the words after the first three are the tags
+pub rest_asked : {Z : Type 0} (d : Defaults Z) (words : List (Bor (List ℕ))) (line : List ℕ) → 3 ≤ length words → IsLineOfWords d (texts words) line → (tags : List Tag) × AllZip IsTagWord (texts (rest_of words)) tags
+rest_asked d [] line long h = absurd (omega (arith, long))
+rest_asked d (w1 ∷ []) line long h = absurd (omega (arith, long))
+rest_asked d (w1 ∷ w2 ∷ []) line long h = absurd (omega (arith, long))
+rest_asked d (w1 ∷ w2 ∷ w3 ∷ ws) line long h = (h.0.tags, subst (λ ws. AllZip IsTagWord (texts ws) h.0.tags) (sym (rest_is (w1 ∷ w2 ∷ w3 ∷ ws))) h.1.4)
+
+-- fewer than three words ask for nothing
+pub no_word : {Z : Type 0} (d : Defaults Z) (words : List (List ℕ)) → words ≡ [] → (line : List ℕ) → IsLineOfWords d words line → ⊥
+no_word d words are line h = (subst (λ ws. IsLineOfWords d ws line) are h).1
+
+pub one_word : {Z : Type 0} (d : Defaults Z) (k : List ℕ) (words others : List (List ℕ)) → words ≡ k ∷ others → others ≡ [] → (line : List ℕ) → IsLineOfWords d words line → ⊥
+one_word d k words others are none line h = (subst (λ ws. IsLineOfWords d ws line) (are ∙ ap (λ ws. k ∷ ws) none) h).1
+
+pub two_words : {Z : Type 0} (d : Defaults Z) (k n : List ℕ) (words others rest : List (List ℕ)) → words ≡ k ∷ others → others ≡ n ∷ rest → rest ≡ [] → (line : List ℕ) → IsLineOfWords d words line → ⊥
+two_words d k n words others rest are more none line h = (subst (λ ws. IsLineOfWords d ws line) (are ∙ ap (λ ws. k ∷ ws) (more ∙ ap (λ ws. n ∷ ws) none)) h).1
+
+-- the metric of a plain call has neither rate nor time, with tags too
+pub plain_start : (s : Settings) (kind : MetricType) (n : List ℕ) (numbers : List Number) (words : List (List ℕ)) (old new : Metric) → old ≡ metric_of_call s (plain_call kind n numbers) → AddsTags words old new (Ok tt) → (new.rate ≡ None) × (new.time ≡ None)
+plain_start s kind n numbers words old new is (tags, each, added) = (
+  ap (λ (m : Metric). m.rate) added ∙ ap (λ (m : Metric). m.rate) is ∙ plain_rate s kind n numbers,
+  ap (λ (m : Metric). m.time) added ∙ ap (λ (m : Metric). m.time) is ∙ plain_time s kind n numbers,
+)
+
+-- a text in UTF-8 whose words ask for a line, or for none
+pub text_read : {Z C : Type 0} (d : Defaults Z) (view : C → List ℕ) (text : List ℕ) (r : Result C Fault) → IsUtf8 text → FindsOrFails (IsLineOfWords d (words_of text)) view r → FindsOrFails (IsLineOfText d text) view r
+text_read d view text (Ok c) utf8 h = (utf8, h)
+text_read d view text (Err (Unreadable part)) utf8 h = λ line l. h line l.1
+text_read d view text (Err OutOfMemory) utf8 h = tt

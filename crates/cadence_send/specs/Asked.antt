@@ -1,8 +1,8 @@
 -- What the words of a line ask for.
-use Rattle.std.specs.Prelude.{◌≡◌, ◌<◌, ◌⊎◌, ◌==◌, ⊤, ℕ, List, [], ◌∷◌, ◌++◌, codes, length, Result, Ok, Err}
+use Rattle.std.specs.Prelude.{◌≡◌, ◌<◌, ◌⊎◌, ◌==◌, ⊤, ℕ, Bool, true, false, List, [], ◌∷◌, ◌++◌, codes, length, Result, Ok, Err}
 use Rattle.std.specs.Int.{w64, FitsUnsigned}
 use Rattle.std.specs.Int.RustNames.{FitsSigned}
-use Rattle.std.specs.List.{AllZip, slice_split}
+use Rattle.std.specs.List.{AllZip, filter, slice_split}
 use Rattle.cadence_text.specs.declared.line.MetricType.{MetricType}
 use Rattle.cadence_text.specs.declared.line.MetricType.TheVariants.{Counter, Timer, Gauge, Meter, Histogram, Set, Distribution}
 use Rattle.cadence_text.specs.Line.{kind_text, tag_text}
@@ -11,7 +11,19 @@ use Rattle.cadence_text.specs.OneReading.{IsFreeTag, IsFreeText}
 use Rattle.cadence_send.specs.Finds.{FailsAs}
 use Rattle.cadence_send.specs.declared.fault.Fault.{Fault}
 use Rattle.cadence_send.specs.Duration.{IsDurationWord}
-use Rattle.cadence_value.specs.Number.{IsDecimal, Number, number_text}
+use Rattle.cadence_value.specs.Number.{IsDecimal, Number}
+use Rattle.cadence_value.specs.Said.{Says}
+use Rattle.cadence_value.specs.Values.{numbers_of}
+use Rattle.cadence_value.specs.declared.value.MetricValue.{MetricValue}
+
+-- a list that has an element
+abbrev pub has_some : {X : Type 0} → List X → Bool
+has_some [] = false
+has_some (x ∷ xs) = true
+
+-- the words of a text: what stands between its spaces, where that isn't empty
+abbrev pub words_of : List ℕ → List (List ℕ)
+words_of text = filter has_some (slice_split (λ b. b == 32) text)
 
 -- a kind's name, as the client's calls have it
 abbrev pub kind_name : MetricType → List ℕ
@@ -54,10 +66,10 @@ Takes Histogram n = ⊤
 Takes Set n = IsSigned n
 Takes Distribution n = ⊤
 
--- the number that is written so
+-- the number that a word says, also with zeros after its places
 pub record IsPlainWord (kind : MetricType) (word : List ℕ) (n : Number) : Type 0 where
   pub decimal : IsDecimal n
-  pub text : number_text n ≡ word
+  pub says : Says word n
   pub takes : Takes kind n
 
 -- a plain number, or a duration that the kind counts
@@ -79,6 +91,15 @@ pub record IsValueWord (kind : MetricType) (word : List ℕ) (numbers : List Num
   pub each : AllZip (IsNumberWord kind) (slice_split (λ b. b == 44) word) numbers
   pub few : Packs kind ⊎ (length numbers ≡ 1)
 
+-- what the words of a kind, a name and a value are
+pub record AreHead (kind_word name value : List ℕ) (kind : MetricType) (numbers : List Number) : Type 0 where
+  pub named : NamesKind kind_word kind
+  pub word : IsWord name
+  pub valued : IsValueWord kind value numbers
+
+abbrev pub head_of : {Z : Type 0} → MetricType × MetricValue Z → MetricType × List Number
+head_of (kind, value) = (kind, numbers_of value)
+
 -- what a line asks for
 pub record Asked : Type 0 where
   pub kind : MetricType
@@ -93,6 +114,11 @@ AskFor (kind ∷ []) asked = ⊥
 AskFor (kind ∷ name ∷ []) asked = ⊥
 AskFor (kind ∷ name ∷ value ∷ tags) asked =
     NamesKind kind asked.kind × (asked.name ≡ name) × IsWord name × IsValueWord asked.kind value asked.numbers × AllZip IsTagWord tags asked.tags
+
+-- a metric gets the tag that a word is; or the word is none
+abbrev pub AddsTag : List ℕ → Metric → Metric → Result (Unit {0}) Fault → Type 0
+AddsTag word old new (Ok done) = (tag : Tag) × IsTagWord word tag × (new ≡ record old { tags = old.tags ++ tag ∷ [] })
+AddsTag word old new (Err fault) = FailsAs (IsTagWord word) fault
 
 -- a metric gets the tags that these words are; or a word is none
 abbrev pub AddsTags : List (List ℕ) → Metric → Metric → Result (Unit {0}) Fault → Type 0

@@ -4,7 +4,8 @@ use Rattle.cadence_text.specs.declared.line.MetricType.{MetricType}
 use Rattle.cadence_text.specs.declared.line.MetricType.TheVariants.{Counter, Timer, Gauge, Meter, Histogram, Set, Distribution}
 use Rattle.cadence_send.specs.declared.duration.Unit.{Unit}
 use Rattle.cadence_send.specs.declared.duration.Unit.TheVariants.{Second, Milli, Micro, Nano}
-use Rattle.cadence_value.specs.Number.{IsDecimal, Number, natural, number_text}
+use Rattle.cadence_value.specs.Number.{IsDecimal, Number, natural}
+use Rattle.cadence_value.specs.Said.{Says}
 
 abbrev pub unit_text : Unit → List ℕ
 unit_text Second = codes "s"
@@ -28,10 +29,12 @@ pub record IsNanos (n : Number) (unit : Unit) (nanos : ℕ) : Type 0 where
 
 -- the nanoseconds that are written so
 pub record IsTimeWord (word : List ℕ) (nanos : ℕ) : Type 0 where
+  pub digits : List ℕ
   pub number : Number
   pub unit : Unit
   pub decimal : IsDecimal number
-  pub text : number_text number ++ unit_text unit ≡ word
+  pub says : Says digits number
+  pub text : digits ++ unit_text unit ≡ word
   pub is : IsNanos number unit nanos
 
 -- what a kind counts of them: whole milliseconds, cut off, or all of them

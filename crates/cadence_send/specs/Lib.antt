@@ -3,4 +3,5 @@ pub mod Duration
 pub mod Fed
 pub mod Finds
 pub mod Sent
+pub mod TagWords
 pub mod Writers

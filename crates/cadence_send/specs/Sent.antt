@@ -6,7 +6,7 @@ use Rattle.cadence_flow.specs.Frame.{stream}
 use Rattle.cadence_flow.specs.Packer.{Packer, whole_text}
 use Rattle.cadence_flow.specs.Writer.{History, Kind}
 use Rattle.cadence_schedule.specs.Call.{metric_of_call, plain_call}
-use Rattle.cadence_send.specs.Asked.{AskFor, Asked}
+use Rattle.cadence_send.specs.Asked.{AskFor, Asked, words_of}
 use Rattle.cadence_send.specs.declared.defaults.Defaults.{Defaults}
 use Rattle.cadence_text.specs.Line.{line_of}
 use Rattle.cadence_text.specs.Metric.{Metric}
@@ -17,13 +17,17 @@ asked_metric d a =
     let m = metric_of_call d.settings (plain_call a.kind a.name a.numbers) in
     record m { tags = m.tags ++ a.tags; rate = d.rate; time = d.time }
 
+-- the metric with the rate and the time of the command line
+abbrev pub finished : {Z : Type 0} → Defaults Z → Metric → Metric
+finished d m = record m { rate = d.rate; time = d.time }
+
 -- the line of the metric that these words ask for
 abbrev pub IsLineOfWords : {Z : Type 0} → Defaults Z → List (List ℕ) → List ℕ → Type 0
 IsLineOfWords d words line = (a : Asked) × AskFor words a × (line ≡ line_of (asked_metric d a))
 
--- the words of a text in UTF-8 stand between its spaces
+-- the line of the words of a text in UTF-8
 abbrev pub IsLineOfText : {Z : Type 0} → Defaults Z → List ℕ → List ℕ → Type 0
-IsLineOfText d text line = IsUtf8 text × IsLineOfWords d (slice_split (λ b. b == 32) text) line
+IsLineOfText d text line = IsUtf8 text × IsLineOfWords d (words_of text) line
 
 -- a text's line; or none, where it asks for none
 abbrev pub Gives : {Z : Type 0} → Defaults Z → List ℕ → Option (List ℕ) → Type 0

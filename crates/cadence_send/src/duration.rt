@@ -4,7 +4,7 @@ ghost use Rattle.cadence_send.specs.Duration.{Counts, IsDurationWord, IsNanos, I
 ghost use Rattle.cadence_send.specs.Finds.{Finds};
 ghost use Rattle.cadence_value.specs.Number.{natural};
 
-use cadence_read::read_number;
+use crate::decimal::read_bytes;
 use cadence_text::line::MetricType;
 use cadence_value::decimal::{Decimal, power_of_ten};
 
@@ -74,7 +74,7 @@ fn read_nanos(word: &[u8]) -> Option<u128>
 {
     let (digits, unit) = cut_unit(word)?;
     let unit = read_unit(unit)?;
-    let number = read_number(digits)?;
+    let number = read_bytes(digits)?;
     nanos_of(number, unit)
 }
 

@@ -9,6 +9,7 @@ use crate::line::line_of_text;
 use crate::pace::Pace;
 use cadence_errors::SinkError;
 use cadence_flow::io::{LineBuffer, PacketWriter};
+use memchr::memchr;
 use std::alloc::{AllocError, Allocator};
 use std::io::{Read, Write};
 use thiserror::Error;
@@ -59,7 +60,7 @@ impl Failure {
 pub struct Counts {
     /// All texts, but for an empty last one.
     pub texts: u64,
-    /// Those that ask for nothing, but for empty ones.
+    /// Those that ask for nothing, but for those without words.
     pub unread: u64,
 }
 
@@ -75,6 +76,25 @@ impl Counts {
     }
 }
 
+// Whether there is no word in the text.
+fn is_blank(text: &[u8]) -> bool {
+    text.iter().all(|byte| *byte == b' ')
+}
+
+// Takes a line. Mostly it fits, and then there is no error to answer.
+fn take_line<T: PacketWriter, A: Allocator>(
+    lines: &mut LineBuffer<T, A>,
+    line: &[u8],
+) -> Result<(), Failure>
+    ensures { OnOk result (TakesLines T.kind T.history lines.old lines.new (line.now ∷ [])) }
+{
+    if lines.hold(line) {
+        return Ok(());
+    }
+    lines.write(line)?;
+    Ok(())
+}
+
 // Takes the line of a text, where it has one, and answers why it has none.
 fn take_text<T: PacketWriter, A: Allocator + Clone>(
     alloc: &A,
@@ -87,21 +107,42 @@ fn take_text<T: PacketWriter, A: Allocator + Clone>(
 {
     match line_of_text(alloc, defaults, text) {
         Ok(line) => {
-            lines.write(line.as_bytes())?;
+            take_line(lines, line.as_bytes())?;
             Ok(None)
         }
-        Err(Fault::Unreadable(part)) => Ok(if text.is_empty() { None } else { Some(part) }),
+        Err(Fault::Unreadable(part)) => Ok(if is_blank(text) { None } else { Some(part) }),
         Err(Fault::OutOfMemory) => Err(Failure::OutOfMemory),
     }
 }
 
-// What stands before the first newline, and what stands after it.
-fn cut_text(bytes: &[u8]) -> Option<(&[u8], &[u8])>
+// Takes the text whose front waits and whose end is this. Nothing waits then.
+fn take_ended<T: PacketWriter, A: Allocator + Clone>(
+    alloc: &A,
+    defaults: &Defaults<A>,
+    lines: &mut LineBuffer<T, A>,
+    waiting: &mut Vec<u8, A>,
+    end: &[u8],
+) -> Result<Option<Part>, Failure>
+    ensures taken { OnOk result (TakesTexts defaults.now T.kind T.history lines.old lines.new
+        ((waiting.old.items ++ end.now) ∷ [])) }
+    ensures none { OnOk result (waiting.new.items ≡ []) }
+{
+    if waiting.is_empty() {
+        return take_text(alloc, defaults, lines, end);
+    }
+    waiting.extend_from_slice(end)?;
+    let unread = take_text(alloc, defaults, lines, waiting)?;
+    waiting.clear();
+    Ok(unread)
+}
+
+/// What stands before the first newline, and what stands after it.
+pub(crate) fn cut_text(bytes: &[u8]) -> Option<(&[u8], &[u8])>
     ensures none { IfNone result (IsOneText bytes.now) }
     ensures front { IfSome result (λ parts. IsOneText parts.0.now) }
     ensures whole { IfSome result (λ parts. bytes.now ≡ parts.0.now ++ 10 ∷ parts.1.now) }
 {
-    let at = bytes.iter().position(|byte| *byte == b'\n')?;
+    let at = memchr(b'\n', bytes)?;
     Some((&bytes[..at], &bytes[at + 1..]))
 }
 
@@ -121,10 +162,8 @@ fn feed<T: PacketWriter, E: Write, A: Allocator + Clone>(
 {
     let mut left = bytes;
     while let Some((front, others)) = cut_text(left) {
-        waiting.extend_from_slice(front)?;
-        let unread = take_text(alloc, defaults, lines, waiting)?;
+        let unread = take_ended(alloc, defaults, lines, waiting, front)?;
         counts.note(unread, errors);
-        waiting.clear();
         left = others;
     }
     waiting.extend_from_slice(left)?;

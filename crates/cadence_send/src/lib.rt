@@ -1,6 +1,7 @@
 //! What `statsd_send` does: lines of words are read to metrics, packed and sent.
 #![tactic(auto)]
 
+mod decimal;
 mod defaults;
 mod duration;
 mod engine;

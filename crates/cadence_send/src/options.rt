@@ -1,10 +1,10 @@
 //! The words of the command line.
 ghost use Rattle.std.specs.Prelude.{◌≡◌, ◌⊎◌};
 
+use crate::decimal::read_decimal;
 use crate::defaults::Defaults;
 use crate::words::{is_word, read_tag};
 use cadence_errors::MetricError;
-use cadence_read::read_number;
 use cadence_schedule::ClientSettings;
 use cadence_value::decimal::Decimal;
 use std::alloc::{AllocError, AllocFailed, Allocator};
@@ -127,7 +127,7 @@ fn whole<'a>(option: &'a str, value: &'a str) -> Result<u64, OptionFault<'a>> {
 
 // A number above 0.
 fn positive<'a>(option: &'a str, value: &'a str) -> Result<Decimal, OptionFault<'a>> {
-    match read_number(value.as_bytes()) {
+    match read_decimal(value) {
         Some(number) if number.mantissa() > 0 => Ok(number),
         _ => Err(OptionFault::Value(option, value)),
     }

@@ -2,6 +2,7 @@
 ghost use Rattle.std.specs.Prelude.{◌≡◌, ◌≤◌, [], true, length, MatchResult};
 ghost use Rattle.cadence_send.specs.Writers.{is_of_packets, packets_kind};
 
+use crate::engine::cut_text;
 use cadence_console::push_bytes;
 use cadence_errors::SinkError;
 use cadence_flow::io::{PacketWriter, Refusals};
@@ -68,26 +69,39 @@ impl<O: Write + Drop, A: Allocator + Clone> Printed<O, A> {
     }
 }
 
-// Whether the byte is shown as it stands.
-fn is_plain(byte: u8) -> bool {
-    byte >= b' ' && byte <= b'~' && byte != b'\\'
+// Whether all bytes are newlines or shown as they stand. It looks at each, since that goes many at a time.
+fn are_plain(bytes: &[u8]) -> bool {
+    let mut all = true;
+    for byte in bytes {
+        let is_shown = *byte >= b' ' && *byte <= b'~' && *byte != b'\\';
+        all = all & (is_shown || *byte == b'\n');
+    }
+    all
 }
 
-// Adds the bytes as they are shown, those between two escapes at once. A piece is made anew for each escape.
+// Adds lines, whose bytes are shown as they stand, with an escape for each newline.
+fn push_lines<A: Allocator>(text: &mut Vec<u8, A>, bytes: &[u8]) -> Result<(), AllocError> {
+    let mut left = bytes;
+    while let Some((line, others)) = cut_text(left) {
+        text.extend_from_slice(line)?;
+        text.extend_from_slice(b"\\n")?;
+        left = others;
+    }
+    text.extend_from_slice(left)
+}
+
+// Adds the bytes as they are shown, line by line where they can be. A piece is made anew where they can't.
 fn push_shown<A: Allocator>(
     text: &mut Vec<u8, A>,
     piece: &mut String<A>,
     bytes: &[u8],
 ) -> Result<(), AllocError> {
-    let mut left = bytes;
-    while let Some(at) = left.iter().position(|byte| !is_plain(*byte)) {
-        text.extend_from_slice(&left[..at])?;
-        piece.clear();
-        push_bytes(piece, &left[at..at + 1])?;
-        text.extend_from_slice(piece.as_bytes())?;
-        left = &left[at + 1..];
+    if are_plain(bytes) {
+        return push_lines(text, bytes);
     }
-    text.extend_from_slice(left)
+    piece.clear();
+    push_bytes(piece, bytes)?;
+    text.extend_from_slice(piece.as_bytes())
 }
 
 // Prints a packet, by a text that is made anew. It answers the length of the packet.

@@ -1,14 +1,14 @@
 //! The value of a metric, read from its word.
-ghost use Rattle.std.specs.Prelude.{◌↔◌, ◌≢◌, All, IsTrue, map};
+ghost use Rattle.std.specs.Prelude.{◌≡◌, ◌↔◌, ◌≢◌, ◌∷◌, [], All, IsTrue, map};
 ghost use Rattle.std.specs.List.{AllZip};
 ghost use Rattle.cadence_send.specs.Asked.{IsNumberWord, IsPlainWord, IsValueWord, Packs, Takes};
 ghost use Rattle.cadence_send.specs.Finds.{Finds, FindsOrFails};
 ghost use Rattle.cadence_value.specs.Values.{numbers_of};
 
+use crate::decimal::read_decimal;
 use crate::duration::read_duration;
 use crate::fault::{Fault, Part};
 use crate::words::cut_items;
-use cadence_read::read_number;
 use cadence_text::line::MetricType;
 use cadence_value::decimal::Decimal;
 use cadence_value::value::MetricValue;
@@ -40,10 +40,10 @@ fn packs(kind: MetricType) -> bool
 }
 
 // The number of a kind that a word says.
-fn read_plain(kind: MetricType, word: &[u8]) -> Option<Decimal>
+fn read_plain(kind: MetricType, word: &str) -> Option<Decimal>
     ensures { Finds (IsPlainWord kind word.now) result }
 {
-    let number = read_number(word)?;
+    let number = read_decimal(word)?;
     if !takes(kind, number) {
         return None;
     }
@@ -54,10 +54,9 @@ fn read_plain(kind: MetricType, word: &[u8]) -> Option<Decimal>
 fn read_item(kind: MetricType, word: &str) -> Option<Decimal>
     ensures { Finds (IsNumberWord kind word.now) result }
 {
-    let bytes = word.as_bytes();
-    match read_plain(kind, bytes) {
+    match read_plain(kind, word) {
         Some(number) => Some(number),
-        None => read_duration(kind, bytes),
+        None => read_duration(kind, word.as_bytes()),
     }
 }
 
@@ -87,6 +86,19 @@ fn is_single(word: &str) -> bool
     word.as_bytes().iter().all(|byte| *byte != b',')
 }
 
+// The value of one number, in the form whose digits are fastest to print.
+fn single<A: Allocator>(number: Decimal) -> MetricValue<A>
+    ensures { numbers_of result ≡ number ∷ [] }
+{
+    if number.places() > 0 {
+        return MetricValue::Decimal(number);
+    }
+    match i64::try_from(number.mantissa()) {
+        Ok(small) => MetricValue::Signed(small),
+        Err(_) => MetricValue::Decimal(number),
+    }
+}
+
 // The value of a kind that a word is.
 pub(crate) fn read_value<A: Allocator + Clone>(
     alloc: &A,
@@ -97,7 +109,7 @@ pub(crate) fn read_value<A: Allocator + Clone>(
 {
     if is_single(word) {
         return match read_item(kind, word) {
-            Some(number) => Ok(MetricValue::Decimal(number)),
+            Some(number) => Ok(single(number)),
             None => Err(Fault::Unreadable(Part::Value)),
         };
     }

@@ -1,8 +1,8 @@
 //! The words of a line, each read by itself.
-ghost use Rattle.std.specs.Prelude.{◌≡◌, ◌≢◌, ◌↔◌, ◌==◌, ◌∷◌, ◌++◌, All, IfNone, IfOk, IfSome, IsTrue, map};
+ghost use Rattle.std.specs.Prelude.{◌≡◌, ◌≢◌, ◌↔◌, ◌==◌, ◌<◌, ◌∷◌, ◌++◌, [], All, IfNone, IfOk, IfSome, IsTrue, map};
 ghost use Rattle.std.specs.List.{slice_split};
 ghost use Rattle.std.specs.Option.{option_map};
-ghost use Rattle.cadence_send.specs.Asked.{IsTagWord, IsWord, NamesKind};
+ghost use Rattle.cadence_send.specs.Asked.{IsTagWord, IsWord, NamesKind, words_of};
 ghost use Rattle.cadence_send.specs.Finds.{Finds};
 ghost use Rattle.cadence_text.specs.OneReading.{IsFreeText};
 ghost use Rattle.cadence_text.specs.Record.{tag_of};
@@ -10,14 +10,19 @@ ghost use Rattle.cadence_text.specs.Record.{tag_of};
 use cadence_text::line::{MetricType, Tag};
 use std::alloc::{AllocError, Allocator};
 
+// Whether a byte is no colon, comma or newline. These are low bytes, and letters are high ones.
+#[inline(always)]
+fn is_low_free(byte: u8) -> bool
+    ensures { IsTrue result ↔ (byte ≢ 58) × (byte ≢ 44) × (byte ≢ 10) }
+{
+    byte != b':' && byte != b',' && byte != b'\n'
+}
+
 // Whether the text has no colon, comma, bar or newline.
 fn is_free(text: &str) -> bool
     ensures { IsTrue result ↔ IsFreeText text.now }
 {
-    text.as_bytes().iter().all(|byte| *byte != b':'
-        && *byte != b','
-        && *byte != b'|'
-        && *byte != b'\n')
+    text.as_bytes().iter().all(|byte| *byte != b'|' && (*byte > b':' || is_low_free(*byte)))
 }
 
 // Whether the text is some word.
@@ -43,13 +48,14 @@ pub(crate) fn read_kind(word: &str) -> Option<MetricType>
     }
 }
 
-// What stands before the first colon, and what stands after it.
-fn cut_key(word: &str) -> Option<(&str, &str)>
-    ensures none { IfNone result (All (λ byte. byte ≢ 58) word.now) }
-    ensures front { IfSome result (λ parts. All (λ byte. byte ≢ 58) parts.0.now) }
-    ensures whole { IfSome result (λ parts. word.now ≡ parts.0.now ++ 58 ∷ parts.1.now) }
+// What stands before the first such character, and what stands after it.
+fn cut(text: &str, mark: char) -> Option<(&str, &str)>
+    requires { mark < 128 }
+    ensures none { IfNone result (All (λ byte. byte ≢ mark) text.now) }
+    ensures front { IfSome result (λ parts. All (λ byte. byte ≢ mark) parts.0.now) }
+    ensures whole { IfSome result (λ parts. text.now ≡ parts.0.now ++ mark ∷ parts.1.now) }
 {
-    word.split_once(':')
+    text.split_once(mark)
 }
 
 // The tag that a word is: its text, or its key and its text.
@@ -59,7 +65,7 @@ pub(crate) fn read_tag(word: &str) -> Option<Tag<'_>>
     if word.is_empty() {
         return None;
     }
-    let Some((key, text)) = cut_key(word) else {
+    let Some((key, text)) = cut(word, ':') else {
         if !is_free(word) {
             return None;
         }
@@ -80,12 +86,23 @@ pub(crate) fn read_tag(word: &str) -> Option<Tag<'_>>
     })
 }
 
-// The words of a text between its spaces.
-pub(crate) fn cut_words<A: Allocator>(alloc: A, text: &str) -> Result<Vec<&str, A>, AllocError>
-    ensures { IfOk result (λ words.
-        map (λ w. w.now) words.items ≡ slice_split (λ b. b == 32) text.now) }
+// The first word of a text, and what stands after it.
+pub(crate) fn cut_word(text: &str) -> Option<(&str, &str)>
+    ensures none { IfNone result (words_of text.now ≡ []) }
+    ensures some { IfSome result
+        (λ parts. words_of text.now ≡ parts.0.now ∷ words_of parts.1.now) }
 {
-    text.split(' ').collect(alloc)
+    let mut left = text;
+    while let Some((word, others)) = cut(left, ' ') {
+        if !word.is_empty() {
+            return Some((word, others));
+        }
+        left = others;
+    }
+    if left.is_empty() {
+        return None;
+    }
+    Some((left, ""))
 }
 
 // The items of a text between its commas.

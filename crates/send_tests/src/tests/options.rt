@@ -13,7 +13,7 @@ fn options_are_read(rt: HostRuntime) -> Result<(), Fail> {
         "--time",
         "7",
         "--rate",
-        "0.5",
+        "0.50",
         "--flush-every",
         "0",
         "--container",
@@ -29,7 +29,12 @@ fn options_are_read(rt: HostRuntime) -> Result<(), Fail> {
     assert!(rt; options.to == Some("host:1") && options.container == Some("id"));
     assert!(rt; options.capacity == 9 && options.is_printing && options.prefix.is_empty());
     assert!(rt; options.time == Some(7) && options.flush_every == Some(0));
-    assert!(rt; options.rate.is_some() && options.tags.is_empty());
+    assert!(rt;
+        options
+            .rate
+            .is_some_and(|rate| rate.mantissa() == 5 && rate.places() == 1)
+    );
+    assert!(rt; options.tags.is_empty());
     Ok(())
 }
 
@@ -48,6 +53,10 @@ fn unusable_options_are_told(rt: HostRuntime) -> Result<(), Fail> {
         (
             &["--rate", "-1"],
             "--rate -1: wants a number above 0, as in --rate 0.1",
+        ),
+        (
+            &["--rate", "0.0"],
+            "--rate 0.0: wants a number above 0, as in --rate 0.1",
         ),
         (
             &["--time", "x"],

@@ -8,7 +8,7 @@ use std::test::Fail;
 use std::time::Duration;
 
 /// What is read, the lines that are packed, the status, and how what is told begins.
-const ROWS: [(&[u8], &[u8], u8, &[u8]); 8] = [
+const ROWS: [(&[u8], &[u8], u8, &[u8]); 11] = [
     (b"", b"", 0, b""),
     (b"c visits 1", b"p.visits:1|c|#k:v\n", 0, b""),
     (
@@ -36,6 +36,24 @@ const ROWS: [(&[u8], &[u8], u8, &[u8]); 8] = [
         b"",
     ),
     (
+        b"  c   visits 1  page:home   beta \n   \nc a 1 ",
+        b"p.visits:1|c|#k:v,page:home,beta\np.a:1|c|#k:v\n",
+        0,
+        b"",
+    ),
+    (
+        b"g load 0.50\nc visits 1.0\nms wait 7.00,1.250s,0.50ms\nd x -2.500,0.0\n",
+        b"p.load:0.5|g|#k:v\np.visits:1|c|#k:v\np.wait:7:1250:0|ms|#k:v\np.x:-2.5:0|d|#k:v\n",
+        0,
+        b"",
+    ),
+    (
+        b"g load 1.\n c \nc a 1.50\ng load 00.5\ng load -0.0\n",
+        b"",
+        2,
+        b"statsd_send: line 1: VALUE",
+    ),
+    (
         b"c a 1\nc\nd b 0.5,2\nx y 1\nc z 1.5\n",
         b"p.a:1|c|#k:v\np.b:0.5:2|d|#k:v\n",
         2,
@@ -51,7 +69,7 @@ const ROWS: [(&[u8], &[u8], u8, &[u8]); 8] = [
 
 /// Lines that ask for nothing.
 const UNREAD: &str =
-    "c a 1,2\nc a:b 1\nc a 1 b:c:d\nc a 1  b\nc  1\ns a 9223372036854775808\nm a -1\nms a 1.5\nc a 01\n\
+    "c a 1,2\nc a:b 1\nc a 1 b:c:d\nc a 1  b  c,d\n  c  1  \ns a 9223372036854775808\nm a -1\nms a 1.5\nc a 01\n\
     c a 1s\ng a 1ms\nd a 1ns\nms a 0.5ns\nms a -1s\nms a 1m\nms a s\nh a 18446744074s";
 
 const OPTIONS: [&str; 4] = ["--prefix", "p", "--tag", "k:v"];

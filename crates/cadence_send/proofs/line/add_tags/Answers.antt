@@ -1,23 +1,18 @@
-use Rattle.std.proofs.Common.{◌∙◌, ◌++◌, ◌∷◌, [], ap}
-use Rattle.std.proofs.lemmas.List.{append_assoc}
+use Rattle.std.proofs.Common.{rules, ◌≡◌, ◌++◌, ◌∷◌, [], Err}
 use Rattle.cadence_send.specs.Asked.{IsTagWord}
-use Rattle.cadence_send.proofs.WordByWord.{word_at, word_more}
-use Rattle.cadence_text.specs.Metric.{Metric}
-use Rattle.cadence_text.specs.Record.{tag_of}
+use Rattle.cadence_send.proofs.WordByWord.{tagged_more, tags_fail, texts, word_at, word_more}
 use Rattle.cadence_send.proofs.line.add_tags.Goals as goal
 
-pub returns-in_default : goal.returns-in_default
-returns-in_default g c tags h =
-    let (t, one) = word_at IsTagWord c.args.words.now tags c.loop-word.word-index _ c.loop-word-test.true h in
-    c.in_default.ensures t one
+pub returns-in_err-add_tag : goal.returns-in_err-add_tag
+returns-in_err-add_tag g c =
+    let is : c.from_residual.result ≡ Err c.in_err-add_tag.field-0.0 = search rules in
+    tags_fail (texts c.args.words.now) _ c.args.metric.now _ _ _ is (λ tags h. word_at IsTagWord c.args.words.now tags c.loop-word.word-index _ c.loop-word-test.true h) c.in_err-add_tag.ensures
 
 pub loop-word-preserved : goal.loop-word-preserved
 loop-word-preserved g c =
     let (tags, each, is) = c.loop-word.invariant in
-    let tag = tag_of c.in-Some.tag in (
+    let (tag, one, added) = c.in_ok-add_tag.ensures in (
       tags ++ tag ∷ [],
-      word_more IsTagWord c.args.words.now tags c.loop-word.word-index _ tag c.loop-word-test.true each c.in-Some.ensures,
-      c.in_ok-add_tag.ensures.ok
-          ∙ ap (λ (m : Metric). record m { tags = m.tags ++ tag ∷ [] }) is
-          ∙ ap (λ ts. record c.args.metric.now { tags = ts }) (append_assoc c.args.metric.now.tags tags (tag ∷ [])),
+      word_more IsTagWord c.args.words.now tags c.loop-word.word-index _ tag c.loop-word-test.true each one,
+      tagged_more _ _ _ tags tag is added,
     )

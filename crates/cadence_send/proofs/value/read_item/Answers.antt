@@ -1,10 +1,10 @@
 use Rattle.std.proofs.Common.{rules, ◌≡◌, subst}
-use Rattle.cadence_send.specs.Asked.{IsNumberWord}
+use Rattle.cadence_send.specs.Duration.{IsDurationWord}
 use Rattle.cadence_send.specs.Finds.{Finds}
 use Rattle.cadence_send.proofs.Durations.{neither}
 use Rattle.cadence_send.proofs.value.read_item.Goals as goal
 
 pub returns-in-None : goal.returns-in-None
 returns-in-None c =
-    let same : c.as_bytes-bytes.result.now ≡ c.args.word.now = search rules in
-    subst (λ w. Finds (IsNumberWord c.args.kind w) c.read_duration.result) same (neither c.args.kind c.as_bytes-bytes.result.now c.read_duration.result c.in-None.ensures c.read_duration.ensures)
+    let same : c.as_bytes.result.now ≡ c.args.word.now = search rules in
+    neither c.args.kind c.args.word.now c.read_duration.result c.in-None.ensures (subst (λ w. Finds (IsDurationWord c.args.kind w) c.read_duration.result) same c.read_duration.ensures)

@@ -7,7 +7,8 @@ use Rattle.cadence_send.proofs.value.read_value.Goals as goal
 use Rattle.cadence_send.proofs.value.read_value.Goals.{else-len-ne1-via-then-len-ne1+else-not-packs, else-len-ne1-via-else-len-ne1}
 
 pub returns-in-Some : goal.returns-in-Some
-returns-in-Some g c = single_found c.args.kind c.args.word.now c.in-Some.number (search rules) c.in-Some.ensures
+returns-in-Some g c =
+    subst (IsValueWord c.args.kind c.args.word.now) (sym c.single.ensures) (single_found c.args.kind c.args.word.now c.in-Some.number (search rules) c.in-Some.ensures)
 
 pub returns-in-None : goal.returns-in-None
 returns-in-None g c ns h = single_none c.args.kind c.args.word.now ns (search rules) c.in-None.ensures h
