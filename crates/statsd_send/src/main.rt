@@ -22,7 +22,8 @@ TAG          K:V or V
 --to HOST:PORT      where to (127.0.0.1:8125; STATSD_HOST, STATSD_PORT)
 --prefix NAME  --tag TAG  --container ID  --time SECONDS  --rate NUMBER
 --capacity BYTES    how much a packet holds (512)
---flush-every MS    sends what is held before more is read, where so long has passed
+--flush-every MS    sends what is held before more is read, where so long has passed;
+                    0: no line waits for input, else the last ones wait for more or the end
 --print             prints the packets, and sends none
 --help  --version
 
