@@ -1,9 +1,11 @@
-//! Makes each call of the client, and prints the lines that its sink got, each once.
+//! Makes each call of the client, and prints the lines that its sink got, each once; then the texts of an audited
+//! queue's faults.
 #![tactic(auto)]
 
 mod kinds;
 mod options;
 
+use cadence::queue::{AuditError, EndFault};
 use cadence::sinks::{SpyMetricSink, SpyReceiver};
 use cadence::{DEFAULT_PORT, MetricResult, MetricSink, StatsdClient};
 use options::Setting;
@@ -40,6 +42,14 @@ fn told<R: Wait + Drop>(
     Ok(text)
 }
 
+// The text of each fault of an audited queue, and of its end.
+fn told_faults(alloc: Global) -> Result<String, AllocError> {
+    let (memory, stranger) = (AuditError::OutOfMemory, AuditError::Stranger);
+    let (missing, mismatch) = (EndFault::SeatsMissing, EndFault::Mismatch);
+    let faults = format!(in alloc; "  {memory}\n  {stranger}\n  {missing}\n  {mismatch}\n")?;
+    format!(in alloc; "faults of an audited queue:\n{faults}")
+}
+
 fn main(rt: HostRuntime) -> MetricResult<()> {
     let alloc = rt.alloc();
     let (lines, spy) = SpyMetricSink::new(rt.clone()?, alloc)?;
@@ -63,5 +73,6 @@ fn main(rt: HostRuntime) -> MetricResult<()> {
         print!(rt; "{}", told(alloc, setting.heading(), &lines)?)?;
     }
     println!(rt; "port {DEFAULT_PORT}")?;
+    print!(rt; "{}", told_faults(alloc)?)?;
     Ok(())
 }
