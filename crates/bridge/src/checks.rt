@@ -3,21 +3,21 @@ use crate::lists::List;
 use crate::recording::{Recording, packets_of};
 use crate::runs::Run;
 use crate::same;
-use cadence::sinks::Target;
+use crate::sockets::on_loopback;
+use cadence::sinks::{SpyReceiver, Target};
 use cadence::{
     BufferedSpyMetricSink, BufferedUdpMetricSink, BufferedUnixMetricSink, MetricResult, MetricSink,
     QueuingMetricSink,
 };
 use std::alloc::Global;
-use std::net::{Ipv4Addr, Net, SocketAddr, UdpSocket};
-use std::sync::{Arc, Mutex, Wait};
+use std::net::{Net, UdpSocket};
+use std::sync::Wait;
 use std::thread::Threads;
 
 /// A buffered Unix sink over a socket that refuses: answers, counts, packets, and those of its drop.
 pub fn unix<R: Wait + Clone + Drop>(rt: &R, alloc: Global, list: &List) -> MetricResult<bool> {
     let run = Run::of(alloc, list)?;
-    let log = Arc::new(alloc, Mutex::new(list.log(alloc)?))?;
-    let socket = Recording::new(rt.clone()?, log.clone()?);
+    let (log, socket) = Recording::new(rt.clone()?, alloc, list.log(alloc)?)?;
     let sink = BufferedUnixMetricSink::with_capacity(
         rt.clone()?,
         alloc,
@@ -40,8 +40,7 @@ pub fn queued<R: Wait + Threads + Clone + Drop + Send + Sync + 'static>(
     list: &List,
 ) -> MetricResult<bool> {
     let run = Run::of_lines(alloc, list)?;
-    let log = Arc::new(alloc, Mutex::new(list.log(alloc)?))?;
-    let socket = Recording::new(rt.clone()?, log.clone()?);
+    let (log, socket) = Recording::new(rt.clone()?, alloc, list.log(alloc)?)?;
     let sink = BufferedUnixMetricSink::with_capacity(
         rt.clone()?,
         alloc,
@@ -56,31 +55,21 @@ pub fn queued<R: Wait + Threads + Clone + Drop + Send + Sync + 'static>(
     Ok(taken && packets_of(alloc, rt, &log)? == run.packets_at_the_end)
 }
 
-/// A buffered spy: answers, and its messages after its drop.
+/// A buffered spy of the list's capacity.
 pub fn spied<R: Wait + Clone + Drop>(rt: &R, alloc: Global, list: &List) -> MetricResult<bool> {
-    let run = Run::of(alloc, list)?;
-    let (receiver, sink) = BufferedSpyMetricSink::with_capacity(
-        rt.clone()?,
-        alloc,
-        None,
-        Some(list.capacity),
-    )?;
-    let answers = same::answers(alloc, &sink, list, &run)?;
-    drop(sink);
-    let most = run.packets_at_the_end.len().saturating_add(1);
-    Ok(answers && same::messages(alloc, &receiver, most)? == run.packets_at_the_end)
+    let size = Some(list.capacity);
+    let spy = BufferedSpyMetricSink::with_capacity(rt.clone()?, alloc, None, size)?;
+    told(alloc, spy, list)
 }
 
-/// A buffered UDP sink: answers, counts, and the datagrams that arrive, those of its drop too.
+/// A buffered UDP sink of the list's capacity.
 pub fn udp<R: Net + Wait + Clone + Drop>(
     rt: &R,
     alloc: Global,
     server: &UdpSocket,
     list: &List,
 ) -> MetricResult<bool> {
-    let run = Run::of(alloc, list)?;
-    let target = Target::Addr(server.local_addr()?);
-    let socket = UdpSocket::bind(rt, SocketAddr::from((Ipv4Addr::LOCALHOST, 0)))?;
+    let (target, socket) = (Target::Addr(server.local_addr()?), on_loopback(rt)?);
     let sink = BufferedUdpMetricSink::with_capacity(
         rt.clone()?,
         alloc,
@@ -88,6 +77,30 @@ pub fn udp<R: Net + Wait + Clone + Drop>(
         socket,
         list.capacity,
     )?;
+    sent(alloc, server, sink, list)
+}
+
+/// A spy: answers, and its messages after its drop.
+pub fn told<R: Wait + Clone + Drop>(
+    alloc: Global,
+    (receiver, sink): (SpyReceiver<R>, BufferedSpyMetricSink<R>),
+    list: &List,
+) -> MetricResult<bool> {
+    let run = Run::of(alloc, list)?;
+    let answers = same::answers(alloc, &sink, list, &run)?;
+    drop(sink);
+    let most = run.packets_at_the_end.len().saturating_add(1);
+    Ok(answers && same::messages(alloc, &receiver, most)? == run.packets_at_the_end)
+}
+
+/// A sink that sends to the server: answers, counts, and the datagrams that arrive, those of its drop too.
+pub fn sent<S: MetricSink>(
+    alloc: Global,
+    server: &UdpSocket,
+    sink: S,
+    list: &List,
+) -> MetricResult<bool> {
+    let run = Run::of(alloc, list)?;
     let answers = same::answers(alloc, &sink, list, &run)?;
     let counts = same::counts(&sink, &run);
     drop(sink);

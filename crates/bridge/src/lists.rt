@@ -10,6 +10,10 @@ pub enum Given {
     Flush,
 }
 
+/// Lengths of keys. The line of a key is four bytes longer, so with its newline the first fills 512 bytes, the third
+/// passes them by a byte, and two of the fourth fill them.
+const ABOUT_512: [u64; 7] = [507, 507, 508, 251, 251, 507, 1];
+
 /// A capacity, what is given, and how the socket answers.
 #[derive(Drop)]
 pub struct List {
@@ -39,25 +43,44 @@ fn next_given(alloc: Global, state: &mut u64) -> Result<Given, AllocError> {
     if below(state, 7) == 0 {
         return Ok(Given::Flush);
     }
+    let key = key_of(alloc, below(state, 16))?;
+    Ok(Given::Line(key, below(state, 1_000_000)))
+}
+
+fn key_of(alloc: Global, length: u64) -> Result<String, AllocError> {
     let mut key = String::new(alloc);
-    for _ in 0..below(state, 16) {
+    for _ in 0..length {
         key.push('k')?;
     }
-    Ok(Given::Line(key, below(state, 1_000_000)))
+    Ok(key)
 }
 
 impl List {
     /// The list of a seed: up to 30 lines and flushes.
     pub fn of_seed(alloc: Global, seed: u64) -> Result<List, AllocError> {
         let mut state = seed;
-        let mut list = List {
-            capacity: below(&mut state, 64) as usize,
-            given: Vec::new(alloc),
-            answers: Vec::new(alloc),
-        };
+        let mut list = List::none(alloc, below(&mut state, 64) as usize);
         for _ in 0..below(&mut state, 31) {
             list.given.push(next_given(alloc, &mut state)?)?;
             list.answers.push(answer(&mut state))?;
+        }
+        Ok(list)
+    }
+
+    /// Nothing, over a socket that takes everything whole.
+    pub fn none(alloc: Global, capacity: usize) -> List {
+        List {
+            capacity,
+            given: Vec::new(alloc),
+            answers: Vec::new(alloc),
+        }
+    }
+
+    /// Lines that fill 512 bytes, pass them, or share them, over a socket that takes everything whole.
+    pub fn about_512(alloc: Global, capacity: usize) -> Result<List, AllocError> {
+        let mut list = List::none(alloc, capacity);
+        for (count, length) in (0..10u64).zip(ABOUT_512) {
+            list.given.push(Given::Line(key_of(alloc, length)?, count))?;
         }
         Ok(list)
     }

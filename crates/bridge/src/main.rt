@@ -1,16 +1,20 @@
 //! Gives the same lists of lines and flushes to the proved run and to each shipped sink that packs lines, and prints how
-//! many lists gave the same packets, answers and counts.
+//! many lists gave the same packets, answers and counts. Then the same of sinks that are made without a capacity or a
+//! period, and of a boxed sink that two threads share.
 #![tactic(auto)]
 
 mod checks;
+mod defaults;
 mod lists;
 mod recording;
 mod runs;
 mod same;
+mod sharing;
+mod sockets;
 
-use cadence::MetricResult;
+use cadence::{MetricResult, MetricSink};
 use lists::List;
-use std::net::{Ipv4Addr, SocketAddr, UdpSocket};
+use sockets::on_loopback;
 use std::time::Duration;
 
 /// How many lists there are.
@@ -18,7 +22,7 @@ const LISTS: u64 = 1000;
 
 fn main(rt: HostRuntime) -> MetricResult<()> {
     let alloc = rt.alloc();
-    let server = UdpSocket::bind(&rt, SocketAddr::from((Ipv4Addr::LOCALHOST, 0)))?;
+    let server = on_loopback(&rt)?;
     server.set_read_timeout(Some(Duration::from_secs(5)))?;
     let (mut unix, mut queued, mut spied, mut udp) = (0u64, 0u64, 0u64, 0u64);
     for seed in 0..LISTS {
@@ -34,5 +38,16 @@ fn main(rt: HostRuntime) -> MetricResult<()> {
     println!(rt; "queue over a buffered Unix sink {queued}")?;
     println!(rt; "buffered spy {spied}")?;
     println!(rt; "buffered UDP sink {udp}")?;
+    println!(rt; "without a capacity or a period as in the run of 512 bytes, or of none:")?;
+    print!(rt; "{}", defaults::told(&rt, alloc, &server)?)?;
+    println!(rt; "shared by two threads as in the run of the lines as they came:")?;
+    let (log, sink) = sharing::unix(&rt, alloc)?;
+    let sink: Box<dyn MetricSink + Send + Sync> = Box::new(alloc, sink)?;
+    let shared = sharing::shared(&rt, alloc, &sink, &log)?;
+    println!(rt; "boxed Unix sink {shared}")?;
+    let (log, sink) = sharing::unix(&rt, alloc)?;
+    let sink: Box<dyn MetricSink + Send + Sync> = Box::new(alloc, sink)?;
+    let queued = sharing::queued(&rt, alloc, sink, &log)?;
+    println!(rt; "queue over a boxed Unix sink {queued}")?;
     Ok(())
 }

@@ -5,16 +5,25 @@ use cadence::types::SinkError;
 use std::alloc::{AllocError, Global};
 use std::sync::{Arc, Mutex, Wait};
 
+/// What a socket got, and how it answers.
+pub type Log = Arc<Mutex<PacketLog>>;
+
 /// Answers as the packet log that it shares.
 #[derive(Drop)]
 pub struct Recording<R: Wait + Drop> {
     rt: R,
-    log: Arc<Mutex<PacketLog>>,
+    log: Log,
 }
 
 impl<R: Wait + Drop> Recording<R> {
-    pub fn new(rt: R, log: Arc<Mutex<PacketLog>>) -> Recording<R> {
-        Recording { rt, log }
+    /// A socket that answers so, and its log.
+    pub fn new(rt: R, alloc: Global, answers: PacketLog) -> Result<(Log, Self), AllocError> {
+        let log = Arc::new(alloc, Mutex::new(answers))?;
+        let socket = Recording {
+            rt,
+            log: log.clone()?,
+        };
+        Ok((log, socket))
     }
 }
 

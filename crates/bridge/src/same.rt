@@ -77,7 +77,7 @@ pub fn messages<R: Wait + Drop>(
 
 /// Whether the datagrams that came are those of the run.
 pub fn datagrams(server: &UdpSocket, run: &Run) -> io::Result<bool> {
-    let mut bytes = [0u8; 512];
+    let mut bytes = [0u8; 1024];
     for wanted in &run.packets_at_the_end {
         let (count, _from) = server.recv_from(&mut bytes)?;
         if bytes[..count] != wanted[..] {
