@@ -145,7 +145,8 @@ impl<D: Datagrams, R: Wait + Drop, A: Allocator> PackedSocket<D, R, A> {
         Some(lines)
     }
 
-    // Sends the held lines, and holds the line of a metric or sends it alone; then it lets the lock go.
+    // Sends the held lines, and holds the line of a metric or sends it alone; then it lets the lock go. A line that an
+    // empty buffer has room for is held after a flush, as `write` would do it, but with no wide answer to copy.
     #[cold]
     #[inline(never)]
     fn write_out(
@@ -155,6 +156,14 @@ impl<D: Datagrams, R: Wait + Drop, A: Allocator> PackedSocket<D, R, A> {
     ) -> Result<usize, SinkError>
         ensures { IsBufferedAnswer D.may_give (buffer_of self.now) metric.now result }
     {
+        if metric.len() < self.capacity {
+            if let Err(error) = lines.flush() {
+                return Err(error);
+            }
+            if hold_line(&mut lines, metric) {
+                return Ok(metric.len());
+            }
+        }
         let n = write_line(&mut lines, metric)?;
         // a line for which the capacity has room is never cut, but no clause of a lock tells its packer's capacity
         Ok(if metric.len() < self.capacity {
