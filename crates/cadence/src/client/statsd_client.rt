@@ -1,6 +1,6 @@
 //! The client.
-ghost use Rattle.std.specs.Prelude.{◌≡◌, Some};
-ghost use Rattle.cadence_value.specs.Values.{Converts, numbers_of};
+ghost use Rattle.std.specs.Prelude.{◌≡◌};
+ghost use Rattle.cadence_value.specs.Values.{Converts};
 ghost use Rattle.cadence.specs.Sending.{Flushed, SendsPlain};
 
 use crate::client::backend::MetricBackend;
@@ -48,21 +48,8 @@ impl<A: Allocator + Clone, S: MetricSink, H: ErrorHandler> StatsdClient<A, S, H>
         Ok(())
     }
 
-    // Sends the line of a call without options.
-    fn send_value<K: Kind>(
-        &self,
-        key: &str,
-        value: MetricValue<A>,
-    ) -> MetricResult<MetricText<K, A>>
-        ensures { SendsPlain (settings_of_client self.now) (S.may_answer (sink_of_client self.now))
-            K.TYPE key.now (Some (numbers_of value)) result }
-    {
-        let text = self.settings.line(key, K::TYPE, value)?;
-        self.sink.emit(&text)?;
-        Ok(MetricText::from(text))
-    }
-
-    // Sends the line of a call without options, whose value was converted. No builder is made for it.
+    // Sends the line of a call without options, whose value was converted. No builder is made for it. It is one
+    // function, since each one more would copy the wide answer once more.
     #[inline]
     pub(crate) fn send_plain<K: Kind>(
         &self,
@@ -73,7 +60,9 @@ impl<A: Allocator + Clone, S: MetricSink, H: ErrorHandler> StatsdClient<A, S, H>
             SendsPlain (settings_of_client self.now) (S.may_answer (sink_of_client self.now))
             K.TYPE key.now numbers result }
     {
-        self.send_value(key, value?)
+        let text = self.settings.line(key, K::TYPE, value?)?;
+        self.sink.emit(&text)?;
+        Ok(MetricText::from(text))
     }
 }
 
