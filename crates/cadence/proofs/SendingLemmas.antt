@@ -1,16 +1,15 @@
 -- What a builder may answer.
-use Rattle.std.proofs.Common.{◌≡◌, ℕ, List, Result, Ok, Err, subst, sym, string_bytes, String}
+use Rattle.std.proofs.Common.{◌≡◌, ℕ, List, Result, Ok, Err, subst, sym}
 use Rattle.cadence_errors.specs.declared.MetricError.{MetricError}
 use Rattle.cadence_text.specs.Line.{line_of}
 use Rattle.cadence_text.specs.Metric.{Metric}
-use Rattle.cadence.specs.Sending.{Answers, HasLine, MadeFrom, SentPending}
+use Rattle.cadence.specs.Sending.{Answers, HasLine, Sent, SentPending}
 
--- a line that was made of the metric that a builder holds, and that the sink took, is answered
-pub sent_pending : {M Z : Type 0} (may : Answers) (gives : String Z → M → Type 0) (pending : Result Metric MetricError) (d : Metric) (text : String Z) (m : M)
-    → pending ≡ Ok d → (string_bytes text ≡ line_of d) × ((n : ℕ) × may (line_of d) (Ok n)) → gives text m
-    → SentPending may (MadeFrom gives) pending (Ok m)
-sent_pending may gives pending d text m is sent made =
-    subst (λ (p : Result Metric MetricError). SentPending may (MadeFrom gives) p (Ok m)) (sym is) ((text, sent.0, made), sent.1)
+-- what sending the line of the metric that a builder holds answered, is answered
+pub sent_pending : {M : Type 0} (may : Answers) (made : List ℕ → M → Type 0) (pending : Result Metric MetricError) (d : Metric) (answer : Result M MetricError)
+    → pending ≡ Ok d → Sent may made (line_of d) answer → SentPending may made pending answer
+sent_pending may made pending d answer is sent =
+    subst (λ (p : Result Metric MetricError). SentPending may made p answer) (sym is) sent
 
 -- the text of an answer is the line of the call that the builder stands for
 pub has_line : {M : Type 0} (may : Answers) (made : List ℕ → M → Type 0) (pending : Result Metric MetricError) (answer : Result M MetricError)

@@ -1,5 +1,5 @@
 //! A metric that is being built.
-ghost use Rattle.std.specs.Prelude.{◌≡◌, Err, IsErr, string_bytes};
+ghost use Rattle.std.specs.Prelude.{◌≡◌, Err, IsErr};
 ghost use Rattle.cadence_text.specs.Line.{line_of};
 ghost use Rattle.cadence_schedule.specs.Call.{tagged, contained, timed, rated};
 ghost use Rattle.cadence_schedule.specs.Settings.{keyed, unkeyed};
@@ -34,18 +34,18 @@ impl Metric for Line<'_> {
     }
 }
 
-// Sends the line of a record, and gives it back.
+// Sends the line of a record, and answers what is made of it.
 #[inline]
-fn send_line<C: MetricBackend>(
+fn send_line<C: MetricBackend, T: From<String<C::Memory>>>(
     client: &C,
     metric: &Record<'_, C::Memory>,
-) -> MetricResult<String<C::Memory>>
-    ensures { Sent (C.line_may_get client.now) (λ line text. string_bytes text ≡ line)
-        (line_of metric.now) result }
+) -> MetricResult<T>
+    ensures { Sent (C.line_may_get client.now) (MadeFrom T.from_gives) (line_of metric.now)
+        result }
 {
     let text = metric.line(metric.allocator().clone()?)?;
     client.send_metric(&Line { text: &text })?;
-    Ok(text)
+    Ok(T::from(text))
 }
 
 /// A metric that is being built, as in cadence. It holds the metric so far, or the first error of the call; a held
@@ -166,10 +166,7 @@ impl<'m, 'c, T: Metric + From<String<C::Memory>>, C: MetricBackend> MetricBuilde
             client: _,
             of: _,
         } = self;
-        match sent {
-            Ok(text) => Ok(T::from(text)),
-            Err(e) => Err(e),
-        }
+        sent
     }
 
     /// Sends the metric's line as `try_send` does, and gives an error to the client's handler once. Without a handler
@@ -179,7 +176,7 @@ impl<'m, 'c, T: Metric + From<String<C::Memory>>, C: MetricBackend> MetricBuilde
         let Ok(metric) = &self.record else {
             return client.consume_error(self.into_error());
         };
-        let sent = send_line(client, metric);
+        let sent = send_line::<C, String<C::Memory>>(client, metric);
         let MetricBuilder {
             record: _,
             client: _,
