@@ -1,5 +1,5 @@
 //! A metric that is being built.
-ghost use Rattle.std.specs.Prelude.{◌≡◌, Err, IsErr};
+ghost use Rattle.std.specs.Prelude.{◌≡◌};
 ghost use Rattle.cadence_text.specs.Line.{line_of};
 ghost use Rattle.cadence_schedule.specs.Call.{tagged, contained, timed, rated};
 ghost use Rattle.cadence_schedule.specs.Settings.{keyed, unkeyed};
@@ -12,7 +12,7 @@ use crate::client::pending;
 use crate::client::statsd_client::StatsdClient;
 use crate::laws::choosing_stands_for_more;
 use crate::metrics::{Kind, Metric, MetricText};
-use cadence_errors::{MetricError, MetricResult};
+use cadence_errors::MetricResult;
 use cadence_sinks::MetricSink;
 use cadence_text::line::{Record, Tag};
 use cadence_value::decimal::Decimal;
@@ -157,49 +157,31 @@ impl<'m, 'c, T: Metric + From<String<C::Memory>>, C: MetricBackend> MetricBuilde
             (MadeFrom T.from_gives) (pending_of self.entry) result }
         ensures line { HasLine (MadeFrom T.from_gives) (pending_of self.entry) result }
     {
-        let Ok(metric) = &self.record else {
-            return Err(self.into_error());
-        };
-        let sent = send_line(self.client, metric);
         let MetricBuilder {
-            record: _,
-            client: _,
+            record,
+            client,
             of: _,
         } = self;
-        sent
+        match record {
+            Ok(metric) => send_line(client, &metric),
+            Err(e) => Err(e),
+        }
     }
 
     /// Sends the metric's line as `try_send` does, and gives an error to the client's handler once. Without a handler
     /// the error is dropped.
     pub fn send(self) {
-        let client = self.client;
-        let Ok(metric) = &self.record else {
-            return client.consume_error(self.into_error());
-        };
-        let sent = send_line::<C, String<C::Memory>>(client, metric);
-        let MetricBuilder {
-            record: _,
-            client: _,
-            of: _,
-        } = self;
-        if let Err(e) = sent {
-            client.consume_error(e);
-        }
-    }
-
-    // The error that is held.
-    fn into_error(self) -> MetricError
-        requires { IsErr (pending_of self) }
-        ensures { pending_of self.entry ≡ Err result }
-    {
         let MetricBuilder {
             record,
-            client: _,
+            client,
             of: _,
         } = self;
-        match record {
-            Ok(_) => unreachable!(),
-            Err(e) => e,
+        let sent = match record {
+            Ok(metric) => send_line::<C, String<C::Memory>>(client, &metric),
+            Err(e) => Err(e),
+        };
+        if let Err(e) = sent {
+            client.consume_error(e);
         }
     }
 }
