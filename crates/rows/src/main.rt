@@ -4,16 +4,20 @@
 //! printed, `NAME.err` what has to be told as an error (without that file: nothing) and `NAME.status` the status (without
 //! it: 0). Each line of `unreadable` is a script that has to be refused, and each line of `plans` a plan and whether it is
 //! the one that is made. Then each request for memory, answer of the writer, read and write is refused in turn, over each
-//! of these scripts and over generated ones, and the ends are counted.
+//! of these scripts and over generated ones, and the ends are counted. Last each request for memory of a constructor is
+//! refused in turn.
 #![tactic(auto)]
 
 mod generated;
+mod makers;
 mod plans;
 mod scripts;
 mod turns;
+mod udp_makers;
 
 use cadence::MetricResult;
 use std::fs;
+use std::net::{Ipv4Addr, SocketAddr, UdpSocket};
 use turns::{Ends, turn, turn_bytes};
 
 /// How many scripts are generated.
@@ -37,7 +41,11 @@ fn main(rt: HostRuntime) -> MetricResult<()> {
         }
     }
     turn_rows(&rt)?;
-    turn_generated(&rt)
+    turn_generated(&rt)?;
+    println!(rt; "turns of a constructor, with a line and a flush, for want of memory:")?;
+    let server = UdpSocket::bind(&rt, SocketAddr::from((Ipv4Addr::LOCALHOST, 0)))?;
+    print!(rt; "{}", makers::told(&rt, rt.alloc(), server.local_addr()?)?)?;
+    Ok(())
 }
 
 // Turns each worked row, and prints how the turns ended.
