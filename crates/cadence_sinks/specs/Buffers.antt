@@ -1,6 +1,7 @@
--- What contracts show of the buffers of sinks over sockets.
+-- What contracts show of the buffers of sinks.
 use Rattle.std.specs.Prelude.{ℕ}
 use Rattle.cadence_sinks.specs.declared.datagram.PackedSocket.{PackedSocket}
+use Rattle.cadence_sinks.specs.declared.spy.buffered.BufferedSpyMetricSink.{BufferedSpyMetricSink}
 use Rattle.cadence_sinks.specs.declared.udp.buffered.BufferedUdpMetricSink.{BufferedUdpMetricSink}
 use Rattle.cadence_sinks.specs.declared.unix.BufferedUnixMetricSink.{BufferedUnixMetricSink}
 
@@ -15,3 +16,7 @@ udp_buffer s = buffer_of s.socket
 -- the bytes of a Unix sink's buffer
 abbrev pub unix_buffer : {P R A : Type 0} → BufferedUnixMetricSink P R A → ℕ
 unix_buffer s = buffer_of s.socket
+
+-- the bytes of a spy's buffer
+abbrev pub spy_buffer : {R A : Type 0} → BufferedSpyMetricSink R A → ℕ
+spy_buffer s = s.capacity

@@ -1,5 +1,7 @@
 //! A spy whose every packet is a message.
+ghost use Rattle.std.specs.Prelude.{◌≡◌, IfOk, unwrap_or};
 ghost use Rattle.cadence_errors.specs.Errors.{OnlyWantsMemory};
+ghost use Rattle.cadence_sinks.specs.Buffers.{spy_buffer};
 
 use super::channel::{Sender, SpyReceiver, new_channel};
 use crate::{DEFAULT_BUFFER_SIZE, MetricSink};
@@ -44,13 +46,15 @@ impl<R: Wait + Drop, A: Allocator + Clone> PacketWriter for MessageWriter<R, A> 
 pub struct BufferedSpyMetricSink<R: Wait + Drop, A: Allocator + Clone = Global> {
     rt: R,
     writer: Mutex<WholeLedger<MessageWriter<R, A>, A>>,
+    capacity: usize,
 }
 
 impl<R: Wait + Clone + Drop, A: Allocator + Clone> BufferedSpyMetricSink<R, A> {
     /// A spy with a buffer of 512 bytes for any number of messages, and its receiver. The only error is
     /// `OutOfMemory`.
     pub fn new(rt: R, alloc: A) -> MetricResult<(SpyReceiver<R, A>, Self)>
-        ensures { OnlyWantsMemory result }
+        ensures buffer { IfOk result (λ p. spy_buffer p.1 ≡ 512) }
+        ensures refused { OnlyWantsMemory result }
     {
         Self::with_capacity(rt, alloc, None, None)
     }
@@ -63,16 +67,22 @@ impl<R: Wait + Clone + Drop, A: Allocator + Clone> BufferedSpyMetricSink<R, A> {
         queue: Option<usize>,
         buffer: Option<usize>,
     ) -> MetricResult<(SpyReceiver<R, A>, Self)>
-        ensures { OnlyWantsMemory result }
+        ensures buffer { IfOk result (λ p. spy_buffer p.1 ≡ unwrap_or buffer 512) }
+        ensures refused { OnlyWantsMemory result }
     {
         let (receiver, sender) = new_channel(rt.clone()?, alloc.clone()?, queue)?;
         let inner = MessageWriter {
             sender,
             refusals: Refusals::none(),
         };
-        let lines = WholeLedger::new(alloc, inner, buffer.unwrap_or(DEFAULT_BUFFER_SIZE))?;
-        let writer = Mutex::new(lines);
-        Ok((receiver, BufferedSpyMetricSink { rt, writer }))
+        let capacity = buffer.unwrap_or(DEFAULT_BUFFER_SIZE);
+        let lines = WholeLedger::new(alloc, inner, capacity)?;
+        let sink = BufferedSpyMetricSink {
+            rt,
+            writer: Mutex::new(lines),
+            capacity,
+        };
+        Ok((receiver, sink))
     }
 }
 
@@ -97,7 +107,11 @@ impl<R: Wait + Drop, A: Allocator + Clone> MetricSink for BufferedSpyMetricSink<
 // What is held goes out first, and then the queue's one handle is dropped with the writer.
 impl<R: Wait + Drop, A: Allocator + Clone> Drop for BufferedSpyMetricSink<R, A> {
     fn drop(self) {
-        let BufferedSpyMetricSink { rt: _rt, writer } = self;
+        let BufferedSpyMetricSink {
+            rt: _rt,
+            writer,
+            capacity: _,
+        } = self;
         let mut lines = writer.into_inner();
         let _ = lines.flush();
     }
