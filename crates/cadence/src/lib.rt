@@ -1,4 +1,4 @@
-//! A Statsd client whose lines, order and packets are proved.
+//! A Statsd client of proved pieces: lines, packets, queues, and whole runs of them.
 //!
 //! `prelude` has the traits of the metrics, `StatsdClient` sends them, and a sink takes their lines.
 #![tactic(auto)]
