@@ -26,7 +26,8 @@ fn spies<R: ResolverRuntime>(rt: &R, alloc: Global, held: &List) -> MetricResult
     Ok(text)
 }
 
-/// The sinks' names, and whether each does as the run of 512 bytes, and the one that holds no lines as that of no bytes.
+/// The sinks' names, and whether each does as the run of 512 bytes, and the one that holds no lines as that of no
+/// bytes.
 pub fn told<R: ResolverRuntime>(rt: &R, alloc: Global, server: &UdpSocket) -> MetricResult<String> {
     let (held, alone) = (List::about_512(alloc, 512)?, List::about_512(alloc, 0)?);
     let address = server.local_addr()?;

@@ -1,6 +1,6 @@
-//! Gives the same lists of lines and flushes to the proved run and to each shipped sink that packs lines, and prints how
-//! many lists gave the same packets, answers and counts. Then the same of sinks that are made without a capacity or a
-//! period, and of a boxed sink that two threads share.
+//! Gives the same lists of lines and flushes to the proved run and to each shipped sink that packs lines, and prints
+//! how many lists gave the same packets, answers and counts. Then the same of sinks that are made without a capacity or
+//! a period, and of a boxed sink that two threads share.
 #![tactic(auto)]
 
 mod checks;

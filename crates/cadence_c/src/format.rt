@@ -65,8 +65,8 @@ fn write_line(
     }
 }
 
-/// Writes the line of a metric of signed whole numbers into the first bytes of `out`, and tells its length. The prefix is printed as it
-/// stands. It keeps nothing, so threads may call it at once.
+/// Writes the line of a metric of signed whole numbers into the first bytes of `out`, and tells its length. The prefix
+/// is printed as it stands. It keeps nothing, so threads may call it at once.
 #[unsafe(no_mangle)]
 pub extern "C" fn cadence_format_signed(
     alloc: Global,
@@ -91,8 +91,8 @@ pub extern "C" fn cadence_format_signed(
     }
 }
 
-/// Writes the line of a metric of unsigned whole numbers into the first bytes of `out`, and tells its length. The prefix is printed as it
-/// stands. It keeps nothing, so threads may call it at once.
+/// Writes the line of a metric of unsigned whole numbers into the first bytes of `out`, and tells its length. The
+/// prefix is printed as it stands. It keeps nothing, so threads may call it at once.
 #[unsafe(no_mangle)]
 pub extern "C" fn cadence_format_unsigned(
     alloc: Global,
@@ -117,8 +117,8 @@ pub extern "C" fn cadence_format_unsigned(
     }
 }
 
-/// Writes the line of a metric of decimal numbers into the first bytes of `out`, and tells its length. The prefix is printed as it
-/// stands. It keeps nothing, so threads may call it at once.
+/// Writes the line of a metric of decimal numbers into the first bytes of `out`, and tells its length. The prefix is
+/// printed as it stands. It keeps nothing, so threads may call it at once.
 #[unsafe(no_mangle)]
 pub extern "C" fn cadence_format_decimal(
     alloc: Global,
@@ -144,8 +144,8 @@ pub extern "C" fn cadence_format_decimal(
     }
 }
 
-/// Writes the line of a metric of durations in nanoseconds, as `cadence_duration` into the first bytes of `out`, and tells its length. The prefix is printed as it
-/// stands. It keeps nothing, so threads may call it at once.
+/// Writes the line of a metric of durations in nanoseconds, as `cadence_duration` into the first bytes of `out`, and
+/// tells its length. The prefix is printed as it stands. It keeps nothing, so threads may call it at once.
 #[unsafe(no_mangle)]
 pub extern "C" fn cadence_format_duration(
     alloc: Global,

@@ -88,8 +88,8 @@ pub(crate) struct TextsOfLine<'a> {
     pub(crate) time: Option<&'a [u8]>,
 }
 
-// The texts of a line's fields, each cut off in the order in which they stand, with nothing left. The line is this name, a
-// colon and the rest.
+// The texts of a line's fields, each cut off in the order in which they stand, with nothing left. The line is this
+// name, a colon and the rest.
 pub(crate) fn cut_line<'a>(name: &'a [u8], rest: &'a [u8]) -> Option<TextsOfLine<'a>>
     requires { All IsNoSeparator name.now }
     ensures texts { Reads (λ texts. All (λ byte. byte ≢ 58) texts.name) parts_of_texts

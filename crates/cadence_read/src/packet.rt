@@ -20,7 +20,8 @@ const MOST_ROOM: usize = 1024;
 /// The bytes of a short line.
 const SHORT_LINE: usize = 16;
 
-// How many metrics to make room for: as many as there are short lines, up to a limit, since a packet may have other lines.
+// How many metrics to make room for: as many as there are short lines, up to a limit, since a packet may have other
+// lines.
 fn room_for(lines: &[u8]) -> usize {
     (lines.len() / SHORT_LINE).min(MOST_ROOM - 1) + 1
 }

@@ -82,8 +82,8 @@ pub fn buffered_udp_sink<R: Net + Wait + Clone + Drop, A: Allocator + Clone>(
     )
 }
 
-/// A queue of at most `lines` lines, or without a bound, over a buffered UDP sink, with its worker thread. The errors are
-/// those of `udp_sink`, and `SinkError::Io` where no thread can be started.
+/// A queue of at most `lines` lines, or without a bound, over a buffered UDP sink, with its worker thread. The errors
+/// are those of `udp_sink`, and `SinkError::Io` where no thread can be started.
 pub fn queued_udp_sink<
     R: Net + Wait + Threads + Clone + Drop + Send + Sync + 'static,
     A: Allocator + Clone + Send + Sync + 'static,

@@ -18,8 +18,8 @@ pub const MAX_PLACES: u8 = 30;
 /// A signed whole number over 10 to the power of 0 to `MAX_PLACES`. It stands in the place of the crate's `f64`, and
 /// what it prints is exact.
 ///
-/// It is kept in lowest form: it has no digit after the dot, or the last of them is not 0. Two of them are equal exactly
-/// where their lowest forms are.
+/// It is kept in lowest form: it has no digit after the dot, or the last of them is not 0. Two of them are equal
+/// exactly where their lowest forms are.
 #[derive(Clone, Copy, Debug, PartialEq, Eq, Hash)]
 pub struct Decimal {
     mantissa: i128,

@@ -104,8 +104,8 @@ pub fn report_of(alloc: Global, script: &str, lack: Lack) -> Result<String, Allo
     Ok(out)
 }
 
-/// Whether a report is the script's, or, where one request for memory was refused, one that this allows: the line of one
-/// call or one packet had no memory.
+/// Whether a report is the script's, or, where one request for memory was refused, one that this allows: the line of
+/// one call or one packet had no memory.
 pub fn is_due(
     alloc: Global,
     script: &str,

@@ -61,9 +61,9 @@ unsafe impl<B: Allocator> Allocator for Refusing<B> {
 /// The most requests that `each_refused` grants.
 const MOST_REQUESTS: u64 = 1000;
 
-/// Makes the attempt over an allocator that refuses its first request, then over one that refuses its second, and so on,
-/// until the attempt answers that it had all memory that it asked for. Answers how many requests were granted then, and
-/// `None` where 999 did not suffice.
+/// Makes the attempt over an allocator that refuses its first request, then over one that refuses its second, and so
+/// on, until the attempt answers that it had all memory that it asked for. Answers how many requests were granted then,
+/// and `None` where 999 did not suffice.
 ///
 /// # Errors
 /// The first error of an attempt, which ends the run.

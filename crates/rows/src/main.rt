@@ -1,11 +1,11 @@
 //! Runs each worked row and prints it with `ok`, or with what it gave in place of what the row wants.
 //!
 //! `index` names the rows of the script, one a line. Of each, `NAME.in` is the script, `NAME.out` what has to be
-//! printed, `NAME.err` what has to be told as an error (without that file: nothing) and `NAME.status` the status (without
-//! it: 0). Each line of `unreadable` is a script that has to be refused, and each line of `plans` a plan and whether it is
-//! the one that is made. Then each request for memory, answer of the writer, read and write is refused in turn, over each
-//! of these scripts and over generated ones, and the ends are counted. Last each request for memory of a constructor is
-//! refused in turn.
+//! printed, `NAME.err` what has to be told as an error (without that file: nothing) and `NAME.status` the status
+//! (without it: 0). Each line of `unreadable` is a script that has to be refused, and each line of `plans` a plan and
+//! whether it is the one that is made. Then each request for memory, answer of the writer, read and write is refused in
+//! turn, over each of these scripts and over generated ones, and the ends are counted. Last each request for memory of
+//! a constructor is refused in turn.
 #![tactic(auto)]
 
 mod generated;

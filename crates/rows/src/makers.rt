@@ -93,8 +93,8 @@ impl PathSocket for Taking {
     }
 }
 
-/// Whether a sink had memory for a line and for a flush. One request alone is refused, so a sink that had none for a line
-/// takes the next one; any other answer is an error.
+/// Whether a sink had memory for a line and for a flush. One request alone is refused, so a sink that had none for a
+/// line takes the next one; any other answer is an error.
 pub fn took<S: MetricSink>(sink: &S) -> MetricResult<bool> {
     match sink.emit(LINE) {
         Ok(length) if length == LINE.len() => Ok(sink.flush().is_ok()),

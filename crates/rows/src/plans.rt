@@ -21,8 +21,8 @@ fn numbers(alloc: Global, field: &str) -> MetricResult<Vec<usize>> {
     Ok(numbers)
 }
 
-/// Reads `CAPACITY; SIZES; MARKS; PLAN; ANSWER` and compares the answer, `yes` or `no`, with that of `check_plan` and with
-/// whether `plan_packets` makes that plan: `ok`, or which of both differs.
+/// Reads `CAPACITY; SIZES; MARKS; PLAN; ANSWER` and compares the answer, `yes` or `no`, with that of `check_plan` and
+/// with whether `plan_packets` makes that plan: `ok`, or which of both differs.
 pub fn plan_difference(alloc: Global, line: &str) -> MetricResult<&'static str> {
     let mut fields = line.split(';');
     let mut next = || fields.next().ok_or(malformed());

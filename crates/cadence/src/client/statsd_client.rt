@@ -17,8 +17,8 @@ use std::alloc::{Allocator, Global};
 pub type BoxedSink<A = Global> = Box<dyn MetricSink + Send + Sync, A>;
 
 /// A client of a Statsd server, as in cadence. Threads may share it by reference.
-/// It keeps its sink and its handler as they are, so any function can make a client and hand it out. `StatsdClient` alone
-/// is a client of a boxed sink, without a handler.
+/// It keeps its sink and its handler as they are, so any function can make a client and hand it out. `StatsdClient`
+/// alone is a client of a boxed sink, without a handler.
 #[derive(Drop)]
 pub struct StatsdClient<
     A: Allocator = Global,

@@ -5,7 +5,8 @@ ghost use Rattle.cadence_flow.specs.Writer.{History, Kind, WritesPacket};
 
 use cadence_errors::SinkError;
 
-/// A writer that takes packets one by one, as a socket does, in place of `std::io::Write`. An impl states which packets it took and how often it refused (`history`), and what no call changes (`kind`).
+/// A writer that takes packets one by one, as a socket does, in place of `std::io::Write`. An impl states which packets
+/// it took and how often it refused (`history`), and what no call changes (`kind`).
 pub trait PacketWriter: Drop {
     /// The packets taken, and the number and total length of the refusals.
     ghost history: { Self → History };

@@ -109,8 +109,8 @@ impl<T: Drop, A: Allocator + Clone> QueueCore<T, A> {
         }
     }
 
-    // Puts a text last in a full queue that drops its oldest text for it, which is let go. It is apart, since a function
-    // clears its locals at its start.
+    // Puts a text last in a full queue that drops its oldest text for it, which is let go. It is apart, since a
+    // function clears its locals at its start.
     #[inline(never)]
     fn replace_oldest(&mut self, text: T)
         requires full { is_full self.old ≡ true }

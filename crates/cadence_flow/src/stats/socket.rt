@@ -7,8 +7,8 @@ use cadence_errors::{MetricResult, SinkError};
 use std::alloc::{AllocError, Allocator, Global};
 use std::sync::{Arc, Mutex, Wait};
 
-/// One `SinkStats` under a lock, which the clones share, for a sink over a socket. A reading of it is of one moment. It keeps
-/// the runtime `R`, whose locks it takes.
+/// One `SinkStats` under a lock, which the clones share, for a sink over a socket. A reading of it is of one moment. It
+/// keeps the runtime `R`, whose locks it takes.
 #[derive(Drop)]
 pub struct SocketStats<R: Wait + Drop, A: Allocator = Global> {
     rt: R,

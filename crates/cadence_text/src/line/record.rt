@@ -186,8 +186,8 @@ impl<'a, A: Allocator> Record<'a, A> {
     ///
     /// The fields stand in cadence's order: name, numbers, type text, rate, tags, container, time.
     ///
-    /// Refuses with `SinkError::OutOfMemory` alone, where that request is refused or the length passes `usize::MAX`; the
-    /// record stays as it was.
+    /// Refuses with `SinkError::OutOfMemory` alone, where that request is refused or the length passes `usize::MAX`;
+    /// the record stays as it was.
     pub fn format<B: Allocator>(&self, alloc: B) -> MetricResult<String<B>>
         ensures line { IfOk result (λ line. string_bytes line ≡ line_of self.now) }
         ensures refused { IfErr result (λ e. e ≡ out_of_memory) }

@@ -290,8 +290,8 @@ fn read(text: &[u8]) -> Result<Decimal, ParseDecimalError>
     number_of(is_below, whole, without_zeros(digits))
 }
 
-/// The number whose text it is, exact, in lowest form: zeros at the end of the places are read. Takes no memory. Each other
-/// text is refused, by the first of the variants that fits.
+/// The number whose text it is, exact, in lowest form: zeros at the end of the places are read. Takes no memory. Each
+/// other text is refused, by the first of the variants that fits.
 impl FromStr for Decimal {
     type Err = ParseDecimalError;
 

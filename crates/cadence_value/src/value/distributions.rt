@@ -8,8 +8,8 @@ use crate::value::MetricValue;
 use cadence_errors::MetricResult;
 use std::alloc::Allocator;
 
-/// A value that a distribution takes. A caller's own type may have it: its implementation states a value's numbers, or none for a
-/// value that it refuses.
+/// A value that a distribution takes. A caller's own type may have it: its implementation states a value's numbers, or
+/// none for a value that it refuses.
 pub trait ToDistributionValue<A: Allocator> {
     // The numbers of a value, or none where it is refused.
     ghost numbers: { Self → Option (List Number) };

@@ -10,8 +10,8 @@ use cadence_errors::MetricResult;
 use std::alloc::Allocator;
 use std::time::Duration;
 
-/// A value that a histogram takes. A caller's own type may have it: its implementation states a value's numbers, or none for a
-/// value that it refuses.
+/// A value that a histogram takes. A caller's own type may have it: its implementation states a value's numbers, or
+/// none for a value that it refuses.
 pub trait ToHistogramValue<A: Allocator> {
     // The numbers of a value, or none where it is refused.
     ghost numbers: { Self → Option (List Number) };
@@ -79,8 +79,8 @@ impl<A: Allocator> ToHistogramValue<A> for Duration {
     }
 }
 
-/// The whole nanoseconds, cut off. Refused with the text `u64 overflow` exactly where one of them passes `u64::MAX`, and
-/// else answers want of memory where the list's one growth is refused.
+/// The whole nanoseconds, cut off. Refused with the text `u64 overflow` exactly where one of them passes `u64::MAX`,
+/// and else answers want of memory where the list's one growth is refused.
 impl<A: Allocator + Clone> ToHistogramValue<A> for Vec<Duration, A> {
     ghost numbers = { λ v. numbers_in_u64 (map nanos_of v.items) };
 

@@ -8,8 +8,8 @@ use crate::value::MetricValue;
 use cadence_errors::MetricResult;
 use std::alloc::Allocator;
 
-/// A value that a counter takes. A caller's own type may have it: its implementation states a value's numbers, or none for a
-/// value that it refuses.
+/// A value that a counter takes. A caller's own type may have it: its implementation states a value's numbers, or none
+/// for a value that it refuses.
 pub trait ToCounterValue<A: Allocator> {
     // The numbers of a value, or none where it is refused.
     ghost numbers: { Self → Option (List Number) };
@@ -80,8 +80,8 @@ impl WholeNumber for u32 {
     }
 }
 
-/// A value that a gauge takes. A caller's own type may have it: its implementation states a value's numbers, or none for a
-/// value that it refuses.
+/// A value that a gauge takes. A caller's own type may have it: its implementation states a value's numbers, or none
+/// for a value that it refuses.
 pub trait ToGaugeValue<A: Allocator> {
     // The numbers of a value, or none where it is refused.
     ghost numbers: { Self → Option (List Number) };
@@ -115,8 +115,8 @@ impl<A: Allocator> ToGaugeValue<A> for Decimal {
     }
 }
 
-/// A value that a meter takes. A caller's own type may have it: its implementation states a value's numbers, or none for a
-/// value that it refuses.
+/// A value that a meter takes. A caller's own type may have it: its implementation states a value's numbers, or none
+/// for a value that it refuses.
 pub trait ToMeterValue<A: Allocator> {
     // The numbers of a value, or none where it is refused.
     ghost numbers: { Self → Option (List Number) };
@@ -139,8 +139,8 @@ impl<A: Allocator> ToMeterValue<A> for u64 {
     }
 }
 
-/// A value that a set takes. A caller's own type may have it: its implementation states a value's numbers, or none for a
-/// value that it refuses.
+/// A value that a set takes. A caller's own type may have it: its implementation states a value's numbers, or none for
+/// a value that it refuses.
 pub trait ToSetValue<A: Allocator> {
     // The numbers of a value, or none where it is refused.
     ghost numbers: { Self → Option (List Number) };

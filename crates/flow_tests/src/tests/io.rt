@@ -1,5 +1,5 @@
-//! Writers that are replaced, lent and given back, the drop, and each refused request for memory. What a packer makes of
-//! lines, flushes and answers is shown by the rows of the program `rows`.
+//! Writers that are replaced, lent and given back, the drop, and each refused request for memory. What a packer makes
+//! of lines, flushes and answers is shown by the rows of the program `rows`.
 use cadence_errors::SinkError;
 use cadence_flow::io::{Answer, LineBuffer, MultiLineWriter, PacketLog, PacketWriter, Refusals};
 use refusing::{Refusing, each_refused};

@@ -22,7 +22,8 @@ fn window_of<A: Allocator>(metric: &Record<'_, A>, skip: u128) -> Window
 impl<'a, A: Allocator> Record<'a, A> {
     /// Whether the lines of both are the same. Takes no memory.
     ///
-    /// Lines of up to 511 bytes are made once each, piece by piece, and longer ones once more for each further 512 bytes.
+    /// Lines of up to 511 bytes are made once each, piece by piece, and longer ones once more for each further 512
+    /// bytes.
     pub fn same_line<B: Allocator>(&self, other: &Record<'_, B>) -> bool
         ensures lines { IsTrue result ↔ (line_of self.now ≡ line_of other.now) }
         ensures metrics { IsFreeOfSeparators self.now → IsFreeOfSeparators other.now →
