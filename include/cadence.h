@@ -80,7 +80,8 @@ typedef struct cadence_tag {
 
 /* What a call adds to its metric: tags, after the client's; where `contained` a container, in the place of the
  * client's; where `rated` a sampling rate; where `timed` a time, in the unit that the server reads (seconds in
- * DogStatsD). Texts are printed as they are, separators too. */
+ * DogStatsD). Nothing is sampled: each call keeps its line, and the server scales by the rate. Texts are printed as they
+ * are, separators too. */
 typedef struct cadence_options {
     const cadence_tag *tags;
     size_t tags_len;

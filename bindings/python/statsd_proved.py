@@ -1,4 +1,5 @@
-"""A Statsd client over the proved library, with the calls of statsd.StatsClient.
+"""A Statsd client over the proved library, with calls like those of statsd.StatsClient. Nothing is sampled: a rate is
+printed, each call is sent, and the server scales.
 
     client = StatsClient("localhost", 8125, prefix="my.service", library="libcadence_c.so")
     client.incr("visits", tags={"page": "home"})

@@ -1,4 +1,4 @@
-//! The names of the crate cadence over the proved formatter and packer.
+//! The client of the crate cadence, and its buffered UDP sink, over the proved formatter and packer.
 //!
 //! `StatsdClient` makes lines without a lock, and a buffered sink has a packer and a socket under a lock of its own. The
 //! `unsafe` code is in `packer.rs` alone.

@@ -38,7 +38,8 @@ pub fn udp_client<R: Net + Wait + Clone + Drop, A: Allocator + Clone>(
     StatsdClient::from_sink(alloc, prefix, sink)
 }
 
-/// A client whose lines are gathered in datagrams of at most `capacity` bytes. The errors are those of `udp_sink`.
+/// A client whose lines are gathered in datagrams of at most `capacity` bytes, but for a longer line, which goes out
+/// alone. The errors are those of `udp_sink`.
 pub fn buffered_udp_client<R: Net + Wait + Clone + Drop, A: Allocator + Clone>(
     rt: &R,
     alloc: A,
@@ -55,8 +56,8 @@ pub fn buffered_udp_client<R: Net + Wait + Clone + Drop, A: Allocator + Clone>(
 }
 
 /// A client whose lines go through a queue of at most `lines` lines, or without a bound, whose worker thread gathers
-/// them in datagrams of at most `capacity` bytes. At a service's end `sink().stop_and_wait()` and then `flush()` send
-/// what is queued. The errors are those of `queued_udp_sink`.
+/// them in datagrams, as `buffered_udp_client` does. At a service's end `sink().stop_and_wait()` and then `flush()`
+/// send what is queued. The errors are those of `queued_udp_sink`.
 pub fn queued_udp_client<
     R: Net + Wait + Threads + Clone + Drop + Send + Sync + 'static,
     A: Allocator + Clone + Send + Sync + 'static,

@@ -1,5 +1,5 @@
-//! A queue that threads share, with a history of its calls and a receipt of each call for its caller. At its end the
-//! history is known to be one that a single thread could have made, with the callers' calls and no others.
+//! A queue that threads share, with a history of its calls and a receipt of each call for its caller. Where its end is
+//! answered Ok, the history is one that a single thread could have made, with the callers' calls and no others.
 #![tactic(auto)]
 
 ghost use Rattle.std.specs.Prelude.{◌≡◌, ◌↔◌, length, string_bytes, All, IfOk, IfErr, OnErr, OnOk, Err};
