@@ -4,6 +4,7 @@
 #![tactic(auto)]
 
 pub mod client;
+pub mod decimal;
 pub mod ext;
 pub mod laws;
 mod metrics;
@@ -18,7 +19,7 @@ pub mod types;
 pub use cadence_flow::{io, stats};
 pub use cadence_sinks as sinks;
 pub use cadence_text::line;
-pub use cadence_value::{decimal, value};
+pub use cadence_value::value;
 pub use client::{MetricBuilder, StatsdClient, StatsdClientBuilder};
 pub use prelude::{
     Counted, CountedExt, Distributed, Gauged, Histogrammed, Metered, MetricClient, Setted, Timed,

@@ -4,7 +4,7 @@ ghost use Rattle.cadence.specs.Shown.{settings_of_client, sink_of_client};
 ghost use Rattle.cadence_resolve.specs.Refusals.{IsSocketRefusal};
 ghost use Rattle.cadence_schedule.specs.Settings.{settings_of};
 ghost use Rattle.cadence_sinks.specs.Buffers.{udp_buffer};
-ghost use Rattle.cadence_sinks.specs.Queuing.{wrapped_sink};
+ghost use Rattle.cadence_sinks.specs.Queuing.{queue_capacity, wrapped_sink};
 
 use crate::client::StatsdClient;
 use cadence_errors::MetricResult;
@@ -71,6 +71,7 @@ pub fn queued_udp_client<
 ) -> MetricResult<QueuedUdpClient<R, A>>
     ensures settings { IfOk result (λ c. settings_of_client c ≡ settings_of prefix.now) }
     ensures buffer { IfOk result (λ c. udp_buffer (wrapped_sink (sink_of_client c)) ≡ capacity) }
+    ensures lines { IfOk result (λ c. queue_capacity (sink_of_client c) ≡ lines) }
     ensures refused { IfErr result (λ e. IsSocketRefusal e) }
 {
     let sink = queued_udp_sink(rt, alloc.clone()?, target, capacity, lines)?;

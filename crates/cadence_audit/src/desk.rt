@@ -30,7 +30,11 @@ impl<A: Allocator> Model for Desk<A> {
 
     ghost Value = { Past A };
 
-    ghost view = { λ d. record { capacity = d.capacity; events = d.events.items; seats = length d.counts.items } };
+    ghost view = { λ d. record {
+      capacity = d.capacity;
+      events = d.events.items;
+      seats = length d.counts.items;
+    } };
 
     ghost invariant = { λ d. IsKept d.capacity d.events.items d.core d.counts.items };
 }

@@ -66,8 +66,10 @@ impl Model for Packing {
       capacity = p.capacity;
     } };
 
-    ghost invariant = { λ p. (p.lines.format ≡ record { capacity = p.capacity; ending = codes "\n" })
-        × (p.queue.capacity ≡ Some p.most) × (p.queue.policy ≡ p.policy) × (p.queue.stopped ≡ false) × (2 ≤ p.most) };
+    ghost invariant = { λ p.
+        (p.lines.format ≡ record { capacity = p.capacity; ending = codes "\n" })
+        × (p.queue.capacity ≡ Some p.most) × (p.queue.policy ≡ p.policy)
+        × (p.queue.stopped ≡ false) × (2 ≤ p.most) };
 }
 
 impl Packing {

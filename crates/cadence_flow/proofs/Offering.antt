@@ -10,11 +10,6 @@ abbrev pub OfferedSoFar : Option (List (List ℕ × ℕ)) → Option (List (List
 OfferedSoFar None now len sent = Unit {0}
 OfferedSoFar (Some old) now len sent = (sent < len → AddsShorts old now) × (0 < sent → sent ≡ len → AddsWhole old now)
 
--- nothing is offered yet
-pub offered_none : (old : Option (List (List ℕ × ℕ))) (len : ℕ) → OfferedSoFar old old len 0
-offered_none None len = tt
-offered_none (Some old) len = (λ more. ([], All-nil IsShort, ap Some (sym (append-nil old))), λ some. absurd (omega arith))
-
 module _ (old : List (List ℕ × ℕ)) (mid new : Option (List (List ℕ × ℕ))) (packet : List ℕ) where
   after_shorts : (n : ℕ) (shorts : List (List ℕ × ℕ)) → mid ≡ Some (old ++ shorts) → IsOffered mid new packet (Ok n) → new ≡ Some (old ++ (shorts ++ (packet, n) ∷ []))
   after_shorts n shorts is step =
@@ -27,9 +22,6 @@ module _ (old : List (List ℕ × ℕ)) (mid new : Option (List (List ℕ × ℕ
   one_whole n all_of (shorts, all, is) step =
       (shorts, packet, all, after_shorts n shorts is step ∙ ap (λ k. Some (old ++ (shorts ++ (packet, k) ∷ []))) all_of)
 
-  none_more : (e : SinkError) → AddsShorts old mid → IsOffered mid new packet (Err e) → AddsShorts old new
-  none_more e (shorts, all, is) step = (shorts, all, subst (λ m. IsOffered m new packet (Err e)) is step)
-
 -- one packet more
 pub offered_more : (old mid new : Option (List (List ℕ × ℕ))) (packet : List ℕ) (len sent n : ℕ) → OfferedSoFar old mid len sent → sent < len → length packet ≡ len - sent → IsOffered mid new packet (Ok n) → OfferedSoFar old new len (sent + n)
 offered_more None mid new packet len sent n before more is step = tt
@@ -40,16 +32,6 @@ offered_more (Some old) mid new packet len sent n before more is step =
 pub offered_nothing : (old mid new : Option (List (List ℕ × ℕ))) (packet : List ℕ) (len sent n : ℕ) → OfferedSoFar old mid len sent → sent < len → length packet ≡ len - sent → n ≡ 0 → IsOffered mid new packet (Ok n) → SendsOffers old new false
 offered_nothing None mid new packet len sent n before more is none step = tt
 offered_nothing (Some old) mid new packet len sent n before more is none step = one_short old mid new packet n (omega arith) (before.0 more) step
-
--- the writer refused what was left
-pub offered_refused : (old mid new : Option (List (List ℕ × ℕ))) (packet : List ℕ) (len sent : ℕ) (e : SinkError) → OfferedSoFar old mid len sent → sent < len → IsOffered mid new packet (Err e) → SendsOffers old new false
-offered_refused None mid new packet len sent e before more step = tt
-offered_refused (Some old) mid new packet len sent e before more step = none_more old mid new packet e (before.0 more) step
-
--- all was taken
-pub offered_all : (old new : Option (List (List ℕ × ℕ))) (len sent : ℕ) → OfferedSoFar old new len sent → 0 < len → sent ≡ len → SendsOffers old new true
-offered_all None new len sent so_far some all = tt
-offered_all (Some old) new len sent so_far some all = so_far.1 (omega arith) all
 
 -- a flush of a text that isn't empty
 pub offered_held : (old new : Option (List (List ℕ × ℕ))) (held : List ℕ) (ok : Bool) → 0 < length held → SendsOffers old new ok → FlushesOffers old new held ok

@@ -1,6 +1,8 @@
 -- The room of a queue's ring.
-use Rattle.std.specs.Prelude.{◌≡◌, ℕ, ◌<◌, [], Option, Some, None}
+use Rattle.std.specs.Prelude.{◌≡◌, ℕ, ◌<◌, [], Option, Some, None, Result, IfErr}
 use Rattle.circular_buffer.specs.Buffer.{Buffer, buffer}
+use Rattle.cadence_errors.specs.Errors.{out_of_memory}
+use Rattle.cadence_errors.specs.declared.MetricError.{MetricError}
 
 -- a ring without a block has no texts and no room
 abbrev pub ring_of : {T : Type 0} → Option (Buffer T) → Buffer T
@@ -21,3 +23,7 @@ IsBounded None = ⊥
 abbrev pub TakesRoom : Option ℕ → Type 0
 TakesRoom (Some capacity) = 0 < capacity
 TakesRoom None = ⊥
+
+-- a queue of this capacity is refused for want of its room alone
+abbrev pub OnlyWantsRoom : {T : Type 0} → Option ℕ → Result T MetricError → Type 0
+OnlyWantsRoom capacity result = IfErr result (λ e. (e ≡ out_of_memory) × TakesRoom capacity)

@@ -24,20 +24,6 @@ pub stream_more : (format : Format) (lines : Offers) (line : List ℕ) (n : ℕ)
 stream_more format lines line n =
     flat_map-append (λ (k : List ℕ × ℕ). frame_of format k.0 k.1) lines ((line, n) ∷ []) ∙ ap (λ l. taken_stream format lines ++ l) (append-nil (frame_of format line n))
 
--- nothing yet
-pub cut_none : (format : Format) → IsCut format [] [] []
-cut_none format =
-    record {
-      runs = [];
-      shorts = [];
-      lines = [];
-      each = All-nil (IsRun format);
-      all_short = All-nil IsShort;
-      all_offers = refl;
-      all_lines = refl;
-      rest = refl;
-    }
-
 module _ (format : Format) (offers accepted : Offers) (held : List ℕ) (cut : IsCut format offers accepted held) where
   -- a line is held
   pub cut_held : (line : List ℕ) (n : ℕ) → IsCut format offers (accepted ++ (line, n) ∷ []) (held ++ frame_of format line n)

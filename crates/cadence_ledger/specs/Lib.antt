@@ -3,6 +3,7 @@ pub mod Ledger
 pub mod QueueLedger
 pub mod QueuePast
 pub mod QueueTaken
+pub mod SharedQueue
 pub mod Telling
 pub mod Whole
 pub mod WholeLedgers

@@ -20,8 +20,7 @@ pub struct QueueLedger<T, A: Allocator = Global> {
 impl<T: Drop, A: Allocator + Clone> QueueLedger<T, A> {
     ghost use Rattle.std.specs.Prelude.{[], ◌∷◌, ◌++◌, IfOk, IfErr, OnOk, OnErr, Ok, Option, IsTrue};
     ghost use Rattle.std.specs.declared.alloc.AllocError.{AllocError};
-    ghost use Rattle.cadence_errors.specs.Errors.{out_of_memory};
-    ghost use Rattle.cadence_flow.specs.QueueRoom.{TakesRoom};
+    ghost use Rattle.cadence_flow.specs.QueueRoom.{OnlyWantsRoom};
     ghost use Rattle.cadence_flow.specs.Queue.{Accepts, IsRefusal, error_of, new_queue};
     ghost use Rattle.cadence_ledger.specs.QueueLedger.{accepted_by, core_of, taken_from};
 
@@ -29,7 +28,7 @@ impl<T: Drop, A: Allocator + Clone> QueueLedger<T, A> {
     pub fn new(alloc: A, capacity: Option<usize>, policy: QueuePolicy) -> MetricResult<Self>
         ensures made { IfOk result (λ q. core_of q ≡ new_queue capacity policy) }
         ensures none { IfOk result (λ q. (accepted_by q ≡ []) × (taken_from q ≡ [])) }
-        ensures refused { IfErr result (λ e. (e ≡ out_of_memory) × TakesRoom capacity) }
+        ensures refused { OnlyWantsRoom capacity result }
     {
         let core = QueueCore::with_policy(alloc, capacity, policy)?;
         Ok(QueueLedger {

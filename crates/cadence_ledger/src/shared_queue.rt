@@ -1,8 +1,9 @@
 //! A queue that threads share.
-ghost use Rattle.std.specs.Prelude.{◌≡◌, IfErr};
-ghost use Rattle.cadence_errors.specs.Errors.{out_of_memory};
+ghost use Rattle.std.specs.Prelude.{◌≡◌, IfErr, IfOk};
 ghost use Rattle.cadence_flow.specs.Queue.{IsQueueRefusal};
-ghost use Rattle.cadence_flow.specs.QueueRoom.{TakesRoom};
+ghost use Rattle.cadence_flow.specs.QueueRoom.{OnlyWantsRoom};
+ghost use Rattle.cadence_flow.specs.declared.queue.policy.QueuePolicy.TheVariants.{Refuse};
+ghost use Rattle.cadence_ledger.specs.SharedQueue.{bound_of, rule_of};
 
 use super::queue_ledger::QueueLedger;
 use cadence_errors::{MetricResult, SinkError};
@@ -30,25 +31,33 @@ fn stand_aside() {
 pub struct SharedQueue<T, A: Allocator = Global> {
     core: Mutex<QueueLedger<T, A>>,
     changed: Condvar,
+    capacity: Option<usize>,
+    policy: QueuePolicy,
 }
 
 impl<T: Drop, A: Allocator + Clone> SharedQueue<T, A> {
     /// An empty queue with one handle, which holds at most `capacity` texts and refuses more; `None` is no bound. A
     /// bounded queue makes room for all its texts at once. The only error is `OutOfMemory`.
     pub fn new(alloc: A, capacity: Option<usize>) -> MetricResult<Self>
-        ensures { IfErr result (λ e. (e ≡ out_of_memory) × TakesRoom capacity) }
+        ensures capacity { IfOk result (λ q. bound_of q ≡ capacity) }
+        ensures policy { IfOk result (λ q. rule_of q ≡ Refuse) }
+        ensures refused { OnlyWantsRoom capacity result }
     {
         SharedQueue::with_policy(alloc, capacity, QueuePolicy::Refuse)
     }
 
     /// As `new`, with what the queue does with one more text when it is full.
     pub fn with_policy(alloc: A, capacity: Option<usize>, policy: QueuePolicy) -> MetricResult<Self>
-        ensures { IfErr result (λ e. (e ≡ out_of_memory) × TakesRoom capacity) }
+        ensures capacity { IfOk result (λ q. bound_of q ≡ capacity) }
+        ensures policy { IfOk result (λ q. rule_of q ≡ policy) }
+        ensures refused { OnlyWantsRoom capacity result }
     {
         let core = QueueLedger::new(alloc, capacity, policy)?;
         Ok(SharedQueue {
             core: Mutex::new(core),
             changed: Condvar::new(),
+            capacity,
+            policy,
         })
     }
 

@@ -7,7 +7,6 @@ mod fields;
 mod line;
 mod packet;
 
-pub use cadence_value::decimal::read_number;
 pub use fault::ReadFault;
 pub use line::read_line;
 pub use packet::{read_packet, read_run};

@@ -5,7 +5,7 @@ ghost use Rattle.std.specs.Prelude.{◌≡◌, false, IfOk, IfErr};
 ghost use Rattle.cadence_resolve.specs.Refusals.{IsSocketRefusal};
 ghost use Rattle.cadence_ready.specs.Host.{IsHost};
 ghost use Rattle.cadence_sinks.specs.Buffers.{udp_buffer};
-ghost use Rattle.cadence_sinks.specs.Queuing.{wrapped_sink};
+ghost use Rattle.cadence_sinks.specs.Queuing.{queue_capacity, wrapped_sink};
 ghost use Rattle.cadence_sinks.specs.Udp.{looks_up_again};
 
 use cadence_errors::MetricResult;
@@ -95,6 +95,7 @@ pub fn queued_udp_sink<
     lines: Option<usize>,
 ) -> MetricResult<QueuedUdpSink<R, A>>
     ensures buffer { IfOk result (λ q. udp_buffer (wrapped_sink q) ≡ capacity) }
+    ensures lines { IfOk result (λ q. queue_capacity q ≡ lines) }
     ensures refused { IfErr result (λ e. IsSocketRefusal e) }
 {
     let sink = buffered_udp_sink(rt, alloc.clone()?, target, capacity)?;

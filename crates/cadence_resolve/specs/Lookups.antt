@@ -58,6 +58,16 @@ abbrev pub IsAddressOf : {A : Type 0} → Target A → Result SocketAddr MetricE
 IsAddressOf (Addr address) result = result ≡ Ok address
 IsAddressOf _ result = IfErr result (λ e. IsSocketRefusal e)
 
+-- a resolver that looks up once has the address of its target
+abbrev pub KeepsAddress : {R A B : Type 0} → Resolver R A → Target B → Type 0
+KeepsAddress (Static resolver) target = IsAddressOf target (Ok resolver)
+KeepsAddress (Periodic resolver) target = Unit {0}
+
+-- a resolver that looks up once answers the address that it has
+abbrev pub AnswersAddress : {R A : Type 0} → Resolver R A → SocketAddr → Type 0
+AnswersAddress (Static resolver) address = address ≡ resolver
+AnswersAddress (Periodic resolver) address = Unit {0}
+
 -- whether a thread looks the target up again and again
 abbrev pub is_periodic : {R A : Type 0} → Resolver R A → Bool
 is_periodic (Static resolver) = false

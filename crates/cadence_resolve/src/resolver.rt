@@ -21,8 +21,12 @@ pub enum Resolver<R: Wait + Drop, A: Allocator> {
 }
 
 impl<R: Wait + Drop, A: Allocator> Resolver<R, A> {
+    ghost use Rattle.cadence_resolve.specs.Lookups.{AnswersAddress};
+
     /// The address.
-    pub fn get_addr(&self) -> SocketAddr {
+    pub fn get_addr(&self) -> SocketAddr
+        ensures { AnswersAddress self.now result }
+    {
         match self {
             Resolver::Static(resolver) => resolver.get_addr(),
             Resolver::Periodic(resolver) => resolver.get_addr(),
@@ -63,7 +67,7 @@ impl<
 > ResolverRuntime for R {}
 
 impl<R: ResolverRuntime, A: Allocator + Clone + Send + Sync + 'static> Resolver<R, A> {
-    ghost use Rattle.cadence_resolve.specs.Lookups.{is_periodic};
+    ghost use Rattle.cadence_resolve.specs.Lookups.{KeepsAddress, is_periodic};
 
     /// A static resolver where there is no period, else a periodic one with its thread. The errors are those of the
     /// first lookup; `Io` where no thread can be started; `OutOfMemory`.
@@ -75,6 +79,7 @@ impl<R: ResolverRuntime, A: Allocator + Clone + Send + Sync + 'static> Resolver<
         handler: Option<Handler>,
     ) -> MetricResult<Self>
         ensures made { IfOk result (λ r. is_periodic r ≡ is_some period) }
+        ensures address { IfOk result (λ r. KeepsAddress r target) }
         ensures refused { IfErr result (λ e. IsSocketRefusal e) }
         ensures once { period ≡ None → IfErr result (λ e. IsTargetRefusal target e) }
     {

@@ -18,7 +18,11 @@ impl Model for ResolverCore {
 
     ghost Value = { Resolved };
 
-    ghost view = { λ r. record { address = r.address; successes = r.successes; failures = r.failures } };
+    ghost view = { λ r. record {
+      address = r.address;
+      successes = r.successes;
+      failures = r.failures;
+    } };
 }
 
 impl ResolverCore {

@@ -10,6 +10,7 @@ use Rattle.std.proofs.lemmas.Bool.{cases_lt, le-ltb, lt-ltb, cond-true, cond-fal
 use Rattle.cadence_schedule.specs.Plan.{FitsPacket, PassesWithNext}
 use Rattle.cadence_flow.specs.Frame.{Format, size_of, frame, stream}
 use Rattle.cadence_flow.specs.Frame.{held_packet}
+use Rattle.cadence_value.proofs.Cut.{each_append}
 use Rattle.cadence_schedule.proofs.PlanSteps.{sum-cons, not_at}
 use Rattle.cadence_schedule.proofs.Ends.{ends, split_end, neighbours_end, joined}
 
@@ -34,10 +35,6 @@ pub record IsCutSoFar (format : Format) (marks refusals : List ℕ) (lines : Lis
 
 sum-append : (xs ys : List ℕ) → sum (xs ++ ys) ≡ sum xs + sum ys
 sum-append xs ys = sum_by-append (λ x. x) xs ys
-
-pub each_append : {X : Type 0} (P : X → Type 0) (xs ys : List X) → AllByRecursion P xs → AllByRecursion P ys → AllByRecursion P (xs ++ ys)
-each_append P [] ys hx hy = hy
-each_append P (x ∷ xs) ys (h, hx) hy = (h, each_append P xs ys hx hy)
 
 each_front : {X : Type 0} (P : X → Type 0) (xs ys : List X) → AllByRecursion P (xs ++ ys) → AllByRecursion P xs
 each_front P [] ys h = tt

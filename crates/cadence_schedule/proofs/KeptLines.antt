@@ -11,7 +11,7 @@ use Rattle.cadence_schedule.specs.declared.steps.Step.TheVariants as step
 use Rattle.cadence_schedule.specs.declared.steps.Reply.TheVariants as reply
 use Rattle.cadence_schedule.specs.History.{Turn, answered, undropped, taken, left, exits, exit_by, outcomes, outcome_by, handed_on, accepted, accepted_by, staying, kept, kept_counts}
 use Rattle.cadence_schedule.proofs.Growing.{accepted-push, outcomes-push, answered-longer, answered-some, answered-none, length-answered}
-use Rattle.cadence_schedule.proofs.Cutting.{each_append}
+use Rattle.cadence_value.proofs.Cut.{each_append}
 use Rattle.cadence_schedule.proofs.Staying.{exits-push, out, length-out, staying_is, staying-push}
 
 each_get : {X : Type 0} (P : X → Type 0) (xs : List X) (i : ℕ) (x : X) → AllByRecursion P xs → slice_get xs i ≡ Some x → P x

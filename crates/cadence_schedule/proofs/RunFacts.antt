@@ -172,7 +172,3 @@ run_after line_of filled kind kind0 format format0 queue queue0 policy policy0 s
     (subst (λ x. Runs line_of kind format x policy0 s0 turns s1) q
     (subst (λ x. Runs line_of kind x queue0 policy0 s0 turns s1) f
     (subst (λ x. Runs line_of x format0 queue0 policy0 s0 turns s1) k runs)))))
-
--- what holds of a writer's history and held text holds of equal ones
-pub at_parts : (P : History → List ℕ → Type 0) (w w' : History) (x x' : List ℕ) → w' ≡ w → x' ≡ x → P w x → P w' x'
-at_parts P w w' x x' e f p = subst (λ h. P h x') (sym e) (subst (λ t. P w t) (sym f) p)

@@ -21,6 +21,7 @@ use Rattle.cadence_schedule.specs.Replies.{CallReplies, TakeReplies, HandReplies
 use Rattle.cadence_flow.specs.Frame.{held_packet}
 use Rattle.cadence_flow.specs.Frame.{taken_stream}
 use Rattle.cadence_schedule.specs.Moves.{State, Moves, Runs, HasLast, CountsLine}
+use Rattle.cadence_flow.proofs.Histories.{Extends-trans}
 use Rattle.cadence_schedule.proofs.Ends.{joined}
 use Rattle.cadence_schedule.proofs.Growing.{marks-push, refusals-push, replies-push, errors-push}
 use Rattle.cadence_schedule.proofs.Cutting.{IsCutSoFar, marks_flush, no_lines, held_last, joined-push}
@@ -29,8 +30,6 @@ use Rattle.cadence_schedule.proofs.QueueTurns.{at_start, QueueAfter, SameQueue, 
 use Rattle.cadence_schedule.proofs.PacketTurns.{written, refused, cut_written, cut_refused}
 
 -- an extension of an extension
-extends_more : (a b c : History) → Extends a b → Extends b c → Extends a c
-extends_more a b c (more, e) (again, f) = (more ++ again, f ∙ ap (λ p. p ++ again) e ∙ append_assoc a.packets more again)
 
 same_queue : (s : State) → SameQueue s s
 same_queue s = record { waiting = refl; stopped = refl; submitted = refl; drained = refl; dropped = refl }
@@ -154,7 +153,7 @@ module _ {A : Type 0} (line_of : Call A → Option (List ℕ)) (filled : (call :
   text_written : (h : List (Turn A)) (line held rest : List ℕ) (n : ℕ) (old new : History) → kept_counts line_of (h ++ (step.Hand, reply.Handed (Ok n)) ∷ []) ≡ kept_counts line_of h ++ (line, n) ∷ [] → kind.tells ≡ true
       → Writes kind format old new held rest line (Ok n) → TextAfter h old held → TextAfter (h ++ (step.Hand, reply.Handed (Ok n)) ∷ []) new rest
   text_written h line held rest n old new more tells w a = record {
-    extends = extends_more start old new a.extends (w.extends tells);
+    extends = Extends-trans start old new a.extends (w.extends tells);
     text = w.text tells ∙ ap (λ t. t ++ frame_of format line n) a.text ∙ append_assoc (concat start.packets) (taken_stream format (kept_counts line_of h)) (frame_of format line n)
         ∙ ap (λ t. concat start.packets ++ t) (sym (ap (taken_stream format) more ∙ flat_map-append (λ (k : List ℕ × ℕ). frame_of format k.0 k.1) (kept_counts line_of h) ((line, n) ∷ [])
         ∙ ap (λ t. taken_stream format (kept_counts line_of h) ++ t) (append-nil (frame_of format line n))));
@@ -163,14 +162,14 @@ module _ {A : Type 0} (line_of : Call A → Option (List ℕ)) (filled : (call :
   text_refused : (h : List (Turn A)) (line held rest : List ℕ) (e : SinkError) (old new : History) → kind.tells ≡ true
       → Writes kind format old new held rest line (Err e) → TextAfter h old held → TextAfter (h ++ (step.Hand, reply.Handed (Err e)) ∷ []) new rest
   text_refused h line held rest e old new tells w a = record {
-    extends = extends_more start old new a.extends (w.extends tells);
+    extends = Extends-trans start old new a.extends (w.extends tells);
     text = w.text tells ∙ append-nil (whole_text old held) ∙ a.text ∙ ap (λ k. concat start.packets ++ taken_stream format k) (sym (counts_refused line_of h e));
   }
 
   text_flushed : (h : List (Turn A)) (result : Result Unit SinkError) (held rest : List ℕ) (old new : History) → kind.tells ≡ true → kept_counts line_of (h ++ (step.Flush, reply.Flushed result) ∷ []) ≡ kept_counts line_of h
       → Flushes kind old new held rest result → TextAfter h old held → TextAfter (h ++ (step.Flush, reply.Flushed result) ∷ []) new rest
   text_flushed h result held rest old new tells same f a = record {
-    extends = extends_more start old new a.extends (f.extends tells);
+    extends = Extends-trans start old new a.extends (f.extends tells);
     text = f.text tells ∙ a.text ∙ ap (λ k. concat start.packets ++ taken_stream format k) (sym same);
   }
 

@@ -4,7 +4,7 @@
 //! alone. A mark asks that a packet ends after so many sizes.
 ghost use Rattle.std.specs.Prelude.{◌≡◌, ◌+◌, ◌<◌, ◌≤◌, ◌↔◌, ℕ, List, IsTrue, IfSome, IfNone, IfOk, IfErr, drop, length, sum, All, Contains};
 ghost use Rattle.cadence_schedule.specs.Plan.{IsFewest, IsTight, IsTightGroup};
-ghost use Rattle.cadence_errors.specs.Errors.{out_of_memory};
+ghost use Rattle.cadence_errors.specs.Errors.{OnlyWantsMemory};
 
 use cadence_errors::MetricResult;
 use std::alloc::Allocator;
@@ -114,7 +114,7 @@ pub fn plan_packets<A: Allocator>(
 ) -> MetricResult<Vec<usize, A>>
     ensures tight { IfOk result (λ plan. IsTight capacity marks.now sizes.now plan.items) }
     ensures fewest { IfOk result (λ plan. IsFewest capacity marks.now sizes.now plan.items) }
-    ensures refused { IfErr result (λ e. e ≡ out_of_memory) }
+    ensures refused { OnlyWantsMemory result }
 {
     let mut plan = Vec::new(alloc);
     let mut start = 0;

@@ -3,8 +3,7 @@ ghost use Rattle.cadence_send.specs.Finds.{Finds};
 ghost use Rattle.cadence_value.specs.Number.{IsDecimal};
 ghost use Rattle.cadence_value.specs.Said.{Says};
 
-use cadence_read::read_number;
-use cadence_value::decimal::Decimal;
+use cadence_value::decimal::{Decimal, read_number};
 
 // The decimal that a word says, also with zeros after its places. Mostly it has none, which is read faster.
 pub(crate) fn read_decimal(word: &str) -> Option<Decimal>

@@ -7,6 +7,7 @@ use Rattle.cadence_errors.specs.declared.SinkError.TheVariants.{Io, OutOfMemory}
 use Rattle.cadence_errors.specs.declared.MetricError.{MetricError}
 use Rattle.cadence_errors.specs.declared.MetricError.TheVariants.{Sink}
 use Rattle.cadence_flow.specs.declared.queue.policy.QueuePolicy.{QueuePolicy}
+use Rattle.cadence_ledger.specs.SharedQueue.{bound_of, rule_of}
 use Rattle.cadence_resolve.specs.Handler.{call_of}
 use Rattle.cadence_sinks.specs.declared.queuing.sink.QueuingMetricSink.{QueuingMetricSink}
 use Rattle.cadence_sinks.specs.declared.queuing.builder.QueuingMetricSinkBuilder.{QueuingMetricSinkBuilder}
@@ -20,6 +21,14 @@ IsQueuingRefusal _ = ⊥
 -- the sink that a queuing sink wraps
 abbrev pub wrapped_sink : {S R A : Type 0} → QueuingMetricSink S R A → S
 wrapped_sink q = (arc_value q.shared).sink
+
+-- the most lines that its queue holds, or none
+abbrev pub queue_capacity : {S R A : Type 0} → QueuingMetricSink S R A → Option ℕ
+queue_capacity q = bound_of (arc_value q.shared).queue
+
+-- what its queue does with a line where it is full
+abbrev pub queue_policy : {S R A : Type 0} → QueuingMetricSink S R A → QueuePolicy
+queue_policy q = rule_of (arc_value q.shared).queue
 
 module _ {A Y : Type 0} {G : Y → Type 0} {g : _} where
   -- the capacity that a builder's queue will have, or none

@@ -5,7 +5,8 @@ use Rattle.std.specs.declared.dyn_box.DynBox.{DynBox}
 use Rattle.std.specs.declared.alloc.Global.{Global}
 use Rattle.std.specs.declared.time.Duration.{Duration}
 use Rattle.cadence_resolve.specs.Handler.{call_of}
-use Rattle.cadence_resolve.specs.Lookups.{is_periodic}
+use Rattle.cadence_resolve.specs.Lookups.{KeepsAddress, is_periodic}
+use Rattle.cadence_resolve.specs.declared.target.Target.{Target}
 use Rattle.cadence_sinks.specs.declared.udp.buffered.BufferedUdpMetricSinkBuilder.{BufferedUdpMetricSinkBuilder}
 use Rattle.cadence_sinks.specs.declared.udp.unbuffered.UdpMetricSinkBuilder.{UdpMetricSinkBuilder}
 use Rattle.cadence_sinks.specs.declared.udp.unbuffered.UdpMetricSink.{UdpMetricSink}
@@ -13,6 +14,10 @@ use Rattle.cadence_sinks.specs.declared.udp.unbuffered.UdpMetricSink.{UdpMetricS
 -- whether a thread looks the sink's target up again and again
 abbrev pub looks_up_again : {R A : Type 0} → UdpMetricSink R A → Bool
 looks_up_again s = is_periodic s.socket.socket.resolver
+
+-- a sink whose target is looked up once sends to the target's address
+abbrev pub SendsTo : {R A B : Type 0} → UdpMetricSink R A → Target B → Type 0
+SendsTo s target = KeepsAddress s.socket.socket.resolver target
 
 module _ {Y : Type 0} {G : Y → Type 0} {g : _} where
   -- the time between two lookups, or none

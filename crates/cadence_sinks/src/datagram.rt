@@ -63,13 +63,10 @@ pub struct SocketWriter<D: Datagrams, R: Wait + Drop, A: Allocator> {
 
 impl<D: Datagrams, R: Wait + Drop, A: Allocator> PacketWriter for SocketWriter<D, R, A> {
     ghost use Rattle.std.specs.Prelude.{[]};
+    ghost use Rattle.cadence_flow.specs.Writer.{history_of};
     ghost use Rattle.cadence_sinks.specs.Sockets.{socket_kind};
 
-    ghost history = { λ w. record {
-      packets = [];
-      refusals = w.refusals.count;
-      refused_bytes = w.refusals.bytes;
-    } };
+    ghost history = { λ w. history_of [] w.refusals };
 
     ghost kind = { λ _. socket_kind D.may_give };
 

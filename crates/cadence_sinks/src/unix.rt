@@ -1,8 +1,9 @@
 //! Sinks over sockets that send to paths.
-ghost use Rattle.std.specs.Prelude.{◌≡◌, Bool, true, IfOk};
+ghost use Rattle.std.specs.Prelude.{◌≡◌, Bool, true, IfOk, string_bytes};
 ghost use Rattle.cadence_errors.specs.Errors.{OnlyWantsMemory};
 ghost use Rattle.cadence_errors.specs.declared.SinkError.{SinkError};
 ghost use Rattle.cadence_sinks.specs.Sockets.{IsSocketAnswer};
+ghost use Rattle.cadence_sinks.specs.Unix.{unix_path};
 
 use super::datagram::{CountedSocket, Datagrams, PackedSocket};
 use super::{DEFAULT_BUFFER_SIZE, MetricSink};
@@ -31,7 +32,8 @@ struct PathPeer<P: PathSocket, A: Allocator> {
 impl<P: PathSocket, A: Allocator> PathPeer<P, A> {
     // The only error is `OutOfMemory`.
     fn new(alloc: A, path: &str, socket: P) -> MetricResult<Self>
-        ensures { OnlyWantsMemory result }
+        ensures path { IfOk result (λ p. string_bytes p.path ≡ path.now) }
+        ensures refused { OnlyWantsMemory result }
     {
         let path = String::from_str(alloc, path)?;
         Ok(PathPeer { socket, path })
@@ -57,7 +59,8 @@ impl<P: PathSocket, R: Wait + Drop, A: Allocator + Clone> UnixMetricSink<P, R, A
     /// Over a socket that the caller made, which is dropped where the sink is refused. The only error is
     /// `OutOfMemory`.
     pub fn from(rt: R, alloc: A, path: &str, socket: P) -> MetricResult<Self>
-        ensures { OnlyWantsMemory result }
+        ensures path { IfOk result (λ s. unix_path s ≡ path.now) }
+        ensures refused { OnlyWantsMemory result }
     {
         let peer = PathPeer::new(alloc.clone()?, path, socket)?;
         let socket = CountedSocket::new(rt, alloc, peer)?;
@@ -123,7 +126,8 @@ impl<P: PathSocket, R: Wait + Drop, A: Allocator> MetricSink for BufferedUnixMet
     ghost use Rattle.cadence_sinks.specs.Buffers.{unix_buffer};
     ghost use Rattle.cadence_sinks.specs.Sockets.{IsBufferedAnswer, IsBufferedFlush};
 
-    ghost may_answer = { λ s metric answer. IsBufferedAnswer P.may_give (unix_buffer s) metric answer };
+    ghost may_answer = { λ s metric answer.
+        IsBufferedAnswer P.may_give (unix_buffer s) metric answer };
 
     ghost may_flush = { λ _ answer. IsBufferedFlush P.may_give answer };
 

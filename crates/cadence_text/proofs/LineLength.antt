@@ -28,9 +28,6 @@ places_short n zero = omega arith
 places_short n (suc p) = omega (arith, ap (λ t. length t) (places_text-suc n p), length-places_of n p)
 
 -- a number of 128 bits, its sign among them
-pub fits_size : (z : ℤ) → FitsSigned w128 z → unsigned_abs z ≤ 2 ^ 127
-fits_size (pos n) h = omega (arith, h.sfits)
-fits_size (negsuc n) h = omega (arith, h.sfits)
 
 number_short : (a : Number) → IsDecimal a → length (number_text a) ≤ 71
 number_short a h =

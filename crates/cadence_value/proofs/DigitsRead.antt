@@ -86,13 +86,6 @@ filled_digits (d ∷ []) h some =
 filled_digits (d ∷ e ∷ ds) (h, hs) some =
     filled_more d (e ∷ ds) (h, hs) (omega arith) (filled_digits (e ∷ ds) hs (omega arith)) (eqb_tells d 48)
 
-own : IsNumeralModel (AllDigits 10) (digits_value 10)
-own = numerals_by_value (AllDigits 10) tells_digits
-
--- a numeral has no sign before it
-pub no_plus : (text : List ℕ) → IsNumeral 10 text → get_or text 0 0 ≢ 43
-no_plus text (some, digits) = not_in_digits own text 43 digits (λ range. absurd (omega arith)) 0 some
-
 pub numeral_utf8 : (text : List ℕ) → IsNumeral 10 text → IsUtf8 text
 numeral_utf8 text (some, digits) = IsUtf8-from_ascii text (IsAscii-from_digits text digits)
 

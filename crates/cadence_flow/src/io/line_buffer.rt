@@ -30,7 +30,8 @@ impl<T, A: Allocator> Model for LineBuffer<T, A> {
       format = record { capacity = w.capacity; ending = w.ending.items };
     } };
 
-    ghost invariant = { λ w. (length w.held.items ≤ w.capacity) × (w.capacity ≤ vec_capacity w.held) };
+    ghost invariant = { λ w. (length w.held.items ≤ w.capacity)
+        × (w.capacity ≤ vec_capacity w.held) };
 }
 
 impl<T: PacketWriter, A: Allocator + Clone> LineBuffer<T, A> {

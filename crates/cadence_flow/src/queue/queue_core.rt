@@ -1,8 +1,7 @@
 //! A queue of texts with a stop mark, a capacity and a count of handles, which one thread works with.
 ghost use Rattle.std.specs.Prelude.{◌≡◌, [], length, slice_get, option_copied, IfOk, IfErr, OnOk, OnErr, IsOk, IsTrue, Option, Ok, Err, Some, None, true, false};
 ghost use Rattle.std.specs.declared.alloc.AllocError.{AllocError};
-ghost use Rattle.cadence_errors.specs.Errors.{out_of_memory};
-ghost use Rattle.cadence_flow.specs.QueueRoom.{IsBounded, TakesRoom};
+ghost use Rattle.cadence_flow.specs.QueueRoom.{IsBounded, OnlyWantsRoom};
 ghost use Rattle.cadence_flow.specs.QueueState.{IsWithin, IsCounted, HasDropped};
 ghost use Rattle.cadence_flow.specs.Queue.{Accepts, IsRefusal, error_of, is_open, lacks_room, MakesRoom, IsTaken, accepting, stopping, adding_handle, dropping_handle, new_queue, is_full, is_idle};
 ghost use Rattle.cadence_flow.specs.QueueModel.{IsQueueOf, IsAccepted, IsNext};
@@ -47,9 +46,21 @@ impl<T, A: Allocator> Model for QueueCore<T, A> {
 
     ghost coded = { queue_code T.code };
 
-    ghost view = { λ q. record { waiting = q.texts.items; capacity = q.capacity; policy = q.policy; stopped = q.stopped; handles = q.handles; submitted = q.submitted; drained = q.drained; dropped = q.dropped } };
+    ghost view = { λ q. record {
+      waiting = q.texts.items;
+      capacity = q.capacity;
+      policy = q.policy;
+      stopped = q.stopped;
+      handles = q.handles;
+      submitted = q.submitted;
+      drained = q.drained;
+      dropped = q.dropped;
+    } };
 
-    ghost invariant = { λ q. IsWithin q.capacity q.texts.items × IsCounted q.texts.items q.submitted q.drained q.dropped × HasRoom q.capacity q.texts.capacity × HasDropped q.policy q.capacity q.dropped };
+    ghost invariant = { λ q. IsWithin q.capacity q.texts.items
+        × IsCounted q.texts.items q.submitted q.drained q.dropped
+        × HasRoom q.capacity q.texts.capacity
+        × HasDropped q.policy q.capacity q.dropped };
 }
 
 impl<T: Drop, A: Allocator + Clone> QueueCore<T, A> {
@@ -58,7 +69,7 @@ impl<T: Drop, A: Allocator + Clone> QueueCore<T, A> {
     pub fn new(alloc: A, capacity: Option<usize>) -> MetricResult<Self>
         ensures made { IfOk result (λ q. q ≡ new_queue capacity Refuse) }
         ensures past { IfOk result (IsQueueOf [] []) }
-        ensures refused { IfErr result (λ e. (e ≡ out_of_memory) × TakesRoom capacity) }
+        ensures refused { OnlyWantsRoom capacity result }
     {
         QueueCore::with_policy(alloc, capacity, QueuePolicy::Refuse)
     }
@@ -67,7 +78,7 @@ impl<T: Drop, A: Allocator + Clone> QueueCore<T, A> {
     pub fn with_policy(alloc: A, capacity: Option<usize>, policy: QueuePolicy) -> MetricResult<Self>
         ensures made { IfOk result (λ q. q ≡ new_queue capacity policy) }
         ensures past { IfOk result (IsQueueOf [] []) }
-        ensures refused { IfErr result (λ e. (e ≡ out_of_memory) × TakesRoom capacity) }
+        ensures refused { OnlyWantsRoom capacity result }
     {
         let texts = TextRing::with_room(alloc, capacity.unwrap_or(0))?;
         Ok(QueueCore {

@@ -1,6 +1,6 @@
 //! The settings of a queuing sink.
 ghost use Rattle.std.specs.Prelude.{◌≡◌, IfOk, IfErr, Some, None};
-ghost use Rattle.cadence_sinks.specs.Queuing.{IsQueuingRefusal, wrapped_sink, capacity_of, policy_of, handler_of};
+ghost use Rattle.cadence_sinks.specs.Queuing.{IsQueuingRefusal, wrapped_sink, queue_capacity, queue_policy, capacity_of, policy_of, handler_of};
 ghost use Rattle.cadence_flow.specs.declared.queue.policy.QueuePolicy.TheVariants.{Refuse};
 
 use super::QueuingMetricSink;
@@ -79,6 +79,8 @@ impl<A: Allocator + Clone + Send + Sync + 'static> QueuingMetricSinkBuilder<A> {
         R: Wait + Threads + Clone + Drop + Send + Sync + 'static,
     >(self, rt: R, alloc: A, sink: S) -> MetricResult<QueuingMetricSink<S, R, A>>
         ensures wrapped { IfOk result (λ q. wrapped_sink q ≡ sink) }
+        ensures capacity { IfOk result (λ q. queue_capacity q ≡ capacity_of self) }
+        ensures policy { IfOk result (λ q. queue_policy q ≡ policy_of self) }
         ensures refused { IfErr result IsQueuingRefusal }
     {
         let queue = SharedQueue::with_policy(alloc.clone()?, self.capacity, self.policy)?;
@@ -90,5 +92,44 @@ impl<A: Allocator + Clone + Send + Sync + 'static> QueuingMetricSinkBuilder<A> {
         };
         start(&rt, worker, self.handler)?;
         Ok(QueuingMetricSink { rt, alloc, shared })
+    }
+}
+
+impl<
+    S: MetricSink + Send + Sync + 'static,
+    R: Wait + Threads + Clone + Drop + Send + Sync + 'static,
+    A: Allocator + Clone + Send + Sync + 'static,
+> QueuingMetricSink<S, R, A> {
+    /// Over an unbounded queue, with its worker thread. The errors are `OutOfMemory`, and `Io` where no thread can be
+    /// started; the wrapped sink is dropped then.
+    pub fn from(rt: R, alloc: A, sink: S) -> MetricResult<Self>
+        ensures wrapped { IfOk result (λ q. wrapped_sink q ≡ sink) }
+        ensures capacity { IfOk result (λ q. queue_capacity q ≡ None) }
+        ensures policy { IfOk result (λ q. queue_policy q ≡ Refuse) }
+        ensures refused { IfErr result IsQueuingRefusal }
+    {
+        QueuingMetricSinkBuilder::new().build(rt, alloc, sink)
+    }
+
+    /// Over a queue that holds at most `capacity` lines, as `from`.
+    pub fn with_capacity(rt: R, alloc: A, sink: S, capacity: usize) -> MetricResult<Self>
+        ensures wrapped { IfOk result (λ q. wrapped_sink q ≡ sink) }
+        ensures capacity { IfOk result (λ q. queue_capacity q ≡ Some capacity) }
+        ensures policy { IfOk result (λ q. queue_policy q ≡ Refuse) }
+        ensures refused { IfErr result IsQueuingRefusal }
+    {
+        let builder = QueuingMetricSinkBuilder::new().with_capacity(capacity);
+        builder.build(rt, alloc, sink)
+    }
+}
+
+impl<S: MetricSink, R: Wait + Drop, A: Allocator> QueuingMetricSink<S, R, A> {
+    /// A builder without any setting.
+    pub fn builder() -> QueuingMetricSinkBuilder<A>
+        ensures capacity { capacity_of result ≡ None }
+        ensures policy { policy_of result ≡ Refuse }
+        ensures handler { handler_of result ≡ None }
+    {
+        QueuingMetricSinkBuilder::new()
     }
 }

@@ -1,16 +1,13 @@
 //! The handles of a queuing sink.
-ghost use Rattle.std.specs.Prelude.{◌≡◌, IfOk, IfErr, None};
-ghost use Rattle.cadence_sinks.specs.Queuing.{IsQueuingRefusal, wrapped_sink, capacity_of, policy_of, handler_of};
-ghost use Rattle.cadence_flow.specs.declared.queue.policy.QueuePolicy.TheVariants.{Refuse};
+ghost use Rattle.std.specs.Prelude.{◌≡◌};
+ghost use Rattle.cadence_sinks.specs.Queuing.{wrapped_sink};
 
-use super::QueuingMetricSinkBuilder;
 use super::worker::Shared;
 use crate::MetricSink;
-use cadence_errors::{MetricResult, SinkError};
+use cadence_errors::SinkError;
 use cadence_flow::stats::SinkStats;
 use std::alloc::{AllocError, Allocator, Global};
 use std::sync::{Arc, Wait};
-use std::thread::Threads;
 
 /// A handle of a sink that queues each line for a worker thread, which hands the lines to the wrapped sink, in order.
 /// It keeps the runtime `R`, whose locks it takes.
@@ -23,40 +20,7 @@ pub struct QueuingMetricSink<S: MetricSink, R: Wait + Drop, A: Allocator = Globa
     pub(super) shared: Arc<Shared<S, A>, A>,
 }
 
-impl<
-    S: MetricSink + Send + Sync + 'static,
-    R: Wait + Threads + Clone + Drop + Send + Sync + 'static,
-    A: Allocator + Clone + Send + Sync + 'static,
-> QueuingMetricSink<S, R, A> {
-    /// Over an unbounded queue, with its worker thread. The errors are `OutOfMemory`, and `Io` where no thread can be
-    /// started; the wrapped sink is dropped then.
-    pub fn from(rt: R, alloc: A, sink: S) -> MetricResult<Self>
-        ensures wrapped { IfOk result (λ q. wrapped_sink q ≡ sink) }
-        ensures refused { IfErr result IsQueuingRefusal }
-    {
-        QueuingMetricSinkBuilder::new().build(rt, alloc, sink)
-    }
-
-    /// Over a queue that holds at most `capacity` lines, as `from`.
-    pub fn with_capacity(rt: R, alloc: A, sink: S, capacity: usize) -> MetricResult<Self>
-        ensures wrapped { IfOk result (λ q. wrapped_sink q ≡ sink) }
-        ensures refused { IfErr result IsQueuingRefusal }
-    {
-        let builder = QueuingMetricSinkBuilder::new().with_capacity(capacity);
-        builder.build(rt, alloc, sink)
-    }
-}
-
 impl<S: MetricSink, R: Wait + Drop, A: Allocator> QueuingMetricSink<S, R, A> {
-    /// A builder without any setting.
-    pub fn builder() -> QueuingMetricSinkBuilder<A>
-        ensures capacity { capacity_of result ≡ None }
-        ensures policy { policy_of result ≡ Refuse }
-        ensures handler { handler_of result ≡ None }
-    {
-        QueuingMetricSinkBuilder::new()
-    }
-
     /// Stops the queue for all handles, and waits until the worker has handed on what was queued and has ended.
     pub fn stop_and_wait(&self) {
         self.shared.queue.stop(&self.rt);

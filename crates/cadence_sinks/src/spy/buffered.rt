@@ -21,13 +21,10 @@ struct MessageWriter<R: Wait + Drop, A: Allocator> {
 
 impl<R: Wait + Drop, A: Allocator + Clone> PacketWriter for MessageWriter<R, A> {
     ghost use Rattle.std.specs.Prelude.{[]};
+    ghost use Rattle.cadence_flow.specs.Writer.{history_of};
     ghost use Rattle.cadence_sinks.specs.Answers.{queue_kind};
 
-    ghost history = { λ w. record {
-      packets = [];
-      refusals = w.refusals.count;
-      refused_bytes = w.refusals.bytes;
-    } };
+    ghost history = { λ w. history_of [] w.refusals };
 
     ghost kind = { λ _. queue_kind };
 

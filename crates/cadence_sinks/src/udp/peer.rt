@@ -1,6 +1,6 @@
 //! A UDP socket with the address that it sends to.
 ghost use Rattle.std.specs.Prelude.{◌≡◌, false, IfOk, IfErr};
-ghost use Rattle.cadence_resolve.specs.Lookups.{is_periodic};
+ghost use Rattle.cadence_resolve.specs.Lookups.{KeepsAddress, is_periodic};
 ghost use Rattle.cadence_resolve.specs.Refusals.{IsTargetRefusal};
 ghost use Rattle.cadence_sinks.specs.Sockets.{is_io};
 
@@ -28,6 +28,7 @@ impl<R: Wait + Drop, A: Allocator> UdpPeer<R, A> {
         socket: UdpSocket,
     ) -> MetricResult<Self>
         ensures once { IfOk result (λ p. is_periodic p.resolver ≡ false) }
+        ensures address { IfOk result (λ p. KeepsAddress p.resolver target.now) }
         ensures refused { IfErr result (λ e. IsTargetRefusal target.now e) }
     {
         let resolver = Resolver::Static(StaticResolver::new(net, alloc, target)?);

@@ -1,6 +1,6 @@
 //! How the target of a UDP sink is looked up.
 ghost use Rattle.std.specs.Prelude.{◌≡◌, IfOk, IfErr, None, is_some};
-ghost use Rattle.cadence_resolve.specs.Lookups.{is_periodic};
+ghost use Rattle.cadence_resolve.specs.Lookups.{KeepsAddress, is_periodic};
 ghost use Rattle.cadence_resolve.specs.Refusals.{IsSocketRefusal, IsTargetRefusal};
 
 use super::peer::UdpPeer;
@@ -42,6 +42,7 @@ impl Resolving {
         socket: UdpSocket,
     ) -> MetricResult<UdpPeer<R, A>>
         ensures periodic { IfOk result (λ p. is_periodic p.resolver ≡ is_some self.period) }
+        ensures address { IfOk result (λ p. KeepsAddress p.resolver target) }
         ensures refused { IfErr result (λ e. IsSocketRefusal e) }
         ensures once { self.period ≡ None → IfErr result (λ e. IsTargetRefusal target e) }
     {

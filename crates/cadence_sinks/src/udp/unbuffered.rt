@@ -2,7 +2,7 @@
 ghost use Rattle.std.specs.Prelude.{◌≡◌, false, IfOk, IfErr, Some, None, is_some};
 ghost use Rattle.cadence_resolve.specs.Refusals.{IsSocketRefusal, IsTargetRefusal};
 ghost use Rattle.cadence_sinks.specs.Sockets.{IsSocketAnswer, is_io};
-ghost use Rattle.cadence_sinks.specs.Udp.{period_of, handler_of, looks_up_again};
+ghost use Rattle.cadence_sinks.specs.Udp.{SendsTo, period_of, handler_of, looks_up_again};
 
 use super::peer::UdpPeer;
 use super::resolving::Resolving;
@@ -32,6 +32,7 @@ impl<R: Net + Wait + Drop, A: Allocator + Clone> UdpMetricSink<R, A> {
     /// `InvalidInput`; else `SinkError::OutOfMemory`.
     pub fn from(rt: R, alloc: A, target: Target<A>, socket: UdpSocket) -> MetricResult<Self>
         ensures once { IfOk result (λ s. looks_up_again s ≡ false) }
+        ensures address { IfOk result (λ s. SendsTo s target) }
         ensures refused { IfErr result (λ e. IsTargetRefusal target e) }
     {
         let peer = UdpPeer::new(&rt, alloc.clone()?, &target, socket)?;
@@ -113,6 +114,7 @@ impl UdpMetricSinkBuilder {
         socket: UdpSocket,
     ) -> MetricResult<UdpMetricSink<R, A>>
         ensures periodic { IfOk result (λ s. looks_up_again s ≡ is_some (period_of self)) }
+        ensures address { IfOk result (λ s. SendsTo s target) }
         ensures refused { IfErr result (λ e. IsSocketRefusal e) }
         ensures once { period_of self ≡ None → IfErr result (λ e. IsTargetRefusal target e) }
     {

@@ -46,7 +46,7 @@ impl<'a, A: Allocator> Record<'a, A> {
     ghost use Rattle.std.specs.Option.{option_copied};
     ghost use Rattle.std.specs.String.{string_bytes};
     ghost use Rattle.std.specs.Vec.{vec_capacity};
-    ghost use Rattle.cadence_errors.specs.Errors.{out_of_memory};
+    ghost use Rattle.cadence_errors.specs.Errors.{OnlyWantsMemory};
     ghost use Rattle.cadence_text.specs.Line.{line_of};
     ghost use Rattle.cadence_text.specs.Metric.{Metric, plain_metric, with_tag};
     ghost use Rattle.cadence_text.specs.Record.{tag_of};
@@ -190,7 +190,7 @@ impl<'a, A: Allocator> Record<'a, A> {
     /// the record stays as it was.
     pub fn format<B: Allocator>(&self, alloc: B) -> MetricResult<String<B>>
         ensures line { IfOk result (λ line. string_bytes line ≡ line_of self.now) }
-        ensures refused { IfErr result (λ e. e ≡ out_of_memory) }
+        ensures refused { OnlyWantsMemory result }
         ensures said { OnOk result (IsSaid self.now) }
         ensures not_empty { 0 < length (line_of self.now) }
     {

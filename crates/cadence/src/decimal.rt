@@ -1,0 +1,3 @@
+//! Decimal numbers, exact.
+
+pub use cadence_value::decimal::{Decimal, MAX_PLACES, ParseDecimalError, read_number, read_whole};
