@@ -71,7 +71,8 @@ impl<D: Datagrams, R: Wait + Drop, A: Allocator> PacketWriter for SocketWriter<D
     ghost kind = { λ _. socket_kind D.may_give };
 
     fn write_packet(&mut self, packet: &[u8]) -> Result<usize, SinkError> {
-        let answer = self.socket.send(packet);
+        let answer = self.socket.socket.send(packet);
+        self.socket.stats.note(&answer, packet.len());
         self.refusals.note(&answer, packet.len());
         answer
     }
@@ -113,24 +114,11 @@ impl<D: Datagrams, R: Wait + Clone + Drop, A: Allocator + Clone> PackedSocket<D,
 impl<D: Datagrams, R: Wait + Drop, A: Allocator> PackedSocket<D, R, A> {
     ghost use Rattle.cadence_sinks.specs.Buffers.{buffer_of};
 
-    /// Takes the line of a metric: it is held, or what is held is sent first, or it is sent alone. It answers the
-    /// line's length, or of a line that went out alone how many bytes the socket took. An error is the socket's, or
-    /// `NothingWritten` where it took 0 bytes of held text; nothing of the line is kept then.
+    /// Holds the line of a metric where it fits the free room, and is answered by its length then. Else nothing has
+    /// changed, and the lock is given for `write_out`. The answer is made by the sink's `emit`, since it is as wide as
+    /// an `io::Error`, and each function that passes it on copies it.
     #[inline(always)]
-    pub fn emit(&self, metric: &str) -> Result<usize, SinkError>
-        ensures { IsBufferedAnswer D.may_give (buffer_of self.now) metric.now result }
-    {
-        match self.hold(metric) {
-            None => Ok(metric.len()),
-            Some(lines) => self.write_out(lines, metric),
-        }
-    }
-
-    // Holds the line of a metric where it fits the free room. Else nothing has changed, and the lock is given for
-    // `write_out`. The answer is made above, since it is as wide as an `io::Error`, and a copy of it would cost more
-    // than the rest of the call.
-    #[inline(always)]
-    fn hold(&self, metric: &str) -> Option<SocketLines<'_, D, R, A>> {
+    pub fn hold(&self, metric: &str) -> Option<SocketLines<'_, D, R, A>> {
         // a lock that is free is taken inline
         let mut lines = match self.writer.try_lock() {
             Some(lines) => lines,
@@ -142,11 +130,13 @@ impl<D: Datagrams, R: Wait + Drop, A: Allocator> PackedSocket<D, R, A> {
         Some(lines)
     }
 
-    // Sends the held lines, and holds the line of a metric or sends it alone; then it lets the lock go. A line that an
-    // empty buffer has room for is held after a flush, as `write` would do it, but with no wide answer to copy.
+    /// Sends the held lines, and holds the line of a metric or sends it alone; then it lets the lock go. A line that an
+    /// empty buffer has room for is held after a flush, as `write` would do it, but with no wide answer to copy. It
+    /// answers the line's length, or of a line that went out alone how many bytes the socket took. An error is the
+    /// socket's, or `NothingWritten` where it took 0 bytes of held text; nothing of the line is kept then.
     #[cold]
     #[inline(never)]
-    fn write_out(
+    pub fn write_out(
         &self,
         mut lines: SocketLines<'_, D, R, A>,
         metric: &str,
@@ -170,7 +160,7 @@ impl<D: Datagrams, R: Wait + Drop, A: Allocator> PackedSocket<D, R, A> {
         })
     }
 
-    /// Sends what is held. The errors are those of `emit`; what the socket didn't take stays held.
+    /// Sends what is held. The errors are those of `write_out`; what the socket didn't take stays held.
     pub fn flush(&self) -> Result<(), SinkError>
         ensures { IsBufferedFlush D.may_give result }
     {
@@ -183,8 +173,8 @@ impl<D: Datagrams, R: Wait + Drop, A: Allocator> PackedSocket<D, R, A> {
     }
 }
 
-// The lock of a packed socket.
-type SocketLines<'a, D, R, A> = MutexGuard<'a, LineLedger<SocketWriter<D, R, A>, A>>;
+/// The lock of a packed socket.
+pub type SocketLines<'a, D, R, A> = MutexGuard<'a, LineLedger<SocketWriter<D, R, A>, A>>;
 
 impl<D: Datagrams, R: Wait + Drop, A: Allocator> Drop for PackedSocket<D, R, A> {
     fn drop(self) {

@@ -132,7 +132,10 @@ impl<P: PathSocket, R: Wait + Drop, A: Allocator> MetricSink for BufferedUnixMet
     ghost may_flush = { λ _ answer. IsBufferedFlush P.may_give answer };
 
     fn emit(&self, metric: &str) -> Result<usize, SinkError> {
-        self.socket.emit(metric)
+        match self.socket.hold(metric) {
+            None => Ok(metric.len()),
+            Some(lines) => self.socket.write_out(lines, metric),
+        }
     }
 
     fn flush(&self) -> Result<(), SinkError> {

@@ -78,7 +78,10 @@ impl<R: Wait + Drop, A: Allocator> MetricSink for BufferedUdpMetricSink<R, A> {
 
     #[inline(always)]
     fn emit(&self, metric: &str) -> Result<usize, SinkError> {
-        self.socket.emit(metric)
+        match self.socket.hold(metric) {
+            None => Ok(metric.len()),
+            Some(lines) => self.socket.write_out(lines, metric),
+        }
     }
 
     fn flush(&self) -> Result<(), SinkError> {
