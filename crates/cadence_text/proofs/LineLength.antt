@@ -18,6 +18,7 @@ use Rattle.cadence_text.specs.Said.{IsSaid, IsSaidTag}
 use Rattle.cadence_value.proofs.Cut.{each_weaker}
 use Rattle.cadence_value.proofs.Digits.{length-decimal_text-le}
 use Rattle.cadence_value.proofs.NumberText.{sign, unsigned_text, sign-pos, places_text-suc, length-places_of}
+use Rattle.cadence_value.proofs.NumberRead.{fits_size}
 
 sign_short : (z : ℤ) → length (sign z) ≤ 1
 sign_short (pos n) = omega (arith, ap (λ t. length t) (sign-pos n))
