@@ -1,0 +1,13 @@
+// Cargo.toml: cadence = { package = "cadence-proved", path = "bindings/rust" }; CADENCE_LIB names the library's folder
+use cadence::prelude::*;
+use cadence::{BufferedUdpMetricSink, StatsdClient};
+
+fn main() -> Result<(), Box<dyn std::error::Error>> {
+    let socket = std::net::UdpSocket::bind("0.0.0.0:0")?;
+    let sink = BufferedUdpMetricSink::from("127.0.0.1:8125", socket)?;
+    let client = StatsdClient::builder("my.service", sink).with_tag("env", "prod").build();
+    client.incr("visits")?;
+    client.gauge_with_tags("load", 1.25).with_tag("page", "home").send();
+    client.flush()?;
+    Ok(())
+}
