@@ -1,6 +1,7 @@
 use cadence_errors::SinkError;
 use cadence_sinks::{BufferedSpyMetricSink, MetricSink, SpyMetricSink};
 use refusing::each_refused;
+use std::sync::atomic::{AtomicU64, Ordering};
 use std::test::Fail;
 use std::thread;
 
@@ -136,5 +137,31 @@ fn each_request_of_a_buffered_spy_refused(rt: HostRuntime) -> Result<(), Fail> {
         Ok(message.as_slice() == b"a:1|c\n".as_slice())
     });
     assert!(rt; granted?.is_some_and(|granted| granted > 4));
+    Ok(())
+}
+
+#[test]
+fn each_request_of_a_flush_refused(rt: HostRuntime) -> Result<(), Fail> {
+    let refusals = AtomicU64::new(0);
+    let granted: Result<Option<u64>, Fail> = each_refused(rt.alloc(), |heap| {
+        let made = BufferedSpyMetricSink::with_capacity(rt.clone()?, heap, None, Some(64));
+        let Ok((receiver, sink)) = made else {
+            return Ok(false);
+        };
+        assert!(rt; matches!(sink.emit("foo:54|c"), Ok(8)));
+        assert!(rt; matches!(sink.emit("foo:67|c"), Ok(8)));
+        let first = sink.flush();
+        let is_done = first.is_ok();
+        if !is_done {
+            assert!(rt; matches!(first, Err(SinkError::OutOfMemory)) && receiver.is_empty());
+            assert!(rt; sink.flush().is_ok());
+            refusals.fetch_add(1, Ordering::SeqCst);
+        }
+        let message = receiver.try_recv().ok_or("nothing")?;
+        assert_eq!(rt; message.as_slice(), b"foo:54|c\nfoo:67|c\n".as_slice());
+        assert!(rt; receiver.is_empty());
+        Ok(is_done)
+    });
+    assert!(rt; granted?.is_some() && refusals.load(Ordering::SeqCst) > 0);
     Ok(())
 }
