@@ -160,11 +160,20 @@ fn names_why_a_text_is_refused(rt: HostRuntime) -> Result<(), Fail> {
     for (text, why) in REFUSED {
         assert_eq!(rt; text.parse::<Decimal>(), Err(why), "{text}");
     }
-    let told = format!(in rt.alloc(); "{}", ParseDecimalError::TooLarge)?;
-    assert_eq!(rt; told.as_str(), "decimal number too large");
-    let error = MetricError::from(ParseDecimalError::NotANumber);
-    assert_eq!(rt; error.kind(), ErrorKind::InvalidInput);
-    let told = format!(in rt.alloc(); "{error}")?;
-    assert_eq!(rt; told.as_str(), "not a decimal number");
+    Ok(())
+}
+
+#[test]
+fn a_refusal_has_its_text(rt: HostRuntime) -> Result<(), Fail> {
+    for (why, text) in [
+        (ParseDecimalError::NotANumber, "not a decimal number"),
+        (ParseDecimalError::TooManyPlaces, "too many decimal places"),
+        (ParseDecimalError::TooLarge, "decimal number too large"),
+    ] {
+        assert_eq!(rt; why.to_string(rt.alloc())?.as_str(), text);
+        let error = MetricError::from(why);
+        assert_eq!(rt; error.kind(), ErrorKind::InvalidInput);
+        assert_eq!(rt; error.to_string(rt.alloc())?.as_str(), text);
+    }
     Ok(())
 }
