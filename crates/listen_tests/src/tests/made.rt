@@ -130,6 +130,7 @@ fn each_request_is_refused(rt: HostRuntime) -> Result<(), Fail> {
         match read_packet(heap, packet) {
             Err(fault) => {
                 assert_eq!(rt; fault, ReadFault::OutOfMemory);
+                assert_eq!(rt; fault.to_string(rt.alloc())?.as_str(), "out of memory");
                 Ok(false)
             }
             Ok(metrics) => {
