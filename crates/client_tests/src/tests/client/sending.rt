@@ -171,13 +171,18 @@ fn refused(
 #[test]
 fn a_refusal_is_answered_and_not_handled(rt: HostRuntime) -> Result<(), Fail> {
     let (calls, handled, client) = refused(rt.alloc())?;
-    let Err(error) = client.count("k", 1) else {
-        return Err(Fail::new("taken"));
-    };
-    assert_eq!(rt; error.kind(), ErrorKind::IoError);
-    assert!(rt; matches!(error.sink_error(), Some(SinkError::PacketRefused)));
-    assert!(rt; client.flush().is_err());
-    assert!(rt; client.count_with_tags("k", 1).try_send().is_err());
+    for answer in [
+        client.count("k", 1),
+        client.count_with_tags("k", 1).try_send(),
+    ] {
+        let Err(error) = answer else {
+            return Err(Fail::new("taken"));
+        };
+        assert_eq!(rt; error.kind(), ErrorKind::IoError);
+        assert!(rt; matches!(error.sink_error(), Some(SinkError::PacketRefused)));
+    }
+    let flushed = client.flush();
+    assert!(rt; matches!(flushed, Err(MetricError::Sink(SinkError::NothingWritten))));
     assert_eq!(rt; calls.load(Ordering::SeqCst), 2);
     assert_eq!(rt; handled.load(Ordering::SeqCst), 0);
     Ok(())
