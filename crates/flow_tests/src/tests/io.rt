@@ -48,6 +48,17 @@ fn counted(answer: Result<usize, SinkError>) -> Option<usize> {
 }
 
 #[test]
+fn a_flush_goes_on_after_a_short_count(rt: HostRuntime) -> Result<(), Fail> {
+    let mut p = made(rt.alloc(), 32, "\n", &[Answer::Short(3)])?;
+    for line in ["xyz", "abc"] {
+        assert_eq!(rt; counted(p.write(line.as_bytes())), Some(3));
+    }
+    assert!(rt; p.flush().is_ok());
+    assert!(rt; stands(&p, &["xyz", "\nabc\n"], ""));
+    Ok(())
+}
+
+#[test]
 fn replaced_writer_comes_back(rt: HostRuntime) -> Result<(), Fail> {
     let alloc = rt.alloc();
     let mut p = made(alloc, 32, "\n", &[])?;
