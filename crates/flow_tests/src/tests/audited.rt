@@ -166,16 +166,40 @@ fn each_request_of_a_take_refused(rt: HostRuntime) -> Result<(), Fail> {
             return Ok(false);
         }
         let receipts = seat.receipts().len();
-        if queue.take(&rt, &mut seat).is_ok() {
+        let Err(error) = queue.take(&rt, &mut seat) else {
             return Ok(true);
-        }
+        };
         refusals.fetch_add(1, Ordering::SeqCst);
+        assert!(rt; error == AuditError::OutOfMemory);
         assert_eq!(rt; seat.receipts().len(), receipts);
         assert!(rt; matches!(queue.take(&rt, &mut seat), Ok(Taken::Text(_))));
         Ok(false)
     });
     assert!(rt; granted?.is_some());
     assert!(rt; refusals.load(Ordering::SeqCst) > 0);
+    Ok(())
+}
+
+#[test]
+fn each_request_of_a_stop_refused(rt: HostRuntime) -> Result<(), Fail> {
+    let refusals = AtomicU64::new(0);
+    let granted: Result<Option<u64>, Fail> = each_refused(rt.alloc(), |heap| {
+        let Some((queue, mut seat, text)) = made(heap) else {
+            return Ok(false);
+        };
+        let Err(error) = queue.stop(&rt, &mut seat) else {
+            return Ok(true);
+        };
+        refusals.fetch_add(1, Ordering::SeqCst);
+        assert!(rt; error == AuditError::OutOfMemory && seat.receipts().is_empty());
+        let answer = queue.submit(&rt, &mut seat, text);
+        assert!(rt; matches!(answer, Ok(SubmitReply::Accepted)));
+        assert!(rt; queue.stop(&rt, &mut seat).is_ok());
+        Ok(false)
+    });
+    assert!(rt; granted?.is_some());
+    // one for the history, and one for the receipt
+    assert_eq!(rt; refusals.load(Ordering::SeqCst), 2);
     Ok(())
 }
 
