@@ -5,6 +5,7 @@ use refusing::Refusing;
 use std::alloc::{AllocError, Global};
 use std::test::Fail;
 use std::thread;
+use std::time::{Clock, Duration};
 
 #[test]
 fn stopped_before_full(rt: HostRuntime) -> Result<(), Fail> {
@@ -101,13 +102,21 @@ fn bounded_queue_is_refused(rt: HostRuntime) -> Result<(), Fail> {
     Ok(())
 }
 
+// Time in which a taker most likely begins to wait. No answer depends on it.
+fn let_wait<R: Clock>(rt: &R) {
+    thread::sleep(rt, Duration::from_millis(20));
+}
+
 #[test]
 fn taker_gets_a_submit(rt: HostRuntime) -> Result<(), Fail> {
     let queue = SharedQueue::new(rt.alloc(), Some(1))?;
     let (got, answer) = thread::join(
         &rt,
         || queue.take_wait(&rt),
-        || queue.submit(&rt, 'A').is_ok(),
+        || {
+            let_wait(&rt);
+            queue.submit(&rt, 'A').is_ok()
+        },
     );
     assert!(rt; answer);
     assert_eq!(rt; got, Some('A'));
@@ -173,7 +182,14 @@ fn a_drop_takes_no_memory(rt: HostRuntime) -> Result<(), Fail> {
 #[test]
 fn taker_is_stopped(rt: HostRuntime) -> Result<(), Fail> {
     let queue: SharedQueue<char> = SharedQueue::new(rt.alloc(), None)?;
-    let (got, _) = thread::join(&rt, || queue.take_wait(&rt), || queue.stop(&rt));
+    let (got, _) = thread::join(
+        &rt,
+        || queue.take_wait(&rt),
+        || {
+            let_wait(&rt);
+            queue.stop(&rt);
+        },
+    );
     assert_eq!(rt; got, None);
     assert!(rt; matches!(queue.try_take(&rt), Taken::Ended));
     assert!(rt;
@@ -192,7 +208,14 @@ fn taker_outlives_the_handles(rt: HostRuntime) -> Result<(), Fail> {
     queue.add_handle(&rt);
     queue.drop_handle(&rt);
     queue.drop_handle(&rt);
-    let (got, _) = thread::join(&rt, || queue.take_wait(&rt), || queue.drop_handle(&rt));
+    let (got, _) = thread::join(
+        &rt,
+        || queue.take_wait(&rt),
+        || {
+            let_wait(&rt);
+            queue.drop_handle(&rt);
+        },
+    );
     assert_eq!(rt; got, None);
     Ok(())
 }
