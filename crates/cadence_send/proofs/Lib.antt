@@ -1,5 +1,6 @@
 pub mod Durations
 pub mod Feeding
 pub mod Lowest
+pub mod Targets
 pub mod WordByWord
 pub mod WordCuts

@@ -4,4 +4,5 @@ pub mod Fed
 pub mod Finds
 pub mod Sent
 pub mod TagWords
+pub mod Target
 pub mod Writers

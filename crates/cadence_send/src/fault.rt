@@ -9,10 +9,10 @@ use thiserror::Error;
 #[derive(Clone, Copy, Debug, PartialEq, Eq, Error)]
 pub enum Part {
     /// A text that is not UTF-8.
-    #[error("not UTF-8")]
+    #[error("not UTF-8: wants text, as in `c visits 1 page:home`")]
     Text,
     /// There are fewer than three words.
-    #[error("wants KIND NAME VALUE [TAG ..]")]
+    #[error("wants KIND NAME VALUE [TAG ..], as in `c visits 1 page:home`")]
     Words,
     /// The kind.
     #[error("KIND is c, ms, g, m, h, s, d or the name of one, as in `count visits 1`")]

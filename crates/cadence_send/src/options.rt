@@ -1,5 +1,7 @@
 //! The words of the command line.
-ghost use Rattle.std.specs.Prelude.{◌≡◌, ◌⊎◌};
+ghost use Rattle.std.specs.Prelude.{◌≡◌, ◌⊎◌, IfOk, None, OnOk};
+ghost use Rattle.cadence_send.specs.Finds.{Finds};
+ghost use Rattle.cadence_send.specs.Target.{AsksWhere, IsPort, IsTarget, SaysWhere};
 
 use crate::decimal::read_decimal;
 use crate::defaults::Defaults;
@@ -92,13 +94,9 @@ impl fmt::Display for OptionFault<'_> {
     fn fmt<W: fmt::Write>(&self, f: &mut fmt::Formatter<W>) -> fmt::Result {
         match self {
             OptionFault::Unknown(option) => write!(f, "{option}: no such option, see --help"),
-            OptionFault::NoValue(option) => {
-                let wanted = example(option);
-                write!(f, "{option} wants {wanted}")
-            }
+            OptionFault::NoValue(option) => write!(f, "{option} wants {}", example(option)),
             OptionFault::Value(option, value) => {
-                let wanted = example(option);
-                write!(f, "{option} {value}: wants {wanted}")
+                write!(f, "{option} {value}: wants {}", example(option))
             }
             OptionFault::OutOfMemory => f.write_str("out of memory"),
         }
@@ -141,8 +139,35 @@ fn word<'a>(option: &'a str, value: &'a str) -> Result<&'a str, OptionFault<'a>>
     Ok(value)
 }
 
+/// The port that a text is: a number from 1 to 65535.
+pub fn read_port(text: &str) -> Option<u16>
+    ensures { Finds (IsPort text.now) result }
+{
+    let Ok(port) = text.parse::<u16>() else {
+        return None;
+    };
+    if port == 0 {
+        return None;
+    }
+    Some(port)
+}
+
+// HOST:PORT.
+fn target<'a>(option: &'a str, value: &'a str) -> Result<&'a str, OptionFault<'a>>
+    ensures { IfOk result (λ text. IsTarget text.now) }
+{
+    if let Some((host, port)) = value.rsplit_once(':') {
+        if !host.is_empty() && read_port(port).is_some() {
+            return Ok(value);
+        }
+    }
+    Err(OptionFault::Value(option, value))
+}
+
 impl<'a, A: Allocator> Options<'a, A> {
-    fn new(alloc: A) -> Options<'a, A> {
+    fn new(alloc: A) -> Options<'a, A>
+        ensures { result.to ≡ None }
+    {
         Options {
             to: None,
             prefix: "",
@@ -157,9 +182,12 @@ impl<'a, A: Allocator> Options<'a, A> {
     }
 
     // Takes an option with its value.
-    fn set(&mut self, option: &'a str, value: &'a str) -> Result<(), OptionFault<'a>> {
+    fn set(&mut self, option: &'a str, value: &'a str) -> Result<(), OptionFault<'a>>
+        requires { SaysWhere self.old }
+        ensures { OnOk result (SaysWhere self.new) }
+    {
         match option {
-            "--to" => self.to = Some(value),
+            "--to" => self.to = Some(target(option, value)?),
             "--prefix" => self.prefix = word(option, value)?,
             "--tag" => match read_tag(value) {
                 Some(_) => self.tags.push(value)?,
@@ -204,7 +232,9 @@ impl<'a, A: Allocator + Clone> Options<'a, A> {
 pub fn read_options<'a, A: Allocator>(
     alloc: A,
     words: &'a [&'a str],
-) -> Result<Request<'a, A>, OptionFault<'a>> {
+) -> Result<Request<'a, A>, OptionFault<'a>>
+    ensures { IfOk result AsksWhere }
+{
     let mut options = Options::new(alloc);
     let mut left = words;
     while let [first, others @ ..] = left {
