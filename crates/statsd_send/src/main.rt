@@ -1,16 +1,20 @@
 //! `statsd_send`: sends a metric of its words, or the metrics of its standard input.
 #![tactic(auto)]
 
+mod environment;
+
+use crate::environment::target;
 use cadence_flow::io::{LineBuffer, PacketWriter};
 use cadence_send::{
-    Datagrams, Defaults, Every, OptionFault, Options, Printed, Request, Unhurried, read_options,
+    Datagrams, Defaults, Every, Failure, Options, Printed, Request, Unhurried, read_options,
     run_input, run_words,
 };
 use std::alloc::{AllocError, Global};
-use std::net::{Ipv4Addr, Ipv6Addr, SocketAddr, ToSocketAddrs, UdpSocket};
+use std::io::{ErrorKind, Read};
+use std::net::{Ipv4Addr, Ipv6Addr, SocketAddr, UdpSocket};
 use std::process::ExitCode;
 use std::time::Duration;
-use std::{env, io};
+use std::{env, fmt, io};
 
 const HELP: &str = "statsd_send [OPTIONS] KIND NAME VALUE [TAG ..]   sends one metric
 statsd_send [OPTIONS]   reads one metric a line, and packs them
@@ -33,41 +37,45 @@ As in: tail -f log | statsd_send --flush-every 0
 
 const VERSION: &str = "statsd_send 1.8.0\n";
 
-/// The port where nothing else is said.
-const PORT: u16 = 8125;
-
 fn main(rt: HostRuntime) -> ExitCode {
     let mut words = Vec::new(rt.alloc());
-    let Ok(arguments) = env::args(&rt) else {
-        return told(&rt, "the words are not UTF-8, or out of memory", 2);
+    let arguments = match env::args(&rt) {
+        Ok(arguments) => arguments,
+        Err(fault) => return no_words(&rt, fault.kind()),
     };
     for word in arguments.skip(1) {
         if words.push(word).is_err() {
-            return told(&rt, "out of memory", 3);
+            return told(&rt, 3, "out of memory");
         }
     }
     let mut lent = Vec::new(rt.alloc());
     for word in &words {
         if lent.push(word.as_str()).is_err() {
-            return told(&rt, "out of memory", 3);
+            return told(&rt, 3, "out of memory");
         }
     }
     match read_options(rt.alloc(), &lent) {
         Ok(Request::Help) => printed(&rt, HELP),
         Ok(Request::Version) => printed(&rt, VERSION),
         Ok(Request::Send(options, words)) => send(&rt, &options, words),
-        Err(fault) => refused(&rt, fault),
+        Err(fault) => told(&rt, fault.status(), fault),
     }
 }
 
-// Tells which option can't be read.
-fn refused(rt: &HostRuntime, fault: OptionFault<'_>) -> ExitCode {
-    let _ = eprintln!(rt; "statsd_send: {fault}");
-    ExitCode::from(fault.status())
+// Tells why the words of the command line can't be had.
+fn no_words(rt: &HostRuntime, kind: ErrorKind) -> ExitCode {
+    if kind == ErrorKind::OutOfMemory {
+        return told(rt, 3, "out of memory");
+    }
+    told(
+        rt,
+        2,
+        "a word of the command line is not UTF-8: wants text, as in `c visits 1 page:home`",
+    )
 }
 
 // Tells why nothing is sent.
-fn told(rt: &HostRuntime, why: &str, status: u8) -> ExitCode {
+fn told<T: fmt::Display + Drop>(rt: &HostRuntime, status: u8, why: T) -> ExitCode {
     let _ = eprintln!(rt; "statsd_send: {why}");
     ExitCode::from(status)
 }
@@ -75,22 +83,10 @@ fn told(rt: &HostRuntime, why: &str, status: u8) -> ExitCode {
 fn printed(rt: &HostRuntime, text: &str) -> ExitCode {
     match print!(rt; "{text}") {
         Ok(()) => ExitCode::from(0),
-        Err(_) => ExitCode::from(1),
-    }
-}
-
-// Where to: the option, or the environment, or this machine.
-fn target(rt: &HostRuntime, options: &Options<'_, Global>) -> io::Result<Option<SocketAddr>> {
-    if let Some(to) = options.to {
-        return Ok(to.to_socket_addrs(rt)?.next());
-    }
-    let port = match env::var(rt, "STATSD_PORT") {
-        Ok(text) => text.parse().unwrap_or(PORT),
-        Err(_) => PORT,
-    };
-    match env::var(rt, "STATSD_HOST") {
-        Ok(host) => Ok((host.as_str(), port).to_socket_addrs(rt)?.next()),
-        Err(_) => Ok(Some(SocketAddr::from((Ipv4Addr::LOCALHOST, port)))),
+        Err(fault) => {
+            let _ = eprintln!(rt; "statsd_send: cannot print: {fault}");
+            ExitCode::from(1)
+        }
     }
 }
 
@@ -106,21 +102,21 @@ fn socket(rt: &HostRuntime, target: SocketAddr) -> io::Result<UdpSocket> {
 
 fn send(rt: &HostRuntime, options: &Options<'_, Global>, words: &[&str]) -> ExitCode {
     let Ok(defaults) = options.defaults(rt.alloc()) else {
-        return told(rt, "out of memory", 3);
+        return told(rt, 3, "out of memory");
     };
     if options.is_printing {
         return match Printed::new(rt.alloc(), rt.stdout()) {
             Ok(writer) => drive(rt, options, words, &defaults, writer),
-            Err(_) => told(rt, "out of memory", 3),
+            Err(_) => told(rt, 3, "out of memory"),
         };
     }
-    let target = match target(rt, options) {
-        Ok(Some(target)) => target,
-        Ok(None) => return told(rt, "the host has no address", 1),
-        Err(fault) => {
-            let _ = eprintln!(rt; "statsd_send: where to: {fault}");
-            return ExitCode::from(1);
-        }
+    // A socket takes the place of an input that is closed, and would be read in its stead.
+    if words.is_empty() && rt.stdin().read(&mut [0u8; 0]).is_err() {
+        return told(rt, 1, Failure::Input);
+    }
+    let target = match target(rt, options.to) {
+        Ok(target) => target,
+        Err(fault) => return told(rt, fault.status(), fault),
     };
     match socket(rt, target) {
         Ok(socket) => drive(
@@ -146,7 +142,7 @@ fn drive<T: PacketWriter>(
 ) -> ExitCode {
     let alloc = rt.alloc();
     let Ok(mut lines) = LineBuffer::new(alloc, writer, options.capacity) else {
-        return told(rt, "out of memory", 3);
+        return told(rt, 3, "out of memory");
     };
     let (mut input, mut errors) = (rt.stdin(), rt.stderr());
     let status = if !words.is_empty() {
