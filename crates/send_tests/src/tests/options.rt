@@ -79,3 +79,33 @@ fn unusable_options_are_told(rt: HostRuntime) -> Result<(), Fail> {
     assert_eq!(rt; OptionFault::OutOfMemory.status(), 3);
     Ok(())
 }
+
+#[test]
+fn a_target_is_a_host_and_a_port(rt: HostRuntime) -> Result<(), Fail> {
+    for to in ["host:1", "127.0.0.1:8125", "[::1]:65535"] {
+        let words = ["--to", to];
+        let Ok(Request::Send(options, [])) = read_options(rt.alloc(), &words) else {
+            return Err(Fail::new(to));
+        };
+        assert!(rt; options.to == Some(to));
+    }
+    for to in [
+        "nowhere",
+        "host:",
+        ":1",
+        "host:x",
+        "host:0",
+        "host:65536",
+        "[::1]",
+        "1",
+    ] {
+        let words = ["--to", to];
+        let Err(fault) = read_options(rt.alloc(), &words) else {
+            return Err(Fail::new(to));
+        };
+        let told = format!(in rt.alloc(); "--to {to}: wants HOST:PORT, as in --to 127.0.0.1:8125")?;
+        assert!(rt; fault.status() == 2);
+        assert!(rt; format!(in rt.alloc(); "{fault}")? == told);
+    }
+    Ok(())
+}

@@ -57,13 +57,13 @@ const ROWS: [(&[u8], &[u8], u8, &[u8]); 11] = [
         b"c a 1\nc\nd b 0.5,2\nx y 1\nc z 1.5\n",
         b"p.a:1|c|#k:v\np.b:0.5:2|d|#k:v\n",
         2,
-        b"statsd_send: line 2: wants KIND",
+        b"statsd_send: line 2: wants KIND NAME VALUE [TAG ..], as in `c visits 1 page:home`\n",
     ),
     (
         b"c \xff 1\nc a\0 1\n",
         b"p.a\0:1|c|#k:v\n",
         2,
-        b"statsd_send: line 1: not UTF-8\n",
+        b"statsd_send: line 1: not UTF-8: wants text, as in `c visits 1 page:home`\n",
     ),
 ];
 
