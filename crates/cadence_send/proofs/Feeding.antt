@@ -76,24 +76,6 @@ module _ {W : Type 0} (kind : W → Kind) (history : W → History) where
         ∙ ap (λ t. whole_text (history p.writer) p.held ++ t) (frame_whole p.format line n count ∙ sym (append-nil (frame p.format line)));
   }
 
-  frame_fits : (f : Format) (line : List ℕ) → size_of f line ≤ f.capacity → frame f line ≡ line ++ f.ending
-  frame_fits f line fits = by_size (is_oversize f line) refl
-    where
-      by_size : (b : _) → is_oversize f line ≡ b → frame f line ≡ line ++ f.ending
-      by_size true is = absurd (omega (arith, fits, ltb-true _ _ is))
-      by_size false is = ap (λ b. if b then line else line ++ f.ending) is
-
-  -- a line that is held
-  pub hold_takes : (p q : Packer W) (line : List ℕ) → Fits p line → q ≡ holding p line → TakesLines kind history p q (line ∷ [])
-  hold_takes p q line fits is = record {
-    same_kind = ap (λ (r : Packer W). kind r.writer) is;
-    same_format = ap (λ (r : Packer W). r.format) is;
-    text = λ tells whole.
-        ap (λ (r : Packer W). whole_text (history r.writer) r.held) is
-        ∙ sym (append_assoc (concat (history p.writer).packets) p.held (line ++ p.format.ending))
-        ∙ ap (λ t. whole_text (history p.writer) p.held ++ t) (sym (frame_fits p.format line (omega (arith, fits))) ∙ sym (append-nil (frame p.format line)));
-  }
-
   -- a flush takes no lines
   pub flush_takes : {A : Type 0} (p q : Packer W) (r : Result A SinkError) → FlushesHeld kind history p q r → TakesLines kind history p q []
   flush_takes p q r h = record {
@@ -144,10 +126,6 @@ module _ {W : Type 0} (kind : W → Kind) (history : W → History) where
       rest = All-nil (λ b. b ≢ 10);
       taken = texts_more p q r h.texts ((waiting ++ front) ∷ []) h.taken more;
     }
-
-    -- nothing is left but a text
-    pub feeding_all : (p q : Packer W) (before bytes waiting left : List ℕ) → Feeding p q before bytes waiting left → IsOneText left → Feeds d kind history p q before bytes (waiting ++ left)
-    feeding_all p q before bytes waiting left h one = record { texts = h.texts; cut = h.cut; each = h.each; rest = All-append (λ b. b ≢ 10) waiting left h.rest one; taken = h.taken }
 
     -- bytes after bytes
     pub fed_more : (p q r : Packer W) (first more waiting after : List ℕ) → Feeds d kind history p q [] first waiting → Feeds d kind history q r waiting more after → Feeds d kind history p r [] (first ++ more) after

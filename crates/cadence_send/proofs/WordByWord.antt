@@ -103,17 +103,6 @@ tag_keyed tag word key text front cut h = by_key tag.key tag.text h.free.key h.f
         (subst IsFreeText same hk, subst IsFreeText tails hs)
     by_key None s hk hs e = absurd (lacks_no 58 key text (subst (Lacks 58) e (plain_lacks_colon s hs)))
 
--- a tag without one is its text
-pub tag_plain : (tag : Tag) (word : List ℕ) → All (λ b. b ≢ 58) word → IsTagWord word tag → IsFreeText word
-tag_plain tag word plain h = by_key tag.key tag.text h.free.text (sym (key_text-keyed tag.key tag.text) ∙ h.whole)
-  where
-    by_key : (k : Option (List ℕ)) (s : List ℕ) → IsFreeText s → keyed_text k s ≡ word → IsFreeText word
-    by_key (Some k) s hs e = absurd (lacks_no 58 k s (subst (Lacks 58) (sym e) (recursion_from_All (λ b. b ≢ 58) word plain)))
-    by_key None s hs e = subst IsFreeText e hs
-
-pub tag_found : (key text word : List ℕ) → word ≡ key ++ 58 ∷ text → IsFreeText key → IsFreeText text → IsTagWord word (record { key = Some key; text = text })
-tag_found key text word cut k t = record { whole = append_assoc key (58 ∷ []) text ∙ sym cut; free = record { key = k; text = t }; some = omega (arith, ap (λ w. length w) cut, length-append key (58 ∷ text)) }
-
 -- a call without options has neither rate nor time
 pub plain_rate : (s : Settings) (kind : MetricType) (name : List ℕ) (ns : List Number) → (metric_of_call s (plain_call kind name ns)).rate ≡ None
 unfolding metric_of_call
@@ -162,22 +151,9 @@ module _ {Z : Type 0} (d : Defaults Z) (k n v : List ℕ) (others words : List (
         e ∙ ap (λ m. line_of (finished d m)) (added ∙ ap (λ (m : Metric). record m { tags = m.tags ++ tags }) is),
       )
 
--- the words after the first three are the tags
-pub rest_asked : {Z : Type 0} (d : Defaults Z) (words : List (Bor (List ℕ))) (line : List ℕ) → 3 ≤ length words → IsLineOfWords d (texts words) line → (tags : List Tag) × AllZip IsTagWord (texts (rest_of words)) tags
-rest_asked d [] line long h = absurd (omega (arith, long))
-rest_asked d (w1 ∷ []) line long h = absurd (omega (arith, long))
-rest_asked d (w1 ∷ w2 ∷ []) line long h = absurd (omega (arith, long))
-rest_asked d (w1 ∷ w2 ∷ w3 ∷ ws) line long h = (h.0.tags, subst (λ ws. AllZip IsTagWord (texts ws) h.0.tags) (sym (rest_is (w1 ∷ w2 ∷ w3 ∷ ws))) h.1.4)
-
 -- fewer than three words ask for nothing
 pub no_word : {Z : Type 0} (d : Defaults Z) (words : List (List ℕ)) → words ≡ [] → (line : List ℕ) → IsLineOfWords d words line → ⊥
 no_word d words are line h = (subst (λ ws. IsLineOfWords d ws line) are h).1
-
-pub one_word : {Z : Type 0} (d : Defaults Z) (k : List ℕ) (words others : List (List ℕ)) → words ≡ k ∷ others → others ≡ [] → (line : List ℕ) → IsLineOfWords d words line → ⊥
-one_word d k words others are none line h = (subst (λ ws. IsLineOfWords d ws line) (are ∙ ap (λ ws. k ∷ ws) none) h).1
-
-pub two_words : {Z : Type 0} (d : Defaults Z) (k n : List ℕ) (words others rest : List (List ℕ)) → words ≡ k ∷ others → others ≡ n ∷ rest → rest ≡ [] → (line : List ℕ) → IsLineOfWords d words line → ⊥
-two_words d k n words others rest are more none line h = (subst (λ ws. IsLineOfWords d ws line) (are ∙ ap (λ ws. k ∷ ws) (more ∙ ap (λ ws. n ∷ ws) none)) h).1
 
 -- the metric of a plain call has neither rate nor time, with tags too
 pub plain_start : (s : Settings) (kind : MetricType) (n : List ℕ) (numbers : List Number) (words : List (List ℕ)) (old new : Metric) → old ≡ metric_of_call s (plain_call kind n numbers) → AddsTags words old new (Ok tt) → (new.rate ≡ None) × (new.time ≡ None)
