@@ -121,6 +121,8 @@ const SETTINGS: &[&'static str] = &[
     "writer short:1 refuse short:2",
 ];
 
+const SMALL_QUEUES: &[&'static str] = &["queue 1", "queue 2", "queue 3"];
+
 const STEPS: &[&'static str] = &[
     "take", "hand", "take", "hand", "take", "hand", "flush", "stop",
 ];
@@ -134,10 +136,14 @@ fn push_call(out: &mut String, chance: &mut Chance) -> Result<(), AllocError> {
     writeln!(out, "call {kind} {key} {value}{first}{second}")
 }
 
-/// A script of up to 5 settings and 24 steps.
+/// A script of up to 7 settings and 24 steps. Every fourth one has a small queue that drops, unless a later setting says
+/// otherwise.
 pub fn script_of(alloc: Global, seed: u64) -> Result<String, AllocError> {
     let mut chance = Chance::from_seed(seed);
     let mut out = String::new(alloc);
+    if seed % 4 == 0 {
+        writeln!(&mut out, "{}\npolicy drop", chance.one_of(SMALL_QUEUES))?;
+    }
     for _ in 0..chance.below(6) {
         writeln!(&mut out, "{}", chance.one_of(SETTINGS))?;
     }

@@ -12,6 +12,7 @@ mod generated;
 mod makers;
 mod plans;
 mod scripts;
+mod takes;
 mod turns;
 mod udp_makers;
 

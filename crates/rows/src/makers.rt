@@ -1,4 +1,5 @@
 //! Each constructor that takes memory, with each of its requests refused in turn.
+use crate::takes::{Heap, took};
 use crate::udp_makers::UdpMaker;
 use cadence::prelude::*;
 use cadence::queue::{QueueCore, QueuePolicy};
@@ -9,15 +10,9 @@ use cadence::{
     NopMetricSink, QueuingMetricSink, QueuingMetricSinkBuilder, SpyMetricSink, StatsdClient,
     UnixMetricSink,
 };
-use refusing::{Refusing, each_refused};
+use refusing::each_refused;
 use std::alloc::Global;
 use std::net::SocketAddr;
-
-/// An allocator that refuses one request.
-pub type Heap = Refusing<Global>;
-
-/// What each is given once it is made.
-const LINE: &str = "buz:1|m";
 
 /// How something is made.
 #[derive(Clone, Copy)]
@@ -90,16 +85,6 @@ struct Taking;
 impl PathSocket for Taking {
     fn send_to(&self, packet: &[u8], _path: &str) -> Result<usize, SinkError> {
         Ok(packet.len())
-    }
-}
-
-/// Whether a sink had memory for a line and for a flush. One request alone is refused, so a sink that had none for a
-/// line takes the next one; any other answer is an error.
-pub fn took<S: MetricSink>(sink: &S) -> MetricResult<bool> {
-    match sink.emit(LINE) {
-        Ok(length) if length == LINE.len() => Ok(sink.flush().is_ok()),
-        Err(SinkError::OutOfMemory) if sink.emit(LINE).is_ok() => Ok(false),
-        _ => Err(MetricError::from(SinkError::PacketRefused)),
     }
 }
 

@@ -1,5 +1,5 @@
 //! The constructors of sinks over UDP.
-use crate::makers::{Heap, took};
+use crate::takes::{Heap, took};
 use cadence::ready::{buffered_udp_client, queued_udp_client, udp_client};
 use cadence::sinks::{ResolverRuntime, Target};
 use cadence::{
