@@ -1,5 +1,5 @@
 //! Whether a sink does with a list what the proved run does.
-use crate::lists::List;
+use crate::lists::{Given, List};
 use crate::recording::{Recording, packets_of};
 use crate::runs::Run;
 use crate::same;
@@ -33,7 +33,8 @@ pub fn unix<R: Wait + Clone + Drop>(rt: &R, alloc: Global, list: &List) -> Metri
     Ok(answers && counts && packets && all)
 }
 
-/// A queue over such a sink, without the list's flushes: each line is taken, and the packets after a stop and a flush.
+/// A queue over such a sink, without the list's flushes: each line is taken, and after a stop how many lines passed the
+/// queue, the answer to a flush, the packets and the counts.
 pub fn queued<R: Wait + Threads + Clone + Drop + Send + Sync + 'static>(
     rt: &R,
     alloc: Global,
@@ -51,14 +52,22 @@ pub fn queued<R: Wait + Threads + Clone + Drop + Send + Sync + 'static>(
     let queue = QueuingMetricSink::from(rt.clone()?, alloc, sink)?;
     let taken = same::lines_taken(alloc, &queue, list)?;
     queue.stop_and_wait();
-    let _ = queue.flush();
-    Ok(taken && packets_of(alloc, rt, &log)? == run.packets_at_the_end)
+    let passed = (queue.submitted(), queue.drained()) == (run.submitted, run.drained);
+    let flushed = Some(same::answer_of(alloc, &queue, &Given::Flush)?) == run.last_answer;
+    let packets = packets_of(alloc, rt, &log)? == run.packets_at_the_end;
+    let counts = queue.stats() == run.stats_at_the_end;
+    Ok(taken && passed && flushed && packets && counts)
 }
 
-/// A buffered spy of the list's capacity.
-pub fn spied<R: Wait + Clone + Drop>(rt: &R, alloc: Global, list: &List) -> MetricResult<bool> {
+/// A buffered spy of the list's capacity, whose queue holds at most so many messages.
+pub fn spied<R: Wait + Clone + Drop>(
+    rt: &R,
+    alloc: Global,
+    queue: Option<usize>,
+    list: &List,
+) -> MetricResult<bool> {
     let size = Some(list.capacity);
-    let spy = BufferedSpyMetricSink::with_capacity(rt.clone()?, alloc, None, size)?;
+    let spy = BufferedSpyMetricSink::with_capacity(rt.clone()?, alloc, queue, size)?;
     told(alloc, spy, list)
 }
 
@@ -80,13 +89,13 @@ pub fn udp<R: Net + Wait + Clone + Drop>(
     sent(alloc, server, sink, list)
 }
 
-/// A spy: answers, and its messages after its drop.
+/// A spy, whose refusals are those of a full queue: answers, and its messages after its drop.
 pub fn told<R: Wait + Clone + Drop>(
     alloc: Global,
     (receiver, sink): (SpyReceiver<R>, BufferedSpyMetricSink<R>),
     list: &List,
 ) -> MetricResult<bool> {
-    let run = Run::of(alloc, list)?;
+    let run = Run::of_full(alloc, list)?;
     let answers = same::answers(alloc, &sink, list, &run)?;
     drop(sink);
     let most = run.packets_at_the_end.len().saturating_add(1);

@@ -14,6 +14,9 @@ pub enum Given {
 /// passes them by a byte, and two of the fourth fill them.
 const ABOUT_512: [u64; 7] = [507, 507, 508, 251, 251, 507, 1];
 
+/// More packets than a list is tried to be sent in: two for each of 30 lines, and the last one.
+const MOST_PACKETS: usize = 64;
+
 /// A capacity, what is given, and how the socket answers.
 #[derive(Drop)]
 pub struct List {
@@ -97,6 +100,20 @@ impl List {
             given,
             answers: Vec::new(alloc),
         }
+    }
+
+    /// The same over a queue that holds so many packets, which nobody takes from it.
+    pub fn over_a_full_queue(self, alloc: Global, packets: usize) -> Result<List, AllocError> {
+        let mut list = self.without_refusals(alloc);
+        for place in 0..MOST_PACKETS {
+            let answer = if place < packets {
+                Answer::Whole
+            } else {
+                Answer::Refuse
+            };
+            list.answers.push(answer)?;
+        }
+        Ok(list)
     }
 
     /// A log that answers so.

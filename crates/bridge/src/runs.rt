@@ -3,6 +3,7 @@ use crate::lists::{Given, List};
 use cadence::client::ClientSettings;
 use cadence::io::PacketLog;
 use cadence::schedule::{Call, CallValue, Reply, Report, Step, run_schedule};
+use cadence::types::SinkError;
 use cadence::{MetricError, MetricResult, SinkStats};
 use std::alloc::{AllocError, Global};
 
@@ -12,8 +13,14 @@ pub struct Run {
     pub answers: Vec<String>,
     pub packets: Vec<Vec<u8>>,
     pub stats: SinkStats,
-    /// The packets after one flush more.
+    /// How many lines its queue accepted, and how many were taken from it.
+    pub submitted: u64,
+    pub drained: u64,
+    /// The answer to one flush more.
+    pub last_answer: Option<String>,
+    /// The packets after it, and the sums.
     pub packets_at_the_end: Vec<Vec<u8>>,
+    pub stats_at_the_end: SinkStats,
 }
 
 // The steps of a list, where its flushes count, and then a flush where asked.
@@ -76,12 +83,17 @@ fn run_of(alloc: Global, list: &List, flushes: bool) -> MetricResult<Run> {
     let (packets, stats) = (copies(alloc, report.writer().packets())?, report.stats());
     steps.push(Step::Flush)?;
     let ended = report_of(alloc, list, &steps)?;
+    let mut all_answers = answers_of(alloc, ended.replies())?;
     let packets_at_the_end = copies(alloc, ended.writer().packets())?;
     Ok(Run {
         answers,
         packets,
         stats,
+        submitted: ended.queue().submitted(),
+        drained: ended.queue().drained(),
+        last_answer: all_answers.pop(),
         packets_at_the_end,
+        stats_at_the_end: ended.stats(),
     })
 }
 
@@ -94,5 +106,18 @@ impl Run {
     /// The run of its lines alone.
     pub fn of_lines(alloc: Global, list: &List) -> MetricResult<Run> {
         run_of(alloc, list, false)
+    }
+
+    /// The run of a list, with the refusals that a full queue gives.
+    pub fn of_full(alloc: Global, list: &List) -> MetricResult<Run> {
+        let mut run = run_of(alloc, list, true)?;
+        let (refused, full) = (SinkError::PacketRefused, SinkError::ChannelFull);
+        let refused = format!(in alloc; "{refused}")?;
+        for answer in &mut run.answers {
+            if *answer == refused {
+                *answer = format!(in alloc; "{full}")?;
+            }
+        }
+        Ok(run)
     }
 }

@@ -8,8 +8,12 @@ use std::io;
 use std::net::UdpSocket;
 use std::sync::Wait;
 
-// What a sink answers, as a text.
-fn answer_of<S: MetricSink>(alloc: Global, sink: &S, given: &Given) -> Result<String, AllocError> {
+/// What a sink answers, as a text.
+pub fn answer_of<S: MetricSink>(
+    alloc: Global,
+    sink: &S,
+    given: &Given,
+) -> Result<String, AllocError> {
     match given {
         Given::Line(key, count) => {
             let line = format!(in alloc; "{key}:{count}|c")?;

@@ -1,16 +1,18 @@
-//! A sink that two threads share, by itself and behind a queue.
+//! Sinks that two threads share, by themselves and behind a queue.
 use crate::lists::{Given, List};
 use crate::recording::{Log, Recording, packets_of};
 use crate::runs::Run;
 use cadence::io::PacketLog;
-use cadence::{BufferedUnixMetricSink, MetricResult, MetricSink, QueuingMetricSink};
+use cadence::{
+    BufferedUnixMetricSink, MetricResult, MetricSink, QueuingMetricSink, SinkStats, UnixMetricSink,
+};
 use std::alloc::{AllocError, Global};
 use std::sync::Wait;
 use std::thread;
 use std::thread::Threads;
 
-/// The bytes of the sink's buffer.
-const CAPACITY: usize = 64;
+/// The bytes of a buffer.
+pub const CAPACITY: usize = 64;
 
 /// The keys of the two threads, each of which counts from `FIRST` up to `LAST`.
 const ONE: &str = "a";
@@ -45,17 +47,24 @@ fn emit_both<R: Threads, S: MetricSink + Sync>(
     Ok(one? && other?)
 }
 
+// The packets, each with a newline after it.
 fn joined(alloc: Global, packets: &[Vec<u8>]) -> Result<String, AllocError> {
     let mut bytes = Vec::new(alloc);
     for packet in packets {
         bytes.extend_from_slice(packet)?;
+        bytes.push(b'\n')?;
     }
     String::from_utf8_lossy(alloc, &bytes)
 }
 
-// Whether packets are those of the run of all lines, in the order in which they came.
-fn are_of_the_run(alloc: Global, packets: &[Vec<u8>]) -> MetricResult<bool> {
-    let mut list = List::none(alloc, CAPACITY);
+// Whether packets and counts are those of the run of all lines, in the order in which they came.
+fn are_of_the_run(
+    alloc: Global,
+    capacity: usize,
+    packets: &[Vec<u8>],
+    counts: SinkStats,
+) -> MetricResult<bool> {
+    let mut list = List::none(alloc, capacity);
     let (mut one, mut other) = (FIRST, FIRST);
     for line in joined(alloc, packets)?.lines() {
         // each is taken for the next line of its thread, and the run shows whether it is that
@@ -63,46 +72,68 @@ fn are_of_the_run(alloc: Global, packets: &[Vec<u8>]) -> MetricResult<bool> {
             let key = String::from_str(alloc, ONE)?;
             list.given.push(Given::Line(key, one))?;
             one = one.wrapping_add(1);
-        } else {
+        } else if line.starts_with(OTHER) {
             let key = String::from_str(alloc, OTHER)?;
             list.given.push(Given::Line(key, other))?;
             other = other.wrapping_add(1);
         }
     }
     let run = Run::of_lines(alloc, &list)?;
-    Ok((one, other) == (LAST, LAST) && packets == run.packets_at_the_end.as_slice())
+    let counted = counts == run.stats_at_the_end;
+    let packed = packets == run.packets_at_the_end.as_slice();
+    Ok((one, other) == (LAST, LAST) && packed && counted)
 }
 
-/// A sink over a socket that takes all, and the log of the socket.
-pub fn unix<R: Wait + Clone + Drop>(
+// A socket that takes all, and its log.
+fn taking_all<R: Wait + Clone + Drop>(
+    rt: &R,
+    alloc: Global,
+) -> Result<(Log, Recording<R>), AllocError> {
+    Recording::new(rt.clone()?, alloc, PacketLog::new(alloc, Vec::new(alloc)))
+}
+
+/// A buffered sink over a socket that takes all, and the log of the socket.
+pub fn buffered<R: Wait + Clone + Drop>(
     rt: &R,
     alloc: Global,
 ) -> MetricResult<(Log, BufferedUnixMetricSink<Recording<R>, R>)> {
-    let answers = PacketLog::new(alloc, Vec::new(alloc));
-    let (log, socket) = Recording::new(rt.clone()?, alloc, answers)?;
+    let (log, socket) = taking_all(rt, alloc)?;
     let sink = BufferedUnixMetricSink::with_capacity(rt.clone()?, alloc, "", socket, CAPACITY)?;
     Ok((log, sink))
 }
 
-/// Whether two threads that share the sink make packets of the run.
+/// The same of a sink that holds nothing.
+pub fn unbuffered<R: Wait + Clone + Drop>(
+    rt: &R,
+    alloc: Global,
+) -> MetricResult<(Log, UnixMetricSink<Recording<R>, R>)> {
+    let (log, socket) = taking_all(rt, alloc)?;
+    let sink = UnixMetricSink::from(rt.clone()?, alloc, "", socket)?;
+    Ok((log, sink))
+}
+
+/// Whether two threads that share the sink make packets of the run of a capacity.
 pub fn shared<R: Wait + Threads, S: MetricSink + Sync>(
     rt: &R,
     alloc: Global,
+    capacity: usize,
     sink: &S,
     log: &Log,
 ) -> MetricResult<bool> {
     let taken = emit_both(rt, alloc, sink)? && sink.flush().is_ok();
-    Ok(taken && are_of_the_run(alloc, &packets_of(alloc, rt, log)?)?)
+    let packets = packets_of(alloc, rt, log)?;
+    Ok(taken && are_of_the_run(alloc, capacity, &packets, sink.stats())?)
 }
 
 /// The same of a queue over the sink.
 pub fn queued<
     R: Wait + Threads + Clone + Drop + Send + Sync + 'static,
     S: MetricSink + Send + Sync + 'static,
->(rt: &R, alloc: Global, sink: S, log: &Log) -> MetricResult<bool> {
+>(rt: &R, alloc: Global, capacity: usize, sink: S, log: &Log) -> MetricResult<bool> {
     let queue = QueuingMetricSink::from(rt.clone()?, alloc, sink)?;
     let taken = emit_both(rt, alloc, &queue)?;
     queue.stop_and_wait();
     let flushed = queue.flush().is_ok();
-    Ok(taken && flushed && are_of_the_run(alloc, &packets_of(alloc, rt, log)?)?)
+    let packets = packets_of(alloc, rt, log)?;
+    Ok(taken && flushed && are_of_the_run(alloc, capacity, &packets, queue.stats())?)
 }
