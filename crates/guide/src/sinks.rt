@@ -8,7 +8,7 @@ use cadence::sinks::PathSocket;
 use cadence::types::SinkError;
 use cadence::{
     BufferedSpyMetricSink, BufferedUnixMetricSink, MetricResult, MetricSink, NopMetricSink,
-    QueuingMetricSinkBuilder, SpyMetricSink, StatsdClient,
+    QueuingMetricSinkBuilder, SpyMetricSink, StatsdClient, UnixMetricSink,
 };
 use std::alloc::Global;
 
@@ -59,6 +59,17 @@ pub fn latest<R: Runtime>(rt: &R, alloc: Global) -> MetricResult<u64> {
     Ok(client.sink().dropped())
 }
 
+pub fn unix_lines<R: Runtime, P: PathSocket + Send + Sync>(
+    rt: &R,
+    alloc: Global,
+    socket: P,
+) -> MetricResult<()> {
+    let sink = UnixMetricSink::from(rt.clone()?, alloc, "/run/statsd.sock", socket)?;
+    let client = StatsdClient::from_sink(alloc, "p", sink)?;
+    client.incr("visits")?;
+    Ok(())
+}
+
 pub fn unix<R: Runtime, P: PathSocket + Send + Sync>(
     rt: &R,
     alloc: Global,
@@ -103,6 +114,7 @@ pub fn all<R: Runtime>(rt: &R, alloc: Global) -> MetricResult<u64> {
     direct(rt, alloc)?;
     buffered(rt, alloc)?;
     queued(rt, alloc)?;
+    unix_lines(rt, alloc, TakesAll)?;
     unix(rt, alloc, TakesAll)?;
     latest(rt, alloc)
 }
