@@ -1,57 +1,107 @@
-//! A reader, a writer of packets and memory that fail.
-use cadence_flow::io::{Answer, LineBuffer, PacketLog};
-use cadence_send::{Request, Unhurried, read_options, run_input};
+//! A reader, writers and memory that fail.
+use cadence_flow::io::{Answer, LineBuffer, PacketLog, PacketWriter};
+use cadence_send::{Printed, Request, Unhurried, read_options, run_input, run_words};
 use refusing::reader::{ByteReader, FailingReader};
+use refusing::writer::{ByteWriter, FailingWriter};
 use refusing::{Refusing, each_refused};
 use std::alloc::{Allocator, Global};
+use std::io::{Read, Write};
 use std::test::Fail;
 
 const TEXT: &[u8] = b"c a 1 k:v\nms b 12,250\ng c 0.5\n";
 
 const LINES: &[u8] = b"a:1|c|#k:v\nb:12:250|ms\nc:0.5|g\n";
 
+/// The words of the first line, and what is sent and printed for them.
+const WORDS: &[&str] = &["c", "a", "1", "k:v"];
+
+const LINE: &[u8] = b"a:1|c|#k:v\n";
+
+const SHOWN: &[u8] = b"packet 11 a:1|c|#k:v\\n\n";
+
+/// No words, so that the text is run.
+const NONE: &[&str] = &[];
+
+/// A log that takes a byte of each packet, as often as `LINES` has bytes.
+const SHORT: [Answer; 31] = [Answer::Short(1); 31];
+
+/// Words, or none and a text, and answers of the log; the status, and what is sent.
+const FAULTY: [(&[&str], &[u8], &[Answer], u8, &[u8]); 4] = [
+    (NONE, b"c a 1 k:v\nc\nx y 1\n", &[], 2, LINE),
+    (NONE, b"c a 1 k:v", &[Answer::Refuse], 1, b""),
+    (&["c", "a", "k:v"], b"", &[], 2, b""),
+    (WORDS, b"", &[Answer::Refuse], 1, b""),
+];
+
 /// More requests for memory than a run makes. A countdown that refused one has passed 0, and is greater.
 const MOST_REQUESTS: u64 = 1000;
 
-// Runs the text, with these answers of the log, and answers the status and the packets, joined.
-fn run<A: Allocator + Clone>(
+/// More writes of one byte than a run makes.
+const MOST_WRITES: u64 = 200;
+
+// Runs the words, or where there are none the input, over a writer, and answers it with the status. It is None where
+// memory was refused before.
+fn drive<A: Allocator + Clone, T: PacketWriter, I: Read, E: Write>(
+    alloc: A,
+    writer: T,
+    words: &[&str],
+    input: &mut I,
+    errors: &mut E,
+) -> Option<(u8, T)> {
+    let Ok(mut lines) = LineBuffer::new(alloc.clone().ok()?, writer, 16) else {
+        return None;
+    };
+    let Ok(Request::Send(options, _)) = read_options(alloc.clone().ok()?, &[]) else {
+        return None;
+    };
+    let defaults = options.defaults(alloc.clone().ok()?).ok()?;
+    let status = if words.is_empty() {
+        run_input(&alloc, &defaults, &mut lines, input, errors, &mut Unhurried)
+    } else {
+        run_words(&alloc, &defaults, &mut lines, words, errors)
+    };
+    let (writer, _held) = lines.into_parts();
+    Some((status, writer))
+}
+
+// The same over a log with these answers. It answers the status and the packets, joined.
+fn run<A: Allocator + Clone, I: Read, E: Write>(
     alloc: A,
     plain: Global,
     answers: &[Answer],
-    passed: u64,
-    errors: &mut Vec<u8>,
+    words: &[&str],
+    input: &mut I,
+    errors: &mut E,
 ) -> Result<(u8, Vec<u8>), Fail> {
     let log = PacketLog::new(plain, Vec::from_slice(plain, answers)?);
-    let Ok(mut lines) = LineBuffer::new(alloc.clone()?, log, 16) else {
-        return Ok((3, Vec::new(plain)));
-    };
-    let Ok(Request::Send(options, _)) = read_options(alloc.clone()?, &[]) else {
-        return Ok((3, Vec::new(plain)));
-    };
-    let Ok(defaults) = options.defaults(alloc.clone()?) else {
-        return Ok((3, Vec::new(plain)));
-    };
-    let mut input = FailingReader::after(ByteReader::new(TEXT), passed);
-    let status = run_input(
-        &alloc,
-        &defaults,
-        &mut lines,
-        &mut input,
-        errors,
-        &mut Unhurried,
-    );
     let mut all = Vec::new(plain);
-    for packet in lines.get_ref().packets() {
+    let Some((status, log)) = drive(alloc, log, words, input, errors) else {
+        return Ok((3, all));
+    };
+    for packet in log.packets() {
         all.extend_from_slice(packet)?;
     }
     Ok((status, all))
 }
 
+// Runs the words over a writer that prints their packet, and answers the status. It is None as in `drive`.
+fn print<A: Allocator + Clone, O: Write + Drop>(
+    alloc: A,
+    output: O,
+    errors: &mut Vec<u8>,
+) -> Option<u8> {
+    let printed = Printed::new(alloc.clone().ok()?, output).ok()?;
+    let mut none = ByteReader::new(b"");
+    let (status, _printed) = drive(alloc, printed, WORDS, &mut none, errors)?;
+    Some(status)
+}
+
 #[test]
 fn each_read_fails(rt: HostRuntime) -> Result<(), Fail> {
     for passed in 0..100 {
+        let mut input = FailingReader::after(ByteReader::new(TEXT), passed);
         let mut errors = Vec::new(rt.alloc());
-        let (status, sent) = run(rt.alloc(), rt.alloc(), &[], passed, &mut errors)?;
+        let (status, sent) = run(rt.alloc(), rt.alloc(), &[], NONE, &mut input, &mut errors)?;
         assert!(rt; LINES.starts_with(&sent));
         if status == 0 {
             assert_eq!(rt; passed, 31, "each byte, and the end");
@@ -67,9 +117,21 @@ fn each_read_fails(rt: HostRuntime) -> Result<(), Fail> {
 #[test]
 fn each_packet_is_refused(rt: HostRuntime) -> Result<(), Fail> {
     let refused = [Answer::Whole, Answer::Whole, Answer::Refuse];
-    for first in 0..refused.len() {
-        let mut errors = Vec::new(rt.alloc());
-        let (status, sent) = run(rt.alloc(), rt.alloc(), &refused[first..], 100, &mut errors)?;
+    for (answers, words) in [
+        (refused.as_slice(), NONE),
+        (&refused[1..], NONE),
+        (&refused[2..], NONE),
+        (&refused[2..], WORDS),
+    ] {
+        let (mut input, mut errors) = (ByteReader::new(TEXT), Vec::new(rt.alloc()));
+        let (status, sent) = run(
+            rt.alloc(),
+            rt.alloc(),
+            answers,
+            words,
+            &mut input,
+            &mut errors,
+        )?;
         assert!(rt; status == 1 && LINES.starts_with(&sent));
         assert!(rt; errors.as_slice() == b"statsd_send: cannot send: packet refused\n".as_slice());
     }
@@ -77,15 +139,95 @@ fn each_packet_is_refused(rt: HostRuntime) -> Result<(), Fail> {
 }
 
 #[test]
+fn short_counts_send_all(rt: HostRuntime) -> Result<(), Fail> {
+    for (words, lines) in [(NONE, LINES), (WORDS, LINE)] {
+        let (mut input, mut errors) = (ByteReader::new(TEXT), Vec::new(rt.alloc()));
+        let (status, sent) = run(
+            rt.alloc(),
+            rt.alloc(),
+            &SHORT,
+            words,
+            &mut input,
+            &mut errors,
+        )?;
+        assert!(rt; status == 0 && errors.is_empty());
+        assert!(rt; sent.as_slice() == lines);
+    }
+    Ok(())
+}
+
+#[test]
 fn each_request_is_refused(rt: HostRuntime) -> Result<(), Fail> {
-    let granted: Result<Option<u64>, Fail> = each_refused(rt.alloc(), |heap: Refusing<Global>| {
+    // the words ask for more than the packer's two
+    for (words, lines, least) in [(NONE, LINES, 8), (WORDS, LINE, 2)] {
+        let granted: Result<Option<u64>, Fail> = each_refused(
+            rt.alloc(),
+            |heap: Refusing<Global>| {
+                let (mut input, mut errors) = (ByteReader::new(TEXT), Vec::new(rt.alloc()));
+                let left = heap.clone()?;
+                let (status, sent) = run(heap, rt.alloc(), &[], words, &mut input, &mut errors)?;
+                assert!(rt; lines.starts_with(&sent));
+                assert!(rt; status == 3 || (status == 0 && sent.as_slice() == lines));
+                Ok(left.left() <= MOST_REQUESTS)
+            },
+        );
+        assert!(rt; granted?.is_some_and(|granted| granted > least));
+    }
+    Ok(())
+}
+
+#[test]
+fn each_write_of_a_printed_packet_fails(rt: HostRuntime) -> Result<(), Fail> {
+    for passed in 0..MOST_WRITES {
+        let mut output = FailingWriter::after(ByteWriter::new(rt.alloc()), passed);
         let mut errors = Vec::new(rt.alloc());
+        let status = print(rt.alloc(), &mut output, &mut errors);
+        let shown = output.get_ref().taken();
+        assert!(rt; SHOWN.starts_with(shown) && shown.len() as u64 == passed);
+        if status == Some(0) {
+            assert!(rt; shown == SHOWN && errors.is_empty());
+            return Ok(());
+        }
+        assert!(rt; status == Some(1));
+        assert!(rt; errors.starts_with(b"statsd_send: cannot send: "));
+    }
+    Err(Fail::new("always failed"))
+}
+
+#[test]
+fn each_request_of_a_printed_packet_is_refused(rt: HostRuntime) -> Result<(), Fail> {
+    let granted: Result<Option<u64>, Fail> = each_refused(rt.alloc(), |heap: Refusing<Global>| {
+        let (mut output, mut errors) = (Vec::new(rt.alloc()), Vec::new(rt.alloc()));
         let left = heap.clone()?;
-        let (status, sent) = run(heap, rt.alloc(), &[], 100, &mut errors)?;
-        assert!(rt; LINES.starts_with(&sent));
-        assert!(rt; status == 3 || (status == 0 && sent.as_slice() == LINES));
-        Ok(left.left() <= MOST_REQUESTS)
+        let status = print(heap, &mut output, &mut errors);
+        let wanted = if status == Some(0) {
+            SHOWN
+        } else {
+            b"".as_slice()
+        };
+        assert!(rt; output.as_slice() == wanted);
+        Ok(status == Some(0) && left.left() <= MOST_REQUESTS)
     });
-    assert!(rt; granted?.is_some_and(|granted| granted > 8));
+    assert!(rt; granted?.is_some());
+    Ok(())
+}
+
+// Whether each faulty run ends as it has to over errors that fail at the write after so many.
+fn end_as_told(alloc: Global, passed: u64) -> Result<bool, Fail> {
+    let mut all = true;
+    for (words, text, answers, status, lines) in FAULTY {
+        let mut input = ByteReader::new(text);
+        let mut errors = FailingWriter::after(ByteWriter::new(alloc), passed);
+        let (ended, sent) = run(alloc, alloc, answers, words, &mut input, &mut errors)?;
+        all = ended == status && sent.as_slice() == lines && all;
+    }
+    Ok(all)
+}
+
+#[test]
+fn errors_that_fail_change_nothing(rt: HostRuntime) -> Result<(), Fail> {
+    for passed in 0..MOST_WRITES {
+        assert!(rt; end_as_told(rt.alloc(), passed)?);
+    }
     Ok(())
 }
