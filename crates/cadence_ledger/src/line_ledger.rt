@@ -13,7 +13,8 @@ use std::alloc::{Allocator, Global};
 
 /// A packer with the newline as its ending, and in proofs alone the lines that it accepted, each with what was
 /// answered. Whoever has one knows that the packets that its writer took, joined, and then the held text are the
-/// frames of these lines, in order (`stream`), and that between two short counts each packet is whole frames (`cut`).
+/// frames of these lines, in order (`stream`), and that a packet which was taken whole, with no short count since the
+/// one before it, is whole frames (`cut`).
 #[derive(Drop)]
 pub struct LineLedger<W, A: Allocator = Global> {
     lines: LineBuffer<Telling<W>, A>,
