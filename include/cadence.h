@@ -124,8 +124,9 @@ uint32_t cadence_set_container(cadence_handle *handle, const uint8_t *container,
 
 /* Keep the line of a metric of a kind: prefix and key, the values with a colon between each two, and the options. A
  * line is held with a newline; where it doesn't fit, what is held becomes a packet first; where it passes the capacity
- * with its newline, it is a packet of its own, without the newline. Answer CADENCE_NO_CLIENT, CADENCE_NOT_UTF8,
- * CADENCE_INVALID, CADENCE_NO_MEMORY or CADENCE_FULL. */
+ * with its newline, it is a packet of its own, without the newline. The client keeps room for the longest line that one
+ * of these calls made, so most of them take no memory. Answer CADENCE_NO_CLIENT, CADENCE_NOT_UTF8, CADENCE_INVALID,
+ * CADENCE_NO_MEMORY or CADENCE_FULL. */
 uint32_t cadence_signed(cadence_handle *handle, uint32_t kind, const uint8_t *key, size_t key_len,
                         const int64_t *values, size_t values_len, const cadence_options *options);
 uint32_t cadence_unsigned(cadence_handle *handle, uint32_t kind, const uint8_t *key, size_t key_len,

@@ -1,4 +1,3 @@
-pub mod Metrics
 pub mod Sending
 pub mod Shown
 pub mod Own

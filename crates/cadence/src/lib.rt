@@ -7,7 +7,6 @@ pub mod client;
 pub mod decimal;
 pub mod ext;
 pub mod laws;
-mod metrics;
 pub mod prelude;
 pub mod queue;
 pub mod ready;

@@ -1,8 +1,8 @@
 //! Errors, and the metrics that a client makes.
 
-pub use crate::metrics::{
-    Counter, Distribution, Gauge, Histogram, Meter, Metric, MetricText, Set, Timer, kinds,
-};
 pub use cadence_errors::{
     Description, ErrorKind, MAX_DESCRIPTION, MetricError, MetricResult, SinkError,
+};
+pub use cadence_text::metrics::{
+    Counter, Distribution, Gauge, Histogram, Meter, Metric, MetricText, Set, Timer, kinds,
 };

@@ -2,3 +2,4 @@ mod AsBox
 pub mod Lines
 pub mod Lists
 pub mod Runs
+pub mod TagTexts

@@ -48,15 +48,17 @@ abbrev pub IsRateOf : COptions → Option Number → Type 0
 IsRateOf o None = o.rated ≡ false
 IsRateOf o (Some rate) = (o.rated ≡ true) × IsNumberOf o.rate rate
 
--- the metric with options: their rate, where there is one; their tags after its own; their container and time, where
--- there is one
-abbrev pub with_options : Metric → COptions → Option Number → Metric
-with_options m o rate = record m {
+-- the metric with options but their tags: their rate, container and time, where there is one
+abbrev pub with_choices : Metric → COptions → Option Number → Metric
+with_choices m o rate = record m {
   rate = rate;
-  tags = m.tags ++ map c_tag o.tags.now;
   container = cond o.contained (Some o.container.now) m.container;
   time = cond o.timed (Some o.time) None;
 }
+
+-- the metric with options: also their tags, after its own
+abbrev pub with_options : Metric → COptions → Option Number → Metric
+with_options m o rate = record (with_choices m o rate) { tags = m.tags ++ map c_tag o.tags.now }
 
 -- what a call means: the metric of the call without options, and its options
 pub record IsCall (s : Settings) (k : ℕ) (key : List ℕ) (numbers : List Number) (o : COptions) (m : Metric) : Type 0 where

@@ -1,17 +1,14 @@
 //! A call as C makes it.
-ghost use Rattle.std.specs.Prelude.{◌≡◌, ◌≢◌, ◌++◌, ◌<◌, ◌∷◌, [], IfOk, IfErr, OnOk, IfSome, IfNone, All, true, map, cond, None, Option, Some, string_bytes};
+ghost use Rattle.std.specs.Prelude.{◌≡◌, ◌≢◌, ◌<◌, IfOk, IfErr, OnOk, IfSome, IfNone, true, cond, None, Option, Some};
 ghost use Rattle.std.specs.Str.{IsUtf8};
-ghost use Rattle.cadence_text.specs.Line.{line_of};
 ghost use Rattle.cadence_text.specs.Record.{tag_of as record_tag};
-ghost use Rattle.cadence_value.specs.Number.{Number};
 ghost use Rattle.cadence_c.specs.Status.{status};
 ghost use Rattle.cadence_c.specs.declared.status.Refusal.TheVariants.{Invalid};
-ghost use Rattle.cadence_c.specs.Calls.{c_tag, kind_named, AreTexts, IsNoRate, IsNumberOf, IsRateOf, IsTextTag, with_options};
+ghost use Rattle.cadence_c.specs.Calls.{c_tag, kind_named, IsNoRate, IsNumberOf, IsRateOf, IsTextTag, with_choices};
 
 use crate::status::Refusal;
 use cadence_text::line::{MetricType, Record, Tag};
 use cadence_value::decimal::Decimal;
-use std::alloc::Global;
 use std::str;
 
 /// A tag: its key, where it has one, and its text.
@@ -72,39 +69,34 @@ pub fn decimal_of(decimal: CDecimal) -> Result<Decimal, Refusal>
     }
 }
 
+/// The text, where the bytes are UTF-8. Most are ASCII, which takes less to see.
+#[inline]
+pub fn text_of(bytes: &[u8]) -> Option<&str>
+    ensures text { IfSome result (λ t. (t.now ≡ bytes.now) × IsUtf8 bytes.now) }
+    ensures none { IfNone result (IsUtf8 bytes.now → ⊥) }
+{
+    if bytes.is_ascii() {
+        return Some(unsafe { str::from_utf8_unchecked(bytes) });
+    }
+    str::from_utf8(bytes).ok()
+}
+
 /// The tag, where its texts are UTF-8.
+#[inline]
 pub fn tag_of<'a>(tag: &CTag<'a>) -> Option<Tag<'a>>
     ensures tag { IfSome result (λ t. record_tag t ≡ c_tag tag.now) }
+    ensures texts { IfSome result (λ _. IsTextTag tag.now) }
     ensures none { IfNone result (IsTextTag tag.now → ⊥) }
 {
-    let text = str::from_utf8(tag.text).ok()?;
+    let text = text_of(tag.text)?;
     if !tag.keyed {
         return Some(Tag { key: None, text });
     }
-    let key = str::from_utf8(tag.key).ok()?;
+    let key = text_of(tag.key)?;
     Some(Tag {
         key: Some(key),
         text,
     })
-}
-
-// Adds tags, in their order.
-fn add_tags<'a>(metric: &mut Record<'a>, tags: &[CTag<'a>]) -> Result<(), Refusal>
-    ensures added { OnOk result (metric.new ≡
-        record metric.old { tags = metric.old.tags ++ map c_tag tags.now }) }
-    ensures room { status result ≢ 3 }
-    ensures text { status result ≡ 5 → All IsTextTag tags.now → ⊥ }
-    ensures invalid { status result ≢ 4 }
-{
-    for tag in tags {
-        let Some(tag) = tag_of(tag) else {
-            return Err(Refusal::NotUtf8);
-        };
-        if metric.add_tag(tag).is_err() {
-            return Err(Refusal::Memory);
-        }
-    }
-    Ok(())
 }
 
 // Sets the container, where there is one.
@@ -119,7 +111,7 @@ fn set_container<'a>(metric: &mut Record<'a>, options: &COptions<'a>) -> Result<
     ensures invalid { status result ≢ 4 }
 {
     if options.contained {
-        let Ok(container) = str::from_utf8(options.container) else {
+        let Some(container) = text_of(options.container) else {
             return Err(Refusal::NotUtf8);
         };
         metric.set_container(container);
@@ -142,44 +134,22 @@ fn set_rate(metric: &mut Record<'_>, options: &COptions<'_>) -> Result<(), Refus
     Ok(())
 }
 
-// Adds the options of a call to its record, which has neither rate nor time yet.
-fn add_options<'a>(metric: &mut Record<'a>, options: &COptions<'a>) -> Result<(), Refusal>
+/// Adds the options of a call but its tags to its record, which has neither rate nor time yet.
+pub fn add_options<'a>(metric: &mut Record<'a>, options: &COptions<'a>) -> Result<(), Refusal>
     requires rate { metric.old.rate ≡ None }
     requires time { metric.old.time ≡ None }
     ensures rate { OnOk result (IsRateOf options.now metric.new.rate) }
     ensures added { OnOk result
-        (metric.new ≡ with_options metric.old options.now metric.new.rate) }
+        (metric.new ≡ with_choices metric.old options.now metric.new.rate) }
     ensures room { status result ≢ 3 }
-    ensures text { status result ≡ 5 → AreTexts options.now → ⊥ }
+    ensures text { status result ≡ 5 →
+        (options.now.contained ≡ true → IsUtf8 options.now.container.now) → ⊥ }
     ensures invalid { status result ≡ 4 → IsNoRate options.now }
 {
-    add_tags(metric, options.tags)?;
     set_container(metric, options)?;
     set_rate(metric, options)?;
     if options.timed {
         metric.set_time(options.time);
     }
     Ok(())
-}
-
-/// The line of a record with the options of a call. The record has neither rate nor time yet.
-pub fn line_with<'a>(
-    alloc: Global,
-    metric: Record<'a>,
-    options: &COptions<'a>,
-) -> Result<String, Refusal>
-    requires rate { metric.rate ≡ None }
-    requires time { metric.time ≡ None }
-    ensures line { IfOk result (λ line. (rate : Option Number) × IsRateOf options.now rate
-        × (string_bytes line ≡ line_of (with_options metric.entry options.now rate))) }
-    ensures room { status result ≢ 3 }
-    ensures text { status result ≡ 5 → AreTexts options.now → ⊥ }
-    ensures invalid { status result ≡ 4 → IsNoRate options.now }
-{
-    let mut metric = metric;
-    add_options(&mut metric, options)?;
-    match metric.line(alloc) {
-        Ok(line) => Ok(line),
-        Err(_) => Err(Refusal::Memory),
-    }
 }

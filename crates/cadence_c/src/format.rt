@@ -1,19 +1,20 @@
 //! Lines without a client.
-ghost use Rattle.std.specs.Prelude.{◌≡◌, ◌⊎◌, None, ◌≤◌, List, IfOk, Some, length, map, string_bytes, take};
+ghost use Rattle.std.specs.Prelude.{◌≡◌, ◌⊎◌, None, ◌≤◌, List, IfOk, Some, length, map, take};
 ghost use Rattle.cadence_value.specs.Number.{Number, natural, whole};
 ghost use Rattle.cadence_value.specs.Values.{numbers_of};
 ghost use Rattle.std.specs.Str.{IsUtf8};
 ghost use Rattle.cadence_c.specs.Status.{status};
 ghost use Rattle.cadence_c.specs.Calls.{AreDecimals, AreNumbersOf, IsLine, IsNoCall, IsText, bare, durations_of};
 
-use crate::call::{CDecimal, COptions, kind_of, line_with};
+use crate::call::{CDecimal, COptions, kind_of, text_of};
+use crate::line::write_with;
 use crate::out::copy_out;
 use crate::status::Refusal;
+use crate::tags::CTags;
 use crate::value::{decimal_value, duration_value, signed_value, unsigned_value};
 use cadence_text::line::Record;
 use cadence_value::value::MetricValue;
 use std::alloc::Global;
-use std::str;
 
 // The line of a call's value.
 fn line_of(
@@ -23,23 +24,25 @@ fn line_of(
     key: &[u8],
     value: MetricValue,
     options: &COptions<'_>,
-) -> Result<String, Refusal>
+) -> Result<Vec<u8>, Refusal>
     ensures line { IfOk result (λ line. IsLine (bare prefix.now) kind key.now (numbers_of value)
-        options.now (string_bytes line)) }
+        options.now line.items) }
     ensures text { status result ≡ 5 → IsUtf8 prefix.now → IsText key.now options.now → ⊥ }
     ensures invalid { status result ≡ 4 → IsNoCall kind options.now }
 {
-    let Ok(prefix) = str::from_utf8(prefix) else {
+    let Some(prefix) = text_of(prefix) else {
         return Err(Refusal::NotUtf8);
     };
-    let Ok(key) = str::from_utf8(key) else {
+    let Some(key) = text_of(key) else {
         return Err(Refusal::NotUtf8);
     };
     let Some(kind) = kind_of(kind) else {
         return Err(Refusal::Invalid);
     };
     let metric = Record::new(alloc, prefix, key, kind, value);
-    line_with(alloc, metric, options)
+    let mut line = Vec::new(alloc);
+    write_with(metric, &CTags::none(), options, &mut line)?;
+    Ok(line)
 }
 
 // Writes the line of a call's value into the first bytes of `out`, and tells its length.
@@ -60,7 +63,7 @@ fn write_line(
     ensures invalid { result ≡ 4 → IsNoCall kind options.now }
 {
     match line_of(alloc, prefix, kind, key, value, options) {
-        Ok(line) => copy_out(line.as_bytes(), out, size),
+        Ok(line) => copy_out(&line, out, size),
         Err(refusal) => refusal.code(),
     }
 }

@@ -5,11 +5,13 @@ mod call;
 mod format;
 mod handle;
 mod laws;
+mod line;
 mod out;
 mod packet;
 mod packing;
 mod parts;
 mod status;
+mod tags;
 mod value;
 
 ghost use Rattle.std.specs.Prelude.{◌≡◌, ◌≢◌, ◌⊎◌, ◌≤◌, ◌<◌, List, None, Some, length, map, take};
@@ -21,12 +23,11 @@ ghost use Rattle.cadence_c.specs.State.{policy_named, Contained, Counted, Defaul
 
 use cadence_flow::queue::QueuePolicy;
 use cadence_value::value::MetricValue;
-use call::{CDecimal, COptions, CTag, tag_of};
+use call::{CDecimal, COptions, CTag, tag_of, text_of};
 use handle::Handle;
 use packing::{CCounts, Packing};
 use status::{CLOSED, OK, Refusal, status_of};
 use std::alloc::Global;
-use std::str;
 use value::{decimal_value, duration_value, signed_value, unsigned_value};
 
 // The policy of a number.
@@ -59,7 +60,7 @@ pub extern "C" fn cadence_new(
     ensures text { result ≡ 5 → IsUtf8 prefix.now → ⊥ }
     ensures invalid { result ≡ 4 → (policy_named policy ≡ None) ⊎ (packets < 2) }
 {
-    let Ok(prefix) = str::from_utf8(prefix) else {
+    let Some(prefix) = text_of(prefix) else {
         return Refusal::NotUtf8.code();
     };
     let Some(policy) = policy_of(policy) else {
@@ -117,7 +118,7 @@ pub extern "C" fn cadence_set_container(alloc: Global, handle: &mut Handle, cont
     ensures full { result ≢ 3 }
     ensures text { result ≡ 5 → IsUtf8 container.now → ⊥ }
 {
-    let Ok(container) = str::from_utf8(container) else {
+    let Some(container) = text_of(container) else {
         return Refusal::NotUtf8.code();
     };
     let Some(mut client) = handle.take(alloc) else {

@@ -1,7 +1,8 @@
 //! What a client of C holds.
 ghost use Rattle.std.specs.Prelude.{◌≡◌};
 
-use crate::call::{COptions, kind_of, line_with};
+use crate::call::{COptions, kind_of, text_of};
+use crate::line::write_with;
 use crate::out::copy_out;
 use crate::packet::Packet;
 use crate::status::Refusal;
@@ -12,7 +13,7 @@ use cadence_schedule::ClientSettings;
 use cadence_value::value::MetricValue;
 use std::alloc::Global;
 use std::marker::Model;
-use std::str;
+use std::mem;
 
 /// A writer that nobody calls: packets leave by the queue.
 #[derive(Drop)]
@@ -42,12 +43,14 @@ pub struct CCounts {
     pub dropped: u64,
 }
 
-/// What a client of C holds: its settings, the lines of the packet to come, and the packets that wait for the host.
+/// What a client of C holds: its settings, the lines of the packet to come, the packets that wait for the host, and
+/// room in which each call makes its line.
 #[derive(Drop)]
 pub struct Packing {
     settings: ClientSettings,
     lines: LineBuffer<NoWriter>,
     queue: QueueCore<Packet>,
+    line: Vec<u8>,
     capacity: usize,
     most: usize,
     policy: QueuePolicy,
@@ -73,7 +76,7 @@ impl Model for Packing {
 }
 
 impl Packing {
-    ghost use Rattle.std.specs.Prelude.{[], take, Some, ◌≡◌, ◌≢◌, ◌<◌, ◌≤◌, ◌%◌, ◌^◌, ◌+◌, ◌++◌, ℕ, List, IfOk, OnOk, OnErr, IfSome, IsTrue, true, false, ◌↔◌, length, string_bytes, option_copied, slice_get};
+    ghost use Rattle.std.specs.Prelude.{[], take, Some, ◌≡◌, ◌≢◌, ◌<◌, ◌≤◌, ◌%◌, ◌^◌, ◌+◌, ◌++◌, ℕ, List, OnOk, OnErr, IfSome, IsTrue, true, false, ◌↔◌, length, option_copied, slice_get};
     ghost use Rattle.cadence_flow.specs.Frame.{held_packet};
     ghost use Rattle.cadence_schedule.specs.Settings.{with_default_tag, with_default_container};
     ghost use Rattle.cadence_value.specs.Values.{numbers_of};
@@ -99,6 +102,7 @@ impl Packing {
             settings,
             lines,
             queue,
+            line: Vec::new(alloc),
             capacity,
             most,
             policy,
@@ -187,32 +191,31 @@ impl Packing {
         Ok(())
     }
 
-    // The line of the metric that a call means.
-    #[tactic(auto, using(crate::proofs::Lines::plain_rate, crate::proofs::Lines::plain_time))]
-    fn line_of(
+    // Writes the line of the metric that a call means.
+    #[tactic(auto, using(crate::proofs::Lines::untagged_rate, crate::proofs::Lines::untagged_time))]
+    fn write_line(
         &self,
         alloc: Global,
         kind: u32,
         key: &[u8],
         value: MetricValue,
         options: &COptions<'_>,
-    ) -> Result<String, Refusal>
-        ensures line { IfOk result (λ line. IsLine self.now.settings kind key.now (numbers_of value)
-            options.now (string_bytes line)) }
+        line: &mut Vec<u8>,
+    ) -> Result<(), Refusal>
+        ensures line { OnOk result (IsLine self.now.settings kind key.now (numbers_of value)
+            options.now line.new.items) }
         ensures room { status result ≢ 3 }
         ensures text { status result ≡ 5 → IsText key.now options.now → ⊥ }
         ensures invalid { status result ≡ 4 → IsNoCall kind options.now }
     {
-        let Ok(key) = str::from_utf8(key) else {
+        let Some(key) = text_of(key) else {
             return Err(Refusal::NotUtf8);
         };
         let Some(kind) = kind_of(kind) else {
             return Err(Refusal::Invalid);
         };
-        let Ok(metric) = self.settings.record(key, kind, value) else {
-            return Err(Refusal::Memory);
-        };
-        line_with(alloc, metric, options)
+        let metric = self.settings.untagged(alloc, key, kind, value);
+        write_with(metric, &self.settings.default_tags(), options, line)
     }
 
     /// Keeps the line of the metric that a call means.
@@ -234,8 +237,13 @@ impl Packing {
         ensures text { status result ≡ 5 → IsText key.now options.now → ⊥ }
         ensures invalid { status result ≡ 4 → IsNoCall kind options.now }
     {
-        let line = self.line_of(alloc, kind, key, value, options)?;
-        self.pack(alloc, line.as_bytes())
+        let mut line = mem::replace(&mut self.line, Vec::new(alloc));
+        let answer = match self.write_line(alloc, kind, key, value, options, &mut line) {
+            Ok(()) => self.pack(alloc, &line),
+            Err(refusal) => Err(refusal),
+        };
+        self.line = line;
+        answer
     }
 
     /// Adds a default tag after the others.

@@ -6,15 +6,7 @@ ghost use Rattle.cadence_text.specs.OneReading.{IsNoSeparator};
 ghost use Rattle.cadence_read.specs.LineTexts.{IsMarked, parts_of_texts, pieces_left, texts_seen};
 ghost use Rattle.cadence_value.specs.Reads.{Reads};
 
-// What stands before the first such byte, and what stands after it.
-pub(crate) fn cut(text: &[u8], mark: u8) -> Option<(&[u8], &[u8])>
-    ensures none { IfNone result (All (λ byte. byte ≢ mark) text.now) }
-    ensures front { IfSome result (λ parts. All (λ byte. byte ≢ mark) parts.0.now) }
-    ensures whole { IfSome result (λ parts. text.now ≡ parts.0.now ++ mark ∷ parts.1.now) }
-{
-    let at = text.iter().position(|byte| *byte == mark)?;
-    Some((&text[..at], &text[at + 1..]))
-}
+use cadence_value::bytes::cut;
 
 // The first piece of a text that is cut at each mark, and what stands after the first mark, where there is one.
 pub(crate) fn cut_piece(text: &[u8], mark: u8) -> (&[u8], Option<&[u8]>)

@@ -12,9 +12,10 @@ ghost use Rattle.cadence_read.specs.Listed.{IsListedTag, IsText};
 ghost use Rattle.cadence_value.specs.Reads.{Reads};
 ghost use Rattle.cadence_read.specs.Reads.{ReadsOrFails};
 
-use crate::cuts::{cut, cut_piece};
+use crate::cuts::cut_piece;
 use crate::fault::ReadFault;
 use cadence_text::line::MetricType;
+use cadence_value::bytes::cut;
 use cadence_value::decimal::{Decimal, read_number, read_whole};
 use std::alloc::Allocator;
 

@@ -71,6 +71,10 @@ metric_of_call s c = record {
   time = last_or chosen_time None c.choices;
 }
 
+-- the metric without its tags
+abbrev pub untagged : Metric → Metric
+untagged m = record m { tags = [] }
+
 -- the metric with what an option chooses
 abbrev pub chosen : Metric → Choice → Metric
 chosen m (tagged t) = record m { tags = m.tags ++ t ∷ [] }

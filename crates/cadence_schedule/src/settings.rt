@@ -1,4 +1,6 @@
 //! What a client adds to each call.
+mod defaults;
+
 ghost use Rattle.std.specs.Prelude.{◌≡◌, ◌∷◌, ◌++◌, ℕ, List, IfOk, IfErr, OnOk, OnErr, string_bytes, map};
 ghost use Rattle.std.specs.Option.{option_copied, option_map};
 ghost use Rattle.cadence_errors.specs.Errors.{out_of_memory};
@@ -6,13 +8,14 @@ ghost use Rattle.cadence_text.specs.Line.{line_of};
 ghost use Rattle.cadence_text.specs.Record.{tag_of};
 ghost use Rattle.cadence_value.specs.Values.{numbers_of};
 ghost use Rattle.cadence_schedule.specs.Settings.{client_prefix, without_dots, settings_of, with_default_tag, with_default_container};
-ghost use Rattle.cadence_schedule.specs.Call.{metric_of_call, plain_call};
+ghost use Rattle.cadence_schedule.specs.Call.{metric_of_call, plain_call, untagged};
 ghost use Rattle.cadence_schedule.specs.SettingsParts.{owned_tag};
 
 use super::call::{Call, choose_all};
 use cadence_errors::MetricResult;
 use cadence_text::line::{MetricType, Record, Tag};
 use cadence_value::value::MetricValue;
+pub use defaults::DefaultTags;
 use std::alloc::{AllocError, Allocator, Global};
 use std::marker::Model;
 
@@ -23,13 +26,20 @@ struct OwnedTag<A: Allocator = Global> {
     text: String<A>,
 }
 
-// A text that may be there, lent.
-fn lend<A: Allocator>(text: &Option<String<A>>) -> Option<&str>
-    ensures { option_copied result ≡ option_map string_bytes text.now }
-{
-    match text {
-        Some(text) => Some(text.as_str()),
-        None => None,
+impl<A: Allocator> OwnedTag<A> {
+    // The tag, lent.
+    #[inline]
+    fn lent(&self) -> Tag<'_>
+        ensures { tag_of result ≡ owned_tag self.now }
+    {
+        let key = match &self.key {
+            Some(key) => Some(key.as_str()),
+            None => None,
+        };
+        Tag {
+            key,
+            text: self.text.as_str(),
+        }
     }
 }
 
@@ -46,10 +56,7 @@ fn lend_tags<'a, A: Allocator>(
 {
     lent.reserve(tags.len().saturating_add(OWN_TAGS))?;
     for tag in tags {
-        lent.push(Tag {
-            key: lend(&tag.key),
-            text: tag.text.as_str(),
-        })?;
+        lent.push(tag.lent())?;
     }
     Ok(())
 }
@@ -170,8 +177,27 @@ impl<A: Allocator + Clone> ClientSettings<A> {
         ensures { Makes (metric_of_call self.now (plain_call kind key.now (numbers_of value)))
             result }
     {
-        let (tags, container) = (self.lent_tags()?, lend(&self.container));
+        let tags = self.lent_tags()?;
+        let container = self.container.as_ref().map(|id| id.as_str());
         Ok(Record::with_defaults(&self.prefix, key, kind, value, tags, container))
+    }
+
+    /// The record of a call without options, with the default container and without the default tags. Takes no memory;
+    /// `alloc` is for tags.
+    #[inline]
+    #[tactic(auto, using(std::proofs::lemmas::Grind::common_steps), unfolding(crate::specs::Call::metric_of_call))]
+    pub fn untagged<'a>(
+        &'a self,
+        alloc: A,
+        key: &'a str,
+        kind: MetricType,
+        value: MetricValue<A>,
+    ) -> Record<'a, A>
+        ensures { result ≡
+            untagged (metric_of_call self.now (plain_call kind key.now (numbers_of value))) }
+    {
+        let container = self.container.as_ref().map(|id| id.as_str());
+        Record::with_defaults(&self.prefix, key, kind, value, Vec::new(alloc), container)
     }
 
     /// The line of a call without options, with these defaults in it. Its one refusal is want of memory, as a small
@@ -186,7 +212,8 @@ impl<A: Allocator + Clone> ClientSettings<A> {
         ensures { IfOk result (λ text. string_bytes text ≡
             line_of (metric_of_call self.now (plain_call kind key.now (numbers_of value)))) }
     {
-        let (tags, container) = (self.lent_tags()?, lend(&self.container));
+        let tags = self.lent_tags()?;
+        let container = self.container.as_ref().map(|id| id.as_str());
         let metric = Record::with_defaults(&self.prefix, key, kind, value, tags, container);
         metric.line(self.tags.allocator().clone()?)
     }
@@ -202,5 +229,15 @@ impl<A: Allocator + Clone> ClientSettings<A> {
         let mut metric = self.record(&call.key, call.value.kind(), value)?;
         choose_all(&mut metric, &call.options)?;
         Ok(metric)
+    }
+}
+
+impl ClientSettings {
+    /// The default tags, where they stand.
+    #[inline]
+    pub fn default_tags(&self) -> DefaultTags<'_>
+        ensures { result ≡ self.now.tags }
+    {
+        DefaultTags::new(&self.tags)
     }
 }

@@ -2,9 +2,11 @@ pub use Rattle.cadence_errors.specs.Errors
 pub mod Metric
 pub mod Laws
 pub mod Line
+pub mod More
 pub mod RecordMetric
 pub mod OneReading
 pub mod Record
 pub mod Sink
 pub mod Owned
 pub mod Said
+pub mod Metrics

@@ -3,12 +3,14 @@
 mod counter;
 mod digits;
 mod filled;
+mod list;
 mod pieces;
 mod record;
 mod sink;
 mod tag;
 mod window;
 
+pub use list::TagList;
 pub use record::{OwnedMetric, Record};
 use std::fmt;
 pub use tag::Tag;

@@ -14,7 +14,7 @@ use Rattle.std.proofs.lemmas.Str.Parse.{digit_at}
 use Rattle.std.proofs.Math.Nat.{pow-succ', mul_left_comm, mul_assoc, add-mul}
 use Rattle.cadence_value.specs.declared.decimal.read.ParseDecimalError.{ParseDecimalError}
 use Rattle.cadence_value.specs.declared.decimal.read.ParseDecimalError.TheVariants.{NotANumber, TooManyPlaces, TooLarge}
-use Rattle.cadence_value.specs.Digits.{size_of, signed_of, digits_number, dotted, digits_text, ArePlain, AreSigned, EndsPlain, ReadsDigits}
+use Rattle.cadence_value.specs.Digits.{size_of, signed_of, digits_number, ArePlain, AreSigned, EndsPlain, ReadsDigits}
 use Rattle.cadence_value.specs.Magnitude.{magnitude_text}
 use Rattle.cadence_value.specs.Number.{Number, number, decimal_text, number_text, is_lowest}
 use Rattle.cadence_value.specs.Said.{Says, ReadsDecimal}
@@ -61,6 +61,14 @@ whole_text (d ∷ ds) (some, digits) first = text_of_digits d ds digits (λ e. o
 
 size_whole : (w : List ℕ) → size_of w [] ≡ digits_value 10 w
 size_whole w = omega arith
+
+-- a dot and the digits, where there are any
+abbrev pub dotted : List ℕ → List ℕ
+dotted [] = []
+dotted (d ∷ ds) = 46 ∷ d ∷ ds
+
+abbrev pub digits_text : Bool → List ℕ → List ℕ → List ℕ
+digits_text below w f = (if below then codes "-" else []) ++ (w ++ dotted f)
 
 unsigned_shown : (w f : List ℕ) → ArePlain w f → magnitude_text (size_of w f) (length f) ≡ w ++ dotted f
 unsigned_shown w [] plain =

@@ -1,5 +1,5 @@
 -- The number of a sign and of the digits on each side of a dot.
-use Rattle.std.specs.Prelude.{◌≡◌, ◌≢◌, ℕ, ◌+◌, ◌-◌, ◌*◌, ◌^◌, ◌<◌, ◌≤◌, Bool, true, if◌then◌else◌, List, [], ◌∷◌, ◌++◌, length, slice_index, ℤ, pos, neg_ℤ, codes, Result, Ok, Err}
+use Rattle.std.specs.Prelude.{◌≡◌, ◌≢◌, ℕ, ◌+◌, ◌-◌, ◌*◌, ◌^◌, ◌<◌, ◌≤◌, Bool, true, if◌then◌else◌, List, length, slice_index, ℤ, pos, neg_ℤ, Result, Ok, Err}
 use Rattle.std.specs.Int.RustNames.{FitsSigned}
 use Rattle.std.specs.Str.Parse.{AllDigits, IsNumeral, digits_value}
 use mir.Syntax.{w128}
@@ -16,14 +16,6 @@ signed_of below n = if below then neg_ℤ (pos n) else pos n
 
 abbrev pub digits_number : Bool → List ℕ → List ℕ → Number
 digits_number below w f = number (signed_of below (size_of w f)) (length f)
-
--- a dot and the digits, where there are any
-abbrev pub dotted : List ℕ → List ℕ
-dotted [] = []
-dotted (d ∷ ds) = 46 ∷ d ∷ ds
-
-abbrev pub digits_text : Bool → List ℕ → List ℕ → List ℕ
-digits_text below w f = (if below then codes "-" else []) ++ (w ++ dotted f)
 
 -- digits before the dot, without a needless zero, and digits after it
 pub record ArePlain (w f : List ℕ) : Type 0 where

@@ -1,6 +1,7 @@
 //! Decimal numbers, and the values of metrics.
 #![tactic(auto)]
 
+pub mod bytes;
 pub mod decimal;
 pub mod laws;
 pub mod value;

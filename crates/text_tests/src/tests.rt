@@ -2,5 +2,6 @@
 
 mod decimal;
 mod errors;
+mod kept;
 mod line;
 mod value;

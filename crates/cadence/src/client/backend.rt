@@ -1,8 +1,8 @@
 //! What metrics are sent by.
 
-use crate::metrics::Metric;
 use crate::sealed::Sealed;
 use cadence_errors::{MetricError, MetricResult};
+use cadence_text::metrics::Metric;
 use std::alloc::Allocator;
 
 /// What metrics are sent by, as in cadence: a way to send a metric of your own through a client. No other crate

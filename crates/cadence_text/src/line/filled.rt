@@ -28,6 +28,28 @@ impl<A: Allocator> Filled<A> {
         Ok(Filled { bytes, end: length })
     }
 
+    /// Room of this length in a kept one, which loses its text. Where it is shorter, it asks once for just the length;
+    /// where that is refused, it comes back.
+    #[inline]
+    pub(crate) fn in_room(room: Vec<u8, A>, length: usize) -> Result<Filled<A>, Vec<u8, A>>
+        ensures empty { IfOk result (λ f. f.bytes.items ≡ []) }
+        ensures end { IfOk result (λ f. f.end ≡ length) }
+    {
+        let mut bytes = room;
+        bytes.clear();
+        if bytes.reserve_exact(length).is_err() {
+            return Err(bytes);
+        }
+        Ok(Filled { bytes, end: length })
+    }
+
+    #[inline]
+    pub(crate) fn into_bytes(self) -> Vec<u8, A>
+        ensures { result.items ≡ self.bytes.items }
+    {
+        self.bytes
+    }
+
     #[inline]
     pub(crate) fn into_text(self) -> String<A>
         ensures { string_bytes result ≡ self.bytes.items }

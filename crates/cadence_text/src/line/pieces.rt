@@ -1,6 +1,8 @@
 //! The pieces of a line, in order.
 ghost use Rattle.std.specs.Prelude.{◌≡◌, ◌++◌, ◌/◌, ◌%◌, ◌^◌, ◌<◌, ◌≤◌, ◌-◌, IfSome, codes, map, replicate};
 ghost use Rattle.std.specs.Option.{option_copied};
+ghost use Rattle.std.specs.Prelude.{All, length};
+ghost use Rattle.cadence_text.specs.More.{has_begun, more_tags};
 ghost use Rattle.cadence_text.specs.Line.{container_field, kind_text, rate_field, tag_text, tags_field, time_field};
 ghost use Rattle.cadence_value.specs.Number.{numbers_text};
 ghost use Rattle.cadence_value.specs.Number.{Number, decimal_text, number_text, places_text, IsDecimal};
@@ -11,6 +13,7 @@ ghost use Rattle.cadence_text.specs.Sink.{Takes};
 
 use crate::line::MetricType;
 use crate::line::digits::{number_len, wide_len};
+use crate::line::list::TagList;
 use crate::line::sink::LineSink;
 use crate::line::tag::Tag;
 use cadence_value::decimal::Decimal;
@@ -52,6 +55,7 @@ fn push_tag<S: LineSink>(line: &mut S, tag: &Tag<'_>)
 pub(crate) fn push_tags<S: LineSink>(line: &mut S, tags: &[Tag<'_>])
     ensures taken { Takes S.ends_as line.old (tags_field (map tag_of tags.now)) line.new }
     ensures sized { AreRecordTags (map tag_of tags.now) }
+    ensures few { length (map tag_of tags.now) < 2 ^ 58 }
 {
     let Some((first, others)) = tags.split_first() else {
         return;
@@ -63,6 +67,27 @@ pub(crate) fn push_tags<S: LineSink>(line: &mut S, tags: &[Tag<'_>])
         line.take_byte(b',');
         push_tag(line, tag);
     }
+}
+
+// Tags after others, where some began, and answers whether some have begun now.
+pub(crate) fn push_more<S: LineSink, T: TagList>(line: &mut S, tags: &T, after: bool) -> bool
+    ensures taken { Takes S.ends_as line.old (more_tags after (T.tags tags.now)) line.new }
+    ensures begun { result ≡ has_begun after (T.tags tags.now) }
+    ensures each { All IsRecordTag (T.tags tags.now) }
+    ensures few { length (T.tags tags.now) < 2 ^ 58 }
+{
+    let mut begun = after;
+    for index in 0..tags.len() {
+        if begun {
+            line.take_byte(b',');
+        } else {
+            line.take_byte(b'|');
+            line.take_byte(b'#');
+            begun = true;
+        }
+        push_tag(line, &tags.get(index));
+    }
+    begun
 }
 
 pub(crate) fn push_container<S: LineSink>(line: &mut S, container: Option<&str>)

@@ -1,4 +1,5 @@
 //! A metric before it is text.
+mod kept;
 mod owned;
 mod same;
 

@@ -11,6 +11,7 @@ ghost use Rattle.cadence_value.specs.Reads.{Reads};
 ghost use Rattle.cadence_value.specs.Said.{ReadsDecimal};
 
 use super::{Decimal, MAX_PLACES, power_of_ten};
+use crate::bytes::cut;
 use cadence_errors::{ErrorKind, MetricError};
 use std::error::Error;
 use std::fmt;
@@ -53,16 +54,6 @@ impl From<ParseDecimalError> for MetricError {
     fn from(error: ParseDecimalError) -> MetricError {
         MetricError::from((ErrorKind::InvalidInput, error.text()))
     }
-}
-
-// What stands before the first such byte, and what stands after it.
-fn cut(text: &[u8], mark: u8) -> Option<(&[u8], &[u8])>
-    ensures none { IfNone result (All (λ byte. byte ≢ mark) text.now) }
-    ensures front { IfSome result (λ parts. All (λ byte. byte ≢ mark) parts.0.now) }
-    ensures whole { IfSome result (λ parts. text.now ≡ parts.0.now ++ mark ∷ parts.1.now) }
-{
-    let at = text.iter().position(|byte| *byte == mark)?;
-    Some((&text[..at], &text[at + 1..]))
 }
 
 // The number that digits say, also with zeros before them.

@@ -1,6 +1,5 @@
 //! A metric that owns its texts.
-ghost use Rattle.std.specs.Prelude.{◌≡◌, IfOk, map, string_bytes};
-ghost use Rattle.std.specs.Option.{option_copied, option_map};
+ghost use Rattle.std.specs.Prelude.{◌≡◌, IfOk, map};
 ghost use Rattle.cadence_text.specs.Owned.{tag_of_owned};
 ghost use Rattle.cadence_text.specs.Record.{tag_of};
 
@@ -9,16 +8,6 @@ use cadence_errors::MetricResult;
 use cadence_value::decimal::Decimal;
 use cadence_value::value::MetricValue;
 use std::alloc::{AllocError, Allocator, Global};
-
-// A text that may be there, lent.
-fn lend<A: Allocator>(text: &Option<String<A>>) -> Option<&str>
-    ensures { option_copied result ≡ option_map string_bytes text.now }
-{
-    match text {
-        Some(text) => Some(text.as_str()),
-        None => None,
-    }
-}
 
 // Lends the tags, in room that is reserved once.
 fn lend_tags<A: Allocator>(
@@ -30,7 +19,7 @@ fn lend_tags<A: Allocator>(
     let mut lent = Vec::with_capacity(alloc, tags.len())?;
     for tag in tags {
         lent.push(Tag {
-            key: lend(&tag.0),
+            key: tag.0.as_ref().map(|key| key.as_str()),
             text: tag.1.as_str(),
         })?;
     }
@@ -78,7 +67,7 @@ impl<A: Allocator + Clone> OwnedMetric<A> {
             kind: self.kind,
             rate: self.rate,
             tags,
-            container: lend(&self.container),
+            container: self.container.as_ref().map(|id| id.as_str()),
             time: self.time,
         })
     }

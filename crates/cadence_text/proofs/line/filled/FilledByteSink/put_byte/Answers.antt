@@ -1,4 +1,4 @@
-use Rattle.std.proofs.Common.{◌∷◌, [], arith, rules}
+use Rattle.std.proofs.Common.{◌∷◌, [], rules}
 use Rattle.cadence_text.proofs.Taken.{utf8_byte, utf8_more}
 use Rattle.cadence_text.proofs.line.filled.FilledByteSink.put_byte.Goals as goal
 

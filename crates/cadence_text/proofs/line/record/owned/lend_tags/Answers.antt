@@ -7,7 +7,7 @@ use Rattle.cadence_text.proofs.line.record.owned.lend_tags.Goals as goal
 
 pub loop-tag-preserved : goal.loop-tag-preserved
 loop-tag-preserved g c =
-    let tag : Tag = record { key = c.lend.result; text = c.as_str.result } in
+    let tag : Tag = record { key = c.map.result; text = c.as_str.result } in
     let more : c.push.new.self.items ≡ c.loop-tag.lent.items ++ tag ∷ [] = search rules in
     let one : tag_of tag ≡ tag_of_owned c.tag-item.result = search rules in
     ap (map tag_of) more ∙ mapped_more tag_of tag_of_owned c.loop-tag.lent.items tag c.args.tags.now c.loop-tag.tag-index c.tag-item.result c.loop-tag-test.true c.tag-item.is c.loop-tag.invariant one

@@ -1,15 +1,15 @@
 //! The metrics of each kind, as the text of one line.
 ghost use Rattle.std.specs.Prelude.{◌≡◌, ◌↔◌, ◌++◌, ℕ, List, IsTrue};
 ghost use Rattle.cadence_errors.specs.Errors.{Makes};
-ghost use Rattle.cadence.specs.Metrics.{MakesLine};
+ghost use Rattle.cadence_text.specs.Metrics.{MakesLine};
 ghost use Rattle.cadence_text.specs.Line.{line_of};
 ghost use Rattle.cadence_text.specs.Metric.{plain_metric};
 ghost use Rattle.cadence_value.specs.Number.{Number, natural, whole};
 ghost use Rattle.cadence_value.specs.Values.{numbers_of};
 ghost use Rattle.cadence_text.specs.declared.line.MetricType.TheVariants as kind;
 
+use crate::line::{MetricType, Record};
 use cadence_errors::MetricResult;
-use cadence_text::line::{MetricType, Record};
 use cadence_value::decimal::Decimal;
 use cadence_value::value::MetricValue;
 use std::alloc::{Allocator, Global};
@@ -56,7 +56,7 @@ pub trait Kind {
 /// The kinds of metrics, as parameters of a `MetricText`. No value is of these types.
 pub mod kinds {
     use super::Kind;
-    use cadence_text::line::MetricType;
+    use crate::line::MetricType;
 
     #[derive(Drop)]
     pub enum Counter {}
