@@ -23,7 +23,7 @@ pub enum Failure {
     /// The input can't be read.
     #[error("input: cannot read")]
     Input,
-    /// The writer of packets refused.
+    /// The writer of packets refused, and not for want of memory.
     #[error("cannot send: {0}")]
     Writer(SinkError),
     /// A growth was refused.
@@ -39,7 +39,10 @@ impl From<AllocError> for Failure {
 
 impl From<SinkError> for Failure {
     fn from(error: SinkError) -> Failure {
-        Failure::Writer(error)
+        match error {
+            SinkError::OutOfMemory => Failure::OutOfMemory,
+            refusal => Failure::Writer(refusal),
+        }
     }
 }
 

@@ -5,4 +5,3 @@ mod metrics;
 mod own;
 mod plan;
 mod run;
-mod script;

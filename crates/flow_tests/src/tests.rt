@@ -2,5 +2,6 @@
 
 mod audited;
 mod io;
+mod ledgers;
 mod queue;
 mod stats;

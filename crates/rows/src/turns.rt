@@ -219,6 +219,11 @@ fn fail_reads(
     Ok(())
 }
 
+// Whether these are the first bytes of a text, as many as passed.
+fn is_start(bytes: &[u8], text: &[u8], passed: u64) -> bool {
+    text.starts_with(bytes) && bytes.len() as u64 == passed.min(text.len() as u64)
+}
+
 /// Lets each write of one byte, and the flush, fail in turn.
 fn fail_writes(
     alloc: Global,
@@ -233,9 +238,9 @@ fn fail_writes(
         let status = run_script(alloc, &mut input, &mut output, &mut errors);
         let (printed, told) = (output.get_ref().taken(), errors.get_ref().taken());
         if status == plain.status && printed == plain.output.as_slice() {
-            ends.note(plain.errors.starts_with(told), End::Same);
+            ends.note(is_start(told, &plain.errors, passed), End::Same);
         } else {
-            let is_part = plain.output.starts_with(printed) && told.is_empty();
+            let is_part = is_start(printed, &plain.output, passed) && told.is_empty();
             ends.note(status == 1 && is_part, End::Unwritten);
         }
         if passed > (plain.output.len().max(plain.errors.len())) as u64 {

@@ -4,11 +4,11 @@ ghost use Rattle.std.specs.Prelude.{◌≡◌, IfOk};
 use super::own::Event;
 use cadence::decimal::Decimal;
 use cadence::types::{
-    Counter, Distribution, Gauge, Histogram, Meter, Metric, MetricError, MetricText, Set,
-    SinkError, Timer,
+    Counter, Distribution, Gauge, Histogram, Meter, Metric, MetricError, MetricResult, MetricText,
+    Set, SinkError, Timer,
 };
-use refusing::each_refused;
-use std::alloc::{AllocError, Allocator};
+use refusing::{Refusing, each_refused};
+use std::alloc::{AllocError, Allocator, Global};
 use std::hash::{DefaultHasher, Hash, Hasher};
 use std::test::Fail;
 
@@ -48,35 +48,6 @@ fn hash_of<M: Hash>(metric: &M) -> u64 {
 }
 
 #[test]
-fn each_kind_has_its_line(rt: HostRuntime) -> Result<(), Fail> {
-    let (alloc, half) = (rt.alloc(), Decimal::new(5, 1)?);
-    for (line, wanted) in [
-        (text_of(&Counter::new(alloc, "a..", "k", 1)?), "a..k:1|c"),
-        (text_of(&Timer::new(alloc, "p.", "k", 34)?), "p.k:34|ms"),
-        (text_of(&Gauge::new(alloc, "p.", "k", 8)?), "p.k:8|g"),
-        (text_of(&Meter::new(alloc, "p.", "k", 8)?), "p.k:8|m"),
-        (text_of(&Histogram::new(alloc, "p.", "k", 8)?), "p.k:8|h"),
-        (text_of(&Distribution::new(alloc, "p.", "k", 8)?), "p.k:8|d"),
-        (text_of(&Set::new(alloc, "p.", "k", -8)?), "p.k:-8|s"),
-        (
-            text_of(&Gauge::new_decimal(alloc, "", "k", half)?),
-            "k:0.5|g",
-        ),
-        (
-            text_of(&Histogram::new_decimal(alloc, "", "k", half)?),
-            "k:0.5|h",
-        ),
-        (
-            text_of(&Distribution::new_decimal(alloc, "", "k", half)?),
-            "k:0.5|d",
-        ),
-    ] {
-        assert_eq!(rt; line, wanted);
-    }
-    Ok(())
-}
-
-#[test]
 fn equal_texts_are_equal_metrics(rt: HostRuntime) -> Result<(), Fail> {
     let made = Counter::new(rt.alloc(), "", "k", 1)?;
     let kept = Counter::from(String::from_str(rt.alloc(), "k:1|c")?);
@@ -94,15 +65,41 @@ fn callers_have_metrics_of_their_own(rt: HostRuntime) -> Result<(), Fail> {
     Ok(())
 }
 
+// Whether the line was made, and not refused for want of memory.
+fn is_line<K>(
+    made: MetricResult<MetricText<K, Refusing<Global>>>,
+    line: &str,
+) -> Result<bool, Fail> {
+    match made {
+        Ok(metric) if text_of(&metric) == line => Ok(true),
+        Ok(_) => Err(Fail::new("another line")),
+        Err(MetricError::Sink(SinkError::OutOfMemory)) => Ok(false),
+        Err(_) => Err(Fail::new("another error")),
+    }
+}
+
+// Makes one of the ten lines.
+fn is_made(heap: Refusing<Global>, number: u8) -> Result<bool, Fail> {
+    let half = Decimal::new(5, 1)?;
+    match number {
+        0 => is_line(Counter::new(heap, "a..", "k", 1), "a..k:1|c"),
+        1 => is_line(Timer::new(heap, "p.", "k", 34), "p.k:34|ms"),
+        2 => is_line(Gauge::new(heap, "p.", "k", 8), "p.k:8|g"),
+        3 => is_line(Meter::new(heap, "p.", "k", 8), "p.k:8|m"),
+        4 => is_line(Histogram::new(heap, "p.", "k", 8), "p.k:8|h"),
+        5 => is_line(Distribution::new(heap, "p.", "k", 8), "p.k:8|d"),
+        6 => is_line(Set::new(heap, "p.", "k", -8), "p.k:-8|s"),
+        7 => is_line(Gauge::new_decimal(heap, "", "k", half), "k:0.5|g"),
+        8 => is_line(Histogram::new_decimal(heap, "", "k", half), "k:0.5|h"),
+        _ => is_line(Distribution::new_decimal(heap, "", "k", half), "k:0.5|d"),
+    }
+}
+
 #[test]
-fn a_line_takes_memory_once(rt: HostRuntime) -> Result<(), Fail> {
-    let granted: Result<Option<u64>, Fail> = each_refused(rt.alloc(), |heap| {
-        match Counter::new(heap, "p.", "k", 1) {
-            Ok(counter) => Ok(text_of(&counter) == "p.k:1|c"),
-            Err(MetricError::Sink(SinkError::OutOfMemory)) => Ok(false),
-            Err(_) => Err(Fail::new("another error")),
-        }
-    });
-    assert_eq!(rt; granted?, Some(1));
+fn each_kind_has_its_line_and_takes_memory_once(rt: HostRuntime) -> Result<(), Fail> {
+    for number in 0..10 {
+        let granted = each_refused(rt.alloc(), |heap| is_made(heap, number))?;
+        assert_eq!(rt; granted, Some(1));
+    }
     Ok(())
 }

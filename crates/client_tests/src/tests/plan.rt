@@ -1,22 +1,30 @@
-//! Want of memory for a plan. Worked plans are rows of the program `rows`.
+//! Want of memory for a plan. More worked plans are rows of the program `rows`.
 use cadence::schedule::plan_packets;
 use cadence::types::{MetricError, SinkError};
 use refusing::each_refused;
 use std::test::Fail;
 
+/// The lengths of lines, marks before which a packet ends, and how many lines each packet of at most 10 bytes has.
+const PLANS: [(&[usize], &[usize], &[usize]); 4] = [
+    (&[4, 4, 4, 9, 1], &[], &[2, 1, 2]),
+    (&[4, 4, 4, 9, 1], &[1], &[1, 2, 2]),
+    (&[11, 11], &[0, 2, 7], &[1, 1]),
+    (&[], &[], &[]),
+];
+
 #[test]
 fn each_refused_request_is_told(rt: HostRuntime) -> Result<(), Fail> {
-    let granted: Result<Option<u64>, Fail> = each_refused(
-        rt.alloc(),
-        |heap| match plan_packets(heap, &[4, 4, 4, 9, 1], 10, &[]) {
-            Ok(plan) => {
-                assert_eq!(rt; plan.as_slice(), [2, 1, 2].as_slice());
-                Ok(true)
-            }
-            Err(MetricError::Sink(SinkError::OutOfMemory)) => Ok(false),
-            Err(_) => Err(Fail::new("another error")),
-        },
-    );
-    assert!(rt; granted?.is_some_and(|granted| granted > 0));
+    for (sizes, marks, wanted) in PLANS {
+        let granted: Result<Option<u64>, Fail> = each_refused(
+            rt.alloc(),
+            |heap| match plan_packets(heap, sizes, 10, marks) {
+                Ok(plan) if plan.as_slice() == wanted => Ok(true),
+                Ok(_) => Err(Fail::new("another plan")),
+                Err(MetricError::Sink(SinkError::OutOfMemory)) => Ok(false),
+                Err(_) => Err(Fail::new("another error")),
+            },
+        );
+        assert!(rt; granted?.is_some_and(|granted| granted > 0 || wanted.is_empty()));
+    }
     Ok(())
 }

@@ -3,6 +3,7 @@ use cadence_flow::queue::{QueueCore, QueuePolicy, Taken, WorkerEnd};
 use cadence_ledger::SharedQueue;
 use refusing::Refusing;
 use std::alloc::{AllocError, Global};
+use std::sync::atomic::{AtomicBool, Ordering};
 use std::test::Fail;
 use std::thread;
 use std::time::{Clock, Duration};
@@ -222,8 +223,20 @@ fn taker_outlives_the_handles(rt: HostRuntime) -> Result<(), Fail> {
 
 #[test]
 fn end_mark_is_waited_for(rt: HostRuntime) -> Result<(), Fail> {
-    let end = WorkerEnd::new();
-    thread::join(&rt, || end.wait(&rt), || end.mark(&rt));
+    let (end, is_marked) = (WorkerEnd::new(), AtomicBool::new(false));
+    let (was_marked, _) = thread::join(
+        &rt,
+        || {
+            end.wait(&rt);
+            is_marked.load(Ordering::SeqCst)
+        },
+        || {
+            let_wait(&rt);
+            is_marked.store(true, Ordering::SeqCst);
+            end.mark(&rt);
+        },
+    );
+    assert!(rt; was_marked);
     end.wait(&rt);
     Ok(())
 }

@@ -120,6 +120,8 @@ fn these_are_refused(rt: HostRuntime) -> Result<(), Fail> {
     }
     let told = format!(in alloc; "{}", ReadFault::NotMetrics)?;
     assert_eq!(rt; told.as_str(), "not a packet of metrics");
+    let told = format!(in alloc; "{}", ReadFault::OutOfMemory)?;
+    assert_eq!(rt; told.as_str(), "out of memory");
     Ok(())
 }
 

@@ -10,20 +10,25 @@ use std::test::Fail;
 
 const TEXT: &[u8] = b"c a 1 k:v\nms b 12,250\ng c 0.5\n";
 
-const LINES: &[u8] = b"a:1|c|#k:v\nb:12:250|ms\nc:0.5|g\n";
+const LINES: &[u8] = b"p.a:1|c|#x,k:v|c:id\np.b:12:250|ms|#x|c:id\np.c:0.5|g|#x|c:id\n";
+
+const TWO_LINES: &[u8] = b"p.a:1|c|#x,k:v|c:id\np.b:12:250|ms|#x|c:id\n";
+
+/// Options that take memory, and what they add.
+const OPTIONS: &[&str] = &["--prefix", "p", "--tag", "x", "--container", "id"];
 
 /// The words of the first line, and what is sent and printed for them.
 const WORDS: &[&str] = &["c", "a", "1", "k:v"];
 
-const LINE: &[u8] = b"a:1|c|#k:v\n";
+const LINE: &[u8] = b"p.a:1|c|#x,k:v|c:id\n";
 
-const SHOWN: &[u8] = b"packet 11 a:1|c|#k:v\\n\n";
+const SHOWN: &[u8] = b"packet 20 p.a:1|c|#x,k:v|c:id\\n\n";
 
 /// No words, so that the text is run.
 const NONE: &[&str] = &[];
 
 /// A log that takes a byte of each packet, as often as `LINES` has bytes.
-const SHORT: [Answer; 31] = [Answer::Short(1); 31];
+const SHORT: [Answer; 60] = [Answer::Short(1); 60];
 
 /// Words, or none and a text, and answers of the log; the status, and what is sent.
 const FAULTY: [(&[&str], &[u8], &[Answer], u8, &[u8]); 4] = [
@@ -39,19 +44,25 @@ const MOST_REQUESTS: u64 = 1000;
 /// More writes of one byte than a run makes.
 const MOST_WRITES: u64 = 200;
 
-// Runs the words, or where there are none the input, over a writer, and answers it with the status. It is None where
-// memory was refused before.
+// A status that no run has: what was accepted is held at its end, though the writer refused nothing.
+const LOST: u8 = 9;
+
+// A status that no run has: memory was refused before it.
+const BEFORE: u8 = 4;
+
+// Runs the words, or where there are none the input, over a writer that takes a line in a packet. It answers the
+// status, whether nothing is held at the end, and the writer, and None where memory was refused before.
 fn drive<A: Allocator + Clone, T: PacketWriter, I: Read, E: Write>(
     alloc: A,
     writer: T,
     words: &[&str],
     input: &mut I,
     errors: &mut E,
-) -> Option<(u8, T)> {
-    let Ok(mut lines) = LineBuffer::new(alloc.clone().ok()?, writer, 16) else {
+) -> Option<(u8, bool, T)> {
+    let Ok(mut lines) = LineBuffer::new(alloc.clone().ok()?, writer, 24) else {
         return None;
     };
-    let Ok(Request::Send(options, _)) = read_options(alloc.clone().ok()?, &[]) else {
+    let Ok(Request::Send(options, _)) = read_options(alloc.clone().ok()?, OPTIONS) else {
         return None;
     };
     let defaults = options.defaults(alloc.clone().ok()?).ok()?;
@@ -60,8 +71,8 @@ fn drive<A: Allocator + Clone, T: PacketWriter, I: Read, E: Write>(
     } else {
         run_words(&alloc, &defaults, &mut lines, words, errors)
     };
-    let (writer, _held) = lines.into_parts();
-    Some((status, writer))
+    let (writer, held) = lines.into_parts();
+    Some((status, held.is_empty(), writer))
 }
 
 // The same over a log with these answers. It answers the status and the packets, joined.
@@ -75,13 +86,14 @@ fn run<A: Allocator + Clone, I: Read, E: Write>(
 ) -> Result<(u8, Vec<u8>), Fail> {
     let log = PacketLog::new(plain, Vec::from_slice(plain, answers)?);
     let mut all = Vec::new(plain);
-    let Some((status, log)) = drive(alloc, log, words, input, errors) else {
-        return Ok((3, all));
+    let Some((status, is_sent, log)) = drive(alloc, log, words, input, errors) else {
+        return Ok((BEFORE, all));
     };
     for packet in log.packets() {
         all.extend_from_slice(packet)?;
     }
-    Ok((status, all))
+    let is_whole = is_sent || status == 1;
+    Ok((if is_whole { status } else { LOST }, all))
 }
 
 // Runs the words over a writer that prints their packet, and answers the status. It is None as in `drive`.
@@ -92,8 +104,18 @@ fn print<A: Allocator + Clone, O: Write + Drop>(
 ) -> Option<u8> {
     let printed = Printed::new(alloc.clone().ok()?, output).ok()?;
     let mut none = ByteReader::new(b"");
-    let (status, _printed) = drive(alloc, printed, WORDS, &mut none, errors)?;
+    let (status, _is_sent, _printed) = drive(alloc, printed, WORDS, &mut none, errors)?;
     Some(status)
+}
+
+// The first of the lines.
+fn first_lines(count: usize) -> &'static [u8] {
+    match count {
+        0 => b"",
+        1 => LINE,
+        2 => TWO_LINES,
+        _ => LINES,
+    }
 }
 
 #[test]
@@ -102,7 +124,9 @@ fn each_read_fails(rt: HostRuntime) -> Result<(), Fail> {
         let mut input = FailingReader::after(ByteReader::new(TEXT), passed);
         let mut errors = Vec::new(rt.alloc());
         let (status, sent) = run(rt.alloc(), rt.alloc(), &[], NONE, &mut input, &mut errors)?;
-        assert!(rt; LINES.starts_with(&sent));
+        let taken = TEXT.iter().take(passed as usize);
+        let ended = taken.filter(|byte| **byte == b'\n').count();
+        assert!(rt; sent.as_slice() == first_lines(ended));
         if status == 0 {
             assert_eq!(rt; passed, 31, "each byte, and the end");
             assert!(rt; sent.as_slice() == LINES && errors.is_empty());
@@ -117,11 +141,12 @@ fn each_read_fails(rt: HostRuntime) -> Result<(), Fail> {
 #[test]
 fn each_packet_is_refused(rt: HostRuntime) -> Result<(), Fail> {
     let refused = [Answer::Whole, Answer::Whole, Answer::Refuse];
-    for (answers, words) in [
-        (refused.as_slice(), NONE),
-        (&refused[1..], NONE),
-        (&refused[2..], NONE),
-        (&refused[2..], WORDS),
+    // what is held when a packet is refused is sent at the end
+    for (answers, words, lines) in [
+        (refused.as_slice(), NONE, TWO_LINES),
+        (&refused[1..], NONE, TWO_LINES),
+        (&refused[2..], NONE, LINE),
+        (&refused[2..], WORDS, b"".as_slice()),
     ] {
         let (mut input, mut errors) = (ByteReader::new(TEXT), Vec::new(rt.alloc()));
         let (status, sent) = run(
@@ -132,7 +157,7 @@ fn each_packet_is_refused(rt: HostRuntime) -> Result<(), Fail> {
             &mut input,
             &mut errors,
         )?;
-        assert!(rt; status == 1 && LINES.starts_with(&sent));
+        assert!(rt; status == 1 && sent.as_slice() == lines);
         assert!(rt; errors.as_slice() == b"statsd_send: cannot send: packet refused\n".as_slice());
     }
     Ok(())
@@ -166,8 +191,14 @@ fn each_request_is_refused(rt: HostRuntime) -> Result<(), Fail> {
                 let (mut input, mut errors) = (ByteReader::new(TEXT), Vec::new(rt.alloc()));
                 let left = heap.clone()?;
                 let (status, sent) = run(heap, rt.alloc(), &[], words, &mut input, &mut errors)?;
-                assert!(rt; lines.starts_with(&sent));
-                assert!(rt; status == 3 || (status == 0 && sent.as_slice() == lines));
+                assert!(rt; (0..4).any(|count| first_lines(count) == sent.as_slice()));
+                let told = match status {
+                    0 if sent.as_slice() == lines => b"".as_slice(),
+                    3 => b"statsd_send: out of memory\n",
+                    BEFORE => b"",
+                    _ => return Err(Fail::new("another end")),
+                };
+                assert!(rt; errors.as_slice() == told);
                 Ok(left.left() <= MOST_REQUESTS)
             },
         );
@@ -200,10 +231,10 @@ fn each_request_of_a_printed_packet_is_refused(rt: HostRuntime) -> Result<(), Fa
         let (mut output, mut errors) = (Vec::new(rt.alloc()), Vec::new(rt.alloc()));
         let left = heap.clone()?;
         let status = print(heap, &mut output, &mut errors);
-        let wanted = if status == Some(0) {
-            SHOWN
-        } else {
-            b"".as_slice()
+        let wanted = match status {
+            Some(0) => SHOWN,
+            Some(3) | None => b"".as_slice(),
+            Some(_) => return Err(Fail::new("another status")),
         };
         assert!(rt; output.as_slice() == wanted);
         Ok(status == Some(0) && left.left() <= MOST_REQUESTS)

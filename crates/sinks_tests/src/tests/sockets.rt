@@ -1,4 +1,5 @@
-//! Sockets on the loopback address.
+//! Sockets on the loopback address, and what two threads sent.
+use std::alloc::Global;
 use std::io;
 use std::net::{Ipv4Addr, Net, SocketAddr, UdpSocket};
 use std::time::Duration;
@@ -15,4 +16,18 @@ pub fn got(server: &UdpSocket, text: &str) -> io::Result<bool> {
     let mut bytes = [0u8; 64];
     let (count, _from) = server.recv_from(&mut bytes)?;
     Ok(&bytes[..count] == text.as_bytes())
+}
+
+/// The next datagram, up to 64 bytes of it.
+pub fn received(server: &UdpSocket, alloc: Global) -> io::Result<Vec<u8>> {
+    let mut bytes = [0u8; 64];
+    let (count, _from) = server.recv_from(&mut bytes)?;
+    let datagram = Vec::from_slice(alloc, &bytes[..count])?;
+    Ok(datagram)
+}
+
+/// Whether these are the lines of two threads, in either order.
+pub fn are_both(one: &[u8], other: &[u8]) -> bool {
+    let (first, second) = (b"a:1|c".as_slice(), b"bb:1|c".as_slice());
+    (one == first && other == second) || (one == second && other == first)
 }

@@ -1,4 +1,4 @@
-use super::sockets::{got, on_loopback};
+use super::sockets::{are_both, got, on_loopback, received};
 use cadence_errors::{MetricError, SinkError};
 use cadence_sinks::{
     BufferedUdpMetricSink, BufferedUdpMetricSinkBuilder, MetricSink, SinkErrorHandler, Target,
@@ -51,6 +51,11 @@ fn threads_share_a_sink(rt: HostRuntime) -> Result<(), Fail> {
         || sink.emit("bb:1|c").is_ok(),
     );
     assert!(rt; first && second);
+    let (one, other) = (
+        received(&server, rt.alloc())?,
+        received(&server, rt.alloc())?,
+    );
+    assert!(rt; are_both(&one, &other));
     assert_eq!(rt; sink.stats().bytes_sent, 11);
     Ok(())
 }

@@ -95,12 +95,12 @@ fn a_refused_line_is_counted(rt: HostRuntime) -> Result<(), Fail> {
 #[test]
 fn a_full_buffer_is_a_packet(rt: HostRuntime) -> Result<(), Fail> {
     let (packets, socket) = make_socket(rt.clone()?, rt.alloc(), 0)?;
-    let sink = BufferedUnixMetricSink::with_capacity(rt.clone()?, rt.alloc(), "", socket, 16)?;
+    let sink = BufferedUnixMetricSink::with_capacity(rt.clone()?, rt.alloc(), "/s ", socket, 16)?;
     assert!(rt; matches!(sink.emit("foo:54|c"), Ok(8)));
     assert!(rt; matches!(sink.emit("foo:67|c"), Ok(8)));
     assert!(rt; sink.flush().is_ok());
-    assert!(rt; got(&rt, &packets, 0, "foo:54|c\n"));
-    assert!(rt; got(&rt, &packets, 1, "foo:67|c\n"));
+    assert!(rt; got(&rt, &packets, 0, "/s foo:54|c\n"));
+    assert!(rt; got(&rt, &packets, 1, "/s foo:67|c\n"));
     assert_eq!(rt; counts(sink.stats()), (18, 2, 0, 0));
     Ok(())
 }
@@ -123,18 +123,19 @@ fn a_packet_refused_twice_stays_held(rt: HostRuntime) -> Result<(), Fail> {
 #[test]
 fn a_buffer_has_512_bytes(rt: HostRuntime) -> Result<(), Fail> {
     let (packets, socket) = make_socket(rt.clone()?, rt.alloc(), 0)?;
-    let sink = BufferedUnixMetricSink::from(rt.clone()?, rt.alloc(), "", socket)?;
+    let sink = BufferedUnixMetricSink::from(rt.clone()?, rt.alloc(), "/run/s ", socket)?;
     let text = String::from_utf8(vec![in rt.alloc(); b'a'; 511]?)
         .ok()
         .ok_or("text")?;
     assert!(rt; matches!(sink.emit(text.as_str()), Ok(511)));
     assert_eq!(rt; packets.lock(&rt).len(), 0);
     assert!(rt; sink.flush().is_ok());
-    let held = format!(in rt.alloc(); "{text}\n")?;
+    let held = format!(in rt.alloc(); "/run/s {text}\n")?;
     assert!(rt; got(&rt, &packets, 0, held.as_str()));
     let oversize = format!(in rt.alloc(); "{text}a")?;
     assert!(rt; matches!(sink.emit(oversize.as_str()), Ok(512)));
-    assert!(rt; got(&rt, &packets, 1, oversize.as_str()));
+    let alone = format!(in rt.alloc(); "/run/s {oversize}")?;
+    assert!(rt; got(&rt, &packets, 1, alone.as_str()));
     Ok(())
 }
 
