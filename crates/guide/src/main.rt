@@ -29,6 +29,8 @@ fn main(rt: HostRuntime) -> MetricResult<()> {
         capacities::packets_of(alloc, &[300, 300, 100], 512)?
     )?;
     ported::simple(&rt, alloc)?;
+    ported::bounded(&rt, alloc)?;
+    ported::re_resolving(&rt, alloc, Arc::new(alloc, AtomicU64::new(0))?)?;
     ported::queued(&rt, alloc, Arc::new(alloc, AtomicU64::new(0))?)?;
     println!(rt; "{} dropped", sinks::all(&rt, alloc)?)?;
 
