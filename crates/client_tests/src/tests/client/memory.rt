@@ -37,19 +37,116 @@ fn a_client_is_made_or_refused(rt: HostRuntime) -> Result<(), Fail> {
     Ok(())
 }
 
-#[test]
-fn a_call_takes_its_tag_list_and_its_line(rt: HostRuntime) -> Result<(), Fail> {
-    let granted: Result<Option<u64>, Fail> = each_refused(rt.alloc(), |heap| {
-        let Ok(client) = made(&heap) else {
-            return Ok(false);
-        };
-        let answer = client.incr_with_tags("k").with_tag("d", "e").try_send();
-        if let Ok(counter) = &answer {
-            assert_eq!(rt; counter.as_metric_str(), "p.k:1|c|#a:b,c,d:e|c:id");
+// The client of these turns.
+type Client = StatsdClient<Refusing<Global>, NopMetricSink>;
+
+// Whether the call answered just this line, and was not refused for want of memory.
+fn is_line<M: Metric + Drop>(sent: MetricResult<M>, start: &str, end: &str) -> Result<bool, Fail> {
+    if let Ok(metric) = &sent {
+        if metric.as_metric_str().strip_prefix(start) != Some(end) {
+            return Err(Fail::new("another line"));
         }
-        is_made(answer)
-    });
-    assert_eq!(rt; granted?, Some(8));
+    }
+    is_made(sent)
+}
+
+// A plain call of one of the seven kinds, or an `incr`.
+fn is_sent(client: &Client, number: u8) -> Result<bool, Fail> {
+    let end = "|#a:b,c|c:id";
+    match number {
+        0 => is_line(client.count("k", 3i64), "p.k:3|c", end),
+        1 => is_line(client.time("k", 34u64), "p.k:34|ms", end),
+        2 => is_line(client.gauge("k", 8u64), "p.k:8|g", end),
+        3 => is_line(client.meter("k", 8u64), "p.k:8|m", end),
+        4 => is_line(client.histogram("k", 8u64), "p.k:8|h", end),
+        5 => is_line(client.distribution("k", 8u64), "p.k:8|d", end),
+        6 => is_line(client.set("k", -8i64), "p.k:-8|s", end),
+        _ => is_line(client.incr("k"), "p.k:1|c", end),
+    }
+}
+
+// Such a call with a tag of its own.
+fn is_sent_with_tag(client: &Client, number: u8) -> Result<bool, Fail> {
+    let (key, text, end) = ("d", "e", "|#a:b,c,d:e|c:id");
+    match number {
+        0 => is_line(
+            client
+                .count_with_tags("k", 3i64)
+                .with_tag(key, text)
+                .try_send(),
+            "p.k:3|c",
+            end,
+        ),
+        1 => is_line(
+            client
+                .time_with_tags("k", 34u64)
+                .with_tag(key, text)
+                .try_send(),
+            "p.k:34|ms",
+            end,
+        ),
+        2 => is_line(
+            client
+                .gauge_with_tags("k", 8u64)
+                .with_tag(key, text)
+                .try_send(),
+            "p.k:8|g",
+            end,
+        ),
+        3 => is_line(
+            client
+                .meter_with_tags("k", 8u64)
+                .with_tag(key, text)
+                .try_send(),
+            "p.k:8|m",
+            end,
+        ),
+        4 => is_line(
+            client
+                .histogram_with_tags("k", 8u64)
+                .with_tag(key, text)
+                .try_send(),
+            "p.k:8|h",
+            end,
+        ),
+        5 => is_line(
+            client
+                .distribution_with_tags("k", 8u64)
+                .with_tag(key, text)
+                .try_send(),
+            "p.k:8|d",
+            end,
+        ),
+        6 => is_line(
+            client
+                .set_with_tags("k", -8i64)
+                .with_tag(key, text)
+                .try_send(),
+            "p.k:-8|s",
+            end,
+        ),
+        _ => is_line(
+            client.incr_with_tags("k").with_tag(key, text).try_send(),
+            "p.k:1|c",
+            end,
+        ),
+    }
+}
+
+#[test]
+fn a_call_of_each_kind_is_sent_or_refused(rt: HostRuntime) -> Result<(), Fail> {
+    for number in 0..16 {
+        let granted = each_refused(rt.alloc(), |heap| match made(&heap) {
+            Ok(client) if number < 8 => is_sent(&client, number),
+            Ok(client) => is_sent_with_tag(&client, number - 8),
+            Err(_) => Ok(false),
+        })?;
+        assert_eq!(rt;
+            granted,
+            Some(8),
+            "six for the client, the list of tags and the line"
+        );
+    }
     Ok(())
 }
 
