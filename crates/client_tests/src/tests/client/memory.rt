@@ -1,6 +1,8 @@
 //! Each request for memory refused in turn.
 
-use cadence::client::{BoxedErrorHandler, BoxedHandler, ClientSettings, StatsdClient};
+use cadence::client::{
+    BoxedErrorHandler, BoxedHandler, ClientSettings, MetricBuilder, StatsdClient,
+};
 use cadence::prelude::*;
 use cadence::schedule::{Call, CallOption, CallValue};
 use cadence::sinks::{MetricSink, NopMetricSink};
@@ -65,71 +67,29 @@ fn is_sent(client: &Client, number: u8) -> Result<bool, Fail> {
     }
 }
 
+// The same of a call that gets a tag of its own.
+fn is_tagged<M: Metric + From<String<Refusing<Global>>> + Drop>(
+    call: MetricBuilder<'_, '_, M, Client>,
+    start: &str,
+) -> Result<bool, Fail> {
+    is_line(
+        call.with_tag("d", "e").try_send(),
+        start,
+        "|#a:b,c,d:e|c:id",
+    )
+}
+
 // Such a call with a tag of its own.
 fn is_sent_with_tag(client: &Client, number: u8) -> Result<bool, Fail> {
-    let (key, text, end) = ("d", "e", "|#a:b,c,d:e|c:id");
     match number {
-        0 => is_line(
-            client
-                .count_with_tags("k", 3i64)
-                .with_tag(key, text)
-                .try_send(),
-            "p.k:3|c",
-            end,
-        ),
-        1 => is_line(
-            client
-                .time_with_tags("k", 34u64)
-                .with_tag(key, text)
-                .try_send(),
-            "p.k:34|ms",
-            end,
-        ),
-        2 => is_line(
-            client
-                .gauge_with_tags("k", 8u64)
-                .with_tag(key, text)
-                .try_send(),
-            "p.k:8|g",
-            end,
-        ),
-        3 => is_line(
-            client
-                .meter_with_tags("k", 8u64)
-                .with_tag(key, text)
-                .try_send(),
-            "p.k:8|m",
-            end,
-        ),
-        4 => is_line(
-            client
-                .histogram_with_tags("k", 8u64)
-                .with_tag(key, text)
-                .try_send(),
-            "p.k:8|h",
-            end,
-        ),
-        5 => is_line(
-            client
-                .distribution_with_tags("k", 8u64)
-                .with_tag(key, text)
-                .try_send(),
-            "p.k:8|d",
-            end,
-        ),
-        6 => is_line(
-            client
-                .set_with_tags("k", -8i64)
-                .with_tag(key, text)
-                .try_send(),
-            "p.k:-8|s",
-            end,
-        ),
-        _ => is_line(
-            client.incr_with_tags("k").with_tag(key, text).try_send(),
-            "p.k:1|c",
-            end,
-        ),
+        0 => is_tagged(client.count_with_tags("k", 3i64), "p.k:3|c"),
+        1 => is_tagged(client.time_with_tags("k", 34u64), "p.k:34|ms"),
+        2 => is_tagged(client.gauge_with_tags("k", 8u64), "p.k:8|g"),
+        3 => is_tagged(client.meter_with_tags("k", 8u64), "p.k:8|m"),
+        4 => is_tagged(client.histogram_with_tags("k", 8u64), "p.k:8|h"),
+        5 => is_tagged(client.distribution_with_tags("k", 8u64), "p.k:8|d"),
+        6 => is_tagged(client.set_with_tags("k", -8i64), "p.k:-8|s"),
+        _ => is_tagged(client.incr_with_tags("k"), "p.k:1|c"),
     }
 }
 
