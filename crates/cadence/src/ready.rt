@@ -8,7 +8,9 @@ ghost use Rattle.cadence_sinks.specs.Queuing.{queue_capacity, wrapped_sink};
 
 use crate::client::StatsdClient;
 use cadence_errors::MetricResult;
-pub use cadence_ready::{QueuedUdpSink, buffered_udp_sink, host, queued_udp_sink, udp_sink};
+pub use cadence_ready::{
+    QueuedUdpSink, buffered_udp_sink, host, queued_udp_sink, queued_udp_sink_with, udp_sink,
+};
 use cadence_sinks::{BufferedUdpMetricSink, Target, UdpMetricSink};
 use std::alloc::{Allocator, Global};
 use std::net::Net;

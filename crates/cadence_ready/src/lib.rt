@@ -5,12 +5,14 @@ ghost use Rattle.std.specs.Prelude.{◌≡◌, false, IfOk, IfErr};
 ghost use Rattle.cadence_resolve.specs.Refusals.{IsSocketRefusal};
 ghost use Rattle.cadence_ready.specs.Host.{IsHost};
 ghost use Rattle.cadence_sinks.specs.Buffers.{udp_buffer};
-ghost use Rattle.cadence_sinks.specs.Queuing.{queue_capacity, wrapped_sink};
+ghost use Rattle.cadence_sinks.specs.Queuing.{capacity_of, policy_of, queue_capacity, queue_policy, wrapped_sink};
 ghost use Rattle.cadence_sinks.specs.Udp.{looks_up_again};
 
 use cadence_errors::MetricResult;
 use cadence_resolve::{StaticResolver, Target};
-use cadence_sinks::{BufferedUdpMetricSink, QueuingMetricSink, UdpMetricSink};
+use cadence_sinks::{
+    BufferedUdpMetricSink, QueuingMetricSink, QueuingMetricSinkBuilder, UdpMetricSink,
+};
 use std::alloc::{AllocError, Allocator, Global};
 use std::net::{IpAddr, Ipv4Addr, Ipv6Addr, Net, SocketAddr, UdpSocket};
 use std::sync::Wait;
@@ -82,6 +84,27 @@ pub fn buffered_udp_sink<R: Net + Wait + Clone + Drop, A: Allocator + Clone>(
     )
 }
 
+/// A queue with these settings, its handler too, over a buffered UDP sink with a buffer of `capacity` bytes, and its
+/// worker thread. The errors are those of `udp_sink`, and `SinkError::Io` where no thread can be started.
+pub fn queued_udp_sink_with<
+    R: Net + Wait + Threads + Clone + Drop + Send + Sync + 'static,
+    A: Allocator + Clone + Send + Sync + 'static,
+>(
+    rt: &R,
+    alloc: A,
+    target: Target<A>,
+    capacity: usize,
+    settings: QueuingMetricSinkBuilder<A>,
+) -> MetricResult<QueuedUdpSink<R, A>>
+    ensures buffer { IfOk result (λ q. udp_buffer (wrapped_sink q) ≡ capacity) }
+    ensures lines { IfOk result (λ q. queue_capacity q ≡ capacity_of settings) }
+    ensures policy { IfOk result (λ q. queue_policy q ≡ policy_of settings) }
+    ensures refused { IfErr result (λ e. IsSocketRefusal e) }
+{
+    let sink = buffered_udp_sink(rt, alloc.clone()?, target, capacity)?;
+    settings.build(rt.clone()?, alloc, sink)
+}
+
 /// A queue of at most `lines` lines, or without a bound, over a buffered UDP sink, with its worker thread. The errors
 /// are those of `udp_sink`, and `SinkError::Io` where no thread can be started.
 pub fn queued_udp_sink<
@@ -98,9 +121,11 @@ pub fn queued_udp_sink<
     ensures lines { IfOk result (λ q. queue_capacity q ≡ lines) }
     ensures refused { IfErr result (λ e. IsSocketRefusal e) }
 {
-    let sink = buffered_udp_sink(rt, alloc.clone()?, target, capacity)?;
+    let settings = QueuingMetricSinkBuilder::new();
     match lines {
-        Some(lines) => QueuingMetricSink::with_capacity(rt.clone()?, alloc, sink, lines),
-        None => QueuingMetricSink::from(rt.clone()?, alloc, sink),
+        Some(lines) => {
+            queued_udp_sink_with(rt, alloc, target, capacity, settings.with_capacity(lines))
+        }
+        None => queued_udp_sink_with(rt, alloc, target, capacity, settings),
     }
 }

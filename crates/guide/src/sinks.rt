@@ -3,7 +3,9 @@
 use crate::runtime::Runtime;
 use cadence::prelude::*;
 use cadence::queue::QueuePolicy;
-use cadence::ready::{QueuedUdpClient, buffered_udp_sink, host, queued_udp_sink, udp_sink};
+use cadence::ready::{
+    QueuedUdpClient, buffered_udp_sink, host, queued_udp_sink, queued_udp_sink_with, udp_sink,
+};
 use cadence::sinks::PathSocket;
 use cadence::types::SinkError;
 use cadence::{
@@ -44,11 +46,11 @@ pub fn queued<R: Runtime>(rt: &R, alloc: Global) -> MetricResult<()> {
 }
 
 pub fn latest_lines<R: Runtime>(rt: &R, alloc: Global) -> MetricResult<QueuedUdpClient<R>> {
-    let udp = buffered_udp_sink(rt, alloc, host(alloc, "localhost", 8125)?, 1432)?;
-    let sink = QueuingMetricSinkBuilder::new()
+    let target = host(alloc, "localhost", 8125)?;
+    let queue = QueuingMetricSinkBuilder::new()
         .with_capacity(100)
-        .with_policy(QueuePolicy::DropOldest)
-        .build(rt.clone()?, alloc, udp)?;
+        .with_policy(QueuePolicy::DropOldest);
+    let sink = queued_udp_sink_with(rt, alloc, target, 1432, queue)?;
     StatsdClient::from_sink(alloc, "my.service", sink)
 }
 
