@@ -3,8 +3,11 @@
 use crate::runtime::Runtime;
 use cadence::client::ErrorHandler;
 use cadence::prelude::*;
-use cadence::ready::{host, udp_sink};
-use cadence::{MetricError, MetricResult, MetricSink, StatsdClient, UdpMetricSink};
+use cadence::ready::{QueuedUdpSink, host, queued_udp_sink_with, udp_sink};
+use cadence::types::SinkError;
+use cadence::{
+    MetricError, MetricResult, MetricSink, QueuingMetricSinkBuilder, StatsdClient, UdpMetricSink,
+};
 use std::alloc::Global;
 use std::sync::Arc;
 use std::sync::atomic::{AtomicU64, Ordering};
@@ -43,5 +46,30 @@ pub fn quietly<S: MetricSink, H: ErrorHandler>(client: &StatsdClient<Global, S, 
 pub fn lost<R: Runtime>(rt: &R, alloc: Global) -> MetricResult<u64> {
     let number = Arc::new(alloc, AtomicU64::new(0))?;
     quietly(&counting(rt, alloc, number.clone()?)?);
+    Ok(number.load(Ordering::SeqCst))
+}
+
+/// A queue over a buffered UDP sink, which counts the lines that its worker loses.
+pub fn counting_queue<R: Runtime>(
+    rt: &R,
+    alloc: Global,
+    number: Arc<AtomicU64>,
+) -> MetricResult<QueuedUdpSink<R>> {
+    let queue = QueuingMetricSinkBuilder::new().with_error_handler(Box::new(
+        alloc,
+        move |_e: SinkError| {
+            number.fetch_add(1, Ordering::SeqCst);
+        },
+    )?);
+    queued_udp_sink_with(rt, alloc, host(alloc, "localhost", 8125)?, 1432, queue)
+}
+
+/// Sends a line that is too long for a datagram through a queue, and answers how many its worker lost.
+pub fn lost_in_a_queue<R: Runtime>(rt: &R, alloc: Global) -> MetricResult<u64> {
+    let number = Arc::new(alloc, AtomicU64::new(0))?;
+    let sink = counting_queue(rt, alloc, number.clone()?)?;
+    let line = String::from_utf8_lossy(alloc, &vec![in alloc; b'a'; 70_000]?)?;
+    sink.emit(&line)?;
+    sink.stop_and_wait();
     Ok(number.load(Ordering::SeqCst))
 }

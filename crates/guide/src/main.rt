@@ -48,6 +48,7 @@ fn main(rt: HostRuntime) -> MetricResult<()> {
     errors::quietly(&client);
     println!(rt; "{} bytes", client.sink().stats().bytes_sent)?;
     println!(rt; "{} lost", errors::lost(&rt, alloc)?)?;
+    println!(rt; "{} lost in a queue", errors::lost_in_a_queue(&rt, alloc)?)?;
     Shop::new(shop::connect(&rt, alloc)?).sell(1999)?;
 
     let printer = rt.clone()?;
