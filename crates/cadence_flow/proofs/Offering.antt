@@ -1,7 +1,6 @@
 -- How far a text is offered.
-use Rattle.std.proofs.Common.{◌≡◌, ℕ, ◌+◌, ◌-◌, ◌<◌, ◌≤◌, Bool, true, false, [], ◌∷◌, ◌++◌, List, length, ap, ◌∙◌, sym, subst, arith, append_assoc, refl, Option, Some, None, Result, Ok, Err, IfOk, OnErr, ◌⊎◌, inr}
-use Rattle.std.proofs.lemmas.List.{append-nil}
-use Rattle.std.proofs.lemmas.List.Elements.{All-nil, All-push}
+use Rattle.std.proofs.Common.{◌≡◌, ℕ, ◌+◌, ◌-◌, ◌<◌, Bool, true, false, [], ◌∷◌, ◌++◌, List, length, ap, ◌∙◌, subst, arith, append_assoc, Option, Some, None, Result, Ok, Err, IfOk, OnErr, ◌⊎◌, inr}
+use Rattle.std.proofs.lemmas.List.Elements.{All-push}
 use Rattle.cadence_errors.specs.declared.SinkError.{SinkError}
 use Rattle.cadence_flow.specs.Offers.{IsShort, IsOffered, AddsShorts, AddsWhole, SendsOffers, FlushesOffers}
 

@@ -1,5 +1,5 @@
 -- What a take and a drop do to a queue's past.
-use Rattle.std.proofs.Common.{◌≡◌, ℕ, ◌+◌, ◌%◌, ◌^◌, ◌<◌, ◌≤◌, Bool, List, [], ◌∷◌, ◌++◌, Option, Some, None, length, drop, get_or, count_by, ap, sym, ◌∙◌, arith, cond}
+use Rattle.std.proofs.Common.{◌≡◌, ℕ, ◌+◌, ◌%◌, ◌^◌, ◌<◌, Bool, List, [], ◌∷◌, ◌++◌, Option, Some, None, length, drop, get_or, count_by, ap, sym, ◌∙◌, arith, cond}
 use Rattle.std.proofs.Math.Nat.{mod-add-mod}
 use Rattle.std.proofs.lemmas.List.{drop_more, length-drop, length-append, drop-append-le}
 use Rattle.std.proofs.lemmas.List.Sums.{sum_by_push}
@@ -7,7 +7,7 @@ use Rattle.std.proofs.lemmas.Option.{slice_get-get_or}
 use Rattle.std.specs.Prelude.{slice_get}
 use Rattle.cadence_flow.specs.QueueState.{Queue}
 use Rattle.cadence_flow.specs.Queue.{IsTaken, Accepts, drops_for_room}
-use Rattle.cadence_flow.specs.QueueModel.{Exit, by_take, by_drop, is_take, is_drop, IsQueueOf, IsNext, IsAccepted}
+use Rattle.cadence_flow.specs.QueueModel.{Exit, by_take, by_drop, is_take, is_drop, IsNext, IsAccepted}
 use Rattle.cadence_flow.specs.declared.queue.policy.QueuePolicy.{QueuePolicy}
 use Rattle.cadence_flow.specs.declared.queue.policy.QueuePolicy.TheVariants.{Refuse, DropOldest}
 use Rattle.cadence_flow.specs.declared.queue.queue_core.Taken.TheVariants.{Text}

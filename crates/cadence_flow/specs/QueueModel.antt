@@ -1,6 +1,6 @@
 -- A queue by its past: the texts that it accepted, and for a front part of them how each left it. Nothing is ever
 -- removed from it.
-use Rattle.std.specs.Prelude.{◌≡◌, ℕ, ◌+◌, ◌%◌, ◌^◌, ◌≤◌, Bool, true, false, List, [], ◌∷◌, ◌++◌, length, drop, slice_get, count_by, Option, Some, None}
+use Rattle.std.specs.Prelude.{◌≡◌, ◌%◌, ◌^◌, ◌≤◌, Bool, true, false, List, [], ◌∷◌, ◌++◌, length, drop, slice_get, count_by, Option, Some, None}
 use Rattle.cadence_flow.specs.QueueState.{Queue}
 use Rattle.cadence_flow.specs.declared.queue.queue_core.Taken.{Taken}
 use Rattle.cadence_flow.specs.declared.queue.queue_core.Taken.TheVariants.{Text}

@@ -93,7 +93,7 @@ impl<T: PacketWriter, A: Allocator> LineBuffer<T, A> {
     {
         let required = line.len() + self.ending.len();
         if required > self.capacity {
-            self.flush()?;
+            self.flush_any()?;
             return self.inner.write_packet(line);
         }
         if self.capacity - self.held.len() < required {
@@ -150,6 +150,19 @@ impl<T: PacketWriter, A: Allocator> LineBuffer<T, A> {
         let (sent, result) = send(self.held.as_slice(), &mut self.inner);
         remove_front(&mut self.held, sent);
         result
+    }
+
+    // `flush`, which is called only where something is held: where nothing is, no room is made for its wide answer.
+    #[inline(always)]
+    fn flush_any(&mut self) -> Result<(), SinkError>
+        ensures flushes { FlushesHeld T.kind T.history self.old self.new result }
+        ensures offers { FlushesOffers (T.offers self.old.writer)
+            (T.offers self.new.writer) self.old.held (is_ok result) }
+    {
+        if self.held.is_empty() {
+            return Ok(());
+        }
+        self.flush()
     }
 
     /// The text that waits, at most the capacity.
