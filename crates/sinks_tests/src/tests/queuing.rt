@@ -4,10 +4,10 @@ use cadence_flow::queue::QueuePolicy;
 use cadence_flow::stats::SinkStats;
 use cadence_sinks::{
     BufferedSpyMetricSink, MetricSink, NopMetricSink, QueuingMetricSink, QueuingMetricSinkBuilder,
-    SpyMetricSink,
+    SpyMetricSink, SpyReceiver,
 };
 use refusing::{Refusing, each_refused};
-use std::alloc::{AllocError, Global};
+use std::alloc::Global;
 use std::sync::atomic::{AtomicBool, AtomicU64, Ordering};
 use std::sync::{Arc, OnceLock, Wait};
 use std::test::Fail;
@@ -61,15 +61,6 @@ struct Gate {
     flushed: AtomicBool,
 }
 
-fn closed(alloc: Global) -> Result<Arc<Gate>, AllocError> {
-    let gate = Gate {
-        open: AtomicBool::new(false),
-        flushed: AtomicBool::new(false),
-    };
-    let gate = Arc::new(alloc, gate)?;
-    Ok(gate)
-}
-
 // Tells of each text that comes, and passes it on once the gate is open.
 #[derive(Drop)]
 struct Gated<R: Wait + Drop> {
@@ -108,26 +99,52 @@ impl<R: Wait + Drop> MetricSink for Gated<R> {
     ghost flush_may_succeed = { λ _. tt };
 }
 
-#[test]
-fn caller_does_not_wait_for_the_sink(rt: HostRuntime) -> Result<(), Fail> {
-    let gate = closed(rt.alloc())?;
-    let (coming, comes) = SpyMetricSink::new(rt.clone()?, rt.alloc())?;
-    let (passed, passes) = SpyMetricSink::new(rt.clone()?, rt.alloc())?;
-    let gated = Gated {
+// What a test holds of a gated sink: its gate, the texts that come to it and those that pass.
+#[derive(Drop)]
+struct Around<R: Wait + Drop> {
+    gate: Arc<Gate>,
+    coming: SpyReceiver<R>,
+    passed: SpyReceiver<R>,
+}
+
+// A sink behind a closed gate.
+fn behind_a_gate<R: Wait + Clone + Drop>(
+    rt: &R,
+    alloc: Global,
+) -> Result<(Around<R>, Gated<R>), Fail> {
+    let gate = Gate {
+        open: AtomicBool::new(false),
+        flushed: AtomicBool::new(false),
+    };
+    let gate = Arc::new(alloc, gate)?;
+    let (coming, comes) = SpyMetricSink::new(rt.clone()?, alloc)?;
+    let (passed, passes) = SpyMetricSink::new(rt.clone()?, alloc)?;
+    let sink = Gated {
         gate: gate.clone()?,
         comes,
         passes,
     };
+    let around = Around {
+        gate,
+        coming,
+        passed,
+    };
+    Ok((around, sink))
+}
+
+#[test]
+fn caller_does_not_wait_for_the_sink(rt: HostRuntime) -> Result<(), Fail> {
+    let (around, gated) = behind_a_gate(&rt, rt.alloc())?;
     let sink = QueuingMetricSink::from(rt.clone()?, rt.alloc(), gated)?;
     assert!(rt; matches!(sink.emit("first:1|c"), Ok(9)));
-    assert!(rt; coming.recv().is_some());
+    assert!(rt; around.coming.recv().is_some());
     assert!(rt; matches!(sink.emit("second:1|c"), Ok(10)));
-    assert!(rt; sink.flush().is_ok() && gate.flushed.load(Ordering::SeqCst));
+    assert!(rt; sink.flush().is_ok() && around.gate.flushed.load(Ordering::SeqCst));
     assert_eq!(rt; (sink.queued(), sink.stats().packets_dropped), (1, 4));
-    gate.open.store(true, Ordering::SeqCst);
+    around.gate.open.store(true, Ordering::SeqCst);
     sink.stop_and_wait();
-    let first = passed.try_recv().ok_or("nothing")?;
-    let second = passed.try_recv().ok_or("nothing")?;
+    let first = around.passed.try_recv().ok_or("nothing")?;
+    let second = around.passed.try_recv().ok_or("nothing")?;
     assert_eq!(rt; first.as_slice(), b"first:1|c".as_slice());
     assert_eq!(rt; second.as_slice(), b"second:1|c".as_slice());
     Ok(())
@@ -135,14 +152,7 @@ fn caller_does_not_wait_for_the_sink(rt: HostRuntime) -> Result<(), Fail> {
 
 #[test]
 fn newest_lines_win(rt: HostRuntime) -> Result<(), Fail> {
-    let gate = closed(rt.alloc())?;
-    let (coming, comes) = SpyMetricSink::new(rt.clone()?, rt.alloc())?;
-    let (passed, passes) = SpyMetricSink::new(rt.clone()?, rt.alloc())?;
-    let gated = Gated {
-        gate: gate.clone()?,
-        comes,
-        passes,
-    };
+    let (around, gated) = behind_a_gate(&rt, rt.alloc())?;
     let faults = Arc::new(rt.alloc(), AtomicU64::new(0))?;
     let counted = faults.clone()?;
     let heap = Refusing::after(rt.alloc(), rt.alloc(), 1000)?;
@@ -155,19 +165,19 @@ fn newest_lines_win(rt: HostRuntime) -> Result<(), Fail> {
         .with_error_handler(handler)
         .build(rt.clone()?, heap.clone()?, gated)?;
     assert!(rt; matches!(sink.emit("first:1|c"), Ok(9)));
-    assert!(rt; coming.recv().is_some());
+    assert!(rt; around.coming.recv().is_some());
     assert!(rt; matches!(sink.emit("second:1|c"), Ok(10)));
     let left = heap.left();
     assert!(rt; matches!(sink.emit("third:1|c"), Ok(9)));
     assert_eq!(rt; heap.left().wrapping_add(1), left);
-    gate.open.store(true, Ordering::SeqCst);
+    around.gate.open.store(true, Ordering::SeqCst);
     sink.stop_and_wait();
     assert_eq!(rt;
         (sink.submitted(), sink.dropped(), sink.drained()),
         (3, 1, 2)
     );
-    let first = passed.try_recv().ok_or("nothing")?;
-    let last = passed.try_recv().ok_or("nothing")?;
+    let first = around.passed.try_recv().ok_or("nothing")?;
+    let last = around.passed.try_recv().ok_or("nothing")?;
     assert_eq!(rt; first.as_slice(), b"first:1|c".as_slice());
     assert_eq!(rt; last.as_slice(), b"third:1|c".as_slice());
     assert_eq!(rt; faults.load(Ordering::SeqCst), 0);
@@ -255,23 +265,17 @@ fn capacity_0_refuses(rt: HostRuntime) -> Result<(), Fail> {
 #[test]
 fn a_full_queue_takes_no_memory(rt: HostRuntime) -> Result<(), Fail> {
     for capacity in [2usize, 1000] {
-        let gate = closed(rt.alloc())?;
-        let (coming, comes) = SpyMetricSink::new(rt.clone()?, rt.alloc())?;
-        let gated = Gated {
-            gate: gate.clone()?,
-            comes,
-            passes: SpyMetricSink::new(rt.clone()?, rt.alloc())?.1,
-        };
+        let (around, gated) = behind_a_gate(&rt, rt.alloc())?;
         let heap = Refusing::after(rt.alloc(), rt.alloc(), 9_999)?;
         let sink = QueuingMetricSink::with_capacity(rt.clone()?, heap.clone()?, gated, capacity)?;
         let left = heap.left();
-        assert!(rt; sink.emit("a:1|c").is_ok() && coming.recv().is_some());
+        assert!(rt; sink.emit("a:1|c").is_ok() && around.coming.recv().is_some());
         for _ in 0..capacity {
             assert!(rt; matches!(sink.emit("a:1|c"), Ok(5)));
         }
         assert!(rt; matches!(sink.emit("a:1|c"), Err(SinkError::ChannelFull)));
         assert_eq!(rt; sink.queued(), capacity as u64);
-        gate.open.store(true, Ordering::SeqCst);
+        around.gate.open.store(true, Ordering::SeqCst);
         sink.stop_and_wait();
         assert!(rt; matches!(sink.emit("a:1|c"), Err(SinkError::ChannelDisconnected)));
         assert_eq!(rt; left.wrapping_sub(heap.left()), sink.submitted());
