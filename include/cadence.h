@@ -81,7 +81,8 @@ typedef struct cadence_tag {
 /* What a call adds to its metric: tags, after the client's; where `contained` a container, in the place of the
  * client's; where `rated` a sampling rate; where `timed` a time, in the unit that the server reads (seconds in
  * DogStatsD). Nothing is sampled: each call keeps its line, and the server scales by the rate. Texts are printed as they
- * are, separators too. */
+ * are, separators too. Where `known`, the host owes that the texts of the call are UTF-8, its key, the options' and the
+ * prefix of a line without a client, and they are not tested; else they are, each once. */
 typedef struct cadence_options {
     const cadence_tag *tags;
     size_t tags_len;
@@ -92,9 +93,10 @@ typedef struct cadence_options {
     bool contained;
     bool rated;
     bool timed;
+    bool known;
 } cadence_options;
 
-#define CADENCE_NO_OPTIONS { 0, 0, 0, 0, { 0, 0 }, 0, false, false, false }
+#define CADENCE_NO_OPTIONS { 0, 0, 0, 0, { 0, 0 }, 0, false, false, false, false }
 
 /* The bytes that are held for the next packet, the packets that wait, and, modulo 2 to the 64, how many packets were
  * made, were dropped by cadence_sent, and were dropped to make room. */

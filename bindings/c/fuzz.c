@@ -67,9 +67,13 @@ typedef struct {
     size_t length;
 } text;
 
+/* Whether each text since this was set is UTF-8 for sure. */
+static bool all_plain;
+
 static text some_text(void) {
     size_t end = below(16) == 0 ? sizeof texts : PLAIN, from = below((uint32_t)end);
     text t = { texts + from, below((uint32_t)(end - from) + 1) };
+    if (end != PLAIN) all_plain = false;
     if (below(8) == 0) t = (text){ NULL, 0 };
     return t;
 }
@@ -91,6 +95,7 @@ static cadence_options some_options(void) {
     options.container = container.at, options.container_len = container.length;
     options.rate = (cadence_decimal_number){ (int64_t)below(1000) - 500, (uint8_t)below(32) };
     options.time = (uint64_t)below(1u << 31) << below(33);
+    options.known = all_plain && below(2);
     options.contained = below(3) == 0, options.rated = below(3) == 0, options.timed = below(3) == 0;
     return options;
 }
@@ -129,15 +134,30 @@ static void opens(host *h) {
     h->capacity = capacity, h->drops = policy == CADENCE_DROP_OLDEST;
 }
 
+/* A line without a client, of any kind of value. */
+static uint32_t formats(text key, const cadence_options *options, uint8_t *line, size_t room, size_t *length) {
+    int64_t values[3] = { below(5) - 2, (int64_t)below(1u << 31) << below(33), INT64_MIN };
+    uint64_t whole[3] = { below(5), UINT64_MAX, (uint64_t)below(1u << 31) << below(33) };
+    cadence_decimal_number numbers[3] = { { -25, 1 }, { INT64_MIN, (uint8_t)below(33) }, { (int64_t)below(100), 30 } };
+    size_t n = below(4);
+    uint32_t kind = below(12) == 0 ? 7 : below(7);
+    switch (below(4)) {
+    case 0: return cadence_format_unsigned(NULL, 0, kind, key.at, key.length, n != 0 ? whole : NULL, n, options, line, room, length);
+    case 1: return cadence_format_decimal(NULL, 0, kind, key.at, key.length, numbers, n, options, line, room, length);
+    case 2: return cadence_format_duration(NULL, 0, kind, key.at, key.length, whole, n, options, line, room, length);
+    default: return cadence_format_signed(NULL, 0, kind, key.at, key.length, n != 0 ? values : NULL, n, options, line, room, length);
+    }
+}
+
 /* A line of the host's own, and one that the formatter made. */
 static uint32_t keeps_line(host *h) {
     static uint8_t line[LONGEST];
+    all_plain = true;
     text key = some_text();
     cadence_options options = some_options();
-    int64_t values[3] = { below(5) - 2, (int64_t)below(1u << 31) << below(33), INT64_MIN };
-    size_t length = 0, n = below(4);
-    uint32_t status = cadence_format_signed(NULL, 0, below(12) == 0 ? 7 : below(7), key.at, key.length, n != 0 ? values : NULL, n, &options, line,
-                                            below(6) == 0 ? below(40) : sizeof line, &length);
+    size_t length = 1, room = below(6) == 0 ? below(40) : sizeof line;
+    uint32_t status = formats(key, &options, line, room, &length);
+    if (status == CADENCE_TOO_SMALL ? length <= room : status != CADENCE_OK && length != 0) fail("a length of no line", status);
     if (status != CADENCE_OK) return status;
     status = cadence_line(&h->handle, line, length);
     if (status == CADENCE_OK) keeps(h, line, length);
@@ -146,6 +166,7 @@ static uint32_t keeps_line(host *h) {
 
 /* The call of a value: what it keeps is not known before it is fetched, so it goes to a client that drops. */
 static uint32_t keeps_value(host *h) {
+    all_plain = true;
     text key = some_text();
     cadence_options options = some_options();
     uint64_t whole[3] = { below(5), UINT64_MAX, (uint64_t)below(1u << 31) << below(33) };

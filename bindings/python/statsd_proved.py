@@ -35,7 +35,7 @@ class Decimal(ctypes.Structure):
 class Options(ctypes.Structure):
     _fields_ = [("tags", ctypes.POINTER(Tag)), ("tags_len", Size), ("container", Bytes), ("container_len", Size),
                 ("rate", Decimal), ("time", U64), ("contained", ctypes.c_bool), ("rated", ctypes.c_bool),
-                ("timed", ctypes.c_bool)]
+                ("timed", ctypes.c_bool), ("known", ctypes.c_bool)]
 
 
 class Counts(ctypes.Structure):
@@ -79,7 +79,7 @@ def _decimal(number):
 
 def _options(tags, rate):
     items = [_tag(key, text) for key, text in (tags or {}).items()]
-    options = Options(tags=(Tag * len(items))(*items), tags_len=len(items))
+    options = Options(tags=(Tag * len(items))(*items), tags_len=len(items), known=True)  # encode() gives UTF-8
     if rate != 1:
         options.rated, options.rate = True, _decimal(rate)
     return options

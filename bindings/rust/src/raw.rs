@@ -47,6 +47,7 @@ pub struct Options<'a> {
     contained: bool,
     rated: bool,
     timed: bool,
+    known: bool,
 }
 
 impl<'a> Options<'a> {
@@ -62,6 +63,8 @@ impl<'a> Options<'a> {
             contained: container.is_some(),
             rated: rate.is_some(),
             timed: time.is_some(),
+            // a `&str` is UTF-8, and so are the key and the prefix that packer.rs gives
+            known: true,
         }
     }
 }
@@ -83,4 +86,34 @@ unsafe extern "C" {
     pub fn cadence_format_signed(prefix: *const u8, prefix_len: usize, kind: u32, key: *const u8, key_len: usize, values: *const i64, values_len: usize, options: *const Options<'_>, out: *mut u8, out_len: usize, length: *mut usize) -> u32;
     pub fn cadence_format_unsigned(prefix: *const u8, prefix_len: usize, kind: u32, key: *const u8, key_len: usize, values: *const u64, values_len: usize, options: *const Options<'_>, out: *mut u8, out_len: usize, length: *mut usize) -> u32;
     pub fn cadence_format_decimal(prefix: *const u8, prefix_len: usize, kind: u32, key: *const u8, key_len: usize, values: *const Decimal, values_len: usize, options: *const Options<'_>, out: *mut u8, out_len: usize, length: *mut usize) -> u32;
+}
+
+#[cfg(test)]
+mod tests {
+    use super::*;
+    use std::mem::{offset_of, size_of};
+
+    macro_rules! layout {
+        ($name:literal $type:ty: $($field:ident)*) => {{
+            let mut line = format!("{} {}", $name, size_of::<$type>());
+            $(line += &format!(" {}", offset_of!($type, $field));)*
+            line
+        }};
+    }
+
+    /// CADENCE_LAYOUT names a file of what the header says, as `bindings/c/layout.cpp` prints it.
+    #[test]
+    fn layouts_are_those_of_the_header() {
+        let Ok(file) = std::env::var("CADENCE_LAYOUT") else { return };
+        let header = std::fs::read_to_string(file).unwrap();
+        let ours = [
+            layout!("handle" Handle: at open),
+            layout!("tag" Tag<'_>: key key_len text text_len keyed),
+            layout!("decimal" Decimal: mantissa places),
+            layout!("options" Options<'_>: tags tags_len container container_len rate time contained rated timed known),
+        ];
+        for line in ours {
+            assert!(header.lines().any(|theirs| theirs == line), "{line}");
+        }
+    }
 }

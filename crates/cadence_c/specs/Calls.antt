@@ -93,6 +93,10 @@ pub record IsNoRate (o : COptions) : Type 0 where
 abbrev pub IsText : List ℕ → COptions → Type 0
 IsText key o = IsUtf8 key × AreTexts o
 
+-- where the options say that the host knows their texts, they and the key are UTF-8
+abbrev pub IsTextIfKnown : List ℕ → COptions → Type 0
+IsTextIfKnown key o = o.known ≡ true → IsText key o
+
 -- there is no such kind, or the rate has too many places
 abbrev pub IsNoCall : ℕ → COptions → Type 0
 IsNoCall k o = (kind_named k ≡ None) ⊎ IsNoRate o

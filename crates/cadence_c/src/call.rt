@@ -4,7 +4,7 @@ ghost use Rattle.std.specs.Str.{IsUtf8};
 ghost use Rattle.cadence_text.specs.Record.{tag_of as record_tag};
 ghost use Rattle.cadence_c.specs.Status.{status};
 ghost use Rattle.cadence_c.specs.declared.status.Refusal.TheVariants.{Invalid};
-ghost use Rattle.cadence_c.specs.Calls.{c_tag, kind_named, IsNoRate, IsNumberOf, IsRateOf, IsTextTag, with_choices};
+ghost use Rattle.cadence_c.specs.Calls.{AreTexts, c_tag, kind_named, IsNoRate, IsNumberOf, IsRateOf, IsTextTag, with_choices};
 
 use crate::status::Refusal;
 use cadence_text::line::{MetricType, Record, Tag};
@@ -29,7 +29,7 @@ pub struct CDecimal {
 }
 
 /// What a call adds to its metric, beside what the client adds: tags, and where a flag says so a container, a rate and
-/// a time.
+/// a time. Where `known` says so, the host knows that the call's texts are UTF-8, and they are not tested.
 #[repr(C)]
 #[derive(Clone, Copy)]
 pub struct COptions<'a> {
@@ -40,6 +40,7 @@ pub struct COptions<'a> {
     pub contained: bool,
     pub rated: bool,
     pub timed: bool,
+    pub known: bool,
 }
 
 /// The kind of a number.
@@ -81,6 +82,19 @@ pub fn text_of(bytes: &[u8]) -> Option<&str>
     str::from_utf8(bytes).ok()
 }
 
+/// The text, where the bytes are UTF-8, which the caller may know.
+#[inline]
+pub fn text_where(bytes: &[u8], known: bool) -> Option<&str>
+    requires { known ≡ true → IsUtf8 bytes.now }
+    ensures text { IfSome result (λ t. (t.now ≡ bytes.now) × IsUtf8 bytes.now) }
+    ensures none { IfNone result (IsUtf8 bytes.now → ⊥) }
+{
+    if known {
+        return Some(unsafe { str::from_utf8_unchecked(bytes) });
+    }
+    text_of(bytes)
+}
+
 /// The tag, where its texts are UTF-8.
 #[inline]
 pub fn tag_of<'a>(tag: &CTag<'a>) -> Option<Tag<'a>>
@@ -101,6 +115,7 @@ pub fn tag_of<'a>(tag: &CTag<'a>) -> Option<Tag<'a>>
 
 // Sets the container, where there is one.
 fn set_container<'a>(metric: &mut Record<'a>, options: &COptions<'a>) -> Result<(), Refusal>
+    requires { options.now.known ≡ true → AreTexts options.now }
     ensures set { OnOk result (metric.new ≡ record metric.old {
       container =
           cond options.now.contained (Some options.now.container.now) metric.old.container;
@@ -111,7 +126,7 @@ fn set_container<'a>(metric: &mut Record<'a>, options: &COptions<'a>) -> Result<
     ensures invalid { status result ≢ 4 }
 {
     if options.contained {
-        let Some(container) = text_of(options.container) else {
+        let Some(container) = text_where(options.container, options.known) else {
             return Err(Refusal::NotUtf8);
         };
         metric.set_container(container);
@@ -138,6 +153,7 @@ fn set_rate(metric: &mut Record<'_>, options: &COptions<'_>) -> Result<(), Refus
 pub fn add_options<'a>(metric: &mut Record<'a>, options: &COptions<'a>) -> Result<(), Refusal>
     requires rate { metric.old.rate ≡ None }
     requires time { metric.old.time ≡ None }
+    requires texts { options.now.known ≡ true → AreTexts options.now }
     ensures rate { OnOk result (IsRateOf options.now metric.new.rate) }
     ensures added { OnOk result
         (metric.new ≡ with_choices metric.old options.now metric.new.rate) }

@@ -1,12 +1,12 @@
 //! Lines without a client.
-ghost use Rattle.std.specs.Prelude.{◌≡◌, ◌⊎◌, None, ◌≤◌, List, IfOk, Some, length, map, take};
+ghost use Rattle.std.specs.Prelude.{◌≡◌, ◌⊎◌, true, None, ◌≤◌, List, IfOk, Some, length, map, take};
 ghost use Rattle.cadence_value.specs.Number.{Number, natural, whole};
 ghost use Rattle.cadence_value.specs.Values.{numbers_of};
 ghost use Rattle.std.specs.Str.{IsUtf8};
 ghost use Rattle.cadence_c.specs.Status.{status};
-ghost use Rattle.cadence_c.specs.Calls.{AreDecimals, AreNumbersOf, IsLine, IsNoCall, IsText, bare, durations_of};
+ghost use Rattle.cadence_c.specs.Calls.{AreDecimals, AreNumbersOf, IsLine, IsNoCall, IsText, IsTextIfKnown, bare, durations_of};
 
-use crate::call::{CDecimal, COptions, kind_of, text_of};
+use crate::call::{CDecimal, COptions, kind_of, text_where};
 use crate::line::write_with;
 use crate::out::copy_out;
 use crate::status::Refusal;
@@ -25,15 +25,17 @@ fn line_of(
     value: MetricValue,
     options: &COptions<'_>,
 ) -> Result<Vec<u8>, Refusal>
+    requires prefix { options.now.known ≡ true → IsUtf8 prefix.now }
+    requires texts { IsTextIfKnown key.now options.now }
     ensures line { IfOk result (λ line. IsLine (bare prefix.now) kind key.now (numbers_of value)
         options.now line.items) }
     ensures text { status result ≡ 5 → IsUtf8 prefix.now → IsText key.now options.now → ⊥ }
     ensures invalid { status result ≡ 4 → IsNoCall kind options.now }
 {
-    let Some(prefix) = text_of(prefix) else {
+    let Some(prefix) = text_where(prefix, options.known) else {
         return Err(Refusal::NotUtf8);
     };
-    let Some(key) = text_of(key) else {
+    let Some(key) = text_where(key, options.known) else {
         return Err(Refusal::NotUtf8);
     };
     let Some(kind) = kind_of(kind) else {
@@ -56,6 +58,8 @@ fn write_line(
     out: &mut [u8],
     size: &mut usize,
 ) -> u32
+    requires prefix { options.now.known ≡ true → IsUtf8 prefix.now }
+    requires texts { IsTextIfKnown key.now options.now }
     ensures line { result ≡ 0 → IsLine (bare prefix.now) kind key.now (numbers_of value)
         options.now (take size.new out.new) }
     ensures within { result ≡ 0 → size.new ≤ length out.new }
@@ -81,6 +85,8 @@ pub extern "C" fn cadence_format_signed(
     out: &mut [u8],
     size: &mut usize,
 ) -> u32
+    requires prefix { options.now.known ≡ true → IsUtf8 prefix.now }
+    requires texts { IsTextIfKnown key.now options.now }
     ensures line { result ≡ 0 → IsLine (bare prefix.now) kind key.now (map whole values.now)
         options.now (take size.new out.new) }
     ensures within { result ≡ 0 → size.new ≤ length out.new }
@@ -107,6 +113,8 @@ pub extern "C" fn cadence_format_unsigned(
     out: &mut [u8],
     size: &mut usize,
 ) -> u32
+    requires prefix { options.now.known ≡ true → IsUtf8 prefix.now }
+    requires texts { IsTextIfKnown key.now options.now }
     ensures line { result ≡ 0 → IsLine (bare prefix.now) kind key.now (map natural values.now)
         options.now (take size.new out.new) }
     ensures within { result ≡ 0 → size.new ≤ length out.new }
@@ -133,6 +141,8 @@ pub extern "C" fn cadence_format_decimal(
     out: &mut [u8],
     size: &mut usize,
 ) -> u32
+    requires prefix { options.now.known ≡ true → IsUtf8 prefix.now }
+    requires texts { IsTextIfKnown key.now options.now }
     ensures line { result ≡ 0 → (numbers : List Number) × AreNumbersOf values.now numbers
         × IsLine (bare prefix.now) kind key.now numbers options.now (take size.new out.new) }
     ensures within { result ≡ 0 → size.new ≤ length out.new }
@@ -160,6 +170,8 @@ pub extern "C" fn cadence_format_duration(
     out: &mut [u8],
     size: &mut usize,
 ) -> u32
+    requires prefix { options.now.known ≡ true → IsUtf8 prefix.now }
+    requires texts { IsTextIfKnown key.now options.now }
     ensures line { result ≡ 0 → (numbers : List Number)
         × (durations_of kind nanos.now ≡ Some numbers)
         × IsLine (bare prefix.now) kind key.now numbers options.now (take size.new out.new) }

@@ -18,7 +18,7 @@ ghost use Rattle.std.specs.Prelude.{◌≡◌, ◌≢◌, ◌⊎◌, ◌≤◌, 
 ghost use Rattle.std.specs.Str.{IsUtf8};
 ghost use Rattle.cadence_value.specs.Number.{Number, natural, whole};
 ghost use Rattle.cadence_value.specs.Values.{numbers_of};
-ghost use Rattle.cadence_c.specs.Calls.{AreDecimals, AreNumbersOf, IsNoCall, IsText, IsTextTag, c_tag, durations_of};
+ghost use Rattle.cadence_c.specs.Calls.{AreDecimals, AreNumbersOf, IsNoCall, IsText, IsTextIfKnown, IsTextTag, c_tag, durations_of};
 ghost use Rattle.cadence_c.specs.State.{policy_named, Contained, Counted, Defaulted, Flushed, FullFor, FullForHeld, FullForLine, IsEmpty, IsNew, IsOldest, Kept, KeptLine, Sent};
 
 use cadence_flow::queue::QueuePolicy;
@@ -138,6 +138,7 @@ fn keep(
     value: MetricValue,
     options: &COptions<'_>,
 ) -> u32
+    requires { IsTextIfKnown key.now options.now }
     ensures kept { result ≡ 0 → Kept kind key.now (numbers_of value) options.now
         handle.old.seal.client handle.new.seal.client }
     ensures refused { result ≢ 0 → handle.new.seal.client ≡ handle.old.seal.client }
@@ -165,6 +166,7 @@ pub extern "C" fn cadence_signed(
     values: &[i64],
     options: &COptions<'_>,
 ) -> u32
+    requires { IsTextIfKnown key.now options.now }
     ensures kept { result ≡ 0 → Kept kind key.now (map whole values.now) options.now
         handle.old.seal.client handle.new.seal.client }
     ensures refused { result ≢ 0 → handle.new.seal.client ≡ handle.old.seal.client }
@@ -190,6 +192,7 @@ pub extern "C" fn cadence_unsigned(
     values: &[u64],
     options: &COptions<'_>,
 ) -> u32
+    requires { IsTextIfKnown key.now options.now }
     ensures kept { result ≡ 0 → Kept kind key.now (map natural values.now) options.now
         handle.old.seal.client handle.new.seal.client }
     ensures refused { result ≢ 0 → handle.new.seal.client ≡ handle.old.seal.client }
@@ -215,6 +218,7 @@ pub extern "C" fn cadence_decimal(
     values: &[CDecimal],
     options: &COptions<'_>,
 ) -> u32
+    requires { IsTextIfKnown key.now options.now }
     ensures kept { result ≡ 0 → (numbers : List Number) × AreNumbersOf values.now numbers
         × Kept kind key.now numbers options.now handle.old.seal.client handle.new.seal.client }
     ensures refused { result ≢ 0 → handle.new.seal.client ≡ handle.old.seal.client }
@@ -242,6 +246,7 @@ pub extern "C" fn cadence_duration(
     nanos: &[u64],
     options: &COptions<'_>,
 ) -> u32
+    requires { IsTextIfKnown key.now options.now }
     ensures kept { result ≡ 0 → (numbers : List Number)
         × (durations_of kind nanos.now ≡ Some numbers)
         × Kept kind key.now numbers options.now handle.old.seal.client handle.new.seal.client }

@@ -1,15 +1,28 @@
 //! The line of a call.
-ghost use Rattle.std.specs.Prelude.{◌≡◌, ◌≢◌, OnOk, None, Option};
+ghost use Rattle.std.specs.Prelude.{◌≡◌, ◌≢◌, All, IfNone, IfSome, map, true, OnOk, None, Option};
 ghost use Rattle.cadence_text.specs.Line.{line_of};
 ghost use Rattle.cadence_text.specs.More.{with_tags};
 ghost use Rattle.cadence_value.specs.Number.{Number};
 ghost use Rattle.cadence_c.specs.Status.{status};
-ghost use Rattle.cadence_c.specs.Calls.{AreTexts, IsNoRate, IsRateOf, with_options};
+ghost use Rattle.cadence_c.specs.Calls.{AreTexts, c_tag, IsNoRate, IsRateOf, IsTextTag, with_options};
 
 use crate::call::{COptions, add_options};
 use crate::status::Refusal;
 use crate::tags::CTags;
 use cadence_text::line::{Record, TagList};
+
+// The tags, where their texts are UTF-8, which the host may know.
+#[inline]
+fn tags_of<'a>(options: &COptions<'a>) -> Option<CTags<'a>>
+    requires { options.now.known ≡ true → AreTexts options.now }
+    ensures tags { IfSome result (λ list. list ≡ map c_tag options.now.tags.now) }
+    ensures none { IfNone result (All IsTextTag options.now.tags.now → ⊥) }
+{
+    if options.known {
+        return Some(CTags::known(options.tags));
+    }
+    CTags::new(options.tags)
+}
 
 /// Writes the line of a record with default tags and the options of a call, in place of what `line` has. The record has
 /// neither rate nor time yet.
@@ -21,6 +34,7 @@ pub fn write_with<'a, D: TagList>(
 ) -> Result<(), Refusal>
     requires rate { metric.rate ≡ None }
     requires time { metric.time ≡ None }
+    requires texts { options.now.known ≡ true → AreTexts options.now }
     ensures line { OnOk result ((rate : Option Number) × IsRateOf options.now rate
         × (line.new.items ≡ line_of
         (with_options (with_tags metric.entry (D.tags defaults.now)) options.now rate))) }
@@ -28,7 +42,7 @@ pub fn write_with<'a, D: TagList>(
     ensures text { status result ≡ 5 → AreTexts options.now → ⊥ }
     ensures invalid { status result ≡ 4 → IsNoRate options.now }
 {
-    let Some(tags) = CTags::new(options.tags) else {
+    let Some(tags) = tags_of(options) else {
         return Err(Refusal::NotUtf8);
     };
     let mut metric = metric;

@@ -1,7 +1,7 @@
 //! What a client of C holds.
 ghost use Rattle.std.specs.Prelude.{◌≡◌};
 
-use crate::call::{COptions, kind_of, text_of};
+use crate::call::{COptions, kind_of, text_where};
 use crate::line::write_with;
 use crate::out::copy_out;
 use crate::packet::Packet;
@@ -80,7 +80,7 @@ impl Packing {
     ghost use Rattle.cadence_flow.specs.Frame.{held_packet};
     ghost use Rattle.cadence_schedule.specs.Settings.{with_default_tag, with_default_container};
     ghost use Rattle.cadence_value.specs.Values.{numbers_of};
-    ghost use Rattle.cadence_c.specs.Calls.{IsLine, IsNoCall, IsText};
+    ghost use Rattle.cadence_c.specs.Calls.{IsLine, IsNoCall, IsText, IsTextIfKnown};
     ghost use Rattle.cadence_c.specs.Status.{status};
     ghost use Rattle.cadence_c.specs.State.{new_state, flushed, alone, put, Packs, Overflows, LacksRoom, IsSent, IsCountOf};
 
@@ -202,13 +202,14 @@ impl Packing {
         options: &COptions<'_>,
         line: &mut Vec<u8>,
     ) -> Result<(), Refusal>
+        requires { IsTextIfKnown key.now options.now }
         ensures line { OnOk result (IsLine self.now.settings kind key.now (numbers_of value)
             options.now line.new.items) }
         ensures room { status result ≢ 3 }
         ensures text { status result ≡ 5 → IsText key.now options.now → ⊥ }
         ensures invalid { status result ≡ 4 → IsNoCall kind options.now }
     {
-        let Some(key) = text_of(key) else {
+        let Some(key) = text_where(key, options.known) else {
             return Err(Refusal::NotUtf8);
         };
         let Some(kind) = kind_of(kind) else {
@@ -227,6 +228,7 @@ impl Packing {
         value: MetricValue,
         options: &COptions<'_>,
     ) -> Result<(), Refusal>
+        requires { IsTextIfKnown key.now options.now }
         ensures kept { OnOk result ((line : List ℕ)
             × IsLine self.old.settings kind key.now (numbers_of value) options.now line
             × Packs self.old line self.new) }

@@ -35,6 +35,15 @@ impl<'a> CTags<'a> {
         CTags { tags: &[] }
     }
 
+    /// The tags of a host that knows that their texts are UTF-8.
+    #[inline]
+    pub fn known(tags: &'a [CTag<'a>]) -> CTags<'a>
+        requires { All IsTextTag tags.now }
+        ensures { result ≡ map c_tag tags.now }
+    {
+        CTags { tags }
+    }
+
     /// The tags, where their texts are UTF-8.
     #[inline]
     pub fn new(tags: &'a [CTag<'a>]) -> Option<CTags<'a>>

@@ -1,0 +1,28 @@
+// Prints the size of each struct that crosses and where its fields stand, and a line that the library made.
+#include <cadence.h>
+#include <cstdio>
+
+#define AT(type, field) std::printf(" %zu", offsetof(type, field))
+
+int main() {
+    std::printf("handle %zu", sizeof(cadence_handle));
+    AT(cadence_handle, at), AT(cadence_handle, open);
+    std::printf("\ntag %zu", sizeof(cadence_tag));
+    AT(cadence_tag, key), AT(cadence_tag, key_len), AT(cadence_tag, text), AT(cadence_tag, text_len), AT(cadence_tag, keyed);
+    std::printf("\ndecimal %zu", sizeof(cadence_decimal_number));
+    AT(cadence_decimal_number, mantissa), AT(cadence_decimal_number, places);
+    std::printf("\noptions %zu", sizeof(cadence_options));
+    AT(cadence_options, tags), AT(cadence_options, tags_len), AT(cadence_options, container);
+    AT(cadence_options, container_len), AT(cadence_options, rate), AT(cadence_options, time);
+    AT(cadence_options, contained), AT(cadence_options, rated), AT(cadence_options, timed), AT(cadence_options, known);
+    std::printf("\ncounts %zu", sizeof(cadence_counts_of));
+    AT(cadence_counts_of, held), AT(cadence_counts_of, waiting), AT(cadence_counts_of, made);
+    AT(cadence_counts_of, sent), AT(cadence_counts_of, dropped);
+    const cadence_options none = CADENCE_NO_OPTIONS;
+    const int64_t value = 7;
+    uint8_t line[16];
+    size_t length;
+    const uint32_t status = cadence_format_signed(nullptr, 0, CADENCE_GAUGE, (const uint8_t *)"x", 1, &value, 1, &none,
+                                                  line, sizeof line, &length);
+    std::printf("\n%u %.*s\n", status, (int)length, (const char *)line);
+}
