@@ -143,6 +143,11 @@ abbrev pub IsOldest : List ℕ → Option State → Type 0
 IsOldest packet (Some s) = slice_get s.queue.waiting 0 ≡ Some packet
 IsOldest packet None = ⊥
 
+-- how many bytes the oldest packet that waits has
+abbrev pub TellsOldest : ℕ → Option State → Type 0
+TellsOldest size (Some s) = IfSome (slice_get s.queue.waiting 0) (λ packet. size ≡ length packet)
+TellsOldest size None = ⊥
+
 -- no packet waits
 abbrev pub IsEmpty : Option State → Type 0
 IsEmpty (Some s) = s.queue.waiting ≡ []

@@ -121,6 +121,7 @@ fn set_container<'a>(metric: &mut Record<'a>, options: &COptions<'a>) -> Result<
           cond options.now.contained (Some options.now.container.now) metric.old.container;
     }) }
     ensures room { status result ≢ 3 }
+    ensures small { status result ≢ 7 }
     ensures text { status result ≡ 5 →
         (options.now.contained ≡ true → IsUtf8 options.now.container.now) → ⊥ }
     ensures invalid { status result ≢ 4 }
@@ -140,6 +141,7 @@ fn set_rate(metric: &mut Record<'_>, options: &COptions<'_>) -> Result<(), Refus
     ensures rate { OnOk result (IsRateOf options.now metric.new.rate) }
     ensures rest { metric.new ≡ record metric.old { rate = metric.new.rate } }
     ensures room { status result ≢ 3 }
+    ensures small { status result ≢ 7 }
     ensures text { status result ≢ 5 }
     ensures invalid { status result ≡ 4 → IsNoRate options.now }
 {
@@ -158,6 +160,7 @@ pub fn add_options<'a>(metric: &mut Record<'a>, options: &COptions<'a>) -> Resul
     ensures added { OnOk result
         (metric.new ≡ with_choices metric.old options.now metric.new.rate) }
     ensures room { status result ≢ 3 }
+    ensures small { status result ≢ 7 }
     ensures text { status result ≡ 5 →
         (options.now.contained ≡ true → IsUtf8 options.now.container.now) → ⊥ }
     ensures invalid { status result ≡ 4 → IsNoRate options.now }

@@ -1,5 +1,5 @@
 //! Lines without a client.
-ghost use Rattle.std.specs.Prelude.{◌≡◌, ◌⊎◌, true, None, ◌≤◌, List, IfOk, Some, length, map, take};
+ghost use Rattle.std.specs.Prelude.{◌≡◌, ◌≢◌, ◌⊎◌, ◌<◌, ℕ, true, None, ◌≤◌, List, IfOk, Some, length, map, take};
 ghost use Rattle.cadence_value.specs.Number.{Number, natural, whole};
 ghost use Rattle.cadence_value.specs.Values.{numbers_of};
 ghost use Rattle.std.specs.Str.{IsUtf8};
@@ -29,6 +29,7 @@ fn line_of(
     requires texts { IsTextIfKnown key.now options.now }
     ensures line { IfOk result (λ line. IsLine (bare prefix.now) kind key.now (numbers_of value)
         options.now line.items) }
+    ensures small { status result ≢ 7 }
     ensures text { status result ≡ 5 → IsUtf8 prefix.now → IsText key.now options.now → ⊥ }
     ensures invalid { status result ≡ 4 → IsNoCall kind options.now }
 {
@@ -62,6 +63,10 @@ fn write_line(
     requires texts { IsTextIfKnown key.now options.now }
     ensures line { result ≡ 0 → IsLine (bare prefix.now) kind key.now (numbers_of value)
         options.now (take size.new out.new) }
+    ensures told { result ≡ 7 → (line : List ℕ) × IsLine (bare prefix.now) kind key.now
+        (numbers_of value) options.now line × (size.new ≡ length line) }
+    ensures small { result ≡ 7 → length out.new < size.new }
+    ensures nothing { result ≢ 0 → result ≢ 7 → size.new ≡ size.old }
     ensures within { result ≡ 0 → size.new ≤ length out.new }
     ensures text { result ≡ 5 → IsUtf8 prefix.now → IsText key.now options.now → ⊥ }
     ensures invalid { result ≡ 4 → IsNoCall kind options.now }
@@ -89,6 +94,8 @@ pub extern "C" fn cadence_format_signed(
     requires texts { IsTextIfKnown key.now options.now }
     ensures line { result ≡ 0 → IsLine (bare prefix.now) kind key.now (map whole values.now)
         options.now (take size.new out.new) }
+    ensures small { result ≡ 7 → length out.new < size.new }
+    ensures nothing { result ≢ 0 → result ≢ 7 → size.new ≡ 0 }
     ensures within { result ≡ 0 → size.new ≤ length out.new }
     ensures text { result ≡ 5 → IsUtf8 prefix.now → IsText key.now options.now → ⊥ }
     ensures invalid { result ≡ 4 → IsNoCall kind options.now }
@@ -117,6 +124,8 @@ pub extern "C" fn cadence_format_unsigned(
     requires texts { IsTextIfKnown key.now options.now }
     ensures line { result ≡ 0 → IsLine (bare prefix.now) kind key.now (map natural values.now)
         options.now (take size.new out.new) }
+    ensures small { result ≡ 7 → length out.new < size.new }
+    ensures nothing { result ≢ 0 → result ≢ 7 → size.new ≡ 0 }
     ensures within { result ≡ 0 → size.new ≤ length out.new }
     ensures text { result ≡ 5 → IsUtf8 prefix.now → IsText key.now options.now → ⊥ }
     ensures invalid { result ≡ 4 → IsNoCall kind options.now }
@@ -145,6 +154,8 @@ pub extern "C" fn cadence_format_decimal(
     requires texts { IsTextIfKnown key.now options.now }
     ensures line { result ≡ 0 → (numbers : List Number) × AreNumbersOf values.now numbers
         × IsLine (bare prefix.now) kind key.now numbers options.now (take size.new out.new) }
+    ensures small { result ≡ 7 → length out.new < size.new }
+    ensures nothing { result ≢ 0 → result ≢ 7 → size.new ≡ 0 }
     ensures within { result ≡ 0 → size.new ≤ length out.new }
     ensures text { result ≡ 5 → IsUtf8 prefix.now → IsText key.now options.now → ⊥ }
     ensures invalid { result ≡ 4 → IsNoCall kind options.now
@@ -175,6 +186,8 @@ pub extern "C" fn cadence_format_duration(
     ensures line { result ≡ 0 → (numbers : List Number)
         × (durations_of kind nanos.now ≡ Some numbers)
         × IsLine (bare prefix.now) kind key.now numbers options.now (take size.new out.new) }
+    ensures small { result ≡ 7 → length out.new < size.new }
+    ensures nothing { result ≢ 0 → result ≢ 7 → size.new ≡ 0 }
     ensures within { result ≡ 0 → size.new ≤ length out.new }
     ensures text { result ≡ 5 → IsUtf8 prefix.now → IsText key.now options.now → ⊥ }
     ensures invalid { result ≡ 4 → IsNoCall kind options.now

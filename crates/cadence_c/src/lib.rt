@@ -19,7 +19,7 @@ ghost use Rattle.std.specs.Str.{IsUtf8};
 ghost use Rattle.cadence_value.specs.Number.{Number, natural, whole};
 ghost use Rattle.cadence_value.specs.Values.{numbers_of};
 ghost use Rattle.cadence_c.specs.Calls.{AreDecimals, AreNumbersOf, IsNoCall, IsText, IsTextIfKnown, IsTextTag, c_tag, durations_of};
-ghost use Rattle.cadence_c.specs.State.{policy_named, Contained, Counted, Defaulted, Flushed, FullFor, FullForHeld, FullForLine, IsEmpty, IsNew, IsOldest, Kept, KeptLine, Sent};
+ghost use Rattle.cadence_c.specs.State.{TellsOldest, policy_named, Contained, Counted, Defaulted, Flushed, FullFor, FullForHeld, FullForLine, IsEmpty, IsNew, IsOldest, Kept, KeptLine, Sent};
 
 use cadence_flow::queue::QueuePolicy;
 use cadence_value::value::MetricValue;
@@ -273,6 +273,7 @@ pub extern "C" fn cadence_line(alloc: Global, handle: &mut Handle, line: &[u8]) 
     ensures refused { result ≢ 0 → handle.new.seal.client ≡ handle.old.seal.client }
     ensures closed { result ≡ 1 → handle.old.seal.client ≡ None }
     ensures full { result ≡ 3 → FullForLine line.now handle.old.seal.client }
+    ensures answers { result ≤ 3 }
 {
     let Some(mut client) = handle.take(alloc) else {
         return CLOSED;
@@ -289,6 +290,7 @@ pub extern "C" fn cadence_flush(alloc: Global, handle: &mut Handle) -> u32
     ensures refused { result ≢ 0 → handle.new.seal.client ≡ handle.old.seal.client }
     ensures closed { result ≡ 1 → handle.old.seal.client ≡ None }
     ensures full { result ≡ 3 → FullForHeld handle.old.seal.client }
+    ensures answers { result ≤ 3 }
 {
     let Some(mut client) = handle.take(alloc) else {
         return CLOSED;
@@ -312,6 +314,9 @@ pub extern "C" fn cadence_next(
     ensures closed { result ≡ 1 → handle.old.seal.client ≡ None }
     ensures none { result ≡ 6 → IsEmpty handle.old.seal.client }
     ensures small { result ≡ 7 → length buf.new < size.new }
+    ensures told { result ≡ 7 → TellsOldest size.new handle.old.seal.client }
+    ensures nothing { (result ≡ 1) ⊎ (result ≡ 6) → size.new ≡ 0 }
+    ensures answers { (result ≤ 1) ⊎ (result ≡ 6) ⊎ (result ≡ 7) }
 {
     *size = 0;
     let Some(client) = handle.take(alloc) else {
@@ -329,6 +334,7 @@ pub extern "C" fn cadence_sent(alloc: Global, handle: &mut Handle) -> u32
     ensures refused { result ≢ 0 → handle.new.seal.client ≡ handle.old.seal.client }
     ensures closed { result ≡ 1 → handle.old.seal.client ≡ None }
     ensures none { result ≡ 6 → IsEmpty handle.old.seal.client }
+    ensures answers { (result ≤ 1) ⊎ (result ≡ 6) }
 {
     let Some(mut client) = handle.take(alloc) else {
         return CLOSED;
@@ -348,6 +354,8 @@ pub extern "C" fn cadence_counts(alloc: Global, handle: &mut Handle, counts: &mu
     ensures counted { result ≡ 0 → Counted counts.new handle.old.seal.client }
     ensures kept { handle.new.seal.client ≡ handle.old.seal.client }
     ensures closed { result ≢ 0 → handle.old.seal.client ≡ None }
+    ensures answers { result ≤ 1 }
+    ensures untouched { result ≢ 0 → counts.new ≡ counts.old }
 {
     let Some(client) = handle.take(alloc) else {
         return CLOSED;

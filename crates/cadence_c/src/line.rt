@@ -39,6 +39,7 @@ pub fn write_with<'a, D: TagList>(
         × (line.new.items ≡ line_of
         (with_options (with_tags metric.entry (D.tags defaults.now)) options.now rate))) }
     ensures room { status result ≢ 3 }
+    ensures small { status result ≢ 7 }
     ensures text { status result ≡ 5 → AreTexts options.now → ⊥ }
     ensures invalid { status result ≡ 4 → IsNoRate options.now }
 {

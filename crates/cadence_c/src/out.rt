@@ -7,6 +7,7 @@ use crate::status::{OK, Refusal};
 pub fn copy_out(text: &[u8], out: &mut [u8], size: &mut usize) -> u32
     ensures copied { result ≡ 0 → take size.new out.new ≡ text.now }
     ensures within { result ≡ 0 → size.new ≤ length out.new }
+    ensures told { size.new ≡ length text.now }
     ensures small { result ≢ 0 → (result ≡ 7) × (length out.new < size.new) }
 {
     *size = text.len();

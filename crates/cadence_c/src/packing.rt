@@ -76,7 +76,7 @@ impl Model for Packing {
 }
 
 impl Packing {
-    ghost use Rattle.std.specs.Prelude.{[], take, Some, ◌≡◌, ◌≢◌, ◌<◌, ◌≤◌, ◌%◌, ◌^◌, ◌+◌, ◌++◌, ℕ, List, OnOk, OnErr, IfSome, IsTrue, true, false, ◌↔◌, length, option_copied, slice_get};
+    ghost use Rattle.std.specs.Prelude.{[], ◌⊎◌, take, Some, ◌≡◌, ◌≢◌, ◌<◌, ◌≤◌, ◌%◌, ◌^◌, ◌+◌, ◌++◌, ℕ, List, OnOk, OnErr, IfSome, IsTrue, true, false, ◌↔◌, length, option_copied, slice_get};
     ghost use Rattle.cadence_flow.specs.Frame.{held_packet};
     ghost use Rattle.cadence_schedule.specs.Settings.{with_default_tag, with_default_container};
     ghost use Rattle.cadence_value.specs.Values.{numbers_of};
@@ -134,6 +134,7 @@ impl Packing {
             LacksRoom self.old.queue (length (held_packet self.old.held)) }
         ensures invalid { status result ≢ 4 }
         ensures text { status result ≢ 5 }
+        ensures answers { status result ≤ 3 }
     {
         if self.lines.held().is_empty() {
             return Ok(());
@@ -156,6 +157,7 @@ impl Packing {
         ensures full { status result ≡ 3 → Overflows self.old line.now }
         ensures invalid { status result ≢ 4 }
         ensures text { status result ≢ 5 }
+        ensures answers { status result ≤ 3 }
     {
         let packets = if self.lines.held().is_empty() { 1 } else { 2 };
         if self.lacks_room(packets) {
@@ -176,6 +178,7 @@ impl Packing {
         ensures full { status result ≡ 3 → Overflows self.old line.now }
         ensures invalid { status result ≢ 4 }
         ensures text { status result ≢ 5 }
+        ensures answers { status result ≤ 3 }
     {
         if self.lines.hold(line) {
             return Ok(());
@@ -297,6 +300,10 @@ impl Packing {
             slice_get self.now.queue.waiting 0 ≡ Some (take size.new buf.new) }
         ensures within { result ≡ 0 → size.new ≤ length buf.new }
         ensures none { result ≡ 6 → self.now.queue.waiting ≡ [] }
+        ensures nothing { result ≡ 6 → size.new ≡ 0 }
+        ensures told { result ≡ 7 →
+            IfSome (slice_get self.now.queue.waiting 0) (λ p. size.new ≡ length p) }
+        ensures answers { (result ≡ 0) ⊎ (result ≡ 6) ⊎ (result ≡ 7) }
         ensures small { result ≡ 7 → length buf.new < size.new }
         ensures open { result ≢ 1 }
     {

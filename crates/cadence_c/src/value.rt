@@ -17,6 +17,7 @@ const NANOS: u64 = 1_000_000;
 pub fn signed_value(alloc: Global, values: &[i64]) -> Result<MetricValue, Refusal>
     ensures numbers { IfOk result (λ v. numbers_of v ≡ map whole values.now) }
     ensures room { status result ≢ 3 }
+    ensures small { status result ≢ 7 }
     ensures invalid { status result ≢ 4 }
     ensures text { status result ≢ 5 }
 {
@@ -33,6 +34,7 @@ pub fn signed_value(alloc: Global, values: &[i64]) -> Result<MetricValue, Refusa
 pub fn unsigned_value(alloc: Global, values: &[u64]) -> Result<MetricValue, Refusal>
     ensures numbers { IfOk result (λ v. numbers_of v ≡ map natural values.now) }
     ensures room { status result ≢ 3 }
+    ensures small { status result ≢ 7 }
     ensures invalid { status result ≢ 4 }
     ensures text { status result ≢ 5 }
 {
@@ -49,6 +51,7 @@ pub fn unsigned_value(alloc: Global, values: &[u64]) -> Result<MetricValue, Refu
 pub fn decimal_value(alloc: Global, values: &[CDecimal]) -> Result<MetricValue, Refusal>
     ensures numbers { IfOk result (λ v. AreNumbersOf values.now (numbers_of v)) }
     ensures room { status result ≢ 3 }
+    ensures small { status result ≢ 7 }
     ensures invalid { status result ≡ 4 → AreDecimals values.now → ⊥ }
     ensures text { status result ≢ 5 }
 {
@@ -70,6 +73,7 @@ pub fn decimal_value(alloc: Global, values: &[CDecimal]) -> Result<MetricValue, 
 fn millis_value(alloc: Global, nanos: &[u64]) -> Result<MetricValue, Refusal>
     ensures numbers { IfOk result (λ v. numbers_of v ≡ map natural (map millis_of nanos.now)) }
     ensures room { status result ≢ 3 }
+    ensures small { status result ≢ 7 }
     ensures invalid { status result ≢ 4 }
     ensures text { status result ≢ 5 }
 {
@@ -91,6 +95,7 @@ fn millis_value(alloc: Global, nanos: &[u64]) -> Result<MetricValue, Refusal>
 pub fn duration_value(alloc: Global, kind: u32, nanos: &[u64]) -> Result<MetricValue, Refusal>
     ensures numbers { IfOk result (λ v. durations_of kind nanos.now ≡ Some (numbers_of v)) }
     ensures room { status result ≢ 3 }
+    ensures small { status result ≢ 7 }
     ensures invalid { status result ≡ 4 → durations_of kind nanos.now ≡ None }
     ensures text { status result ≢ 5 }
 {
