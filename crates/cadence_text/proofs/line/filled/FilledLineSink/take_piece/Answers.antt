@@ -8,4 +8,4 @@ invariant_of-self g c =
     let more = c.as_bytes.result.now in
     let new = c.extend_from_slice.new.self.items in
     let items : new ≡ old ++ more = search rules in
-    record { utf8 = utf8_more old more new c.args.self.now.utf8 c.as_bytes.ensures.utf8 items; ahead = search rules; within = search rules }
+    record { utf8 = utf8_more old more new c.args.self.now.utf8 c.as_bytes.ensures.utf8 items; within = search rules }
