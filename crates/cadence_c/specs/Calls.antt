@@ -1,5 +1,5 @@
 -- A call as C makes it, and the metric that it means.
-use Rattle.std.specs.Prelude.{◌≡◌, ◌⊎◌, ◌<◌, ◌≤◌, All, ℕ, ◌/◌, ◌==◌, if◌then◌else◌, ⊤, true, false, List, [], ◌∷◌, ◌++◌, map, Option, Some, None, cond}
+use Rattle.std.specs.Prelude.{◌≡◌, ◌⊎◌, ◌<◌, ◌≤◌, All, ℕ, ◌/◌, ◌==◌, if◌then◌else◌, ⊤, true, false, List, [], ◌∷◌, ◌++◌, map, Option, Some, None, cond, length}
 use Rattle.std.specs.Str.{IsUtf8}
 use Rattle.cadence_text.specs.declared.line.MetricType.{MetricType}
 use Rattle.cadence_text.specs.declared.line.MetricType.TheVariants.{Counter, Timer, Gauge, Meter, Histogram, Set, Distribution}
@@ -69,6 +69,10 @@ pub record IsCall (s : Settings) (k : ℕ) (key : List ℕ) (numbers : List Numb
 -- the line of what a call means
 abbrev pub IsLine : Settings → ℕ → List ℕ → List Number → COptions → List ℕ → Type 0
 IsLine s k key numbers o line = (m : Metric) × IsCall s k key numbers o m × (line ≡ line_of m)
+
+-- how many bytes the line of what a call means has
+abbrev pub TellsLine : ℕ → Settings → ℕ → List ℕ → List Number → COptions → Type 0
+TellsLine size s k key numbers o = (line : List ℕ) × IsLine s k key numbers o line × (size ≡ length line)
 
 -- settings that print a prefix as it stands, and add nothing else
 abbrev pub bare : List ℕ → Settings

@@ -4,7 +4,7 @@ ghost use Rattle.cadence_value.specs.Number.{Number, natural, whole};
 ghost use Rattle.cadence_value.specs.Values.{numbers_of};
 ghost use Rattle.std.specs.Str.{IsUtf8};
 ghost use Rattle.cadence_c.specs.Status.{status};
-ghost use Rattle.cadence_c.specs.Calls.{AreDecimals, AreNumbersOf, IsLine, IsNoCall, IsText, IsTextIfKnown, bare, durations_of};
+ghost use Rattle.cadence_c.specs.Calls.{AreDecimals, AreNumbersOf, IsLine, IsNoCall, IsText, IsTextIfKnown, TellsLine, bare, durations_of};
 
 use crate::call::{CDecimal, COptions, kind_of, text_where};
 use crate::line::write_with;
@@ -63,8 +63,8 @@ fn write_line(
     requires texts { IsTextIfKnown key.now options.now }
     ensures line { result ≡ 0 → IsLine (bare prefix.now) kind key.now (numbers_of value)
         options.now (take size.new out.new) }
-    ensures told { result ≡ 7 → (line : List ℕ) × IsLine (bare prefix.now) kind key.now
-        (numbers_of value) options.now line × (size.new ≡ length line) }
+    ensures told { result ≡ 7 →
+        TellsLine size.new (bare prefix.now) kind key.now (numbers_of value) options.now }
     ensures small { result ≡ 7 → length out.new < size.new }
     ensures nothing { result ≢ 0 → result ≢ 7 → size.new ≡ size.old }
     ensures within { result ≡ 0 → size.new ≤ length out.new }
@@ -94,6 +94,8 @@ pub extern "C" fn cadence_format_signed(
     requires texts { IsTextIfKnown key.now options.now }
     ensures line { result ≡ 0 → IsLine (bare prefix.now) kind key.now (map whole values.now)
         options.now (take size.new out.new) }
+    ensures told { result ≡ 7 →
+        TellsLine size.new (bare prefix.now) kind key.now (map whole values.now) options.now }
     ensures small { result ≡ 7 → length out.new < size.new }
     ensures nothing { result ≢ 0 → result ≢ 7 → size.new ≡ 0 }
     ensures within { result ≡ 0 → size.new ≤ length out.new }
@@ -124,6 +126,8 @@ pub extern "C" fn cadence_format_unsigned(
     requires texts { IsTextIfKnown key.now options.now }
     ensures line { result ≡ 0 → IsLine (bare prefix.now) kind key.now (map natural values.now)
         options.now (take size.new out.new) }
+    ensures told { result ≡ 7 →
+        TellsLine size.new (bare prefix.now) kind key.now (map natural values.now) options.now }
     ensures small { result ≡ 7 → length out.new < size.new }
     ensures nothing { result ≢ 0 → result ≢ 7 → size.new ≡ 0 }
     ensures within { result ≡ 0 → size.new ≤ length out.new }
@@ -154,6 +158,8 @@ pub extern "C" fn cadence_format_decimal(
     requires texts { IsTextIfKnown key.now options.now }
     ensures line { result ≡ 0 → (numbers : List Number) × AreNumbersOf values.now numbers
         × IsLine (bare prefix.now) kind key.now numbers options.now (take size.new out.new) }
+    ensures told { result ≡ 7 → (numbers : List Number) × AreNumbersOf values.now numbers
+        × TellsLine size.new (bare prefix.now) kind key.now numbers options.now }
     ensures small { result ≡ 7 → length out.new < size.new }
     ensures nothing { result ≢ 0 → result ≢ 7 → size.new ≡ 0 }
     ensures within { result ≡ 0 → size.new ≤ length out.new }
@@ -186,6 +192,9 @@ pub extern "C" fn cadence_format_duration(
     ensures line { result ≡ 0 → (numbers : List Number)
         × (durations_of kind nanos.now ≡ Some numbers)
         × IsLine (bare prefix.now) kind key.now numbers options.now (take size.new out.new) }
+    ensures told { result ≡ 7 → (numbers : List Number)
+        × (durations_of kind nanos.now ≡ Some numbers)
+        × TellsLine size.new (bare prefix.now) kind key.now numbers options.now }
     ensures small { result ≡ 7 → length out.new < size.new }
     ensures nothing { result ≢ 0 → result ≢ 7 → size.new ≡ 0 }
     ensures within { result ≡ 0 → size.new ≤ length out.new }
