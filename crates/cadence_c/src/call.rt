@@ -1,5 +1,5 @@
 //! A call as C makes it.
-ghost use Rattle.std.specs.Prelude.{◌≡◌, ◌≢◌, ◌<◌, IfOk, IfErr, OnOk, IfSome, IfNone, true, cond, None, Option, Some};
+ghost use Rattle.std.specs.Prelude.{◌≡◌, ◌≢◌, ◌≤◌, ◌<◌, IfOk, IfErr, OnOk, IfSome, IfNone, true, cond, None, Option, Some};
 ghost use Rattle.std.specs.Str.{IsUtf8};
 ghost use Rattle.cadence_text.specs.Record.{tag_of as record_tag};
 ghost use Rattle.cadence_c.specs.Status.{status};
@@ -121,7 +121,7 @@ fn set_container<'a>(metric: &mut Record<'a>, options: &COptions<'a>) -> Result<
           cond options.now.contained (Some options.now.container.now) metric.old.container;
     }) }
     ensures room { status result ≢ 3 }
-    ensures small { status result ≢ 7 }
+    ensures answers { status result ≤ 5 }
     ensures text { status result ≡ 5 →
         (options.now.contained ≡ true → IsUtf8 options.now.container.now) → ⊥ }
     ensures invalid { status result ≢ 4 }
@@ -141,7 +141,7 @@ fn set_rate(metric: &mut Record<'_>, options: &COptions<'_>) -> Result<(), Refus
     ensures rate { OnOk result (IsRateOf options.now metric.new.rate) }
     ensures rest { metric.new ≡ record metric.old { rate = metric.new.rate } }
     ensures room { status result ≢ 3 }
-    ensures small { status result ≢ 7 }
+    ensures answers { status result ≤ 5 }
     ensures text { status result ≢ 5 }
     ensures invalid { status result ≡ 4 → IsNoRate options.now }
 {
@@ -160,7 +160,7 @@ pub fn add_options<'a>(metric: &mut Record<'a>, options: &COptions<'a>) -> Resul
     ensures added { OnOk result
         (metric.new ≡ with_choices metric.old options.now metric.new.rate) }
     ensures room { status result ≢ 3 }
-    ensures small { status result ≢ 7 }
+    ensures answers { status result ≤ 5 }
     ensures text { status result ≡ 5 →
         (options.now.contained ≡ true → IsUtf8 options.now.container.now) → ⊥ }
     ensures invalid { status result ≡ 4 → IsNoRate options.now }

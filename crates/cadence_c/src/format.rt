@@ -29,7 +29,7 @@ fn line_of(
     requires texts { IsTextIfKnown key.now options.now }
     ensures line { IfOk result (λ line. IsLine (bare prefix.now) kind key.now (numbers_of value)
         options.now line.items) }
-    ensures small { status result ≢ 7 }
+    ensures answers { status result ≤ 5 }
     ensures text { status result ≡ 5 → IsUtf8 prefix.now → IsText key.now options.now → ⊥ }
     ensures invalid { status result ≡ 4 → IsNoCall kind options.now }
 {
@@ -70,6 +70,7 @@ fn write_line(
     ensures within { result ≡ 0 → size.new ≤ length out.new }
     ensures text { result ≡ 5 → IsUtf8 prefix.now → IsText key.now options.now → ⊥ }
     ensures invalid { result ≡ 4 → IsNoCall kind options.now }
+    ensures answers { (result ≤ 5) ⊎ (result ≡ 7) }
 {
     match line_of(alloc, prefix, kind, key, value, options) {
         Ok(line) => copy_out(&line, out, size),
@@ -101,6 +102,7 @@ pub extern "C" fn cadence_format_signed(
     ensures within { result ≡ 0 → size.new ≤ length out.new }
     ensures text { result ≡ 5 → IsUtf8 prefix.now → IsText key.now options.now → ⊥ }
     ensures invalid { result ≡ 4 → IsNoCall kind options.now }
+    ensures answers { (result ≤ 5) ⊎ (result ≡ 7) }
 {
     *size = 0;
     match signed_value(alloc, values) {
@@ -133,6 +135,7 @@ pub extern "C" fn cadence_format_unsigned(
     ensures within { result ≡ 0 → size.new ≤ length out.new }
     ensures text { result ≡ 5 → IsUtf8 prefix.now → IsText key.now options.now → ⊥ }
     ensures invalid { result ≡ 4 → IsNoCall kind options.now }
+    ensures answers { (result ≤ 5) ⊎ (result ≡ 7) }
 {
     *size = 0;
     match unsigned_value(alloc, values) {
@@ -166,6 +169,7 @@ pub extern "C" fn cadence_format_decimal(
     ensures text { result ≡ 5 → IsUtf8 prefix.now → IsText key.now options.now → ⊥ }
     ensures invalid { result ≡ 4 → IsNoCall kind options.now
         ⊎ (AreDecimals values.now → ⊥) }
+    ensures answers { (result ≤ 5) ⊎ (result ≡ 7) }
 {
     *size = 0;
     match decimal_value(alloc, values) {
@@ -201,6 +205,7 @@ pub extern "C" fn cadence_format_duration(
     ensures text { result ≡ 5 → IsUtf8 prefix.now → IsText key.now options.now → ⊥ }
     ensures invalid { result ≡ 4 → IsNoCall kind options.now
         ⊎ (durations_of kind nanos.now ≡ None) }
+    ensures answers { (result ≤ 5) ⊎ (result ≡ 7) }
 {
     *size = 0;
     match duration_value(alloc, kind, nanos) {

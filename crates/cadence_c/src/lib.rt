@@ -59,6 +59,7 @@ pub extern "C" fn cadence_new(
     ensures full { result ≢ 3 }
     ensures text { result ≡ 5 → IsUtf8 prefix.now → ⊥ }
     ensures invalid { result ≡ 4 → (policy_named policy ≡ None) ⊎ (packets < 2) }
+    ensures answers { result ≤ 5 }
 {
     let Some(prefix) = text_of(prefix) else {
         return Refusal::NotUtf8.code();
@@ -96,6 +97,7 @@ pub extern "C" fn cadence_add_tag(alloc: Global, handle: &mut Handle, tag: &CTag
     ensures closed { result ≡ 1 → handle.old.seal.client ≡ None }
     ensures full { result ≢ 3 }
     ensures text { result ≡ 5 → IsTextTag tag.now → ⊥ }
+    ensures answers { (result ≤ 2) ⊎ (result ≡ 5) }
 {
     let Some(tag) = tag_of(tag) else {
         return Refusal::NotUtf8.code();
@@ -117,6 +119,7 @@ pub extern "C" fn cadence_set_container(alloc: Global, handle: &mut Handle, cont
     ensures closed { result ≡ 1 → handle.old.seal.client ≡ None }
     ensures full { result ≢ 3 }
     ensures text { result ≡ 5 → IsUtf8 container.now → ⊥ }
+    ensures answers { (result ≤ 2) ⊎ (result ≡ 5) }
 {
     let Some(container) = text_of(container) else {
         return Refusal::NotUtf8.code();
@@ -147,6 +150,7 @@ fn keep(
         handle.old.seal.client }
     ensures text { result ≡ 5 → IsText key.now options.now → ⊥ }
     ensures invalid { result ≡ 4 → IsNoCall kind options.now }
+    ensures answers { result ≤ 5 }
 {
     let Some(mut client) = handle.take(alloc) else {
         return CLOSED;
@@ -175,6 +179,7 @@ pub extern "C" fn cadence_signed(
         handle.old.seal.client }
     ensures text { result ≡ 5 → IsText key.now options.now → ⊥ }
     ensures invalid { result ≡ 4 → IsNoCall kind options.now }
+    ensures answers { result ≤ 5 }
 {
     match signed_value(alloc, values) {
         Ok(value) => keep(alloc, handle, kind, key, value, options),
@@ -201,6 +206,7 @@ pub extern "C" fn cadence_unsigned(
         handle.old.seal.client }
     ensures text { result ≡ 5 → IsText key.now options.now → ⊥ }
     ensures invalid { result ≡ 4 → IsNoCall kind options.now }
+    ensures answers { result ≤ 5 }
 {
     match unsigned_value(alloc, values) {
         Ok(value) => keep(alloc, handle, kind, key, value, options),
@@ -228,6 +234,7 @@ pub extern "C" fn cadence_decimal(
     ensures text { result ≡ 5 → IsText key.now options.now → ⊥ }
     ensures invalid { result ≡ 4 → IsNoCall kind options.now
         ⊎ (AreDecimals values.now → ⊥) }
+    ensures answers { result ≤ 5 }
 {
     match decimal_value(alloc, values) {
         Ok(value) => keep(alloc, handle, kind, key, value, options),
@@ -258,6 +265,7 @@ pub extern "C" fn cadence_duration(
     ensures text { result ≡ 5 → IsText key.now options.now → ⊥ }
     ensures invalid { result ≡ 4 → IsNoCall kind options.now
         ⊎ (durations_of kind nanos.now ≡ None) }
+    ensures answers { result ≤ 5 }
 {
     match duration_value(alloc, kind, nanos) {
         Ok(value) => keep(alloc, handle, kind, key, value, options),

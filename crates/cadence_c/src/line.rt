@@ -1,5 +1,5 @@
 //! The line of a call.
-ghost use Rattle.std.specs.Prelude.{◌≡◌, ◌≢◌, All, IfNone, IfSome, map, true, OnOk, None, Option};
+ghost use Rattle.std.specs.Prelude.{◌≡◌, ◌≢◌, ◌≤◌, All, IfNone, IfSome, map, true, OnOk, None, Option};
 ghost use Rattle.cadence_text.specs.Line.{line_of};
 ghost use Rattle.cadence_text.specs.More.{with_tags};
 ghost use Rattle.cadence_value.specs.Number.{Number};
@@ -39,7 +39,7 @@ pub fn write_with<'a, D: TagList>(
         × (line.new.items ≡ line_of
         (with_options (with_tags metric.entry (D.tags defaults.now)) options.now rate))) }
     ensures room { status result ≢ 3 }
-    ensures small { status result ≢ 7 }
+    ensures answers { status result ≤ 5 }
     ensures text { status result ≡ 5 → AreTexts options.now → ⊥ }
     ensures invalid { status result ≡ 4 → IsNoRate options.now }
 {

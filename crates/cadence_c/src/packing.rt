@@ -211,6 +211,7 @@ impl Packing {
         ensures room { status result ≢ 3 }
         ensures text { status result ≡ 5 → IsText key.now options.now → ⊥ }
         ensures invalid { status result ≡ 4 → IsNoCall kind options.now }
+        ensures answers { status result ≤ 5 }
     {
         let Some(key) = text_where(key, options.known) else {
             return Err(Refusal::NotUtf8);
@@ -241,6 +242,7 @@ impl Packing {
             × Overflows self.old line }
         ensures text { status result ≡ 5 → IsText key.now options.now → ⊥ }
         ensures invalid { status result ≡ 4 → IsNoCall kind options.now }
+        ensures answers { status result ≤ 5 }
     {
         let mut line = mem::replace(&mut self.line, Vec::new(alloc));
         let answer = match self.write_line(alloc, kind, key, value, options, &mut line) {
@@ -260,6 +262,7 @@ impl Packing {
         ensures refused { OnErr result (self.new ≡ self.old) }
         ensures full { status result ≢ 3 }
         ensures text { status result ≢ 5 }
+        ensures answers { status result ≤ 2 }
     {
         match self.settings.add_tag(key, text) {
             Ok(()) => Ok(()),
@@ -276,6 +279,7 @@ impl Packing {
         ensures refused { OnErr result (self.new ≡ self.old) }
         ensures full { status result ≢ 3 }
         ensures text { status result ≢ 5 }
+        ensures answers { status result ≤ 2 }
     {
         match self.settings.set_container(container) {
             Ok(()) => Ok(()),

@@ -1,5 +1,5 @@
 //! The values of a call.
-ghost use Rattle.std.specs.Prelude.{◌≡◌, ◌≢◌, IfOk, IfErr, map, Some, None};
+ghost use Rattle.std.specs.Prelude.{◌≡◌, ◌≢◌, ◌≤◌, IfOk, IfErr, map, Some, None};
 ghost use Rattle.cadence_value.specs.Number.{natural, whole};
 ghost use Rattle.cadence_value.specs.Values.{numbers_of};
 ghost use Rattle.cadence_c.specs.Status.{status};
@@ -17,7 +17,7 @@ const NANOS: u64 = 1_000_000;
 pub fn signed_value(alloc: Global, values: &[i64]) -> Result<MetricValue, Refusal>
     ensures numbers { IfOk result (λ v. numbers_of v ≡ map whole values.now) }
     ensures room { status result ≢ 3 }
-    ensures small { status result ≢ 7 }
+    ensures answers { status result ≤ 5 }
     ensures invalid { status result ≢ 4 }
     ensures text { status result ≢ 5 }
 {
@@ -34,7 +34,7 @@ pub fn signed_value(alloc: Global, values: &[i64]) -> Result<MetricValue, Refusa
 pub fn unsigned_value(alloc: Global, values: &[u64]) -> Result<MetricValue, Refusal>
     ensures numbers { IfOk result (λ v. numbers_of v ≡ map natural values.now) }
     ensures room { status result ≢ 3 }
-    ensures small { status result ≢ 7 }
+    ensures answers { status result ≤ 5 }
     ensures invalid { status result ≢ 4 }
     ensures text { status result ≢ 5 }
 {
@@ -51,7 +51,7 @@ pub fn unsigned_value(alloc: Global, values: &[u64]) -> Result<MetricValue, Refu
 pub fn decimal_value(alloc: Global, values: &[CDecimal]) -> Result<MetricValue, Refusal>
     ensures numbers { IfOk result (λ v. AreNumbersOf values.now (numbers_of v)) }
     ensures room { status result ≢ 3 }
-    ensures small { status result ≢ 7 }
+    ensures answers { status result ≤ 5 }
     ensures invalid { status result ≡ 4 → AreDecimals values.now → ⊥ }
     ensures text { status result ≢ 5 }
 {
@@ -73,7 +73,7 @@ pub fn decimal_value(alloc: Global, values: &[CDecimal]) -> Result<MetricValue, 
 fn millis_value(alloc: Global, nanos: &[u64]) -> Result<MetricValue, Refusal>
     ensures numbers { IfOk result (λ v. numbers_of v ≡ map natural (map millis_of nanos.now)) }
     ensures room { status result ≢ 3 }
-    ensures small { status result ≢ 7 }
+    ensures answers { status result ≤ 5 }
     ensures invalid { status result ≢ 4 }
     ensures text { status result ≢ 5 }
 {
@@ -95,7 +95,7 @@ fn millis_value(alloc: Global, nanos: &[u64]) -> Result<MetricValue, Refusal>
 pub fn duration_value(alloc: Global, kind: u32, nanos: &[u64]) -> Result<MetricValue, Refusal>
     ensures numbers { IfOk result (λ v. durations_of kind nanos.now ≡ Some (numbers_of v)) }
     ensures room { status result ≢ 3 }
-    ensures small { status result ≢ 7 }
+    ensures answers { status result ≤ 5 }
     ensures invalid { status result ≡ 4 → durations_of kind nanos.now ≡ None }
     ensures text { status result ≢ 5 }
 {
