@@ -18,6 +18,7 @@ use crate::line::sink::LineSink;
 use crate::line::tag::Tag;
 use cadence_value::decimal::Decimal;
 use cadence_value::value::MetricValue;
+use core::mem;
 use std::alloc::Allocator;
 
 // The bar and the type text.
@@ -52,31 +53,46 @@ fn push_tag<S: LineSink>(line: &mut S, tag: &Tag<'_>)
     line.take_piece(tag.text);
 }
 
+// The line with tags after it. A line is taken out of its place meanwhile, so that its end stays in a register.
+fn line_with_tags<S: LineSink>(line: S, tags: &[Tag<'_>]) -> (S, ())
+    ensures taken { Takes S.ends_as line (tags_field (map tag_of tags.now)) result.0 }
+    ensures sized { AreRecordTags (map tag_of tags.now) }
+    ensures few { length (map tag_of tags.now) < 2 ^ 58 }
+{
+    let Some((first, others)) = tags.split_first() else {
+        return (line, ());
+    };
+    let mut line = line;
+    line.take_byte(b'|');
+    line.take_byte(b'#');
+    push_tag(&mut line, first);
+    for tag in others {
+        line.take_byte(b',');
+        push_tag(&mut line, tag);
+    }
+    (line, ())
+}
+
+#[inline]
 pub(crate) fn push_tags<S: LineSink>(line: &mut S, tags: &[Tag<'_>])
     ensures taken { Takes S.ends_as line.old (tags_field (map tag_of tags.now)) line.new }
     ensures sized { AreRecordTags (map tag_of tags.now) }
     ensures few { length (map tag_of tags.now) < 2 ^ 58 }
 {
-    let Some((first, others)) = tags.split_first() else {
-        return;
-    };
-    line.take_byte(b'|');
-    line.take_byte(b'#');
-    push_tag(line, first);
-    for tag in others {
-        line.take_byte(b',');
-        push_tag(line, tag);
+    if !tags.is_empty() {
+        mem::replace_with(line, tags, line_with_tags);
     }
 }
 
-// Tags after others, where some began, and answers whether some have begun now.
-pub(crate) fn push_more<S: LineSink, T: TagList>(line: &mut S, tags: &T, after: bool) -> bool
-    ensures taken { Takes S.ends_as line.old (more_tags after (T.tags tags.now)) line.new }
-    ensures begun { result ≡ has_begun after (T.tags tags.now) }
-    ensures each { All IsRecordTag (T.tags tags.now) }
-    ensures few { length (T.tags tags.now) < 2 ^ 58 }
+// The line with tags after others, where some began, and whether some have begun now.
+fn line_with_more<S: LineSink, T: TagList>(line: S, more: (&T, bool)) -> (S, bool)
+    ensures taken { Takes S.ends_as line (more_tags more.entry.1 (T.tags more.entry.0.now)) result.0 }
+    ensures begun { result.1 ≡ has_begun more.entry.1 (T.tags more.entry.0.now) }
+    ensures each { All IsRecordTag (T.tags more.entry.0.now) }
+    ensures few { length (T.tags more.entry.0.now) < 2 ^ 58 }
 {
-    let mut begun = after;
+    let (tags, after) = more;
+    let (mut line, mut begun) = (line, after);
     for index in 0..tags.len() {
         if begun {
             line.take_byte(b',');
@@ -85,9 +101,22 @@ pub(crate) fn push_more<S: LineSink, T: TagList>(line: &mut S, tags: &T, after: 
             line.take_byte(b'#');
             begun = true;
         }
-        push_tag(line, &tags.get(index));
+        push_tag(&mut line, &tags.get(index));
     }
-    begun
+    (line, begun)
+}
+
+#[inline]
+pub(crate) fn push_more<S: LineSink, T: TagList>(line: &mut S, tags: &T, after: bool) -> bool
+    ensures taken { Takes S.ends_as line.old (more_tags after (T.tags tags.now)) line.new }
+    ensures begun { result ≡ has_begun after (T.tags tags.now) }
+    ensures each { All IsRecordTag (T.tags tags.now) }
+    ensures few { length (T.tags tags.now) < 2 ^ 58 }
+{
+    if tags.len() == 0 {
+        return after;
+    }
+    mem::replace_with(line, (tags, after), line_with_more)
 }
 
 pub(crate) fn push_container<S: LineSink>(line: &mut S, container: Option<&str>)

@@ -4,7 +4,7 @@ use Rattle.cadence_text.specs.Line.{tag_text}
 use Rattle.cadence_text.specs.Record.{tag_of}
 use Rattle.cadence_text.specs.RecordMetric.{IsRecordTag}
 use Rattle.cadence_text.specs.Sink.{Takes}
-use Rattle.cadence_text.proofs.line.pieces.push_tags.Given as goal
+use Rattle.cadence_text.proofs.line.pieces.line_with_tags.Given as goal
 
 abbrev pub invariant-loop-tag : goal.invariant-loop-tag
 invariant-loop-tag g l = record {
