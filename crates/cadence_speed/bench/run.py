@@ -1,0 +1,190 @@
+#!/usr/bin/env python3
+"""Measures the work of cadence_speed, beside a program that does the same work over the Rust crate where one is given, and
+prints the tables of docs/SPEED.md. Both programs take MODE N [SIZES] and tell `check=..` and `ns_per=..`, and of a queue
+`accepted=..` and `drained_ns_per=..`. A check that differs is told, and ends the run with status 1."""
+import argparse, collections, os, re, statistics, subprocess, sys, tempfile
+from typing import NamedTuple
+
+
+class Work(NamedTuple):
+    """A mode, the sizes that all its runs have, those of which each run has one, and what a call does."""
+    mode: str
+    sizes: str
+    each: str
+    what: str
+    timed: int           # the calls of a run that is timed
+    apart: int = 20000   # the calls by which two runs differ whose instructions are compared
+    parts: int = 1       # in how many parts a call's figures are told
+
+    def runs(self):
+        return [[*self.sizes.split(), *one] for one in ([size] for size in self.each.split())] or [self.sizes.split()]
+
+    def title(self):
+        return f'`{" ".join([self.mode, *self.sizes.split()])}` | ' + self.what.format(', '.join(self.each.split()))
+
+
+MODES = [
+    Work('count', '', '', 'a counter without tags, into a sink that does nothing', 1000000),
+    Work('count_tags', '', '', 'the same with three tags', 500000),
+    Work('histogram4', '', '', 'a histogram of four values', 500000),
+    Work('tags', '', '1 3 10 20 50 200', 'a counter with {} tags of its own', 50000),
+    Work('dtags', '', '3 20 50', 'a counter with {} default tags', 100000),
+    Work('values', '', '10 1000', 'a histogram of {} values', 20000, 2000),
+    Work('key', '', '100 1000', 'a counter with a key of {} bytes', 500000),
+    Work('packer', '512 20', '', 'a line of 20 bytes into a packer of 512', 5000000),
+    Work('packer', '1432 60', '', 'a line of 60 bytes into a packer of 1432', 5000000),
+    Work('packer', '16 20', '', 'a line that passes the capacity', 5000000),
+    Work('udp', '512 20', '', 'a line into a buffered UDP sink', 200000),
+    Work('udp', '1432', '100 300 400 700 1000 1400', 'a line of {} bytes into a buffered UDP sink', 100000),
+    Work('udp', '16 20', '', 'a line alone in a packet', 100000),
+    Work('queue', '0 20', '', 'a line into an unbounded queue, with its worker\'s part', 500000),
+    Work('queue', '1 20', '', 'a refused line: the queue is nearly always full', 500000),
+    Work('queue', '1024 20', '', 'a line into a queue of 1024', 500000),
+    Work('callers', '0 20', '1 2 4', 'the same of {} callers, unbounded', 500000),
+    Work('callers', '1024 20', '1 2 4', 'the same of {} callers, of 1024 lines', 500000),
+    Work('udp_callers', '512 20', '1 2 4', 'a line of {} callers into a buffered UDP sink', 200000),
+    Work('service', '0', '1 2 4', 'a counter of {} callers, through an unbounded queue into a buffered UDP sink', 200000),
+    Work('service', '1024', '1 2 4', 'the same through one of 1024 lines', 200000),
+    Work('drop', '1 20', '', 'a line that drops another', 500000),
+    Work('read', '512 20', '', 'a byte of a packet of counters of 20 bytes', 20000, 500, 24 * 21),
+    Work('read', '1432 20', '', 'the same', 10000, 500, 68 * 21),
+    Work('read', '1432 60', '', 'a byte of a packet of counters of 60 bytes', 20000, 500, 23 * 61),
+    Work('read_full', '512 93', '', 'a byte of a packet of lines with every field', 20000, 500, 5 * 94),
+    Work('read_full', '1432 93', '', 'the same', 10000, 500, 15 * 94),
+]
+HERE_ALONE = ('drop', 'read', 'read_full')   # what the Rust crate has nothing like
+PACKED = ('packer', 'udp', 'udp_callers')
+QUEUED = ('queue', 'callers', 'service')
+
+
+class Programs:
+    """The programs by their names, this one last, and the checks that each kind of run told."""
+
+    def __init__(self, this, rust):
+        self.paths = {**({'Rust': rust} if rust else {}), 'This': this}
+        self.checks = collections.defaultdict(set)
+
+    def names(self, work):
+        return [name for name in self.paths if name == 'This' or work.mode not in HERE_ALONE]
+
+    def run(self, name, mode, calls, sizes, before=()):
+        """What a run tells: each word of the form `name=value`, and all that it wrote."""
+        words = [mode, str(calls), *sizes]
+        ran = subprocess.run([*before, self.paths[name], *words], capture_output=True, text=True)
+        told = dict(re.findall(r'(\w+)=(\S+)', ran.stdout + '\n' + ran.stderr))
+        if ran.returncode or 'check' not in told:
+            sys.exit(f'{name}: {" ".join(words)} ended with {ran.returncode}: {ran.stderr:.400}')
+        self.checks[' '.join(words)].add(told['check'])
+        return told, ran.stderr
+
+    def differences(self):
+        return [f'{words}: the checks are {", ".join(sorted(found))}' for words, found in self.checks.items() if len(found) > 1]
+
+
+def lines_together(mode, sizes):
+    """How many lines fill a packet, so that runs end with a whole one; where nothing is packed, or each alone, 1."""
+    return max(1, int(sizes[0]) // (int(sizes[1]) + 1)) if mode in PACKED else 1
+
+
+def a_call(programs, name, work, sizes, apart, before, pattern):
+    """What valgrind counts for a call: the difference of two runs, which leaves out start and end."""
+    together, counts = lines_together(work.mode, sizes), []
+    two = [-(-calls // together) * together for calls in (apart // 10, apart // 10 + apart)]
+    for calls in two:
+        _, wrote = programs.run(name, work.mode, calls, sizes, ('valgrind', *before))
+        counts.append(int(re.search(pattern, wrote).group(1).replace(',', '')))
+    return (counts[1] - counts[0]) / (two[1] - two[0]) / work.parts
+
+
+def instructions(programs, name, work, sizes):
+    with tempfile.TemporaryDirectory() as room:
+        before = ('--tool=callgrind', f'--callgrind-out-file={room}/out')
+        return a_call(programs, name, work, sizes, work.apart, before, r'Collected : (\d+)')
+
+
+def requests(programs, name, work, sizes):
+    return a_call(programs, name, work, sizes, min(work.apart, 2000), ('--tool=memcheck',), r'total heap usage: ([\d,]+) allocs')
+
+
+def row(work, columns):
+    """A line of a table, whose cells have what each run of the work has, where there is any."""
+    return ' | '.join(['| ' + work.title(), *(', '.join(one for one in column if one) for column in columns)]) + ' |'
+
+
+def ratios(found, digits=2):
+    return [f'{this / rust:.{digits}f}' if rust else '' for rust, this in found]
+
+
+def counted(programs, works, count, title, digits):
+    """A table of what one count gives for each work."""
+    print(f'\n| Mode | What a call does | {title}, Rust | {title}, this | Ratio |\n|---|---|---|---|---|')
+    for work in works:
+        found = []
+        for sizes in work.runs():
+            values = {name: count(programs, name, work, sizes) for name in programs.names(work)}
+            found.append((values.get('Rust'), values['This']))
+        texts = [[f'{value:.{digits}f}' if value is not None else '' for value in column] for column in zip(*found)]
+        print(row(work, [*texts, ratios(found)]), flush=True)
+
+
+def spread(values):
+    return f'{statistics.median(values):.1f} ({min(values):.1f}..{max(values):.1f})' if values else ''
+
+
+def timed(programs, work, sizes, runs):
+    """Of each program the nanoseconds of a call, the lines got through in a millisecond and the lines accepted of a
+    hundred, run by run, in turns."""
+    found = collections.defaultdict(lambda: ([], [], []))
+    for name in programs.names(work) * runs:
+        told, _ = programs.run(name, work.mode, work.timed, sizes)
+        times, lines, accepted = found[name]
+        times.append(float(told['ns_per']) / work.parts)
+        if work.mode in QUEUED:
+            accepted.append(100 * int(told['accepted']) / work.timed)
+            lines.append(int(told['accepted']) * 1e6 / (float(told['drained_ns_per']) * work.timed))
+    return [found['Rust'], found['This']]
+
+
+def middle(values):
+    return statistics.median(values) if values else None
+
+
+def times(programs, works, runs):
+    """The tables of times, and of what came through the queues: medians, least and greatest."""
+    all_runs = [(work, [timed(programs, work, sizes, runs) for sizes in work.runs()]) for work in works]
+    for place, title, some in [(0, 'Nanoseconds of a call', works),
+                               (1, 'Lines got through in a millisecond', [work for work in works if work.mode in QUEUED]),
+                               (2, 'Accepted of a hundred', [work for work in works if work.mode in QUEUED])]:
+        print(f'\n| Mode | What a call does | {title}, Rust | This | Ratio |\n|---|---|---|---|---|' if some else '')
+        for work, found in all_runs:
+            if work in some:
+                pairs = [(rust[place], this[place]) for rust, this in found]
+                middles = [(middle(rust), middle(this)) for rust, this in pairs]
+                print(row(work, [[spread(values) for values in column] for column in zip(*pairs)] + [ratios(middles)]))
+
+
+def main():
+    options = argparse.ArgumentParser(description=__doc__)
+    options.add_argument('--this', required=True, help='the program cadence_speed')
+    options.add_argument('--rust', help='the program over the Rust crate')
+    options.add_argument('--modes', nargs='+', choices=sorted({work.mode for work in MODES}), help='only these modes')
+    options.add_argument('--instructions', action='store_true', help='by callgrind, of a call')
+    options.add_argument('--requests', action='store_true', help='requests for memory by memcheck, of a call')
+    options.add_argument('--times', action='store_true', help='medians of runs in turns; all three where none is named')
+    options.add_argument('--runs', type=int, default=11, help='how often each program is timed')
+    given = options.parse_args()
+    programs = Programs(given.this, given.rust)
+    works = [work for work in MODES if not given.modes or work.mode in given.modes]
+    every = not (given.instructions or given.requests or given.times)
+    if given.instructions or every:
+        counted(programs, works, instructions, 'Instructions', 1)
+    if given.requests or every:
+        counted(programs, works, requests, 'Requests', 2)
+    if given.times or every:
+        times(programs, works, given.runs)
+    for difference in programs.differences():
+        print(difference, file=sys.stderr)
+    return 1 if programs.differences() else 0
+
+
+sys.exit(main())
