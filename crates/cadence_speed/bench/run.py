@@ -71,7 +71,7 @@ class Programs:
         """What a run tells: each word of the form `name=value`, and all that it wrote."""
         words = [mode, str(calls), *sizes]
         ran = subprocess.run([*before, self.paths[name], *words], capture_output=True, text=True)
-        told = dict(re.findall(r'(\w+)=(\S+)', ran.stdout + '\n' + ran.stderr))
+        told = dict(re.findall(r'(?<!\S)(\w+)=(\S+)', ran.stdout + '\n' + ran.stderr))
         if ran.returncode or 'check' not in told:
             sys.exit(f'{name}: {" ".join(words)} ended with {ran.returncode}: {ran.stderr:.400}')
         self.checks[' '.join(words)].add(told['check'])

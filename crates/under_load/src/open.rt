@@ -1,0 +1,131 @@
+//! A queue whose wrapped sink takes each line at once.
+
+use crate::callers::{Answered, CALLERS, Pace, Totals, all_answered};
+use crate::queues::{CAPACITY, Kind, Queue, queue_of};
+use crate::record::{Record, Shared, is_set};
+use crate::turns::{Runtime, in_time, yes_or_no};
+use cadence::MetricResult;
+use std::alloc::Global;
+
+/// The emits of all callers.
+pub const EMITS: u64 = 1_000_000;
+
+/// The emits of the callers, of which the last one stops early.
+const OF_EACH: [u64; CALLERS] = [300_000, 300_000, 300_000, 100_000];
+
+// Whether just those lines of each caller came, in their order, that were accepted.
+fn are_the_accepted(answers: &[Answered], record: &Record) -> bool {
+    answers.iter().all(|one| {
+        record.callers.get(one.caller).is_some_and(|came| (came.lines, came.trace)
+            == (one.accepted, one.trace))
+    })
+}
+
+// What the queue counts once it is empty.
+#[derive(Clone, Copy, Drop)]
+struct Counts {
+    submitted: u64,
+    drained: u64,
+    dropped: u64,
+}
+
+// Waits until each line was taken or dropped.
+fn once_empty<R: Runtime>(rt: &R, queue: &Queue<R>) -> Counts {
+    let submitted = queue.submitted();
+    in_time(
+        rt,
+        &|| queue.drained().wrapping_add(queue.dropped()) == submitted,
+    );
+    Counts {
+        submitted: queue.submitted(),
+        drained: queue.drained(),
+        dropped: queue.dropped(),
+    }
+}
+
+// What the queue says of the emits.
+fn counted(alloc: Global, kind: Kind, totals: &Totals, counts: &Counts) -> MetricResult<String> {
+    let Totals {
+        accepted,
+        refused,
+        most,
+        ..
+    } = *totals;
+    let Counts {
+        submitted,
+        drained,
+        dropped,
+    } = *counts;
+    let mut text = match kind {
+        Kind::Unbounded => format!(in alloc; "  accepted {accepted}, dropped {dropped}\n")?,
+        Kind::Refusing => {
+            let answered = accepted.wrapping_add(refused);
+            format!(in alloc; "  accepted or refused {answered}, dropped {dropped}\n")?
+        }
+        Kind::Dropping => format!(in alloc; "  accepted {accepted}\n")?,
+    };
+    let (same, passed) = (
+        submitted == accepted,
+        drained.wrapping_add(dropped) == submitted,
+    );
+    writeln!(&mut text, "  submitted as accepted {}", yes_or_no(same))?;
+    writeln!(
+        &mut text,
+        "  drained or dropped as submitted {}",
+        yes_or_no(passed)
+    )?;
+    if kind != Kind::Unbounded {
+        let within = most <= CAPACITY as u64;
+        writeln!(
+            &mut text,
+            "  never more waiting than its capacity {}",
+            yes_or_no(within)
+        )?;
+    }
+    Ok(text)
+}
+
+// What came at the wrapped sink.
+fn handed_on(
+    alloc: Global,
+    kind: Kind,
+    answers: &[Answered],
+    counts: &Counts,
+    shared: &Shared,
+    record: &Record,
+) -> MetricResult<String> {
+    let all = record.lines() == counts.submitted.wrapping_sub(counts.dropped);
+    let one = !is_set(&shared.had_two);
+    let order = record.is_in_order();
+    let mut text = format!(in alloc; "  each comes that isn't dropped {}\n", yes_or_no(all))?;
+    if kind != Kind::Dropping {
+        let same = are_the_accepted(answers, record);
+        writeln!(
+            &mut text,
+            "  just those accepted of each caller {}",
+            yes_or_no(same)
+        )?;
+    }
+    writeln!(&mut text, "  each caller's in order {}", yes_or_no(order))?;
+    writeln!(&mut text, "  one at a time {}", yes_or_no(one))?;
+    Ok(text)
+}
+
+/// Which properties hold.
+pub fn told<R: Runtime>(rt: &R, alloc: Global, kind: Kind) -> MetricResult<String> {
+    let (shared, queue) = queue_of(rt, alloc, kind, true)?;
+    let answers = all_answered(rt, alloc, &queue, Pace::AtOnce, OF_EACH)?;
+    let counts = once_empty(rt, &queue);
+    let mut text = format!(in alloc; "  callers that come to their end {}\n", answers.len())?;
+    text.push_str(&counted(alloc, kind, &Totals::of(&answers), &counts)?)?;
+    drop(queue);
+    let goes = in_time(rt, &|| is_set(&shared.gone));
+    let record = shared.record.lock(rt);
+    text.push_str(&handed_on(alloc, kind, &answers, &counts, &shared, &record)?)?;
+    writeln!(
+        &mut text,
+        "  the sink goes after the last handle {}",
+        yes_or_no(goes)
+    )?;
+    Ok(text)
+}
