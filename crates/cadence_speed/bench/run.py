@@ -152,10 +152,11 @@ def middle(values):
 def times(programs, works, runs):
     """The tables of times, and of what came through the queues: medians, least and greatest."""
     all_runs = [(work, [timed(programs, work, sizes, runs) for sizes in work.runs()]) for work in works]
-    for place, title, some in [(0, 'Nanoseconds of a call', works),
-                               (1, 'Lines got through in a millisecond', [work for work in works if work.mode in QUEUED]),
-                               (2, 'Accepted of a hundred', [work for work in works if work.mode in QUEUED])]:
-        print(f'\n| Mode | What a call does | {title}, Rust | This | Ratio |\n|---|---|---|---|---|' if some else '')
+    queued = [work for work in works if work.mode in QUEUED]
+    for place, title, some in [(0, 'Nanoseconds of a call', works), (1, 'Lines got through in a millisecond', queued),
+                               (2, 'Accepted of a hundred', queued)]:
+        if some:
+            print(f'\n| Mode | What a call does | {title}, Rust | This | Ratio |\n|---|---|---|---|---|')
         for work, found in all_runs:
             if work in some:
                 pairs = [(rust[place], this[place]) for rust, this in found]
