@@ -17,7 +17,7 @@ pub const CALLERS: usize = 4;
 const EMITS_OF_A_HANDLE: u64 = 100;
 
 /// What a caller was answered.
-#[derive(Clone, Copy, Debug, Drop)]
+#[derive(Clone, Copy, Drop)]
 pub struct Answered {
     /// The caller.
     pub caller: usize,
@@ -58,7 +58,7 @@ impl Answered {
 }
 
 /// What all callers were answered.
-#[derive(Clone, Copy, Debug, Drop)]
+#[derive(Clone, Copy, Drop)]
 pub struct Totals {
     /// The lines accepted.
     pub accepted: u64,
@@ -86,7 +86,7 @@ impl Totals {
 }
 
 /// How a caller goes on after an emit.
-#[derive(Clone, Copy, Debug, PartialEq, Eq)]
+#[derive(Clone, Copy, PartialEq, Eq)]
 pub enum Pace {
     /// At once, now and then with a new handle.
     AtOnce,

@@ -12,7 +12,7 @@ use std::sync::Arc;
 pub const CAPACITY: usize = 1024;
 
 /// What a full queue does, where it can be full.
-#[derive(Clone, Copy, Debug, PartialEq, Eq)]
+#[derive(Clone, Copy, PartialEq, Eq)]
 pub enum Kind {
     /// It has no bound.
     Unbounded,

@@ -18,7 +18,7 @@ pub fn trace(before: u64, number: u64) -> u64 {
 }
 
 /// What came of a caller.
-#[derive(Clone, Copy, Debug, Drop)]
+#[derive(Clone, Copy, Drop)]
 pub struct Came {
     /// The lines that came.
     pub lines: u64,
