@@ -1,7 +1,7 @@
 //! Callers, each in a thread of its own and over handles of its own.
 
 use crate::queues::Queue;
-use crate::record::trace;
+use crate::record::{CALLERS, trace};
 use crate::turns::{Runtime, in_time};
 use cadence::prelude::*;
 use cadence::types::{Counter, SinkError};
@@ -9,9 +9,6 @@ use cadence::{MetricResult, StatsdClient};
 use std::alloc::Global;
 use std::sync::{Arc, Mutex};
 use std::thread;
-
-/// How many callers there are.
-pub const CALLERS: usize = 4;
 
 /// After so many emits a caller takes a new handle, and lets its old one go.
 const EMITS_OF_A_HANDLE: u64 = 100;

@@ -1,8 +1,8 @@
 //! A queue that nobody empties until its last handle is gone.
 
-use crate::callers::{CALLERS, Pace, Totals, all_answered};
+use crate::callers::{Pace, Totals, all_answered};
 use crate::queues::{Kind, Queue, queue_of};
-use crate::record::{Came, Shared, is_set, set};
+use crate::record::{CALLERS, Came, Shared, is_set, set};
 use crate::turns::{Runtime, in_time, yes_or_no};
 use cadence::{MetricResult, MetricSink};
 use std::alloc::Global;

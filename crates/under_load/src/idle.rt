@@ -1,7 +1,8 @@
 //! A queue whose worker sleeps before most lines.
 
-use crate::callers::{CALLERS, Pace, Totals, all_answered};
+use crate::callers::{Pace, Totals, all_answered};
 use crate::queues::{Kind, queue_of};
+use crate::record::CALLERS;
 use crate::turns::Runtime;
 use cadence::MetricResult;
 use std::alloc::Global;

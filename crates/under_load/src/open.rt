@@ -1,8 +1,8 @@
 //! A queue whose wrapped sink takes each line at once.
 
-use crate::callers::{Answered, CALLERS, Pace, Totals, all_answered};
+use crate::callers::{Answered, Pace, Totals, all_answered};
 use crate::queues::{CAPACITY, Kind, Queue, queue_of};
-use crate::record::{Record, Shared, is_set};
+use crate::record::{CALLERS, Record, Shared, is_set};
 use crate::turns::{Runtime, in_time, yes_or_no};
 use cadence::MetricResult;
 use std::alloc::Global;

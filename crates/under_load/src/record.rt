@@ -1,6 +1,5 @@
 //! The wrapped sink, which records the last number of each caller.
 
-use crate::callers::CALLERS;
 use crate::turns::in_time;
 use cadence::MetricSink;
 use cadence::types::SinkError;
@@ -8,6 +7,9 @@ use std::alloc::{AllocError, Global};
 use std::sync::atomic::{AtomicBool, Ordering};
 use std::sync::{Arc, Mutex, Wait};
 use std::time::Clock;
+
+/// How many callers there are.
+pub const CALLERS: usize = 4;
 
 /// A number for a list of numbers that is made longer by one. Other numbers, or the same in another order, have
 /// another one, but for a rare chance.

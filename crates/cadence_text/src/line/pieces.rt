@@ -86,7 +86,8 @@ pub(crate) fn push_tags<S: LineSink>(line: &mut S, tags: &[Tag<'_>])
 
 // The line with tags after others, where some began, and whether some have begun now.
 fn line_with_more<S: LineSink, T: TagList>(line: S, more: (&T, bool)) -> (S, bool)
-    ensures taken { Takes S.ends_as line (more_tags more.entry.1 (T.tags more.entry.0.now)) result.0 }
+    ensures taken { Takes S.ends_as line
+        (more_tags more.entry.1 (T.tags more.entry.0.now)) result.0 }
     ensures begun { result.1 ≡ has_begun more.entry.1 (T.tags more.entry.0.now) }
     ensures each { All IsRecordTag (T.tags more.entry.0.now) }
     ensures few { length (T.tags more.entry.0.now) < 2 ^ 58 }
