@@ -1,9 +1,10 @@
 //! Lines without a client.
-ghost use Rattle.std.specs.Prelude.{◌≡◌, ◌≢◌, ◌⊎◌, ◌<◌, ℕ, true, None, ◌≤◌, List, IfOk, Some, length, map, take};
-ghost use Rattle.cadence_value.specs.Number.{Number, natural, whole};
+ghost use Rattle.std.specs.Prelude.{◌≡◌, ◌≢◌, ◌⊎◌, ◌<◌, true, None, ◌≤◌, IfOk, Some, length, map, take};
+ghost use Rattle.cadence_value.specs.Number.{natural, whole};
 ghost use Rattle.cadence_value.specs.Values.{numbers_of};
 ghost use Rattle.std.specs.Str.{IsUtf8};
 ghost use Rattle.cadence_c.specs.Status.{status};
+ghost use Rattle.cadence_c.specs.Answers.{Formats};
 ghost use Rattle.cadence_c.specs.Calls.{AreDecimals, AreNumbersOf, IsLine, IsNoCall, IsText, IsTextIfKnown, TellsLine, bare, durations_of};
 
 use crate::call::{CDecimal, COptions, kind_of, text_where};
@@ -93,16 +94,8 @@ pub extern "C" fn cadence_format_signed(
 ) -> u32
     requires prefix { options.now.known ≡ true → IsUtf8 prefix.now }
     requires texts { IsTextIfKnown key.now options.now }
-    ensures line { result ≡ 0 → IsLine (bare prefix.now) kind key.now (map whole values.now)
-        options.now (take size.new out.new) }
-    ensures told { result ≡ 7 →
-        TellsLine size.new (bare prefix.now) kind key.now (map whole values.now) options.now }
-    ensures small { result ≡ 7 → length out.new < size.new }
-    ensures nothing { result ≢ 0 → result ≢ 7 → size.new ≡ 0 }
-    ensures within { result ≡ 0 → size.new ≤ length out.new }
-    ensures text { result ≡ 5 → IsUtf8 prefix.now → IsText key.now options.now → ⊥ }
-    ensures invalid { result ≡ 4 → IsNoCall kind options.now }
-    ensures answers { (result ≤ 5) ⊎ (result ≡ 7) }
+    ensures { Formats result prefix.now kind key.now (λ ns. ns ≡ map whole values.now)
+        ⊥ options.now out.new size.new }
 {
     *size = 0;
     match signed_value(alloc, values) {
@@ -126,16 +119,8 @@ pub extern "C" fn cadence_format_unsigned(
 ) -> u32
     requires prefix { options.now.known ≡ true → IsUtf8 prefix.now }
     requires texts { IsTextIfKnown key.now options.now }
-    ensures line { result ≡ 0 → IsLine (bare prefix.now) kind key.now (map natural values.now)
-        options.now (take size.new out.new) }
-    ensures told { result ≡ 7 →
-        TellsLine size.new (bare prefix.now) kind key.now (map natural values.now) options.now }
-    ensures small { result ≡ 7 → length out.new < size.new }
-    ensures nothing { result ≢ 0 → result ≢ 7 → size.new ≡ 0 }
-    ensures within { result ≡ 0 → size.new ≤ length out.new }
-    ensures text { result ≡ 5 → IsUtf8 prefix.now → IsText key.now options.now → ⊥ }
-    ensures invalid { result ≡ 4 → IsNoCall kind options.now }
-    ensures answers { (result ≤ 5) ⊎ (result ≡ 7) }
+    ensures { Formats result prefix.now kind key.now (λ ns. ns ≡ map natural values.now)
+        ⊥ options.now out.new size.new }
 {
     *size = 0;
     match unsigned_value(alloc, values) {
@@ -159,17 +144,8 @@ pub extern "C" fn cadence_format_decimal(
 ) -> u32
     requires prefix { options.now.known ≡ true → IsUtf8 prefix.now }
     requires texts { IsTextIfKnown key.now options.now }
-    ensures line { result ≡ 0 → (numbers : List Number) × AreNumbersOf values.now numbers
-        × IsLine (bare prefix.now) kind key.now numbers options.now (take size.new out.new) }
-    ensures told { result ≡ 7 → (numbers : List Number) × AreNumbersOf values.now numbers
-        × TellsLine size.new (bare prefix.now) kind key.now numbers options.now }
-    ensures small { result ≡ 7 → length out.new < size.new }
-    ensures nothing { result ≢ 0 → result ≢ 7 → size.new ≡ 0 }
-    ensures within { result ≡ 0 → size.new ≤ length out.new }
-    ensures text { result ≡ 5 → IsUtf8 prefix.now → IsText key.now options.now → ⊥ }
-    ensures invalid { result ≡ 4 → IsNoCall kind options.now
-        ⊎ (AreDecimals values.now → ⊥) }
-    ensures answers { (result ≤ 5) ⊎ (result ≡ 7) }
+    ensures { Formats result prefix.now kind key.now (AreNumbersOf values.now)
+        (AreDecimals values.now → ⊥) options.now out.new size.new }
 {
     *size = 0;
     match decimal_value(alloc, values) {
@@ -193,19 +169,8 @@ pub extern "C" fn cadence_format_duration(
 ) -> u32
     requires prefix { options.now.known ≡ true → IsUtf8 prefix.now }
     requires texts { IsTextIfKnown key.now options.now }
-    ensures line { result ≡ 0 → (numbers : List Number)
-        × (durations_of kind nanos.now ≡ Some numbers)
-        × IsLine (bare prefix.now) kind key.now numbers options.now (take size.new out.new) }
-    ensures told { result ≡ 7 → (numbers : List Number)
-        × (durations_of kind nanos.now ≡ Some numbers)
-        × TellsLine size.new (bare prefix.now) kind key.now numbers options.now }
-    ensures small { result ≡ 7 → length out.new < size.new }
-    ensures nothing { result ≢ 0 → result ≢ 7 → size.new ≡ 0 }
-    ensures within { result ≡ 0 → size.new ≤ length out.new }
-    ensures text { result ≡ 5 → IsUtf8 prefix.now → IsText key.now options.now → ⊥ }
-    ensures invalid { result ≡ 4 → IsNoCall kind options.now
-        ⊎ (durations_of kind nanos.now ≡ None) }
-    ensures answers { (result ≤ 5) ⊎ (result ≡ 7) }
+    ensures { Formats result prefix.now kind key.now (λ ns. durations_of kind nanos.now ≡ Some ns)
+        (durations_of kind nanos.now ≡ None) options.now out.new size.new }
 {
     *size = 0;
     match duration_value(alloc, kind, nanos) {

@@ -14,10 +14,11 @@ mod status;
 mod tags;
 mod value;
 
-ghost use Rattle.std.specs.Prelude.{◌≡◌, ◌≢◌, ◌⊎◌, ◌≤◌, ◌<◌, List, None, Some, length, map, take};
+ghost use Rattle.std.specs.Prelude.{◌≡◌, ◌≢◌, ◌⊎◌, ◌≤◌, ◌<◌, None, Some, length, map, take};
 ghost use Rattle.std.specs.Str.{IsUtf8};
-ghost use Rattle.cadence_value.specs.Number.{Number, natural, whole};
+ghost use Rattle.cadence_value.specs.Number.{natural, whole};
 ghost use Rattle.cadence_value.specs.Values.{numbers_of};
+ghost use Rattle.cadence_c.specs.Answers.{Keeps, Refuses};
 ghost use Rattle.cadence_c.specs.Calls.{AreDecimals, AreNumbersOf, IsNoCall, IsText, IsTextIfKnown, IsTextTag, c_tag, durations_of};
 ghost use Rattle.cadence_c.specs.State.{TellsOldest, policy_named, Contained, Counted, Defaulted, Flushed, FullFor, FullForHeld, FullForLine, IsEmpty, IsNew, IsOldest, Kept, KeptLine, Sent};
 
@@ -93,9 +94,7 @@ pub extern "C" fn cadence_free(alloc: Global, handle: &mut Handle)
 pub extern "C" fn cadence_add_tag(alloc: Global, handle: &mut Handle, tag: &CTag<'_>) -> u32
     ensures added { result ≡ 0 →
         Defaulted (c_tag tag.now) handle.old.seal.client handle.new.seal.client }
-    ensures refused { result ≢ 0 → handle.new.seal.client ≡ handle.old.seal.client }
-    ensures closed { result ≡ 1 → handle.old.seal.client ≡ None }
-    ensures full { result ≢ 3 }
+    ensures refused { Refuses result handle.old.seal.client handle.new.seal.client }
     ensures text { result ≡ 5 → IsTextTag tag.now → ⊥ }
     ensures answers { (result ≤ 2) ⊎ (result ≡ 5) }
 {
@@ -115,9 +114,7 @@ pub extern "C" fn cadence_add_tag(alloc: Global, handle: &mut Handle, tag: &CTag
 pub extern "C" fn cadence_set_container(alloc: Global, handle: &mut Handle, container: &[u8]) -> u32
     ensures set { result ≡ 0 →
         Contained container.now handle.old.seal.client handle.new.seal.client }
-    ensures refused { result ≢ 0 → handle.new.seal.client ≡ handle.old.seal.client }
-    ensures closed { result ≡ 1 → handle.old.seal.client ≡ None }
-    ensures full { result ≢ 3 }
+    ensures refused { Refuses result handle.old.seal.client handle.new.seal.client }
     ensures text { result ≡ 5 → IsUtf8 container.now → ⊥ }
     ensures answers { (result ≤ 2) ⊎ (result ≡ 5) }
 {
@@ -144,8 +141,7 @@ fn keep(
     requires { IsTextIfKnown key.now options.now }
     ensures kept { result ≡ 0 → Kept kind key.now (numbers_of value) options.now
         handle.old.seal.client handle.new.seal.client }
-    ensures refused { result ≢ 0 → handle.new.seal.client ≡ handle.old.seal.client }
-    ensures closed { result ≡ 1 → handle.old.seal.client ≡ None }
+    ensures refused { Refuses result handle.old.seal.client handle.new.seal.client }
     ensures full { result ≡ 3 → FullFor kind key.now (numbers_of value) options.now
         handle.old.seal.client }
     ensures text { result ≡ 5 → IsText key.now options.now → ⊥ }
@@ -171,15 +167,8 @@ pub extern "C" fn cadence_signed(
     options: &COptions<'_>,
 ) -> u32
     requires { IsTextIfKnown key.now options.now }
-    ensures kept { result ≡ 0 → Kept kind key.now (map whole values.now) options.now
-        handle.old.seal.client handle.new.seal.client }
-    ensures refused { result ≢ 0 → handle.new.seal.client ≡ handle.old.seal.client }
-    ensures closed { result ≡ 1 → handle.old.seal.client ≡ None }
-    ensures full { result ≡ 3 → FullFor kind key.now (map whole values.now) options.now
-        handle.old.seal.client }
-    ensures text { result ≡ 5 → IsText key.now options.now → ⊥ }
-    ensures invalid { result ≡ 4 → IsNoCall kind options.now }
-    ensures answers { result ≤ 5 }
+    ensures { Keeps result kind key.now (λ ns. ns ≡ map whole values.now)
+        ⊥ options.now handle.old.seal.client handle.new.seal.client }
 {
     match signed_value(alloc, values) {
         Ok(value) => keep(alloc, handle, kind, key, value, options),
@@ -198,15 +187,8 @@ pub extern "C" fn cadence_unsigned(
     options: &COptions<'_>,
 ) -> u32
     requires { IsTextIfKnown key.now options.now }
-    ensures kept { result ≡ 0 → Kept kind key.now (map natural values.now) options.now
-        handle.old.seal.client handle.new.seal.client }
-    ensures refused { result ≢ 0 → handle.new.seal.client ≡ handle.old.seal.client }
-    ensures closed { result ≡ 1 → handle.old.seal.client ≡ None }
-    ensures full { result ≡ 3 → FullFor kind key.now (map natural values.now) options.now
-        handle.old.seal.client }
-    ensures text { result ≡ 5 → IsText key.now options.now → ⊥ }
-    ensures invalid { result ≡ 4 → IsNoCall kind options.now }
-    ensures answers { result ≤ 5 }
+    ensures { Keeps result kind key.now (λ ns. ns ≡ map natural values.now)
+        ⊥ options.now handle.old.seal.client handle.new.seal.client }
 {
     match unsigned_value(alloc, values) {
         Ok(value) => keep(alloc, handle, kind, key, value, options),
@@ -225,16 +207,8 @@ pub extern "C" fn cadence_decimal(
     options: &COptions<'_>,
 ) -> u32
     requires { IsTextIfKnown key.now options.now }
-    ensures kept { result ≡ 0 → (numbers : List Number) × AreNumbersOf values.now numbers
-        × Kept kind key.now numbers options.now handle.old.seal.client handle.new.seal.client }
-    ensures refused { result ≢ 0 → handle.new.seal.client ≡ handle.old.seal.client }
-    ensures closed { result ≡ 1 → handle.old.seal.client ≡ None }
-    ensures full { result ≡ 3 → (numbers : List Number) × AreNumbersOf values.now numbers
-        × FullFor kind key.now numbers options.now handle.old.seal.client }
-    ensures text { result ≡ 5 → IsText key.now options.now → ⊥ }
-    ensures invalid { result ≡ 4 → IsNoCall kind options.now
-        ⊎ (AreDecimals values.now → ⊥) }
-    ensures answers { result ≤ 5 }
+    ensures { Keeps result kind key.now (AreNumbersOf values.now)
+        (AreDecimals values.now → ⊥) options.now handle.old.seal.client handle.new.seal.client }
 {
     match decimal_value(alloc, values) {
         Ok(value) => keep(alloc, handle, kind, key, value, options),
@@ -254,18 +228,9 @@ pub extern "C" fn cadence_duration(
     options: &COptions<'_>,
 ) -> u32
     requires { IsTextIfKnown key.now options.now }
-    ensures kept { result ≡ 0 → (numbers : List Number)
-        × (durations_of kind nanos.now ≡ Some numbers)
-        × Kept kind key.now numbers options.now handle.old.seal.client handle.new.seal.client }
-    ensures refused { result ≢ 0 → handle.new.seal.client ≡ handle.old.seal.client }
-    ensures closed { result ≡ 1 → handle.old.seal.client ≡ None }
-    ensures full { result ≡ 3 → (numbers : List Number)
-        × (durations_of kind nanos.now ≡ Some numbers)
-        × FullFor kind key.now numbers options.now handle.old.seal.client }
-    ensures text { result ≡ 5 → IsText key.now options.now → ⊥ }
-    ensures invalid { result ≡ 4 → IsNoCall kind options.now
-        ⊎ (durations_of kind nanos.now ≡ None) }
-    ensures answers { result ≤ 5 }
+    ensures { Keeps result kind key.now (λ ns. durations_of kind nanos.now ≡ Some ns)
+        (durations_of kind nanos.now ≡ None) options.now
+        handle.old.seal.client handle.new.seal.client }
 {
     match duration_value(alloc, kind, nanos) {
         Ok(value) => keep(alloc, handle, kind, key, value, options),
@@ -278,8 +243,7 @@ pub extern "C" fn cadence_duration(
 pub extern "C" fn cadence_line(alloc: Global, handle: &mut Handle, line: &[u8]) -> u32
     ensures kept { result ≡ 0 →
         KeptLine line.now handle.old.seal.client handle.new.seal.client }
-    ensures refused { result ≢ 0 → handle.new.seal.client ≡ handle.old.seal.client }
-    ensures closed { result ≡ 1 → handle.old.seal.client ≡ None }
+    ensures refused { Refuses result handle.old.seal.client handle.new.seal.client }
     ensures full { result ≡ 3 → FullForLine line.now handle.old.seal.client }
     ensures answers { result ≤ 3 }
 {
@@ -295,8 +259,7 @@ pub extern "C" fn cadence_line(alloc: Global, handle: &mut Handle, line: &[u8]) 
 #[unsafe(no_mangle)]
 pub extern "C" fn cadence_flush(alloc: Global, handle: &mut Handle) -> u32
     ensures flushed { result ≡ 0 → Flushed handle.old.seal.client handle.new.seal.client }
-    ensures refused { result ≢ 0 → handle.new.seal.client ≡ handle.old.seal.client }
-    ensures closed { result ≡ 1 → handle.old.seal.client ≡ None }
+    ensures refused { Refuses result handle.old.seal.client handle.new.seal.client }
     ensures full { result ≡ 3 → FullForHeld handle.old.seal.client }
     ensures answers { result ≤ 3 }
 {
@@ -339,8 +302,7 @@ pub extern "C" fn cadence_next(
 #[unsafe(no_mangle)]
 pub extern "C" fn cadence_sent(alloc: Global, handle: &mut Handle) -> u32
     ensures dropped { result ≡ 0 → Sent handle.old.seal.client handle.new.seal.client }
-    ensures refused { result ≢ 0 → handle.new.seal.client ≡ handle.old.seal.client }
-    ensures closed { result ≡ 1 → handle.old.seal.client ≡ None }
+    ensures refused { Refuses result handle.old.seal.client handle.new.seal.client }
     ensures none { result ≡ 6 → IsEmpty handle.old.seal.client }
     ensures answers { (result ≤ 1) ⊎ (result ≡ 6) }
 {
