@@ -27,7 +27,7 @@ fn used<R: Wait + Abort>(rt: &R, alloc: Global) -> Result<(AuditedQueue, Seat, S
     let Ok(Taken::Text(got)) = queue.take(rt, &mut one) else {
         return Err(Fail::from("no text"));
     };
-    assert_eq!(rt; got.as_str(), "a");
+    assert!(rt; got.as_str() == "a");
     assert!(rt; queue.stop(rt, &mut zero).is_ok());
     let c = queue.submit(rt, &mut one, text(alloc, "c")?);
     assert!(rt; matches!(c, Ok(SubmitReply::Stopped)));
@@ -45,9 +45,9 @@ fn history_of<R: Wait + Abort>(rt: &R, alloc: Global) -> Result<History, Fail> {
 fn events_stand_in_the_order_of_the_calls(rt: HostRuntime) -> Result<(), Fail> {
     let history = history_of(&rt, rt.alloc())?;
     let wanted = [(0, 0), (1, 0), (1, 1), (0, 1), (1, 2)];
-    assert_eq!(rt; history.events().len(), wanted.len());
+    assert!(rt; history.events().len() == wanted.len());
     for (event, place) in history.events().iter().zip(wanted) {
-        assert_eq!(rt; (event.seat, event.count), place);
+        assert!(rt; (event.seat, event.count) == place);
         assert!(rt; event.clone()? == *event);
     }
     Ok(())
@@ -72,7 +72,7 @@ fn no_receipts_agree_with_no_such_history(rt: HostRuntime) -> Result<(), Fail> {
 #[test]
 fn a_seat_has_its_number_and_receipts(rt: HostRuntime) -> Result<(), Fail> {
     let (_queue, _zero, one) = used(&rt, rt.alloc())?;
-    assert_eq!(rt; (one.number(), one.receipts().len()), (1, 3));
+    assert!(rt; one.number() == 1 && one.receipts().len() == 3);
     Ok(())
 }
 
@@ -91,7 +91,7 @@ fn a_seat_past_the_last_is_a_stranger(rt: HostRuntime) -> Result<(), Fail> {
     let (_other, mut seats) = AuditedQueue::new(rt.alloc(), None, 3)?;
     let mut two = seats.pop().ok_or("no seat")?;
     match queue.submit(&rt, &mut two, text(rt.alloc(), "x")?) {
-        Err((AuditError::Stranger, back)) => assert_eq!(rt; back.as_str(), "x"),
+        Err((AuditError::Stranger, back)) => assert!(rt; back.as_str() == "x"),
         _ => return Err(Fail::from("accepted")),
     }
     Ok(())
@@ -151,7 +151,7 @@ fn each_request_of_a_submit_refused(rt: HostRuntime) -> Result<(), Fail> {
         Ok(false)
     });
     assert!(rt; granted?.is_some());
-    assert_eq!(rt; refusals.load(Ordering::SeqCst), 5);
+    assert!(rt; refusals.load(Ordering::SeqCst) == 5);
     Ok(())
 }
 
@@ -171,7 +171,7 @@ fn each_request_of_a_take_refused(rt: HostRuntime) -> Result<(), Fail> {
         };
         refusals.fetch_add(1, Ordering::SeqCst);
         assert!(rt; error == AuditError::OutOfMemory);
-        assert_eq!(rt; seat.receipts().len(), receipts);
+        assert!(rt; seat.receipts().len() == receipts);
         assert!(rt; matches!(queue.take(&rt, &mut seat), Ok(Taken::Text(_))));
         Ok(false)
     });
@@ -199,7 +199,7 @@ fn each_request_of_a_stop_refused(rt: HostRuntime) -> Result<(), Fail> {
     });
     assert!(rt; granted?.is_some());
     // one for the history, and one for the receipt
-    assert_eq!(rt; refusals.load(Ordering::SeqCst), 2);
+    assert!(rt; refusals.load(Ordering::SeqCst) == 2);
     Ok(())
 }
 
@@ -295,7 +295,7 @@ fn run_threads<R: Wait + Abort + Threads + Sync>(
     let (taker, taken) = d?;
     let (taker, taken) = take_all(rt, shared, taker, taken, true)?;
     let accepted = first.saturating_add(second).saturating_add(third);
-    assert_eq!(rt; taken.len(), accepted);
+    assert!(rt; taken.len() == accepted);
     assert!(rt; increase(&taken, "a") && increase(&taken, "b") && increase(&taken, "c"));
     assert!(rt; queue.end(vec![in alloc; zero, one, two, taker]?).is_ok());
     Ok(())

@@ -43,15 +43,19 @@ fn stands(packer: &MultiLineWriter<PacketLog>, packets: &[&str], held: &str) -> 
     took(packer.get_ref(), packets) && packer.held() == held.as_bytes()
 }
 
-fn counted(answer: Result<usize, SinkError>) -> Option<usize> {
-    answer.ok()
+// Whether so many bytes were taken.
+fn is_count(answer: Result<usize, SinkError>, count: usize) -> bool {
+    match answer {
+        Ok(taken) => taken == count,
+        Err(_) => false,
+    }
 }
 
 #[test]
 fn a_flush_goes_on_after_a_short_count(rt: HostRuntime) -> Result<(), Fail> {
     let mut p = made(rt.alloc(), 32, "\n", &[Answer::Short(3)])?;
     for line in ["xyz", "abc"] {
-        assert_eq!(rt; counted(p.write(line.as_bytes())), Some(3));
+        assert!(rt; is_count(p.write(line.as_bytes()), 3));
     }
     assert!(rt; p.flush().is_ok());
     assert!(rt; stands(&p, &["xyz", "\nabc\n"], ""));
@@ -62,18 +66,18 @@ fn a_flush_goes_on_after_a_short_count(rt: HostRuntime) -> Result<(), Fail> {
 fn replaced_writer_comes_back(rt: HostRuntime) -> Result<(), Fail> {
     let alloc = rt.alloc();
     let mut p = made(alloc, 32, "\n", &[])?;
-    assert_eq!(rt; counted(p.write(b"first data")), Some(10));
+    assert!(rt; is_count(p.write(b"first data"), 10));
     assert!(rt; p.flush().is_ok());
-    assert_eq!(rt; counted(p.write(b"second data")), Some(11));
+    assert!(rt; is_count(p.write(b"second data"), 11));
     match p.replace_writer(alloc, PacketLog::new(alloc, Vec::new(alloc))) {
         Ok((old, text)) => {
             assert!(rt; took(&old, &["first data\n"]));
-            assert_eq!(rt; text.as_slice(), b"second data\n".as_slice());
+            assert!(rt; text.as_slice() == b"second data\n".as_slice());
         }
         Err(_back) => return Err(Fail::new("no memory")),
     }
     assert!(rt; stands(&p, &[], ""));
-    assert_eq!(rt; counted(p.write(b"third data")), Some(10));
+    assert!(rt; is_count(p.write(b"third data"), 10));
     assert!(rt; p.flush().is_ok());
     assert!(rt; stands(&p, &["third data\n"], ""));
     Ok(())
@@ -82,12 +86,12 @@ fn replaced_writer_comes_back(rt: HostRuntime) -> Result<(), Fail> {
 #[test]
 fn writer_is_lent_and_given_back(rt: HostRuntime) -> Result<(), Fail> {
     let mut p = made(rt.alloc(), 32, "\n", &[])?;
-    assert_eq!(rt; counted(p.write(b"a:1|c")), Some(5));
-    assert_eq!(rt; counted(p.get_mut().write_packet(b"direct")), Some(6));
+    assert!(rt; is_count(p.write(b"a:1|c"), 5));
+    assert!(rt; is_count(p.get_mut().write_packet(b"direct"), 6));
     assert!(rt; stands(&p, &["direct"], "a:1|c\n"));
     let (log, text) = p.into_parts();
     assert!(rt; took(&log, &["direct"]));
-    assert_eq!(rt; text.as_slice(), b"a:1|c\n".as_slice());
+    assert!(rt; text.as_slice() == b"a:1|c\n".as_slice());
     Ok(())
 }
 
@@ -117,10 +121,10 @@ fn drop_flushes(rt: HostRuntime) -> Result<(), Fail> {
         let Ok(mut p) = MultiLineWriter::new(rt.alloc(), Lender { into: &mut bytes }, 64) else {
             return Err(Fail::new("no memory"));
         };
-        assert_eq!(rt; counted(p.write(b"foo:54|c")), Some(8));
-        assert_eq!(rt; counted(p.write(b"foo:67|c")), Some(8));
+        assert!(rt; is_count(p.write(b"foo:54|c"), 8));
+        assert!(rt; is_count(p.write(b"foo:67|c"), 8));
     }
-    assert_eq!(rt; bytes.as_slice(), b"foo:54|c\nfoo:67|c\n".as_slice());
+    assert!(rt; bytes.as_slice() == b"foo:54|c\nfoo:67|c\n".as_slice());
     Ok(())
 }
 
@@ -136,7 +140,7 @@ fn each_request_of_a_new_packer(rt: HostRuntime) -> Result<(), Fail> {
     let granted: Result<Option<u64>, Fail> = each_refused(rt.alloc(), |heap| {
         match MultiLineWriter::new(heap, used_log(rt.alloc()), 16) {
             Ok(mut p) => {
-                assert_eq!(rt; counted(p.write(b"foo:54|c")), Some(8));
+                assert!(rt; is_count(p.write(b"foo:54|c"), 8));
                 assert!(rt; took(p.get_ref(), &["before"]));
                 Ok(true)
             }
@@ -156,14 +160,14 @@ fn refused_replacement_changes_nothing(rt: HostRuntime) -> Result<(), Fail> {
     let Ok(mut p) = MultiLineWriter::with_ending(heap, used_log(rt.alloc()), 16, "\n") else {
         return Err(Fail::new("no memory"));
     };
-    assert_eq!(rt; counted(p.write(b"foo:54|c")), Some(8));
+    assert!(rt; is_count(p.write(b"foo:54|c"), 8));
     let heap = Refusing::after(rt.alloc(), rt.alloc(), 0)?;
     match p.replace_writer(heap, PacketLog::new(rt.alloc(), Vec::new(rt.alloc()))) {
         Ok((_old, _text)) => return Err(Fail::new("not refused")),
         Err(back) => assert!(rt; took(&back, &[])),
     }
     assert!(rt; took(p.get_ref(), &["before"]));
-    assert_eq!(rt; p.held(), b"foo:54|c\n".as_slice());
+    assert!(rt; p.held() == b"foo:54|c\n".as_slice());
     Ok(())
 }
 
@@ -175,9 +179,9 @@ fn refused_packet_uses_up_its_answer(rt: HostRuntime) -> Result<(), Fail> {
         assert!(rt; script.push(Answer::Short(1)).is_ok());
         let mut log = PacketLog::new(heap, script);
         assert!(rt; matches!(log.write_packet(b"abc"), Err(SinkError::OutOfMemory)));
-        assert_eq!(rt; log.packets().len(), 0);
-        assert_eq!(rt; counted(log.write_packet(b"abc")), Some(3));
-        assert_eq!(rt; log.packets().len(), 1);
+        assert!(rt; log.packets().len() == 0);
+        assert!(rt; is_count(log.write_packet(b"abc"), 3));
+        assert!(rt; log.packets().len() == 1);
     }
     Ok(())
 }
@@ -202,5 +206,5 @@ fn an_error_is_a_refusal(rt: HostRuntime) {
     refusals.note(&Ok(3), 3);
     refusals.note(&Err(SinkError::PacketRefused), 5);
     refusals.note(&Err(SinkError::OutOfMemory), 2);
-    assert_eq!(rt; refusals, Refusals { count: 2, bytes: 7 });
+    assert!(rt; refusals == Refusals { count: 2, bytes: 7 });
 }

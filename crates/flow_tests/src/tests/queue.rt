@@ -2,24 +2,43 @@ use cadence_errors::{MetricResult, SinkError};
 use cadence_flow::queue::{QueueCore, QueuePolicy, Taken, WorkerEnd};
 use cadence_ledger::SharedQueue;
 use refusing::Refusing;
-use std::alloc::{AllocError, Global};
+use std::alloc::{AllocError, Allocator, Global};
 use std::sync::atomic::{AtomicBool, Ordering};
 use std::test::Fail;
 use std::thread;
 use std::time::{Clock, Duration};
+
+// Whether the text comes back since the queue is stopped.
+fn comes_back(answer: Result<Option<char>, (SinkError, char)>, text: char) -> bool {
+    match answer {
+        Err((SinkError::ChannelDisconnected, back)) => back == text,
+        _ => false,
+    }
+}
+
+// Whether the text is taken.
+fn is_text(taken: Taken<char>, text: char) -> bool {
+    match taken {
+        Taken::Text(taken) => taken == text,
+        _ => false,
+    }
+}
+
+// Whether the text is at the place, counted from the oldest.
+fn has<A: Allocator>(queue: &QueueCore<char, A>, index: usize, text: char) -> bool {
+    match queue.get(index) {
+        Some(found) => *found == text,
+        None => false,
+    }
+}
 
 #[test]
 fn stopped_before_full(rt: HostRuntime) -> Result<(), Fail> {
     let mut queue = QueueCore::new(rt.alloc(), Some(1))?;
     assert!(rt; queue.submit('A').is_ok());
     queue.stop();
-    assert!(rt;
-        matches!(
-            queue.submit('B'),
-            Err((SinkError::ChannelDisconnected, 'B'))
-        )
-    );
-    assert!(rt; matches!(queue.take(), Taken::Text('A')));
+    assert!(rt; comes_back(queue.submit('B'), 'B'));
+    assert!(rt; is_text(queue.take(), 'A'));
     assert!(rt; matches!(queue.take(), Taken::Ended));
     queue.stop();
     assert!(rt; matches!(queue.take(), Taken::Ended));
@@ -35,13 +54,8 @@ fn last_handle_stops(rt: HostRuntime) -> Result<(), Fail> {
     queue.drop_handle();
     assert!(rt; queue.submit('A').is_ok());
     queue.drop_handle();
-    assert!(rt;
-        matches!(
-            queue.submit('B'),
-            Err((SinkError::ChannelDisconnected, 'B'))
-        )
-    );
-    assert!(rt; matches!(queue.take(), Taken::Text('A')));
+    assert!(rt; comes_back(queue.submit('B'), 'B'));
+    assert!(rt; is_text(queue.take(), 'A'));
     Ok(())
 }
 
@@ -52,10 +66,7 @@ fn counts(rt: HostRuntime) -> Result<(), Fail> {
     assert!(rt; queue.submit('A').is_ok());
     assert!(rt; queue.submit_with(|| Ok('B')).is_ok());
     queue.take();
-    assert_eq!(rt;
-        (queue.submitted(), queue.drained(), queue.waiting()),
-        (2, 1, 1)
-    );
+    assert!(rt; queue.submitted() == 2 && queue.drained() == 1 && queue.waiting() == 1);
     assert!(rt; !queue.is_full());
     Ok(())
 }
@@ -66,8 +77,8 @@ fn oldest_is_at_0(rt: HostRuntime) -> Result<(), Fail> {
     assert!(rt; queue.submit('A').is_ok());
     assert!(rt; queue.submit('B').is_ok());
     queue.take();
-    assert_eq!(rt; queue.get(0), Some(&'B'));
-    assert_eq!(rt; queue.get(1), None);
+    assert!(rt; has(&queue, 0, 'B'));
+    assert!(rt; queue.get(1).is_none());
     Ok(())
 }
 
@@ -77,8 +88,8 @@ fn refused_memory(rt: HostRuntime) -> Result<(), Fail> {
     let mut queue = QueueCore::new(heap, None)?;
     assert!(rt; matches!(queue.submit('A'), Err((SinkError::OutOfMemory, 'A'))));
     assert!(rt; queue.submit('B').is_ok());
-    assert_eq!(rt; (queue.submitted(), queue.waiting()), (1, 1));
-    assert_eq!(rt; queue.get(0), Some(&'B'));
+    assert!(rt; queue.submitted() == 1 && queue.waiting() == 1);
+    assert!(rt; has(&queue, 0, 'B'));
     Ok(())
 }
 
@@ -89,7 +100,7 @@ fn bounded_queue_reserves(rt: HostRuntime) -> Result<(), Fail> {
     assert!(rt; queue.submit('A').is_ok());
     assert!(rt; queue.submit('B').is_ok());
     assert!(rt; matches!(queue.submit('C'), Err((SinkError::ChannelFull, 'C'))));
-    assert_eq!(rt; heap.left(), 0);
+    assert!(rt; heap.left() == 0);
     Ok(())
 }
 
@@ -120,11 +131,8 @@ fn taker_gets_a_submit(rt: HostRuntime) -> Result<(), Fail> {
         },
     );
     assert!(rt; answer);
-    assert_eq!(rt; got, Some('A'));
-    assert_eq!(rt;
-        (queue.submitted(&rt), queue.drained(&rt), queue.waiting(&rt)),
-        (1, 1, 0)
-    );
+    assert!(rt; got == Some('A'));
+    assert!(rt; queue.submitted(&rt) == 1 && queue.drained(&rt) == 1 && queue.waiting(&rt) == 0);
     Ok(())
 }
 
@@ -133,7 +141,7 @@ fn shared_queue_keeps_its_capacity(rt: HostRuntime) -> Result<(), Fail> {
     let queue = SharedQueue::new(rt.alloc(), Some(1))?;
     assert!(rt; queue.submit_with(&rt, || Ok('A')).is_ok());
     assert!(rt; matches!(queue.submit(&rt, 'B'), Err((SinkError::ChannelFull, 'B'))));
-    assert!(rt; matches!(queue.try_take(&rt), Taken::Text('A')));
+    assert!(rt; is_text(queue.try_take(&rt), 'A'));
     assert!(rt; matches!(queue.try_take(&rt), Taken::Empty));
     Ok(())
 }
@@ -145,17 +153,9 @@ fn full_queue_drops_its_oldest(rt: HostRuntime) -> Result<(), Fail> {
     assert!(rt; matches!(queue.submit(&rt, 'B'), Ok(Some('A'))));
     assert!(rt; queue.submit_with(&rt, || Ok('C')).is_ok());
     queue.stop(&rt);
-    assert!(rt;
-        matches!(
-            queue.submit(&rt, 'D'),
-            Err((SinkError::ChannelDisconnected, 'D'))
-        )
-    );
-    assert!(rt; matches!(queue.try_take(&rt), Taken::Text('C')));
-    assert_eq!(rt;
-        (queue.submitted(&rt), queue.drained(&rt), queue.dropped(&rt)),
-        (3, 1, 2)
-    );
+    assert!(rt; comes_back(queue.submit(&rt, 'D'), 'D'));
+    assert!(rt; is_text(queue.try_take(&rt), 'C'));
+    assert!(rt; queue.submitted(&rt) == 3 && queue.drained(&rt) == 1 && queue.dropped(&rt) == 2);
     Ok(())
 }
 
@@ -172,11 +172,8 @@ fn a_drop_takes_no_memory(rt: HostRuntime) -> Result<(), Fail> {
             Err(SinkError::OutOfMemory)
         )
     );
-    assert_eq!(rt; (queue.get(0), queue.get(1)), (Some(&'B'), Some(&'C')));
-    assert_eq!(rt;
-        (queue.submitted(), queue.dropped(), heap.left()),
-        (3, 1, 0)
-    );
+    assert!(rt; has(&queue, 0, 'B') && has(&queue, 1, 'C'));
+    assert!(rt; queue.submitted() == 3 && queue.dropped() == 1 && heap.left() == 0);
     Ok(())
 }
 
@@ -191,7 +188,7 @@ fn taker_is_stopped(rt: HostRuntime) -> Result<(), Fail> {
             queue.stop(&rt);
         },
     );
-    assert_eq!(rt; got, None);
+    assert!(rt; got.is_none());
     assert!(rt; matches!(queue.try_take(&rt), Taken::Ended));
     assert!(rt;
         matches!(
@@ -217,7 +214,7 @@ fn taker_outlives_the_handles(rt: HostRuntime) -> Result<(), Fail> {
             queue.drop_handle(&rt);
         },
     );
-    assert_eq!(rt; got, None);
+    assert!(rt; got.is_none());
     Ok(())
 }
 

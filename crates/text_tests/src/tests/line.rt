@@ -28,6 +28,11 @@ fn bare<'a>(text: &'a str) -> Tag<'a> {
     Tag { key: None, text }
 }
 
+// Whether the record's line is this text.
+fn has_line(alloc: Global, record: &Record<'_>, line: &str) -> Result<bool, Fail> {
+    Ok(record.format(alloc)?.as_str() == line)
+}
+
 #[test]
 fn fields_stand_in_one_order(rt: HostRuntime) -> Result<(), Fail> {
     let mut record = counted(rt.alloc(), "p.", "k", 1);
@@ -36,10 +41,7 @@ fn fields_stand_in_one_order(rt: HostRuntime) -> Result<(), Fail> {
     record.set_container("id");
     record.add_tag(tag("a", "b"))?;
     record.set_rate(Decimal::new(5, 1)?);
-    assert_eq!(rt;
-        record.format(rt.alloc())?.as_str(),
-        "p.k:1|c|@0.5|#a:b|c:id|T7"
-    );
+    assert!(rt; has_line(rt.alloc(), &record, "p.k:1|c|@0.5|#a:b|c:id|T7")?);
     Ok(())
 }
 
@@ -52,11 +54,11 @@ fn texts_are_kept_verbatim(rt: HostRuntime) -> Result<(), Fail> {
     ] {
         let mut record = counted(rt.alloc(), prefix, key, 1);
         record.add_tag(own)?;
-        assert_eq!(rt; record.format(rt.alloc())?.as_str(), line);
+        assert!(rt; has_line(rt.alloc(), &record, line)?, "{line}");
     }
     let mut record = counted(rt.alloc(), "", "k", 1);
     record.set_container("c|d");
-    assert_eq!(rt; record.format(rt.alloc())?.as_str(), "k:1|c|c:c|d");
+    assert!(rt; has_line(rt.alloc(), &record, "k:1|c|c:c|d")?);
     Ok(())
 }
 
@@ -80,10 +82,8 @@ fn a_list_has_colons_between(rt: HostRuntime) -> Result<(), Fail> {
     );
     record.add_tag(tag("host", "web03.example.com"))?;
     record.add_tag(bare("beta-test"))?;
-    assert_eq!(rt;
-        record.format(rt.alloc())?.as_str(),
-        "my.prefix.my.distribution:29:30:31:32|d|#host:web03.example.com,beta-test"
-    );
+    let line = "my.prefix.my.distribution:29:30:31:32|d|#host:web03.example.com,beta-test";
+    assert!(rt; has_line(rt.alloc(), &record, line)?);
     Ok(())
 }
 
@@ -111,7 +111,7 @@ fn decimals_are_exact(rt: HostRuntime) -> Result<(), Fail> {
 #[test]
 fn another_name_may_have_the_same_line(rt: HostRuntime) -> Result<(), Fail> {
     let two_lines = counted(rt.alloc(), "", "a:1|c\nb", 2);
-    assert_eq!(rt; two_lines.format(rt.alloc())?.as_str(), "a:1|c\nb:2|c");
+    assert!(rt; has_line(rt.alloc(), &two_lines, "a:1|c\nb:2|c")?);
     let listed = MetricValue::PackedSigned(vec![in rt.alloc(); 1, 2]?);
     let listed = Record::new(rt.alloc(), "", "k", MetricType::Counter, listed);
     assert!(rt; counted(rt.alloc(), "k", ":1", 2).same_line(&listed));
