@@ -6,10 +6,11 @@ use Rattle.cadence_errors.specs.declared.MetricError.{MetricError}
 use Rattle.cadence_errors.specs.declared.MetricError.TheVariants.{Sink}
 use Rattle.cadence_errors.specs.declared.SinkError.{SinkError}
 use Rattle.cadence_errors.specs.Errors.{IsInvalid, out_of_memory}
+use Rattle.cadence_text.specs.Draft.{Draft, draft_line, draft_of, with_tag_text}
 use Rattle.cadence_text.specs.Line.{line_of}
 use Rattle.cadence_text.specs.Metric.{Metric}
 use Rattle.cadence_value.specs.Number.{Number}
-use Rattle.cadence_schedule.specs.Call.{Choice, MakesMetric, MetricCall, chosen, metric_of_call, plain_call, with_choice}
+use Rattle.cadence_schedule.specs.Call.{Choice, tagged, contained, timed, rated, MetricCall, metric_of_call, plain_call, with_choice}
 use Rattle.cadence_schedule.specs.Settings.{Settings}
 
 -- which answers of a sink a text may get
@@ -50,37 +51,51 @@ SentCall may made None (Err e) = IsInvalid e
 abbrev pub SendsPlain : Settings → Answers → MetricType → List ℕ → Option (List Number) → Result (List ℕ) MetricError → Type 0
 SendsPlain settings may kind key numbers result = SentCall may IsText (plain_metric_of settings kind key numbers) result
 
--- what a builder of this kind begins with: the metric of the call without options, or want of memory; an invalid input where
+-- what starting a builder answers: the draft of this metric, or want of memory; an invalid input where there is none
+abbrev pub MakesDraft : Option Metric → Result Draft MetricError → Type 0
+MakesDraft (Some m) (Ok d) = d ≡ draft_of m
+MakesDraft (Some m) (Err e) = e ≡ out_of_memory
+MakesDraft None (Ok d) = ⊥
+MakesDraft None (Err e) = IsInvalid e
+
+-- what a builder of this kind begins with: the draft of the call without options, or want of memory; an invalid input where
 -- its value has no numbers
-abbrev pub StartsPlain : Settings → MetricType → List ℕ → Option (List Number) → Result Metric MetricError → Type 0
-StartsPlain settings kind key numbers pending = MakesMetric (plain_metric_of settings kind key numbers) pending
+abbrev pub StartsPlain : Settings → MetricType → List ℕ → Option (List Number) → Result Draft MetricError → Type 0
+StartsPlain settings kind key numbers pending = MakesDraft (plain_metric_of settings kind key numbers) pending
+
+-- the draft with what an option chooses
+abbrev pub drafted : Draft → Choice → Draft
+drafted d (tagged t) = with_tag_text d t
+drafted d (contained c) = record d { container = Some c }
+drafted d (timed n) = record d { time = Some n }
+drafted d (rated r) = record d { rate = Some r }
 
 -- what a builder holds after an option that takes no memory: a held error stays
-abbrev pub Chooses : Result Metric MetricError → Choice → Result Metric MetricError → Type 0
+abbrev pub Chooses : Result Draft MetricError → Choice → Result Draft MetricError → Type 0
 Chooses (Err e) o new = new ≡ Err e
-Chooses (Ok m) o new = new ≡ Ok (chosen m o)
+Chooses (Ok d) o new = new ≡ Ok (drafted d o)
 
 -- the same for an option that takes memory: that may be missing
-abbrev pub ChoosesOrHolds : Result Metric MetricError → Choice → Result Metric MetricError → Type 0
+abbrev pub ChoosesOrHolds : Result Draft MetricError → Choice → Result Draft MetricError → Type 0
 ChoosesOrHolds (Err e) o new = new ≡ Err e
-ChoosesOrHolds (Ok m) o (Ok n) = n ≡ chosen m o
-ChoosesOrHolds (Ok m) o (Err e) = e ≡ out_of_memory
+ChoosesOrHolds (Ok d) o (Ok n) = n ≡ drafted d o
+ChoosesOrHolds (Ok d) o (Err e) = e ≡ out_of_memory
 
--- what a builder answers: its held error, or what sending its metric's line answers
-abbrev pub SentPending : {M : Type 0} → Answers → (List ℕ → M → Type 0) → Result Metric MetricError → Result M MetricError → Type 0
+-- what a builder answers: its held error, or what sending its draft's line answers
+abbrev pub SentPending : {M : Type 0} → Answers → (List ℕ → M → Type 0) → Result Draft MetricError → Result M MetricError → Type 0
 SentPending may made (Err e) answer = answer ≡ Err e
-SentPending may made (Ok m) answer = Sent may made (line_of m) answer
+SentPending may made (Ok d) answer = Sent may made (draft_line d) answer
 
--- a builder stands for a call: it holds the call's metric, or an error
-abbrev pub StandsFor : Settings → MetricCall → Result Metric MetricError → Type 0
-StandsFor settings call pending = IfOk pending (λ m. m ≡ metric_of_call settings call)
+-- a builder stands for a call: it holds the draft of the call's metric, or an error
+abbrev pub StandsFor : Settings → MetricCall → Result Draft MetricError → Type 0
+StandsFor settings call pending = IfOk pending (λ d. d ≡ draft_of (metric_of_call settings call))
 
 -- a builder that stood for a call stands for it with one more option
-pub record StandsForMore (old : Result Metric MetricError) (o : Choice) (new : Result Metric MetricError) : Type 0 where
+pub record StandsForMore (old : Result Draft MetricError) (o : Choice) (new : Result Draft MetricError) : Type 0 where
   pub for_each : (settings : Settings) (call : MetricCall) → StandsFor settings call old → StandsFor settings (with_choice call o) new
 
 -- what a builder that stands for a call answers has the line of that call
-pub record HasLine {M : Type 0} (made : List ℕ → M → Type 0) (pending : Result Metric MetricError) (answer : Result M MetricError) : Type 0 where
+pub record HasLine {M : Type 0} (made : List ℕ → M → Type 0) (pending : Result Draft MetricError) (answer : Result M MetricError) : Type 0 where
   pub for_each : (settings : Settings) (call : MetricCall) → StandsFor settings call pending → IfOk answer (made (line_of (metric_of_call settings call)))
 
 -- what a flush answers: Ok where the sink may answer so, else a refusal that it may give

@@ -2,7 +2,7 @@
 use Rattle.std.specs.Prelude.{◌≡◌, Option, Some, Result}
 use Rattle.std.specs.declared.dyn_box.DynBox.{DynBox}
 use Rattle.cadence_errors.specs.declared.MetricError.{MetricError}
-use Rattle.cadence_text.specs.Metric.{Metric}
+use Rattle.cadence_text.specs.Draft.{Draft}
 use Rattle.cadence.specs.declared.client.builder.MetricBuilder.{MetricBuilder}
 use Rattle.cadence.specs.declared.client.handler.BoxedErrorHandler.{BoxedErrorHandler}
 use Rattle.cadence.specs.declared.client.statsd_client.StatsdClient.{StatsdClient}
@@ -10,9 +10,9 @@ use Rattle.cadence.specs.declared.client.client_builder.StatsdClientBuilder.{Sta
 use Rattle.cadence_schedule.specs.Settings.{Settings, Changes}
 
 module _ {T C Z : Type 0} where
-  -- what a builder of a metric holds: the metric so far, or an error
-  abbrev pub pending_of : MetricBuilder T C Z → Result Metric MetricError
-  pending_of b = b.record
+  -- what a builder of a metric holds: the draft of the metric so far, or an error
+  abbrev pub pending_of : MetricBuilder T C Z → Result Draft MetricError
+  pending_of b = b.draft
 
   -- the client that it sends by
   abbrev pub backend_of : MetricBuilder T C Z → C

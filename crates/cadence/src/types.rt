@@ -3,6 +3,6 @@
 pub use cadence_errors::{
     Description, ErrorKind, MAX_DESCRIPTION, MetricError, MetricResult, SinkError,
 };
-pub use cadence_text::metrics::{
+pub use cadence_metrics::{
     Counter, Distribution, Gauge, Histogram, Meter, Metric, MetricText, Set, Timer, kinds,
 };

@@ -7,7 +7,9 @@ use Rattle.std.specs.List.{fold}
 use Rattle.std.specs.Option.{option_map}
 use Rattle.cadence_text.specs.declared.line.MetricType.{MetricType}
 use Rattle.cadence_value.specs.declared.value.MetricValue.{MetricValue}
-use Rattle.cadence_text.specs.Metric.{Metric}
+use Rattle.cadence_text.specs.Draft.{draft_of, head_text, Draft}
+use Rattle.cadence_text.specs.Line.{tags_field}
+use Rattle.cadence_text.specs.Metric.{Metric, Tag}
 use Rattle.cadence_value.specs.Number.{Number}
 use Rattle.cadence_value.specs.Values.{Converts, numbers_of}
 use Rattle.cadence_schedule.specs.Settings.{Settings}
@@ -36,3 +38,10 @@ pub makes_metric-fold : {Z : Type 0} (s : Settings) (kind : MetricType) (key : L
 makes_metric-fold s kind key os (Some ns) v m n same made all =
     all ∙ (ap (λ (d : Metric). fold chosen d os) (made ∙ ap (λ (k : List Number). metric_of_call s (plain_call kind key k)) same) ∙ fold-chosen s (plain_call kind key ns) os)
 makes_metric-fold s kind key os None v m n same made all = absurd same
+
+-- the draft of a call without options
+pub draft_of_plain : (s : Settings) (kind : MetricType) (key : List ℕ) (ns : List Number)
+    → record { head = head_text (s.prefix ++ key) ns kind; tags = tags_field s.tags; rate = None; container = s.container; time = None } ≡ draft_of (metric_of_call s (plain_call kind key ns))
+unfolding metric_of_call
+draft_of_plain s kind key ns =
+    ap (λ (ts : List Tag). record { head = head_text (s.prefix ++ key) ns kind; tags = tags_field ts; rate = None; container = s.container; time = None }) (sym (append-nil s.tags))

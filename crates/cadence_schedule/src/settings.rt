@@ -4,6 +4,7 @@ mod defaults;
 ghost use Rattle.std.specs.Prelude.{◌≡◌, ◌∷◌, ◌++◌, ℕ, List, IfOk, IfErr, OnOk, OnErr, string_bytes, map};
 ghost use Rattle.std.specs.Option.{option_copied, option_map};
 ghost use Rattle.cadence_errors.specs.Errors.{out_of_memory};
+ghost use Rattle.cadence_text.specs.Draft.{draft_of};
 ghost use Rattle.cadence_text.specs.Line.{line_of};
 ghost use Rattle.cadence_text.specs.Record.{tag_of};
 ghost use Rattle.cadence_value.specs.Values.{numbers_of};
@@ -13,7 +14,7 @@ ghost use Rattle.cadence_schedule.specs.SettingsParts.{owned_tag};
 
 use super::call::{Call, choose_all};
 use cadence_errors::MetricResult;
-use cadence_text::line::{MetricType, Record, Tag};
+use cadence_text::line::{DraftLine, Head, MetricType, Record, Tag, TagsText};
 use cadence_value::value::MetricValue;
 pub use defaults::DefaultTags;
 use std::alloc::{AllocError, Allocator, Global};
@@ -45,6 +46,9 @@ impl<A: Allocator> OwnedTag<A> {
 
 // The room for a call's own tags that is reserved beside the default ones.
 const OWN_TAGS: usize = 4;
+
+// The bytes for a call's own tags and other options that a draft reserves beside what it begins with.
+const OWN_BYTES: usize = 96;
 
 // Lends the default tags, in room that is reserved once.
 fn lend_tags<'a, A: Allocator>(
@@ -93,17 +97,23 @@ fn formatted_prefix<A: Allocator>(alloc: A, prefix: &str) -> Result<String<A>, A
 pub struct ClientSettings<A: Allocator = Global> {
     prefix: String<A>,
     tags: Vec<OwnedTag<A>, A>,
+    // the tags as they stand in a line
+    text: TagsText<A>,
     container: Option<String<A>>,
 }
 
 impl<A: Allocator> Model for ClientSettings<A> {
+    ghost use Rattle.std.specs.Prelude.{◌≡◌, map};
+    ghost use Rattle.cadence_text.specs.Line.{tags_field};
     ghost use Rattle.cadence_schedule.specs.Settings.{Settings};
 
     ghost Value = { Settings };
 
-    ghost use Rattle.cadence_schedule.specs.SettingsParts.{settings_seen};
+    ghost use Rattle.cadence_schedule.specs.SettingsParts.{owned_tag, settings_seen};
 
     ghost view = { settings_seen };
+
+    ghost invariant = { λ s. s.text ≡ tags_field (map owned_tag s.tags.items) };
 }
 
 impl<A: Allocator + Clone> ClientSettings<A> {
@@ -121,6 +131,7 @@ impl<A: Allocator + Clone> ClientSettings<A> {
     {
         Ok(ClientSettings {
             prefix: formatted_prefix(alloc.clone()?, prefix)?,
+            text: TagsText::new(alloc.clone()?),
             tags: Vec::new(alloc),
             container: None,
         })
@@ -138,7 +149,10 @@ impl<A: Allocator + Clone> ClientSettings<A> {
             None => None,
         };
         let text = String::from_str(alloc.clone()?, text)?;
-        self.tags.push(OwnedTag { key, text })?;
+        let tag = OwnedTag { key, text };
+        self.tags.reserve(1)?;
+        self.text.add(tag.lent())?;
+        self.tags.push_reserved(tag);
         Ok(())
     }
 
@@ -200,9 +214,47 @@ impl<A: Allocator + Clone> ClientSettings<A> {
         Record::with_defaults(&self.prefix, key, kind, value, Vec::new(alloc), container)
     }
 
-    /// The line of a call without options, with these defaults in it. Its one refusal is want of memory, as a small
-    /// error.
-    #[tactic(auto, using(std::proofs::lemmas::Grind::common_steps), unfolding(crate::specs::Call::metric_of_call))]
+    // What the line of a call without options begins with.
+    #[inline(always)]
+    fn draft_with<'a>(
+        &'a self,
+        key: &str,
+        kind: MetricType,
+        value: MetricValue<A>,
+        room: usize,
+    ) -> Result<DraftLine<'a, A>, AllocError>
+        ensures { IfOk result (λ draft. draft ≡
+            draft_of (metric_of_call self.now (plain_call kind key.now (numbers_of value)))) }
+    {
+        let head = Head {
+            prefix: &self.prefix,
+            key,
+            value,
+            kind,
+        };
+        let container = self.container.as_ref().map(|id| id.as_str());
+        let alloc = self.tags.allocator().clone()?;
+        DraftLine::new(alloc, &head, self.text.as_str(), container, room)
+    }
+
+    /// The draft of a call without options, with these defaults in it, and with room for some tags. Its one refusal is
+    /// want of memory, as a small error.
+    #[inline(always)]
+    pub fn draft<'a>(
+        &'a self,
+        key: &str,
+        kind: MetricType,
+        value: MetricValue<A>,
+    ) -> Result<DraftLine<'a, A>, AllocError>
+        ensures { IfOk result (λ draft. draft ≡
+            draft_of (metric_of_call self.now (plain_call kind key.now (numbers_of value)))) }
+    {
+        self.draft_with(key, kind, value, OWN_BYTES)
+    }
+
+    /// The line of a call without options, with these defaults in it. Takes memory for the line alone, by one request
+    /// for just its length. Its one refusal is want of memory, as a small error.
+    #[tactic(auto, using(cadence_text::proofs::Drafts::line_of_draft))]
     pub fn line(
         &self,
         key: &str,
@@ -212,10 +264,11 @@ impl<A: Allocator + Clone> ClientSettings<A> {
         ensures { IfOk result (λ text. string_bytes text ≡
             line_of (metric_of_call self.now (plain_call kind key.now (numbers_of value)))) }
     {
-        let tags = self.lent_tags()?;
-        let container = self.container.as_ref().map(|id| id.as_str());
-        let metric = Record::with_defaults(&self.prefix, key, kind, value, tags, container);
-        metric.line(self.tags.allocator().clone()?)
+        let room = match &self.container {
+            Some(id) => id.len().saturating_add(3),
+            None => 0,
+        };
+        self.draft_with(key, kind, value, room)?.into_text()
     }
 
     /// The record of a call that is kept as data, with these defaults and its options in it.

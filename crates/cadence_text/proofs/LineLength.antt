@@ -10,6 +10,7 @@ use Rattle.std.proofs.Math.Nat.{div-le_self}
 use Rattle.cadence_text.specs.declared.line.MetricType.{MetricType}
 use Rattle.cadence_text.specs.declared.line.MetricType.TheVariants.{Counter, Timer, Gauge, Meter, Histogram, Set, Distribution}
 use Rattle.cadence_value.specs.Number.{Number, decimal_text, number_text, places_text, separated, numbers_text, IsDecimal}
+use Rattle.cadence_text.specs.Draft.{Draft, draft_line, head_text}
 use Rattle.cadence_text.specs.Metric.{Metric, Tag}
 use Rattle.cadence_text.specs.Line.{kind_text, rate_field, key_text, tag_text, tags_field, container_field, time_field, line_of}
 use Rattle.cadence_text.specs.RecordMetric.{IsRecordTag, IsRecordMetric, IsRecordTime, FitsMemory, AreRecordNumbers, AreRecordTags}
@@ -82,6 +83,38 @@ kind_short Meter = omega arith
 kind_short Histogram = omega arith
 kind_short Set = omega arith
 kind_short Distribution = omega arith
+
+pub head_is_short : (prefix key : List ℕ) (ns : List Number) (k : MetricType) → FitsMemory prefix → FitsMemory key → AreRecordNumbers ns → length (head_text (prefix ++ key) ns k) < 2 ^ 100
+head_is_short prefix key ns k hp hk hn =
+    omega (
+      arith,
+      hp.0,
+      hk.0,
+      numbers_short ns hn,
+      kind_short k,
+      length-append prefix key,
+      length-append (prefix ++ key) (58 ∷ (numbers_text ns ++ (124 ∷ kind_text k))),
+      length-append (numbers_text ns) (124 ∷ kind_text k),
+    )
+
+pub head_is_some : (name : List ℕ) (ns : List Number) (k : MetricType) → 0 < length (head_text name ns k)
+head_is_some name ns k = omega (arith, length-append name (58 ∷ (numbers_text ns ++ (124 ∷ kind_text k))))
+
+pub draft_is_short : (d : Draft) → FitsMemory d.head → IfSome d.rate IsDecimal → FitsMemory d.tags → IfSome d.container FitsMemory → IsRecordTime d.time → length (draft_line d) < 2 ^ 100
+draft_is_short d hh hr ht hc hi =
+    let last = container_field d.container ++ time_field d.time in
+    omega (
+      arith,
+      hh.0,
+      rate_short d.rate hr,
+      ht.0,
+      container_short d.container hc,
+      time_short d.time hi,
+      length-append d.head (rate_field d.rate ++ (d.tags ++ last)),
+      length-append (rate_field d.rate) (d.tags ++ last),
+      length-append d.tags last,
+      length-append (container_field d.container) (time_field d.time),
+    )
 
 pub line_is_short : (m : Metric) → IsRecordMetric m → length (line_of m) < 2 ^ 126
 unfolding line_of

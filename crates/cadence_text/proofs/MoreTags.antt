@@ -9,12 +9,8 @@ use Rattle.cadence_text.specs.Sink.{Takes}
 use Rattle.cadence_text.specs.Line.{tag_text, tags_field}
 use Rattle.cadence_text.specs.Metric.{Tag}
 use Rattle.cadence_text.specs.RecordMetric.{AreRecordTags, IsRecordTag}
+use Rattle.cadence_text.specs.Draft.{lead}
 use Rattle.cadence_text.specs.More.{has_begun, more_tags}
-
--- what stands before a tag: where some stand before it, and where none does
-abbrev pub lead : Bool → List ℕ
-lead true = 44 ∷ []
-lead false = 124 ∷ 35 ∷ []
 
 pub more_append : (begun : Bool) (a b : List Tag) → more_tags begun (a ++ b) ≡ more_tags begun a ++ more_tags (has_begun begun a) b
 more_append true a b = flat_map-append (λ tag. 44 ∷ tag_text tag) a b

@@ -1,5 +1,5 @@
 -- What a sink has taken.
-use Rattle.std.proofs.Common.{◌≡◌, ℕ, ◌+◌, ◌%◌, ◌^◌, ◌<◌, Bool, true, false, ltb, List, [], ◌∷◌, ◌++◌, subst, length, replicate, sym, ap, ◌∙◌, arith}
+use Rattle.std.proofs.Common.{◌≡◌, ℕ, ◌+◌, ◌%◌, ◌^◌, ◌<◌, ◌≤◌, Bool, true, false, ltb, List, [], ◌∷◌, ◌++◌, subst, length, replicate, sym, ap, ◌∙◌, arith}
 use Rattle.std.proofs.lemmas.List.{append-nil, length-append, length-replicate}
 use Rattle.std.proofs.lemmas.Bool.{cond-false, le-ltb}
 use Rattle.std.specs.Prelude.{if◌then◌else◌, IsUtf8}
@@ -17,11 +17,19 @@ kept : (longer : Bool) (held text : List ℕ) → 0 < length text → (if longer
 kept true held text some e = absurd (omega (arith, ap (λ t. length t) e))
 kept false held text some e = e
 
+pub filled_all : (before after : ℕ) (new whole text : List ℕ) → 0 < length text → length text ≤ before → whole ≡ text → up_to after (new ++ []) ≡ up_to before whole → new ≡ text
+filled_all before after new whole text some fits is e =
+    let within : up_to before text ≡ text = cond-false (ltb before (length text)) [] text (le-ltb before (length text) fits) in
+    sym (append-nil new) ∙ kept (ltb after (length (new ++ []))) (new ++ []) text some (e ∙ ap (up_to before) is ∙ within)
+
 pub filled_whole : (before after : ℕ) (old new text : List ℕ) → 0 < length text → old ≡ [] → before ≡ length text → up_to after (new ++ []) ≡ up_to before (old ++ (text ++ [])) → new ≡ text
 filled_whole before after old new text some none end e =
-    let whole : old ++ (text ++ []) ≡ text = ap (λ o. o ++ (text ++ [])) none ∙ append-nil text in
-    let within : up_to before text ≡ text = cond-false (ltb before (length text)) [] text (le-ltb before (length text) (omega arith)) in
-    sym (append-nil new) ∙ kept (ltb after (length (new ++ []))) (new ++ []) text some (e ∙ ap (up_to before) whole ∙ within)
+    filled_all before after new (old ++ (text ++ [])) text some (omega arith) (ap (λ o. o ++ (text ++ [])) none ∙ append-nil text) e
+
+-- a room with a text, and room for so much more, that more text came to
+pub filled_more : (before after : ℕ) (old was new more : List ℕ) → 0 < length old + length more → length old + length more ≤ before → was ≡ old → up_to after (new ++ []) ≡ up_to before (was ++ (more ++ [])) → new ≡ old ++ more
+filled_more before after old was new more some fits same e =
+    filled_all before after new (was ++ (more ++ [])) (old ++ more) (omega (arith, some, length-append old more)) (omega (arith, fits, length-append old more)) (ap (λ o. o ++ (more ++ [])) same ∙ ap (λ m. old ++ m) (append-nil more)) e
 
 -- what is in UTF-8 stays so with more text, and with one more ASCII byte
 pub utf8_more : (old more new : List ℕ) → ∥ IsUtf8 old ∥₁ → IsUtf8 more → new ≡ old ++ more → ∥ IsUtf8 new ∥₁

@@ -2,6 +2,8 @@ pub use Rattle.cadence_errors.specs.Errors
 pub mod Metric
 pub mod Laws
 pub mod Line
+pub mod Draft
+pub mod DraftParts
 pub mod More
 pub mod RecordMetric
 pub mod OneReading
@@ -9,4 +11,3 @@ pub mod Record
 pub mod Sink
 pub mod Owned
 pub mod Said
-pub mod Metrics

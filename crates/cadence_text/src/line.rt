@@ -2,6 +2,7 @@
 
 mod counter;
 mod digits;
+mod draft;
 mod filled;
 mod list;
 mod pieces;
@@ -10,6 +11,7 @@ mod sink;
 mod tag;
 mod window;
 
+pub use draft::{DraftLine, Head, TagsText};
 pub use list::TagList;
 pub use record::{OwnedMetric, Record};
 use std::fmt;

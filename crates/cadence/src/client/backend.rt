@@ -2,7 +2,7 @@
 
 use crate::sealed::Sealed;
 use cadence_errors::{MetricError, MetricResult};
-use cadence_text::metrics::Metric;
+use cadence_metrics::Metric;
 use std::alloc::Allocator;
 
 /// What metrics are sent by, as in cadence: a way to send a metric of your own through a client. No other crate

@@ -1,6 +1,6 @@
 //! A metric that is being built.
 ghost use Rattle.std.specs.Prelude.{◌≡◌};
-ghost use Rattle.cadence_text.specs.Line.{line_of};
+ghost use Rattle.cadence_text.specs.Draft.{draft_line};
 ghost use Rattle.cadence_schedule.specs.Call.{tagged, contained, timed, rated};
 ghost use Rattle.cadence_schedule.specs.Settings.{keyed, unkeyed};
 ghost use Rattle.cadence.specs.Sending.{Chooses, ChoosesOrHolds, StandsForMore};
@@ -12,9 +12,9 @@ use crate::client::pending;
 use crate::client::statsd_client::StatsdClient;
 use crate::laws::choosing_stands_for_more;
 use cadence_errors::MetricResult;
+use cadence_metrics::{Kind, Metric, MetricText};
 use cadence_sinks::MetricSink;
-use cadence_text::line::{Record, Tag};
-use cadence_text::metrics::{Kind, Metric, MetricText};
+use cadence_text::line::{DraftLine, Tag};
 use cadence_value::decimal::Decimal;
 use cadence_value::value::MetricValue;
 use std::alloc::Allocator;
@@ -34,21 +34,21 @@ impl Metric for Line<'_> {
     }
 }
 
-// Sends the line of a record, and answers what is made of it.
-#[inline]
+// Sends the line of a draft, and answers what is made of it.
+#[inline(always)]
 fn send_line<C: MetricBackend, T: From<String<C::Memory>>>(
     client: &C,
-    metric: &Record<'_, C::Memory>,
+    draft: DraftLine<'_, C::Memory>,
 ) -> MetricResult<T>
-    ensures { Sent (C.line_may_get client.now) (MadeFrom T.from_gives) (line_of metric.now)
-        result }
+    ensures { Sent (C.line_may_get client.now) (MadeFrom T.from_gives)
+        (draft_line draft.entry) result }
 {
-    let text = metric.line(metric.allocator().clone()?)?;
+    let text = draft.into_text()?;
     client.send_metric(&Line { text: &text })?;
     Ok(T::from(text))
 }
 
-/// A metric that is being built, as in cadence. It holds the metric so far, or the first error of the call; a held
+/// A metric that is being built, as in cadence. It holds the metric's line so far, or the first error of the call; a held
 /// error stays, and later calls change nothing. It has to be sent: one that is let go doesn't compile.
 pub struct MetricBuilder<
     'm,
@@ -56,7 +56,7 @@ pub struct MetricBuilder<
     T: Metric + From<String<C::Memory>>,
     C: MetricBackend = StatsdClient,
 > {
-    record: MetricResult<Record<'m, C::Memory>>,
+    draft: MetricResult<DraftLine<'m, C::Memory>>,
     client: &'c C,
     of: PhantomData<T>,
 }
@@ -64,20 +64,20 @@ pub struct MetricBuilder<
 impl<'m, 'c, T: Metric + From<String<C::Memory>>, C: MetricBackend> MetricBuilder<'m, 'c, T, C> {
     ghost use Rattle.cadence.specs.Shown.{pending_of, backend_of};
 
-    #[inline]
-    pub(crate) fn new(client: &'c C, pending: MetricResult<Record<'m, C::Memory>>) -> Self
+    #[inline(always)]
+    pub(crate) fn new(client: &'c C, pending: MetricResult<DraftLine<'m, C::Memory>>) -> Self
         ensures pending { pending_of result ≡ pending.entry }
         ensures client { backend_of result ≡ client.now }
     {
         MetricBuilder {
-            record: pending,
+            draft: pending,
             client,
             of: PhantomData,
         }
     }
 
-    /// Adds a tag with a key, after the default tags and the earlier ones. Holds want of memory where the list of
-    /// tags can't grow.
+    /// Adds a tag with a key, after the default tags and the earlier ones. Holds want of memory where the line can't
+    /// grow.
     pub fn with_tag(mut self, key: &'m str, value: &'m str) -> Self
         ensures pending { ChoosesOrHolds (pending_of self.entry)
             (tagged (keyed key.now value.now)) (pending_of result) }
@@ -90,7 +90,7 @@ impl<'m, 'c, T: Metric + From<String<C::Memory>>, C: MetricBackend> MetricBuilde
             text: value,
         };
         choosing_stands_for_more();
-        pending::add_tag(&mut self.record, tag);
+        pending::add_tag(&mut self.draft, tag);
         self
     }
 
@@ -107,7 +107,7 @@ impl<'m, 'c, T: Metric + From<String<C::Memory>>, C: MetricBackend> MetricBuilde
             text: value,
         };
         choosing_stands_for_more();
-        pending::add_tag(&mut self.record, tag);
+        pending::add_tag(&mut self.draft, tag);
         self
     }
 
@@ -120,7 +120,7 @@ impl<'m, 'c, T: Metric + From<String<C::Memory>>, C: MetricBackend> MetricBuilde
         ensures client { backend_of result ≡ backend_of self.entry }
     {
         choosing_stands_for_more();
-        pending::set_container(&mut self.record, container_id);
+        pending::set_container(&mut self.draft, container_id);
         self
     }
 
@@ -131,7 +131,7 @@ impl<'m, 'c, T: Metric + From<String<C::Memory>>, C: MetricBackend> MetricBuilde
         ensures client { backend_of result ≡ backend_of self.entry }
     {
         choosing_stands_for_more();
-        pending::set_time(&mut self.record, timestamp);
+        pending::set_time(&mut self.draft, timestamp);
         self
     }
 
@@ -143,7 +143,7 @@ impl<'m, 'c, T: Metric + From<String<C::Memory>>, C: MetricBackend> MetricBuilde
         ensures client { backend_of result ≡ backend_of self.entry }
     {
         choosing_stands_for_more();
-        pending::set_rate(&mut self.record, rate);
+        pending::set_rate(&mut self.draft, rate);
         self
     }
 
@@ -158,12 +158,12 @@ impl<'m, 'c, T: Metric + From<String<C::Memory>>, C: MetricBackend> MetricBuilde
         ensures line { HasLine (MadeFrom T.from_gives) (pending_of self.entry) result }
     {
         let MetricBuilder {
-            record,
+            draft,
             client,
             of: _,
         } = self;
-        match record {
-            Ok(metric) => send_line(client, &metric),
+        match draft {
+            Ok(draft) => send_line(client, draft),
             Err(e) => Err(e),
         }
     }
@@ -172,12 +172,12 @@ impl<'m, 'c, T: Metric + From<String<C::Memory>>, C: MetricBackend> MetricBuilde
     /// the error is dropped.
     pub fn send(self) {
         let MetricBuilder {
-            record,
+            draft,
             client,
             of: _,
         } = self;
-        let sent = match record {
-            Ok(metric) => send_line::<C, String<C::Memory>>(client, &metric),
+        let sent = match draft {
+            Ok(draft) => send_line::<C, String<C::Memory>>(client, draft),
             Err(e) => Err(e),
         };
         if let Err(e) = sent {
@@ -197,10 +197,10 @@ impl<'a, K: Kind, A: Allocator + Clone, S: MetricSink, H: ErrorHandler> MetricBu
     ghost use Rattle.cadence.specs.Shown.{backend_of, pending_of, settings_of_client};
 
     // The builder of a call without options, whose value was converted.
-    #[inline]
+    #[inline(always)]
     pub(crate) fn start(
         client: &'a StatsdClient<A, S, H>,
-        key: &'a str,
+        key: &str,
         value: MetricResult<MetricValue<A>>,
     ) -> Self
         ensures pending { (numbers : _) → Converts numbers value →

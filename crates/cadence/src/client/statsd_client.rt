@@ -7,9 +7,9 @@ use crate::client::backend::MetricBackend;
 use crate::client::handler::{ErrorHandler, NopErrorHandler};
 use crate::sealed::Sealed;
 use cadence_errors::{MetricError, MetricResult};
+use cadence_metrics::{Kind, Metric, MetricText};
 use cadence_schedule::ClientSettings;
 use cadence_sinks::MetricSink;
-use cadence_text::metrics::{Kind, Metric, MetricText};
 use cadence_value::value::MetricValue;
 use std::alloc::{Allocator, Global};
 

@@ -5,9 +5,9 @@ use crate::client::builder::MetricBuilder;
 use crate::client::handler::ErrorHandler;
 use crate::client::statsd_client::StatsdClient;
 use cadence_errors::MetricResult;
+use cadence_metrics::{Counter, Distribution, Gauge, Histogram, Meter, Set, Timer};
 use cadence_sinks::MetricSink;
 use cadence_text::line::MetricType;
-use cadence_text::metrics::{Counter, Distribution, Gauge, Histogram, Meter, Set, Timer};
 use cadence_value::value::{
     ToCounterValue, ToDistributionValue, ToGaugeValue, ToHistogramValue, ToMeterValue, ToSetValue,
     ToTimerValue,

@@ -1,5 +1,5 @@
 //! A line in room of its length.
-ghost use Rattle.std.specs.Prelude.{◌≡◌, ◌≤◌, [], IfOk, IsUtf8, string_bytes};
+ghost use Rattle.std.specs.Prelude.{◌≡◌, ◌≤◌, ◌+◌, [], IfOk, IsUtf8, OnOk, length, string_bytes};
 ghost use Rattle.std.specs.Vec.{vec_capacity, vec_len};
 
 use crate::line::digits::{push_number, push_wide};
@@ -40,6 +40,53 @@ impl<A: Allocator> Filled<A> {
             return Err(bytes);
         }
         Ok(Filled { bytes, end: length })
+    }
+
+    /// No text. Takes no memory.
+    pub(crate) fn empty(alloc: A) -> Filled<A>
+        ensures { result.bytes.items ≡ [] }
+    {
+        Filled {
+            bytes: Vec::new(alloc),
+            end: 0,
+        }
+    }
+
+    /// Room for so much more text, which ends there. It grows by doubling.
+    #[inline]
+    pub(crate) fn reserve(&mut self, more: usize) -> Result<(), AllocError>
+        ensures text { self.new.bytes.items ≡ self.old.bytes.items }
+        ensures end { OnOk result (self.new.end ≡ length self.old.bytes.items + more) }
+    {
+        self.bytes.reserve(more)?;
+        self.end = self.bytes.len() + more;
+        Ok(())
+    }
+
+    #[inline]
+    pub(crate) fn len(&self) -> usize
+        ensures { result ≡ length self.now.bytes.items }
+    {
+        self.bytes.len()
+    }
+
+    #[inline]
+    pub(crate) fn as_bytes(&self) -> &[u8]
+        ensures { result.now ≡ self.now.bytes.items }
+    {
+        self.bytes.as_slice()
+    }
+
+    #[inline]
+    pub(crate) fn as_text(&self) -> &str
+        ensures { result.now ≡ self.now.bytes.items }
+    {
+        unsafe { std::str::from_utf8_unchecked(self.bytes.as_slice()) }
+    }
+
+    #[inline]
+    pub(crate) fn allocator(&self) -> &A {
+        self.bytes.allocator()
     }
 
     #[inline]

@@ -42,7 +42,7 @@ pub(crate) fn push_kind<S: LineSink>(line: &mut S, kind: MetricType)
 }
 
 #[inline(always)]
-fn push_tag<S: LineSink>(line: &mut S, tag: &Tag<'_>)
+pub(crate) fn push_tag<S: LineSink>(line: &mut S, tag: &Tag<'_>)
     ensures taken { Takes S.ends_as line.old (tag_text (tag_of tag.now)) line.new }
     ensures sized { IsRecordTag (tag_of tag.now) }
 {

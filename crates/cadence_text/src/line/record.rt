@@ -95,12 +95,6 @@ impl<'a, A: Allocator> Record<'a, A> {
         }
     }
 
-    /// Where its tags take memory.
-    #[inline]
-    pub fn allocator(&self) -> &A {
-        self.tags.allocator()
-    }
-
     /// Adds a tag, after those that are there. Where memory is refused, the record is as it was.
     #[inline]
     pub fn add_tag(&mut self, tag: Tag<'a>) -> Result<(), AllocError>

@@ -3,6 +3,7 @@
 use cadence::client::{
     BoxedErrorHandler, BoxedHandler, ClientSettings, MetricBuilder, StatsdClient,
 };
+use cadence::decimal::Decimal;
 use cadence::prelude::*;
 use cadence::schedule::{Call, CallOption, CallValue};
 use cadence::sinks::{MetricSink, NopMetricSink};
@@ -14,7 +15,7 @@ use std::sync::atomic::{AtomicU64, Ordering};
 use std::test::Fail;
 use std::time::Duration;
 
-// A client with default tags and a container, whose sink takes and drops every line. Takes six requests for memory.
+// A client with default tags and a container, whose sink takes and drops every line. Takes eight requests for memory.
 fn made(heap: &Refusing<Global>) -> MetricResult<StatsdClient<Refusing<Global>, NopMetricSink>> {
     StatsdClient::builder(heap.clone()?, "p", NopMetricSink)
         .with_tag("a", "b")
@@ -35,7 +36,7 @@ fn is_made<T: Drop>(answer: MetricResult<T>) -> Result<bool, Fail> {
 #[test]
 fn a_client_is_made_or_refused(rt: HostRuntime) -> Result<(), Fail> {
     let granted: Result<Option<u64>, Fail> = each_refused(rt.alloc(), |heap| is_made(made(&heap)));
-    assert_eq!(rt; granted?, Some(6));
+    assert_eq!(rt; granted?, Some(8));
     Ok(())
 }
 
@@ -101,11 +102,7 @@ fn a_call_of_each_kind_is_sent_or_refused(rt: HostRuntime) -> Result<(), Fail> {
             Ok(client) => is_sent_with_tag(&client, number - 8),
             Err(_) => Ok(false),
         })?;
-        assert_eq!(rt;
-            granted,
-            Some(8),
-            "six for the client, the list of tags and the line"
-        );
+        assert_eq!(rt; granted, Some(9), "eight for the client, and the line");
     }
     Ok(())
 }
@@ -117,7 +114,7 @@ type TellingClient = StatsdClient<
     BoxedErrorHandler<Refusing<Global>>,
 >;
 
-// Such a client, whose handler adds 1 for want of memory and 100 for another error. Takes seven requests.
+// Such a client, whose handler adds 1 for want of memory and 100 for another error. Takes nine requests.
 fn telling(heap: &Refusing<Global>, told: Arc<AtomicU64>) -> MetricResult<TellingClient> {
     let handler: BoxedHandler<Refusing<Global>> = Box::new(
         heap.clone()?,
@@ -146,7 +143,7 @@ fn a_handler_is_told_want_of_memory_once(rt: HostRuntime) -> Result<(), Fail> {
         assert!(rt; told < 2);
         Ok(told == 0)
     });
-    assert_eq!(rt; granted?, Some(9));
+    assert_eq!(rt; granted?, Some(10));
     Ok(())
 }
 
@@ -159,6 +156,35 @@ fn a_plain_call_takes_its_line_alone(rt: HostRuntime) -> Result<(), Fail> {
     let before = heap.left();
     client.count("some.counter", 3)?;
     assert_eq!(rt; before.wrapping_sub(heap.left()), 1);
+    Ok(())
+}
+
+// A call whose tags outgrow the room that was reserved, with a rate, which comes before them.
+fn is_long_line(client: &Client, tag: &str) -> Result<bool, Fail> {
+    let rate = Decimal::new(5, 1)?;
+    let call = client.incr_with_tags("k").with_sampling_rate(rate);
+    is_line(
+        call.with_tag("d", tag)
+            .with_tag_value(tag)
+            .with_timestamp(7)
+            .try_send(),
+        "p.k:1|c",
+        "|@0.5|#a:b,c,d:ffffffffffffffffffffffffffffffffffffffffffffffffffffffffffff,ffffffffffffffffffffffffffffffffffffffffffffffffffffffffffff|c:id|T7",
+    )
+}
+
+#[test]
+fn a_line_that_grows_is_sent_or_refused(rt: HostRuntime) -> Result<(), Fail> {
+    let tag = "f".repeat(rt.alloc(), 60)?;
+    let granted: Result<Option<u64>, Fail> = each_refused(rt.alloc(), |heap| match made(&heap) {
+        Ok(client) => is_long_line(&client, &tag),
+        Err(_) => Ok(false),
+    });
+    assert_eq!(rt;
+        granted?,
+        Some(11),
+        "eight for the client, the line, its growth, and it anew"
+    );
     Ok(())
 }
 
