@@ -1,14 +1,14 @@
 -- Drafts: their line, one more tag, and where the head ends.
-use Rattle.std.proofs.Common.{◌≡◌, ℕ, ◌+◌, ◌<◌, ◌≤◌, Bool, true, false, Option, Some, None, List, [], ◌∷◌, ◌++◌, length, take, drop, ap, ap₂, ◌∙◌, sym, subst, refl, append_assoc, arith, length-append, lit<}
+use Rattle.std.proofs.Common.{◌≡◌, ℕ, ◌<◌, ◌≤◌, Bool, true, false, Option, Some, None, List, [], ◌∷◌, ◌++◌, length, take, drop, ap, ap₂, ◌∙◌, sym, subst, refl, append_assoc, arith, length-append, lit<}
 use Rattle.std.proofs.lemmas.List.{take_all, take-append-drop, take-append-le, drop-append-le}
 use Rattle.std.proofs.lemmas.Str.{IsUtf8-append, IsUtf8-from_ascii, IsUtf8-had}
 use Rattle.std.proofs.lemmas.Str.Ascii.{IsAscii-cons, IsAscii-nil}
 use Rattle.std.proofs.Math.ListN.{drop_of_length-le}
 use Rattle.std.proofs.Math.Logic.{∥∥₁_map}
 use Rattle.std.proofs.Math.Seq.{take-append_seam, drop-append_seam}
-use Rattle.std.specs.Prelude.{IfSome, IsUtf8}
+use Rattle.std.specs.Prelude.{IfSome, IsUtf8, OnErr, OnOk, Result, Ok, Err}
 use Rattle.cadence_value.specs.Number.{Number, numbers_text}
-use Rattle.cadence_text.specs.Draft.{Draft, draft_line, draft_of, has_text, head_text, lead, tag_added, with_tag_text}
+use Rattle.cadence_text.specs.Draft.{draft_line, draft_of, has_text, head_text, lead, tag_added, with_tag_text}
 use Rattle.cadence_text.specs.Line.{container_field, key_text, kind_text, line_of, rate_field, tag_text, tags_field, time_field}
 use Rattle.cadence_text.specs.Metric.{Metric, Tag, with_tag}
 use Rattle.cadence_text.specs.More.{has_begun}
@@ -57,15 +57,21 @@ lead_short false = (lit< tt, omega arith)
 abbrev pub IsCutAt : ℕ → List ℕ → Type 0
 IsCutAt head items = (0 < head) × (head ≤ length items) × ∥ IsUtf8 (take head items) × IsUtf8 (drop head items) ∥₁
 
-pub cut_same : (head : ℕ) (old new : List ℕ) → IsCutAt head old → new ≡ old → IsCutAt head new
+cut_same : (head : ℕ) (old new : List ℕ) → IsCutAt head old → new ≡ old → IsCutAt head new
 cut_same head old new h e = subst (IsCutAt head) (sym e) h
 
 -- text with more after it
-pub cut_more : (head : ℕ) (old new more : List ℕ) → IsCutAt head old → IsUtf8 more → new ≡ old ++ more → IsCutAt head new
+cut_more : (head : ℕ) (old new more : List ℕ) → IsCutAt head old → IsUtf8 more → new ≡ old ++ more → IsCutAt head new
 cut_more head old new more h utf8 e =
     let (some, within, sides) = h in
     subst (IsCutAt head) (sym e)
     (some, omega (arith, within, length-append old more), ∥∥₁_map sides (λ s. (subst IsUtf8 (sym (take-append-le head old more within)) s.0, subst IsUtf8 (sym (drop-append-le head old more within)) (IsUtf8-append (drop head old) more s.1 utf8))))
+
+-- text with more after it, where memory is not refused
+pub cut_added : {U E : Type 0} (head : ℕ) (old new more : List ℕ) (answer : Result U E) → IsCutAt head old
+    → OnOk answer (new ≡ old ++ more) → OnOk answer (IsUtf8 more) → OnErr answer (new ≡ old) → IsCutAt head new
+cut_added head old new more (Ok u) h longer utf8 same = cut_more head old new more h utf8 longer
+cut_added head old new more (Err e) h longer utf8 same = cut_same head old new h same
 
 -- each side of the cut
 pub cut_sides : (head : ℕ) (items : List ℕ) → IsCutAt head items → IsUtf8 (take head items) × IsUtf8 (drop head items)

@@ -5,7 +5,7 @@ use Rattle.std.proofs.lemmas.List.{append-nil, take_all, take_more}
 use Rattle.std.proofs.lemmas.List.Elements.{All-append, All-more}
 use Rattle.std.proofs.lemmas.Option.{get_or_from_slice_get}
 use Rattle.std.specs.List.{All, flat_map}
-use Rattle.cadence_text.specs.Sink.{Takes}
+use Rattle.cadence_value.specs.Takes.{Takes}
 use Rattle.cadence_text.specs.Line.{tag_text, tags_field}
 use Rattle.cadence_text.specs.Metric.{Tag}
 use Rattle.cadence_text.specs.RecordMetric.{AreRecordTags, IsRecordTag}

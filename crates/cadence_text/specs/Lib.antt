@@ -10,4 +10,5 @@ pub mod OneReading
 pub mod Record
 pub mod Sink
 pub mod Owned
+pub mod Rate
 pub mod Said

@@ -2,15 +2,8 @@
 use Rattle.std.specs.Prelude.{ℕ, ◌<◌, ◌^◌, Option, List, All, IfSome, length}
 use Rattle.std.specs.Str.{IsUtf8}
 use Rattle.cadence_text.specs.Metric.{Metric, Tag}
-use Rattle.cadence_value.specs.Number.{Number, IsDecimal}
-
-pub record AreRecordNumbers (numbers : List Number) : Type 0 where
-  pub each : All IsDecimal numbers
-  pub few : length numbers < 2 ^ 64
-
--- no text in memory is longer, and each is in UTF-8
-abbrev pub FitsMemory : List ℕ → Type 0
-FitsMemory text = (length text < 2 ^ 63) × IsUtf8 text
+use Rattle.cadence_value.specs.Number.{IsDecimal}
+pub use Rattle.cadence_value.specs.Takes.{AreRecordNumbers, FitsMemory}
 
 pub record IsRecordTag (tag : Tag) : Type 0 where
   pub key : IfSome tag.key FitsMemory

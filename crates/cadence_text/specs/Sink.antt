@@ -1,12 +1,8 @@
 -- What takes the pieces of a line.
-use Rattle.std.specs.Prelude.{◌≡◌, ℕ, ◌+◌, ◌-◌, ◌%◌, ◌^◌, nat_lt, if◌then◌else◌, List, [], ◌++◌, length, take, drop, replicate}
+use Rattle.std.specs.Prelude.{ℕ, ◌+◌, ◌-◌, ◌%◌, ◌^◌, nat_lt, if◌then◌else◌, List, [], ◌++◌, length, take, drop, replicate}
 use Rattle.cadence_text.specs.declared.line.counter.Counter.{Counter}
 use Rattle.cadence_text.specs.declared.line.filled.Filled.{Filled}
 use Rattle.cadence_text.specs.declared.line.window.Window.{Window}
-
--- the sink took the text: whatever else comes, it ends as it would have with the text and the rest still to come
-abbrev pub Takes : {S : Type 0} → (S → List ℕ → List ℕ) → S → List ℕ → S → Type 0
-Takes ends_as old text new = (rest : List ℕ) → ends_as new rest ≡ ends_as old (text ++ rest)
 
 -- the bytes that a window shows
 abbrev pub window_text : Window → List ℕ

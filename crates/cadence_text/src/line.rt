@@ -1,13 +1,12 @@
 //! The kinds of metrics and the line of a record.
 
 mod counter;
-mod digits;
 mod draft;
 mod filled;
 mod list;
 mod pieces;
+mod rate;
 mod record;
-mod sink;
 mod tag;
 mod window;
 

@@ -7,3 +7,5 @@ pub mod Counts
 pub mod DigitsRead
 pub mod NumberRead
 pub mod TextRead
+pub mod Listed
+pub mod WholeText

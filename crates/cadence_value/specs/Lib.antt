@@ -5,3 +5,4 @@ pub mod Reads
 pub mod Digits
 pub mod Said
 pub mod Values
+pub mod Takes

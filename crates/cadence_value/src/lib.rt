@@ -4,4 +4,5 @@
 pub mod bytes;
 pub mod decimal;
 pub mod laws;
+pub mod text;
 pub mod value;

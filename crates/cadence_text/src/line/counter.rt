@@ -1,8 +1,7 @@
 //! The length of a line, without the line.
 ghost use Rattle.std.specs.Prelude.{◌≡◌, ◌+◌, ◌%◌, ◌^◌};
 
-use crate::line::digits::{number_len, wide_len};
-use crate::line::sink::LineSink;
+use cadence_value::text::{LineSink, number_len, wide_len};
 
 /// How many bytes came, modulo 2 to the 128.
 #[derive(Clone, Copy)]

@@ -6,17 +6,17 @@ ghost use Rattle.cadence_text.specs.Draft.{draft_line, lead, tag_added, with_tag
 ghost use Rattle.cadence_text.specs.DraftParts.{draft_of_parts, text_of_head};
 ghost use Rattle.cadence_text.specs.Line.{tag_text};
 ghost use Rattle.cadence_text.specs.Record.{tag_of};
-ghost use Rattle.cadence_text.specs.Sink.{Takes};
+ghost use Rattle.cadence_value.specs.Takes.{Takes};
 
 use crate::line::MetricType;
 use crate::line::counter::Counter;
 use crate::line::filled::Filled;
-use crate::line::pieces::{push_container, push_kind, push_rate, push_tag, push_time, push_value};
-use crate::line::sink::LineSink;
+use crate::line::pieces::{push_container, push_kind, push_tag, push_time};
+use crate::line::rate::{Rate, push_kept_rate};
 use crate::line::tag::Tag;
 use cadence_value::decimal::Decimal;
+use cadence_value::text::{LineSink, push_value};
 use cadence_value::value::MetricValue;
-use core::mem;
 use std::alloc::{AllocError, Allocator, Global};
 use std::marker::Model;
 use std::str;
@@ -66,24 +66,21 @@ fn tag_room(tag: &Tag<'_>) -> Option<usize>
     }
 }
 
-// The line with a tag at its end, and whether there was room for it. Else it is the line as it was.
-fn line_with_tag<A: Allocator>(line: Filled<A>, more: (bool, Tag<'_>)) -> (Filled<A>, bool)
-    ensures ok { IsTrue result.1 → result.0.bytes.items ≡
-        line.bytes.items ++ (lead more.entry.0 ++ tag_text (tag_of more.entry.1)) }
-    ensures utf8 { IsTrue result.1 → IsUtf8 (lead more.entry.0 ++ tag_text (tag_of more.entry.1)) }
-    ensures err { result.1 ≡ false → result.0.bytes.items ≡ line.bytes.items }
+// Writes a tag at the end of a line. Where memory is refused, the line is as it was.
+#[inline(always)]
+fn add_to<A: Allocator>(line: &mut Filled<A>, begun: bool, tag: &Tag<'_>) -> Result<(), AllocError>
+    ensures ok { OnOk result (line.new.bytes.items ≡
+        line.old.bytes.items ++ (lead begun ++ tag_text (tag_of tag.now))) }
+    ensures utf8 { OnOk result (IsUtf8 (lead begun ++ tag_text (tag_of tag.now))) }
+    ensures err { OnErr result (line.new.bytes.items ≡ line.old.bytes.items) }
 {
-    let (begun, tag) = more;
-    let mut line = line;
-    let Some(room) = tag_room(&tag) else {
-        return (line, false);
+    let Some(room) = tag_room(tag) else {
+        return Err(AllocError);
     };
-    let Ok(()) = line.reserve(room) else {
-        return (line, false);
-    };
-    push_lead(&mut line, begun);
-    push_tag(&mut line, &tag);
-    (line, true)
+    line.reserve(room)?;
+    push_lead(line, begun);
+    push_tag(line, tag);
+    Ok(())
 }
 
 // What stands before a tag.
@@ -129,10 +126,7 @@ impl<A: Allocator> TagsText<A> {
         ensures err { OnErr result (self.new ≡ self.old) }
     {
         let begun = self.line.len() > 0;
-        if !mem::replace_with(&mut self.line, (begun, tag), line_with_tag) {
-            return Err(AllocError);
-        }
-        Ok(())
+        add_to(&mut self.line, begun, &tag)
     }
 
     /// The text.
@@ -152,9 +146,9 @@ impl<A: Allocator> TagsText<A> {
 pub struct DraftLine<'a, A: Allocator = Global> {
     line: Filled<A>,
     head: usize,
-    rate: Option<Decimal>,
     container: Option<&'a str>,
     time: Option<u64>,
+    rate: Option<Rate>,
 }
 
 impl<'a, A: Allocator> Model for DraftLine<'a, A> {
@@ -215,10 +209,7 @@ impl<'a, A: Allocator> DraftLine<'a, A> {
         ensures err { OnErr result (self.new ≡ self.old) }
     {
         let begun = self.line.len() > self.head;
-        if !mem::replace_with(&mut self.line, (begun, tag), line_with_tag) {
-            return Err(AllocError);
-        }
-        Ok(())
+        add_to(&mut self.line, begun, &tag)
     }
 
     /// Sets the sampling rate, in place of an earlier one. It isn't checked to lie between 0 and 1.
@@ -226,7 +217,7 @@ impl<'a, A: Allocator> DraftLine<'a, A> {
     pub fn set_rate(&mut self, rate: Decimal)
         ensures { self.new ≡ record self.old { rate = Some rate } }
     {
-        self.rate = Some(rate);
+        self.rate = Some(Rate::of(rate));
     }
 
     /// Sets the id of the container (DogStatsD), in place of an earlier one.
@@ -250,7 +241,7 @@ impl<'a, A: Allocator> DraftLine<'a, A> {
 #[derive(Drop)]
 struct Parts<'a> {
     head: &'a str,
-    rate: Option<Decimal>,
+    rate: Option<Rate>,
     tags: &'a str,
     container: Option<&'a str>,
     time: Option<u64>,
@@ -263,7 +254,7 @@ fn push_parts<S: LineSink>(line: &mut S, parts: &Parts<'_>)
     ensures short { length (draft_line (draft_of_parts parts.now)) < 2 ^ 100 }
 {
     line.take_piece(parts.head);
-    push_rate(line, parts.rate);
+    push_kept_rate(line, &parts.rate);
     line.take_piece(parts.tags);
     push_container(line, parts.container);
     push_time(line, parts.time);
@@ -271,7 +262,7 @@ fn push_parts<S: LineSink>(line: &mut S, parts: &Parts<'_>)
 
 // The parts where a head and tags stand already.
 #[inline(always)]
-fn after_tags<'a>(rate: Option<Decimal>, container: Option<&'a str>, time: Option<u64>) -> Parts<'a>
+fn after_tags<'a>(rate: Option<Rate>, container: Option<&'a str>, time: Option<u64>) -> Parts<'a>
     ensures { draft_of_parts result ≡ record {
       head = [];
       tags = [];

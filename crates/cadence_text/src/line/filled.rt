@@ -2,8 +2,7 @@
 ghost use Rattle.std.specs.Prelude.{◌≡◌, ◌≤◌, ◌+◌, [], IfOk, IsUtf8, OnOk, length, string_bytes};
 ghost use Rattle.std.specs.Vec.{vec_capacity, vec_len};
 
-use crate::line::digits::{push_number, push_wide};
-use crate::line::sink::{ByteSink, LineSink};
+use cadence_value::text::{ByteSink, LineSink, push_digits, push_wide_digits};
 use std::alloc::{AllocError, Allocator};
 
 /// A line, in room that was reserved once. What is longer than its end is no line of this room.
@@ -151,10 +150,10 @@ impl<A: Allocator> LineSink for Filled<A> {
 
     #[inline]
     fn take_number(&mut self, number: u64) {
-        push_number(self, number);
+        push_digits(self, number);
     }
 
     fn take_wide(&mut self, number: u128) {
-        push_wide(self, number);
+        push_wide_digits(self, number);
     }
 }

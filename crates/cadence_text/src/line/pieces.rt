@@ -1,25 +1,19 @@
 //! The pieces of a line, in order.
-ghost use Rattle.std.specs.Prelude.{◌≡◌, ◌++◌, ◌/◌, ◌%◌, ◌^◌, ◌<◌, ◌≤◌, ◌-◌, IfSome, codes, map, replicate};
+ghost use Rattle.std.specs.Prelude.{◌≡◌, ◌++◌, ◌^◌, ◌<◌, ◌≤◌, All, IfSome, Some, codes, length, map};
 ghost use Rattle.std.specs.Option.{option_copied};
-ghost use Rattle.std.specs.Prelude.{All, length};
 ghost use Rattle.cadence_text.specs.More.{has_begun, more_tags};
 ghost use Rattle.cadence_text.specs.Line.{container_field, kind_text, rate_field, tag_text, tags_field, time_field};
-ghost use Rattle.cadence_value.specs.Number.{numbers_text};
-ghost use Rattle.cadence_value.specs.Number.{Number, decimal_text, number_text, places_text, IsDecimal};
-ghost use Rattle.cadence_value.specs.Values.{numbers_of};
+ghost use Rattle.cadence_value.specs.Number.{IsDecimal, number};
+ghost use Rattle.cadence_value.specs.Takes.{FitsMemory, Takes};
 ghost use Rattle.cadence_text.specs.Record.{tag_of};
-ghost use Rattle.cadence_text.specs.RecordMetric.{AreRecordNumbers, AreRecordTags, FitsMemory, IsRecordTag, IsRecordTime};
-ghost use Rattle.cadence_text.specs.Sink.{Takes};
+ghost use Rattle.cadence_text.specs.RecordMetric.{AreRecordTags, IsRecordTag, IsRecordTime};
 
 use crate::line::MetricType;
-use crate::line::digits::{number_len, wide_len};
 use crate::line::list::TagList;
-use crate::line::sink::LineSink;
 use crate::line::tag::Tag;
 use cadence_value::decimal::Decimal;
-use cadence_value::value::MetricValue;
+use cadence_value::text::{LineSink, push_number};
 use core::mem;
-use std::alloc::Allocator;
 
 // The bar and the type text.
 #[inline(always)]
@@ -144,143 +138,23 @@ pub(crate) fn push_time<S: LineSink>(line: &mut S, time: Option<u64>)
     }
 }
 
-// A number that has a text.
-trait Printed {
-    ghost number: { Self → Number };
-
-    fn push_to<S: LineSink>(&self, line: &mut S)
-        ensures taken { Takes S.ends_as line.old (number_text (number self.now)) line.new }
-        ensures sized { IsDecimal (number self.now) };
-}
-
-impl Printed for i64 {
-    ghost use Rattle.cadence_value.specs.Number.{whole};
-
-    ghost number = { whole };
-
-    #[inline]
-    #[tactic(auto, using(crate::proofs::Values::whole_text))]
-    fn push_to<S: LineSink>(&self, line: &mut S) {
-        if *self < 0 {
-            line.take_byte(b'-');
-        }
-        line.take_number(self.unsigned_abs());
-    }
-}
-
-impl Printed for u64 {
-    ghost use Rattle.cadence_value.specs.Number.{natural};
-
-    ghost number = { natural };
-
-    #[inline]
-    #[tactic(auto, using(crate::proofs::Values::whole_text))]
-    fn push_to<S: LineSink>(&self, line: &mut S) {
-        line.take_number(*self);
-    }
-}
-
-impl Printed for Decimal {
-    ghost number = { λ n. n };
-
-    fn push_to<S: LineSink>(&self, line: &mut S) {
-        if self.mantissa() < 0 {
-            line.take_byte(b'-');
-        }
-        push_magnitude(line, self.mantissa().unsigned_abs(), self.places());
-    }
-}
-
-fn power_of_ten(places: u8) -> u64
-    requires { places ≤ 19 }
-    ensures value { result ≡ 10 ^ places }
-    ensures positive { 0 < result }
-{
-    10u64.pow(u32::from(places))
-}
-
-// A magnitude over 10 to the power of `places`. Most of them fit 64 bits, which are faster.
-fn push_magnitude<S: LineSink>(line: &mut S, magnitude: u128, places: u8)
-    requires { places ≤ 30 }
-    ensures { Takes S.ends_as line.old
-        (decimal_text (magnitude / 10 ^ places) ++ places_text magnitude places) line.new }
-{
-    if places <= 19 {
-        if let Ok(small) = u64::try_from(magnitude) {
-            return push_small(line, small, places);
-        }
-    }
-    let scale = cadence_value::decimal::power_of_ten(places);
-    line.take_wide(magnitude / scale);
-    if places > 0 {
-        let fraction = magnitude % scale;
-        push_dot(line, places, wide_len(fraction));
-        line.take_wide(fraction);
-    }
-}
-
-// The same of 64 bits.
-fn push_small<S: LineSink>(line: &mut S, magnitude: u64, places: u8)
-    requires { places ≤ 19 }
-    ensures { Takes S.ends_as line.old
-        (decimal_text (magnitude / 10 ^ places) ++ places_text magnitude places) line.new }
-{
-    let scale = power_of_ten(places);
-    line.take_number(magnitude / scale);
-    if places > 0 {
-        let fraction = magnitude % scale;
-        push_dot(line, places, number_len(fraction));
-        line.take_number(fraction);
-    }
-}
-
-// A dot, and as many zeros as this many digits lack to so many places.
-fn push_dot<S: LineSink>(line: &mut S, places: u8, digits: usize)
-    ensures { Takes S.ends_as line.old (codes "." ++ replicate (places - digits) 48) line.new }
-{
-    line.take_byte(b'.');
-    for _i in 0..usize::from(places).saturating_sub(digits) {
-        line.take_byte(b'0');
-    }
-}
-
-fn push_list<S: LineSink, T: Printed>(line: &mut S, numbers: &[T])
-    ensures taken { Takes S.ends_as line.old (numbers_text (map T.number numbers.now)) line.new }
-    ensures sized { AreRecordNumbers (map T.number numbers.now) }
-{
-    let Some((first, others)) = numbers.split_first() else {
-        return;
-    };
-    first.push_to(line);
-    for number in others {
-        line.take_byte(b':');
-        number.push_to(line);
-    }
-}
-
-#[inline]
-pub(crate) fn push_value<S: LineSink, A: Allocator>(line: &mut S, value: &MetricValue<A>)
-    ensures taken { Takes S.ends_as line.old (numbers_text (numbers_of value.now)) line.new }
-    ensures sized { AreRecordNumbers (numbers_of value.now) }
-{
-    match value {
-        MetricValue::Signed(n) => n.push_to(line),
-        MetricValue::PackedSigned(ns) => push_list(line, ns.as_slice()),
-        MetricValue::Unsigned(n) => n.push_to(line),
-        MetricValue::PackedUnsigned(ns) => push_list(line, ns.as_slice()),
-        MetricValue::Decimal(d) => d.push_to(line),
-        MetricValue::PackedDecimal(ds) => push_list(line, ds.as_slice()),
-    }
-}
-
 #[inline]
 pub(crate) fn push_rate<S: LineSink>(line: &mut S, rate: Option<Decimal>)
     ensures taken { Takes S.ends_as line.old (rate_field rate) line.new }
     ensures sized { IfSome rate IsDecimal }
 {
     if let Some(rate) = rate {
-        line.take_byte(b'|');
-        line.take_byte(b'@');
-        rate.push_to(line);
+        push_rate_of(line, rate.mantissa(), rate.places());
     }
+}
+
+// A rate of `mantissa` over 10 to the power of `places`.
+#[inline]
+pub(crate) fn push_rate_of<S: LineSink>(line: &mut S, mantissa: i128, places: u8)
+    requires { places ≤ 30 }
+    ensures { Takes S.ends_as line.old (rate_field (Some (number mantissa places))) line.new }
+{
+    line.take_byte(b'|');
+    line.take_byte(b'@');
+    push_number(line, mantissa, places);
 }

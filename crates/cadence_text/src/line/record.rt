@@ -6,11 +6,11 @@ mod same;
 use crate::line::MetricType;
 use crate::line::counter::Counter;
 use crate::line::filled::Filled;
-use crate::line::pieces::{push_container, push_kind, push_rate, push_tags, push_time, push_value};
-use crate::line::sink::LineSink;
+use crate::line::pieces::{push_container, push_kind, push_rate, push_tags, push_time};
 use crate::line::tag::Tag;
 use cadence_errors::MetricResult;
 use cadence_value::decimal::Decimal;
+use cadence_value::text::{LineSink, push_value};
 use cadence_value::value::MetricValue;
 pub use owned::OwnedMetric;
 use std::alloc::{AllocError, Allocator, Global};
@@ -53,7 +53,7 @@ impl<'a, A: Allocator> Record<'a, A> {
     ghost use Rattle.cadence_text.specs.Record.{tag_of};
     ghost use Rattle.cadence_text.specs.RecordMetric.{IsRecordMetric};
     ghost use Rattle.cadence_text.specs.Said.{IsSaid};
-    ghost use Rattle.cadence_text.specs.Sink.{Takes};
+    ghost use Rattle.cadence_value.specs.Takes.{Takes};
     ghost use Rattle.cadence_value.specs.Values.{numbers_of};
 
     /// A record without rate, tags, container and time. The name is the prefix as it stands, followed by the key.

@@ -1,8 +1,7 @@
 //! A part of a line, made without memory.
 ghost use Rattle.std.specs.Prelude.{◌≡◌, ◌≤◌, []};
 
-use crate::line::digits::{push_number, push_wide};
-use crate::line::sink::{ByteSink, LineSink};
+use cadence_value::text::{ByteSink, LineSink, push_digits, push_wide_digits};
 
 /// The most bytes that a window shows.
 pub(crate) const WINDOW: usize = 512;
@@ -17,7 +16,8 @@ pub(crate) struct Window {
 }
 
 impl Window {
-    ghost use Rattle.cadence_text.specs.Sink.{Takes, window_ends, window_text};
+    ghost use Rattle.cadence_value.specs.Takes.{Takes};
+    ghost use Rattle.cadence_text.specs.Sink.{window_ends, window_text};
 
     pub(crate) fn after(skip: u128) -> Window
         ensures shown { window_text result ≡ [] }
@@ -86,10 +86,10 @@ impl LineSink for Window {
     }
 
     fn take_number(&mut self, number: u64) {
-        push_number(self, number);
+        push_digits(self, number);
     }
 
     fn take_wide(&mut self, number: u128) {
-        push_wide(self, number);
+        push_wide_digits(self, number);
     }
 }

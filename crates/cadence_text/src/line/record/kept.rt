@@ -3,16 +3,14 @@ ghost use Rattle.std.specs.Prelude.{◌≡◌, ◌++◌, IfOk, OnOk, length};
 ghost use Rattle.cadence_text.specs.Line.{line_of};
 ghost use Rattle.cadence_text.specs.More.{with_tags};
 ghost use Rattle.cadence_text.specs.RecordMetric.{IsRecordMetric};
-ghost use Rattle.cadence_text.specs.Sink.{Takes};
+ghost use Rattle.cadence_value.specs.Takes.{Takes};
 
 use super::Record;
 use crate::line::counter::Counter;
 use crate::line::filled::Filled;
 use crate::line::list::TagList;
-use crate::line::pieces::{
-    push_container, push_kind, push_more, push_rate, push_tags, push_time, push_value,
-};
-use crate::line::sink::LineSink;
+use crate::line::pieces::{push_container, push_kind, push_more, push_rate, push_tags, push_time};
+use cadence_value::text::{LineSink, push_value};
 use std::alloc::{AllocError, Allocator};
 use std::mem;
 

@@ -2,7 +2,7 @@ use Rattle.std.proofs.Common.{◌≡◌, ◌<◌, length, true, rules, ◌∙◌
 use Rattle.cadence_text.specs.Draft.{lead}
 use Rattle.cadence_text.specs.Record.{tag_of}
 use Rattle.cadence_text.specs.RecordMetric.{IsRecordTag}
-use Rattle.cadence_text.specs.Sink.{Takes}
+use Rattle.cadence_value.specs.Takes.{Takes}
 use Rattle.cadence_text.proofs.MoreTags.{bar_taken, begun_now, comma_taken, each_all, each_now, taken_now}
 use Rattle.cadence_text.proofs.line.pieces.line_with_more.Goals.{then-begun, else-begun}
 use Rattle.cadence_text.proofs.line.pieces.line_with_more.Goals as goal

@@ -2,7 +2,7 @@ use Rattle.std.proofs.Common.{◌≡◌, take}
 use Rattle.std.specs.List.{All}
 use Rattle.cadence_text.specs.More.{has_begun, more_tags}
 use Rattle.cadence_text.specs.RecordMetric.{IsRecordTag}
-use Rattle.cadence_text.specs.Sink.{Takes}
+use Rattle.cadence_value.specs.Takes.{Takes}
 use Rattle.cadence_text.proofs.line.pieces.line_with_more.Given as goal
 
 abbrev pub invariant-loop-index : goal.invariant-loop-index

@@ -3,7 +3,7 @@ use Rattle.std.specs.List.{All, flat_map}
 use Rattle.cadence_text.specs.Line.{tag_text}
 use Rattle.cadence_text.specs.Record.{tag_of}
 use Rattle.cadence_text.specs.RecordMetric.{IsRecordTag}
-use Rattle.cadence_text.specs.Sink.{Takes}
+use Rattle.cadence_value.specs.Takes.{Takes}
 use Rattle.cadence_text.proofs.line.pieces.line_with_tags.Given as goal
 
 abbrev pub invariant-loop-tag : goal.invariant-loop-tag

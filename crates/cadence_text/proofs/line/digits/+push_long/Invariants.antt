@@ -1,4 +1,0 @@
-use Rattle.cadence_text.proofs.line.digits.+push_long.Given as goal
-
-abbrev pub decreases-push_long : goal.decreases-push_long
-decreases-push_long g l = l.number

@@ -1,0 +1,74 @@
+//! A sampling rate, as a draft keeps it.
+ghost use Rattle.std.specs.Prelude.{◌≡◌, ◌≤◌, IfSome};
+ghost use Rattle.cadence_value.specs.Number.{IsDecimal};
+ghost use Rattle.cadence_text.specs.Line.{rate_field};
+ghost use Rattle.cadence_value.specs.Takes.{Takes};
+
+use crate::line::pieces::push_rate_of;
+use cadence_value::decimal::Decimal;
+use cadence_value::text::LineSink;
+use std::marker::Model;
+
+const HALF: u128 = 18_446_744_073_709_551_616;
+
+/// A sampling rate, its mantissa in two halves of 64 bits: nothing of it lies at a multiple of 16 bytes, which keeps a
+/// draft short.
+#[derive(Drop)]
+pub(crate) struct Rate {
+    high: u64,
+    low: u64,
+    places: u8,
+}
+
+impl Model for Rate {
+    ghost use Rattle.std.specs.Prelude.{◌≡◌, ◌≤◌, true};
+    ghost use Rattle.cadence_value.specs.Number.{Number, is_lowest, number};
+    ghost use Rattle.cadence_text.specs.Rate.{joined_halves};
+
+    ghost Value = { Number };
+
+    ghost view = { λ r. number (joined_halves r.high r.low) r.places };
+
+    ghost invariant = { λ r. (r.places ≤ 30)
+        × (is_lowest (joined_halves r.high r.low) r.places ≡ true) };
+}
+
+impl Rate {
+    #[inline(always)]
+    pub(crate) fn of(rate: Decimal) -> Rate
+        ensures { result ≡ rate }
+    {
+        let bits = rate.mantissa().cast_unsigned();
+        Rate {
+            high: (bits / HALF) as u64,
+            low: (bits % HALF) as u64,
+            places: rate.places(),
+        }
+    }
+
+    #[inline]
+    fn mantissa(&self) -> i128
+        ensures { result ≡ self.now.mantissa }
+    {
+        (u128::from(self.high) * HALF + u128::from(self.low)).cast_signed()
+    }
+
+    #[inline]
+    fn places(&self) -> u8
+        ensures value { result ≡ self.now.places }
+        ensures whole { IsDecimal self.now }
+    {
+        self.places
+    }
+}
+
+/// Pushes a kept rate, as it stands in a line.
+#[inline]
+pub(crate) fn push_kept_rate<S: LineSink>(line: &mut S, rate: &Option<Rate>)
+    ensures taken { Takes S.ends_as line.old (rate_field rate.now) line.new }
+    ensures sized { IfSome rate.now IsDecimal }
+{
+    if let Some(rate) = rate {
+        push_rate_of(line, rate.mantissa(), rate.places());
+    }
+}

@@ -1,0 +1,126 @@
+//! The digits of whole numbers, two at a time, and how many they are.
+ghost use Rattle.std.specs.Prelude.{◌≡◌, ◌+◌, ◌/◌, ◌%◌, ◌<◌, ◌∷◌, [], length};
+ghost use Rattle.cadence_value.specs.Number.{decimal_text};
+ghost use Rattle.cadence_value.specs.Takes.{Takes};
+
+use crate::text::sink::ByteSink;
+
+// One digit.
+#[inline(always)]
+fn push_digit<S: ByteSink>(line: &mut S, digit: u64)
+    requires { digit < 10 }
+    ensures { Takes S.ends_as line.old ((48 + digit) ∷ []) line.new }
+{
+    line.put_byte(b'0' + digit as u8);
+}
+
+// Two digits, the first of which may be 0.
+#[inline(always)]
+fn push_pair<S: ByteSink>(line: &mut S, pair: u64)
+    requires { pair < 100 }
+    ensures { Takes S.ends_as line.old ((48 + pair / 10) ∷ (48 + pair % 10) ∷ []) line.new }
+{
+    push_digit(line, pair / 10);
+    push_digit(line, pair % 10);
+}
+
+// One digit or two.
+#[inline(always)]
+fn push_first<S: ByteSink>(line: &mut S, number: u64)
+    requires { number < 100 }
+    ensures { Takes S.ends_as line.old (decimal_text number) line.new }
+{
+    if number < 10 {
+        return push_digit(line, number);
+    }
+    push_pair(line, number);
+}
+
+// Up to four digits.
+#[inline(always)]
+fn push_short<S: ByteSink>(line: &mut S, number: u64)
+    requires { number < 10000 }
+    ensures { Takes S.ends_as line.old (decimal_text number) line.new }
+{
+    if number < 100 {
+        return push_first(line, number);
+    }
+    push_first(line, number / 100);
+    push_pair(line, number % 100);
+}
+
+// Any number of digits.
+#[inline(never)]
+fn push_long<S: ByteSink>(line: &mut S, number: u64)
+    ensures { Takes S.ends_as line.old (decimal_text number) line.new }
+{
+    if number < 10_000 {
+        return push_short(line, number);
+    }
+    push_long(line, number / 10_000);
+    push_pair(line, number % 10_000 / 100);
+    push_pair(line, number % 100);
+}
+
+/// The digits of a number, without leading zeros.
+#[inline]
+pub fn push_digits<S: ByteSink>(line: &mut S, number: u64)
+    ensures { Takes S.ends_as line.old (decimal_text number) line.new }
+{
+    if number < 10_000 {
+        return push_short(line, number);
+    }
+    push_long(line, number);
+}
+
+/// The same of 128 bits.
+pub fn push_wide_digits<S: ByteSink>(line: &mut S, number: u128)
+    ensures { Takes S.ends_as line.old (decimal_text number) line.new }
+{
+    if let Ok(small) = u64::try_from(number) {
+        return push_digits(line, small);
+    }
+    push_wide_digits(line, number / 100);
+    push_pair(line, (number % 100) as u64);
+}
+
+/// How many digits a number has.
+#[inline]
+pub fn number_len(number: u64) -> usize
+    ensures { result ≡ length (decimal_text number) }
+{
+    let (mut left, mut count) = (number, 0);
+    while left >= 10_000 {
+        left /= 10_000;
+        count += 4;
+    }
+    count + short_len(left)
+}
+
+#[inline(always)]
+fn short_len(number: u64) -> usize
+    requires { number < 10000 }
+    ensures { result ≡ length (decimal_text number) }
+{
+    if number < 10 {
+        1
+    } else if number < 100 {
+        2
+    } else if number < 1000 {
+        3
+    } else {
+        4
+    }
+}
+
+/// The same of 128 bits.
+pub fn wide_len(number: u128) -> usize
+    ensures { result ≡ length (decimal_text number) }
+{
+    let (mut left, mut count) = (number, 0);
+    while left > u64::MAX as u128 {
+        left /= 10_000;
+        count += 4;
+    }
+    count + number_len(left as u64)
+}
