@@ -78,6 +78,7 @@ impl<'m, 'c, T: Metric + From<String<C::Memory>>, C: MetricBackend> MetricBuilde
 
     /// Adds a tag with a key, after the default tags and the earlier ones. Holds want of memory where the line can't
     /// grow.
+    #[inline(always)]
     pub fn with_tag(mut self, key: &'m str, value: &'m str) -> Self
         ensures pending { ChoosesOrHolds (pending_of self.entry)
             (tagged (keyed key.now value.now)) (pending_of result) }
@@ -95,6 +96,7 @@ impl<'m, 'c, T: Metric + From<String<C::Memory>>, C: MetricBackend> MetricBuilde
     }
 
     /// Adds a tag without a key, as `with_tag`.
+    #[inline(always)]
     pub fn with_tag_value(mut self, value: &'m str) -> Self
         ensures pending { ChoosesOrHolds (pending_of self.entry)
             (tagged (unkeyed value.now)) (pending_of result) }
@@ -112,6 +114,7 @@ impl<'m, 'c, T: Metric + From<String<C::Memory>>, C: MetricBackend> MetricBuilde
     }
 
     /// Sets the container, in the place of the default one or an earlier one.
+    #[inline(always)]
     pub fn with_container_id(mut self, container_id: &'m str) -> Self
         ensures pending { Chooses (pending_of self.entry)
             (contained container_id.now) (pending_of result) }
@@ -125,6 +128,7 @@ impl<'m, 'c, T: Metric + From<String<C::Memory>>, C: MetricBackend> MetricBuilde
     }
 
     /// Sets the time, in the place of an earlier one. DogStatsD reads it as seconds.
+    #[inline(always)]
     pub fn with_timestamp(mut self, timestamp: u64) -> Self
         ensures pending { Chooses (pending_of self.entry) (timed timestamp) (pending_of result) }
         ensures call { StandsForMore (pending_of self.entry) (timed timestamp) (pending_of result) }
@@ -137,6 +141,7 @@ impl<'m, 'c, T: Metric + From<String<C::Memory>>, C: MetricBackend> MetricBuilde
 
     /// Sets the sampling rate, in the place of an earlier one. It isn't checked to lie between 0 and 1, and nothing is
     /// sampled here.
+    #[inline(always)]
     pub fn with_sampling_rate(mut self, rate: Decimal) -> Self
         ensures pending { Chooses (pending_of self.entry) (rated rate) (pending_of result) }
         ensures call { StandsForMore (pending_of self.entry) (rated rate) (pending_of result) }
