@@ -67,3 +67,7 @@ texts_seen t = record {
   container = option_copied t.container;
   time = option_copied t.time;
 }
+
+-- the texts of a line without options
+abbrev pub plain_seen : List ℕ → List ℕ → List ℕ → LineTexts
+plain_seen name numbers kind = record { name = name; numbers = numbers; kind = kind; rate = None; tags = None; container = None; time = None }

@@ -87,6 +87,7 @@ pub(crate) fn read_kind(text: &[u8]) -> Option<MetricType>
 }
 
 // The rate, where there is one.
+#[inline(always)]
 pub(crate) fn read_rate(text: Option<&[u8]>) -> Result<Option<Decimal>, ReadFault>
     ensures { ReadsOrFails (λ rate. IfSome rate IsDecimal) (option_map number_text)
         (option_copied text.entry) (λ rate. rate) result }
@@ -117,6 +118,7 @@ fn read_tag<A: Allocator + Clone>(
 }
 
 // Tags with a comma between each two, where there is one.
+#[inline(always)]
 pub(crate) fn read_tags<A: Allocator + Clone>(
     alloc: &A,
     text: Option<&[u8]>,
@@ -136,6 +138,7 @@ pub(crate) fn read_tags<A: Allocator + Clone>(
 }
 
 // The container, where there is one.
+#[inline(always)]
 pub(crate) fn read_container<A: Allocator>(
     alloc: A,
     text: Option<&[u8]>,
@@ -151,6 +154,7 @@ pub(crate) fn read_container<A: Allocator>(
 }
 
 // The time, where there is one.
+#[inline(always)]
 pub(crate) fn read_time(text: Option<&[u8]>) -> Result<Option<u64>, ReadFault>
     ensures { ReadsOrFails (λ time. IfSome time (λ t. t < 2 ^ 64)) (option_map decimal_text)
         (option_copied text.entry) (λ time. time) result }

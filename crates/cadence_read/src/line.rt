@@ -7,7 +7,7 @@ ghost use Rattle.cadence_read.specs.LineTexts.{texts_of, texts_seen};
 ghost use Rattle.cadence_read.specs.Listed.{IsListed};
 ghost use Rattle.cadence_read.specs.Reads.{ReadsOrFails};
 
-use crate::cuts::{TextsOfLine, cut_line, cut_name};
+use crate::cuts::{TextsOfLine, cut_line, cut_name, plain_texts};
 use crate::fault::ReadFault;
 use crate::fields::{
     read_container, read_free, read_kind, read_numbers, read_rate, read_tags, read_time,
@@ -16,6 +16,7 @@ use cadence_text::line::OwnedMetric;
 use std::alloc::Allocator;
 
 // The metric whose fields have these texts.
+#[inline(always)]
 fn read_texts<A: Allocator + Clone>(
     alloc: &A,
     texts: TextsOfLine<'_>,
@@ -44,6 +45,7 @@ fn read_texts<A: Allocator + Clone>(
 }
 
 // The metric whose line is this name, a colon and the rest.
+#[inline(always)]
 pub(crate) fn read_named<A: Allocator + Clone>(
     alloc: &A,
     name: &[u8],
@@ -55,6 +57,9 @@ pub(crate) fn read_named<A: Allocator + Clone>(
     let Some(texts) = cut_line(name, rest) else {
         return Err(ReadFault::NotMetrics);
     };
+    if texts.is_plain() {
+        return read_texts(alloc, plain_texts(texts.name, texts.numbers, texts.kind));
+    }
     read_texts(alloc, texts)
 }
 

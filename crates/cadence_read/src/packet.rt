@@ -69,6 +69,9 @@ fn read_list<A: Allocator + Clone>(
 
 /// The one list of metrics whose packet this is.
 ///
+/// The metrics own their texts and lists in this allocator's memory. Over an arena that is emptied after each packet,
+/// reading asks the heap for nothing once the arena has room.
+///
 /// # Errors
 /// `NotMetrics` where no list has this packet, and `OutOfMemory`.
 pub fn read_packet<A: Allocator + Clone>(

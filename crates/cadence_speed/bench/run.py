@@ -51,8 +51,13 @@ MODES = [
     Work('read', '1432 60', '', 'a byte of a packet of counters of 60 bytes', 20000, 500, 23 * 61),
     Work('read_full', '512 93', '', 'a byte of a packet of lines with every field', 20000, 500, 5 * 94),
     Work('read_full', '1432 93', '', 'the same', 10000, 500, 15 * 94),
+    Work('read_arena', '512 20', '', 'a byte of counters of 20 bytes, read into an arena', 20000, 500, 24 * 21),
+    Work('read_arena', '1432 20', '', 'the same', 10000, 500, 68 * 21),
+    Work('read_arena', '1432 60', '', 'a byte of counters of 60 bytes, read into an arena', 20000, 500, 23 * 61),
+    Work('read_full_arena', '512 93', '', 'a byte of lines with every field, read into an arena', 20000, 500, 5 * 94),
+    Work('read_full_arena', '1432 93', '', 'the same', 10000, 500, 15 * 94),
 ]
-HERE_ALONE = ('drop', 'read', 'read_full')   # what the Rust crate has nothing like
+HERE_ALONE = ('drop', 'read', 'read_full', 'read_arena', 'read_full_arena')   # what the Rust crate has nothing like
 PACKED = ('packer', 'udp', 'udp_callers')
 QUEUED = ('queue', 'callers', 'service')
 

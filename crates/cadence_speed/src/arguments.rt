@@ -26,6 +26,10 @@ pub enum Mode {
     Read,
     /// Packets of lines with every field that are read.
     ReadFull,
+    /// The packets of `Read`, into an arena that is emptied after each.
+    ReadArena,
+    /// The packets of `ReadFull`, into such an arena.
+    ReadFullArena,
     /// Lines into a buffered UDP sink.
     Udp,
     /// Lines into a queue.
@@ -41,7 +45,7 @@ pub enum Mode {
 }
 
 // The modes and their words.
-const MODES: [(Mode, &str); 16] = [
+const MODES: [(Mode, &str); 18] = [
     (Mode::Count, "count"),
     (Mode::CountTags, "count_tags"),
     (Mode::Histogram4, "histogram4"),
@@ -52,6 +56,8 @@ const MODES: [(Mode, &str); 16] = [
     (Mode::Packer, "packer"),
     (Mode::Read, "read"),
     (Mode::ReadFull, "read_full"),
+    (Mode::ReadArena, "read_arena"),
+    (Mode::ReadFullArena, "read_full_arena"),
     (Mode::Udp, "udp"),
     (Mode::Queue, "queue"),
     (Mode::Drop, "drop"),
@@ -103,7 +109,8 @@ pub struct Arguments {
 /// How to call the program.
 pub const USAGE: &str = "cadence_speed count|count_tags|histogram4 N
 cadence_speed tags|dtags|values|key N [SIZE]
-cadence_speed packer|read|read_full|udp|queue|drop N [CAP LEN]
+cadence_speed packer|udp|queue|drop N [CAP LEN]
+cadence_speed read|read_full|read_arena|read_full_arena N [CAP LEN]
 cadence_speed callers|udp_callers N [CAP LEN CALLERS]
 cadence_speed service N [CAP CALLERS]";
 

@@ -40,6 +40,8 @@ fn main(rt: HostRuntime) -> MetricResult<()> {
         Mode::Packer => packets::packer(&rt, &arguments)?,
         Mode::Read => reading::counters(&rt, &arguments)?,
         Mode::ReadFull => reading::full(&rt, &arguments)?,
+        Mode::ReadArena => reading::counters_in_arena(&rt, &arguments)?,
+        Mode::ReadFullArena => reading::full_in_arena(&rt, &arguments)?,
         Mode::Udp => sinks::udp(&rt, rt.alloc(), &arguments)?,
         Mode::Queue => sinks::queue(&rt, rt.alloc(), &arguments)?,
         Mode::Drop => sinks::dropping(&rt, rt.alloc(), &arguments)?,

@@ -3,9 +3,10 @@
 use crate::arguments::Arguments;
 use crate::done::{BlackBox, Done, Note};
 use crate::packets::text;
+use bumpalo::Bump;
 use cadence::MetricResult;
 use cadence_read::read_packet;
-use std::alloc::{AllocError, Global};
+use std::alloc::{AllocError, Allocator, Global};
 use std::time::Instant;
 
 /// A line with every field.
@@ -22,18 +23,43 @@ fn packet(alloc: Global, line: &str, capacity: usize) -> Result<String, AllocErr
     Ok(packet)
 }
 
-// Reads a packet of such lines.
+// Reads a packet, lets its metrics go, and answers how many there were.
+fn count_metrics<A: Allocator + Clone>(alloc: A, packet: &str) -> Result<u64, AllocError> {
+    // such a packet is refused for want of memory alone
+    match read_packet(alloc, packet.as_bytes()) {
+        Ok(metrics) => Ok(metrics.len() as u64),
+        Err(_) => Err(AllocError),
+    }
+}
+
+// Reads a packet of such lines, each block of its metrics from the heap.
 fn read_lines(rt: &HostRuntime, arguments: &Arguments, line: &str) -> MetricResult<Done> {
     let packet = packet(rt.alloc(), line, arguments.capacity)?;
     let hidden = BlackBox::new();
     let mut metrics = 0u64;
     let start = Instant::now(rt)?;
     for _ in 0..arguments.calls {
-        // such a packet is refused for want of memory alone
-        let Ok(read) = read_packet(rt.alloc(), hidden.text(&packet).as_bytes()) else {
+        metrics = metrics.wrapping_add(count_metrics(rt.alloc(), hidden.text(&packet))?);
+    }
+    Ok(Done {
+        time: start.elapsed(rt)?,
+        check: metrics,
+        note: Note::Packets(arguments.calls),
+    })
+}
+
+// The same, each packet into an arena that is emptied then.
+fn read_in_arena(rt: &HostRuntime, arguments: &Arguments, line: &str) -> MetricResult<Done> {
+    let packet = packet(rt.alloc(), line, arguments.capacity)?;
+    let hidden = BlackBox::new();
+    let mut arena = Bump::new(rt.alloc());
+    let mut metrics = 0u64;
+    let start = Instant::now(rt)?;
+    for _ in 0..arguments.calls {
+        metrics = metrics.wrapping_add(count_metrics(&arena, hidden.text(&packet))?);
+        let Ok(()) = arena.reset() else {
             return Err(AllocError.into());
         };
-        metrics = metrics.wrapping_add(read.len() as u64);
     }
     Ok(Done {
         time: start.elapsed(rt)?,
@@ -48,7 +74,18 @@ pub fn counters(rt: &HostRuntime, arguments: &Arguments) -> MetricResult<Done> {
     read_lines(rt, arguments, &line)
 }
 
+/// Packets of plain counters, into an arena.
+pub fn counters_in_arena(rt: &HostRuntime, arguments: &Arguments) -> MetricResult<Done> {
+    let line = text(rt.alloc(), arguments.length)?;
+    read_in_arena(rt, arguments, &line)
+}
+
 /// Packets of lines with every field.
 pub fn full(rt: &HostRuntime, arguments: &Arguments) -> MetricResult<Done> {
     read_lines(rt, arguments, FULL)
+}
+
+/// Packets of lines with every field, into an arena.
+pub fn full_in_arena(rt: &HostRuntime, arguments: &Arguments) -> MetricResult<Done> {
+    read_in_arena(rt, arguments, FULL)
 }

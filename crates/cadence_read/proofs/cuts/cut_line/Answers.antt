@@ -1,6 +1,6 @@
 use Rattle.std.proofs.Common.{rules, arith, ◌≡◌, ◌≢◌, ◌∷◌, ◌++◌, ap, ◌∙◌, sym, List, ℕ, [], None, Some}
 use Rattle.std.specs.Option.{option_copied}
-use Rattle.cadence_read.specs.LineTexts.{field_parts, pieces_left, texts_seen}
+use Rattle.cadence_read.specs.LineTexts.{field_parts, parts_of_texts, pieces_left, texts_seen}
 use Rattle.cadence_read.proofs.LineParts.{fields_once, lacks_bar, none_left, plain_colon, taken_fields}
 use Rattle.cadence_read.proofs.Pieces.{pieces-named}
 use Rattle.cadence_read.proofs.cuts.cut_line.Goals as goal
@@ -17,6 +17,16 @@ returns-in_err-fields-clause-texts c =
     rw none (λ texts plain e.
     let both : ◌≡◌ {A = List (List ℕ)} ((texts.name ++ (58 ∷ texts.numbers)) ∷ (texts.kind ∷ field_parts texts)) (front ∷ []) = e ∙ named ∙ ap (λ o. front ∷ pieces_left 124 o) left in
     absurd cc)
+
+pub returns-then-is_none-clause-texts : goal.returns-then-is_none-clause-texts
+returns-then-is_none-clause-texts c =
+    let front = c.args.name.now ++ 58 ∷ c.cut_piece.result.0.now in
+    let kind = c.cut_piece-2.result.0.now in
+    let some : option_copied c.cut_piece.result.1 ≡ Some c.in_ok-fields.field-0.now = search rules in
+    let none : option_copied c.cut_piece-2.result.1 ≡ None = search rules in
+    let named = pieces-named 124 c.args.name.now c.args.rest.now c.cut_piece.result.0.now (pieces_left 124 (option_copied c.cut_piece.result.1)) (lacks_bar c.args.name.now c.requires) other c.cut_piece.ensures in
+    let parts = named ∙ ap (λ rest. front ∷ rest) (ap (pieces_left 124) some ∙ c.cut_piece-2.ensures) in
+    (rw c.plain_texts.ensures.name (plain_colon c.args.name.now c.requires), ap parts_of_texts c.plain_texts.ensures.texts ∙ sym (parts ∙ ap (λ o. front ∷ kind ∷ pieces_left 124 o) none))
 
 pub returns-then-is_some-clause-texts : goal.returns-then-is_some-clause-texts
 returns-then-is_some-clause-texts c texts plain e =
