@@ -10,7 +10,7 @@ use Rattle.cadence_value.specs.Number.{Number}
 use Rattle.cadence_schedule.specs.Call.{Choice, tagged, contained, timed, rated, MetricCall, chosen, metric_of_call, plain_call, with_choice}
 use Rattle.cadence_schedule.specs.Settings.{Settings}
 use Rattle.cadence_schedule.proofs.CallLemmas.{chosen-metric_of_call}
-use Rattle.cadence.specs.Sending.{Answers, Chooses, ChoosesOrHolds, HasLine, IsText, MadeFrom, SendsPlain, Sent, SentCall, SentPending, StandsFor, StandsForMore, StartsPlain, drafted}
+use Rattle.cadence.specs.Sending.{Answers, Chooses, ChoosesOrHolds, HasAnswered, HasLine, IsText, MadeFrom, MakesDraft, SendsPlain, Sent, SentCall, SentPending, StandsFor, StandsForMore, StartsPlain, drafted, plain_metric_of}
 
 -- what an option chooses in a metric's draft is the draft of the metric with it
 drafted_chosen : (m : Metric) (o : Choice) → drafted (draft_of m) o ≡ draft_of (chosen m o)
@@ -47,8 +47,8 @@ has_line may made (Err d) (Ok m) h = cc
 has_line may made (Err d) (Err m) h = record { for_each = λ s c e. tt }
 
 -- what a builder that was just started answers is what a plain call answers
-pub sends_started : (Z : Type 0) (may : Answers) (settings : Settings) (kind : MetricType) (key : List ℕ) (numbers : Option (List Number)) (pending : Result Draft MetricError) (answer : Result (List ℕ) MetricError)
-    → StartsPlain settings kind key numbers pending → SentPending may (MadeFrom {M = List ℕ} {Z = Z} (λ (s : String Z) text. text ≡ string_bytes s)) pending answer → SendsPlain settings may kind key numbers answer
+sends_started : (Z : Type 0) (may : Answers) (settings : Settings) (kind : MetricType) (key : List ℕ) (numbers : Option (List Number)) (pending : Result Draft MetricError) (answer : Result (List ℕ) MetricError)
+    → MakesDraft (plain_metric_of settings kind key numbers) pending → SentPending may (MadeFrom {M = List ℕ} {Z = Z} (λ (s : String Z) text. text ≡ string_bytes s)) pending answer → SentCall may IsText (plain_metric_of settings kind key numbers) answer
 sends_started Z may settings kind key (Some ns) (Ok d) (Ok m) start sent =
     let metric = metric_of_call settings (plain_call kind key ns) in
     let line : draft_line d ≡ line_of metric = ap draft_line start ∙ line_of_draft metric in
@@ -66,6 +66,7 @@ sends_started Z may settings kind key None (Err x) answer start sent =
     subst (λ (r : Result (List ℕ) MetricError). SentCall may IsText None r) (sym sent) start
 
 pub sends_plain : {C : Type 0} (Z : Type 0) (may : C → Answers) (client here : C) (settings : Settings) (kind : MetricType) (key : List ℕ) (numbers : Option (List Number)) (pending : Result Draft MetricError) (answer : Result (List ℕ) MetricError)
-    → client ≡ here → StartsPlain settings kind key numbers pending → SentPending (may client) (MadeFrom {M = List ℕ} {Z = Z} (λ (s : String Z) text. text ≡ string_bytes s)) pending answer → SendsPlain settings (may here) kind key numbers answer
+    → client ≡ here → StartsPlain settings kind key numbers pending → HasAnswered (may client) (MadeFrom {M = List ℕ} {Z = Z} (λ (s : String Z) text. text ≡ string_bytes s)) pending answer → SendsPlain settings (may here) kind key numbers answer
 sends_plain {C} Z may client here settings kind key numbers pending answer same start sent =
-    subst (λ (c : C). SendsPlain settings (may c) kind key numbers answer) same (sends_started Z (may client) settings kind key numbers pending answer start sent)
+    subst (λ (c : C). SendsPlain settings (may c) kind key numbers answer) same
+    (record { is = sends_started Z (may client) settings kind key numbers pending answer start.is sent.is })

@@ -48,8 +48,8 @@ SentCall may made None (Err e) = IsInvalid e
 
 -- what a plain call of this kind answers: an invalid input where its value has no numbers, else a metric that is the line
 -- of the call without options, where the sink may take just this line; or want of memory; or what the sink refused it with
-abbrev pub SendsPlain : Settings → Answers → MetricType → List ℕ → Option (List Number) → Result (List ℕ) MetricError → Type 0
-SendsPlain settings may kind key numbers result = SentCall may IsText (plain_metric_of settings kind key numbers) result
+pub record SendsPlain (settings : Settings) (may : Answers) (kind : MetricType) (key : List ℕ) (numbers : Option (List Number)) (result : Result (List ℕ) MetricError) : Type 0 where
+  pub is : SentCall may IsText (plain_metric_of settings kind key numbers) result
 
 -- what starting a builder answers: the draft of this metric, or want of memory; an invalid input where there is none
 abbrev pub MakesDraft : Option Metric → Result Draft MetricError → Type 0
@@ -60,8 +60,8 @@ MakesDraft None (Err e) = IsInvalid e
 
 -- what a builder of this kind begins with: the draft of the call without options, or want of memory; an invalid input where
 -- its value has no numbers
-abbrev pub StartsPlain : Settings → MetricType → List ℕ → Option (List Number) → Result Draft MetricError → Type 0
-StartsPlain settings kind key numbers pending = MakesDraft (plain_metric_of settings kind key numbers) pending
+pub record StartsPlain (settings : Settings) (kind : MetricType) (key : List ℕ) (numbers : Option (List Number)) (pending : Result Draft MetricError) : Type 0 where
+  pub is : MakesDraft (plain_metric_of settings kind key numbers) pending
 
 -- the draft with what an option chooses
 abbrev pub drafted : Draft → Choice → Draft
@@ -81,10 +81,21 @@ ChoosesOrHolds (Err e) o new = new ≡ Err e
 ChoosesOrHolds (Ok d) o (Ok n) = n ≡ drafted d o
 ChoosesOrHolds (Ok d) o (Err e) = e ≡ out_of_memory
 
+-- the two as contracts of a builder's calls name them: records, so that whoever calls sees one fact for each and no cases
+pub record HasChosen (old : Result Draft MetricError) (o : Choice) (new : Result Draft MetricError) : Type 0 where
+  pub is : Chooses old o new
+
+pub record HasChosenOrHolds (old : Result Draft MetricError) (o : Choice) (new : Result Draft MetricError) : Type 0 where
+  pub is : ChoosesOrHolds old o new
+
 -- what a builder answers: its held error, or what sending its draft's line answers
 abbrev pub SentPending : {M : Type 0} → Answers → (List ℕ → M → Type 0) → Result Draft MetricError → Result M MetricError → Type 0
 SentPending may made (Err e) answer = answer ≡ Err e
 SentPending may made (Ok d) answer = Sent may made (draft_line d) answer
+
+-- the same as a record, for contracts
+pub record HasAnswered {M : Type 0} (may : Answers) (made : List ℕ → M → Type 0) (pending : Result Draft MetricError) (answer : Result M MetricError) : Type 0 where
+  pub is : SentPending may made pending answer
 
 -- a builder stands for a call: it holds the draft of the call's metric, or an error
 abbrev pub StandsFor : Settings → MetricCall → Result Draft MetricError → Type 0

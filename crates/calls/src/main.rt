@@ -2,12 +2,15 @@
 //! queue's faults.
 #![tactic(auto)]
 
+mod groups;
 mod kinds;
 mod options;
+mod tagged;
 
 use cadence::queue::{AuditError, EndFault};
 use cadence::sinks::{SpyMetricSink, SpyReceiver};
 use cadence::{DEFAULT_PORT, MetricResult, MetricSink, StatsdClient};
+use groups::Group;
 use options::Setting;
 use std::alloc::{AllocError, Global};
 use std::sync::Wait;
@@ -20,6 +23,16 @@ const SETTINGS: [Setting; 6] = [
     Setting::Prefix("a.b"),
     Setting::Tags,
     Setting::Container,
+];
+
+/// The calls of the first client.
+const GROUPS: [Group; 6] = [
+    Group::Counters,
+    Group::Timers,
+    Group::Gauges,
+    Group::Histograms,
+    Group::Distributions,
+    Group::Options,
 ];
 
 /// More lines than a group of calls makes.
@@ -55,18 +68,10 @@ fn main(rt: HostRuntime) -> MetricResult<()> {
     let (lines, spy) = SpyMetricSink::new(rt.clone()?, alloc)?;
     let sink: Box<dyn MetricSink + Send + Sync> = Box::new(alloc, spy)?;
     let client = StatsdClient::from_sink(alloc, "p", sink)?;
-    kinds::count_all(&client)?;
-    print!(rt; "{}", told(alloc, "counters", &lines)?)?;
-    kinds::time_all(alloc, &client)?;
-    print!(rt; "{}", told(alloc, "timers", &lines)?)?;
-    kinds::gauge_all(&client)?;
-    print!(rt; "{}", told(alloc, "gauges, meters and sets", &lines)?)?;
-    kinds::histogram_all(alloc, &client)?;
-    print!(rt; "{}", told(alloc, "histograms", &lines)?)?;
-    kinds::distribution_all(alloc, &client)?;
-    print!(rt; "{}", told(alloc, "distributions", &lines)?)?;
-    options::choose_all(alloc, &client)?;
-    print!(rt; "{}", told(alloc, "options", &lines)?)?;
+    for group in GROUPS {
+        group.send(alloc, &client)?;
+        print!(rt; "{}", told(alloc, group.heading(), &lines)?)?;
+    }
     for setting in SETTINGS {
         let (lines, spy) = SpyMetricSink::new(rt.clone()?, alloc)?;
         setting.send(alloc, spy)?;

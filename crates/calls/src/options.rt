@@ -11,9 +11,9 @@ const LONG: &str =
     0123456789012345678901234567890123456789012345678901234567890123456789012345678901234567890123456789\
     0123456789012345678901234567890123456789012345678901234567890123456789012345678901234567890123456789";
 
-/// The options stand in the order of the line, the last of each counts, and texts are kept as they stand.
-pub fn choose_all(alloc: Global, client: &StatsdClient) -> MetricResult<()> {
-    let (half, whole) = (Decimal::new(5, 1)?, Decimal::new(1, 0)?);
+/// The options stand in the order of the line.
+pub fn choose_each(client: &StatsdClient) -> MetricResult<()> {
+    let half = Decimal::new(5, 1)?;
     client
         .count_with_tags("k", 1)
         .with_timestamp(7)
@@ -21,6 +21,12 @@ pub fn choose_all(alloc: Global, client: &StatsdClient) -> MetricResult<()> {
         .with_tag("a", "b")
         .with_sampling_rate(half)
         .try_send()?;
+    Ok(())
+}
+
+/// The last of each option counts.
+pub fn choose_twice(client: &StatsdClient) -> MetricResult<()> {
+    let (half, whole) = (Decimal::new(5, 1)?, Decimal::new(1, 0)?);
     client
         .incr_with_tags("k")
         .with_sampling_rate(half)
@@ -30,6 +36,11 @@ pub fn choose_all(alloc: Global, client: &StatsdClient) -> MetricResult<()> {
         .with_container_id("y")
         .with_sampling_rate(whole)
         .send();
+    Ok(())
+}
+
+/// Texts are kept as they stand.
+pub fn choose_texts(client: &StatsdClient) {
     client.incr_with_tags("k").with_tag_value("").send();
     client
         .decr_with_tags("a|b")
@@ -37,6 +48,10 @@ pub fn choose_all(alloc: Global, client: &StatsdClient) -> MetricResult<()> {
         .with_container_id("c|T1")
         .send();
     client.incr_with_tags("k").with_tag_value(LONG).send();
+}
+
+/// A list without values, and one with two tags.
+pub fn choose_lists(alloc: Global, client: &StatsdClient) -> MetricResult<()> {
     client.time("key", vec![in alloc; 0u64; 0]?)?;
     client
         .distribution_with_tags("k", vec![in alloc; 29u64, 30]?)

@@ -3,8 +3,8 @@ ghost use Rattle.std.specs.Prelude.{◌≡◌};
 ghost use Rattle.cadence_text.specs.Draft.{draft_line};
 ghost use Rattle.cadence_schedule.specs.Call.{tagged, contained, timed, rated};
 ghost use Rattle.cadence_schedule.specs.Settings.{keyed, unkeyed};
-ghost use Rattle.cadence.specs.Sending.{Chooses, ChoosesOrHolds, StandsForMore};
-ghost use Rattle.cadence.specs.Sending.{HasLine, MadeFrom, Sent, SentPending};
+ghost use Rattle.cadence.specs.Sending.{HasChosen, HasChosenOrHolds, StandsForMore};
+ghost use Rattle.cadence.specs.Sending.{HasAnswered, HasLine, MadeFrom, Sent};
 
 use crate::client::backend::MetricBackend;
 use crate::client::handler::ErrorHandler;
@@ -80,7 +80,7 @@ impl<'m, 'c, T: Metric + From<String<C::Memory>>, C: MetricBackend> MetricBuilde
     /// grow.
     #[inline(always)]
     pub fn with_tag(mut self, key: &'m str, value: &'m str) -> Self
-        ensures pending { ChoosesOrHolds (pending_of self.entry)
+        ensures pending { HasChosenOrHolds (pending_of self.entry)
             (tagged (keyed key.now value.now)) (pending_of result) }
         ensures call { StandsForMore (pending_of self.entry)
             (tagged (keyed key.now value.now)) (pending_of result) }
@@ -98,7 +98,7 @@ impl<'m, 'c, T: Metric + From<String<C::Memory>>, C: MetricBackend> MetricBuilde
     /// Adds a tag without a key, as `with_tag`.
     #[inline(always)]
     pub fn with_tag_value(mut self, value: &'m str) -> Self
-        ensures pending { ChoosesOrHolds (pending_of self.entry)
+        ensures pending { HasChosenOrHolds (pending_of self.entry)
             (tagged (unkeyed value.now)) (pending_of result) }
         ensures call { StandsForMore (pending_of self.entry)
             (tagged (unkeyed value.now)) (pending_of result) }
@@ -116,7 +116,7 @@ impl<'m, 'c, T: Metric + From<String<C::Memory>>, C: MetricBackend> MetricBuilde
     /// Sets the container, in the place of the default one or an earlier one.
     #[inline(always)]
     pub fn with_container_id(mut self, container_id: &'m str) -> Self
-        ensures pending { Chooses (pending_of self.entry)
+        ensures pending { HasChosen (pending_of self.entry)
             (contained container_id.now) (pending_of result) }
         ensures call { StandsForMore (pending_of self.entry)
             (contained container_id.now) (pending_of result) }
@@ -130,7 +130,7 @@ impl<'m, 'c, T: Metric + From<String<C::Memory>>, C: MetricBackend> MetricBuilde
     /// Sets the time, in the place of an earlier one. DogStatsD reads it as seconds.
     #[inline(always)]
     pub fn with_timestamp(mut self, timestamp: u64) -> Self
-        ensures pending { Chooses (pending_of self.entry) (timed timestamp) (pending_of result) }
+        ensures pending { HasChosen (pending_of self.entry) (timed timestamp) (pending_of result) }
         ensures call { StandsForMore (pending_of self.entry) (timed timestamp) (pending_of result) }
         ensures client { backend_of result ≡ backend_of self.entry }
     {
@@ -143,7 +143,7 @@ impl<'m, 'c, T: Metric + From<String<C::Memory>>, C: MetricBackend> MetricBuilde
     /// sampled here.
     #[inline(always)]
     pub fn with_sampling_rate(mut self, rate: Decimal) -> Self
-        ensures pending { Chooses (pending_of self.entry) (rated rate) (pending_of result) }
+        ensures pending { HasChosen (pending_of self.entry) (rated rate) (pending_of result) }
         ensures call { StandsForMore (pending_of self.entry) (rated rate) (pending_of result) }
         ensures client { backend_of result ≡ backend_of self.entry }
     {
@@ -158,7 +158,7 @@ impl<'m, 'c, T: Metric + From<String<C::Memory>>, C: MetricBackend> MetricBuilde
     /// kind `OutOfMemory` where a growth was refused. Else refuses with kind `OutOfMemory` where there is no room for
     /// the line, or with what the sink refuses the line with.
     pub fn try_send(self) -> MetricResult<T>
-        ensures answers { SentPending (C.line_may_get (backend_of self.entry))
+        ensures answers { HasAnswered (C.line_may_get (backend_of self.entry))
             (MadeFrom T.from_gives) (pending_of self.entry) result }
         ensures line { HasLine (MadeFrom T.from_gives) (pending_of self.entry) result }
     {
