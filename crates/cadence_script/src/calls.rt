@@ -101,33 +101,91 @@ fn kind_of(word: &str) -> Result<MetricType, LineError> {
     }
 }
 
-// The value of a kind. Each kind has some of the forms.
-fn value_of<A: Allocator>(kind: MetricType, form: Form<A>) -> Result<CallValue<A>, LineError> {
-    match (kind, form) {
-        (MetricType::Counter, Form::Signed(n)) => Ok(CallValue::CountI64(n)),
-        (MetricType::Counter, Form::Unsigned(n)) => Ok(CallValue::CountU64(n)),
-        (MetricType::Timer, Form::Unsigned(n)) => Ok(CallValue::TimeU64(n)),
-        (MetricType::Timer, Form::UnsignedList(ns)) => Ok(CallValue::TimeVecU64(ns)),
-        (MetricType::Timer, Form::Duration(d)) => Ok(CallValue::TimeDuration(d)),
-        (MetricType::Timer, Form::DurationList(ds)) => Ok(CallValue::TimeVecDuration(ds)),
-        (MetricType::Gauge, Form::Unsigned(n)) => Ok(CallValue::GaugeU64(n)),
-        (MetricType::Gauge, Form::Decimal(d)) => Ok(CallValue::GaugeDecimal(d)),
-        (MetricType::Meter, Form::Unsigned(n)) => Ok(CallValue::MeterU64(n)),
-        (MetricType::Histogram, Form::Unsigned(n)) => Ok(CallValue::HistogramU64(n)),
-        (MetricType::Histogram, Form::UnsignedList(ns)) => Ok(CallValue::HistogramVecU64(ns)),
-        (MetricType::Histogram, Form::Decimal(d)) => Ok(CallValue::HistogramDecimal(d)),
-        (MetricType::Histogram, Form::DecimalList(ds)) => Ok(CallValue::HistogramVecDecimal(ds)),
-        (MetricType::Histogram, Form::Duration(d)) => Ok(CallValue::HistogramDuration(d)),
-        (MetricType::Histogram, Form::DurationList(ds)) => Ok(CallValue::HistogramVecDuration(ds)),
-        (MetricType::Set, Form::Signed(n)) => Ok(CallValue::SetI64(n)),
-        (MetricType::Distribution, Form::Unsigned(n)) => Ok(CallValue::DistributionU64(n)),
-        (MetricType::Distribution, Form::UnsignedList(ns)) => Ok(CallValue::DistributionVecU64(ns)),
-        (MetricType::Distribution, Form::Decimal(d)) => Ok(CallValue::DistributionDecimal(d)),
-        (MetricType::Distribution, Form::DecimalList(ds)) => {
-            Ok(CallValue::DistributionVecDecimal(ds))
-        }
+fn count_of<A: Allocator>(form: Form<A>) -> Result<CallValue<A>, LineError> {
+    match form {
+        Form::Signed(n) => Ok(CallValue::CountI64(n)),
+        Form::Unsigned(n) => Ok(CallValue::CountU64(n)),
         _ => Err(LineError::Unreadable),
     }
+}
+
+fn time_of<A: Allocator>(form: Form<A>) -> Result<CallValue<A>, LineError> {
+    match form {
+        Form::Unsigned(n) => Ok(CallValue::TimeU64(n)),
+        Form::UnsignedList(ns) => Ok(CallValue::TimeVecU64(ns)),
+        Form::Duration(d) => Ok(CallValue::TimeDuration(d)),
+        Form::DurationList(ds) => Ok(CallValue::TimeVecDuration(ds)),
+        _ => Err(LineError::Unreadable),
+    }
+}
+
+fn gauge_of<A: Allocator>(form: Form<A>) -> Result<CallValue<A>, LineError> {
+    match form {
+        Form::Unsigned(n) => Ok(CallValue::GaugeU64(n)),
+        Form::Decimal(d) => Ok(CallValue::GaugeDecimal(d)),
+        _ => Err(LineError::Unreadable),
+    }
+}
+
+fn meter_of<A: Allocator>(form: Form<A>) -> Result<CallValue<A>, LineError> {
+    match form {
+        Form::Unsigned(n) => Ok(CallValue::MeterU64(n)),
+        _ => Err(LineError::Unreadable),
+    }
+}
+
+fn histogram_of<A: Allocator>(form: Form<A>) -> Result<CallValue<A>, LineError> {
+    match form {
+        Form::Unsigned(n) => Ok(CallValue::HistogramU64(n)),
+        Form::UnsignedList(ns) => Ok(CallValue::HistogramVecU64(ns)),
+        Form::Decimal(d) => Ok(CallValue::HistogramDecimal(d)),
+        Form::DecimalList(ds) => Ok(CallValue::HistogramVecDecimal(ds)),
+        Form::Duration(d) => Ok(CallValue::HistogramDuration(d)),
+        Form::DurationList(ds) => Ok(CallValue::HistogramVecDuration(ds)),
+        Form::Signed(_) => Err(LineError::Unreadable),
+    }
+}
+
+fn set_of<A: Allocator>(form: Form<A>) -> Result<CallValue<A>, LineError> {
+    match form {
+        Form::Signed(n) => Ok(CallValue::SetI64(n)),
+        _ => Err(LineError::Unreadable),
+    }
+}
+
+fn distribution_of<A: Allocator>(form: Form<A>) -> Result<CallValue<A>, LineError> {
+    match form {
+        Form::Unsigned(n) => Ok(CallValue::DistributionU64(n)),
+        Form::UnsignedList(ns) => Ok(CallValue::DistributionVecU64(ns)),
+        Form::Decimal(d) => Ok(CallValue::DistributionDecimal(d)),
+        Form::DecimalList(ds) => Ok(CallValue::DistributionVecDecimal(ds)),
+        _ => Err(LineError::Unreadable),
+    }
+}
+
+// The value of a kind. Each kind has some of the forms.
+fn value_of<A: Allocator>(kind: MetricType, form: Form<A>) -> Result<CallValue<A>, LineError> {
+    match kind {
+        MetricType::Counter => count_of(form),
+        MetricType::Timer => time_of(form),
+        MetricType::Gauge => gauge_of(form),
+        MetricType::Meter => meter_of(form),
+        MetricType::Histogram => histogram_of(form),
+        MetricType::Set => set_of(form),
+        MetricType::Distribution => distribution_of(form),
+    }
+}
+
+// A tag with a key, of which its two words are read.
+fn tag_of<A: Allocator + Clone>(
+    alloc: &A,
+    words: &mut Words<'_>,
+) -> Result<CallOption<A>, LineError>
+    ensures { bytes_left words.new ≤ bytes_left words.old }
+{
+    let key = text_of(alloc.clone()?, words.word()?)?;
+    let text = text_of(alloc.clone()?, words.word()?)?;
+    Ok(CallOption::Tag(key, text))
 }
 
 // The option of this name.
@@ -139,11 +197,7 @@ fn option_of<A: Allocator + Clone>(
     ensures { bytes_left words.new ≤ bytes_left words.old }
 {
     match name {
-        "tag" => {
-            let key = text_of(alloc.clone()?, words.word()?)?;
-            let text = text_of(alloc.clone()?, words.word()?)?;
-            Ok(CallOption::Tag(key, text))
-        }
+        "tag" => tag_of(alloc, words),
         "tagvalue" => Ok(CallOption::TagValue(text_of(alloc.clone()?, words.word()?)?)),
         "container" => Ok(CallOption::Container(text_of(alloc.clone()?, words.word()?)?)),
         "time" => Ok(CallOption::Time(number(words.word()?)?)),

@@ -80,13 +80,20 @@ fn is_line<K>(
 
 // Makes one of the ten lines.
 fn is_made(heap: Refusing<Global>, number: u8) -> Result<bool, Fail> {
-    let half = Decimal::new(5, 1)?;
     match number {
         0 => is_line(Counter::new(heap, "a..", "k", 1), "a..k:1|c"),
         1 => is_line(Timer::new(heap, "p.", "k", 34), "p.k:34|ms"),
         2 => is_line(Gauge::new(heap, "p.", "k", 8), "p.k:8|g"),
         3 => is_line(Meter::new(heap, "p.", "k", 8), "p.k:8|m"),
         4 => is_line(Histogram::new(heap, "p.", "k", 8), "p.k:8|h"),
+        _ => is_made_too(heap, number),
+    }
+}
+
+// Makes one of the other five.
+fn is_made_too(heap: Refusing<Global>, number: u8) -> Result<bool, Fail> {
+    let half = Decimal::new(5, 1)?;
+    match number {
         5 => is_line(Distribution::new(heap, "p.", "k", 8), "p.k:8|d"),
         6 => is_line(Set::new(heap, "p.", "k", -8), "p.k:-8|s"),
         7 => is_line(Gauge::new_decimal(heap, "", "k", half), "k:0.5|g"),

@@ -2,7 +2,7 @@
 use cadence_listen::{ReadFault, read_line, read_packet};
 use cadence_text::line::{MetricType, OwnedMetric};
 use cadence_value::decimal::Decimal;
-use refusing::each_refused;
+use refusing::{Refusing, each_refused};
 use std::alloc::Global;
 use std::test::Fail;
 
@@ -59,86 +59,110 @@ fn tags(alloc: Global, index: usize) -> Result<Vec<(Option<String>, String)>, Fa
     Ok(tags)
 }
 
-fn metric(alloc: Global, index: usize) -> Result<OwnedMetric, Fail> {
+// Up to two numbers.
+fn numbers(alloc: Global, index: usize) -> Result<Vec<Decimal>, Fail> {
     let mut numbers = Vec::new(alloc);
     for place in 0..index % 3 {
         numbers.push(number(index / 3 + place)?)?;
     }
+    Ok(numbers)
+}
+
+fn rate(index: usize) -> Result<Option<Decimal>, Fail> {
+    Ok(if index % 13 < 6 {
+        Some(number(index)?)
+    } else {
+        None
+    })
+}
+
+fn container(alloc: Global, index: usize) -> Result<Option<String>, Fail> {
+    Ok(if index % 9 < 4 {
+        Some(text(alloc, index / 9)?)
+    } else {
+        None
+    })
+}
+
+fn time(index: usize) -> Option<u64> {
+    if index % 17 < 8 {
+        Some(TIMES[index % 3])
+    } else {
+        None
+    }
+}
+
+fn metric(alloc: Global, index: usize) -> Result<OwnedMetric, Fail> {
     Ok(OwnedMetric {
         name: text(alloc, index)?,
-        numbers,
+        numbers: numbers(alloc, index)?,
         kind: KINDS[index % 7],
-        rate: if index % 13 < 6 {
-            Some(number(index)?)
-        } else {
-            None
-        },
+        rate: rate(index)?,
         tags: tags(alloc, index)?,
-        container: if index % 9 < 4 {
-            Some(text(alloc, index / 9)?)
-        } else {
-            None
-        },
-        time: if index % 17 < 8 {
-            Some(TIMES[index % 3])
-        } else {
-            None
-        },
+        container: container(alloc, index)?,
+        time: time(index),
     })
+}
+
+fn line_of(alloc: Global, metric: &OwnedMetric) -> Result<String, Fail> {
+    Ok(metric.to_record()?.format(alloc)?)
+}
+
+// The packet of all the lines, each of which alone is read back.
+fn packet(alloc: Global) -> Result<String, Fail> {
+    let mut packet = String::new(alloc);
+    for index in 0..MADE {
+        let made = metric(alloc, index)?;
+        let line = line_of(alloc, &made)?;
+        if read_line(&alloc, line.as_bytes())? != made {
+            return Err(Fail::new("another metric"));
+        }
+        packet.push_str(&line)?;
+        packet.push('\n')?;
+    }
+    Ok(packet)
 }
 
 #[test]
 fn each_metric_is_read_back(rt: HostRuntime) -> Result<(), Fail> {
-    let alloc = rt.alloc();
-    let mut packet = String::new(alloc);
-    for index in 0..MADE {
-        let made = metric(alloc, index)?;
-        let line = made.to_record()?.format(alloc)?;
-        assert!(rt; read_line(&alloc, line.as_bytes())? == made);
-        packet.push_str(&line)?;
-        packet.push('\n')?;
-    }
-    let metrics = read_packet(alloc, packet.as_bytes())?;
+    let packet = packet(rt.alloc())?;
+    let metrics = read_packet(rt.alloc(), packet.as_bytes())?;
     assert_eq!(rt; metrics.len(), MADE);
     for index in 0..MADE {
-        assert!(rt; metrics[index] == metric(alloc, index)?);
+        assert!(rt; metrics[index] == metric(rt.alloc(), index)?);
     }
     Ok(())
+}
+
+// Whether the line of a metric with this name is refused.
+fn is_refused(alloc: Global, name: &str) -> Result<bool, Fail> {
+    let mut made = metric(alloc, 0)?;
+    made.name = String::from_str(alloc, name)?;
+    let line = line_of(alloc, &made)?;
+    let read = read_line(&alloc, line.as_bytes());
+    Ok(matches!(read, Err(ReadFault::NotMetrics)))
 }
 
 #[test]
 fn a_separator_is_refused(rt: HostRuntime) -> Result<(), Fail> {
-    let alloc = rt.alloc();
-    for separator in ["a|b", "a\nb"] {
-        let mut made = metric(alloc, 0)?;
-        made.name = String::from_str(alloc, separator)?;
-        let line = made.to_record()?.format(alloc)?;
-        assert!(rt;
-            matches!(
-                read_line(&alloc, line.as_bytes()),
-                Err(ReadFault::NotMetrics)
-            )
-        );
-    }
+    assert!(rt; is_refused(rt.alloc(), "a|b")?);
+    assert!(rt; is_refused(rt.alloc(), "a\nb")?);
     Ok(())
+}
+
+// Whether two metrics are read, and not refused for want of memory.
+fn are_read(heap: Refusing<Global>) -> Result<bool, Fail> {
+    match read_packet(heap, b"a:1:2:3|ms|@0.5|#k:v,w|c:id|T7\nb:3|c\n") {
+        Ok(metrics) if metrics.len() == 2 => Ok(true),
+        Ok(_) => Err(Fail::new("other metrics")),
+        Err(ReadFault::OutOfMemory) => Ok(false),
+        Err(_) => Err(Fail::new("another fault")),
+    }
 }
 
 #[test]
 fn each_request_is_refused(rt: HostRuntime) -> Result<(), Fail> {
-    let packet = b"a:1:2:3|ms|@0.5|#k:v,w|c:id|T7\nb:3|c\n";
-    let granted: Result<Option<u64>, Fail> = each_refused(rt.alloc(), |heap| {
-        match read_packet(heap, packet) {
-            Err(fault) => {
-                assert_eq!(rt; fault, ReadFault::OutOfMemory);
-                assert_eq!(rt; fault.to_string(rt.alloc())?.as_str(), "out of memory");
-                Ok(false)
-            }
-            Ok(metrics) => {
-                assert_eq!(rt; metrics.len(), 2);
-                Ok(true)
-            }
-        }
-    });
-    assert!(rt; granted?.is_some_and(|granted| granted > 8));
+    let granted = each_refused(rt.alloc(), are_read)?;
+    assert!(rt; granted.is_some_and(|granted| granted > 8));
     Ok(())
 }

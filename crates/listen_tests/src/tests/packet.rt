@@ -50,33 +50,41 @@ fn is_refused(alloc: Global, packet: &[u8]) -> bool {
     matches!(read_packet(alloc, packet), Err(ReadFault::NotMetrics))
 }
 
+// Whether a text that may be missing is this one.
+fn is_text(found: &Option<String>, text: &str) -> bool {
+    found.as_ref().is_some_and(|found| found.as_str() == text)
+}
+
+// The metric with every field.
+fn full(alloc: Global) -> Result<OwnedMetric, Fail> {
+    Ok(read_line(&alloc, b"a:1:2.5|ms|@0.5|#k:v,w|c:id|T7")?)
+}
+
 #[test]
 fn each_field_is_read(rt: HostRuntime) -> Result<(), Fail> {
-    let alloc = rt.alloc();
-    let metric = read_line(&alloc, b"a:1:2.5|ms|@0.5|#k:v,w|c:id|T7")?;
-    assert_eq!(rt; metric.name.as_str(), "a");
-    assert!(rt;
-        metric.numbers.as_slice() == [Decimal::new(1, 0)?, Decimal::new(25, 1)?].as_slice()
-    );
-    assert_eq!(rt; metric.kind, MetricType::Timer);
-    assert_eq!(rt; metric.rate, Some(Decimal::new(5, 1)?));
-    assert_eq!(rt; metric.tags.len(), 2);
-    assert!(rt;
-        metric.tags[0]
-            .0
-            .as_ref()
-            .is_some_and(|key| key.as_str() == "k")
-    );
-    assert_eq!(rt; metric.tags[0].1.as_str(), "v");
-    assert!(rt; metric.tags[1].0.is_none());
-    assert_eq!(rt; metric.tags[1].1.as_str(), "w");
-    assert!(rt;
-        metric
-            .container
-            .as_ref()
-            .is_some_and(|id| id.as_str() == "id")
-    );
-    assert_eq!(rt; metric.time, Some(7));
+    let metric = full(rt.alloc())?;
+    assert!(rt; metric.name.as_str() == "a" && metric.kind == MetricType::Timer);
+    assert!(rt; is_text(&metric.container, "id") && metric.time == Some(7));
+    Ok(())
+}
+
+#[test]
+fn each_number_is_read(rt: HostRuntime) -> Result<(), Fail> {
+    let metric = full(rt.alloc())?;
+    let wanted = [Decimal::new(1, 0)?, Decimal::new(25, 1)?];
+    assert!(rt; metric.numbers.as_slice() == wanted.as_slice());
+    assert!(rt; metric.rate == Some(Decimal::new(5, 1)?));
+    Ok(())
+}
+
+#[test]
+fn each_tag_is_read(rt: HostRuntime) -> Result<(), Fail> {
+    let metric = full(rt.alloc())?;
+    let [keyed, unkeyed] = metric.tags.as_slice() else {
+        return Err(Fail::new("other tags"));
+    };
+    assert!(rt; is_text(&keyed.0, "k") && keyed.1.as_str() == "v");
+    assert!(rt; unkeyed.0.is_none() && unkeyed.1.as_str() == "w");
     Ok(())
 }
 
@@ -101,39 +109,67 @@ fn these_are_read(rt: HostRuntime) -> Result<(), Fail> {
     Ok(())
 }
 
+// Whether it is refused after a line of a metric.
+fn is_refused_after(alloc: Global, packet: &str) -> Result<bool, Fail> {
+    let after = format!(in alloc; "a:1|c\n{packet}\n")?;
+    Ok(is_refused(alloc, after.as_bytes()))
+}
+
 #[test]
 fn these_are_refused(rt: HostRuntime) -> Result<(), Fail> {
-    let alloc = rt.alloc();
     for packet in REFUSED {
-        assert!(rt; is_refused(alloc, packet.as_bytes()), "{packet}");
-        let after = format!(in alloc; "a:1|c\n{packet}\n")?;
-        assert!(rt; is_refused(alloc, after.as_bytes()), "{packet}");
+        assert!(rt; is_refused(rt.alloc(), packet.as_bytes()), "{packet}");
+        assert!(rt; is_refused_after(rt.alloc(), packet)?, "{packet}");
     }
-    for packet in [
-        b"a:1|c\nb:2|c".as_slice(),
-        b"\xff:1|c",
-        b"a:1|c|#\xc3",
-        b"a:1|c|#\xc3:w",
-        b"a:1|c|c:\x80",
-    ] {
-        assert!(rt; is_refused(alloc, packet));
+    Ok(())
+}
+
+/// Packets that aren't cut into lines, or aren't text.
+const NO_TEXT: [&[u8]; 5] = [
+    b"a:1|c\nb:2|c",
+    b"\xff:1|c",
+    b"a:1|c|#\xc3",
+    b"a:1|c|#\xc3:w",
+    b"a:1|c|c:\x80",
+];
+
+#[test]
+fn what_is_no_text_is_refused(rt: HostRuntime) {
+    for packet in NO_TEXT {
+        assert!(rt; is_refused(rt.alloc(), packet));
     }
-    let told = format!(in alloc; "{}", ReadFault::NotMetrics)?;
+}
+
+#[test]
+fn each_fault_has_its_text(rt: HostRuntime) -> Result<(), Fail> {
+    let told = ReadFault::NotMetrics.to_string(rt.alloc())?;
     assert_eq!(rt; told.as_str(), "not a packet of metrics");
-    let told = format!(in alloc; "{}", ReadFault::OutOfMemory)?;
+    let told = ReadFault::OutOfMemory.to_string(rt.alloc())?;
     assert_eq!(rt; told.as_str(), "out of memory");
     Ok(())
 }
 
 #[test]
 fn a_run_is_read_with_its_held_text(rt: HostRuntime) -> Result<(), Fail> {
-    let alloc = rt.alloc();
-    let packets = [Vec::from_slice(alloc, b"a:1|c")?];
-    let metrics = read_run(alloc, &packets, b"b:2|c\n")?;
-    assert_eq!(rt; metrics.len(), 2);
-    assert_eq!(rt; line_of(alloc, &metrics[0])?.as_str(), "a:1|c");
-    assert_eq!(rt; line_of(alloc, &metrics[1])?.as_str(), "b:2|c");
-    assert!(rt; matches!(read_run(alloc, &packets, b"b"), Err(ReadFault::NotMetrics)));
-    assert!(rt; read_run(alloc, &[], b"")?.is_empty());
+    let packets = [Vec::from_slice(rt.alloc(), b"a:1|c")?];
+    let metrics = read_run(rt.alloc(), &packets, b"b:2|c\n")?;
+    let [first, second] = metrics.as_slice() else {
+        return Err(Fail::new("other metrics"));
+    };
+    assert_eq!(rt; line_of(rt.alloc(), first)?.as_str(), "a:1|c");
+    assert_eq!(rt; line_of(rt.alloc(), second)?.as_str(), "b:2|c");
+    Ok(())
+}
+
+#[test]
+fn a_run_of_nothing_or_of_no_metrics(rt: HostRuntime) -> Result<(), Fail> {
+    let packets = [Vec::from_slice(rt.alloc(), b"a:1|c")?];
+    assert!(rt; read_run(rt.alloc(), &[], b"")?.is_empty());
+    assert!(rt;
+        matches!(
+            read_run(rt.alloc(), &packets, b"b"),
+            Err(ReadFault::NotMetrics)
+        )
+    );
     Ok(())
 }

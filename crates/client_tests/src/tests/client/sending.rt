@@ -7,11 +7,11 @@ use crate::tests::own::{Event, Nothing};
 use cadence::client::{BoxedErrorHandler, BoxedHandler, BoxedSink, ErrorHandler, StatsdClient};
 use cadence::ext::MetricBackend;
 use cadence::prelude::*;
-use cadence::sinks::{MetricSink, NopMetricSink, SpyMetricSink};
-use cadence::types::{ErrorKind, Metric, MetricError, SinkError};
+use cadence::sinks::{MetricSink, NopMetricSink, SpyMetricSink, SpyReceiver};
+use cadence::types::{ErrorKind, MetricError, MetricResult, SinkError};
 use std::alloc::{AllocError, Global};
-use std::sync::Arc;
 use std::sync::atomic::{AtomicU64, Ordering};
+use std::sync::{Arc, Wait};
 use std::test::Fail;
 use std::time::Duration;
 
@@ -90,43 +90,70 @@ fn counted(alloc: Global) -> Result<(Arc<AtomicU64>, StatsdClient<Global, Counti
     Ok((calls, client))
 }
 
-#[test]
-fn each_call_reaches_the_sink_once(rt: HostRuntime) -> Result<(), Fail> {
-    let (calls, client) = counted(rt.alloc())?;
+// Sends by each of the calls that answer, and answers how often the sink was called.
+fn calls_of_answers(
+    calls: &AtomicU64,
+    client: &StatsdClient<Global, CountingSink>,
+) -> MetricResult<u64> {
     client.incr("k")?;
-    client
-        .gauge_with_tags("k", 2)
-        .with_tag("a", "b")
-        .try_send()?;
-    assert_eq!(rt; calls.load(Ordering::SeqCst), 2);
+    let tagged = client.gauge_with_tags("k", 2).with_tag("a", "b");
+    tagged.try_send()?;
+    Ok(calls.load(Ordering::SeqCst))
+}
+
+#[test]
+fn each_answered_call_reaches_the_sink_once(rt: HostRuntime) -> Result<(), Fail> {
+    let (calls, client) = counted(rt.alloc())?;
+    assert_eq!(rt; calls_of_answers(&calls, &client)?, 2);
+    Ok(())
+}
+
+#[test]
+fn each_call_without_an_answer_reaches_the_sink_once(rt: HostRuntime) -> Result<(), Fail> {
+    let (calls, client) = counted(rt.alloc())?;
     client.gauge_with_tags("k", 3).send();
     client.send_metric(&Event)?;
-    assert_eq!(rt; calls.load(Ordering::SeqCst), 4);
-    assert!(rt; client.flush().is_ok());
-    assert_eq!(rt; calls.load(Ordering::SeqCst), 104);
+    client.flush()?;
+    assert_eq!(rt; calls.load(Ordering::SeqCst), 102);
     Ok(())
+}
+
+// The error of what was refused.
+fn error_of<T: Drop>(answer: MetricResult<T>) -> Result<MetricError, Fail> {
+    match answer {
+        Ok(_) => Err(Fail::new("taken")),
+        Err(error) => Ok(error),
+    }
+}
+
+// Whether the error is an invalid input with this text.
+fn is_invalid(alloc: Global, error: &MetricError, text: &str) -> Result<bool, AllocError> {
+    let told = error.to_string(alloc)?;
+    Ok(error.kind() == ErrorKind::InvalidInput && told.as_str() == text)
+}
+
+// What a value without numbers is refused with, in a call with tags.
+fn overflow(client: &StatsdClient<Global, CountingSink>) -> Result<MetricError, Fail> {
+    let longer = Duration::new(18_446_744_073_709_551, 616_000_000);
+    let call = client.time_with_tags("k", longer).with_tag("a", "b");
+    error_of(call.with_tag_value("c").try_send())
 }
 
 #[test]
 fn a_held_error_keeps_the_sink_uncalled(rt: HostRuntime) -> Result<(), Fail> {
     let (calls, client) = counted(rt.alloc())?;
-    let longer = Duration::new(18_446_744_073_709_551, 616_000_000);
-    let refused = client
-        .time_with_tags("k", longer)
-        .with_tag("a", "b")
-        .with_tag_value("c")
-        .try_send();
-    let Err(error) = refused else {
-        return Err(Fail::new("taken"));
-    };
-    assert_eq!(rt; error.kind(), ErrorKind::InvalidInput);
-    assert_eq!(rt; error.to_string(rt.alloc())?.as_str(), "u64 overflow");
-    let Err(error) = client.count("k", Nothing) else {
-        return Err(Fail::new("taken"));
-    };
-    assert_eq!(rt; error.kind(), ErrorKind::InvalidInput);
-    assert_eq!(rt; error.to_string(rt.alloc())?.as_str(), "no number");
+    let error = overflow(&client)?;
+    assert!(rt; is_invalid(rt.alloc(), &error, "u64 overflow")?);
     client.count_with_tags("k", Nothing).send();
+    assert_eq!(rt; calls.load(Ordering::SeqCst), 0);
+    Ok(())
+}
+
+#[test]
+fn a_plain_call_without_numbers_keeps_the_sink_uncalled(rt: HostRuntime) -> Result<(), Fail> {
+    let (calls, client) = counted(rt.alloc())?;
+    let error = error_of(client.count("k", Nothing))?;
+    assert!(rt; is_invalid(rt.alloc(), &error, "no number")?);
     assert_eq!(rt; calls.load(Ordering::SeqCst), 0);
     Ok(())
 }
@@ -142,121 +169,161 @@ fn weight_of(error: &MetricError) -> u64 {
     }
 }
 
-// A client whose sink refuses each line, the count of its calls, and the weights of the errors that its handler got.
+// How often a sink was called, and the weights of the errors that a handler got.
+#[derive(Drop)]
+struct Seen {
+    calls: Arc<AtomicU64>,
+    weights: Arc<AtomicU64>,
+}
+
+impl Seen {
+    fn nothing(alloc: Global) -> Result<Seen, AllocError> {
+        let (calls, weights) = (zero(alloc)?, zero(alloc)?);
+        Ok(Seen { calls, weights })
+    }
+
+    // Whether there were so many calls, and errors of these weights.
+    fn is(&self, calls: u64, weights: u64) -> bool {
+        self.calls.load(Ordering::SeqCst) == calls && self.weights.load(Ordering::SeqCst) == weights
+    }
+
+    fn sink(&self) -> Result<RefusingSink, AllocError> {
+        let calls = self.calls.clone()?;
+        Ok(RefusingSink { calls })
+    }
+
+    fn handler(&self, alloc: Global) -> Result<BoxedHandler, AllocError> {
+        let seen = self.weights.clone()?;
+        let handler: BoxedHandler = Box::new(alloc, move |error: MetricError| {
+            seen.fetch_add(weight_of(&error), Ordering::SeqCst);
+        })?;
+        Ok(handler)
+    }
+}
+
+// A client whose sink refuses each line, with a boxed handler.
 fn refused(
     alloc: Global,
-) -> Result<
-    (
-        Arc<AtomicU64>,
-        Arc<AtomicU64>,
-        StatsdClient<Global, RefusingSink, BoxedErrorHandler>,
-    ),
-    Fail,
-> {
-    let (calls, handled) = (zero(alloc)?, zero(alloc)?);
-    let sink = RefusingSink {
-        calls: calls.clone()?,
-    };
-    let seen = handled.clone()?;
-    let handler: BoxedHandler = Box::new(alloc, move |error: MetricError| {
-        seen.fetch_add(weight_of(&error), Ordering::SeqCst);
-    })?;
-    let client = StatsdClient::builder(alloc, "p", sink)
+    seen: &Seen,
+) -> Result<StatsdClient<Global, RefusingSink, BoxedErrorHandler>, Fail> {
+    let handler = seen.handler(alloc)?;
+    let client = StatsdClient::builder(alloc, "p", seen.sink()?)
         .with_error_handler(handler)
         .with_tag_value("a")
         .build()?;
-    Ok((calls, handled, client))
+    Ok(client)
+}
+
+// Whether a line was refused with the sink's error.
+fn is_refusal<T: Drop>(answer: MetricResult<T>) -> Result<bool, Fail> {
+    let error = error_of(answer)?;
+    let of_sink = matches!(error.sink_error(), Some(SinkError::PacketRefused));
+    Ok(of_sink && error.kind() == ErrorKind::IoError)
 }
 
 #[test]
 fn a_refusal_is_answered_and_not_handled(rt: HostRuntime) -> Result<(), Fail> {
-    let (calls, handled, client) = refused(rt.alloc())?;
-    for answer in [
-        client.count("k", 1),
-        client.count_with_tags("k", 1).try_send(),
-    ] {
-        let Err(error) = answer else {
-            return Err(Fail::new("taken"));
-        };
-        assert_eq!(rt; error.kind(), ErrorKind::IoError);
-        assert!(rt; matches!(error.sink_error(), Some(SinkError::PacketRefused)));
-    }
+    let seen = Seen::nothing(rt.alloc())?;
+    let client = refused(rt.alloc(), &seen)?;
+    let plain = is_refusal(client.count("k", 1))?;
+    let built = is_refusal(client.count_with_tags("k", 1).try_send())?;
+    assert!(rt; plain && built && seen.is(2, 0));
+    Ok(())
+}
+
+#[test]
+fn a_refused_flush_is_answered_and_not_handled(rt: HostRuntime) -> Result<(), Fail> {
+    let seen = Seen::nothing(rt.alloc())?;
+    let client = refused(rt.alloc(), &seen)?;
     let flushed = client.flush();
     assert!(rt; matches!(flushed, Err(MetricError::Sink(SinkError::NothingWritten))));
-    assert_eq!(rt; calls.load(Ordering::SeqCst), 2);
-    assert_eq!(rt; handled.load(Ordering::SeqCst), 0);
+    assert!(rt; seen.is(0, 0));
     Ok(())
 }
 
 #[test]
 fn a_refusal_reaches_the_handler_once(rt: HostRuntime) -> Result<(), Fail> {
-    let (calls, handled, client) = refused(rt.alloc())?;
+    let seen = Seen::nothing(rt.alloc())?;
+    let client = refused(rt.alloc(), &seen)?;
     client.count_with_tags("k", 1).with_tag("a", "b").send();
-    assert_eq!(rt; handled.load(Ordering::SeqCst), 1);
+    assert!(rt; seen.is(1, 1));
     client.consume_error(MetricError::from(SinkError::ChannelFull));
-    assert_eq!(rt; handled.load(Ordering::SeqCst), 11);
+    assert!(rt; seen.is(1, 11));
     client.count_with_tags("k", Nothing).send();
-    assert_eq!(rt; handled.load(Ordering::SeqCst), 1_011);
-    assert_eq!(rt; calls.load(Ordering::SeqCst), 1);
+    assert!(rt; seen.is(1, 1_011));
     Ok(())
+}
+
+// The same with a handler that isn't boxed.
+fn refused_to_own(
+    alloc: Global,
+    seen: &Seen,
+) -> Result<StatsdClient<Global, RefusingSink, WeighingHandler>, Fail> {
+    let weights = seen.weights.clone()?;
+    let client = StatsdClient::builder(alloc, "p", seen.sink()?)
+        .with_handler(WeighingHandler { weights })
+        .with_tag_value("a")
+        .build()?;
+    Ok(client)
 }
 
 #[test]
 fn a_handler_of_a_type_of_its_own_is_told_once(rt: HostRuntime) -> Result<(), Fail> {
-    let (calls, weights) = (zero(rt.alloc())?, zero(rt.alloc())?);
-    let sink = RefusingSink {
-        calls: calls.clone()?,
-    };
-    let handler = WeighingHandler {
-        weights: weights.clone()?,
-    };
-    let client = StatsdClient::builder(rt.alloc(), "p", sink)
-        .with_handler(handler)
-        .with_tag_value("a")
-        .build()?;
+    let seen = Seen::nothing(rt.alloc())?;
+    let client = refused_to_own(rt.alloc(), &seen)?;
     client.incr_with_tags("k").send();
     client.count_with_tags("k", Nothing).send();
-    assert_eq!(rt; weights.load(Ordering::SeqCst), 1_001);
+    assert!(rt; seen.is(1, 1_001));
     assert!(rt; client.incr("k").is_err());
-    assert_eq!(rt; weights.load(Ordering::SeqCst), 1_001);
-    assert_eq!(rt; calls.load(Ordering::SeqCst), 2);
+    assert!(rt; seen.is(2, 1_001));
     Ok(())
+}
+
+// The same with a boxed sink too.
+fn refused_by_a_box(
+    alloc: Global,
+    seen: &Seen,
+) -> Result<StatsdClient<Global, BoxedSink, BoxedErrorHandler>, Fail> {
+    let sink: BoxedSink = Box::new(alloc, seen.sink()?)?;
+    let handler = seen.handler(alloc)?;
+    let client = StatsdClient::builder(alloc, "p", sink)
+        .with_tag("a", "b")
+        .with_error_handler(handler)
+        .build()?;
+    Ok(client)
 }
 
 #[test]
 fn a_boxed_sink_takes_tags_and_a_boxed_handler(rt: HostRuntime) -> Result<(), Fail> {
-    let (calls, handled) = (zero(rt.alloc())?, zero(rt.alloc())?);
-    let seen = handled.clone()?;
-    let handler: BoxedHandler = Box::new(rt.alloc(), move |error: MetricError| {
-        seen.fetch_add(weight_of(&error), Ordering::SeqCst);
-    })?;
-    let refusing = RefusingSink {
-        calls: calls.clone()?,
-    };
-    let sink: BoxedSink = Box::new(rt.alloc(), refusing)?;
-    let client = StatsdClient::builder(rt.alloc(), "p", sink)
-        .with_tag("a", "b")
-        .with_error_handler(handler)
-        .build()?;
+    let seen = Seen::nothing(rt.alloc())?;
+    let client = refused_by_a_box(rt.alloc(), &seen)?;
     client.incr_with_tags("k").send();
-    assert_eq!(rt; calls.load(Ordering::SeqCst), 1);
-    assert_eq!(rt; handled.load(Ordering::SeqCst), 1);
+    assert!(rt; seen.is(1, 1));
     assert!(rt; client.flush().is_err());
     Ok(())
+}
+
+// Sends a metric of its own and a counter by a client that is gone then.
+fn send_by_a_client(alloc: Global, sink: BoxedSink) -> MetricResult<()> {
+    let client = StatsdClient::from_sink(alloc, "p", sink)?;
+    client.send_metric(&Event)?;
+    client.incr_with_tags("k").with_tag("a", "b").send();
+    Ok(())
+}
+
+// Whether the next text is this one.
+fn is_next<R: Wait + Drop>(receiver: &SpyReceiver<R>, text: &str) -> bool {
+    receiver
+        .recv()
+        .is_some_and(|next| next.as_slice() == text.as_bytes())
 }
 
 #[test]
 fn just_the_text_goes_to_the_sink(rt: HostRuntime) -> Result<(), Fail> {
     let (receiver, spy) = SpyMetricSink::new(rt.clone()?, rt.alloc())?;
-    let sink: Box<dyn MetricSink + Send + Sync> = Box::new(rt.alloc(), spy)?;
-    let client = StatsdClient::from_sink(rt.alloc(), "p", sink)?;
-    client.send_metric(&Event)?;
-    client.incr_with_tags("k").with_tag("a", "b").send();
-    drop(client);
-    let first = receiver.recv().ok_or("gone")?;
-    assert_eq!(rt; first.as_slice(), b"p.k:1|e".as_slice());
-    let second = receiver.recv().ok_or("gone")?;
-    assert_eq!(rt; second.as_slice(), b"p.k:1|c|#a:b".as_slice());
+    let sink: BoxedSink = Box::new(rt.alloc(), spy)?;
+    send_by_a_client(rt.alloc(), sink)?;
+    assert!(rt; is_next(&receiver, "p.k:1|e") && is_next(&receiver, "p.k:1|c|#a:b"));
     assert!(rt; receiver.recv().is_none());
     Ok(())
 }

@@ -1,32 +1,39 @@
 //! Threads that share a client.
 
 use cadence::client::{Counted, StatsdClient};
-use cadence::sinks::{MetricSink, QueuingMetricSink, SpyMetricSink};
+use cadence::sinks::{MetricSink, QueuingMetricSink, SpyMetricSink, SpyReceiver};
+use std::sync::Wait;
 use std::test::Fail;
-use std::thread;
+use std::thread::{self, Threads};
+
+// Whether both lines are taken that two threads send by one client.
+fn both_send<R: Threads>(rt: &R, client: &StatsdClient) -> bool {
+    let (first, second) = thread::join(
+        rt,
+        || client.count("a", 1i64).is_ok(),
+        || client.count("bb", 2i64).is_ok(),
+    );
+    first && second
+}
+
+// Whether these two texts come, in any order.
+fn are_next<R: Wait + Drop>(receiver: &SpyReceiver<R>, short: &str, long: &str) -> bool {
+    let (Some(one), Some(two)) = (receiver.try_recv(), receiver.try_recv()) else {
+        return false;
+    };
+    let (short, long) = (short.as_bytes(), long.as_bytes());
+    one.as_slice() == short && two.as_slice() == long
+        || one.as_slice() == long && two.as_slice() == short
+}
 
 #[test]
 fn threads_share_a_client(rt: HostRuntime) -> Result<(), Fail> {
     let (receiver, spy) = SpyMetricSink::new(rt.clone()?, rt.alloc())?;
-    let sink = QueuingMetricSink::from(rt.clone()?, rt.alloc(), spy)?;
-    let other = sink.clone()?;
-    let sink: Box<dyn MetricSink + Send + Sync> = Box::new(rt.alloc(), sink)?;
+    let queue = QueuingMetricSink::from(rt.clone()?, rt.alloc(), spy)?;
+    let sink: Box<dyn MetricSink + Send + Sync> = Box::new(rt.alloc(), queue.clone()?)?;
     let client = StatsdClient::from_sink(rt.alloc(), "p", sink)?;
-    let (first, second) = thread::join(
-        &rt,
-        || client.count("a", 1i64).is_ok(),
-        || client.count("bb", 2i64).is_ok(),
-    );
-    assert!(rt; first && second);
-    other.stop_and_wait();
-    let one = receiver.try_recv().ok_or("nothing")?;
-    let two = receiver.try_recv().ok_or("nothing")?;
-    let lines = if one.len() < two.len() {
-        (one, two)
-    } else {
-        (two, one)
-    };
-    assert_eq!(rt; lines.0.as_slice(), b"p.a:1|c".as_slice());
-    assert_eq!(rt; lines.1.as_slice(), b"p.bb:2|c".as_slice());
+    assert!(rt; both_send(&rt, &client));
+    queue.stop_and_wait();
+    assert!(rt; are_next(&receiver, "p.a:1|c", "p.bb:2|c"));
     Ok(())
 }
