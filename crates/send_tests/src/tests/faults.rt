@@ -108,6 +108,36 @@ fn print<A: Allocator + Clone, O: Write + Drop>(
     Some(status)
 }
 
+// How a run ended, what was sent, and what was told.
+#[derive(Drop)]
+struct Ended {
+    status: u8,
+    sent: Vec<u8>,
+    errors: Vec<u8>,
+}
+
+impl Ended {
+    fn is(&self, status: u8, sent: &[u8], told: &[u8]) -> bool {
+        self.status == status && self.sent.as_slice() == sent && self.errors.as_slice() == told
+    }
+}
+
+// `run` with ample memory, and its errors kept.
+fn ended<I: Read>(
+    alloc: Global,
+    answers: &[Answer],
+    words: &[&str],
+    input: &mut I,
+) -> Result<Ended, Fail> {
+    let mut errors = Vec::new(alloc);
+    let (status, sent) = run(alloc, alloc, answers, words, input, &mut errors)?;
+    Ok(Ended {
+        status,
+        sent,
+        errors,
+    })
+}
+
 // The first of the lines.
 fn first_lines(count: usize) -> &'static [u8] {
     match count {
@@ -118,47 +148,50 @@ fn first_lines(count: usize) -> &'static [u8] {
     }
 }
 
-#[test]
-fn each_read_fails(rt: HostRuntime) -> Result<(), Fail> {
-    for passed in 0..100 {
-        let mut input = FailingReader::after(ByteReader::new(TEXT), passed);
-        let mut errors = Vec::new(rt.alloc());
-        let (status, sent) = run(rt.alloc(), rt.alloc(), &[], NONE, &mut input, &mut errors)?;
-        let taken = TEXT.iter().take(passed as usize);
-        let ended = taken.filter(|byte| **byte == b'\n').count();
-        assert!(rt; sent.as_slice() == first_lines(ended));
-        if status == 0 {
-            assert_eq!(rt; passed, 31, "each byte, and the end");
-            assert!(rt; sent.as_slice() == LINES && errors.is_empty());
-            return Ok(());
-        }
-        assert!(rt; status == 1);
-        assert!(rt; errors.as_slice() == b"statsd_send: input: cannot read\n".as_slice());
+// Whether a run whose reader fails after so many reads ends well; else it ends as it must.
+fn ends_well_after_reads(alloc: Global, passed: u64) -> Result<bool, Fail> {
+    let mut input = FailingReader::after(ByteReader::new(TEXT), passed);
+    let ended = ended(alloc, &[], NONE, &mut input)?;
+    let taken = TEXT.iter().take(passed as usize);
+    let lines = first_lines(taken.filter(|byte| **byte == b'\n').count());
+    if ended.is(1, lines, b"statsd_send: input: cannot read\n") {
+        return Ok(false);
     }
-    Err(Fail::new("always failed"))
+    if ended.is(0, lines, b"") && lines == LINES {
+        return Ok(true);
+    }
+    Err(Fail::new("another end"))
 }
 
 #[test]
+fn each_read_fails(rt: HostRuntime) -> Result<(), Fail> {
+    let mut passed = 0;
+    while passed < 100 && !ends_well_after_reads(rt.alloc(), passed)? {
+        passed += 1;
+    }
+    assert_eq!(rt; passed, 31, "each byte, and the end");
+    Ok(())
+}
+
+/// Answers of the log, words, and the lines that are sent: what is held when a packet is refused is sent at the end.
+const REFUSED: [(&[Answer], &[&str], &[u8]); 4] = [
+    (
+        &[Answer::Whole, Answer::Whole, Answer::Refuse],
+        NONE,
+        TWO_LINES,
+    ),
+    (&[Answer::Whole, Answer::Refuse], NONE, TWO_LINES),
+    (&[Answer::Refuse], NONE, LINE),
+    (&[Answer::Refuse], WORDS, b""),
+];
+
+#[test]
 fn each_packet_is_refused(rt: HostRuntime) -> Result<(), Fail> {
-    let refused = [Answer::Whole, Answer::Whole, Answer::Refuse];
-    // what is held when a packet is refused is sent at the end
-    for (answers, words, lines) in [
-        (refused.as_slice(), NONE, TWO_LINES),
-        (&refused[1..], NONE, TWO_LINES),
-        (&refused[2..], NONE, LINE),
-        (&refused[2..], WORDS, b"".as_slice()),
-    ] {
-        let (mut input, mut errors) = (ByteReader::new(TEXT), Vec::new(rt.alloc()));
-        let (status, sent) = run(
-            rt.alloc(),
-            rt.alloc(),
-            answers,
-            words,
-            &mut input,
-            &mut errors,
-        )?;
-        assert!(rt; status == 1 && sent.as_slice() == lines);
-        assert!(rt; errors.as_slice() == b"statsd_send: cannot send: packet refused\n".as_slice());
+    let told = b"statsd_send: cannot send: packet refused\n".as_slice();
+    for (answers, words, lines) in REFUSED {
+        let mut input = ByteReader::new(TEXT);
+        let ended = ended(rt.alloc(), answers, words, &mut input)?;
+        assert!(rt; ended.is(1, lines, told));
     }
     Ok(())
 }
@@ -166,80 +199,89 @@ fn each_packet_is_refused(rt: HostRuntime) -> Result<(), Fail> {
 #[test]
 fn short_counts_send_all(rt: HostRuntime) -> Result<(), Fail> {
     for (words, lines) in [(NONE, LINES), (WORDS, LINE)] {
-        let (mut input, mut errors) = (ByteReader::new(TEXT), Vec::new(rt.alloc()));
-        let (status, sent) = run(
-            rt.alloc(),
-            rt.alloc(),
-            &SHORT,
-            words,
-            &mut input,
-            &mut errors,
-        )?;
-        assert!(rt; status == 0 && errors.is_empty());
-        assert!(rt; sent.as_slice() == lines);
+        let mut input = ByteReader::new(TEXT);
+        let ended = ended(rt.alloc(), &SHORT, words, &mut input)?;
+        assert!(rt; ended.is(0, lines, b""));
     }
     Ok(())
+}
+
+// Whether a run with this memory sends the lines, and isn't refused any; else it ends as it must.
+fn ends_well_with(
+    alloc: Global,
+    heap: Refusing<Global>,
+    words: &[&str],
+    lines: &[u8],
+) -> Result<bool, Fail> {
+    let left = heap.clone()?;
+    let (mut input, mut errors) = (ByteReader::new(TEXT), Vec::new(alloc));
+    let (status, sent) = run(heap, alloc, &[], words, &mut input, &mut errors)?;
+    let told = match status {
+        0 if sent.as_slice() == lines => b"".as_slice(),
+        3 => b"statsd_send: out of memory\n",
+        BEFORE => b"",
+        _ => return Err(Fail::new("another end")),
+    };
+    let is_start = (0..4).any(|count| first_lines(count) == sent.as_slice());
+    if !is_start || errors.as_slice() != told {
+        return Err(Fail::new("another text"));
+    }
+    Ok(left.left() <= MOST_REQUESTS)
 }
 
 #[test]
 fn each_request_is_refused(rt: HostRuntime) -> Result<(), Fail> {
     // the words ask for more than the packer's two
     for (words, lines, least) in [(NONE, LINES, 8), (WORDS, LINE, 2)] {
-        let granted: Result<Option<u64>, Fail> = each_refused(
-            rt.alloc(),
-            |heap: Refusing<Global>| {
-                let (mut input, mut errors) = (ByteReader::new(TEXT), Vec::new(rt.alloc()));
-                let left = heap.clone()?;
-                let (status, sent) = run(heap, rt.alloc(), &[], words, &mut input, &mut errors)?;
-                assert!(rt; (0..4).any(|count| first_lines(count) == sent.as_slice()));
-                let told = match status {
-                    0 if sent.as_slice() == lines => b"".as_slice(),
-                    3 => b"statsd_send: out of memory\n",
-                    BEFORE => b"",
-                    _ => return Err(Fail::new("another end")),
-                };
-                assert!(rt; errors.as_slice() == told);
-                Ok(left.left() <= MOST_REQUESTS)
-            },
-        );
-        assert!(rt; granted?.is_some_and(|granted| granted > least));
+        let turn = |heap: Refusing<Global>| ends_well_with(rt.alloc(), heap, words, lines);
+        let granted = each_refused(rt.alloc(), turn)?;
+        assert!(rt; granted.is_some_and(|granted| granted > least));
     }
     Ok(())
 }
 
+// Whether a packet is printed over a writer that fails after so many writes; else it ends as it must.
+fn is_printed_after_writes(alloc: Global, passed: u64) -> Result<bool, Fail> {
+    let mut output = FailingWriter::after(ByteWriter::new(alloc), passed);
+    let mut errors = Vec::new(alloc);
+    let status = print(alloc, &mut output, &mut errors);
+    let shown = output.get_ref().taken();
+    if !SHOWN.starts_with(shown) || shown.len() as u64 != passed {
+        return Err(Fail::new("another text"));
+    }
+    match status {
+        Some(0) if shown == SHOWN && errors.is_empty() => Ok(true),
+        Some(1) if errors.starts_with(b"statsd_send: cannot send: ") => Ok(false),
+        _ => Err(Fail::new("another end")),
+    }
+}
+
 #[test]
 fn each_write_of_a_printed_packet_fails(rt: HostRuntime) -> Result<(), Fail> {
-    for passed in 0..MOST_WRITES {
-        let mut output = FailingWriter::after(ByteWriter::new(rt.alloc()), passed);
-        let mut errors = Vec::new(rt.alloc());
-        let status = print(rt.alloc(), &mut output, &mut errors);
-        let shown = output.get_ref().taken();
-        assert!(rt; SHOWN.starts_with(shown) && shown.len() as u64 == passed);
-        if status == Some(0) {
-            assert!(rt; shown == SHOWN && errors.is_empty());
-            return Ok(());
-        }
-        assert!(rt; status == Some(1));
-        assert!(rt; errors.starts_with(b"statsd_send: cannot send: "));
+    let mut passed = 0;
+    while passed < MOST_WRITES && !is_printed_after_writes(rt.alloc(), passed)? {
+        passed += 1;
     }
-    Err(Fail::new("always failed"))
+    assert!(rt; passed < MOST_WRITES);
+    Ok(())
+}
+
+// Whether a packet is printed with this memory, and none is refused; else nothing is printed.
+fn is_printed_with(alloc: Global, heap: Refusing<Global>) -> Result<bool, Fail> {
+    let left = heap.clone()?;
+    let (mut output, mut errors) = (Vec::new(alloc), Vec::new(alloc));
+    let status = print(heap, &mut output, &mut errors);
+    match (status, output.as_slice()) {
+        (Some(0), shown) if shown == SHOWN => Ok(left.left() <= MOST_REQUESTS),
+        (Some(3) | None, []) => Ok(false),
+        _ => Err(Fail::new("another end")),
+    }
 }
 
 #[test]
 fn each_request_of_a_printed_packet_is_refused(rt: HostRuntime) -> Result<(), Fail> {
-    let granted: Result<Option<u64>, Fail> = each_refused(rt.alloc(), |heap: Refusing<Global>| {
-        let (mut output, mut errors) = (Vec::new(rt.alloc()), Vec::new(rt.alloc()));
-        let left = heap.clone()?;
-        let status = print(heap, &mut output, &mut errors);
-        let wanted = match status {
-            Some(0) => SHOWN,
-            Some(3) | None => b"".as_slice(),
-            Some(_) => return Err(Fail::new("another status")),
-        };
-        assert!(rt; output.as_slice() == wanted);
-        Ok(status == Some(0) && left.left() <= MOST_REQUESTS)
-    });
-    assert!(rt; granted?.is_some());
+    let granted = each_refused(rt.alloc(), |heap| is_printed_with(rt.alloc(), heap))?;
+    assert!(rt; granted.is_some());
     Ok(())
 }
 

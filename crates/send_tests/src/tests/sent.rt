@@ -3,7 +3,7 @@ use cadence_flow::io::{LineBuffer, PacketLog};
 use cadence_send::{Datagrams, Defaults, Request, Unhurried, read_options, run_input, run_words};
 use refusing::reader::ByteReader;
 use std::alloc::Global;
-use std::net::{Ipv4Addr, SocketAddr, UdpSocket};
+use std::net::{Ipv4Addr, Net, SocketAddr, UdpSocket};
 use std::test::Fail;
 use std::time::Duration;
 
@@ -99,61 +99,92 @@ fn joined(alloc: Global, lines: &LineBuffer<PacketLog>) -> Result<Vec<u8>, Fail>
     Ok(all)
 }
 
+// Sends a text, and answers the status and the packer. What is told goes to `errors`.
+fn sent(
+    alloc: Global,
+    text: &[u8],
+    errors: &mut Vec<u8>,
+) -> Result<(u8, LineBuffer<PacketLog>), Fail> {
+    let defaults = defaults(alloc)?;
+    let mut lines = packer(alloc, 64)?;
+    let mut input = ByteReader::new(text);
+    let status = run_input(
+        &alloc,
+        &defaults,
+        &mut lines,
+        &mut input,
+        errors,
+        &mut Unhurried,
+    );
+    Ok((status, lines))
+}
+
+// Whether a text is sent as these lines, with this status, and what is told begins so.
+fn is_sent(alloc: Global, text: &[u8], wanted: (&[u8], u8, &[u8])) -> Result<bool, Fail> {
+    let mut errors = Vec::new(alloc);
+    let (status, lines) = sent(alloc, text, &mut errors)?;
+    let packets = joined(alloc, &lines)?;
+    let is_told = errors.starts_with(wanted.2) && errors.is_empty() == (status == 0);
+    let is_whole = (packets.as_slice(), status) == (wanted.0, wanted.1);
+    Ok(is_whole && is_told && lines.held().is_empty())
+}
+
 #[test]
 fn rows_are_sent(rt: HostRuntime) -> Result<(), Fail> {
-    let defaults = defaults(rt.alloc())?;
-    for (text, sent, status, told) in ROWS {
-        let (mut input, mut errors) = (ByteReader::new(text), Vec::new(rt.alloc()));
-        let mut lines = packer(rt.alloc(), 64)?;
-        let got = run_input(
-            &rt.alloc(),
-            &defaults,
-            &mut lines,
-            &mut input,
-            &mut errors,
-            &mut Unhurried,
-        );
-        assert_eq!(rt; got, status);
-        assert!(rt; joined(rt.alloc(), &lines)?.as_slice() == sent && lines.held().is_empty());
-        assert!(rt; errors.starts_with(told) && errors.is_empty() == (status == 0));
+    for (text, lines, status, told) in ROWS {
+        assert!(rt; is_sent(rt.alloc(), text, (lines, status, told))?);
     }
     Ok(())
+}
+
+// Whether a text is refused, and no packet sent for it.
+fn is_unread(alloc: Global, text: &str) -> Result<bool, Fail> {
+    let (status, lines) = sent(alloc, text.as_bytes(), &mut Vec::new(alloc))?;
+    Ok(status == 2 && lines.get_ref().packets().is_empty())
 }
 
 #[test]
 fn unread_lines_send_nothing(rt: HostRuntime) -> Result<(), Fail> {
-    let defaults = defaults(rt.alloc())?;
     for text in UNREAD.split('\n') {
-        let (mut input, mut errors) = (text.as_bytes(), Vec::new(rt.alloc()));
-        let mut lines = packer(rt.alloc(), 64)?;
-        let got = run_input(
-            &rt.alloc(),
-            &defaults,
-            &mut lines,
-            &mut input,
-            &mut errors,
-            &mut Unhurried,
-        );
-        assert!(rt; got == 2 && lines.get_ref().packets().is_empty());
+        assert!(rt; is_unread(rt.alloc(), text)?);
     }
     Ok(())
 }
 
-#[test]
-fn words_are_sent_to_a_socket(rt: HostRuntime) -> Result<(), Fail> {
-    let server = UdpSocket::bind(&rt, SocketAddr::from((Ipv4Addr::LOCALHOST, 0)))?;
-    server.set_read_timeout(Some(Duration::from_secs(5)))?;
-    let socket = UdpSocket::bind(&rt, SocketAddr::from((Ipv4Addr::LOCALHOST, 0)))?;
-    let writer = Datagrams::new(socket, server.local_addr()?);
-    let Ok(mut lines) = LineBuffer::new(rt.alloc(), writer, 512) else {
+fn on_loopback<R: Net>(rt: &R) -> Result<UdpSocket, Fail> {
+    Ok(UdpSocket::bind(rt, SocketAddr::from((Ipv4Addr::LOCALHOST, 0)))?)
+}
+
+// Sends words by a writer of datagrams, and answers the status. What is told goes to `errors`.
+fn send_words(
+    alloc: Global,
+    writer: Datagrams,
+    words: &[&str],
+    errors: &mut Vec<u8>,
+) -> Result<u8, Fail> {
+    let Ok(mut lines) = LineBuffer::new(alloc, writer, 512) else {
         return Err(Fail::new("memory"));
     };
-    let (defaults, mut errors) = (defaults(rt.alloc())?, Vec::new(rt.alloc()));
-    let words = ["c", "visits", "1", "page:new york"];
-    let status = run_words(&rt.alloc(), &defaults, &mut lines, &words, &mut errors);
-    assert!(rt; status == 0 && errors.is_empty());
+    let defaults = defaults(alloc)?;
+    Ok(run_words(&alloc, &defaults, &mut lines, words, errors))
+}
+
+// Whether just this datagram comes to the socket.
+fn comes(server: &UdpSocket, wanted: &[u8]) -> Result<bool, Fail> {
+    server.set_read_timeout(Some(Duration::from_secs(5)))?;
     let mut bytes = [0u8; 64];
     let (count, _from) = server.recv_from(&mut bytes)?;
-    assert!(rt; &bytes[..count] == b"p.visits:1|c|#k:v,page:new york\n".as_slice());
+    Ok(&bytes[..count] == wanted)
+}
+
+#[test]
+fn words_are_sent_to_a_socket(rt: HostRuntime) -> Result<(), Fail> {
+    let server = on_loopback(&rt)?;
+    let writer = Datagrams::new(on_loopback(&rt)?, server.local_addr()?);
+    let words = ["c", "visits", "1", "page:new york"];
+    let mut errors = Vec::new(rt.alloc());
+    let status = send_words(rt.alloc(), writer, &words, &mut errors)?;
+    assert!(rt; status == 0 && errors.is_empty());
+    assert!(rt; comes(&server, b"p.visits:1|c|#k:v,page:new york\n")?);
     Ok(())
 }
