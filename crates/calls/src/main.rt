@@ -38,6 +38,14 @@ const GROUPS: [Group; 6] = [
 /// More lines than a group of calls makes.
 const MOST_LINES: u32 = 100;
 
+// Adds a line to the text.
+fn push_line(alloc: Global, text: &mut String, line: &[u8]) -> Result<(), AllocError> {
+    let line = String::from_utf8_lossy(alloc, line)?;
+    text.push_str("  ")?;
+    text.push_str(&line)?;
+    text.push('\n')
+}
+
 // What came to a sink so far, under a heading.
 fn told<R: Wait + Drop>(
     alloc: Global,
@@ -49,8 +57,7 @@ fn told<R: Wait + Drop>(
         let Some(line) = lines.try_recv() else {
             break;
         };
-        let line = String::from_utf8_lossy(alloc, &line)?;
-        writeln!(&mut text, "  {line}")?;
+        push_line(alloc, &mut text, &line)?;
     }
     Ok(text)
 }

@@ -111,11 +111,16 @@ fn send_with_tags<S: MetricSink>(alloc: Global, sink: S) -> MetricResult<()> {
     Ok(())
 }
 
-fn send_with_container<S: MetricSink>(alloc: Global, sink: S) -> MetricResult<()> {
-    let client = StatsdClient::builder(alloc, "p", sink)
+// A client with a container, which is given twice.
+fn contained<S: MetricSink>(alloc: Global, sink: S) -> MetricResult<StatsdClient<Global, S>> {
+    StatsdClient::builder(alloc, "p", sink)
         .with_container_id("w")
         .with_container_id("x")
-        .build()?;
+        .build()
+}
+
+fn send_with_container<S: MetricSink>(alloc: Global, sink: S) -> MetricResult<()> {
+    let client = contained(alloc, sink)?;
     client.incr("k")?;
     client.incr_with_tags("k").with_container_id("y").send();
     Ok(())
