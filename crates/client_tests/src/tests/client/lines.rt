@@ -8,6 +8,7 @@ use cadence::line::MetricType;
 use cadence::prelude::*;
 use cadence::schedule::{Call, CallValue};
 use cadence::types::Metric;
+use std::alloc::Global;
 use std::test::Fail;
 
 // Threads may share what this takes.
@@ -21,24 +22,31 @@ fn a_callers_value_has_its_line(rt: HostRuntime) -> Result<(), Fail> {
     Ok(())
 }
 
+// The line of a call with this value.
+fn line_of(alloc: Global, value: CallValue) -> Result<String, Fail> {
+    let settings = ClientSettings::new(alloc, "")?;
+    let call = Call {
+        key: String::from_str(alloc, "k")?,
+        value,
+        options: Vec::new(alloc),
+    };
+    Ok(settings.record_of(&call)?.format(alloc)?)
+}
+
 #[test]
 fn values_as_data_have_their_lines(rt: HostRuntime) -> Result<(), Fail> {
-    let alloc = rt.alloc();
-    let settings = ClientSettings::new(alloc, "")?;
-    for (value, line) in [
-        (CallValue::CountI32(i32::MIN), "k:-2147483648|c"),
-        (CallValue::CountU32(u32::MAX), "k:4294967295|c"),
-    ] {
-        let call = Call {
-            key: String::from_str(alloc, "k")?,
-            value,
-            options: Vec::new(alloc),
-        };
-        let made = settings.record_of(&call)?.format(alloc)?;
-        assert_eq!(rt; made.as_str(), line);
-    }
-    let signed = MetricValue::PackedSigned(vec![in alloc; -1i64, 0, 2]?);
-    let record = settings.record("k", MetricType::Counter, signed)?;
-    assert_eq!(rt; record.format(alloc)?.as_str(), "k:-1:0:2|c");
+    let signed = line_of(rt.alloc(), CallValue::CountI32(i32::MIN))?;
+    assert_eq!(rt; signed.as_str(), "k:-2147483648|c");
+    let unsigned = line_of(rt.alloc(), CallValue::CountU32(u32::MAX))?;
+    assert_eq!(rt; unsigned.as_str(), "k:4294967295|c");
+    Ok(())
+}
+
+#[test]
+fn signed_numbers_have_their_line(rt: HostRuntime) -> Result<(), Fail> {
+    let settings = ClientSettings::new(rt.alloc(), "")?;
+    let signed = MetricValue::PackedSigned(vec![in rt.alloc(); -1i64, 0, 2]?);
+    let line = settings.record("k", MetricType::Counter, signed)?.format(rt.alloc())?;
+    assert_eq!(rt; line.as_str(), "k:-1:0:2|c");
     Ok(())
 }
