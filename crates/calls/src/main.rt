@@ -70,19 +70,38 @@ fn told_faults(alloc: Global) -> Result<String, AllocError> {
     format!(in alloc; "faults of an audited queue:\n{faults}")
 }
 
-fn main(rt: HostRuntime) -> MetricResult<()> {
-    let alloc = rt.alloc();
+// The lines of each group of calls, which are those of one client.
+fn told_groups<R: Wait + Clone + Drop + Send + Sync + 'static>(
+    rt: &R,
+    alloc: Global,
+) -> MetricResult<String> {
     let (lines, spy) = SpyMetricSink::new(rt.clone()?, alloc)?;
     let sink: Box<dyn MetricSink + Send + Sync> = Box::new(alloc, spy)?;
     let client = StatsdClient::from_sink(alloc, "p", sink)?;
+    let mut text = String::new(alloc);
     for group in GROUPS {
         group.send(alloc, &client)?;
-        print!(rt; "{}", told(alloc, group.heading(), &lines)?)?;
+        text.push_str(&told(alloc, group.heading(), &lines)?)?;
     }
+    Ok(text)
+}
+
+// The lines of a client that is made so.
+fn told_setting<R: Wait + Clone + Drop>(
+    rt: &R,
+    alloc: Global,
+    setting: Setting,
+) -> MetricResult<String> {
+    let (lines, spy) = SpyMetricSink::new(rt.clone()?, alloc)?;
+    setting.send(alloc, spy)?;
+    Ok(told(alloc, setting.heading(), &lines)?)
+}
+
+fn main(rt: HostRuntime) -> MetricResult<()> {
+    let alloc = rt.alloc();
+    print!(rt; "{}", told_groups(&rt, alloc)?)?;
     for setting in SETTINGS {
-        let (lines, spy) = SpyMetricSink::new(rt.clone()?, alloc)?;
-        setting.send(alloc, spy)?;
-        print!(rt; "{}", told(alloc, setting.heading(), &lines)?)?;
+        print!(rt; "{}", told_setting(&rt, alloc, setting)?)?;
     }
     println!(rt; "port {DEFAULT_PORT}")?;
     print!(rt; "{}", told_faults(alloc)?)?;
