@@ -45,20 +45,33 @@ pub struct Script<A: Allocator> {
     pub steps: Vec<Step<A>, A>,
 }
 
+fn empty<T, A: Allocator + Clone>(alloc: &A) -> Result<Vec<T, A>, AllocError> {
+    Ok(Vec::new(alloc.clone()?))
+}
+
+// The prefix and the ending of a script that names none.
+fn first_texts<A: Allocator + Clone>(alloc: &A) -> Result<(String<A>, String<A>), AllocError> {
+    let prefix = String::new(alloc.clone()?);
+    let ending = String::from_str(alloc.clone()?, "\n")?;
+    Ok((prefix, ending))
+}
+
 impl<A: Allocator + Clone> Script<A> {
     /// The script without any line.
     pub fn new(alloc: A) -> Result<Script<A>, AllocError> {
+        let (prefix, ending) = first_texts(&alloc)?;
+        let (tags, answers, steps) = (empty(&alloc)?, empty(&alloc)?, empty(&alloc)?);
         Ok(Script {
-            prefix: String::new(alloc.clone()?),
-            tags: Vec::new(alloc.clone()?),
+            alloc,
+            prefix,
+            tags,
             container: None,
             capacity: DEFAULT_CAPACITY,
-            ending: String::from_str(alloc.clone()?, "\n")?,
+            ending,
             queue: None,
             policy: QueuePolicy::Refuse,
-            answers: Vec::new(alloc.clone()?),
-            steps: Vec::new(alloc.clone()?),
-            alloc,
+            answers,
+            steps,
         })
     }
 

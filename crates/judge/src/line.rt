@@ -1,30 +1,40 @@
 //! The line of a call, from its words.
 use crate::script::Settings;
-use crate::text::text_of;
+use crate::text::{push_all, push_tag, text_of};
 use std::alloc::{AllocError, Global};
 use std::str::Split;
 
-// A mantissa and its places, as a number without needless zeros.
-fn push_decimal(out: &mut String, item: &str) -> Result<(), AllocError> {
-    let (mantissa, places) = item.split_once('/').unwrap_or((item, "0"));
-    let (sign, digits) = match mantissa.strip_prefix('-') {
-        Some(digits) => ("-", digits),
-        None => ("", mantissa),
-    };
-    let places: usize = places.parse().unwrap_or(0);
-    let mut padded = String::new(out.allocator().clone()?);
+// The digits after as many zeros that there are more of them than places.
+fn padded(alloc: Global, digits: &str, places: usize) -> Result<String, AllocError> {
+    let mut padded = String::new(alloc);
     for _ in digits.len()..places.saturating_add(1) {
         padded.push('0')?;
     }
     padded.push_str(digits)?;
+    Ok(padded)
+}
+
+// Adds a mantissa and its places, as a number without needless zeros.
+fn push_decimal(out: &mut String, item: &str) -> Result<(), AllocError> {
+    let (mantissa, places) = item.split_once('/').unwrap_or((item, "0"));
+    let places: usize = places.parse().unwrap_or(0);
+    let (sign, digits) = match mantissa.strip_prefix('-') {
+        Some(digits) => ("-", digits),
+        None => ("", mantissa),
+    };
+    let padded = padded(out.allocator().clone()?, digits, places)?;
     let dot = padded.len().saturating_sub(places);
     let whole = padded.get(..dot).unwrap_or("");
     let fraction = padded.get(dot..).unwrap_or("").trim_end_matches('0');
-    write!(out, "{sign}{whole}")?;
-    if !fraction.is_empty() {
-        write!(out, ".{fraction}")?;
-    }
-    Ok(())
+    push_all(
+        out,
+        &[
+            sign,
+            whole,
+            if fraction.is_empty() { "" } else { "." },
+            fraction,
+        ],
+    )
 }
 
 // Seconds and nanoseconds in the unit of a kind, where 64 bits hold it.
@@ -39,23 +49,27 @@ fn duration_of(kind: &str, item: &str) -> Option<u64> {
     u64::try_from(count).ok()
 }
 
-// Adds the numbers of a value with colons between. Answers whether each duration fits 64 bits.
+// Adds a number of this form. Answers whether a duration fits 64 bits.
+fn push_item(out: &mut String, kind: &str, form: &str, item: &str) -> Result<bool, AllocError> {
+    match form {
+        _ if item.is_empty() => {}
+        "x" | "X" => push_decimal(out, item)?,
+        "t" | "T" => match duration_of(kind, item) {
+            Some(count) => write!(out, "{count}")?,
+            None => return Ok(false),
+        },
+        _ => out.push_str(item)?,
+    }
+    Ok(true)
+}
+
+// Adds the numbers of a value, each after a colon. Answers whether each duration fits 64 bits.
 fn push_numbers(out: &mut String, kind: &str, value: &str) -> Result<bool, AllocError> {
     let (form, items) = value.split_once(':').unwrap_or((value, ""));
-    let mut is_first = true;
     for item in items.split(',') {
-        if !is_first {
-            out.push(':')?;
-        }
-        is_first = false;
-        match form {
-            _ if item.is_empty() => {}
-            "x" | "X" => push_decimal(out, item)?,
-            "t" | "T" => match duration_of(kind, item) {
-                Some(count) => write!(out, "{count}")?,
-                None => return Ok(false),
-            },
-            _ => out.push_str(item)?,
+        out.push(':')?;
+        if !push_item(out, kind, form, item)? {
+            return Ok(false);
         }
     }
     Ok(true)
@@ -91,11 +105,8 @@ impl<'a> Fields<'a> {
     ) -> Result<(), AllocError> {
         let word = words.next().unwrap_or("");
         match name {
-            "tag" => {
-                let value = text_of(alloc, words.next().unwrap_or(""))?;
-                write!(&mut self.tags, ",{}:{value}", text_of(alloc, word)?)?;
-            }
-            "tagvalue" => write!(&mut self.tags, ",{}", text_of(alloc, word)?)?,
+            "tag" => push_tag(&mut self.tags, alloc, word, words.next().unwrap_or(""))?,
+            "tagvalue" => push_all(&mut self.tags, &[",", &text_of(alloc, word)?])?,
             "container" => self.container = Some(text_of(alloc, word)?),
             "time" => self.time = Some(word),
             _ => self.rate = Some(word),
@@ -109,16 +120,43 @@ impl<'a> Fields<'a> {
             push_decimal(out, rate)?;
         }
         if let Some(tags) = self.tags.strip_prefix(",") {
-            write!(out, "|#{tags}")?;
+            push_all(out, &["|#", tags])?;
         }
         if let Some(container) = &self.container {
-            write!(out, "|c:{container}")?;
+            push_all(out, &["|c:", container])?;
         }
         match self.time {
-            Some(time) => write!(out, "|T{time}"),
+            Some(time) => push_all(out, &["|T", time]),
             None => Ok(()),
         }
     }
+}
+
+// The prefix of the settings, with a dot behind it, and the name of a key.
+fn head_of(alloc: Global, settings: &Settings<'_>, key: &str) -> Result<String, AllocError> {
+    let mut head = String::new(alloc);
+    if !settings.prefix.is_empty() {
+        push_all(&mut head, &[settings.prefix.trim_end_matches('.'), "."])?;
+    }
+    head.push_str(&text_of(alloc, key)?)?;
+    Ok(head)
+}
+
+// The fields that the words choose, of which the call has at most so many.
+fn fields_of<'a>(
+    alloc: Global,
+    settings: &Settings<'_>,
+    words: &mut Split<'a, char>,
+    most: usize,
+) -> Result<Fields<'a>, AllocError> {
+    let mut fields = Fields::of_defaults(alloc, settings)?;
+    for _ in 0..most {
+        let Some(name) = words.next() else {
+            break;
+        };
+        fields.choose(alloc, name, words)?;
+    }
+    Ok(fields)
 }
 
 /// The line of a call, and none where a duration passes 64 bits.
@@ -129,26 +167,11 @@ pub fn line_of(
 ) -> Result<Option<String>, AllocError> {
     let mut words = call.split(' ');
     let kind = words.next().unwrap_or("");
-    let mut line = String::new(alloc);
-    if !settings.prefix.is_empty() {
-        write!(&mut line, "{}.", settings.prefix.trim_end_matches('.'))?;
-    }
-    write!(
-        &mut line,
-        "{}:",
-        text_of(alloc, words.next().unwrap_or(""))?
-    )?;
+    let mut line = head_of(alloc, settings, words.next().unwrap_or(""))?;
     if !push_numbers(&mut line, kind, words.next().unwrap_or(""))? {
         return Ok(None);
     }
-    write!(&mut line, "|{kind}")?;
-    let mut fields = Fields::of_defaults(alloc, settings)?;
-    for _ in 0..call.len() {
-        let Some(name) = words.next() else {
-            break;
-        };
-        fields.choose(alloc, name, &mut words)?;
-    }
-    fields.push_to(&mut line)?;
+    push_all(&mut line, &["|", kind])?;
+    fields_of(alloc, settings, &mut words, call.len())?.push_to(&mut line)?;
     Ok(Some(line))
 }

@@ -41,20 +41,23 @@ impl<'a> Packer<'a> {
         }
     }
 
+    // Counts a refusal.
+    fn refuse(&mut self, packet: &[u8], why: Refusal) -> Refusal {
+        self.refusals = self.refusals.wrapping_add(1);
+        self.refused_bytes = self.refused_bytes.wrapping_add(packet.len());
+        why
+    }
+
     // Offers a packet, and answers how many bytes of it were taken.
     fn offer(&mut self, packet: &[u8]) -> Result<Result<usize, Refusal>, AllocError> {
         let lacks = self.lacking == Some(self.writes);
         self.writes = self.writes.wrapping_add(1);
         let answer = self.answers.next().unwrap_or("whole");
-        if lacks || answer == "refuse" {
-            self.refusals = self.refusals.wrapping_add(1);
-            self.refused_bytes = self.refused_bytes.wrapping_add(packet.len());
-            let refused = answer == "refuse";
-            return Ok(Err(if refused {
-                "packet refused"
-            } else {
-                "out of memory"
-            }));
+        if answer == "refuse" {
+            return Ok(Err(self.refuse(packet, "packet refused")));
+        }
+        if lacks {
+            return Ok(Err(self.refuse(packet, "out of memory")));
         }
         let count = match answer.strip_prefix("short:") {
             Some(count) => packet.len().min(count.parse().unwrap_or(0)),
@@ -101,12 +104,17 @@ impl<'a> Packer<'a> {
             }
             return Ok(answer);
         }
+        self.hold(line, joins)?;
+        Ok(Ok(line.len()))
+    }
+
+    // Holds a line, in the group of what is held already where it joins that.
+    fn hold(&mut self, line: &str, joins: bool) -> Result<(), AllocError> {
         match self.groups.last_mut() {
             Some(last) if joins && !self.held.is_empty() => *last = last.wrapping_add(1),
             _ => self.groups.push(1)?,
         }
         self.held.extend_from_slice(line.as_bytes())?;
-        self.held.extend_from_slice(self.ending.as_bytes())?;
-        Ok(Ok(line.len()))
+        self.held.extend_from_slice(self.ending.as_bytes())
     }
 }

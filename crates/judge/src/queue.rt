@@ -22,24 +22,27 @@ impl Queue {
         }
     }
 
+    fn is_full(&self) -> bool {
+        self.capacity
+            .is_some_and(|capacity| self.waiting.len() >= capacity)
+    }
+
     /// Accepts a line or refuses it, and adds the reply.
     pub fn submit(&mut self, out: &mut String, line: String) -> Result<(), AllocError> {
         if self.is_stopped {
             return out.push_str("call err channel disconnected\n");
         }
         let length = line.len();
-        match self.capacity {
-            Some(capacity) if self.waiting.len() >= capacity => {
-                if !self.drops_oldest || self.waiting.is_empty() {
-                    return out.push_str("call err channel full\n");
-                }
-                let oldest = self.waiting.remove(0);
-                writeln!(out, "call ok {length} dropped {}", oldest.len())?;
-            }
-            _ => writeln!(out, "call ok {length}")?,
+        if !self.is_full() {
+            self.waiting.push(line)?;
+            return writeln!(out, "call ok {length}");
         }
+        if !self.drops_oldest || self.waiting.is_empty() {
+            return out.push_str("call err channel full\n");
+        }
+        let oldest = self.waiting.remove(0);
         self.waiting.push(line)?;
-        Ok(())
+        writeln!(out, "call ok {length} dropped {}", oldest.len())
     }
 
     /// Takes the oldest line into the hand, and adds the reply.

@@ -3,7 +3,7 @@ use crate::line::line_of;
 use crate::packer::Packer;
 use crate::queue::Queue;
 use crate::script::{Settings, read};
-use crate::text::push_shown;
+use crate::text::{push_number, push_shown};
 use std::alloc::{AllocError, Global};
 
 /// The one thing for which a run has no memory, counted from 0.
@@ -14,6 +14,36 @@ pub enum Lack {
     Call(usize),
     /// A packet in the writer.
     Write(usize),
+}
+
+// Adds the reply of a call with this line, and submits the line.
+fn push_call(
+    out: &mut String,
+    queue: &mut Queue,
+    line: Option<String>,
+    lacks_memory: bool,
+) -> Result<(), AllocError> {
+    match line {
+        None => out.push_str("call err u64 overflow\n"),
+        Some(_) if lacks_memory => out.push_str("call err out of memory\n"),
+        Some(line) => queue.submit(out, line),
+    }
+}
+
+// Adds how many lines each packet has, and the held text.
+fn push_cut(
+    out: &mut String,
+    settings: &Settings<'_>,
+    packer: &Packer<'_>,
+) -> Result<(), AllocError> {
+    out.push_str("cut")?;
+    if settings.answers.contains("short") {
+        return out.push_str(" unknown\n");
+    }
+    for count in &packer.groups {
+        push_number(out, *count, "")?;
+    }
+    out.push('\n')
 }
 
 // Adds the reply of a step, and makes the step.
@@ -62,20 +92,10 @@ fn push_end(
     if let Some(line) = &queue.in_hand {
         push_shown(out, "inhand", line.as_bytes())?;
     }
-    out.push_str("cut")?;
-    if settings.answers.contains("short") {
-        out.push_str(" unknown")?;
-    } else {
-        for count in &packer.groups {
-            write!(out, " {count}")?;
-        }
-    }
+    push_cut(out, settings, packer)?;
     let (packets, refusals) = (packer.packets.len(), packer.refusals);
-    writeln!(
-        out,
-        "\nstats {bytes} {packets} {} {refusals}",
-        packer.refused_bytes
-    )
+    let refused = packer.refused_bytes;
+    writeln!(out, "stats {bytes} {packets} {refused} {refusals}")
 }
 
 /// The report of a script, where memory lacks as said.
@@ -90,14 +110,12 @@ pub fn report_of(alloc: Global, script: &str, lack: Lack) -> Result<String, Allo
     let mut packer = Packer::new(alloc, &settings, lacking_write);
     let mut out = String::new(alloc);
     for (index, step) in steps.iter().enumerate() {
-        let Some(call) = step.strip_prefix("call ") else {
-            push_reply(&mut out, step, &mut queue, &mut packer)?;
-            continue;
-        };
-        match line_of(alloc, &settings, call)? {
-            None => out.push_str("call err u64 overflow\n")?,
-            Some(_) if lacking_call == Some(index) => out.push_str("call err out of memory\n")?,
-            Some(line) => queue.submit(&mut out, line)?,
+        match step.strip_prefix("call ") {
+            None => push_reply(&mut out, step, &mut queue, &mut packer)?,
+            Some(call) => {
+                let line = line_of(alloc, &settings, call)?;
+                push_call(&mut out, &mut queue, line, lacking_call == Some(index))?;
+            }
         }
     }
     push_end(&mut out, &settings, &queue, &packer)?;

@@ -1,5 +1,5 @@
 //! The settings and the steps of a script.
-use crate::text::text_of;
+use crate::text::{push_all, push_tag, text_of};
 use std::alloc::{AllocError, Global};
 
 /// What stands before the steps.
@@ -37,10 +37,9 @@ impl<'a> Settings<'a> {
             "prefix" => self.prefix = text_of(alloc, rest)?,
             "tag" => {
                 let (key, value) = rest.split_once(' ').unwrap_or((rest, ""));
-                let value = text_of(alloc, value)?;
-                write!(&mut self.tags, ",{}:{value}", text_of(alloc, key)?)?;
+                push_tag(&mut self.tags, alloc, key, value)?;
             }
-            "tagvalue" => write!(&mut self.tags, ",{}", text_of(alloc, rest)?)?,
+            "tagvalue" => push_all(&mut self.tags, &[",", &text_of(alloc, rest)?])?,
             "container" => self.container = Some(text_of(alloc, rest)?),
             "capacity" => self.capacity = rest.parse().unwrap_or(0),
             "ending" => self.ending = text_of(alloc, rest)?,

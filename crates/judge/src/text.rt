@@ -23,19 +23,41 @@ pub fn text_of(alloc: Global, word: &str) -> Result<String, AllocError> {
     Ok(text)
 }
 
+/// Adds the texts, one after the other.
+pub fn push_all(out: &mut String, texts: &[&str]) -> Result<(), AllocError> {
+    for text in texts {
+        out.push_str(text)?;
+    }
+    Ok(())
+}
+
+/// Adds a tag behind a comma, from the words of its key and its value.
+pub fn push_tag(out: &mut String, alloc: Global, key: &str, value: &str) -> Result<(), AllocError> {
+    let (key, value) = (text_of(alloc, key)?, text_of(alloc, value)?);
+    push_all(out, &[",", &key, ":", &value])
+}
+
+/// Adds a number between a space and an end.
+pub fn push_number(out: &mut String, number: usize, end: &str) -> Result<(), AllocError> {
+    write!(out, " {number}{end}")
+}
+
+// Adds a byte as a report shows it.
+fn push_byte(out: &mut String, byte: u8) -> Result<(), AllocError> {
+    match byte {
+        b'\n' => out.push_str("\\n"),
+        b'\\' => out.push_str("\\\\"),
+        b' '..=b'~' => out.push(char::from(byte)),
+        other => write!(out, "\\x{other:02x}"),
+    }
+}
+
 /// Adds `LABEL N BYTES` and a newline.
 pub fn push_shown(out: &mut String, label: &str, bytes: &[u8]) -> Result<(), AllocError> {
-    write!(out, "{label} {}", bytes.len())?;
-    if !bytes.is_empty() {
-        out.push(' ')?;
-    }
+    out.push_str(label)?;
+    push_number(out, bytes.len(), if bytes.is_empty() { "" } else { " " })?;
     for byte in bytes {
-        match *byte {
-            b'\n' => out.push_str("\\n")?,
-            b'\\' => out.push_str("\\\\")?,
-            b' '..=b'~' => out.push(char::from(*byte))?,
-            other => write!(out, "\\x{other:02x}")?,
-        }
+        push_byte(out, *byte)?;
     }
     out.push('\n')
 }
