@@ -1,152 +1,121 @@
-use super::sockets::are_both;
+use super::gate::{Around, Gated, before_a_gate, behind_a_gate, come_to_the_gate, open_and_end};
+use super::steps::{
+    Refusal, are_both, comes, comes_last, emit_from_two, flushes, gives, refuses, takes,
+};
 use cadence_errors::{MetricError, SinkError};
 use cadence_flow::queue::QueuePolicy;
-use cadence_flow::stats::SinkStats;
 use cadence_sinks::{
     BufferedSpyMetricSink, MetricSink, NopMetricSink, QueuingMetricSink, QueuingMetricSinkBuilder,
-    SpyMetricSink, SpyReceiver,
+    ResolverRuntime, SpyMetricSink, SpyReceiver,
 };
 use refusing::{Refusing, each_refused};
-use std::alloc::Global;
-use std::sync::atomic::{AtomicBool, AtomicU64, Ordering};
+use std::alloc::{Allocator, Global};
+use std::sync::atomic::{AtomicU64, Ordering};
 use std::sync::{Arc, OnceLock, Wait};
 use std::test::Fail;
-use std::thread;
+
+type SpiedSink<R> = QueuingMetricSink<SpyMetricSink<R>, R>;
+
+// A queue before a spy, and the spy's receiver.
+fn before_a_spy<R: ResolverRuntime>(
+    rt: &R,
+    alloc: Global,
+) -> Result<(SpyReceiver<R>, SpiedSink<R>), Fail> {
+    let (receiver, spy) = SpyMetricSink::new(rt.clone()?, alloc)?;
+    let sink = QueuingMetricSink::from(rt.clone()?, alloc, spy)?;
+    Ok((receiver, sink))
+}
+
+// The queue has accepted, dropped and handed on that many lines.
+fn has_counted<S: MetricSink, R: Wait + Drop, A: Allocator>(
+    sink: &QueuingMetricSink<S, R, A>,
+    wanted: [u64; 3],
+) -> Result<(), Fail> {
+    let found = [sink.submitted(), sink.dropped(), sink.drained()];
+    if found != wanted {
+        return Err(Fail::new(format_args!("the counts are {found:?}")));
+    }
+    Ok(())
+}
 
 #[test]
 fn three_texts_in_order(rt: HostRuntime) -> Result<(), Fail> {
-    let (receiver, spy) = SpyMetricSink::new(rt.clone()?, rt.alloc())?;
-    let sink = QueuingMetricSink::from(rt.clone()?, rt.alloc(), spy)?;
+    let (receiver, sink) = before_a_spy(&rt, rt.alloc())?;
     for text in ["foo.counter:1|c", "bar.counter:2|c", "baz.counter:3|c"] {
-        assert!(rt; matches!(sink.emit(text), Ok(15)));
+        takes(&sink, &[(text, 15)])?;
     }
     sink.stop_and_wait();
-    for wanted in ["foo.counter:1|c", "bar.counter:2|c", "baz.counter:3|c"] {
-        let message = receiver.try_recv().ok_or("nothing")?;
-        assert_eq!(rt; message.as_slice(), wanted.as_bytes());
-    }
-    assert!(rt; receiver.is_empty());
-    Ok(())
+    gives(
+        &receiver,
+        &["foo.counter:1|c", "bar.counter:2|c", "baz.counter:3|c"],
+    )
 }
 
 #[test]
 fn stopped_sink_is_disconnected(rt: HostRuntime) -> Result<(), Fail> {
     let sink = QueuingMetricSink::from(rt.clone()?, rt.alloc(), NopMetricSink)?;
-    assert!(rt; matches!(sink.emit("a:1|c"), Ok(5)));
-    assert!(rt; matches!(sink.emit("b:1|c"), Ok(5)));
+    takes(&sink, &[("a:1|c", 5), ("b:1|c", 5)])?;
     sink.stop_and_wait();
-    assert!(rt; matches!(sink.emit("d:1|c"), Err(SinkError::ChannelDisconnected)));
+    refuses(&sink, "d:1|c", Refusal::Disconnected)?;
     assert_eq!(rt; (sink.queued(), sink.panics()), (0, 0));
-    assert_eq!(rt; (sink.submitted(), sink.drained()), (2, 2));
-    Ok(())
-}
-
-const MOST_TURNS: u32 = 1_000_000;
-
-// Turns until the flag is set, and answers whether it was within the turns.
-fn is_set_in_time(flag: &AtomicBool) -> bool {
-    for _ in 0..MOST_TURNS {
-        if flag.load(Ordering::SeqCst) {
-            return true;
-        }
-        thread::yield_now();
-    }
-    false
-}
-
-// The gate of a gated sink, and whether the sink was flushed.
-#[derive(Drop)]
-struct Gate {
-    open: AtomicBool,
-    flushed: AtomicBool,
-}
-
-// Tells of each text that comes, and passes it on once the gate is open.
-#[derive(Drop)]
-struct Gated<R: Wait + Drop> {
-    gate: Arc<Gate>,
-    comes: SpyMetricSink<R>,
-    passes: SpyMetricSink<R>,
-}
-
-impl<R: Wait + Drop> MetricSink for Gated<R> {
-    ghost may_answer = { λ _ _ _. Unit {0} };
-
-    ghost may_flush = { λ _ _. Unit {0} };
-
-    fn emit(&self, metric: &str) -> Result<usize, SinkError> {
-        self.comes.emit(metric)?;
-        if !is_set_in_time(&self.gate.open) {
-            return Err(SinkError::PacketRefused);
-        }
-        self.passes.emit(metric)
-    }
-
-    fn flush(&self) -> Result<(), SinkError> {
-        self.gate.flushed.store(true, Ordering::SeqCst);
-        Ok(())
-    }
-
-    fn stats(&self) -> SinkStats {
-        SinkStats {
-            bytes_sent: 1,
-            packets_sent: 2,
-            bytes_dropped: 3,
-            packets_dropped: 4,
-        }
-    }
-
-    ghost flush_may_succeed = { λ _. tt };
-}
-
-// What a test holds of a gated sink: its gate, the texts that come to it and those that pass.
-#[derive(Drop)]
-struct Around<R: Wait + Drop> {
-    gate: Arc<Gate>,
-    coming: SpyReceiver<R>,
-    passed: SpyReceiver<R>,
-}
-
-// A sink behind a closed gate.
-fn behind_a_gate<R: Wait + Clone + Drop>(
-    rt: &R,
-    alloc: Global,
-) -> Result<(Around<R>, Gated<R>), Fail> {
-    let gate = Gate {
-        open: AtomicBool::new(false),
-        flushed: AtomicBool::new(false),
-    };
-    let gate = Arc::new(alloc, gate)?;
-    let (coming, comes) = SpyMetricSink::new(rt.clone()?, alloc)?;
-    let (passed, passes) = SpyMetricSink::new(rt.clone()?, alloc)?;
-    let sink = Gated {
-        gate: gate.clone()?,
-        comes,
-        passes,
-    };
-    let around = Around {
-        gate,
-        coming,
-        passed,
-    };
-    Ok((around, sink))
+    has_counted(&sink, [2, 0, 2])
 }
 
 #[test]
 fn caller_does_not_wait_for_the_sink(rt: HostRuntime) -> Result<(), Fail> {
-    let (around, gated) = behind_a_gate(&rt, rt.alloc())?;
-    let sink = QueuingMetricSink::from(rt.clone()?, rt.alloc(), gated)?;
-    assert!(rt; matches!(sink.emit("first:1|c"), Ok(9)));
-    assert!(rt; around.coming.recv().is_some());
-    assert!(rt; matches!(sink.emit("second:1|c"), Ok(10)));
-    assert!(rt; sink.flush().is_ok() && around.gate.flushed.load(Ordering::SeqCst));
+    let (around, sink) = before_a_gate(&rt, rt.alloc())?;
+    come_to_the_gate(&sink, &around)?;
+    takes(&sink, &[("second:1|c", 10)])?;
+    assert_eq!(rt; sink.queued(), 1);
+    open_and_end(&sink, &around);
+    gives(&around.passed, &["first:1|c", "second:1|c"])
+}
+
+#[test]
+fn a_flush_does_not_wait_for_the_queue(rt: HostRuntime) -> Result<(), Fail> {
+    let (around, sink) = before_a_gate(&rt, rt.alloc())?;
+    come_to_the_gate(&sink, &around)?;
+    takes(&sink, &[("second:1|c", 10)])?;
+    flushes(&sink)?;
+    assert!(rt; around.gate.flushed.load(Ordering::SeqCst));
     assert_eq!(rt; (sink.queued(), sink.stats().packets_dropped), (1, 4));
-    around.gate.open.store(true, Ordering::SeqCst);
-    sink.stop_and_wait();
-    let first = around.passed.try_recv().ok_or("nothing")?;
-    let second = around.passed.try_recv().ok_or("nothing")?;
-    assert_eq!(rt; first.as_slice(), b"first:1|c".as_slice());
-    assert_eq!(rt; second.as_slice(), b"second:1|c".as_slice());
+    open_and_end(&sink, &around);
+    Ok(())
+}
+
+type ShortQueue<R> = QueuingMetricSink<Gated<R>, R, Refusing<Global>>;
+
+// A queue of one line, which drops its oldest, before a gate. Its handler counts the faults.
+fn short_queue<R: ResolverRuntime>(
+    rt: &R,
+    heap: &Refusing<Global>,
+    gated: Gated<R>,
+    faults: &Arc<AtomicU64>,
+) -> Result<ShortQueue<R>, Fail> {
+    let counted = faults.clone()?;
+    let handler = Box::new(heap.clone()?, move |_fault| {
+        counted.fetch_add(1, Ordering::SeqCst);
+    })?;
+    let builder = QueuingMetricSinkBuilder::new()
+        .with_capacity(1)
+        .with_policy(QueuePolicy::DropOldest)
+        .with_error_handler(handler);
+    Ok(builder.build(rt.clone()?, heap.clone()?, gated)?)
+}
+
+// While a first line is at the gate, a third one takes the place of a second one. It takes memory once.
+fn replaces_the_second<R: ResolverRuntime>(
+    sink: &ShortQueue<R>,
+    around: &Around<R>,
+    heap: &Refusing<Global>,
+) -> Result<(), Fail> {
+    come_to_the_gate(sink, around)?;
+    takes(sink, &[("second:1|c", 10)])?;
+    let left = heap.left();
+    takes(sink, &[("third:1|c", 9)])?;
+    if heap.left().wrapping_add(1) != left {
+        return Err(Fail::new("another number of requests"));
+    }
     Ok(())
 }
 
@@ -154,112 +123,125 @@ fn caller_does_not_wait_for_the_sink(rt: HostRuntime) -> Result<(), Fail> {
 fn newest_lines_win(rt: HostRuntime) -> Result<(), Fail> {
     let (around, gated) = behind_a_gate(&rt, rt.alloc())?;
     let faults = Arc::new(rt.alloc(), AtomicU64::new(0))?;
-    let counted = faults.clone()?;
     let heap = Refusing::after(rt.alloc(), rt.alloc(), 1000)?;
-    let handler = Box::new(heap.clone()?, move |_fault| {
-        counted.fetch_add(1, Ordering::SeqCst);
-    })?;
-    let sink = QueuingMetricSinkBuilder::new()
-        .with_capacity(1)
-        .with_policy(QueuePolicy::DropOldest)
-        .with_error_handler(handler)
-        .build(rt.clone()?, heap.clone()?, gated)?;
-    assert!(rt; matches!(sink.emit("first:1|c"), Ok(9)));
-    assert!(rt; around.coming.recv().is_some());
-    assert!(rt; matches!(sink.emit("second:1|c"), Ok(10)));
-    let left = heap.left();
-    assert!(rt; matches!(sink.emit("third:1|c"), Ok(9)));
-    assert_eq!(rt; heap.left().wrapping_add(1), left);
-    around.gate.open.store(true, Ordering::SeqCst);
-    sink.stop_and_wait();
-    assert_eq!(rt;
-        (sink.submitted(), sink.dropped(), sink.drained()),
-        (3, 1, 2)
-    );
-    let first = around.passed.try_recv().ok_or("nothing")?;
-    let last = around.passed.try_recv().ok_or("nothing")?;
-    assert_eq!(rt; first.as_slice(), b"first:1|c".as_slice());
-    assert_eq!(rt; last.as_slice(), b"third:1|c".as_slice());
+    let sink = short_queue(&rt, &heap, gated, &faults)?;
+    replaces_the_second(&sink, &around, &heap)?;
+    open_and_end(&sink, &around);
+    has_counted(&sink, [3, 1, 2])?;
     assert_eq!(rt; faults.load(Ordering::SeqCst), 0);
-    Ok(())
+    gives(&around.passed, &["first:1|c", "third:1|c"])
 }
 
 #[test]
 fn dropped_clone_leaves_the_other_handle(rt: HostRuntime) -> Result<(), Fail> {
-    let (receiver, spy) = SpyMetricSink::new(rt.clone()?, rt.alloc())?;
-    let sink = QueuingMetricSink::from(rt.clone()?, rt.alloc(), spy)?;
+    let (receiver, sink) = before_a_spy(&rt, rt.alloc())?;
     let other = sink.clone()?;
     drop(other);
-    assert!(rt; matches!(sink.emit("a:1|c"), Ok(5)));
+    takes(&sink, &[("a:1|c", 5)])?;
     sink.stop_and_wait();
-    let message = receiver.try_recv().ok_or("nothing")?;
-    assert_eq!(rt; message.as_slice(), b"a:1|c".as_slice());
-    Ok(())
+    gives(&receiver, &["a:1|c"])
 }
 
 #[test]
 fn last_drop_hands_on_and_flushes(rt: HostRuntime) -> Result<(), Fail> {
     let (receiver, spy) = BufferedSpyMetricSink::new(rt.clone()?, rt.alloc())?;
     let sink = QueuingMetricSink::from(rt.clone()?, rt.alloc(), spy)?;
-    assert!(rt; matches!(sink.emit("a:1|c"), Ok(5)));
-    assert!(rt; matches!(sink.emit("b:1|c"), Ok(5)));
+    takes(&sink, &[("a:1|c", 5), ("b:1|c", 5)])?;
     drop(sink);
-    let message = receiver.recv().ok_or("gone")?;
-    assert_eq!(rt; message.as_slice(), b"a:1|c\nb:1|c\n".as_slice());
-    assert!(rt; receiver.recv().is_none());
-    Ok(())
+    comes_last(&receiver, "a:1|c\nb:1|c\n")
 }
 
-#[test]
-fn handler_gets_each_fault_once(rt: HostRuntime) -> Result<(), Fail> {
-    let (receiver, spy) = SpyMetricSink::new(rt.clone()?, rt.alloc())?;
-    drop(receiver);
-    let faults = Arc::new(rt.alloc(), AtomicU64::new(0))?;
+// A spy without a receiver.
+fn lonely_spy<R: ResolverRuntime>(rt: &R, alloc: Global) -> Result<SpyMetricSink<R>, Fail> {
+    let (_receiver, spy) = SpyMetricSink::new(rt.clone()?, alloc)?;
+    Ok(spy)
+}
+
+// A queue of ten lines before a spy without a receiver. Its handler counts the faults.
+fn before_a_lonely_spy<R: ResolverRuntime>(
+    rt: &R,
+    alloc: Global,
+    faults: &Arc<AtomicU64>,
+) -> Result<SpiedSink<R>, Fail> {
     let counted = faults.clone()?;
-    let handler = Box::new(rt.alloc(), move |fault| {
+    let handler = Box::new(alloc, move |fault| {
         if matches!(fault, SinkError::ChannelDisconnected) {
             counted.fetch_add(1, Ordering::SeqCst);
         }
     })?;
-    let sink = QueuingMetricSinkBuilder::new()
+    let builder = QueuingMetricSinkBuilder::new()
         .with_capacity(10)
-        .with_error_handler(handler)
-        .build(rt.clone()?, rt.alloc(), spy)?;
-    assert!(rt; matches!(sink.emit("a:1|c"), Ok(5)));
-    assert!(rt; matches!(sink.emit("b:1|c"), Ok(5)));
+        .with_error_handler(handler);
+    Ok(builder.build(rt.clone()?, alloc, lonely_spy(rt, alloc)?)?)
+}
+
+#[test]
+fn handler_gets_each_fault_once(rt: HostRuntime) -> Result<(), Fail> {
+    let faults = Arc::new(rt.alloc(), AtomicU64::new(0))?;
+    let sink = before_a_lonely_spy(&rt, rt.alloc(), &faults)?;
+    takes(&sink, &[("a:1|c", 5), ("b:1|c", 5)])?;
     sink.stop_and_wait();
     assert_eq!(rt; faults.load(Ordering::SeqCst), 2);
     Ok(())
 }
 
-#[test]
-fn threads_share_a_handle(rt: HostRuntime) -> Result<(), Fail> {
-    let (receiver, spy) = SpyMetricSink::new(rt.clone()?, rt.alloc())?;
-    let sink = QueuingMetricSink::from(rt.clone()?, rt.alloc(), spy)?;
-    let (first, second) = thread::join(
-        &rt,
-        || sink.emit("a:1|c").is_ok(),
-        || sink.emit("bb:1|c").is_ok(),
-    );
-    assert!(rt; first && second);
-    sink.stop_and_wait();
+// The lines of both threads wait, and no other.
+fn gives_both<R: Wait + Drop>(receiver: &SpyReceiver<R>) -> Result<bool, Fail> {
     let one = receiver.try_recv().ok_or("nothing")?;
     let other = receiver.try_recv().ok_or("nothing")?;
-    assert!(rt; are_both(&one, &other));
-    assert!(rt; receiver.is_empty());
+    Ok(are_both(&one, &other) && receiver.is_empty())
+}
+
+#[test]
+fn threads_share_a_handle(rt: HostRuntime) -> Result<(), Fail> {
+    let (receiver, sink) = before_a_spy(&rt, rt.alloc())?;
+    assert!(rt; emit_from_two(&rt, &sink));
+    sink.stop_and_wait();
+    assert!(rt; gives_both(&receiver)?);
     Ok(())
 }
 
 #[test]
 fn capacity_0_refuses(rt: HostRuntime) -> Result<(), Fail> {
     let sink = QueuingMetricSink::with_capacity(rt.clone()?, rt.alloc(), NopMetricSink, 0)?;
-    assert!(rt; matches!(sink.emit("a:1|c"), Err(SinkError::ChannelFull)));
-    assert_eq!(rt; sink.submitted(), 0);
-    let sink = QueuingMetricSink::<NopMetricSink, HostRuntime>::builder()
-        .with_capacity(0)
-        .build(rt.clone()?, rt.alloc(), NopMetricSink)?;
-    assert!(rt; matches!(sink.emit("a:1|c"), Err(SinkError::ChannelFull)));
-    Ok(())
+    refuses(&sink, "a:1|c", Refusal::Full)?;
+    has_counted(&sink, [0, 0, 0])
+}
+
+#[test]
+fn capacity_0_of_a_builder_refuses(rt: HostRuntime) -> Result<(), Fail> {
+    let builder = QueuingMetricSink::<NopMetricSink, HostRuntime>::builder().with_capacity(0);
+    let sink = builder.build(rt.clone()?, rt.alloc(), NopMetricSink)?;
+    refuses(&sink, "a:1|c", Refusal::Full)
+}
+
+// Takes as many lines as its capacity while one is at the gate, and no other.
+fn is_full_at<S: MetricSink, R: Wait + Drop, A: Allocator + Clone>(
+    sink: &QueuingMetricSink<S, R, A>,
+    capacity: usize,
+) -> Result<bool, Fail> {
+    for _ in 0..capacity {
+        takes(sink, &[("a:1|c", 5)])?;
+    }
+    refuses(sink, "a:1|c", Refusal::Full)?;
+    Ok(sink.queued() == capacity as u64)
+}
+
+// Each accepted line takes memory once, and a refused one takes none.
+fn takes_memory_once<R: ResolverRuntime>(
+    sink: &ShortQueue<R>,
+    around: &Around<R>,
+    heap: &Refusing<Global>,
+    capacity: usize,
+) -> Result<bool, Fail> {
+    let left = heap.left();
+    come_to_the_gate(sink, around)?;
+    let is_full = is_full_at(sink, capacity)?;
+    open_and_end(sink, around);
+    refuses(sink, "a:1|c", Refusal::Disconnected)?;
+    let taken = left.wrapping_sub(heap.left());
+    let drained = (capacity as u64).wrapping_add(1);
+    Ok(is_full && taken == sink.submitted() && sink.drained() == drained)
 }
 
 #[test]
@@ -268,65 +250,76 @@ fn a_full_queue_takes_no_memory(rt: HostRuntime) -> Result<(), Fail> {
         let (around, gated) = behind_a_gate(&rt, rt.alloc())?;
         let heap = Refusing::after(rt.alloc(), rt.alloc(), 9_999)?;
         let sink = QueuingMetricSink::with_capacity(rt.clone()?, heap.clone()?, gated, capacity)?;
-        let left = heap.left();
-        assert!(rt; sink.emit("a:1|c").is_ok() && around.coming.recv().is_some());
-        for _ in 0..capacity {
-            assert!(rt; matches!(sink.emit("a:1|c"), Ok(5)));
-        }
-        assert!(rt; matches!(sink.emit("a:1|c"), Err(SinkError::ChannelFull)));
-        assert_eq!(rt; sink.queued(), capacity as u64);
-        around.gate.open.store(true, Ordering::SeqCst);
-        sink.stop_and_wait();
-        assert!(rt; matches!(sink.emit("a:1|c"), Err(SinkError::ChannelDisconnected)));
-        assert_eq!(rt; left.wrapping_sub(heap.left()), sink.submitted());
-        assert_eq!(rt; sink.drained(), (capacity as u64).wrapping_add(1));
+        assert!(rt; takes_memory_once(&sink, &around, &heap, capacity)?);
     }
     Ok(())
 }
 
+// Whether the heap had all memory for a queue and its first line. A line that is refused for want of it leaves the
+// sink in order.
+fn has_all_memory<R: ResolverRuntime>(rt: &R, heap: Refusing<Global>) -> Result<bool, Fail> {
+    let sink = match QueuingMetricSink::with_capacity(rt.clone()?, heap, NopMetricSink, 1) {
+        Ok(sink) => sink,
+        Err(MetricError::Sink(SinkError::OutOfMemory)) => return Ok(false),
+        Err(_) => return Err(Fail::new("another error")),
+    };
+    match sink.emit("a:1|c") {
+        Ok(_) => return Ok(true),
+        Err(SinkError::OutOfMemory) => {}
+        Err(_) => return Err(Fail::new("another error")),
+    }
+    takes(&sink, &[("b:1|c", 5)])?;
+    if sink.submitted() != 1 {
+        return Err(Fail::new("another count"));
+    }
+    Ok(false)
+}
+
 #[test]
 fn each_request_refused(rt: HostRuntime) -> Result<(), Fail> {
-    let granted: Result<Option<u64>, Fail> = each_refused(rt.alloc(), |heap| {
-        let sink = match QueuingMetricSink::with_capacity(rt.clone()?, heap, NopMetricSink, 1) {
-            Ok(sink) => sink,
-            Err(MetricError::Sink(SinkError::OutOfMemory)) => return Ok(false),
-            Err(_) => return Err(Fail::new("another error")),
-        };
-        let first = sink.emit("a:1|c");
-        if first.is_ok() {
-            return Ok(true);
-        }
-        assert!(rt; matches!(first, Err(SinkError::OutOfMemory)));
-        assert!(rt; matches!(sink.emit("b:1|c"), Ok(5)) && sink.submitted() == 1);
-        Ok(false)
-    });
+    let granted: Result<Option<u64>, Fail> = each_refused(
+        rt.alloc(),
+        |heap| has_all_memory(&rt, heap),
+    );
     assert_eq!(rt; granted?, Some(3));
     Ok(())
 }
 
-type SpiedSink = QueuingMetricSink<SpyMetricSink<HostRuntime>, HostRuntime>;
+// Emits a line through the handle in the slot, and notes whether it was queued.
+fn emit_and_note<R: ResolverRuntime>(slot: &OnceLock<SpiedSink<R>>, notes: &SpyMetricSink<R>) {
+    let queued = slot.get().is_some_and(|sink| sink.emit("b:1|c").is_ok());
+    let _ = notes.emit(if queued { "queued" } else { "refused" });
+}
+
+// A queue before a spy without a receiver. Its handler counts the faults, and emits at the first one.
+fn emitting_sink<R: ResolverRuntime>(
+    rt: &R,
+    alloc: Global,
+    told: &Arc<AtomicU64>,
+    notes: SpyMetricSink<R>,
+) -> Result<SpiedSink<R>, Fail> {
+    let slot: Arc<OnceLock<SpiedSink<R>>> = Arc::new(alloc, OnceLock::new())?;
+    let (counted, handle) = (told.clone()?, slot.clone()?);
+    let handler = Box::new(alloc, move |_fault| {
+        if counted.fetch_add(1, Ordering::SeqCst) == 0 {
+            emit_and_note(&handle, &notes);
+        }
+    })?;
+    let builder = QueuingMetricSinkBuilder::new().with_error_handler(handler);
+    let sink = builder.build(rt.clone()?, alloc, lonely_spy(rt, alloc)?)?;
+    if slot.try_set(sink.clone()?).is_err() {
+        return Err(Fail::new("set before"));
+    }
+    Ok(sink)
+}
 
 #[test]
 fn handler_may_emit(rt: HostRuntime) -> Result<(), Fail> {
-    let (receiver, spy) = SpyMetricSink::new(rt.clone()?, rt.alloc())?;
-    drop(receiver);
     let (noted, notes) = SpyMetricSink::new(rt.clone()?, rt.alloc())?;
     let told = Arc::new(rt.alloc(), AtomicU64::new(0))?;
-    let slot: Arc<OnceLock<SpiedSink>> = Arc::new(rt.alloc(), OnceLock::new())?;
-    let (counted, handle) = (told.clone()?, slot.clone()?);
-    let handler = Box::new(rt.alloc(), move |_fault| {
-        if counted.fetch_add(1, Ordering::SeqCst) == 0 {
-            let queued = handle.get().is_some_and(|sink| sink.emit("b:1|c").is_ok());
-            let _ = notes.emit(if queued { "queued" } else { "refused" });
-        }
-    })?;
-    let sink = QueuingMetricSinkBuilder::new()
-        .with_error_handler(handler)
-        .build(rt.clone()?, rt.alloc(), spy)?;
-    assert!(rt; slot.try_set(sink.clone()?).is_ok());
-    assert!(rt; matches!(sink.emit("a:1|c"), Ok(5)));
-    let note = noted.recv().ok_or("gone")?;
-    assert_eq!(rt; note.as_slice(), b"queued".as_slice());
+    let sink = emitting_sink(&rt, rt.alloc(), &told, notes)?;
+    takes(&sink, &[("a:1|c", 5)])?;
+    comes(&noted, "queued")?;
     sink.stop_and_wait();
     assert_eq!(rt; told.load(Ordering::SeqCst), 2);
     Ok(())

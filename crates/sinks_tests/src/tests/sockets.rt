@@ -1,4 +1,4 @@
-//! Sockets on the loopback address, and what two threads sent.
+//! Sockets on the loopback address.
 use std::alloc::Global;
 use std::io;
 use std::net::{Ipv4Addr, Net, SocketAddr, UdpSocket};
@@ -24,10 +24,4 @@ pub fn received(server: &UdpSocket, alloc: Global) -> io::Result<Vec<u8>> {
     let (count, _from) = server.recv_from(&mut bytes)?;
     let datagram = Vec::from_slice(alloc, &bytes[..count])?;
     Ok(datagram)
-}
-
-/// Whether these are the lines of two threads, in either order.
-pub fn are_both(one: &[u8], other: &[u8]) -> bool {
-    let (first, second) = (b"a:1|c".as_slice(), b"bb:1|c".as_slice());
-    (one == first && other == second) || (one == second && other == first)
 }

@@ -1,7 +1,11 @@
-use super::sockets::are_both;
+use super::steps::{
+    Refusal, are_both, comes_last, emit_from_two, flushes, gives, refuses, refuses_to_flush, takes,
+};
 use cadence_errors::SinkError;
-use cadence_sinks::{BufferedSpyMetricSink, MetricSink, SpyMetricSink};
-use refusing::each_refused;
+use cadence_sinks::{BufferedSpyMetricSink, MetricSink, SpyMetricSink, SpyReceiver};
+use refusing::{Refusing, each_refused};
+use std::alloc::{Allocator, Global};
+use std::sync::Wait;
 use std::sync::atomic::{AtomicU64, Ordering};
 use std::test::Fail;
 use std::thread;
@@ -9,159 +13,174 @@ use std::thread;
 #[test]
 fn spy_of_capacity_1(rt: HostRuntime) -> Result<(), Fail> {
     let (receiver, sink) = SpyMetricSink::with_capacity(rt.clone()?, rt.alloc(), 1)?;
-    assert!(rt; matches!(sink.emit("a:1|c"), Ok(5)));
-    assert!(rt; matches!(sink.emit("b:1|c"), Err(SinkError::ChannelFull)));
-    let first = receiver.try_recv().ok_or("nothing")?;
-    assert_eq!(rt; first.as_slice(), b"a:1|c".as_slice());
-    assert!(rt; matches!(sink.emit("c:1|c"), Ok(5)));
+    takes(&sink, &[("a:1|c", 5)])?;
+    refuses(&sink, "b:1|c", Refusal::Full)?;
+    gives(&receiver, &["a:1|c"])?;
+    takes(&sink, &[("c:1|c", 5)])?;
     drop(receiver);
-    assert!(rt; matches!(sink.emit("d:1|c"), Err(SinkError::ChannelDisconnected)));
-    Ok(())
+    refuses(&sink, "d:1|c", Refusal::Disconnected)
 }
 
 #[test]
 fn receiver_outlives_its_sink(rt: HostRuntime) -> Result<(), Fail> {
     let (receiver, sink) = SpyMetricSink::new(rt.clone()?, rt.alloc())?;
-    assert!(rt; matches!(sink.emit("a:1|c"), Ok(5)));
-    assert!(rt; sink.flush().is_ok());
+    takes(&sink, &[("a:1|c", 5)])?;
+    flushes(&sink)?;
     drop(sink);
     assert!(rt; !receiver.is_empty());
-    let message = receiver.recv().ok_or("gone")?;
-    assert_eq!(rt; message.as_slice(), b"a:1|c".as_slice());
-    assert!(rt; receiver.recv().is_none());
-    Ok(())
+    comes_last(&receiver, "a:1|c")
+}
+
+// The lines of both threads come, and then no other, since the sink is gone.
+fn both_come_last<R: Wait + Drop>(receiver: &SpyReceiver<R>) -> Result<bool, Fail> {
+    let one = receiver.recv().ok_or("gone")?;
+    let other = receiver.recv().ok_or("gone")?;
+    Ok(are_both(&one, &other) && receiver.recv().is_none())
 }
 
 #[test]
 fn two_threads_fill_a_spy(rt: HostRuntime) -> Result<(), Fail> {
     let (receiver, sink) = SpyMetricSink::new(rt.clone()?, rt.alloc())?;
     let sink: Box<dyn MetricSink + Send + Sync> = Box::new(rt.alloc(), sink)?;
-    let (first, second) = thread::join(
-        &rt,
-        || sink.emit("a:1|c").is_ok(),
-        || sink.emit("bb:1|c").is_ok(),
-    );
-    assert!(rt; first && second);
+    assert!(rt; emit_from_two(&rt, &sink));
     drop(sink);
-    let one = receiver.recv().ok_or("gone")?;
-    let other = receiver.recv().ok_or("gone")?;
-    assert!(rt; are_both(&one, &other));
-    assert!(rt; receiver.recv().is_none());
+    assert!(rt; both_come_last(&receiver)?);
     Ok(())
 }
 
+const TWO_LINES: [(&str, usize); 2] = [("foo:54|c", 8), ("foo:67|c", 8)];
+
+const BOTH_LINES: &str = "foo:54|c\nfoo:67|c\n";
+
 #[test]
 fn flush_makes_one_message(rt: HostRuntime) -> Result<(), Fail> {
-    let (receiver, sink) = BufferedSpyMetricSink::with_capacity(
-        rt.clone()?,
-        rt.alloc(),
-        None,
-        Some(64),
-    )?;
-    assert!(rt; matches!(sink.emit("foo:54|c"), Ok(8)));
-    assert!(rt; matches!(sink.emit("foo:67|c"), Ok(8)));
+    let made = BufferedSpyMetricSink::with_capacity(rt.clone()?, rt.alloc(), None, Some(64));
+    let (receiver, sink) = made?;
+    takes(&sink, &TWO_LINES)?;
     assert!(rt; receiver.is_empty());
-    assert!(rt; sink.flush().is_ok());
-    let message = receiver.try_recv().ok_or("nothing")?;
-    assert_eq!(rt; message.as_slice(), b"foo:54|c\nfoo:67|c\n".as_slice());
-    assert!(rt; receiver.is_empty());
-    Ok(())
+    flushes(&sink)?;
+    gives(&receiver, &[BOTH_LINES])
 }
 
 #[test]
 fn drop_makes_one_message(rt: HostRuntime) -> Result<(), Fail> {
     let (receiver, sink) = BufferedSpyMetricSink::new(rt.clone()?, rt.alloc())?;
-    assert!(rt; matches!(sink.emit("foo:54|c"), Ok(8)));
-    assert!(rt; matches!(sink.emit("foo:67|c"), Ok(8)));
-    let (message, _) = thread::join(&rt, || receiver.recv(), move || drop(sink));
-    let message = message.ok_or("gone")?;
-    assert_eq!(rt; message.as_slice(), b"foo:54|c\nfoo:67|c\n".as_slice());
-    assert!(rt; receiver.recv().is_none());
-    Ok(())
+    takes(&sink, &TWO_LINES)?;
+    let (came, _) = thread::join(
+        &rt,
+        || comes_last(&receiver, BOTH_LINES),
+        move || drop(sink),
+    );
+    came
 }
 
 #[test]
 fn held_text_stays_without_a_receiver(rt: HostRuntime) -> Result<(), Fail> {
     let (receiver, sink) = BufferedSpyMetricSink::new(rt.clone()?, rt.alloc())?;
-    assert!(rt; matches!(sink.emit("foo:54|c"), Ok(8)));
+    takes(&sink, &[("foo:54|c", 8)])?;
     drop(receiver);
-    assert!(rt; matches!(sink.flush(), Err(SinkError::ChannelDisconnected)));
-    assert!(rt; matches!(sink.flush(), Err(SinkError::ChannelDisconnected)));
-    drop(sink);
-    Ok(())
+    refuses_to_flush(&sink, Refusal::Disconnected)?;
+    refuses_to_flush(&sink, Refusal::Disconnected)
 }
 
 #[test]
 fn full_queue_refuses_a_packet(rt: HostRuntime) -> Result<(), Fail> {
-    let (receiver, sink) = BufferedSpyMetricSink::with_capacity(
-        rt.clone()?,
-        rt.alloc(),
-        Some(1),
-        Some(8),
-    )?;
-    assert!(rt; matches!(sink.emit("foo:42|c"), Ok(8)));
-    assert!(rt; matches!(sink.emit("foo:43|c"), Err(SinkError::ChannelFull)));
-    let message = receiver.try_recv().ok_or("nothing")?;
-    assert_eq!(rt; message.as_slice(), b"foo:42|c".as_slice());
-    Ok(())
+    let made = BufferedSpyMetricSink::with_capacity(rt.clone()?, rt.alloc(), Some(1), Some(8));
+    let (receiver, sink) = made?;
+    takes(&sink, &[("foo:42|c", 8)])?;
+    refuses(&sink, "foo:43|c", Refusal::Full)?;
+    gives(&receiver, &["foo:42|c"])
+}
+
+// Whether the heap had all memory for a spy and its first line. A line that is refused for want of it leaves no
+// message, and the sink in order.
+fn has_all_memory<R: Wait + Clone + Drop>(rt: &R, heap: Refusing<Global>) -> Result<bool, Fail> {
+    let Ok((receiver, sink)) = SpyMetricSink::new(rt.clone()?, heap) else {
+        return Ok(false);
+    };
+    match sink.emit("a:1|c") {
+        Ok(_) => return Ok(true),
+        Err(SinkError::OutOfMemory) if receiver.is_empty() => {}
+        Err(_) => return Err(Fail::new("another error, or a message")),
+    }
+    takes(&sink, &[("b:1|c", 5)])?;
+    Ok(false)
 }
 
 #[test]
 fn each_request_of_a_spy_refused(rt: HostRuntime) -> Result<(), Fail> {
-    let granted: Result<Option<u64>, Fail> = each_refused(rt.alloc(), |heap| {
-        let Ok((receiver, sink)) = SpyMetricSink::new(rt.clone()?, heap) else {
-            return Ok(false);
-        };
-        let first = sink.emit("a:1|c");
-        if first.is_ok() {
-            return Ok(true);
-        }
-        assert!(rt; matches!(first, Err(SinkError::OutOfMemory)) && receiver.is_empty());
-        assert!(rt; matches!(sink.emit("b:1|c"), Ok(5)));
-        Ok(false)
-    });
+    let granted: Result<Option<u64>, Fail> = each_refused(
+        rt.alloc(),
+        |heap| has_all_memory(&rt, heap),
+    );
     assert!(rt; granted?.is_some_and(|granted| granted > 2));
     Ok(())
 }
 
+// Whether the heap had all memory for a buffered spy and the message of its drop.
+fn has_memory_for_a_drop<R: Wait + Clone + Drop>(
+    rt: &R,
+    heap: Refusing<Global>,
+) -> Result<bool, Fail> {
+    let Ok((receiver, sink)) = BufferedSpyMetricSink::new(rt.clone()?, heap) else {
+        return Ok(false);
+    };
+    takes(&sink, &[("a:1|c", 5)])?;
+    drop(sink);
+    let Some(message) = receiver.recv() else {
+        return Ok(false);
+    };
+    Ok(message.as_slice() == b"a:1|c\n".as_slice())
+}
+
 #[test]
 fn each_request_of_a_buffered_spy_refused(rt: HostRuntime) -> Result<(), Fail> {
-    let granted: Result<Option<u64>, Fail> = each_refused(rt.alloc(), |heap| {
-        let Ok((receiver, sink)) = BufferedSpyMetricSink::new(rt.clone()?, heap) else {
-            return Ok(false);
-        };
-        assert!(rt; matches!(sink.emit("a:1|c"), Ok(5)));
-        drop(sink);
-        let Some(message) = receiver.recv() else {
-            return Ok(false);
-        };
-        Ok(message.as_slice() == b"a:1|c\n".as_slice())
-    });
+    let granted: Result<Option<u64>, Fail> = each_refused(
+        rt.alloc(),
+        |heap| has_memory_for_a_drop(&rt, heap),
+    );
     assert!(rt; granted?.is_some_and(|granted| granted > 4));
     Ok(())
+}
+
+// Whether the first flush had all memory. Where it had not, it leaves no message, and the next one makes it.
+fn is_flushed<R: Wait + Drop, A: Allocator + Clone>(
+    sink: &BufferedSpyMetricSink<R, A>,
+    receiver: &SpyReceiver<R, A>,
+) -> Result<bool, Fail> {
+    match sink.flush() {
+        Ok(()) => return Ok(true),
+        Err(SinkError::OutOfMemory) if receiver.is_empty() => {}
+        Err(_) => return Err(Fail::new("another error, or a message")),
+    }
+    flushes(sink)?;
+    Ok(false)
+}
+
+// Whether the heap had all memory for a buffered spy and a flush. A flush that is refused is counted.
+fn has_memory_for_a_flush<R: Wait + Clone + Drop>(
+    rt: &R,
+    heap: Refusing<Global>,
+    refusals: &AtomicU64,
+) -> Result<bool, Fail> {
+    let made = BufferedSpyMetricSink::with_capacity(rt.clone()?, heap, None, Some(64));
+    let Ok((receiver, sink)) = made else {
+        return Ok(false);
+    };
+    takes(&sink, &TWO_LINES)?;
+    let is_done = is_flushed(&sink, &receiver)?;
+    if !is_done {
+        refusals.fetch_add(1, Ordering::SeqCst);
+    }
+    gives(&receiver, &[BOTH_LINES])?;
+    Ok(is_done)
 }
 
 #[test]
 fn each_request_of_a_flush_refused(rt: HostRuntime) -> Result<(), Fail> {
     let refusals = AtomicU64::new(0);
     let granted: Result<Option<u64>, Fail> = each_refused(rt.alloc(), |heap| {
-        let made = BufferedSpyMetricSink::with_capacity(rt.clone()?, heap, None, Some(64));
-        let Ok((receiver, sink)) = made else {
-            return Ok(false);
-        };
-        assert!(rt; matches!(sink.emit("foo:54|c"), Ok(8)));
-        assert!(rt; matches!(sink.emit("foo:67|c"), Ok(8)));
-        let first = sink.flush();
-        let is_done = first.is_ok();
-        if !is_done {
-            assert!(rt; matches!(first, Err(SinkError::OutOfMemory)) && receiver.is_empty());
-            assert!(rt; sink.flush().is_ok());
-            refusals.fetch_add(1, Ordering::SeqCst);
-        }
-        let message = receiver.try_recv().ok_or("nothing")?;
-        assert_eq!(rt; message.as_slice(), b"foo:54|c\nfoo:67|c\n".as_slice());
-        assert!(rt; receiver.is_empty());
-        Ok(is_done)
+        has_memory_for_a_flush(&rt, heap, &refusals)
     });
     assert!(rt; granted?.is_some() && refusals.load(Ordering::SeqCst) > 0);
     Ok(())

@@ -1,4 +1,5 @@
-use super::sockets::{are_both, got, on_loopback, received};
+use super::sockets::{got, on_loopback, received};
+use super::steps::are_both;
 use cadence_errors::{MetricError, SinkError};
 use cadence_sinks::{
     BufferedUdpMetricSink, BufferedUdpMetricSinkBuilder, MetricSink, SinkErrorHandler, Target,

@@ -1,0 +1,137 @@
+//! What tests of sinks share: lines that go in, messages that come out, and counts.
+use cadence_errors::SinkError;
+use cadence_flow::stats::SinkStats;
+use cadence_sinks::{MetricSink, SpyReceiver};
+use std::alloc::Allocator;
+use std::sync::Wait;
+use std::test::Fail;
+use std::thread;
+use std::thread::Threads;
+
+/// Why a line or a flush was refused.
+#[derive(Clone, Copy, Debug, PartialEq)]
+pub enum Refusal {
+    Full,
+    Disconnected,
+    Socket,
+    Packet,
+    NoMemory,
+    Other,
+}
+
+fn why(fault: &SinkError) -> Refusal {
+    match fault {
+        SinkError::ChannelFull => Refusal::Full,
+        SinkError::ChannelDisconnected => Refusal::Disconnected,
+        SinkError::Io(_) => Refusal::Socket,
+        SinkError::PacketRefused => Refusal::Packet,
+        SinkError::OutOfMemory => Refusal::NoMemory,
+        _ => Refusal::Other,
+    }
+}
+
+/// The sink takes each line, and answers that many bytes.
+pub fn takes<S: MetricSink>(sink: &S, lines: &[(&str, usize)]) -> Result<(), Fail> {
+    for (line, count) in lines {
+        if sink.emit(line)? != *count {
+            return Err(Fail::new("another count of bytes"));
+        }
+    }
+    Ok(())
+}
+
+/// The sink refuses the line for this reason.
+pub fn refuses<S: MetricSink>(sink: &S, line: &str, wanted: Refusal) -> Result<(), Fail> {
+    match sink.emit(line) {
+        Err(fault) if why(&fault) == wanted => Ok(()),
+        answer => Err(Fail::new(format_args!("emit: {answer:?}"))),
+    }
+}
+
+/// The sink flushes.
+pub fn flushes<S: MetricSink>(sink: &S) -> Result<(), Fail> {
+    sink.flush()?;
+    Ok(())
+}
+
+/// The sink refuses a flush for this reason.
+pub fn refuses_to_flush<S: MetricSink>(sink: &S, wanted: Refusal) -> Result<(), Fail> {
+    match sink.flush() {
+        Err(fault) if why(&fault) == wanted => Ok(()),
+        answer => Err(Fail::new(format_args!("flush: {answer:?}"))),
+    }
+}
+
+// The bytes and packets sent, and those dropped.
+fn counts_of(stats: SinkStats) -> [u64; 4] {
+    [
+        stats.bytes_sent,
+        stats.packets_sent,
+        stats.bytes_dropped,
+        stats.packets_dropped,
+    ]
+}
+
+/// The sink has counted that many bytes and packets as sent, and as dropped.
+pub fn counts<S: MetricSink>(sink: &S, wanted: [u64; 4]) -> Result<(), Fail> {
+    let found = counts_of(sink.stats());
+    if found != wanted {
+        return Err(Fail::new(format_args!("the counts are {found:?}")));
+    }
+    Ok(())
+}
+
+/// These messages wait, the oldest first, and no other. They are taken.
+pub fn gives<R: Wait + Drop, A: Allocator>(
+    receiver: &SpyReceiver<R, A>,
+    wanted: &[&str],
+) -> Result<(), Fail> {
+    for text in wanted {
+        let message = receiver.try_recv().ok_or("nothing")?;
+        if message.as_slice() != text.as_bytes() {
+            return Err(Fail::new("another message"));
+        }
+    }
+    if !receiver.is_empty() {
+        return Err(Fail::new("a message more"));
+    }
+    Ok(())
+}
+
+/// This message comes, now or later.
+pub fn comes<R: Wait + Drop>(receiver: &SpyReceiver<R>, wanted: &str) -> Result<(), Fail> {
+    let message = receiver.recv().ok_or("gone")?;
+    if message.as_slice() != wanted.as_bytes() {
+        return Err(Fail::new("another message"));
+    }
+    Ok(())
+}
+
+/// This message comes, and then no other, since the sink is gone.
+pub fn comes_last<R: Wait + Drop>(receiver: &SpyReceiver<R>, wanted: &str) -> Result<(), Fail> {
+    comes(receiver, wanted)?;
+    if receiver.recv().is_some() {
+        return Err(Fail::new("a message more"));
+    }
+    Ok(())
+}
+
+/// Two threads emit a line each. Whether both were taken.
+pub fn emit_from_two<R, S>(rt: &R, sink: &S) -> bool
+where
+    R: Threads + Sync,
+    S: MetricSink + Sync,
+{
+    let (first, second) = thread::join(
+        rt,
+        || sink.emit("a:1|c").is_ok(),
+        || sink.emit("bb:1|c").is_ok(),
+    );
+    first && second
+}
+
+/// Whether these are the lines of the two threads, in either order.
+pub fn are_both(one: &[u8], other: &[u8]) -> bool {
+    let (first, second) = (b"a:1|c".as_slice(), b"bb:1|c".as_slice());
+    (one == first && other == second) || (one == second && other == first)
+}
