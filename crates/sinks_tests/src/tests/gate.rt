@@ -1,8 +1,8 @@
 //! A sink behind a gate, at which the worker of a queue waits.
-use super::steps::takes;
+use super::steps::{Runtime, takes};
 use cadence_errors::SinkError;
 use cadence_flow::stats::SinkStats;
-use cadence_sinks::{MetricSink, QueuingMetricSink, ResolverRuntime, SpyMetricSink, SpyReceiver};
+use cadence_sinks::{MetricSink, QueuingMetricSink, SpyMetricSink, SpyReceiver};
 use std::alloc::{Allocator, Global};
 use std::sync::atomic::{AtomicBool, Ordering};
 use std::sync::{Arc, Wait};
@@ -120,7 +120,7 @@ pub fn open_and_end<S: MetricSink, R: Wait + Drop, A: Allocator>(
 }
 
 /// A queue before a closed gate.
-pub fn before_a_gate<R: ResolverRuntime>(
+pub fn before_a_gate<R: Runtime>(
     rt: &R,
     alloc: Global,
 ) -> Result<(Around<R>, QueuingMetricSink<Gated<R>, R>), Fail> {

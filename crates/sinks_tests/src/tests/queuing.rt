@@ -1,12 +1,12 @@
 use super::gate::{Around, Gated, before_a_gate, behind_a_gate, come_to_the_gate, open_and_end};
 use super::steps::{
-    Refusal, are_both, comes, comes_last, emit_from_two, flushes, gives, refuses, takes,
+    Refusal, Runtime, are_both, comes, comes_last, emit_from_two, flushes, gives, refuses, takes,
 };
 use cadence_errors::{MetricError, SinkError};
 use cadence_flow::queue::QueuePolicy;
 use cadence_sinks::{
     BufferedSpyMetricSink, MetricSink, NopMetricSink, QueuingMetricSink, QueuingMetricSinkBuilder,
-    ResolverRuntime, SpyMetricSink, SpyReceiver,
+    SinkErrorHandler, SpyMetricSink, SpyReceiver,
 };
 use refusing::{Refusing, each_refused};
 use std::alloc::{Allocator, Global};
@@ -17,10 +17,7 @@ use std::test::Fail;
 type SpiedSink<R> = QueuingMetricSink<SpyMetricSink<R>, R>;
 
 // A queue before a spy, and the spy's receiver.
-fn before_a_spy<R: ResolverRuntime>(
-    rt: &R,
-    alloc: Global,
-) -> Result<(SpyReceiver<R>, SpiedSink<R>), Fail> {
+fn before_a_spy<R: Runtime>(rt: &R, alloc: Global) -> Result<(SpyReceiver<R>, SpiedSink<R>), Fail> {
     let (receiver, spy) = SpyMetricSink::new(rt.clone()?, alloc)?;
     let sink = QueuingMetricSink::from(rt.clone()?, alloc, spy)?;
     Ok((receiver, sink))
@@ -86,7 +83,7 @@ fn a_flush_does_not_wait_for_the_queue(rt: HostRuntime) -> Result<(), Fail> {
 type ShortQueue<R> = QueuingMetricSink<Gated<R>, R, Refusing<Global>>;
 
 // A queue of one line, which drops its oldest, before a gate. Its handler counts the faults.
-fn short_queue<R: ResolverRuntime>(
+fn short_queue<R: Runtime>(
     rt: &R,
     heap: &Refusing<Global>,
     gated: Gated<R>,
@@ -104,7 +101,7 @@ fn short_queue<R: ResolverRuntime>(
 }
 
 // While a first line is at the gate, a third one takes the place of a second one. It takes memory once.
-fn replaces_the_second<R: ResolverRuntime>(
+fn replaces_the_second<R: Runtime>(
     sink: &ShortQueue<R>,
     around: &Around<R>,
     heap: &Refusing<Global>,
@@ -152,13 +149,13 @@ fn last_drop_hands_on_and_flushes(rt: HostRuntime) -> Result<(), Fail> {
 }
 
 // A spy without a receiver.
-fn lonely_spy<R: ResolverRuntime>(rt: &R, alloc: Global) -> Result<SpyMetricSink<R>, Fail> {
+fn lonely_spy<R: Runtime>(rt: &R, alloc: Global) -> Result<SpyMetricSink<R>, Fail> {
     let (_receiver, spy) = SpyMetricSink::new(rt.clone()?, alloc)?;
     Ok(spy)
 }
 
 // A queue of ten lines before a spy without a receiver. Its handler counts the faults.
-fn before_a_lonely_spy<R: ResolverRuntime>(
+fn before_a_lonely_spy<R: Runtime>(
     rt: &R,
     alloc: Global,
     faults: &Arc<AtomicU64>,
@@ -228,7 +225,7 @@ fn is_full_at<S: MetricSink, R: Wait + Drop, A: Allocator + Clone>(
 }
 
 // Each accepted line takes memory once, and a refused one takes none.
-fn takes_memory_once<R: ResolverRuntime>(
+fn takes_memory_once<R: Runtime>(
     sink: &ShortQueue<R>,
     around: &Around<R>,
     heap: &Refusing<Global>,
@@ -257,7 +254,7 @@ fn a_full_queue_takes_no_memory(rt: HostRuntime) -> Result<(), Fail> {
 
 // Whether the heap had all memory for a queue and its first line. A line that is refused for want of it leaves the
 // sink in order.
-fn has_all_memory<R: ResolverRuntime>(rt: &R, heap: Refusing<Global>) -> Result<bool, Fail> {
+fn has_all_memory<R: Runtime>(rt: &R, heap: Refusing<Global>) -> Result<bool, Fail> {
     let sink = match QueuingMetricSink::with_capacity(rt.clone()?, heap, NopMetricSink, 1) {
         Ok(sink) => sink,
         Err(MetricError::Sink(SinkError::OutOfMemory)) => return Ok(false),
@@ -286,41 +283,52 @@ fn each_request_refused(rt: HostRuntime) -> Result<(), Fail> {
 }
 
 // Emits a line through the handle in the slot, and notes whether it was queued.
-fn emit_and_note<R: ResolverRuntime>(slot: &OnceLock<SpiedSink<R>>, notes: &SpyMetricSink<R>) {
+fn emit_and_note<R: Runtime>(slot: &OnceLock<SpiedSink<R>>, notes: &SpyMetricSink<R>) {
     let queued = slot.get().is_some_and(|sink| sink.emit("b:1|c").is_ok());
     let _ = notes.emit(if queued { "queued" } else { "refused" });
 }
 
-// A queue before a spy without a receiver. Its handler counts the faults, and emits at the first one.
-fn emitting_sink<R: ResolverRuntime>(
+// A queue before a spy without a receiver, with this handler.
+fn handled_by<R: Runtime>(
     rt: &R,
     alloc: Global,
-    told: &Arc<AtomicU64>,
-    notes: SpyMetricSink<R>,
-) -> Result<SpiedSink<R>, Fail> {
-    let slot: Arc<OnceLock<SpiedSink<R>>> = Arc::new(alloc, OnceLock::new())?;
-    let (counted, handle) = (told.clone()?, slot.clone()?);
-    let handler = Box::new(alloc, move |_fault| {
-        if counted.fetch_add(1, Ordering::SeqCst) == 0 {
-            emit_and_note(&handle, &notes);
-        }
-    })?;
+    handler: SinkErrorHandler,
+) -> Result<SpiedSink<R>, Fail>
+    requires { IsAlwaysCallable handler }
+{
     let builder = QueuingMetricSinkBuilder::new().with_error_handler(handler);
-    let sink = builder.build(rt.clone()?, alloc, lonely_spy(rt, alloc)?)?;
+    Ok(builder.build(rt.clone()?, alloc, lonely_spy(rt, alloc)?)?)
+}
+
+// Puts a handle of the sink into the slot, emits a line, and waits for the handler's note and for the end of the
+// worker.
+fn emits_again<R: Runtime>(
+    sink: &SpiedSink<R>,
+    slot: &OnceLock<SpiedSink<R>>,
+    noted: &SpyReceiver<R>,
+) -> Result<(), Fail> {
     if slot.try_set(sink.clone()?).is_err() {
         return Err(Fail::new("set before"));
     }
-    Ok(sink)
+    takes(sink, &[("a:1|c", 5)])?;
+    comes(noted, "queued")?;
+    sink.stop_and_wait();
+    Ok(())
 }
 
 #[test]
 fn handler_may_emit(rt: HostRuntime) -> Result<(), Fail> {
     let (noted, notes) = SpyMetricSink::new(rt.clone()?, rt.alloc())?;
     let told = Arc::new(rt.alloc(), AtomicU64::new(0))?;
-    let sink = emitting_sink(&rt, rt.alloc(), &told, notes)?;
-    takes(&sink, &[("a:1|c", 5)])?;
-    comes(&noted, "queued")?;
-    sink.stop_and_wait();
+    let slot: Arc<OnceLock<SpiedSink<HostRuntime>>> = Arc::new(rt.alloc(), OnceLock::new())?;
+    let (counted, handle) = (told.clone()?, slot.clone()?);
+    let handler = Box::new(rt.alloc(), move |_fault| {
+        if counted.fetch_add(1, Ordering::SeqCst) == 0 {
+            emit_and_note(&handle, &notes);
+        }
+    })?;
+    let sink = handled_by(&rt, rt.alloc(), handler)?;
+    emits_again(&sink, &slot, &noted)?;
     assert_eq!(rt; told.load(Ordering::SeqCst), 2);
     Ok(())
 }

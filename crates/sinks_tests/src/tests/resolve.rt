@@ -3,9 +3,9 @@ use cadence_resolve::{
     Handler, Lookup, NameLookup, PeriodicResolver, Resolver, ResolverCore, SinkErrorHandler,
     Sleeper, StaticResolver, Target,
 };
-use refusing::each_refused;
+use refusing::{Refusing, each_refused};
 use std::alloc::Global;
-use std::net::{Ipv4Addr, SocketAddr};
+use std::net::{Ipv4Addr, Net, SocketAddr};
 use std::sync::atomic::{AtomicU64, Ordering};
 use std::sync::{Arc, Wait};
 use std::test::Fail;
@@ -19,23 +19,38 @@ fn found(alloc: Global, addresses: &[SocketAddr]) -> Lookup {
     Ok(Vec::from_slice(alloc, addresses)?)
 }
 
+// A core of two addresses.
+fn new_core(alloc: Global) -> Result<ResolverCore, Fail> {
+    let core = ResolverCore::new(found(alloc, &[loopback(1), loopback(2)]));
+    Ok(core.ok().ok_or("refused")?)
+}
+
+// Whether the core notes a lookup of these addresses without a fault.
+fn notes(core: &mut ResolverCore, alloc: Global, addresses: &[SocketAddr]) -> bool {
+    core.note(found(alloc, addresses)).is_none()
+}
+
+// Whether a lookup without addresses is a fault.
+fn finds_none(core: &mut ResolverCore, alloc: Global) -> bool {
+    matches!(core.note(found(alloc, &[])), Some(SinkError::NoAddresses))
+}
+
+// Whether a lookup that failed is a fault.
+fn fails(core: &mut ResolverCore) -> bool {
+    let fault: Lookup = Err(SinkError::PacketRefused);
+    matches!(core.note(fault), Some(SinkError::PacketRefused))
+}
+
 #[test]
 fn the_last_good_lookup_counts(rt: HostRuntime) -> Result<(), Fail> {
-    let alloc = rt.alloc();
-    let mut core = ResolverCore::new(found(alloc, &[loopback(1), loopback(2)]))
-        .ok()
-        .ok_or("refused")?;
-    assert_eq!(rt; core.get_addr(), loopback(1));
-    assert!(rt; matches!(core.note(found(alloc, &[])), Some(SinkError::NoAddresses)));
-    assert_eq!(rt; core.get_addr(), loopback(1));
-    assert!(rt;
-        core.note(found(alloc, &[loopback(3), loopback(1)]))
-            .is_none()
-    );
-    assert_eq!(rt; core.get_addr(), loopback(3));
-    let fault: Lookup = Err(SinkError::PacketRefused);
-    assert!(rt; matches!(core.note(fault), Some(SinkError::PacketRefused)));
-    assert_eq!(rt; core.get_addr(), loopback(3));
+    let mut core = new_core(rt.alloc())?;
+    let first = core.get_addr();
+    let is_fault = finds_none(&mut core, rt.alloc());
+    assert!(rt; is_fault && first == loopback(1) && core.get_addr() == loopback(1));
+    let is_noted = notes(&mut core, rt.alloc(), &[loopback(3), loopback(1)]);
+    assert!(rt; is_noted && core.get_addr() == loopback(3));
+    let is_fault = fails(&mut core);
+    assert!(rt; is_fault && core.get_addr() == loopback(3));
     assert_eq!(rt; (core.successes(), core.failures()), (1, 2));
     Ok(())
 }
@@ -72,18 +87,24 @@ fn a_name_that_cannot_be_found_is_refused(rt: HostRuntime) -> Result<(), Fail> {
     Ok(())
 }
 
+// Whether the heap had all memory for a lookup. It is refused where it had not.
+fn has_all_memory(net: &impl Net, heap: Refusing<Global>) -> Result<bool, Fail> {
+    let Ok(host) = String::from_str(heap.clone()?, "localhost") else {
+        return Ok(false);
+    };
+    match StaticResolver::new(net, heap, &Target::Name { host, port: 8125 }) {
+        Ok(resolver) => Ok(resolver.get_addr().port() == 8125),
+        Err(MetricError::Sink(SinkError::OutOfMemory)) => Ok(false),
+        Err(_) => Err(Fail::new("another error")),
+    }
+}
+
 #[test]
 fn each_request_of_a_first_lookup_is_refused_in_turn(rt: HostRuntime) -> Result<(), Fail> {
-    let granted: Result<Option<u64>, Fail> = each_refused(rt.alloc(), |heap| {
-        let Ok(host) = String::from_str(heap.clone()?, "localhost") else {
-            return Ok(false);
-        };
-        match StaticResolver::new(&rt, heap, &Target::Name { host, port: 8125 }) {
-            Ok(resolver) => Ok(resolver.get_addr().port() == 8125),
-            Err(MetricError::Sink(SinkError::OutOfMemory)) => Ok(false),
-            Err(_) => Err(Fail::new("another error")),
-        }
-    });
+    let granted: Result<Option<u64>, Fail> = each_refused(
+        rt.alloc(),
+        |heap| has_all_memory(&rt, heap),
+    );
     assert!(rt; granted?.is_some_and(|granted| granted > 1));
     Ok(())
 }
@@ -119,21 +140,20 @@ impl<R: Wait + Drop> Sleeper for Stopping<R> {
     }
 }
 
-// A resolver that was stopped in its n-th sleep, or at once, and how often it looked up.
-fn run_until<R: Wait + Drop>(
-    rt: R,
+// A resolver of one address.
+fn new_resolver<R: Wait + Drop>(rt: R, alloc: Global) -> Result<Arc<PeriodicResolver<R>>, Fail> {
+    let first = found(alloc, &[loopback(8125)]);
+    let resolver = PeriodicResolver::new(rt, first, Duration::from_secs(1))?;
+    Ok(Arc::new(alloc, resolver)?)
+}
+
+// Runs the resolver until it is stopped, in its n-th sleep at the latest, and answers how often it looked up.
+fn run<R: Wait + Drop>(
+    resolver: &Arc<PeriodicResolver<R>>,
     alloc: Global,
     sleeps: u64,
-    handler: SinkErrorHandler,
-) -> Result<(Arc<PeriodicResolver<R>>, u64), Fail>
-    requires { IsAlwaysCallable handler }
-{
-    let first = found(alloc, &[loopback(8125)]);
-    let made = PeriodicResolver::new(rt, first, Duration::from_secs(1))?;
-    let resolver = Arc::new(alloc, made)?;
-    if sleeps == 0 {
-        resolver.stop();
-    }
+    handler: &Option<Handler>,
+) -> Result<u64, Fail> {
     let asked = Arc::new(alloc, AtomicU64::new(0))?;
     let sleeper = Stopping {
         resolver: resolver.clone()?,
@@ -143,49 +163,48 @@ fn run_until<R: Wait + Drop>(
         alloc,
         asked: asked.clone()?,
     };
-    resolver.run(&lookup, &sleeper, &Some(Handler::new(handler)));
-    let asked = asked.load(Ordering::SeqCst);
-    Ok((resolver, asked))
+    resolver.run(&lookup, &sleeper, handler);
+    Ok(asked.load(Ordering::SeqCst))
+}
+
+// Runs the resolver until it is stopped in its n-th sleep, or at once, and answers how often it looked up and how
+// often its handler was told of a fault.
+fn run_and_tell<R: Wait + Drop>(
+    resolver: &Arc<PeriodicResolver<R>>,
+    alloc: Global,
+    sleeps: u64,
+) -> Result<(u64, u64), Fail> {
+    let told = Arc::new(alloc, AtomicU64::new(0))?;
+    let theirs = told.clone()?;
+    let handler: SinkErrorHandler = Box::new(alloc, move |_| {
+        theirs.fetch_add(1, Ordering::SeqCst);
+    })?;
+    if sleeps == 0 {
+        resolver.stop();
+    }
+    let asked = run(resolver, alloc, sleeps, &Some(Handler::new(handler)))?;
+    Ok((asked, told.load(Ordering::SeqCst)))
 }
 
 #[test]
 fn a_stop_in_the_nth_sleep_allows_n_lookups(rt: HostRuntime) -> Result<(), Fail> {
     for (lookups, port, successes, failures) in [(0, 8125, 0, 0), (1, 8125, 0, 1), (3, 1, 1, 2)] {
-        let told = Arc::new(rt.alloc(), AtomicU64::new(0))?;
-        let theirs = told.clone()?;
-        let handler: SinkErrorHandler = Box::new(rt.alloc(), move |_| {
-            theirs.fetch_add(1, Ordering::SeqCst);
-        })?;
-        let (resolver, asked) = run_until(rt.clone()?, rt.alloc(), lookups, handler)?;
-        assert_eq!(rt; (asked, told.load(Ordering::SeqCst)), (lookups, failures));
-        assert_eq!(rt; resolver.get_addr(), loopback(port));
-        assert_eq!(rt;
-            (resolver.successes(), resolver.failures()),
-            (successes, failures)
-        );
+        let resolver = new_resolver(rt.clone()?, rt.alloc())?;
+        let runs = run_and_tell(&resolver, rt.alloc(), lookups)?;
+        assert_eq!(rt; runs, (lookups, failures));
+        assert!(rt; resolver.get_addr() == loopback(port));
+        let found = (resolver.successes(), resolver.failures());
+        assert_eq!(rt; found, (successes, failures));
     }
     Ok(())
 }
 
 #[test]
 fn a_dropped_resolver_ends_its_run(rt: HostRuntime) -> Result<(), Fail> {
-    let alloc = rt.alloc();
-    let first = found(alloc, &[loopback(8125)]);
-    let made = PeriodicResolver::new(rt.clone()?, first, Duration::from_secs(1))?;
-    let resolver = Arc::new(alloc, made)?;
+    let resolver = new_resolver(rt.clone()?, rt.alloc())?;
     let held = Resolver::Periodic(resolver.clone()?);
-    assert_eq!(rt; held.get_addr(), loopback(8125));
+    assert!(rt; held.get_addr() == loopback(8125));
     drop(held);
-    let sleeper = Stopping {
-        resolver: resolver.clone()?,
-        left: AtomicU64::new(1),
-    };
-    let asked = Arc::new(alloc, AtomicU64::new(0))?;
-    let lookup = Wavering {
-        alloc,
-        asked: asked.clone()?,
-    };
-    resolver.run(&lookup, &sleeper, &None);
-    assert_eq!(rt; asked.load(Ordering::SeqCst), 0);
+    assert_eq!(rt; run(&resolver, rt.alloc(), 1, &None)?, 0);
     Ok(())
 }

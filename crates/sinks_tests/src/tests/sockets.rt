@@ -2,6 +2,7 @@
 use std::alloc::Global;
 use std::io;
 use std::net::{Ipv4Addr, Net, SocketAddr, UdpSocket};
+use std::test::Fail;
 use std::time::Duration;
 
 /// A socket of its own port, which waits five seconds for a datagram at most.
@@ -11,11 +12,28 @@ pub fn on_loopback(net: &impl Net) -> io::Result<UdpSocket> {
     Ok(socket)
 }
 
-/// Whether the next datagram is this text.
-pub fn got(server: &UdpSocket, text: &str) -> io::Result<bool> {
+/// As `on_loopback`, at the address that the host "localhost" has.
+pub fn on_localhost(net: &impl Net) -> io::Result<UdpSocket> {
+    let socket = UdpSocket::bind(net, ("localhost", 0))?;
+    socket.set_read_timeout(Some(Duration::from_secs(5)))?;
+    Ok(socket)
+}
+
+// Whether the next datagram is this text.
+fn got(server: &UdpSocket, text: &str) -> io::Result<bool> {
     let mut bytes = [0u8; 64];
     let (count, _from) = server.recv_from(&mut bytes)?;
     Ok(&bytes[..count] == text.as_bytes())
+}
+
+/// The next datagrams are these texts.
+pub fn gets(server: &UdpSocket, texts: &[&str]) -> Result<(), Fail> {
+    for text in texts {
+        if !got(server, text)? {
+            return Err(Fail::new("another datagram"));
+        }
+    }
+    Ok(())
 }
 
 /// The next datagram, up to 64 bytes of it.

@@ -8,6 +8,11 @@ use std::test::Fail;
 use std::thread;
 use std::thread::Threads;
 
+/// A runtime under which a queue has a worker. Each type with these bounds is one.
+pub trait Runtime: Wait + Threads + Clone + Drop + Send + Sync + 'static {}
+
+impl<R: Wait + Threads + Clone + Drop + Send + Sync + 'static> Runtime for R {}
+
 /// Why a line or a flush was refused.
 #[derive(Clone, Copy, Debug, PartialEq)]
 pub enum Refusal {

@@ -1,95 +1,95 @@
-use super::sockets::{got, on_loopback, received};
-use super::steps::are_both;
-use cadence_errors::{MetricError, SinkError};
+use super::sockets::{gets, on_localhost, on_loopback, received};
+use super::steps::{Refusal, are_both, counts, emit_from_two, flushes, refuses, takes};
+use cadence_errors::{MetricError, MetricResult, SinkError};
 use cadence_sinks::{
-    BufferedUdpMetricSink, BufferedUdpMetricSinkBuilder, MetricSink, SinkErrorHandler, Target,
-    UdpMetricSink, UdpMetricSinkBuilder,
+    BufferedUdpMetricSink, BufferedUdpMetricSinkBuilder, MetricSink, ResolverRuntime,
+    SinkErrorHandler, Target, UdpMetricSink, UdpMetricSinkBuilder,
 };
 use refusing::{Refusing, each_refused};
-use std::net::{Ipv4Addr, SocketAddr, UdpSocket};
-use std::sync::Arc;
+use std::alloc::Global;
+use std::net::{Ipv4Addr, Net, SocketAddr, UdpSocket};
 use std::sync::atomic::{AtomicU64, Ordering};
+use std::sync::{Arc, Wait};
 use std::test::Fail;
 use std::thread;
 use std::time::{Clock, Duration};
 
+// A server, and a sink of datagrams to it.
+fn sending<R: Net + Wait + Clone + Drop>(
+    rt: &R,
+    alloc: Global,
+) -> Result<(UdpSocket, UdpMetricSink<R>), Fail> {
+    let server = on_loopback(rt)?;
+    let target = Target::Addr(server.local_addr()?);
+    let sink = UdpMetricSink::from(rt.clone()?, alloc, target, on_loopback(rt)?)?;
+    Ok((server, sink))
+}
+
 #[test]
 fn each_line_is_a_datagram(rt: HostRuntime) -> Result<(), Fail> {
-    let server = on_loopback(&rt)?;
-    let target = Target::Addr(server.local_addr()?);
-    let sink = UdpMetricSink::from(rt.clone()?, rt.alloc(), target, on_loopback(&rt)?)?;
-    assert!(rt; matches!(sink.emit("buz:1|m"), Ok(7)));
-    assert!(rt; got(&server, "buz:1|m")?);
-    assert!(rt; matches!(sink.emit(""), Ok(0)));
-    assert!(rt; got(&server, "")?);
-    assert!(rt; sink.flush().is_ok());
-    let stats = sink.stats();
-    assert_eq!(rt; (stats.bytes_sent, stats.packets_sent), (7, 2));
-    assert_eq!(rt; (stats.bytes_dropped, stats.packets_dropped), (0, 0));
-    Ok(())
+    let (server, sink) = sending(&rt, rt.alloc())?;
+    takes(&sink, &[("buz:1|m", 7), ("", 0)])?;
+    gets(&server, &["buz:1|m", ""])?;
+    flushes(&sink)?;
+    counts(&sink, [7, 2, 0, 0])
 }
 
 #[test]
 fn a_refused_datagram_is_counted(rt: HostRuntime) -> Result<(), Fail> {
     let target: Target = Target::Addr(SocketAddr::from((Ipv4Addr::LOCALHOST, 0)));
     let sink = UdpMetricSink::from(rt.clone()?, rt.alloc(), target, on_loopback(&rt)?)?;
-    assert!(rt; matches!(sink.emit("buz:1|m"), Err(SinkError::Io(_))));
-    let stats = sink.stats();
-    assert_eq!(rt; (stats.bytes_sent, stats.packets_sent), (0, 0));
-    assert_eq!(rt; (stats.bytes_dropped, stats.packets_dropped), (7, 1));
-    Ok(())
+    refuses(&sink, "buz:1|m", Refusal::Socket)?;
+    counts(&sink, [0, 0, 7, 1])
+}
+
+// The lines of both threads come.
+fn gets_both(server: &UdpSocket, alloc: Global) -> Result<bool, Fail> {
+    let one = received(server, alloc)?;
+    let other = received(server, alloc)?;
+    Ok(are_both(&one, &other))
 }
 
 #[test]
 fn threads_share_a_sink(rt: HostRuntime) -> Result<(), Fail> {
-    let server = on_loopback(&rt)?;
-    let target = Target::Addr(server.local_addr()?);
-    let sink = UdpMetricSink::from(rt.clone()?, rt.alloc(), target, on_loopback(&rt)?)?;
+    let (server, sink) = sending(&rt, rt.alloc())?;
     let sink: Box<dyn MetricSink + Send + Sync> = Box::new(rt.alloc(), sink)?;
-    let (first, second) = thread::join(
-        &rt,
-        || sink.emit("a:1|c").is_ok(),
-        || sink.emit("bb:1|c").is_ok(),
-    );
-    assert!(rt; first && second);
-    let (one, other) = (
-        received(&server, rt.alloc())?,
-        received(&server, rt.alloc())?,
-    );
-    assert!(rt; are_both(&one, &other));
-    assert_eq!(rt; sink.stats().bytes_sent, 11);
-    Ok(())
+    assert!(rt; emit_from_two(&rt, &sink));
+    assert!(rt; gets_both(&server, rt.alloc())?);
+    counts(&sink, [11, 2, 0, 0])
+}
+
+// The server's port at the host "localhost".
+fn by_name(server: &UdpSocket, alloc: Global) -> Result<Target, Fail> {
+    let port = server.local_addr()?.port();
+    let host = String::from_str(alloc, "localhost")?;
+    Ok(Target::Name { host, port })
 }
 
 #[test]
 fn a_host_is_looked_up(rt: HostRuntime) -> Result<(), Fail> {
-    let server = UdpSocket::bind(&rt, ("localhost", 0))?;
-    server.set_read_timeout(Some(Duration::from_secs(5)))?;
-    let port = server.local_addr()?.port();
-    let host = String::from_str(rt.alloc(), "localhost")?;
-    let socket = UdpSocket::bind(&rt, ("localhost", 0))?;
-    let target = Target::Name { host, port };
-    let sink = UdpMetricSink::from(rt.clone()?, rt.alloc(), target, socket)?;
-    assert!(rt; matches!(sink.emit("buz:1|m"), Ok(7)));
-    assert!(rt; got(&server, "buz:1|m")?);
-    Ok(())
+    let server = on_localhost(&rt)?;
+    let target = by_name(&server, rt.alloc())?;
+    let sink = UdpMetricSink::from(rt.clone()?, rt.alloc(), target, on_localhost(&rt)?)?;
+    takes(&sink, &[("buz:1|m", 7)])?;
+    gets(&server, &["buz:1|m"])
+}
+
+// The second line finds no room beside the first, in a buffer of 16 bytes.
+fn fills_a_datagram<S: MetricSink>(sink: &S, server: &UdpSocket) -> Result<(), Fail> {
+    takes(sink, &[("foo:54|c", 8)])?;
+    counts(sink, [0, 0, 0, 0])?;
+    takes(sink, &[("foo:67|c", 8)])?;
+    flushes(sink)?;
+    gets(server, &["foo:54|c\n", "foo:67|c\n"])?;
+    counts(sink, [18, 2, 0, 0])
 }
 
 #[test]
 fn a_full_buffer_is_a_datagram(rt: HostRuntime) -> Result<(), Fail> {
     let server = on_loopback(&rt)?;
-    let target = Target::Addr(server.local_addr()?);
-    let socket = on_loopback(&rt)?;
+    let (target, socket) = (Target::Addr(server.local_addr()?), on_loopback(&rt)?);
     let sink = BufferedUdpMetricSink::with_capacity(rt.clone()?, rt.alloc(), target, socket, 16)?;
-    assert!(rt; matches!(sink.emit("foo:54|c"), Ok(8)));
-    assert_eq!(rt; sink.stats().packets_sent, 0);
-    assert!(rt; matches!(sink.emit("foo:67|c"), Ok(8)));
-    assert!(rt; sink.flush().is_ok());
-    assert!(rt; got(&server, "foo:54|c\n")?);
-    assert!(rt; got(&server, "foo:67|c\n")?);
-    let stats = sink.stats();
-    assert_eq!(rt; (stats.bytes_sent, stats.packets_sent), (18, 2));
-    Ok(())
+    fills_a_datagram(&sink, &server)
 }
 
 #[test]
@@ -97,11 +97,9 @@ fn a_dropped_sink_flushes(rt: HostRuntime) -> Result<(), Fail> {
     let server = on_loopback(&rt)?;
     let target = Target::Addr(server.local_addr()?);
     let sink = BufferedUdpMetricSink::from(rt.clone()?, rt.alloc(), target, on_loopback(&rt)?)?;
-    assert!(rt; matches!(sink.emit("foo:54|c"), Ok(8)));
-    assert!(rt; matches!(sink.emit("foo:67|c"), Ok(8)));
+    takes(&sink, &[("foo:54|c", 8), ("foo:67|c", 8)])?;
     drop(sink);
-    assert!(rt; got(&server, "foo:54|c\nfoo:67|c\n")?);
-    Ok(())
+    gets(&server, &["foo:54|c\nfoo:67|c\n"])
 }
 
 #[test]
@@ -117,36 +115,52 @@ fn a_lost_host_is_refused(rt: HostRuntime) -> Result<(), Fail> {
     Ok(())
 }
 
+// A sink of datagrams to the server, which looks up each millisecond.
+fn looking_up<R: ResolverRuntime>(
+    rt: &R,
+    alloc: Global,
+    server: &UdpSocket,
+) -> Result<UdpMetricSink<R>, Fail> {
+    let target = Target::Addr(server.local_addr()?);
+    let handler: SinkErrorHandler = Box::new(alloc, |_| ())?;
+    let builder = UdpMetricSinkBuilder::new()
+        .with_resolver_period(Duration::from_millis(1))
+        .with_resolver_error_handler(handler);
+    Ok(builder.build(rt.clone()?, alloc, target, on_loopback(rt)?)?)
+}
+
 #[test]
 fn a_builder_makes_a_sink_that_looks_up(rt: HostRuntime) -> Result<(), Fail> {
     let server = on_loopback(&rt)?;
-    let target = Target::Addr(server.local_addr()?);
-    let handler: SinkErrorHandler = Box::new(rt.alloc(), |_| ())?;
-    let sink = UdpMetricSinkBuilder::new()
-        .with_resolver_period(Duration::from_millis(1))
-        .with_resolver_error_handler(handler)
-        .build(rt.clone()?, rt.alloc(), target, on_loopback(&rt)?)?;
+    let sink = looking_up(&rt, rt.alloc(), &server)?;
     thread::sleep(&rt, Duration::from_millis(5));
-    assert!(rt; matches!(sink.emit("buz:1|m"), Ok(7)));
-    assert!(rt; sink.flush().is_ok());
-    assert!(rt; got(&server, "buz:1|m")?);
-    Ok(())
+    takes(&sink, &[("buz:1|m", 7)])?;
+    flushes(&sink)?;
+    gets(&server, &["buz:1|m"])
+}
+
+// A sink as the one above, with a buffer of 16 bytes.
+fn looking_up_with_a_buffer<R: ResolverRuntime>(
+    rt: &R,
+    alloc: Global,
+    server: &UdpSocket,
+) -> Result<BufferedUdpMetricSink<R>, Fail> {
+    let target = Target::Addr(server.local_addr()?);
+    let handler: SinkErrorHandler = Box::new(alloc, |_| ())?;
+    let builder = BufferedUdpMetricSinkBuilder::new()
+        .with_capacity(16)
+        .with_resolver_period(Duration::from_millis(1))
+        .with_resolver_error_handler(handler);
+    Ok(builder.build(rt.clone()?, alloc, target, on_loopback(rt)?)?)
 }
 
 #[test]
 fn a_builder_makes_a_buffered_sink_that_looks_up(rt: HostRuntime) -> Result<(), Fail> {
     let server = on_loopback(&rt)?;
-    let target = Target::Addr(server.local_addr()?);
-    let handler: SinkErrorHandler = Box::new(rt.alloc(), |_| ())?;
-    let sink = BufferedUdpMetricSinkBuilder::new()
-        .with_capacity(16)
-        .with_resolver_period(Duration::from_millis(1))
-        .with_resolver_error_handler(handler)
-        .build(rt.clone()?, rt.alloc(), target, on_loopback(&rt)?)?;
-    assert!(rt; matches!(sink.emit("buz:1|m"), Ok(7)));
-    assert!(rt; sink.flush().is_ok());
-    assert!(rt; got(&server, "buz:1|m\n")?);
-    Ok(())
+    let sink = looking_up_with_a_buffer(&rt, rt.alloc(), &server)?;
+    takes(&sink, &[("buz:1|m", 7)])?;
+    flushes(&sink)?;
+    gets(&server, &["buz:1|m\n"])
 }
 
 // Waits until a handler has counted a call, five seconds at most.
@@ -160,54 +174,86 @@ fn wait_for_a_call<R: Clock>(rt: &R, calls: &AtomicU64) -> bool {
     false
 }
 
+// What the builder of a buffered sink answers, over this heap, for a server and a socket. The sink looks up each
+// millisecond, and its handler counts the calls.
+fn buffered_over<R: ResolverRuntime>(
+    rt: &R,
+    alloc: Global,
+    heap: Refusing<Global>,
+    ends: (SocketAddr, UdpSocket),
+    calls: &Arc<AtomicU64>,
+) -> Result<MetricResult<BufferedUdpMetricSink<R, Refusing<Global>>>, Fail> {
+    let theirs = calls.clone()?;
+    let handler: SinkErrorHandler = Box::new(alloc, move |_| {
+        theirs.fetch_add(1, Ordering::SeqCst);
+    })?;
+    let builder = BufferedUdpMetricSinkBuilder::new()
+        .with_resolver_period(Duration::from_millis(1))
+        .with_resolver_error_handler(handler);
+    let (server, socket) = ends;
+    Ok(builder.build(rt.clone()?, heap, Target::Addr(server), socket))
+}
+
+// Whether the heap had all memory for a sink and a line. The first request that is refused then is that of a later
+// lookup, of which the handler is told.
+fn has_all_memory<R: ResolverRuntime>(
+    rt: &R,
+    alloc: Global,
+    heap: Refusing<Global>,
+    ends: (SocketAddr, UdpSocket),
+) -> Result<bool, Fail> {
+    let calls = Arc::new(alloc, AtomicU64::new(0))?;
+    let sink = match buffered_over(rt, alloc, heap, ends, &calls)? {
+        Ok(sink) => sink,
+        Err(MetricError::Sink(SinkError::OutOfMemory)) => return Ok(false),
+        Err(_) => return Err(Fail::new("another error")),
+    };
+    takes(&sink, &[("buz:1|m", 7)])?;
+    if !wait_for_a_call(rt, &calls) {
+        return Err(Fail::new("no call"));
+    }
+    Ok(true)
+}
+
 #[test]
 fn each_request_of_a_builder_refused(rt: HostRuntime) -> Result<(), Fail> {
-    let server = on_loopback(&rt)?.local_addr()?;
-    let granted: Result<Option<u64>, Fail> = each_refused(rt.alloc(), |heap| {
-        let calls = Arc::new(rt.alloc(), AtomicU64::new(0))?;
-        let theirs = calls.clone()?;
-        let handler: SinkErrorHandler = Box::new(rt.alloc(), move |_| {
-            theirs.fetch_add(1, Ordering::SeqCst);
-        })?;
-        let made = BufferedUdpMetricSinkBuilder::new()
-            .with_resolver_period(Duration::from_millis(1))
-            .with_resolver_error_handler(handler)
-            .build(rt.clone()?, heap, Target::Addr(server), on_loopback(&rt)?);
-        match made {
-            Ok(sink) => {
-                assert!(rt; matches!(sink.emit("buz:1|m"), Ok(7)));
-                // the next request that is refused is that of a later lookup
-                assert!(rt; wait_for_a_call(&rt, &calls));
-                Ok(true)
-            }
-            Err(MetricError::Sink(SinkError::OutOfMemory)) => Ok(false),
-            Err(_) => Err(Fail::new("another error")),
-        }
+    let (alloc, server) = (rt.alloc(), on_loopback(&rt)?.local_addr()?);
+    let granted: Result<Option<u64>, Fail> = each_refused(alloc, |heap| {
+        let ends = (server, on_loopback(&rt)?);
+        has_all_memory(&rt, alloc, heap, ends)
     });
     assert!(rt; granted?.is_some_and(|granted| granted > 3));
     Ok(())
 }
 
+// What the builder of a sink answers, over this heap. The sink looks up each millisecond, and its handler counts the
+// calls.
+fn made_over<R: ResolverRuntime>(
+    rt: &R,
+    alloc: Global,
+    heap: Refusing<Global>,
+    server: SocketAddr,
+    calls: &Arc<AtomicU64>,
+) -> Result<MetricResult<UdpMetricSink<R, Refusing<Global>>>, Fail> {
+    let theirs = calls.clone()?;
+    let handler: SinkErrorHandler = Box::new(alloc, move |_| {
+        theirs.fetch_add(1, Ordering::SeqCst);
+    })?;
+    let builder = UdpMetricSinkBuilder::new()
+        .with_resolver_period(Duration::from_millis(1))
+        .with_resolver_error_handler(handler);
+    let socket = on_loopback(rt)?;
+    Ok(builder.build(rt.clone()?, heap, Target::Addr(server), socket))
+}
+
 #[test]
 fn a_handler_is_told_of_a_later_fault(rt: HostRuntime) -> Result<(), Fail> {
-    let target_of = on_loopback(&rt)?.local_addr()?;
+    let server = on_loopback(&rt)?.local_addr()?;
     for granted in 0..16u64 {
         // the first request that is refused after the sink is made is that of a later lookup
         let heap = Refusing::after(rt.alloc(), rt.alloc(), granted)?;
         let calls = Arc::new(rt.alloc(), AtomicU64::new(0))?;
-        let theirs = calls.clone()?;
-        let handler: SinkErrorHandler = Box::new(rt.alloc(), move |_| {
-            theirs.fetch_add(1, Ordering::SeqCst);
-        })?;
-        let made = UdpMetricSinkBuilder::new()
-            .with_resolver_period(Duration::from_millis(1))
-            .with_resolver_error_handler(handler)
-            .build(
-                rt.clone()?,
-                heap,
-                Target::Addr(target_of),
-                on_loopback(&rt)?,
-            );
+        let made = made_over(&rt, rt.alloc(), heap, server, &calls)?;
         if made.is_ok() {
             assert!(rt; wait_for_a_call(&rt, &calls));
             return Ok(());

@@ -1,9 +1,8 @@
-use super::sockets;
-use super::sockets::on_loopback;
+use super::sockets::{gets, on_loopback};
+use super::steps::{Refusal, counts, flushes, refuses, refuses_to_flush, takes};
 use cadence_errors::{MetricError, MetricResult, SinkError};
-use cadence_flow::stats::SinkStats;
 use cadence_sinks::{BufferedUnixMetricSink, MetricSink, PathSocket, UnixMetricSink};
-use refusing::each_refused;
+use refusing::{Refusing, each_refused};
 use std::alloc::Global;
 use std::net::UdpSocket;
 use std::sync::atomic::{AtomicU64, Ordering};
@@ -62,91 +61,126 @@ fn got<R: Wait>(rt: &R, packets: &Packets, index: usize, text: &str) -> bool {
     }
 }
 
-// The four counts.
-fn counts(stats: SinkStats) -> (u64, u64, u64, u64) {
-    (
-        stats.bytes_sent,
-        stats.packets_sent,
-        stats.bytes_dropped,
-        stats.packets_dropped,
-    )
+// These packets came, each with its path before it, and no other.
+fn came<R: Wait>(rt: &R, packets: &Packets, wanted: &[&str]) -> Result<(), Fail> {
+    for (index, text) in wanted.iter().enumerate() {
+        if !got(rt, packets, index, text) {
+            return Err(Fail::new("another packet"));
+        }
+    }
+    if packets.lock(rt).len() != wanted.len() {
+        return Err(Fail::new("a packet more"));
+    }
+    Ok(())
 }
 
 #[test]
 fn each_line_goes_to_the_path(rt: HostRuntime) -> Result<(), Fail> {
     let (packets, socket) = make_socket(rt.clone()?, rt.alloc(), 0)?;
     let sink = UnixMetricSink::from(rt.clone()?, rt.alloc(), "/run/s ", socket)?;
-    assert!(rt; matches!(sink.emit("buz:1|m"), Ok(7)));
-    assert!(rt; sink.flush().is_ok());
-    assert!(rt; got(&rt, &packets, 0, "/run/s buz:1|m"));
-    assert_eq!(rt; counts(sink.stats()), (7, 1, 0, 0));
-    Ok(())
+    takes(&sink, &[("buz:1|m", 7)])?;
+    flushes(&sink)?;
+    came(&rt, &packets, &["/run/s buz:1|m"])?;
+    counts(&sink, [7, 1, 0, 0])
 }
 
 #[test]
 fn a_refused_line_is_counted(rt: HostRuntime) -> Result<(), Fail> {
     let (_packets, socket) = make_socket(rt.clone()?, rt.alloc(), 1)?;
     let sink = UnixMetricSink::from(rt.clone()?, rt.alloc(), "", socket)?;
-    assert!(rt; matches!(sink.emit("buz:1|m"), Err(SinkError::PacketRefused)));
-    assert_eq!(rt; counts(sink.stats()), (0, 0, 7, 1));
-    Ok(())
+    refuses(&sink, "buz:1|m", Refusal::Packet)?;
+    counts(&sink, [0, 0, 7, 1])
+}
+
+type BufferedSink<R> = BufferedUnixMetricSink<Noting<R>, R>;
+
+// A sink with a buffer of 16 bytes, over a socket that refuses the first packets.
+fn of_16_bytes<R: Wait + Clone + Drop>(
+    rt: &R,
+    alloc: Global,
+    path: &str,
+    refusals: u64,
+) -> Result<(Packets, BufferedSink<R>), Fail> {
+    let (packets, socket) = make_socket(rt.clone()?, alloc, refusals)?;
+    let sink = BufferedUnixMetricSink::with_capacity(rt.clone()?, alloc, path, socket, 16)?;
+    Ok((packets, sink))
 }
 
 #[test]
 fn a_full_buffer_is_a_packet(rt: HostRuntime) -> Result<(), Fail> {
-    let (packets, socket) = make_socket(rt.clone()?, rt.alloc(), 0)?;
-    let sink = BufferedUnixMetricSink::with_capacity(rt.clone()?, rt.alloc(), "/s ", socket, 16)?;
-    assert!(rt; matches!(sink.emit("foo:54|c"), Ok(8)));
-    assert!(rt; matches!(sink.emit("foo:67|c"), Ok(8)));
-    assert!(rt; sink.flush().is_ok());
-    assert!(rt; got(&rt, &packets, 0, "/s foo:54|c\n"));
-    assert!(rt; got(&rt, &packets, 1, "/s foo:67|c\n"));
-    assert_eq!(rt; counts(sink.stats()), (18, 2, 0, 0));
-    Ok(())
+    let (packets, sink) = of_16_bytes(&rt, rt.alloc(), "/s ", 0)?;
+    takes(&sink, &[("foo:54|c", 8), ("foo:67|c", 8)])?;
+    flushes(&sink)?;
+    came(&rt, &packets, &["/s foo:54|c\n", "/s foo:67|c\n"])?;
+    counts(&sink, [18, 2, 0, 0])
+}
+
+// The sink takes a line, and then each of two attempts to send it is refused.
+fn is_refused_twice<S: MetricSink>(sink: &S) -> Result<(), Fail> {
+    takes(sink, &[("foo:54|c", 8)])?;
+    refuses(sink, "foo:67|c", Refusal::Packet)?;
+    counts(sink, [0, 0, 9, 1])?;
+    refuses_to_flush(sink, Refusal::Packet)?;
+    counts(sink, [0, 0, 18, 2])
 }
 
 #[test]
 fn a_packet_refused_twice_stays_held(rt: HostRuntime) -> Result<(), Fail> {
-    let (packets, socket) = make_socket(rt.clone()?, rt.alloc(), 2)?;
-    let sink = BufferedUnixMetricSink::with_capacity(rt.clone()?, rt.alloc(), "", socket, 16)?;
-    assert!(rt; matches!(sink.emit("foo:54|c"), Ok(8)));
-    assert!(rt; matches!(sink.emit("foo:67|c"), Err(SinkError::PacketRefused)));
-    assert_eq!(rt; counts(sink.stats()), (0, 0, 9, 1));
-    assert!(rt; matches!(sink.flush(), Err(SinkError::PacketRefused)));
-    assert_eq!(rt; counts(sink.stats()), (0, 0, 18, 2));
-    assert!(rt; sink.flush().is_ok());
-    assert_eq!(rt; counts(sink.stats()), (9, 1, 18, 2));
-    assert!(rt; got(&rt, &packets, 0, "foo:54|c\n"));
-    Ok(())
+    let (packets, sink) = of_16_bytes(&rt, rt.alloc(), "", 2)?;
+    is_refused_twice(&sink)?;
+    flushes(&sink)?;
+    counts(&sink, [9, 1, 18, 2])?;
+    came(&rt, &packets, &["foo:54|c\n"])
+}
+
+// A sink over a buffer of the usual size.
+fn buffered<R: Wait + Clone + Drop>(
+    rt: &R,
+    alloc: Global,
+    path: &str,
+) -> Result<(Packets, BufferedSink<R>), Fail> {
+    let (packets, socket) = make_socket(rt.clone()?, alloc, 0)?;
+    let sink = BufferedUnixMetricSink::from(rt.clone()?, alloc, path, socket)?;
+    Ok((packets, sink))
+}
+
+// A text of so many characters.
+fn text(alloc: Global, length: usize) -> Result<String, Fail> {
+    let text = String::from_utf8(vec![in alloc; b'a'; length]?);
+    Ok(text.ok().ok_or("text")?)
+}
+
+// The sink takes the line, with its count of bytes, and holds it until it is flushed.
+fn holds<R: Wait, S: MetricSink>(
+    rt: &R,
+    sink: &S,
+    packets: &Packets,
+    line: (&str, usize),
+) -> Result<(), Fail> {
+    takes(sink, &[line])?;
+    came(rt, packets, &[])?;
+    flushes(sink)
 }
 
 #[test]
 fn a_buffer_has_512_bytes(rt: HostRuntime) -> Result<(), Fail> {
-    let (packets, socket) = make_socket(rt.clone()?, rt.alloc(), 0)?;
-    let sink = BufferedUnixMetricSink::from(rt.clone()?, rt.alloc(), "/run/s ", socket)?;
-    let text = String::from_utf8(vec![in rt.alloc(); b'a'; 511]?)
-        .ok()
-        .ok_or("text")?;
-    assert!(rt; matches!(sink.emit(text.as_str()), Ok(511)));
-    assert_eq!(rt; packets.lock(&rt).len(), 0);
-    assert!(rt; sink.flush().is_ok());
-    let held = format!(in rt.alloc(); "/run/s {text}\n")?;
-    assert!(rt; got(&rt, &packets, 0, held.as_str()));
-    let oversize = format!(in rt.alloc(); "{text}a")?;
-    assert!(rt; matches!(sink.emit(oversize.as_str()), Ok(512)));
+    let (packets, sink) = buffered(&rt, rt.alloc(), "/run/s ")?;
+    let most = text(rt.alloc(), 511)?;
+    holds(&rt, &sink, &packets, (most.as_str(), 511))?;
+    let held = format!(in rt.alloc(); "/run/s {most}\n")?;
+    came(&rt, &packets, &[held.as_str()])?;
+    let oversize = text(rt.alloc(), 512)?;
+    takes(&sink, &[(oversize.as_str(), 512)])?;
     let alone = format!(in rt.alloc(); "/run/s {oversize}")?;
-    assert!(rt; got(&rt, &packets, 1, alone.as_str()));
-    Ok(())
+    came(&rt, &packets, &[held.as_str(), alone.as_str()])
 }
 
 #[test]
 fn a_dropped_sink_flushes(rt: HostRuntime) -> Result<(), Fail> {
-    let (packets, socket) = make_socket(rt.clone()?, rt.alloc(), 0)?;
-    let sink = BufferedUnixMetricSink::from(rt.clone()?, rt.alloc(), "", socket)?;
-    assert!(rt; matches!(sink.emit("foo:54|c"), Ok(8)));
+    let (packets, sink) = buffered(&rt, rt.alloc(), "")?;
+    takes(&sink, &[("foo:54|c", 8)])?;
     drop(sink);
-    assert!(rt; got(&rt, &packets, 0, "foo:54|c\n"));
-    Ok(())
+    came(&rt, &packets, &["foo:54|c\n"])
 }
 
 // A datagram socket of the caller's. Its paths are addresses.
@@ -166,30 +200,36 @@ impl PathSocket for Addressed {
 
 #[test]
 fn a_datagram_socket_of_the_callers(rt: HostRuntime) -> Result<(), Fail> {
-    let server = on_loopback(&rt)?;
-    let socket = Addressed {
-        socket: on_loopback(&rt)?,
-    };
+    let (server, socket) = (on_loopback(&rt)?, on_loopback(&rt)?);
     let path = format!(in rt.alloc(); "{}", server.local_addr()?)?;
+    let socket = Addressed { socket };
     let sink = UnixMetricSink::from(rt.clone()?, rt.alloc(), path.as_str(), socket)?;
-    assert!(rt; matches!(sink.emit("buz:1|m"), Ok(7)));
-    assert!(rt; sockets::got(&server, "buz:1|m")?);
-    Ok(())
+    takes(&sink, &[("buz:1|m", 7)])?;
+    gets(&server, &["buz:1|m"])
+}
+
+// Whether the heap had all memory for a buffered sink, a line and a flush.
+fn has_all_memory<R: Wait + Clone + Drop>(
+    rt: &R,
+    alloc: Global,
+    heap: Refusing<Global>,
+) -> Result<bool, Fail> {
+    let (_packets, socket) = make_socket(rt.clone()?, alloc, 0)?;
+    let sink = match BufferedUnixMetricSink::from(rt.clone()?, heap, "/run/s", socket) {
+        Ok(sink) => sink,
+        Err(MetricError::Sink(SinkError::OutOfMemory)) => return Ok(false),
+        Err(_) => return Err(Fail::new("another error")),
+    };
+    takes(&sink, &[("buz:1|m", 7)])?;
+    Ok(sink.flush().is_ok())
 }
 
 #[test]
 fn each_request_of_a_sink_refused(rt: HostRuntime) -> Result<(), Fail> {
-    let granted: Result<Option<u64>, Fail> = each_refused(rt.alloc(), |heap| {
-        let (_packets, socket) = make_socket(rt.clone()?, rt.alloc(), 0)?;
-        match BufferedUnixMetricSink::from(rt.clone()?, heap, "/run/s", socket) {
-            Ok(sink) => {
-                assert!(rt; matches!(sink.emit("buz:1|m"), Ok(7)));
-                Ok(sink.flush().is_ok())
-            }
-            Err(MetricError::Sink(SinkError::OutOfMemory)) => Ok(false),
-            Err(_) => Err(Fail::new("another error")),
-        }
-    });
+    let granted: Result<Option<u64>, Fail> = each_refused(
+        rt.alloc(),
+        |heap| has_all_memory(&rt, rt.alloc(), heap),
+    );
     assert!(rt; granted?.is_some_and(|granted| granted > 3));
     Ok(())
 }
