@@ -1,6 +1,7 @@
-//! The tests, a module for each module that they call.
+//! The tests, a module for each module that they call, and callers for them.
 
 mod audited;
+mod callers;
 mod io;
 mod ledgers;
 mod queue;

@@ -1,41 +1,68 @@
+use super::callers::run_threads;
 use cadence_audit::{
     AuditCall, AuditError, AuditReply, AuditedQueue, EndFault, History, Seat, SubmitReply, Text,
 };
 use cadence_flow::queue::Taken;
 use refusing::{Refusing, each_refused};
 use std::alloc::Global;
-use std::process::Abort;
 use std::sync::Wait;
 use std::sync::atomic::{AtomicU64, Ordering};
 use std::test::Fail;
-use std::thread;
-use std::thread::Threads;
 
 fn text(alloc: Global, characters: &str) -> Result<String, Fail> {
     Ok(String::from_str(alloc, characters)?)
 }
 
+// The call is answered by that.
+fn submits<R: Wait>(
+    rt: &R,
+    queue: &AuditedQueue,
+    seat: &mut Seat,
+    text: String,
+    wanted: SubmitReply,
+) -> Result<(), Fail> {
+    match queue.submit(rt, seat, text) {
+        Ok(reply) if reply == wanted => Ok(()),
+        _ => Err(Fail::new("another reply")),
+    }
+}
+
+// The oldest text is that one.
+fn takes<R: Wait>(rt: &R, queue: &AuditedQueue, seat: &mut Seat, wanted: &str) -> Result<(), Fail> {
+    match queue.take(rt, seat) {
+        Ok(Taken::Text(text)) if text.as_str() == wanted => Ok(()),
+        _ => Err(Fail::new("another text")),
+    }
+}
+
+// Makes each kind of call, and gets each reply to a submit.
+fn call_each<R: Wait>(
+    rt: &R,
+    alloc: Global,
+    queue: &AuditedQueue,
+    zero: &mut Seat,
+    one: &mut Seat,
+) -> Result<(), Fail> {
+    submits(rt, queue, zero, text(alloc, "a")?, SubmitReply::Accepted)?;
+    submits(rt, queue, one, text(alloc, "b")?, SubmitReply::Full)?;
+    takes(rt, queue, one, "a")?;
+    if queue.stop(rt, zero).is_err() {
+        return Err(Fail::new("not stopped"));
+    }
+    submits(rt, queue, one, text(alloc, "c")?, SubmitReply::Stopped)
+}
+
 // A queue of capacity 1 with two seats, after each kind of call and each reply to a submit.
-fn used<R: Wait + Abort>(rt: &R, alloc: Global) -> Result<(AuditedQueue, Seat, Seat), Fail> {
+fn used<R: Wait>(rt: &R, alloc: Global) -> Result<(AuditedQueue, Seat, Seat), Fail> {
     let (queue, mut seats) = AuditedQueue::new(alloc, Some(1), 2)?;
     let mut one = seats.pop().ok_or("no seat")?;
     let mut zero = seats.pop().ok_or("no seat")?;
-    let a = queue.submit(rt, &mut zero, text(alloc, "a")?);
-    assert!(rt; matches!(a, Ok(SubmitReply::Accepted)));
-    let b = queue.submit(rt, &mut one, text(alloc, "b")?);
-    assert!(rt; matches!(b, Ok(SubmitReply::Full)));
-    let Ok(Taken::Text(got)) = queue.take(rt, &mut one) else {
-        return Err(Fail::from("no text"));
-    };
-    assert!(rt; got.as_str() == "a");
-    assert!(rt; queue.stop(rt, &mut zero).is_ok());
-    let c = queue.submit(rt, &mut one, text(alloc, "c")?);
-    assert!(rt; matches!(c, Ok(SubmitReply::Stopped)));
+    call_each(rt, alloc, &queue, &mut zero, &mut one)?;
     Ok((queue, zero, one))
 }
 
 // The history of that queue.
-fn history_of<R: Wait + Abort>(rt: &R, alloc: Global) -> Result<History, Fail> {
+fn history_of<R: Wait>(rt: &R, alloc: Global) -> Result<History, Fail> {
     let (queue, zero, one) = used(rt, alloc)?;
     let history = queue.end(vec![in alloc; zero, one]?);
     Ok(history.ok().ok_or("differs")?)
@@ -112,201 +139,161 @@ fn no_seats(rt: HostRuntime) -> Result<(), Fail> {
     let (queue, seats) = AuditedQueue::new(rt.alloc(), Some(0), 0)?;
     let history = queue.end(seats).ok().ok_or("differs")?;
     assert!(rt; history.events().is_empty());
+    Ok(())
+}
+
+#[test]
+fn the_only_seat_left_out(rt: HostRuntime) -> Result<(), Fail> {
     let (queue, _seats) = AuditedQueue::new(rt.alloc(), None, 1)?;
     let ended = queue.end(Vec::new(rt.alloc()));
     assert!(rt; matches!(ended, Err(EndFault::SeatsMissing)));
     Ok(())
 }
 
+type RefusingQueue = AuditedQueue<Refusing<Global>>;
+
+type RefusingSeat = Seat<Refusing<Global>>;
+
 // A queue with one seat and a text, from a heap that refuses one request. It is None where making them was refused.
-fn made(
-    heap: Refusing<Global>,
-) -> Option<
-    (
-        AuditedQueue<Refusing<Global>>,
-        Seat<Refusing<Global>>,
-        String<Refusing<Global>>,
-    ),
-> {
+fn made(heap: Refusing<Global>) -> Option<(RefusingQueue, RefusingSeat, String<Refusing<Global>>)> {
     let (queue, mut seats) = AuditedQueue::new(heap.clone().ok()?, None, 1).ok()?;
     let seat = seats.pop()?;
     let text = String::from_str(heap, "a").ok()?;
     Some((queue, seat, text))
 }
 
+// Whether the heap had all memory for a submit. One that is refused is counted, gives the text back, and leaves no
+// receipt and the queue in order.
+fn has_memory_for_a_submit<R: Wait>(
+    rt: &R,
+    heap: Refusing<Global>,
+    refusals: &AtomicU64,
+) -> Result<bool, Fail> {
+    let Some((queue, mut seat, text)) = made(heap) else {
+        return Ok(false);
+    };
+    let Err((error, text)) = queue.submit(rt, &mut seat, text) else {
+        return Ok(true);
+    };
+    refusals.fetch_add(1, Ordering::SeqCst);
+    if error != AuditError::OutOfMemory || text.as_str() != "a" || !seat.receipts().is_empty() {
+        return Err(Fail::new("another refusal"));
+    }
+    if queue.submit(rt, &mut seat, text).is_err() {
+        return Err(Fail::new("refused again"));
+    }
+    Ok(false)
+}
+
 #[test]
 fn each_request_of_a_submit_refused(rt: HostRuntime) -> Result<(), Fail> {
     let refusals = AtomicU64::new(0);
     let granted: Result<Option<u64>, Fail> = each_refused(rt.alloc(), |heap| {
-        let Some((queue, mut seat, text)) = made(heap) else {
-            return Ok(false);
-        };
-        let Err((error, text)) = queue.submit(&rt, &mut seat, text) else {
-            return Ok(true);
-        };
-        refusals.fetch_add(1, Ordering::SeqCst);
-        assert!(rt; error == AuditError::OutOfMemory && text.as_str() == "a");
-        assert!(rt; seat.receipts().is_empty());
-        assert!(rt; queue.submit(&rt, &mut seat, text).is_ok());
-        Ok(false)
+        has_memory_for_a_submit(&rt, heap, &refusals)
     });
     assert!(rt; granted?.is_some());
     assert!(rt; refusals.load(Ordering::SeqCst) == 5);
     Ok(())
 }
 
+// Whether a take gets a text. One that is refused for want of memory leaves no receipt.
+fn is_taken<R: Wait>(rt: &R, queue: &RefusingQueue, seat: &mut RefusingSeat) -> Result<bool, Fail> {
+    let receipts = seat.receipts().len();
+    match queue.take(rt, seat) {
+        Ok(_) => Ok(true),
+        Err(AuditError::OutOfMemory) if seat.receipts().len() == receipts => Ok(false),
+        Err(_) => Err(Fail::new("another refusal")),
+    }
+}
+
+// Whether the heap had all memory for a submit and a take. A take that is refused is counted, and the next one gets
+// the text.
+fn has_memory_for_a_take<R: Wait>(
+    rt: &R,
+    heap: Refusing<Global>,
+    refusals: &AtomicU64,
+) -> Result<bool, Fail> {
+    let Some((queue, mut seat, text)) = made(heap) else {
+        return Ok(false);
+    };
+    if queue.submit(rt, &mut seat, text).is_err() {
+        return Ok(false);
+    }
+    if is_taken(rt, &queue, &mut seat)? {
+        return Ok(true);
+    }
+    refusals.fetch_add(1, Ordering::SeqCst);
+    match queue.take(rt, &mut seat) {
+        Ok(Taken::Text(_)) => Ok(false),
+        _ => Err(Fail::new("no text")),
+    }
+}
+
 #[test]
 fn each_request_of_a_take_refused(rt: HostRuntime) -> Result<(), Fail> {
     let refusals = AtomicU64::new(0);
-    let granted: Result<Option<u64>, Fail> = each_refused(rt.alloc(), |heap| {
-        let Some((queue, mut seat, text)) = made(heap) else {
-            return Ok(false);
-        };
-        if queue.submit(&rt, &mut seat, text).is_err() {
-            return Ok(false);
-        }
-        let receipts = seat.receipts().len();
-        let Err(error) = queue.take(&rt, &mut seat) else {
-            return Ok(true);
-        };
-        refusals.fetch_add(1, Ordering::SeqCst);
-        assert!(rt; error == AuditError::OutOfMemory);
-        assert!(rt; seat.receipts().len() == receipts);
-        assert!(rt; matches!(queue.take(&rt, &mut seat), Ok(Taken::Text(_))));
-        Ok(false)
-    });
+    let granted: Result<Option<u64>, Fail> = each_refused(
+        rt.alloc(),
+        |heap| has_memory_for_a_take(&rt, heap, &refusals),
+    );
     assert!(rt; granted?.is_some());
     assert!(rt; refusals.load(Ordering::SeqCst) > 0);
     Ok(())
 }
 
+// Whether the queue is stopped. A stop that is refused for want of memory leaves no receipt.
+fn is_stopped<R: Wait>(
+    rt: &R,
+    queue: &RefusingQueue,
+    seat: &mut RefusingSeat,
+) -> Result<bool, Fail> {
+    match queue.stop(rt, seat) {
+        Ok(_) => Ok(true),
+        Err(AuditError::OutOfMemory) if seat.receipts().is_empty() => Ok(false),
+        Err(_) => Err(Fail::new("another refusal")),
+    }
+}
+
+// Whether the heap had all memory for a stop. One that is refused is counted, and leaves the queue open.
+fn has_memory_for_a_stop<R: Wait>(
+    rt: &R,
+    heap: Refusing<Global>,
+    refusals: &AtomicU64,
+) -> Result<bool, Fail> {
+    let Some((queue, mut seat, text)) = made(heap) else {
+        return Ok(false);
+    };
+    if is_stopped(rt, &queue, &mut seat)? {
+        return Ok(true);
+    }
+    refusals.fetch_add(1, Ordering::SeqCst);
+    match queue.submit(rt, &mut seat, text) {
+        Ok(SubmitReply::Accepted) if queue.stop(rt, &mut seat).is_ok() => Ok(false),
+        _ => Err(Fail::new("not in order")),
+    }
+}
+
 #[test]
 fn each_request_of_a_stop_refused(rt: HostRuntime) -> Result<(), Fail> {
     let refusals = AtomicU64::new(0);
-    let granted: Result<Option<u64>, Fail> = each_refused(rt.alloc(), |heap| {
-        let Some((queue, mut seat, text)) = made(heap) else {
-            return Ok(false);
-        };
-        let Err(error) = queue.stop(&rt, &mut seat) else {
-            return Ok(true);
-        };
-        refusals.fetch_add(1, Ordering::SeqCst);
-        assert!(rt; error == AuditError::OutOfMemory && seat.receipts().is_empty());
-        let answer = queue.submit(&rt, &mut seat, text);
-        assert!(rt; matches!(answer, Ok(SubmitReply::Accepted)));
-        assert!(rt; queue.stop(&rt, &mut seat).is_ok());
-        Ok(false)
-    });
+    let granted: Result<Option<u64>, Fail> = each_refused(
+        rt.alloc(),
+        |heap| has_memory_for_a_stop(&rt, heap, &refusals),
+    );
     assert!(rt; granted?.is_some());
     // one for the history, and one for the receipt
     assert!(rt; refusals.load(Ordering::SeqCst) == 2);
     Ok(())
 }
 
-const TEXTS: u32 = 50;
-
-const TAKES: u32 = 300;
-
-// Submits 50 texts, which increase and begin with the caller's name, and counts those that were accepted.
-fn submit_all<R: Wait>(
-    rt: &R,
-    alloc: Global,
-    queue: &AuditedQueue,
-    mut seat: Seat,
-    name: &str,
-) -> Result<(Seat, usize), &'static str> {
-    let mut accepted = 0usize;
-    for number in 0..TEXTS {
-        let text = format!(in alloc; "{name}{number:02}").map_err(|_| "memory")?;
-        match queue.submit(rt, &mut seat, text) {
-            Ok(SubmitReply::Accepted) => accepted = accepted.saturating_add(1),
-            Ok(_) => {}
-            Err(_) => return Err("refused"),
-        }
-    }
-    Ok((seat, accepted))
-}
-
-// Takes a number of times, or until no text waits, and adds the texts to those taken.
-fn take_all<R: Wait>(
-    rt: &R,
-    queue: &AuditedQueue,
-    mut seat: Seat,
-    mut taken: Vec<String>,
-    to_the_end: bool,
-) -> Result<(Seat, Vec<String>), &'static str> {
-    for _ in 0..TAKES {
-        match queue.take(rt, &mut seat) {
-            Ok(Taken::Text(text)) => taken.push(text).map_err(|_| "memory")?,
-            Ok(_) if to_the_end => break,
-            Ok(_) => {}
-            Err(_) => return Err("refused"),
-        }
-    }
-    Ok((seat, taken))
-}
-
-// Whether the caller's texts increase.
-fn increase(taken: &[String], name: &str) -> bool {
-    let mut last = "";
-    for text in taken {
-        if text.as_str().starts_with(name) {
-            if text.as_str() <= last {
-                return false;
-            }
-            last = text.as_str();
-        }
-    }
-    true
-}
-
-// Three callers submit and one takes, each in a thread.
-fn run_threads<R: Wait + Abort + Threads + Sync>(
-    rt: &R,
-    alloc: Global,
-    capacity: Option<usize>,
-) -> Result<(), Fail> {
-    let (queue, mut seats) = AuditedQueue::new(alloc, capacity, 4)?;
-    let taker = seats.pop().ok_or("no seat")?;
-    let two = seats.pop().ok_or("no seat")?;
-    let one = seats.pop().ok_or("no seat")?;
-    let zero = seats.pop().ok_or("no seat")?;
-    let shared = &queue;
-    let ((a, b), (c, d)) = thread::join(
-        rt,
-        || {
-            thread::join(
-                rt,
-                || submit_all(rt, alloc, shared, zero, "a"),
-                || submit_all(rt, alloc, shared, one, "b"),
-            )
-        },
-        || {
-            thread::join(
-                rt,
-                || submit_all(rt, alloc, shared, two, "c"),
-                || take_all(rt, shared, taker, Vec::new(alloc), false),
-            )
-        },
-    );
-    let (zero, first) = a?;
-    let (one, second) = b?;
-    let (two, third) = c?;
-    let (taker, taken) = d?;
-    let (taker, taken) = take_all(rt, shared, taker, taken, true)?;
-    let accepted = first.saturating_add(second).saturating_add(third);
-    assert!(rt; taken.len() == accepted);
-    assert!(rt; increase(&taken, "a") && increase(&taken, "b") && increase(&taken, "c"));
-    assert!(rt; queue.end(vec![in alloc; zero, one, two, taker]?).is_ok());
+#[test]
+fn threads_share_a_queue(rt: HostRuntime) -> Result<(), Fail> {
+    assert!(rt; run_threads(&rt, rt.alloc(), None)?);
     Ok(())
 }
 
 #[test]
-fn threads_share_a_queue(rt: HostRuntime) -> Result<(), Fail> {
-    run_threads(&rt, rt.alloc(), None)
-}
-
-#[test]
 fn threads_share_a_bounded_queue(rt: HostRuntime) -> Result<(), Fail> {
-    run_threads(&rt, rt.alloc(), Some(8))
+    assert!(rt; run_threads(&rt, rt.alloc(), Some(8))?);
+    Ok(())
 }

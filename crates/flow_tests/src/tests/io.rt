@@ -62,24 +62,32 @@ fn a_flush_goes_on_after_a_short_count(rt: HostRuntime) -> Result<(), Fail> {
     Ok(())
 }
 
+// Whether so many bytes of the line were taken, and flushed.
+fn is_flushed(packer: &mut MultiLineWriter<PacketLog>, line: &[u8], count: usize) -> bool {
+    is_count(packer.write(line), count) && packer.flush().is_ok()
+}
+
+// Puts a new log in the place of the old one. Whether the old one comes back with these packets, and this text.
+fn comes_back(
+    packer: &mut MultiLineWriter<PacketLog>,
+    alloc: Global,
+    packets: &[&str],
+    held: &str,
+) -> bool {
+    match packer.replace_writer(alloc, PacketLog::new(alloc, Vec::new(alloc))) {
+        Ok((old, text)) => took(&old, packets) && text.as_slice() == held.as_bytes(),
+        Err(_back) => false,
+    }
+}
+
 #[test]
 fn replaced_writer_comes_back(rt: HostRuntime) -> Result<(), Fail> {
-    let alloc = rt.alloc();
-    let mut p = made(alloc, 32, "\n", &[])?;
-    assert!(rt; is_count(p.write(b"first data"), 10));
-    assert!(rt; p.flush().is_ok());
+    let mut p = made(rt.alloc(), 32, "\n", &[])?;
+    assert!(rt; is_flushed(&mut p, b"first data", 10));
     assert!(rt; is_count(p.write(b"second data"), 11));
-    match p.replace_writer(alloc, PacketLog::new(alloc, Vec::new(alloc))) {
-        Ok((old, text)) => {
-            assert!(rt; took(&old, &["first data\n"]));
-            assert!(rt; text.as_slice() == b"second data\n".as_slice());
-        }
-        Err(_back) => return Err(Fail::new("no memory")),
-    }
+    assert!(rt; comes_back(&mut p, rt.alloc(), &["first data\n"], "second data\n"));
     assert!(rt; stands(&p, &[], ""));
-    assert!(rt; is_count(p.write(b"third data"), 10));
-    assert!(rt; p.flush().is_ok());
-    assert!(rt; stands(&p, &["third data\n"], ""));
+    assert!(rt; is_flushed(&mut p, b"third data", 10) && stands(&p, &["third data\n"], ""));
     Ok(())
 }
 
@@ -154,6 +162,17 @@ fn each_request_of_a_new_packer(rt: HostRuntime) -> Result<(), Fail> {
     Ok(())
 }
 
+type RefusingPacker = MultiLineWriter<PacketLog, Refusing<Global>>;
+
+// Whether a new log comes back unused, since there is no memory to put it in.
+fn is_refused(packer: &mut RefusingPacker, alloc: Global) -> Result<bool, Fail> {
+    let heap = Refusing::after(alloc, alloc, 0)?;
+    match packer.replace_writer(heap, PacketLog::new(alloc, Vec::new(alloc))) {
+        Ok((_old, _text)) => Ok(false),
+        Err(back) => Ok(took(&back, &[])),
+    }
+}
+
 #[test]
 fn refused_replacement_changes_nothing(rt: HostRuntime) -> Result<(), Fail> {
     let heap = Refusing::after(rt.alloc(), rt.alloc(), 9)?;
@@ -161,13 +180,8 @@ fn refused_replacement_changes_nothing(rt: HostRuntime) -> Result<(), Fail> {
         return Err(Fail::new("no memory"));
     };
     assert!(rt; is_count(p.write(b"foo:54|c"), 8));
-    let heap = Refusing::after(rt.alloc(), rt.alloc(), 0)?;
-    match p.replace_writer(heap, PacketLog::new(rt.alloc(), Vec::new(rt.alloc()))) {
-        Ok((_old, _text)) => return Err(Fail::new("not refused")),
-        Err(back) => assert!(rt; took(&back, &[])),
-    }
-    assert!(rt; took(p.get_ref(), &["before"]));
-    assert!(rt; p.held() == b"foo:54|c\n".as_slice());
+    assert!(rt; is_refused(&mut p, rt.alloc())?);
+    assert!(rt; took(p.get_ref(), &["before"]) && p.held() == b"foo:54|c\n".as_slice());
     Ok(())
 }
 

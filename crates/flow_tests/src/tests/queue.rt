@@ -3,6 +3,7 @@ use cadence_flow::queue::{QueueCore, QueuePolicy, Taken, WorkerEnd};
 use cadence_ledger::SharedQueue;
 use refusing::Refusing;
 use std::alloc::{AllocError, Allocator, Global};
+use std::sync::Wait;
 use std::sync::atomic::{AtomicBool, Ordering};
 use std::test::Fail;
 use std::thread;
@@ -146,15 +147,19 @@ fn shared_queue_keeps_its_capacity(rt: HostRuntime) -> Result<(), Fail> {
     Ok(())
 }
 
+// Whether a full queue of capacity 1 drops A for B, and B for C.
+fn drops_its_oldest<R: Wait>(rt: &R, queue: &SharedQueue<char>) -> bool {
+    matches!(queue.submit(rt, 'A'), Ok(None))
+        && matches!(queue.submit(rt, 'B'), Ok(Some('A')))
+        && queue.submit_with(rt, || Ok('C')).is_ok()
+}
+
 #[test]
 fn full_queue_drops_its_oldest(rt: HostRuntime) -> Result<(), Fail> {
     let queue = SharedQueue::with_policy(rt.alloc(), Some(1), QueuePolicy::DropOldest)?;
-    assert!(rt; matches!(queue.submit(&rt, 'A'), Ok(None)));
-    assert!(rt; matches!(queue.submit(&rt, 'B'), Ok(Some('A'))));
-    assert!(rt; queue.submit_with(&rt, || Ok('C')).is_ok());
+    assert!(rt; drops_its_oldest(&rt, &queue));
     queue.stop(&rt);
-    assert!(rt; comes_back(queue.submit(&rt, 'D'), 'D'));
-    assert!(rt; is_text(queue.try_take(&rt), 'C'));
+    assert!(rt; comes_back(queue.submit(&rt, 'D'), 'D') && is_text(queue.try_take(&rt), 'C'));
     assert!(rt; queue.submitted(&rt) == 3 && queue.drained(&rt) == 1 && queue.dropped(&rt) == 2);
     Ok(())
 }
