@@ -6,7 +6,8 @@ use cadence::prelude::*;
 use cadence::ready::{QueuedUdpSink, host, queued_udp_sink_with, udp_sink};
 use cadence::types::SinkError;
 use cadence::{
-    MetricError, MetricResult, MetricSink, QueuingMetricSinkBuilder, StatsdClient, UdpMetricSink,
+    DEFAULT_PORT, MetricError, MetricResult, MetricSink, QueuingMetricSinkBuilder, StatsdClient,
+    UdpMetricSink,
 };
 use std::alloc::Global;
 use std::sync::Arc;
@@ -40,6 +41,19 @@ pub fn quietly<S: MetricSink, H: ErrorHandler>(client: &StatsdClient<Global, S, 
         .count_with_tags("visits", 1)
         .with_tag("page", "home")
         .send();
+}
+
+/// Sends a metric over a client with default tags, and answers how many bytes went out.
+pub fn bytes_sent<R: Runtime>(rt: &R, alloc: Global) -> MetricResult<u64> {
+    let target = host(alloc, "localhost", DEFAULT_PORT)?;
+    let sink = udp_sink(rt, alloc, target)?;
+    let client = StatsdClient::builder(alloc, "my.service", sink)
+        .with_tag("env", "prod")
+        .with_tag_value("beta")
+        .with_container_id("c0ffee")
+        .build()?;
+    quietly(&client);
+    Ok(client.sink().stats().bytes_sent)
 }
 
 /// Sends a metric over a client that counts what is lost, and answers how many were.

@@ -82,3 +82,10 @@ pub fn queued<R: Runtime>(rt: &R, alloc: Global, failures: Arc<AtomicU64>) -> Me
     let sink = queued_sink(rt, alloc, failures)?;
     send(&StatsdClient::from_sink(alloc, "my.prefix", sink)?)
 }
+
+/// Each of them in turn, but for the one that looks its host up again.
+pub fn all<R: Runtime>(rt: &R, alloc: Global) -> MetricResult<()> {
+    simple(rt, alloc)?;
+    bounded(rt, alloc)?;
+    queued(rt, alloc, Arc::new(alloc, AtomicU64::new(0))?)
+}

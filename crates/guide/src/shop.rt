@@ -4,8 +4,8 @@ use crate::runtime::Runtime;
 use cadence::client::ErrorHandler;
 use cadence::decimal::Decimal;
 use cadence::prelude::*;
-use cadence::ready::{BufferedUdpClient, buffered_udp_sink, host};
-use cadence::{MetricResult, MetricSink, StatsdClient};
+use cadence::ready::{BufferedUdpClient, buffered_udp_sink, host, queued_udp_client};
+use cadence::{DEFAULT_PORT, MetricResult, MetricSink, StatsdClient};
 use std::alloc::Global;
 
 pub fn connect<R: Runtime>(rt: &R, alloc: Global) -> MetricResult<BufferedUdpClient<R>> {
@@ -30,4 +30,16 @@ impl<S: MetricSink, H: ErrorHandler> Shop<S, H> {
         self.metrics.gauge("price", Decimal::new(cents, 2)?)?;
         Ok(())
     }
+}
+
+/// Sells over a client that is ready made.
+pub fn sell_over_a_queue<R: Runtime>(rt: &R, alloc: Global) -> MetricResult<()> {
+    let target = host(alloc, "localhost", DEFAULT_PORT)?;
+    let client = queued_udp_client(rt, alloc, "my.service", target, 1432, Some(1000))?;
+    Shop::new(client).sell(1999)
+}
+
+/// Sells over the client of the function above.
+pub fn sell_over_a_buffer<R: Runtime>(rt: &R, alloc: Global) -> MetricResult<()> {
+    Shop::new(connect(rt, alloc)?).sell(1999)
 }
