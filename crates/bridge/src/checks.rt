@@ -1,6 +1,6 @@
 //! Whether a sink does with a list what the proved run does.
 use crate::lists::{Given, List};
-use crate::recording::{Recording, packets_of};
+use crate::recording::{Log, Recording, packets_of};
 use crate::runs::Run;
 use crate::same;
 use crate::sockets::on_loopback;
@@ -14,17 +14,22 @@ use std::net::{Net, UdpSocket};
 use std::sync::Wait;
 use std::thread::Threads;
 
+// A buffered Unix sink of the list's capacity, over a socket that answers as the list says, and the socket's log.
+fn unix_sink<R: Wait + Clone + Drop>(
+    rt: &R,
+    alloc: Global,
+    list: &List,
+) -> MetricResult<(Log, BufferedUnixMetricSink<Recording<R>, R>)> {
+    let (log, socket) = Recording::new(rt.clone()?, alloc, list.log(alloc)?)?;
+    let capacity = list.capacity;
+    let sink = BufferedUnixMetricSink::with_capacity(rt.clone()?, alloc, "", socket, capacity)?;
+    Ok((log, sink))
+}
+
 /// A buffered Unix sink over a socket that refuses: answers, counts, packets, and those of its drop.
 pub fn unix<R: Wait + Clone + Drop>(rt: &R, alloc: Global, list: &List) -> MetricResult<bool> {
     let run = Run::of(alloc, list)?;
-    let (log, socket) = Recording::new(rt.clone()?, alloc, list.log(alloc)?)?;
-    let sink = BufferedUnixMetricSink::with_capacity(
-        rt.clone()?,
-        alloc,
-        "",
-        socket,
-        list.capacity,
-    )?;
+    let (log, sink) = unix_sink(rt, alloc, list)?;
     let answers = same::answers(alloc, &sink, list, &run)?;
     let counts = same::counts(&sink, &run);
     let packets = packets_of(alloc, rt, &log)? == run.packets;
@@ -33,30 +38,33 @@ pub fn unix<R: Wait + Clone + Drop>(rt: &R, alloc: Global, list: &List) -> Metri
     Ok(answers && counts && packets && all)
 }
 
-/// A queue over such a sink, without the list's flushes: each line is taken, and after a stop how many lines passed the
-/// queue, the answer to a flush, the packets and the counts.
+// After a stop: how many lines passed the queue, the answer to a flush, the packets and the counts.
+fn is_same_at_the_end<S: MetricSink, R: Wait + Drop>(
+    rt: &R,
+    alloc: Global,
+    queue: &QueuingMetricSink<S, R>,
+    log: &Log,
+    run: &Run,
+) -> MetricResult<bool> {
+    let passed = (queue.submitted(), queue.drained()) == (run.submitted, run.drained);
+    let flushed = Some(same::answer_of(alloc, queue, &Given::Flush)?) == run.last_answer;
+    let packets = packets_of(alloc, rt, log)? == run.packets_at_the_end;
+    let counts = queue.stats() == run.stats_at_the_end;
+    Ok(passed && flushed && packets && counts)
+}
+
+/// A queue over such a sink, without the list's flushes: each line is taken, and after a stop all is as in the run.
 pub fn queued<R: Wait + Threads + Clone + Drop + Send + Sync + 'static>(
     rt: &R,
     alloc: Global,
     list: &List,
 ) -> MetricResult<bool> {
     let run = Run::of_lines(alloc, list)?;
-    let (log, socket) = Recording::new(rt.clone()?, alloc, list.log(alloc)?)?;
-    let sink = BufferedUnixMetricSink::with_capacity(
-        rt.clone()?,
-        alloc,
-        "",
-        socket,
-        list.capacity,
-    )?;
+    let (log, sink) = unix_sink(rt, alloc, list)?;
     let queue = QueuingMetricSink::from(rt.clone()?, alloc, sink)?;
     let taken = same::lines_taken(alloc, &queue, list)?;
     queue.stop_and_wait();
-    let passed = (queue.submitted(), queue.drained()) == (run.submitted, run.drained);
-    let flushed = Some(same::answer_of(alloc, &queue, &Given::Flush)?) == run.last_answer;
-    let packets = packets_of(alloc, rt, &log)? == run.packets_at_the_end;
-    let counts = queue.stats() == run.stats_at_the_end;
-    Ok(taken && passed && flushed && packets && counts)
+    Ok(is_same_at_the_end(rt, alloc, &queue, &log, &run)? && taken)
 }
 
 /// A buffered spy of the list's capacity, whose queue holds at most so many messages.

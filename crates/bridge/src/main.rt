@@ -4,6 +4,7 @@
 #![tactic(auto)]
 
 mod checks;
+mod counts;
 mod defaults;
 mod lists;
 mod recording;
@@ -14,69 +15,47 @@ mod sockets;
 
 use cadence::sinks::ResolverRuntime;
 use cadence::{MetricResult, MetricSink};
-use lists::List;
+use counts::LISTS;
 use sharing::CAPACITY;
 use sockets::on_loopback;
 use std::alloc::Global;
-use std::net::UdpSocket;
+use std::io;
 use std::time::Duration;
 
-/// How many lists there are.
-const LISTS: u64 = 1000;
+// What each sink does, by itself.
+fn alone_told<R: ResolverRuntime>(rt: &R, alloc: Global) -> MetricResult<String> {
+    let server = on_loopback(rt)?;
+    server.set_read_timeout(Some(Duration::from_secs(5)))?;
+    let lists = counts::told(rt, alloc, &server)?;
+    let defaults = defaults::told(rt, alloc, &server)?;
+    let heading = "without a capacity or a period as in the run of 512 bytes, or of none:";
+    Ok(format!(in alloc; "of {LISTS} lists as in the proved run:\n{lists}{heading}\n{defaults}")?)
+}
 
-/// The queue of a spy that nobody empties holds fewer messages.
-const ROOM: u64 = 5;
-
-// What each sink does with the lists.
-fn lists_told<R: ResolverRuntime>(
-    rt: &R,
-    alloc: Global,
-    server: &UdpSocket,
-) -> MetricResult<String> {
-    let (mut unix, mut queued, mut spied, mut udp, mut full) = (0u64, 0u64, 0u64, 0u64, 0u64);
-    for seed in 0..LISTS {
-        let list = List::of_seed(alloc, seed)?;
-        unix = unix.wrapping_add(u64::from(checks::unix(rt, alloc, &list)?));
-        queued = queued.wrapping_add(u64::from(checks::queued(rt, alloc, &list)?));
-        let whole = list.without_refusals(alloc);
-        spied = spied.wrapping_add(u64::from(checks::spied(rt, alloc, None, &whole)?));
-        udp = udp.wrapping_add(u64::from(checks::udp(rt, alloc, server, &whole)?));
-        let room = (seed % ROOM) as usize;
-        let refused = whole.over_a_full_queue(alloc, room)?;
-        full = full.wrapping_add(u64::from(checks::spied(rt, alloc, Some(room), &refused)?));
-    }
-    let mut text = format!(in alloc; "buffered Unix sink {unix}\n")?;
-    writeln!(&mut text, "queue over a buffered Unix sink {queued}")?;
-    writeln!(&mut text, "buffered spy {spied}")?;
-    writeln!(&mut text, "buffered UDP sink {udp}")?;
-    writeln!(&mut text, "buffered spy whose queue nobody empties {full}")?;
-    Ok(text)
+// Prints what the boxed sinks did: the buffered one, and the other.
+fn print_shared(rt: &HostRuntime, buffered: (bool, bool), other: (bool, bool)) -> io::Result<()> {
+    println!(rt; "shared by two threads as in the run of the lines as they came:")?;
+    println!(rt; "boxed buffered Unix sink {}", buffered.0)?;
+    println!(rt; "queue over a boxed buffered Unix sink {}", buffered.1)?;
+    println!(rt; "boxed Unix sink {}", other.0)?;
+    println!(rt; "queue over a boxed Unix sink {}", other.1)
 }
 
 fn main(rt: HostRuntime) -> MetricResult<()> {
     let alloc = rt.alloc();
-    let server = on_loopback(&rt)?;
-    server.set_read_timeout(Some(Duration::from_secs(5)))?;
-    println!(rt; "of {LISTS} lists as in the proved run:")?;
-    print!(rt; "{}", lists_told(&rt, alloc, &server)?)?;
-    println!(rt; "without a capacity or a period as in the run of 512 bytes, or of none:")?;
-    print!(rt; "{}", defaults::told(&rt, alloc, &server)?)?;
-    println!(rt; "shared by two threads as in the run of the lines as they came:")?;
+    print!(rt; "{}", alone_told(&rt, alloc)?)?;
     let (log, sink) = sharing::buffered(&rt, alloc)?;
     let sink: Box<dyn MetricSink + Send + Sync> = Box::new(alloc, sink)?;
-    let shared = sharing::shared(&rt, alloc, CAPACITY, &sink, &log)?;
-    println!(rt; "boxed buffered Unix sink {shared}")?;
+    let shared = sharing::shared(&rt, alloc, CAPACITY, sink, log)?;
     let (log, sink) = sharing::buffered(&rt, alloc)?;
     let sink: Box<dyn MetricSink + Send + Sync> = Box::new(alloc, sink)?;
-    let queued = sharing::queued(&rt, alloc, CAPACITY, sink, &log)?;
-    println!(rt; "queue over a boxed buffered Unix sink {queued}")?;
+    let buffered = (shared, sharing::queued(&rt, alloc, CAPACITY, sink, log)?);
     let (log, sink) = sharing::unbuffered(&rt, alloc)?;
     let sink: Box<dyn MetricSink + Send + Sync> = Box::new(alloc, sink)?;
-    let shared = sharing::shared(&rt, alloc, 0, &sink, &log)?;
-    println!(rt; "boxed Unix sink {shared}")?;
+    let shared = sharing::shared(&rt, alloc, 0, sink, log)?;
     let (log, sink) = sharing::unbuffered(&rt, alloc)?;
     let sink: Box<dyn MetricSink + Send + Sync> = Box::new(alloc, sink)?;
-    let queued = sharing::queued(&rt, alloc, 0, sink, &log)?;
-    println!(rt; "queue over a boxed Unix sink {queued}")?;
+    let other = (shared, sharing::queued(&rt, alloc, 0, sink, log)?);
+    print_shared(&rt, buffered, other)?;
     Ok(())
 }

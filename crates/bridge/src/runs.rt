@@ -53,16 +53,23 @@ fn report_of(alloc: Global, list: &List, steps: &[Step]) -> MetricResult<Report<
     }
 }
 
+// The reply to a line or a flush, as a text.
+fn answer_of(alloc: Global, reply: &Reply) -> Result<Option<String>, AllocError> {
+    Ok(match reply {
+        Reply::Handed(Ok(count)) => Some(format!(in alloc; "{count}")?),
+        Reply::Handed(Err(error)) => Some(format!(in alloc; "{error}")?),
+        Reply::Flushed(Ok(())) => Some(format!(in alloc; "flushed")?),
+        Reply::Flushed(Err(error)) => Some(format!(in alloc; "{error}")?),
+        _ => None,
+    })
+}
+
 // The replies to lines and flushes, as texts.
 fn answers_of(alloc: Global, replies: &[Reply]) -> Result<Vec<String>, AllocError> {
     let mut answers = Vec::new(alloc);
     for reply in replies {
-        match reply {
-            Reply::Handed(Ok(count)) => answers.push(format!(in alloc; "{count}")?)?,
-            Reply::Handed(Err(error)) => answers.push(format!(in alloc; "{error}")?)?,
-            Reply::Flushed(Ok(())) => answers.push(format!(in alloc; "flushed")?)?,
-            Reply::Flushed(Err(error)) => answers.push(format!(in alloc; "{error}")?)?,
-            _ => {}
+        if let Some(answer) = answer_of(alloc, reply)? {
+            answers.push(answer)?;
         }
     }
     Ok(answers)
@@ -76,24 +83,41 @@ fn copies(alloc: Global, packets: &[Vec<u8>]) -> Result<Vec<Vec<u8>>, AllocError
     Ok(all)
 }
 
+// What the run of some steps gave.
+#[derive(Drop)]
+struct Part {
+    answers: Vec<String>,
+    packets: Vec<Vec<u8>>,
+    stats: SinkStats,
+    submitted: u64,
+    drained: u64,
+}
+
+fn part_of(alloc: Global, list: &List, steps: &[Step]) -> MetricResult<Part> {
+    let report = report_of(alloc, list, steps)?;
+    Ok(Part {
+        answers: answers_of(alloc, report.replies())?,
+        packets: copies(alloc, report.writer().packets())?,
+        stats: report.stats(),
+        submitted: report.queue().submitted(),
+        drained: report.queue().drained(),
+    })
+}
+
 fn run_of(alloc: Global, list: &List, flushes: bool) -> MetricResult<Run> {
     let mut steps = steps_of(alloc, list, flushes)?;
-    let report = report_of(alloc, list, &steps)?;
-    let answers = answers_of(alloc, report.replies())?;
-    let (packets, stats) = (copies(alloc, report.writer().packets())?, report.stats());
+    let part = part_of(alloc, list, &steps)?;
     steps.push(Step::Flush)?;
-    let ended = report_of(alloc, list, &steps)?;
-    let mut all_answers = answers_of(alloc, ended.replies())?;
-    let packets_at_the_end = copies(alloc, ended.writer().packets())?;
+    let mut whole = part_of(alloc, list, &steps)?;
     Ok(Run {
-        answers,
-        packets,
-        stats,
-        submitted: ended.queue().submitted(),
-        drained: ended.queue().drained(),
-        last_answer: all_answers.pop(),
-        packets_at_the_end,
-        stats_at_the_end: ended.stats(),
+        answers: part.answers,
+        packets: part.packets,
+        stats: part.stats,
+        submitted: whole.submitted,
+        drained: whole.drained,
+        last_answer: whole.answers.pop(),
+        packets_at_the_end: whole.packets,
+        stats_at_the_end: whole.stats,
     })
 }
 

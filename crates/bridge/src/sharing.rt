@@ -117,11 +117,11 @@ pub fn shared<R: Wait + Threads, S: MetricSink + Sync>(
     rt: &R,
     alloc: Global,
     capacity: usize,
-    sink: &S,
-    log: &Log,
+    sink: S,
+    log: Log,
 ) -> MetricResult<bool> {
-    let taken = emit_both(rt, alloc, sink)? && sink.flush().is_ok();
-    let packets = packets_of(alloc, rt, log)?;
+    let taken = emit_both(rt, alloc, &sink)? && sink.flush().is_ok();
+    let packets = packets_of(alloc, rt, &log)?;
     Ok(taken && are_of_the_run(alloc, capacity, &packets, sink.stats())?)
 }
 
@@ -129,11 +129,11 @@ pub fn shared<R: Wait + Threads, S: MetricSink + Sync>(
 pub fn queued<
     R: Wait + Threads + Clone + Drop + Send + Sync + 'static,
     S: MetricSink + Send + Sync + 'static,
->(rt: &R, alloc: Global, capacity: usize, sink: S, log: &Log) -> MetricResult<bool> {
+>(rt: &R, alloc: Global, capacity: usize, sink: S, log: Log) -> MetricResult<bool> {
     let queue = QueuingMetricSink::from(rt.clone()?, alloc, sink)?;
     let taken = emit_both(rt, alloc, &queue)?;
     queue.stop_and_wait();
     let flushed = queue.flush().is_ok();
-    let packets = packets_of(alloc, rt, log)?;
+    let packets = packets_of(alloc, rt, &log)?;
     Ok(taken && flushed && are_of_the_run(alloc, capacity, &packets, queue.stats())?)
 }
