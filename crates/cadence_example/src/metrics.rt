@@ -17,6 +17,13 @@ pub fn send_all<S: MetricSink, H: ErrorHandler>(
     client.time("startup", Duration::from_millis(1250))?;
     client.gauge("load", Decimal::new(75, 2)?)?;
     client.histogram("sizes", Vec::from_slice(alloc, &[3u64, 14, 159])?)?;
+    send_with_options(client)
+}
+
+// Sends one with all that a metric can have.
+fn send_with_options<S: MetricSink, H: ErrorHandler>(
+    client: &StatsdClient<Global, S, H>,
+) -> MetricResult<()> {
     let half = Decimal::new(5, 1)?;
     client
         .count_with_tags("requests", 7u64)
