@@ -25,27 +25,43 @@ use turns::{Ends, turn, turn_bytes};
 const GENERATED: u64 = 1000;
 
 fn main(rt: HostRuntime) -> MetricResult<()> {
-    for name in fs::read_to_string(&rt, "index")?.lines() {
-        let difference = scripts::row_difference(&rt, name)?;
-        println!(rt; "{name} {difference}")?;
-    }
-    for line in fs::read_to_string(&rt, "unreadable")?.split_terminator('\n') {
-        let difference = scripts::unreadable_difference(rt.alloc(), line)?;
-        println!(rt;
-            "unreadable {} {difference}",
-            scripts::shown(rt.alloc(), line)?
-        )?;
-    }
-    for line in fs::read_to_string(&rt, "plans")?.lines() {
-        if !line.starts_with('#') {
-            println!(rt; "plan {line} {}", plans::plan_difference(rt.alloc(), line)?)?;
-        }
-    }
+    print_rows(&rt)?;
+    print_unreadable(&rt)?;
+    print_plans(&rt)?;
     turn_rows(&rt)?;
     turn_generated(&rt)?;
     println!(rt; "turns of a constructor, with a line and a flush, for want of memory:")?;
     let server = UdpSocket::bind(&rt, SocketAddr::from((Ipv4Addr::LOCALHOST, 0)))?;
     print!(rt; "{}", makers::told(&rt, rt.alloc(), server.local_addr()?)?)?;
+    Ok(())
+}
+
+// Each worked row.
+fn print_rows(rt: &HostRuntime) -> MetricResult<()> {
+    for name in fs::read_to_string(rt, "index")?.lines() {
+        let difference = scripts::row_difference(rt, name)?;
+        println!(rt; "{name} {difference}")?;
+    }
+    Ok(())
+}
+
+// Each script that has to be refused.
+fn print_unreadable(rt: &HostRuntime) -> MetricResult<()> {
+    for line in fs::read_to_string(rt, "unreadable")?.split_terminator('\n') {
+        let difference = scripts::unreadable_difference(rt.alloc(), line)?;
+        let shown = scripts::shown(rt.alloc(), line)?;
+        println!(rt; "unreadable {shown} {difference}")?;
+    }
+    Ok(())
+}
+
+// Each plan.
+fn print_plans(rt: &HostRuntime) -> MetricResult<()> {
+    for line in fs::read_to_string(rt, "plans")?.lines() {
+        if !line.starts_with('#') {
+            println!(rt; "plan {line} {}", plans::plan_difference(rt.alloc(), line)?)?;
+        }
+    }
     Ok(())
 }
 

@@ -14,45 +14,78 @@ use refusing::each_refused;
 use std::alloc::Global;
 use std::net::SocketAddr;
 
+/// How a spy is made.
+#[derive(Clone, Copy)]
+enum SpyMaker {
+    New,
+    Bounded,
+    Buffered,
+    BoundedBuffered,
+}
+
+/// How a sink over a Unix socket is made.
+#[derive(Clone, Copy)]
+enum UnixMaker {
+    From,
+    Buffered,
+    Small,
+}
+
+/// How a queue is made.
+#[derive(Clone, Copy)]
+enum QueueMaker {
+    Core,
+    BoundedCore,
+    From,
+    Bounded,
+    Built,
+}
+
 /// How something is made.
 #[derive(Clone, Copy)]
 enum Maker {
-    Spy,
-    BoundedSpy,
-    BufferedSpy,
-    BoundedBufferedSpy,
-    Unix,
-    BufferedUnix,
-    SmallBufferedUnix,
-    Core,
-    BoundedCore,
-    Queue,
-    BoundedQueue,
-    BuiltQueue,
+    Spy(SpyMaker),
+    Unix(UnixMaker),
+    Queue(QueueMaker),
     Client,
     Udp(UdpMaker),
 }
 
 /// The constructors, with what they are called.
 const MAKERS: [(&str, Maker); 23] = [
-    ("SpyMetricSink::new", Maker::Spy),
-    ("SpyMetricSink::with_capacity", Maker::BoundedSpy),
-    ("BufferedSpyMetricSink::new", Maker::BufferedSpy),
+    ("SpyMetricSink::new", Maker::Spy(SpyMaker::New)),
+    (
+        "SpyMetricSink::with_capacity",
+        Maker::Spy(SpyMaker::Bounded),
+    ),
+    ("BufferedSpyMetricSink::new", Maker::Spy(SpyMaker::Buffered)),
     (
         "BufferedSpyMetricSink::with_capacity",
-        Maker::BoundedBufferedSpy,
+        Maker::Spy(SpyMaker::BoundedBuffered),
     ),
-    ("UnixMetricSink::from", Maker::Unix),
-    ("BufferedUnixMetricSink::from", Maker::BufferedUnix),
+    ("UnixMetricSink::from", Maker::Unix(UnixMaker::From)),
+    (
+        "BufferedUnixMetricSink::from",
+        Maker::Unix(UnixMaker::Buffered),
+    ),
     (
         "BufferedUnixMetricSink::with_capacity",
-        Maker::SmallBufferedUnix,
+        Maker::Unix(UnixMaker::Small),
     ),
-    ("QueueCore::new", Maker::Core),
-    ("QueueCore::with_policy", Maker::BoundedCore),
-    ("QueuingMetricSink::from", Maker::Queue),
-    ("QueuingMetricSink::with_capacity", Maker::BoundedQueue),
-    ("QueuingMetricSinkBuilder::build", Maker::BuiltQueue),
+    ("QueueCore::new", Maker::Queue(QueueMaker::Core)),
+    (
+        "QueueCore::with_policy",
+        Maker::Queue(QueueMaker::BoundedCore),
+    ),
+    ("QueuingMetricSink::from", Maker::Queue(QueueMaker::From)),
+    (
+        "QueuingMetricSink::with_capacity",
+        Maker::Queue(QueueMaker::Bounded),
+    ),
+    (
+        "QueuingMetricSinkBuilder::build",
+        Maker::Queue(QueueMaker::Built),
+    ),
     ("StatsdClient::from_sink", Maker::Client),
     ("UdpMetricSink::from", Maker::Udp(UdpMaker::From)),
     ("UdpMetricSinkBuilder::build", Maker::Udp(UdpMaker::Built)),
@@ -93,6 +126,57 @@ fn spied<T: Drop, S: MetricSink>((_receiver, sink): (T, S)) -> MetricResult<bool
     took(&sink)
 }
 
+impl SpyMaker {
+    fn has_memory<R: ResolverRuntime>(self, rt: R, heap: Heap) -> MetricResult<bool> {
+        match self {
+            SpyMaker::New => spied(SpyMetricSink::new(rt, heap)?),
+            SpyMaker::Bounded => spied(SpyMetricSink::with_capacity(rt, heap, 1)?),
+            SpyMaker::Buffered => spied(BufferedSpyMetricSink::new(rt, heap)?),
+            SpyMaker::BoundedBuffered => {
+                spied(BufferedSpyMetricSink::with_capacity(rt, heap, Some(1), Some(16))?)
+            }
+        }
+    }
+}
+
+impl UnixMaker {
+    fn has_memory<R: ResolverRuntime>(self, rt: R, heap: Heap) -> MetricResult<bool> {
+        match self {
+            UnixMaker::From => took(&UnixMetricSink::from(rt, heap, "/run/s", Taking)?),
+            UnixMaker::Buffered => took(&BufferedUnixMetricSink::from(rt, heap, "/run/s", Taking)?),
+            UnixMaker::Small => {
+                took(&BufferedUnixMetricSink::with_capacity(rt, heap, "/run/s", Taking, 16)?)
+            }
+        }
+    }
+}
+
+impl QueueMaker {
+    fn has_memory<R: ResolverRuntime>(self, rt: R, heap: Heap) -> MetricResult<bool> {
+        match self {
+            QueueMaker::Core => Ok(QueueCore::new(heap, None)?.submit(1u64).is_ok()),
+            QueueMaker::BoundedCore => {
+                let mut core = QueueCore::with_policy(heap, Some(1), QueuePolicy::DropOldest)?;
+                Ok(core.submit(1u64).is_ok())
+            }
+            QueueMaker::From => took(&QueuingMetricSink::from(rt, heap, NopMetricSink)?),
+            QueueMaker::Bounded => {
+                took(&QueuingMetricSink::with_capacity(rt, heap, NopMetricSink, 1)?)
+            }
+            QueueMaker::Built => {
+                let builder = QueuingMetricSinkBuilder::new().with_policy(QueuePolicy::DropOldest);
+                took(&builder.with_capacity(1).build(rt, heap, NopMetricSink)?)
+            }
+        }
+    }
+}
+
+// The same of a client that counts.
+fn client_has_memory(heap: Heap) -> MetricResult<bool> {
+    let line = StatsdClient::from_sink(heap, "p", NopMetricSink)?.count("k", 1u64)?;
+    Ok(line.as_metric_str() == "p.k:1|c")
+}
+
 impl Maker {
     // Whether all memory was granted that this takes, and a line and a flush after it.
     fn has_memory<R: ResolverRuntime>(
@@ -101,35 +185,12 @@ impl Maker {
         heap: Heap,
         server: SocketAddr,
     ) -> MetricResult<bool> {
-        let (rt, sink) = (rt.clone()?, NopMetricSink);
         match self {
-            Maker::Spy => spied(SpyMetricSink::new(rt, heap)?),
-            Maker::BoundedSpy => spied(SpyMetricSink::with_capacity(rt, heap, 1)?),
-            Maker::BufferedSpy => spied(BufferedSpyMetricSink::new(rt, heap)?),
-            Maker::BoundedBufferedSpy => {
-                spied(BufferedSpyMetricSink::with_capacity(rt, heap, Some(1), Some(16))?)
-            }
-            Maker::Unix => took(&UnixMetricSink::from(rt, heap, "/run/s", Taking)?),
-            Maker::BufferedUnix => took(&BufferedUnixMetricSink::from(rt, heap, "/run/s", Taking)?),
-            Maker::SmallBufferedUnix => {
-                took(&BufferedUnixMetricSink::with_capacity(rt, heap, "/run/s", Taking, 16)?)
-            }
-            Maker::Core => Ok(QueueCore::new(heap, None)?.submit(1u64).is_ok()),
-            Maker::BoundedCore => {
-                let mut core = QueueCore::with_policy(heap, Some(1), QueuePolicy::DropOldest)?;
-                Ok(core.submit(1u64).is_ok())
-            }
-            Maker::Queue => took(&QueuingMetricSink::from(rt, heap, sink)?),
-            Maker::BoundedQueue => took(&QueuingMetricSink::with_capacity(rt, heap, sink, 1)?),
-            Maker::BuiltQueue => {
-                let builder = QueuingMetricSinkBuilder::new().with_policy(QueuePolicy::DropOldest);
-                took(&builder.with_capacity(1).build(rt, heap, sink)?)
-            }
-            Maker::Client => {
-                let line = StatsdClient::from_sink(heap, "p", sink)?.count("k", 1u64)?;
-                Ok(line.as_metric_str() == "p.k:1|c")
-            }
-            Maker::Udp(maker) => maker.has_memory(&rt, heap, server),
+            Maker::Spy(maker) => maker.has_memory(rt.clone()?, heap),
+            Maker::Unix(maker) => maker.has_memory(rt.clone()?, heap),
+            Maker::Queue(maker) => maker.has_memory(rt.clone()?, heap),
+            Maker::Client => client_has_memory(heap),
+            Maker::Udp(maker) => maker.has_memory(rt, heap, server),
         }
     }
 
