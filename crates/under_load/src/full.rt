@@ -3,7 +3,7 @@
 use crate::callers::{Pace, Totals, all_answered};
 use crate::queues::{Kind, Queue, queue_of};
 use crate::record::{CALLERS, Came, Shared, is_set, set};
-use crate::turns::{Runtime, in_time, yes_or_no};
+use crate::turns::{Runtime, in_time, push_whether, yes_or_no};
 use cadence::{MetricResult, MetricSink};
 use std::alloc::Global;
 
@@ -46,10 +46,21 @@ fn let_go<R: Runtime>(
     let mut text = format!(in alloc;
         "  {come} lines come, those that are due {due}, in order {in_order}\n"
     )?;
-    let gone = yes_or_no(stays && goes);
+    let line = "the sink goes after the last handle and the last line";
+    push_whether(&mut text, line, stays && goes)?;
+    Ok(text)
+}
+
+// What was answered, and what the queue counts.
+fn counted<R: Runtime>(alloc: Global, queue: &Queue<R>, totals: &Totals) -> MetricResult<String> {
+    let (accepted, refused, dropped) = (totals.accepted, totals.refused, queue.dropped());
+    let (submitted, drained, waiting) = (queue.submitted(), queue.drained(), queue.queued());
+    let mut text = format!(in alloc;
+        "  accepted {accepted}, refused {refused}, dropped {dropped}\n"
+    )?;
     writeln!(
         &mut text,
-        "  the sink goes after the last handle and the last line {gone}"
+        "  submitted {submitted}, drained {drained}, waiting {waiting}"
     )?;
     Ok(text)
 }
@@ -60,21 +71,7 @@ pub fn told<R: Runtime>(rt: &R, alloc: Global, kind: Kind) -> MetricResult<Strin
     queue.emit("first:1|c")?;
     let in_hand = in_time(rt, &|| is_set(&shared.has_one));
     let answers = all_answered(rt, alloc, &queue, Pace::AtOnce, [OF_EACH; CALLERS])?;
-    let Totals {
-        accepted,
-        refused,
-        ..
-    } = Totals::of(&answers);
-    let dropped = queue.dropped();
-    let mut text = format!(in alloc;
-        "  accepted {accepted}, refused {refused}, dropped {dropped}\n"
-    )?;
-    let (submitted, drained) = (queue.submitted(), queue.drained());
-    let waiting = queue.queued();
-    writeln!(
-        &mut text,
-        "  submitted {submitted}, drained {drained}, waiting {waiting}"
-    )?;
+    let mut text = counted(alloc, &queue, &Totals::of(&answers))?;
     if !in_hand {
         writeln!(&mut text, "  the first line came to nobody's hand")?;
     }

@@ -3,7 +3,7 @@
 use crate::callers::{Answered, Pace, Totals, all_answered};
 use crate::queues::{CAPACITY, Kind, Queue, queue_of};
 use crate::record::{CALLERS, Record, Shared, is_set};
-use crate::turns::{Runtime, in_time, yes_or_no};
+use crate::turns::{Runtime, in_time, push_whether};
 use cadence::MetricResult;
 use std::alloc::Global;
 
@@ -68,19 +68,11 @@ fn counted(alloc: Global, kind: Kind, totals: &Totals, counts: &Counts) -> Metri
         submitted == accepted,
         drained.wrapping_add(dropped) == submitted,
     );
-    writeln!(&mut text, "  submitted as accepted {}", yes_or_no(same))?;
-    writeln!(
-        &mut text,
-        "  drained or dropped as submitted {}",
-        yes_or_no(passed)
-    )?;
+    push_whether(&mut text, "submitted as accepted", same)?;
+    push_whether(&mut text, "drained or dropped as submitted", passed)?;
     if kind != Kind::Unbounded {
         let within = most <= CAPACITY as u64;
-        writeln!(
-            &mut text,
-            "  never more waiting than its capacity {}",
-            yes_or_no(within)
-        )?;
+        push_whether(&mut text, "never more waiting than its capacity", within)?;
     }
     Ok(text)
 }
@@ -97,17 +89,14 @@ fn handed_on(
     let all = record.lines() == counts.submitted.wrapping_sub(counts.dropped);
     let one = !is_set(&shared.had_two);
     let order = record.is_in_order();
-    let mut text = format!(in alloc; "  each comes that isn't dropped {}\n", yes_or_no(all))?;
+    let mut text = String::new(alloc);
+    push_whether(&mut text, "each comes that isn't dropped", all)?;
     if kind != Kind::Dropping {
         let same = are_the_accepted(answers, record);
-        writeln!(
-            &mut text,
-            "  just those accepted of each caller {}",
-            yes_or_no(same)
-        )?;
+        push_whether(&mut text, "just those accepted of each caller", same)?;
     }
-    writeln!(&mut text, "  each caller's in order {}", yes_or_no(order))?;
-    writeln!(&mut text, "  one at a time {}", yes_or_no(one))?;
+    push_whether(&mut text, "each caller's in order", order)?;
+    push_whether(&mut text, "one at a time", one)?;
     Ok(text)
 }
 
@@ -122,10 +111,6 @@ pub fn told<R: Runtime>(rt: &R, alloc: Global, kind: Kind) -> MetricResult<Strin
     let goes = in_time(rt, &|| is_set(&shared.gone));
     let record = shared.record.lock(rt);
     text.push_str(&handed_on(alloc, kind, &answers, &counts, &shared, &record)?)?;
-    writeln!(
-        &mut text,
-        "  the sink goes after the last handle {}",
-        yes_or_no(goes)
-    )?;
+    push_whether(&mut text, "the sink goes after the last handle", goes)?;
     Ok(text)
 }

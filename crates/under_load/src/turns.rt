@@ -1,5 +1,6 @@
 //! Waiting that gives up.
 
+use std::alloc::AllocError;
 use std::sync::Wait;
 use std::thread::{self, Threads};
 use std::time::{Clock, Duration};
@@ -28,4 +29,11 @@ pub fn in_time<R: Clock, F: Fn() -> bool>(rt: &R, is_so: &F) -> bool
 /// How a property is told.
 pub fn yes_or_no(holds: bool) -> &'static str {
     if holds { "yes" } else { "no" }
+}
+
+/// Adds a line that tells whether something holds.
+pub fn push_whether(text: &mut String, what: &str, holds: bool) -> Result<(), AllocError> {
+    text.push_str("  ")?;
+    text.push_str(what)?;
+    text.push_str(if holds { " yes\n" } else { " no\n" })
 }
