@@ -1,6 +1,6 @@
 //! The line of a call, from its words.
 use crate::script::Settings;
-use crate::text::{push_all, push_tag, text_of};
+use crate::text::{push_all, push_tag, push_tag_value, text_of};
 use std::alloc::{AllocError, Global};
 use std::str::Split;
 
@@ -26,15 +26,8 @@ fn push_decimal(out: &mut String, item: &str) -> Result<(), AllocError> {
     let dot = padded.len().saturating_sub(places);
     let whole = padded.get(..dot).unwrap_or("");
     let fraction = padded.get(dot..).unwrap_or("").trim_end_matches('0');
-    push_all(
-        out,
-        &[
-            sign,
-            whole,
-            if fraction.is_empty() { "" } else { "." },
-            fraction,
-        ],
-    )
+    let point = if fraction.is_empty() { "" } else { "." };
+    push_all(out, &[sign, whole, point, fraction])
 }
 
 // Seconds and nanoseconds in the unit of a kind, where 64 bits hold it.
@@ -106,7 +99,7 @@ impl<'a> Fields<'a> {
         let word = words.next().unwrap_or("");
         match name {
             "tag" => push_tag(&mut self.tags, alloc, word, words.next().unwrap_or(""))?,
-            "tagvalue" => push_all(&mut self.tags, &[",", &text_of(alloc, word)?])?,
+            "tagvalue" => push_tag_value(&mut self.tags, alloc, word)?,
             "container" => self.container = Some(text_of(alloc, word)?),
             "time" => self.time = Some(word),
             _ => self.rate = Some(word),

@@ -1,5 +1,5 @@
 //! The settings and the steps of a script.
-use crate::text::{push_all, push_tag, text_of};
+use crate::text::{push_tag, push_tag_value, text_of};
 use std::alloc::{AllocError, Global};
 
 /// What stands before the steps.
@@ -39,7 +39,7 @@ impl<'a> Settings<'a> {
                 let (key, value) = rest.split_once(' ').unwrap_or((rest, ""));
                 push_tag(&mut self.tags, alloc, key, value)?;
             }
-            "tagvalue" => push_all(&mut self.tags, &[",", &text_of(alloc, rest)?])?,
+            "tagvalue" => push_tag_value(&mut self.tags, alloc, rest)?,
             "container" => self.container = Some(text_of(alloc, rest)?),
             "capacity" => self.capacity = rest.parse().unwrap_or(0),
             "ending" => self.ending = text_of(alloc, rest)?,

@@ -37,6 +37,12 @@ pub fn push_tag(out: &mut String, alloc: Global, key: &str, value: &str) -> Resu
     push_all(out, &[",", &key, ":", &value])
 }
 
+/// Adds a tag without a key behind a comma.
+pub fn push_tag_value(out: &mut String, alloc: Global, word: &str) -> Result<(), AllocError> {
+    let text = text_of(alloc, word)?;
+    push_all(out, &[",", &text])
+}
+
 /// Adds a number between a space and an end.
 pub fn push_number(out: &mut String, number: usize, end: &str) -> Result<(), AllocError> {
     write!(out, " {number}{end}")
