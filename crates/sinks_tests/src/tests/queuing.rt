@@ -77,7 +77,7 @@ fn a_flush_does_not_wait_for_the_queue(rt: HostRuntime) -> Result<(), Fail> {
     assert!(rt; around.gate.flushed.load(Ordering::SeqCst));
     assert_eq!(rt; (sink.queued(), sink.stats().packets_dropped), (1, 4));
     open_and_end(&sink, &around);
-    Ok(())
+    gives(&around.passed, &["first:1|c", "second:1|c"])
 }
 
 type ShortQueue<R> = QueuingMetricSink<Gated<R>, R, Refusing<Global>>;
