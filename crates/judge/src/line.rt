@@ -26,8 +26,13 @@ fn push_decimal(out: &mut String, item: &str) -> Result<(), AllocError> {
     let dot = padded.len().saturating_sub(places);
     let whole = padded.get(..dot).unwrap_or("");
     let fraction = padded.get(dot..).unwrap_or("").trim_end_matches('0');
-    let point = if fraction.is_empty() { "" } else { "." };
-    push_all(out, &[sign, whole, point, fraction])
+    out.push_str(sign)?;
+    out.push_str(whole)?;
+    if fraction.is_empty() {
+        return Ok(());
+    }
+    out.push('.')?;
+    out.push_str(fraction)
 }
 
 // Seconds and nanoseconds in the unit of a kind, where 64 bits hold it.
