@@ -25,7 +25,13 @@ fn is_io_error(alloc: Global, error: SinkError, text: &str) -> Result<bool, Allo
 #[test]
 fn an_error_of_a_queue_has_its_text_and_kind(rt: HostRuntime) -> Result<(), Fail> {
     assert!(rt; is_io_error(rt.alloc(), SinkError::ChannelFull, "channel full")?);
-    assert!(rt; is_io_error(rt.alloc(), SinkError::ChannelDisconnected, "channel disconnected")?);
+    assert!(rt;
+        is_io_error(
+            rt.alloc(),
+            SinkError::ChannelDisconnected,
+            "channel disconnected"
+        )?
+    );
     Ok(())
 }
 
@@ -70,7 +76,10 @@ fn a_described_error_keeps_its_kind_and_text(rt: HostRuntime) -> Result<(), Fail
 #[test]
 fn want_of_memory_has_one_error(rt: HostRuntime) -> Result<(), Fail> {
     let failed = AllocFailed { value: 7 };
-    assert_eq!(rt; MetricError::from(AllocError).kind(), ErrorKind::OutOfMemory);
+    assert_eq!(rt;
+        MetricError::from(AllocError).kind(),
+        ErrorKind::OutOfMemory
+    );
     assert_eq!(rt; MetricError::from(failed).kind(), ErrorKind::OutOfMemory);
     let of_sink = SinkError::from(AllocError);
     assert_eq!(rt; MetricError::from(of_sink).kind(), ErrorKind::OutOfMemory);

@@ -46,7 +46,9 @@ fn values_as_data_have_their_lines(rt: HostRuntime) -> Result<(), Fail> {
 fn signed_numbers_have_their_line(rt: HostRuntime) -> Result<(), Fail> {
     let settings = ClientSettings::new(rt.alloc(), "")?;
     let signed = MetricValue::PackedSigned(vec![in rt.alloc(); -1i64, 0, 2]?);
-    let line = settings.record("k", MetricType::Counter, signed)?.format(rt.alloc())?;
+    let line = settings
+        .record("k", MetricType::Counter, signed)?
+        .format(rt.alloc())?;
     assert_eq!(rt; line.as_str(), "k:-1:0:2|c");
     Ok(())
 }
