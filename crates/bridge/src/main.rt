@@ -20,14 +20,18 @@ use sharing::CAPACITY;
 use sockets::on_loopback;
 use std::alloc::Global;
 use std::io;
+use std::net::UdpSocket;
 use std::time::Duration;
 
 // What each sink does, by itself.
-fn alone_told<R: ResolverRuntime>(rt: &R, alloc: Global) -> MetricResult<String> {
-    let server = on_loopback(rt)?;
+fn alone_told<R: ResolverRuntime>(
+    rt: &R,
+    alloc: Global,
+    server: &UdpSocket,
+) -> MetricResult<String> {
     server.set_read_timeout(Some(Duration::from_secs(5)))?;
-    let lists = counts::told(rt, alloc, &server)?;
-    let defaults = defaults::told(rt, alloc, &server)?;
+    let lists = counts::told(rt, alloc, server)?;
+    let defaults = defaults::told(rt, alloc, server)?;
     let heading = "without a capacity or a period as in the run of 512 bytes, or of none:";
     Ok(format!(in alloc; "of {LISTS} lists as in the proved run:\n{lists}{heading}\n{defaults}")?)
 }
@@ -43,7 +47,8 @@ fn print_shared(rt: &HostRuntime, buffered: (bool, bool), other: (bool, bool)) -
 
 fn main(rt: HostRuntime) -> MetricResult<()> {
     let alloc = rt.alloc();
-    print!(rt; "{}", alone_told(&rt, alloc)?)?;
+    let server = on_loopback(&rt)?;
+    print!(rt; "{}", alone_told(&rt, alloc, &server)?)?;
     let (log, sink) = sharing::buffered(&rt, alloc)?;
     let sink: Box<dyn MetricSink + Send + Sync> = Box::new(alloc, sink)?;
     let shared = sharing::shared(&rt, alloc, CAPACITY, sink, log)?;

@@ -123,7 +123,7 @@ impl Ended {
 }
 
 // `run` with ample memory, and its errors kept.
-fn ended<I: Read>(
+fn end_of_run<I: Read>(
     alloc: Global,
     answers: &[Answer],
     words: &[&str],
@@ -151,7 +151,7 @@ fn first_lines(count: usize) -> &'static [u8] {
 // Whether a run whose reader fails after so many reads ends well; else it ends as it must.
 fn ends_well_after_reads(alloc: Global, passed: u64) -> Result<bool, Fail> {
     let mut input = FailingReader::after(ByteReader::new(TEXT), passed);
-    let ended = ended(alloc, &[], NONE, &mut input)?;
+    let ended = end_of_run(alloc, &[], NONE, &mut input)?;
     let taken = TEXT.iter().take(passed as usize);
     let lines = first_lines(taken.filter(|byte| **byte == b'\n').count());
     if ended.is(1, lines, b"statsd_send: input: cannot read\n") {
@@ -190,7 +190,7 @@ fn each_packet_is_refused(rt: HostRuntime) -> Result<(), Fail> {
     let told = b"statsd_send: cannot send: packet refused\n".as_slice();
     for (answers, words, lines) in REFUSED {
         let mut input = ByteReader::new(TEXT);
-        let ended = ended(rt.alloc(), answers, words, &mut input)?;
+        let ended = end_of_run(rt.alloc(), answers, words, &mut input)?;
         assert!(rt; ended.is(1, lines, told));
     }
     Ok(())
@@ -200,7 +200,7 @@ fn each_packet_is_refused(rt: HostRuntime) -> Result<(), Fail> {
 fn short_counts_send_all(rt: HostRuntime) -> Result<(), Fail> {
     for (words, lines) in [(NONE, LINES), (WORDS, LINE)] {
         let mut input = ByteReader::new(TEXT);
-        let ended = ended(rt.alloc(), &SHORT, words, &mut input)?;
+        let ended = end_of_run(rt.alloc(), &SHORT, words, &mut input)?;
         assert!(rt; ended.is(0, lines, b""));
     }
     Ok(())
