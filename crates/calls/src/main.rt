@@ -71,17 +71,15 @@ fn told_faults(alloc: Global) -> Result<String, AllocError> {
 }
 
 // The lines of each group of calls, which are those of one client.
-fn told_groups<R: Wait + Clone + Drop + Send + Sync + 'static>(
-    rt: &R,
+fn told_groups<R: Wait + Drop>(
     alloc: Global,
+    client: &StatsdClient,
+    lines: &SpyReceiver<R>,
 ) -> MetricResult<String> {
-    let (lines, spy) = SpyMetricSink::new(rt.clone()?, alloc)?;
-    let sink: Box<dyn MetricSink + Send + Sync> = Box::new(alloc, spy)?;
-    let client = StatsdClient::from_sink(alloc, "p", sink)?;
     let mut text = String::new(alloc);
     for group in GROUPS {
-        group.send(alloc, &client)?;
-        text.push_str(&told(alloc, group.heading(), &lines)?)?;
+        group.send(alloc, client)?;
+        text.push_str(&told(alloc, group.heading(), lines)?)?;
     }
     Ok(text)
 }
@@ -99,7 +97,10 @@ fn told_setting<R: Wait + Clone + Drop>(
 
 fn main(rt: HostRuntime) -> MetricResult<()> {
     let alloc = rt.alloc();
-    print!(rt; "{}", told_groups(&rt, alloc)?)?;
+    let (lines, spy) = SpyMetricSink::new(rt.clone()?, alloc)?;
+    let sink: Box<dyn MetricSink + Send + Sync> = Box::new(alloc, spy)?;
+    let client = StatsdClient::from_sink(alloc, "p", sink)?;
+    print!(rt; "{}", told_groups(alloc, &client, &lines)?)?;
     for setting in SETTINGS {
         print!(rt; "{}", told_setting(&rt, alloc, setting)?)?;
     }
