@@ -66,12 +66,13 @@ fn ends_well_after_reads(alloc: Global, passed: u64) -> Result<bool, Fail> {
 
 #[test]
 fn each_read_fails(rt: HostRuntime) -> Result<(), Fail> {
-    let mut passed = 0;
-    while passed < MOST_CALLS && !ends_well_after_reads(rt.alloc(), passed)? {
-        passed += 1;
+    for passed in 0..MOST_CALLS {
+        if ends_well_after_reads(rt.alloc(), passed)? {
+            assert_eq!(rt; passed, 38, "each byte, and the end");
+            return Ok(());
+        }
     }
-    assert_eq!(rt; passed, 38, "each byte, and the end");
-    Ok(())
+    Err(Fail::new("always failed"))
 }
 
 // The same of a writer that fails after so many writes.
@@ -90,12 +91,13 @@ fn ends_well_after_writes(alloc: Global, passed: u64) -> Result<bool, Fail> {
 
 #[test]
 fn each_write_fails(rt: HostRuntime) -> Result<(), Fail> {
-    let mut passed = 0;
-    while passed < MOST_CALLS && !ends_well_after_writes(rt.alloc(), passed)? {
-        passed += 1;
+    for passed in 0..MOST_CALLS {
+        if ends_well_after_writes(rt.alloc(), passed)? {
+            assert_eq!(rt; passed, 53, "each byte, and the flush");
+            return Ok(());
+        }
     }
-    assert_eq!(rt; passed, 53, "each byte, and the flush");
-    Ok(())
+    Err(Fail::new("always failed"))
 }
 
 // The same of memory that is refused.

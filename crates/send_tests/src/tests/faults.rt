@@ -165,12 +165,13 @@ fn ends_well_after_reads(alloc: Global, passed: u64) -> Result<bool, Fail> {
 
 #[test]
 fn each_read_fails(rt: HostRuntime) -> Result<(), Fail> {
-    let mut passed = 0;
-    while passed < 100 && !ends_well_after_reads(rt.alloc(), passed)? {
-        passed += 1;
+    for passed in 0..100 {
+        if ends_well_after_reads(rt.alloc(), passed)? {
+            assert_eq!(rt; passed, 31, "each byte, and the end");
+            return Ok(());
+        }
     }
-    assert_eq!(rt; passed, 31, "each byte, and the end");
-    Ok(())
+    Err(Fail::new("always failed"))
 }
 
 /// Answers of the log, words, and the lines that are sent: what is held when a packet is refused is sent at the end.
@@ -258,12 +259,12 @@ fn is_printed_after_writes(alloc: Global, passed: u64) -> Result<bool, Fail> {
 
 #[test]
 fn each_write_of_a_printed_packet_fails(rt: HostRuntime) -> Result<(), Fail> {
-    let mut passed = 0;
-    while passed < MOST_WRITES && !is_printed_after_writes(rt.alloc(), passed)? {
-        passed += 1;
+    for passed in 0..MOST_WRITES {
+        if is_printed_after_writes(rt.alloc(), passed)? {
+            return Ok(());
+        }
     }
-    assert!(rt; passed < MOST_WRITES);
-    Ok(())
+    Err(Fail::new("always failed"))
 }
 
 // Whether a packet is printed with this memory, and none is refused; else nothing is printed.

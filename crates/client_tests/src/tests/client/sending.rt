@@ -191,14 +191,6 @@ impl Seen {
         let calls = self.calls.clone()?;
         Ok(RefusingSink { calls })
     }
-
-    fn handler(&self, alloc: Global) -> Result<BoxedHandler, AllocError> {
-        let seen = self.weights.clone()?;
-        let handler: BoxedHandler = Box::new(alloc, move |error: MetricError| {
-            seen.fetch_add(weight_of(&error), Ordering::SeqCst);
-        })?;
-        Ok(handler)
-    }
 }
 
 // A client whose sink refuses each line, with a boxed handler.
@@ -206,7 +198,10 @@ fn refused(
     alloc: Global,
     seen: &Seen,
 ) -> Result<StatsdClient<Global, RefusingSink, BoxedErrorHandler>, Fail> {
-    let handler = seen.handler(alloc)?;
+    let weights = seen.weights.clone()?;
+    let handler: BoxedHandler = Box::new(alloc, move |error: MetricError| {
+        weights.fetch_add(weight_of(&error), Ordering::SeqCst);
+    })?;
     let client = StatsdClient::builder(alloc, "p", seen.sink()?)
         .with_error_handler(handler)
         .with_tag_value("a")
@@ -279,24 +274,18 @@ fn a_handler_of_a_type_of_its_own_is_told_once(rt: HostRuntime) -> Result<(), Fa
     Ok(())
 }
 
-// The same with a boxed sink too.
-fn refused_by_a_box(
-    alloc: Global,
-    seen: &Seen,
-) -> Result<StatsdClient<Global, BoxedSink, BoxedErrorHandler>, Fail> {
-    let sink: BoxedSink = Box::new(alloc, seen.sink()?)?;
-    let handler = seen.handler(alloc)?;
-    let client = StatsdClient::builder(alloc, "p", sink)
-        .with_tag("a", "b")
-        .with_error_handler(handler)
-        .build()?;
-    Ok(client)
-}
-
 #[test]
 fn a_boxed_sink_takes_tags_and_a_boxed_handler(rt: HostRuntime) -> Result<(), Fail> {
     let seen = Seen::nothing(rt.alloc())?;
-    let client = refused_by_a_box(rt.alloc(), &seen)?;
+    let weights = seen.weights.clone()?;
+    let handler: BoxedHandler = Box::new(rt.alloc(), move |error: MetricError| {
+        weights.fetch_add(weight_of(&error), Ordering::SeqCst);
+    })?;
+    let sink: BoxedSink = Box::new(rt.alloc(), seen.sink()?)?;
+    let client = StatsdClient::builder(rt.alloc(), "p", sink)
+        .with_tag("a", "b")
+        .with_error_handler(handler)
+        .build()?;
     client.incr_with_tags("k").send();
     assert!(rt; seen.is(1, 1));
     assert!(rt; client.flush().is_err());
