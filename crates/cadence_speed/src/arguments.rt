@@ -1,11 +1,11 @@
 //! The words of the command line.
 
-use std::env::{self, Args};
-use std::{fmt, io};
+use std::env::Args;
+use std::fmt;
 
-/// What to do with one client.
+/// What to do.
 #[derive(Clone, Copy, Debug, PartialEq, Eq)]
-pub enum ClientMode {
+pub enum Mode {
     /// A counter without tags.
     Count,
     /// A counter with three tags of the call's own.
@@ -14,15 +14,12 @@ pub enum ClientMode {
     Histogram4,
     /// A counter with so many tags of the call's own.
     Tags,
+    /// A counter with so many default tags.
+    DefaultTags,
     /// A histogram of so many values.
     Values,
     /// A counter with a key of so many bytes.
     Key,
-}
-
-/// What to do with packets.
-#[derive(Clone, Copy, Debug, PartialEq, Eq)]
-pub enum PacketMode {
     /// Lines into a packer.
     Packer,
     /// Packets of plain counters that are read.
@@ -33,11 +30,6 @@ pub enum PacketMode {
     ReadArena,
     /// The packets of `ReadFull`, into such an arena.
     ReadFullArena,
-}
-
-/// What to do with a sink.
-#[derive(Clone, Copy, Debug, PartialEq, Eq)]
-pub enum SinkMode {
     /// Lines into a buffered UDP sink.
     Udp,
     /// Lines into a queue.
@@ -48,42 +40,29 @@ pub enum SinkMode {
     Callers,
     /// Lines of several callers into a buffered UDP sink.
     UdpCallers,
-}
-
-/// What to do.
-#[derive(Clone, Copy, Debug, PartialEq, Eq)]
-pub enum Mode {
-    /// Something with one client.
-    Client(ClientMode),
-    /// A counter with so many default tags.
-    DefaultTags,
-    /// Something with packets.
-    Packets(PacketMode),
-    /// Something with a sink.
-    Sink(SinkMode),
     /// Counters of several callers through a queue into a buffered UDP sink.
     Service,
 }
 
 // The modes and their words.
 const MODES: [(Mode, &str); 18] = [
-    (Mode::Client(ClientMode::Count), "count"),
-    (Mode::Client(ClientMode::CountTags), "count_tags"),
-    (Mode::Client(ClientMode::Histogram4), "histogram4"),
-    (Mode::Client(ClientMode::Tags), "tags"),
+    (Mode::Count, "count"),
+    (Mode::CountTags, "count_tags"),
+    (Mode::Histogram4, "histogram4"),
+    (Mode::Tags, "tags"),
     (Mode::DefaultTags, "dtags"),
-    (Mode::Client(ClientMode::Values), "values"),
-    (Mode::Client(ClientMode::Key), "key"),
-    (Mode::Packets(PacketMode::Packer), "packer"),
-    (Mode::Packets(PacketMode::Read), "read"),
-    (Mode::Packets(PacketMode::ReadFull), "read_full"),
-    (Mode::Packets(PacketMode::ReadArena), "read_arena"),
-    (Mode::Packets(PacketMode::ReadFullArena), "read_full_arena"),
-    (Mode::Sink(SinkMode::Udp), "udp"),
-    (Mode::Sink(SinkMode::Queue), "queue"),
-    (Mode::Sink(SinkMode::Drop), "drop"),
-    (Mode::Sink(SinkMode::Callers), "callers"),
-    (Mode::Sink(SinkMode::UdpCallers), "udp_callers"),
+    (Mode::Values, "values"),
+    (Mode::Key, "key"),
+    (Mode::Packer, "packer"),
+    (Mode::Read, "read"),
+    (Mode::ReadFull, "read_full"),
+    (Mode::ReadArena, "read_arena"),
+    (Mode::ReadFullArena, "read_full_arena"),
+    (Mode::Udp, "udp"),
+    (Mode::Queue, "queue"),
+    (Mode::Drop, "drop"),
+    (Mode::Callers, "callers"),
+    (Mode::UdpCallers, "udp_callers"),
     (Mode::Service, "service"),
 ];
 
@@ -142,9 +121,9 @@ fn number(word: Option<String>) -> Option<u64> {
     word?.as_str().parse::<u64>().ok()
 }
 
-// The arguments that the words name: a mode, then 1 and its sizes, for which 3, or 512, 20 and 2 stand where they are
-// missing.
-fn read(words: &mut Args) -> Option<Arguments> {
+/// The arguments that the words name: a mode, then 1 and its sizes, for which 3, or 512, 20 and 2 stand where they are
+/// missing.
+pub fn read(words: &mut Args) -> Option<Arguments> {
     let word = words.next()?;
     let mode = Mode::of(&word)?;
     let calls = number(words.next()).unwrap_or(1);
@@ -156,20 +135,14 @@ fn read(words: &mut Args) -> Option<Arguments> {
     };
     Some(Arguments {
         mode,
-        calls: match mode {
-            Mode::Sink(SinkMode::Udp | SinkMode::UdpCallers) => calls.min(MOST_DATAGRAMS),
-            _ => calls,
+        calls: if mode == Mode::Udp || mode == Mode::UdpCallers {
+            calls.min(MOST_DATAGRAMS)
+        } else {
+            calls
         },
         size: first.unwrap_or(3) as usize,
         capacity: first.unwrap_or(512) as usize,
         length: second.unwrap_or(20) as usize,
         callers: callers.unwrap_or(2).max(1) as usize,
     })
-}
-
-/// The arguments of this program, or `None` where it names no mode.
-pub fn of_program(rt: &HostRuntime) -> io::Result<Option<Arguments>> {
-    let mut words = env::args(rt)?;
-    let _program = words.next();
-    Ok(read(&mut words))
 }

@@ -68,19 +68,6 @@ pub fn queue_over<
     }
 }
 
-/// A queue over a buffered UDP sink of 512 bytes.
-pub type UdpQueue<R> = QueuingMetricSink<BufferedUdpMetricSink<R>, R>;
-
-/// Such a queue, and the socket of this process that its sink sends to.
-pub fn queue_over_udp<R: Net + Wait + Threads + Clone + Drop + Send + Sync + 'static>(
-    rt: &R,
-    alloc: Global,
-    capacity: usize,
-) -> MetricResult<(UdpSocket, UdpQueue<R>)> {
-    let (server, udp) = buffered(rt, alloc, 512)?;
-    Ok((server, queue_over(rt, alloc, udp, capacity)?))
-}
-
 /// Turns until so many lines were taken.
 pub fn wait_until_drained<S: MetricSink, R: Wait + Drop>(
     rt: &R,
