@@ -38,11 +38,15 @@ after_refusal h n =
 abbrev pub no_refusals : Refusals
 no_refusals = record { count = 0; bytes = 0 }
 
+-- the same after one more refusal, of a packet of this length
+abbrev pub one_more : Refusals → ℕ → Refusals
+one_more refusals len =
+    record { count = (refusals.count + 1) % 2 ^ 64; bytes = (refusals.bytes + len) % 2 ^ 64 }
+
 -- the refusals after what was answered to a packet of this length
 abbrev pub refusals_after : Refusals → Result ℕ SinkError → ℕ → Refusals
 refusals_after refusals (Ok n) len = refusals
-refusals_after refusals (Err e) len =
-    record { count = (refusals.count + 1) % 2 ^ 64; bytes = (refusals.bytes + len) % 2 ^ 64 }
+refusals_after refusals (Err e) len = one_more refusals len
 
 -- the history of these packets and refusals
 abbrev pub history_of : List (List ℕ) → Refusals → History

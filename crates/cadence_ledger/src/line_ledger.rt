@@ -46,7 +46,8 @@ impl<W: PacketWriter, A: Allocator + Clone> LineLedger<W, A> {
 }
 
 impl<W: PacketWriter, A: Allocator> LineLedger<W, A> {
-    ghost use Rattle.std.specs.Prelude.{[], ◌∷◌, length, IfOk, OnErr, IsTrue, IsFalse};
+    ghost use Rattle.std.specs.Option.{ok_or};
+    ghost use Rattle.std.specs.Prelude.{[], ◌∷◌, length, IfOk, IfSome, OnErr, IsTrue, IsFalse, None};
     ghost use Rattle.cadence_flow.specs.Packer.{FlushesHeld, HoldsLine, WritesLine};
     ghost use Rattle.cadence_ledger.specs.Ledger.{accepted_of, packer_of};
     ghost use Rattle.cadence_ledger.specs.Telling.{telling_history, telling_kind};
@@ -59,11 +60,23 @@ impl<W: PacketWriter, A: Allocator> LineLedger<W, A> {
         ensures writes { WritesLine (telling_kind W.kind) (telling_history W.history)
             (packer_of self.old) (packer_of self.new) line.now result }
     {
-        let answer = self.lines.write(line);
-        if let Ok(n) = &answer {
-            self.accepted.note(line, *n);
+        let mut fault = SinkError::NothingWritten;
+        self.write_noting(line, &mut fault).ok_or(fault)
+    }
+
+    /// Writes a line, as `LineBuffer::write_noting`.
+    pub fn write_noting(&mut self, line: &[u8], fault: &mut SinkError) -> Option<usize>
+        ensures accepted { IfSome result (λ n.
+            accepted_of self.new ≡ accepted_of self.old ++ (line.now, n) ∷ []) }
+        ensures refused { result ≡ None → accepted_of self.new ≡ accepted_of self.old }
+        ensures writes { WritesLine (telling_kind W.kind) (telling_history W.history)
+            (packer_of self.old) (packer_of self.new) line.now (ok_or result fault.new) }
+    {
+        let taken = self.lines.write_noting(line, fault);
+        if let Some(n) = taken {
+            self.accepted.note(line, n);
         }
-        answer
+        taken
     }
 
     /// Holds a line where it fits the free room, as `LineBuffer::hold`.
@@ -87,7 +100,17 @@ impl<W: PacketWriter, A: Allocator> LineLedger<W, A> {
         ensures flushes { FlushesHeld (telling_kind W.kind) (telling_history W.history)
             (packer_of self.old) (packer_of self.new) result }
     {
-        self.lines.flush()
+        let mut fault = SinkError::NothingWritten;
+        self.flush_noting(&mut fault).ok_or(fault)
+    }
+
+    /// Writes what is held, as `LineBuffer::flush_noting`.
+    pub fn flush_noting(&mut self, fault: &mut SinkError) -> Option<()>
+        ensures same { accepted_of self.new ≡ accepted_of self.old }
+        ensures flushes { FlushesHeld (telling_kind W.kind) (telling_history W.history)
+            (packer_of self.old) (packer_of self.new) (ok_or result fault.new) }
+    {
+        self.lines.flush_noting(fault)
     }
 
     /// The text that waits. After the packets that the writer took, it ends the frames of the accepted lines.

@@ -30,6 +30,7 @@ impl<W> Telling<W> {
 }
 
 impl<W: PacketWriter> PacketWriter for Telling<W> {
+    ghost use Rattle.std.specs.Option.{ok_or};
     ghost use Rattle.std.specs.Prelude.{Some};
     ghost use Rattle.cadence_flow.specs.Offers.{IsOffered};
     ghost use Rattle.cadence_flow.specs.Writer.{WritesPacket};
@@ -52,10 +53,26 @@ impl<W: PacketWriter> PacketWriter for Telling<W> {
             packets_of self.old ≡ (W.history (writer_of self.old)).packets →
             packets_of self.new ≡ (W.history (writer_of self.new)).packets }
     {
-        let answer = self.inner.write_packet(packet);
-        if let Ok(n) = &answer {
-            self.told.note(packet, *n);
+        let mut fault = SinkError::NothingWritten;
+        self.write_packet_noting(packet, &mut fault).ok_or(fault)
+    }
+
+    #[inline(always)]
+    fn write_packet_noting(&mut self, packet: &[u8], fault: &mut SinkError) -> Option<usize>
+        ensures same_kind { telling_kind W.kind self.new ≡ telling_kind W.kind self.old }
+        ensures writes { WritesPacket (telling_kind W.kind self.old)
+            (telling_history W.history self.old) (telling_history W.history self.new)
+            packet.now (ok_or result fault.new) }
+        ensures offers { IsOffered (Some (offers_of self.old)) (Some (offers_of self.new))
+            packet.now (ok_or result fault.new) }
+        ensures ties { (W.kind (writer_of self.old)).tells ≡ true →
+            packets_of self.old ≡ (W.history (writer_of self.old)).packets →
+            packets_of self.new ≡ (W.history (writer_of self.new)).packets }
+    {
+        let taken = self.inner.write_packet_noting(packet, fault);
+        if let Some(n) = taken {
+            self.told.note(packet, n);
         }
-        answer
+        taken
     }
 }

@@ -1,4 +1,5 @@
 //! What sinks over sockets have in common.
+ghost use Rattle.std.specs.Option.{ok_or};
 ghost use Rattle.std.specs.Prelude.{◌≡◌, Bool, IfOk};
 ghost use Rattle.cadence_errors.specs.Errors.{OnlyWantsMemory};
 ghost use Rattle.cadence_errors.specs.declared.SinkError.{SinkError};
@@ -17,9 +18,10 @@ pub trait Datagrams: Drop {
     /// The errors that it may give.
     ghost may_give: { SinkError → Bool };
 
-    /// Sends a packet, and answers how many of its first bytes were taken.
-    fn send(&self, packet: &[u8]) -> Result<usize, SinkError>
-        ensures { IsSocketAnswer may_give packet.now result };
+    /// Sends a packet, and answers how many of its first bytes were taken. An error is left in `fault`, and then there
+    /// is no count: each function that passes on an answer as wide as an `io::Error` would copy it.
+    fn send(&self, packet: &[u8], fault: &mut SinkError) -> Option<usize>
+        ensures { IsSocketAnswer may_give packet.now (ok_or result fault.new) };
 }
 
 /// A socket each answer of which is counted.
@@ -43,9 +45,18 @@ impl<D: Datagrams, R: Wait + Drop, A: Allocator> CountedSocket<D, R, A> {
     pub fn send(&self, packet: &[u8]) -> Result<usize, SinkError>
         ensures { IsSocketAnswer D.may_give packet.now result }
     {
-        let answer = self.socket.send(packet);
-        self.stats.note(&answer, packet.len());
-        answer
+        let mut fault = SinkError::NothingWritten;
+        self.send_noting(packet, &mut fault).ok_or(fault)
+    }
+
+    // As `send`, with an error left in `fault`.
+    #[inline(always)]
+    fn send_noting(&self, packet: &[u8], fault: &mut SinkError) -> Option<usize>
+        ensures { IsSocketAnswer D.may_give packet.now (ok_or result fault.new) }
+    {
+        let taken = self.socket.send(packet, fault);
+        self.stats.note_count(taken, packet.len());
+        taken
     }
 
     /// The counts of this moment.
@@ -71,10 +82,17 @@ impl<D: Datagrams, R: Wait + Drop, A: Allocator> PacketWriter for SocketWriter<D
     ghost kind = { λ _. socket_kind D.may_give };
 
     fn write_packet(&mut self, packet: &[u8]) -> Result<usize, SinkError> {
-        let answer = self.socket.socket.send(packet);
-        self.socket.stats.note(&answer, packet.len());
-        self.refusals.note(&answer, packet.len());
-        answer
+        let mut fault = SinkError::NothingWritten;
+        self.write_packet_noting(packet, &mut fault).ok_or(fault)
+    }
+
+    #[inline(always)]
+    fn write_packet_noting(&mut self, packet: &[u8], fault: &mut SinkError) -> Option<usize> {
+        let taken = self.socket.send_noting(packet, fault);
+        if taken.is_none() {
+            self.refusals.add(packet.len());
+        }
+        taken
     }
 }
 
@@ -115,8 +133,7 @@ impl<D: Datagrams, R: Wait + Drop, A: Allocator> PackedSocket<D, R, A> {
     ghost use Rattle.cadence_sinks.specs.Buffers.{buffer_of};
 
     /// Holds the line of a metric where it fits the free room, and is answered by its length then. Else nothing has
-    /// changed, and the lock is given for `write_out`. The answer is made by the sink's `emit`, since it is as wide as
-    /// an `io::Error`, and each function that passes it on copies it.
+    /// changed, and the lock is given for `write_out`.
     #[inline(always)]
     pub fn hold(&self, metric: &str) -> Option<SocketLines<'_, D, R, A>> {
         // a lock that is free is taken inline
@@ -133,27 +150,27 @@ impl<D: Datagrams, R: Wait + Drop, A: Allocator> PackedSocket<D, R, A> {
     /// Sends the held lines, and holds the line of a metric or sends it alone; then it lets the lock go. A line that an
     /// empty buffer has room for is held after a flush, as `write` would do it, but with no wide answer to copy. It
     /// answers the line's length, or of a line that went out alone how many bytes the socket took. An error is the
-    /// socket's, or `NothingWritten` where it took 0 bytes of held text; nothing of the line is kept then.
-    #[cold]
+    /// socket's, or `NothingWritten` where it took 0 bytes of held text; it is left in `fault`, and nothing of the line
+    /// is kept then.
     #[inline(never)]
     pub fn write_out(
         &self,
         mut lines: SocketLines<'_, D, R, A>,
         metric: &str,
-    ) -> Result<usize, SinkError>
-        ensures { IsBufferedAnswer D.may_give (buffer_of self.now) metric.now result }
+        fault: &mut SinkError,
+    ) -> Option<usize>
+        ensures { IsBufferedAnswer D.may_give (buffer_of self.now)
+            metric.now (ok_or result fault.new) }
     {
         if metric.len() < self.capacity {
-            if let Err(error) = lines.flush() {
-                return Err(error);
-            }
+            lines.flush_noting(fault)?;
             if hold_line(&mut lines, metric) {
-                return Ok(metric.len());
+                return Some(metric.len());
             }
         }
-        let n = write_line(&mut lines, metric)?;
+        let n = write_line(&mut lines, metric, fault)?;
         // a line for which the capacity has room is never cut, but no clause of a lock tells its packer's capacity
-        Ok(if metric.len() < self.capacity {
+        Some(if metric.len() < self.capacity {
             metric.len()
         } else {
             n

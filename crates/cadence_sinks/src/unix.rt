@@ -43,8 +43,14 @@ impl<P: PathSocket, A: Allocator> PathPeer<P, A> {
 impl<P: PathSocket, A: Allocator> Datagrams for PathPeer<P, A> {
     ghost may_give = { P.may_give };
 
-    fn send(&self, packet: &[u8]) -> Result<usize, SinkError> {
-        self.socket.send_to(packet, self.path.as_str())
+    fn send(&self, packet: &[u8], fault: &mut SinkError) -> Option<usize> {
+        match self.socket.send_to(packet, self.path.as_str()) {
+            Ok(n) => Some(n),
+            Err(error) => {
+                *fault = error;
+                None
+            }
+        }
     }
 }
 
@@ -134,7 +140,12 @@ impl<P: PathSocket, R: Wait + Drop, A: Allocator> MetricSink for BufferedUnixMet
     fn emit(&self, metric: &str) -> Result<usize, SinkError> {
         match self.socket.hold(metric) {
             None => Ok(metric.len()),
-            Some(lines) => self.socket.write_out(lines, metric),
+            Some(lines) => {
+                let mut fault = SinkError::NothingWritten;
+                self.socket
+                    .write_out(lines, metric, &mut fault)
+                    .ok_or(fault)
+            }
         }
     }
 

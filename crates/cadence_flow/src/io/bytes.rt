@@ -1,5 +1,6 @@
 //! Plain work on bytes.
 ghost use Rattle.std.specs.Prelude.{◌≡◌, ◌+◌, ◌<◌, ◌≤◌, ◌∷◌, ◌++◌, [], length, take, drop, true, is_ok, vec_len, vec_capacity, OnOk, OnErr, IfErr};
+ghost use Rattle.std.specs.Option.{ok_or};
 ghost use Rattle.cadence_flow.specs.Offers.{SendsOffers};
 ghost use Rattle.cadence_flow.specs.Packer.{HasCause};
 ghost use Rattle.cadence_flow.specs.Writer.{RefusedNothing, Sends};
@@ -53,34 +54,41 @@ pub(super) fn append_ending<A: Allocator>(held: &mut Vec<u8, A>, ending: &[u8])
     }
 }
 
-/// Sends bytes, what is left after a short count too, until all are taken or the writer refuses. Answers how many
-/// were taken.
-pub(super) fn send<T: PacketWriter>(bytes: &[u8], to: &mut T) -> (usize, Result<(), SinkError>)
+/// Sends bytes, what is left after a short count too, until all are taken or the writer refuses; why not all were is
+/// left in `fault`. Answers how many were taken, too.
+pub(super) fn send<T: PacketWriter>(
+    bytes: &[u8],
+    to: &mut T,
+    fault: &mut SinkError,
+) -> (usize, Option<()>)
     ensures same_kind { T.kind to.new ≡ T.kind to.old }
-    ensures all { OnOk result.1 (result.0 ≡ length bytes.now) }
-    ensures left { OnErr result.1 (result.0 < length bytes.now) }
+    ensures all { OnOk (ok_or result.1 fault.new) (result.0 ≡ length bytes.now) }
+    ensures left { OnErr (ok_or result.1 fault.new) (result.0 < length bytes.now) }
     ensures unchanged { length bytes.now ≡ 0 → T.history to.new ≡ T.history to.old }
-    ensures ok { OnOk result.1 (RefusedNothing (T.history to.old) (T.history to.new)) }
+    ensures ok { OnOk (ok_or result.1 fault.new) (RefusedNothing (T.history to.old) (T.history to.new)) }
     ensures sent { (T.kind to.old).tells ≡ true →
-        OnOk result.1 (Sends (T.history to.old) (T.history to.new) bytes.now) }
-    ensures cause { IfErr result.1 (HasCause (T.kind to.old) (T.history to.old) (T.history to.new)
+        OnOk (ok_or result.1 fault.new) (Sends (T.history to.old) (T.history to.new) bytes.now) }
+    ensures cause { IfErr (ok_or result.1 fault.new) (HasCause (T.kind to.old) (T.history to.old) (T.history to.new)
         (take result.0 bytes.now) (drop result.0 bytes.now)) }
     ensures one_packet { (T.kind to.old).tells ≡ true → (T.kind to.old).takes_whole ≡ true →
         0 < length bytes.now →
-        OnOk result.1 ((T.history to.new).packets ≡ (T.history to.old).packets ++ bytes.now ∷ []) }
+        OnOk (ok_or result.1 fault.new) ((T.history to.new).packets ≡ (T.history to.old).packets ++ bytes.now ∷ []) }
     ensures no_packet { (T.kind to.old).takes_whole ≡ true →
-        OnErr result.1 ((result.0 ≡ 0)
+        OnErr (ok_or result.1 fault.new) ((result.0 ≡ 0)
         × ((T.history to.new).packets ≡ (T.history to.old).packets)) }
     ensures offers { 0 < length bytes.now →
-        SendsOffers (T.offers to.old) (T.offers to.new) (is_ok result.1) }
+        SendsOffers (T.offers to.old) (T.offers to.new) (is_ok (ok_or result.1 fault.new)) }
 {
     let mut sent = 0;
     while sent < bytes.len() {
-        match to.write_packet(&bytes[sent..]) {
-            Ok(0) => return (sent, Err(SinkError::NothingWritten)),
-            Ok(n) => sent += n,
-            Err(e) => return (sent, Err(e)),
+        match to.write_packet_noting(&bytes[sent..], fault) {
+            Some(0) => {
+                *fault = SinkError::NothingWritten;
+                return (sent, None);
+            }
+            Some(n) => sent += n,
+            None => return (sent, None),
         }
     }
-    (sent, Ok(()))
+    (sent, Some(()))
 }

@@ -73,6 +73,7 @@ impl<T: PacketWriter, A: Allocator + Clone> LineBuffer<T, A> {
 impl<T: PacketWriter, A: Allocator> LineBuffer<T, A> {
     ghost use Rattle.std.specs.Prelude.{◌≡◌, ◌↔◌, ◌≤◌, length, is_ok, IsTrue};
     ghost use Rattle.std.specs.Borrow.{Lends, sem};
+    ghost use Rattle.std.specs.Option.{ok_or};
     ghost use Rattle.cadence_flow.specs.Offers.{FlushesOffers, WritesOffers};
     ghost use Rattle.cadence_flow.specs.Packer.{Fits, FlushesHeld, HoldsLine, ReplacesWriter, WritesLine, holding, with_writer};
     ghost use Rattle.cadence_flow.specs.contracts.io.line_buffer.LineBuffer.{the_row};
@@ -91,16 +92,28 @@ impl<T: PacketWriter, A: Allocator> LineBuffer<T, A> {
         ensures offers { WritesOffers self.old.format (T.offers self.old.writer)
             (T.offers self.new.writer) self.old.held self.new.held line.now result }
     {
+        let mut fault = SinkError::NothingWritten;
+        self.write_noting(line, &mut fault).ok_or(fault)
+    }
+
+    /// As `write`, but an error is left in `fault`, and then there is no length: an answer is narrow so.
+    pub fn write_noting(&mut self, line: &[u8], fault: &mut SinkError) -> Option<usize>
+        ensures writes { WritesLine T.kind T.history
+            self.old self.new line.now (ok_or result fault.new) }
+        ensures offers { WritesOffers self.old.format (T.offers self.old.writer)
+            (T.offers self.new.writer) self.old.held self.new.held
+            line.now (ok_or result fault.new) }
+    {
         let required = line.len() + self.ending.len();
         if required > self.capacity {
-            self.flush_any()?;
-            return self.inner.write_packet(line);
+            self.flush_noting(fault)?;
+            return self.inner.write_packet_noting(line, fault);
         }
         if self.capacity - self.held.len() < required {
-            self.flush()?;
+            self.flush_noting(fault)?;
         }
         self.keep(line);
-        Ok(line.len())
+        Some(line.len())
     }
 
     /// Whether a line and its ending fit the free room.
@@ -144,25 +157,22 @@ impl<T: PacketWriter, A: Allocator> LineBuffer<T, A> {
         ensures offers { FlushesOffers (T.offers self.old.writer)
             (T.offers self.new.writer) self.old.held (is_ok result) }
     {
-        if self.held.is_empty() {
-            return Ok(());
-        }
-        let (sent, result) = send(self.held.as_slice(), &mut self.inner);
-        remove_front(&mut self.held, sent);
-        result
+        let mut fault = SinkError::NothingWritten;
+        self.flush_noting(&mut fault).ok_or(fault)
     }
 
-    // `flush`, which is called only where something is held: where nothing is, no room is made for its wide answer.
-    #[inline(always)]
-    fn flush_any(&mut self) -> Result<(), SinkError>
-        ensures flushes { FlushesHeld T.kind T.history self.old self.new result }
+    /// As `flush`, but an error is left in `fault`: an answer is narrow so.
+    pub fn flush_noting(&mut self, fault: &mut SinkError) -> Option<()>
+        ensures flushes { FlushesHeld T.kind T.history self.old self.new (ok_or result fault.new) }
         ensures offers { FlushesOffers (T.offers self.old.writer)
-            (T.offers self.new.writer) self.old.held (is_ok result) }
+            (T.offers self.new.writer) self.old.held (is_ok (ok_or result fault.new)) }
     {
         if self.held.is_empty() {
-            return Ok(());
+            return Some(());
         }
-        self.flush()
+        let (sent, result) = send(self.held.as_slice(), &mut self.inner, fault);
+        remove_front(&mut self.held, sent);
+        result
     }
 
     /// The text that waits, at most the capacity.

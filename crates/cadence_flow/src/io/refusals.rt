@@ -1,6 +1,6 @@
 //! Counted refusals.
 ghost use Rattle.std.specs.Prelude.{◌≡◌};
-ghost use Rattle.cadence_flow.specs.Writer.{no_refusals, refusals_after};
+ghost use Rattle.cadence_flow.specs.Writer.{no_refusals, one_more, refusals_after};
 
 use cadence_errors::SinkError;
 
@@ -26,8 +26,15 @@ impl Refusals {
         ensures { self.new ≡ refusals_after self.old answer.now len }
     {
         if answer.is_err() {
-            self.count = self.count.wrapping_add(1);
-            self.bytes = self.bytes.wrapping_add(len as u64);
+            self.add(len);
         }
+    }
+
+    /// Adds a refused packet of `len` bytes.
+    pub fn add(&mut self, len: usize)
+        ensures { self.new ≡ one_more self.old len }
+    {
+        self.count = self.count.wrapping_add(1);
+        self.bytes = self.bytes.wrapping_add(len as u64);
     }
 }

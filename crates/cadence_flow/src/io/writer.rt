@@ -1,5 +1,6 @@
 //! What takes packets.
 ghost use Rattle.std.specs.Prelude.{◌≡◌, ℕ, List, Option, None};
+ghost use Rattle.std.specs.Option.{ok_or};
 ghost use Rattle.cadence_flow.specs.Offers.{IsOffered};
 ghost use Rattle.cadence_flow.specs.Writer.{History, Kind, WritesPacket};
 
@@ -25,4 +26,22 @@ pub trait PacketWriter: Drop {
         ensures writes { WritesPacket (kind self.old)
             (history self.old) (history self.new) packet.now result }
         ensures offers { IsOffered (offers self.old) (offers self.new) packet.now result };
+
+    /// As `write_packet`, but an error is left in `fault`, and then there is no count. An answer is narrow so, where an
+    /// error is as wide as an `io::Error`, which each function that passes it on would copy.
+    fn write_packet_noting(&mut self, packet: &[u8], fault: &mut SinkError) -> Option<usize>
+        ensures same_kind { kind self.new ≡ kind self.old }
+        ensures writes { WritesPacket (kind self.old)
+            (history self.old) (history self.new) packet.now (ok_or result fault.new) }
+        ensures offers { IsOffered (offers self.old) (offers self.new)
+            packet.now (ok_or result fault.new) }
+    {
+        match self.write_packet(packet) {
+            Ok(n) => Some(n),
+            Err(error) => {
+                *fault = error;
+                None
+            }
+        }
+    }
 }

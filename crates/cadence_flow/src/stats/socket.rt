@@ -5,7 +5,7 @@ ghost use Rattle.cadence_errors.specs.Errors.{OnlyWantsMemory};
 use super::SinkStats;
 use cadence_errors::{MetricResult, SinkError};
 use std::alloc::{AllocError, Allocator, Global};
-use std::sync::{Arc, Mutex, Wait};
+use std::sync::{Arc, Mutex, MutexGuard, Wait};
 
 /// One `SinkStats` under a lock, which the clones share, for a sink over a socket. A reading of it is of one moment. It
 /// keeps the runtime `R`, whose locks it takes.
@@ -46,12 +46,26 @@ impl<R: Wait + Drop, A: Allocator> SocketStats<R, A> {
 
     /// Counts what a socket answered to a packet of `len` bytes, under one lock.
     pub fn note(&self, answer: &Result<usize, SinkError>, len: usize) {
-        // a lock that is free is taken inline
-        let mut counts = match self.counts.try_lock() {
+        self.lock().add_answer(answer, len);
+    }
+
+    /// Counts a packet of `len` bytes, under one lock: how many of them a socket took, or none where it refused it.
+    #[inline(always)]
+    pub fn note_count(&self, taken: Option<usize>, len: usize) {
+        let mut counts = self.lock();
+        match taken {
+            Some(n) => counts.add_taken(n),
+            None => counts.add_refused(len),
+        }
+    }
+
+    // A lock that is free is taken inline.
+    #[inline(always)]
+    fn lock(&self) -> MutexGuard<'_, SinkStats> {
+        match self.counts.try_lock() {
             Some(counts) => counts,
             None => self.counts.lock(&self.rt),
-        };
-        counts.add_answer(answer, len);
+        }
     }
 
     /// As `note`, and gives the answer back.

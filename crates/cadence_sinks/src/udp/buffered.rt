@@ -80,7 +80,12 @@ impl<R: Wait + Drop, A: Allocator> MetricSink for BufferedUdpMetricSink<R, A> {
     fn emit(&self, metric: &str) -> Result<usize, SinkError> {
         match self.socket.hold(metric) {
             None => Ok(metric.len()),
-            Some(lines) => self.socket.write_out(lines, metric),
+            Some(lines) => {
+                let mut fault = SinkError::NothingWritten;
+                self.socket
+                    .write_out(lines, metric, &mut fault)
+                    .ok_or(fault)
+            }
         }
     }
 

@@ -39,10 +39,15 @@ impl<R: Wait + Drop, A: Allocator> UdpPeer<R, A> {
 impl<R: Wait + Drop, A: Allocator> Datagrams for UdpPeer<R, A> {
     ghost may_give = { is_io };
 
-    fn send(&self, packet: &[u8]) -> Result<usize, SinkError> {
+    // The one place that calls `send_to`, which is inlined so.
+    #[inline(never)]
+    fn send(&self, packet: &[u8], fault: &mut SinkError) -> Option<usize> {
         match self.socket.send_to(packet, self.resolver.get_addr()) {
-            Ok(n) => Ok(n),
-            Err(fault) => Err(SinkError::Io(fault)),
+            Ok(n) => Some(n),
+            Err(error) => {
+                *fault = SinkError::Io(error);
+                None
+            }
         }
     }
 }

@@ -1,4 +1,5 @@
 use Rattle.std.proofs.Common.{◌≡◌, ◌<◌, ap, ◌∙◌, sym, subst, arith, rules, ℕ, List, [], length, Ok, true}
+use Rattle.std.specs.Option.{ok_or}
 use Rattle.cadence_flow.specs.Frame.{is_oversize, size_of}
 use Rattle.cadence_flow.specs.Offers.{FlushesOffers}
 use Rattle.cadence_flow.specs.Packer.{Flushes, Writes}
@@ -6,7 +7,7 @@ use Rattle.cadence_flow.specs.Writer.{Kind, WritesPacket}
 use Rattle.std.proofs.lemmas.Bool.{false≢true}
 use Rattle.cadence_flow.proofs.Offering.{alone_offers, refused_offers}
 use Rattle.cadence_flow.proofs.Oversize.{Writes-alone}
-use Rattle.cadence_flow.proofs.io.line_buffer.LineBuffer.write.Goals as goal
+use Rattle.cadence_flow.proofs.io.line_buffer.LineBuffer.write_noting.Goals as goal
 
 pub returns-then-required-self : goal.returns-then-required-self
 returns-then-required-self g c =
@@ -15,35 +16,36 @@ returns-then-required-self g c =
     let was = c.args.self.now in
     let line = c.args.line.now in
     let opened = c.self-then-required-self.view_is in
-    let flushed = c.in_ok-flush_any.ensures.flushes.flushes in
+    let flushed = c.in_ok-flush_noting.ensures.flushes.flushes in
     let writer = ap (λ p. p.writer) opened in
     let emptied : c.self-then-required-self.inside.held.items ≡ [] = ap (λ p. p.held) opened ∙ flushed.empties in
-    let same_kind : kind c.self-then-required-self.inside.inner ≡ kind was.writer = ap kind writer ∙ c.in_ok-flush_any.ensures.flushes.same_kind in
+    let same_kind : kind c.self-then-required-self.inside.inner ≡ kind was.writer = ap kind writer ∙ c.in_ok-flush_noting.ensures.flushes.same_kind in
     let passes : was.format.capacity < size_of was.format line = omega (arith, ap (λ p. p.format.capacity) c.self.view_is, ap (λ p. length p.format.ending) c.self.view_is) in
     let over : is_oversize was.format line ≡ true = search rules in
     let old = history was.writer in
     let mid = history c.self-then-required-self.inside.inner in
-    let new = history c.write_packet.new.self in
-    let ok = c.in_ok-flush_any.field-0 in
+    let new = history c.write_packet_noting.new.self in
+    let ok = c.in_ok-flush_noting.field-0 in
+    let answer = ok_or c.write_packet_noting.result c.write_packet_noting.new.fault in
     let offers = g.T.PacketWriter.offers in
-    let after = offers c.write_packet.new.self in
+    let after = offers c.write_packet_noting.new.self in
     let between = offers c.self-then-required-self.inside.inner in
-    let flushed_offers = subst (λ w. FlushesOffers (offers was.writer) (offers w) was.held true) (sym writer) c.in_ok-flush_any.ensures.offers in
+    let flushed_offers = subst (λ w. FlushesOffers (offers was.writer) (offers w) was.held true) (sym writer) c.in_ok-flush_noting.ensures.offers in
     record {
       writes = record {
         same_kind = search rules;
         same_format = search rules;
         only_held = search rules;
         writes =
-            subst (λ (rest : List ℕ). Writes (kind was.writer) was.format old new was.held rest line c.write_packet.result) (sym emptied)
-            (Writes-alone (kind was.writer) old mid new was.held was.format line ok c.write_packet.result
-            (subst (λ w. Flushes (kind was.writer) old (history w) was.held [] (Ok ok)) (sym writer) (subst (λ (rest : List ℕ). Flushes (kind was.writer) old (history c.flush_any.new.self.writer) was.held rest (Ok ok)) flushed.empties flushed))
+            subst (λ (rest : List ℕ). Writes (kind was.writer) was.format old new was.held rest line answer) (sym emptied)
+            (Writes-alone (kind was.writer) old mid new was.held was.format line ok answer
+            (subst (λ w. Flushes (kind was.writer) old (history w) was.held [] (Ok ok)) (sym writer) (subst (λ (rest : List ℕ). Flushes (kind was.writer) old (history c.flush_noting.new.self.writer) was.held rest (Ok ok)) flushed.empties flushed))
             over passes
-            (subst (λ (k : Kind). WritesPacket k mid new line c.write_packet.result) same_kind c.write_packet.ensures.writes));
+            (subst (λ (k : Kind). WritesPacket k mid new line answer) same_kind c.write_packet_noting.ensures.writes));
       };
       offers = record {
         closes = λ more no. absurd (false≢true (sym no ∙ over));
-        alone = λ _. alone_offers (offers was.writer) between after was.held line c.write_packet.result flushed_offers c.write_packet.ensures.offers;
-        refused = λ _. refused_offers (offers was.writer) between after was.held _ line c.write_packet.result flushed_offers c.write_packet.ensures.offers emptied;
+        alone = λ _. alone_offers (offers was.writer) between after was.held line answer flushed_offers c.write_packet_noting.ensures.offers;
+        refused = λ _. refused_offers (offers was.writer) between after was.held _ line answer flushed_offers c.write_packet_noting.ensures.offers emptied;
       };
     }

@@ -1,9 +1,10 @@
 use Rattle.std.proofs.Common.{subst, sym, ◌<◌, length, drop, List, ℕ, is_ok, rules}
+use Rattle.std.specs.Option.{ok_or}
 use Rattle.cadence_flow.specs.Offers.{FlushesOffers}
 use Rattle.cadence_flow.specs.Packer.{Flushes}
 use Rattle.cadence_flow.proofs.Flushing.{Flushes-sent}
 use Rattle.cadence_flow.proofs.Offering.{offered_held}
-use Rattle.cadence_flow.proofs.io.line_buffer.LineBuffer.flush.Goals as goal
+use Rattle.cadence_flow.proofs.io.line_buffer.LineBuffer.flush_noting.Goals as goal
 
 pub returns : goal.returns
 returns g c =
@@ -15,7 +16,7 @@ returns g c =
     let text = c.self.inside.held.items in
     let old = history inner in
     let new = history c.send-sent.new.to in
-    let r = c.send-sent.result.1 in
+    let r = ok_or c.send-sent.result.1 c.send-sent.new.fault in
     let some : 0 < length c.as_slice.result.now = search rules in
     let sent = Flushes-sent (kind inner) old new c.as_slice.result.now c.send-sent.result.0 r some s.all s.left s.ok s.sent s.cause s.one_packet s.no_packet in
     let named = subst (λ (l : List ℕ). Flushes (kind inner) old new l (drop c.send-sent.result.0 l) r) c.as_slice.ensures.value sent in
