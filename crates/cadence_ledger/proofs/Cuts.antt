@@ -1,10 +1,10 @@
 -- What a packer's calls do to a cut with short counts.
-use Rattle.std.proofs.Common.{◌≡◌, ℕ, ◌+◌, ◌<◌, ◌≤◌, Bool, true, false, List, [], ◌∷◌, ◌++◌, Some, Result, Ok, Err, MatchResult, IsTrue, is_ok, OnOk, length, ap, sym, ◌∙◌, subst, refl, arith, ⊎_elim}
+use Rattle.std.proofs.Common.{◌≡◌, ℕ, ◌+◌, Bool, true, false, List, [], ◌∷◌, ◌++◌, Some, Result, Ok, Err, MatchResult, is_ok, OnOk, length, ap, sym, ◌∙◌, subst, refl, arith, ⊎_elim}
 use Rattle.std.proofs.Math.Logic.{∥∥₁_map}
 use Rattle.std.proofs.lemmas.Bool.{cases_lt}
 use Rattle.std.proofs.lemmas.List.{append-nil}
 use Rattle.cadence_errors.specs.declared.SinkError.{SinkError}
-use Rattle.cadence_flow.specs.Frame.{Format, size_of, is_oversize}
+use Rattle.cadence_flow.specs.Frame.{size_of, is_oversize}
 use Rattle.cadence_flow.specs.Offers.{FlushesOffers, WritesOffers}
 use Rattle.cadence_flow.specs.Packer.{Packer, FlushesHeld, WritesLine, Fits, holding}
 use Rattle.cadence_flow.specs.Writer.{History, Kind}

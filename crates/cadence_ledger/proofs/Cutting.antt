@@ -1,5 +1,5 @@
 -- How a cut with short counts grows.
-use Rattle.std.proofs.Common.{◌≡◌, ℕ, ◌+◌, ◌<◌, ◌≤◌, Bool, true, false, if◌then◌else◌, List, [], ◌∷◌, ◌++◌, Option, Some, None, Result, Ok, Err, length, map, take, ap, sym, ◌∙◌, subst, arith, refl, append_assoc, take_all, ◌⊎◌, ⊎_elim, inl, inr}
+use Rattle.std.proofs.Common.{◌≡◌, ℕ, ◌<◌, ◌≤◌, Bool, true, false, if◌then◌else◌, List, [], ◌∷◌, ◌++◌, Option, Some, None, Ok, length, map, take, ap, sym, ◌∙◌, subst, refl, append_assoc, ◌⊎◌, ⊎_elim, inl, inr}
 use Rattle.std.specs.Prelude.{All}
 use Rattle.std.specs.List.{concat, flat_map}
 use Rattle.std.proofs.Math.Nat.{eq-or-lt_of_le}

@@ -1,8 +1,7 @@
 -- What contracts show of a packer with a ledger over a writer that takes whole.
-use Rattle.std.specs.Prelude.{◌≡◌, ℕ, true, List}
-use Rattle.cadence_flow.specs.Packer.{Packer}
+use Rattle.std.specs.Prelude.{◌≡◌, true}
 use Rattle.cadence_flow.specs.Writer.{Kind}
-use Rattle.cadence_ledger.specs.Ledger.{accepted_of, packer_of}
+use Rattle.cadence_ledger.specs.Ledger.{packer_of}
 use Rattle.cadence_ledger.specs.Telling.{writer_of}
 use Rattle.cadence_ledger.specs.declared.line_ledger.LineLedger.{LineLedger}
 use Rattle.cadence_ledger.specs.declared.whole_ledger.WholeLedger.{WholeLedger}

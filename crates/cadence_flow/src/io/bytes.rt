@@ -1,27 +1,82 @@
 //! Plain work on bytes.
-ghost use Rattle.std.specs.Prelude.{◌≡◌, ◌+◌, ◌<◌, ◌≤◌, ◌∷◌, ◌++◌, [], length, take, drop, true, is_ok, vec_len, vec_capacity, OnOk, OnErr, IfErr};
+ghost use Rattle.std.specs.Prelude.{◌≡◌, ◌+◌, ◌-◌, ◌<◌, ◌≤◌, ◌∷◌, ◌++◌, [], length, take, drop, true, is_ok, vec_len, vec_capacity, ◌↔◌, OnOk, OnErr, IfErr, IsTrue};
 ghost use Rattle.std.specs.Option.{ok_or};
-ghost use Rattle.cadence_flow.specs.Offers.{SendsOffers};
-ghost use Rattle.cadence_flow.specs.Packer.{HasCause};
+ghost use Rattle.cadence_flow.specs.Offers.{FlushesOffers, SendsOffers};
+ghost use Rattle.cadence_flow.specs.Packer.{Flushes, HasCause};
 ghost use Rattle.cadence_flow.specs.Writer.{RefusedNothing, Sends};
 
 use super::PacketWriter;
 use cadence_errors::SinkError;
 use std::alloc::Allocator;
 
-/// Removes the first n bytes.
-pub(super) fn remove_front<A: Allocator>(bytes: &mut Vec<u8, A>, n: usize)
-    requires { n ≤ vec_len bytes.old }
-    ensures items { bytes.new.items ≡ drop n bytes.old.items }
+/// Leaves out the first n bytes of what begins at `start`. Where nothing is left, the room is empty.
+pub(super) fn skip_front<A: Allocator>(bytes: &mut Vec<u8, A>, start: &mut usize, n: usize)
+    requires { start.old + n ≤ vec_len bytes.old }
+    ensures rest { drop start.new bytes.new.items ≡ drop n (drop start.old bytes.old.items) }
+    ensures start { start.new ≤ vec_len bytes.new - 1 }
+    ensures len { vec_len bytes.new ≤ vec_len bytes.old }
+    ensures capacity { vec_capacity bytes.new ≡ vec_capacity bytes.old }
+{
+    *start += n;
+    if *start == bytes.len() {
+        bytes.clear();
+        *start = 0;
+    }
+}
+
+/// Copies what begins at `start` to the front.
+#[cold]
+#[inline(never)]
+fn copy_to_front(bytes: &mut [u8], start: usize)
+    requires { start ≤ length bytes.old }
+    ensures len { length bytes.new ≡ length bytes.old }
+    ensures front { take (length bytes.old - start) bytes.new ≡ drop start bytes.old }
+{
+    if start > 0 {
+        let len = bytes.len();
+        bytes.copy_within(start..len, 0);
+    }
+}
+
+/// Moves what begins at `start` to the front. Nobody is given the place of the bytes' owner, so that its fields may
+/// stay in registers.
+#[inline(always)]
+pub(super) fn move_to_front<A: Allocator>(bytes: &mut Vec<u8, A>, start: &mut usize)
+    requires { start.old ≤ vec_len bytes.old }
+    ensures start { start.new ≡ 0 }
+    ensures items { bytes.new.items ≡ drop start.old bytes.old.items }
     ensures capacity { vec_capacity bytes.new ≡ vec_capacity bytes.old }
 {
     let len = bytes.len();
-    if n == len {
-        bytes.clear();
-        return;
+    copy_to_front(bytes.as_mut_slice(), *start);
+    bytes.truncate(len - *start);
+    *start = 0;
+}
+
+/// Moves what begins at `start` to the front where n bytes then have room behind it, and answers whether they have.
+/// It is called where they have none now.
+#[inline(always)]
+pub(super) fn make_room<A: Allocator>(
+    bytes: &mut Vec<u8, A>,
+    start: &mut usize,
+    capacity: usize,
+    n: usize,
+) -> bool
+    requires start { start.old ≤ vec_len bytes.old - 1 }
+    requires bound { vec_len bytes.old ≤ capacity }
+    requires none { capacity < vec_len bytes.old + n }
+    ensures exact { IsTrue result ↔ (vec_len bytes.old - start.old) + n ≤ capacity }
+    ensures room { IsTrue result → vec_len bytes.new + n ≤ capacity }
+    ensures text { drop start.new bytes.new.items ≡ drop start.old bytes.old.items }
+    ensures start { start.new ≤ vec_len bytes.new - 1 }
+    ensures len { vec_len bytes.new ≤ vec_len bytes.old }
+    ensures capacity { vec_capacity bytes.new ≡ vec_capacity bytes.old }
+{
+    if *start == 0 || n > capacity - bytes.len() + *start {
+        return false;
     }
-    bytes.as_mut_slice().copy_within(n..len, 0);
-    bytes.truncate(len - n);
+    move_to_front(bytes, start);
+    true
 }
 
 /// Appends bytes where there is room for them.
@@ -91,4 +146,28 @@ pub(super) fn send<T: PacketWriter>(
         }
     }
     (sent, Some(()))
+}
+
+/// Sends what begins at `start`, as `send`, and leaves out what was taken.
+#[inline(always)]
+pub(super) fn send_held<T: PacketWriter, A: Allocator>(
+    held: &mut Vec<u8, A>,
+    start: &mut usize,
+    to: &mut T,
+    fault: &mut SinkError,
+) -> Option<()>
+    requires { start.old < vec_len held.old }
+    ensures same_kind { T.kind to.new ≡ T.kind to.old }
+    ensures flushes { Flushes (T.kind to.old) (T.history to.old) (T.history to.new)
+        (drop start.old held.old.items) (drop start.new held.new.items)
+        (ok_or result fault.new) }
+    ensures offers { FlushesOffers (T.offers to.old) (T.offers to.new)
+        (drop start.old held.old.items) (is_ok (ok_or result fault.new)) }
+    ensures start { start.new ≤ vec_len held.new - 1 }
+    ensures len { vec_len held.new ≤ vec_len held.old }
+    ensures capacity { vec_capacity held.new ≡ vec_capacity held.old }
+{
+    let (sent, result) = send(&held[*start..], to, fault);
+    skip_front(held, start, sent);
+    result
 }

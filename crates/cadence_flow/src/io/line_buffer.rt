@@ -1,6 +1,6 @@
 //! Lines that wait for their packet.
 use super::PacketWriter;
-use super::bytes::{append, append_ending, remove_front, send};
+use super::bytes::{append, append_ending, make_room, move_to_front, send_held};
 use cadence_errors::SinkError;
 use std::alloc::{Allocator, Global};
 use std::marker::Model;
@@ -11,13 +11,15 @@ use std::mem;
 #[derive(Drop)]
 pub struct LineBuffer<T, A: Allocator = Global> {
     inner: T,
+    // what is held begins at `start`; where nothing is held, no byte stands before it either
     held: Vec<u8, A>,
+    start: usize,
     capacity: usize,
     ending: Vec<u8, A>,
 }
 
 impl<T, A: Allocator> Model for LineBuffer<T, A> {
-    ghost use Rattle.std.specs.Prelude.{◌≤◌, length, vec_capacity};
+    ghost use Rattle.std.specs.Prelude.{◌≤◌, ◌-◌, length, drop, vec_capacity};
     ghost use Rattle.cadence_flow.specs.Packer.{Packer, packer_code};
 
     ghost Value = { Packer T };
@@ -26,12 +28,12 @@ impl<T, A: Allocator> Model for LineBuffer<T, A> {
 
     ghost view = { λ w. record {
       writer = w.inner;
-      held = w.held.items;
+      held = drop w.start w.held.items;
       format = record { capacity = w.capacity; ending = w.ending.items };
     } };
 
     ghost invariant = { λ w. (length w.held.items ≤ w.capacity)
-        × (w.capacity ≤ vec_capacity w.held) };
+        × (w.capacity ≤ vec_capacity w.held) × (w.start ≤ length w.held.items - 1) };
 }
 
 impl<T: PacketWriter, A: Allocator + Clone> LineBuffer<T, A> {
@@ -64,6 +66,7 @@ impl<T: PacketWriter, A: Allocator + Clone> LineBuffer<T, A> {
         Ok(LineBuffer {
             inner,
             held,
+            start: 0,
             capacity,
             ending,
         })
@@ -75,7 +78,7 @@ impl<T: PacketWriter, A: Allocator> LineBuffer<T, A> {
     ghost use Rattle.std.specs.Borrow.{Lends, sem};
     ghost use Rattle.std.specs.Option.{ok_or};
     ghost use Rattle.cadence_flow.specs.Offers.{FlushesOffers, WritesOffers};
-    ghost use Rattle.cadence_flow.specs.Packer.{Fits, FlushesHeld, HoldsLine, ReplacesWriter, WritesLine, holding, with_writer};
+    ghost use Rattle.cadence_flow.specs.Packer.{Fits, FlushesHeld, HoldsLine, ReplacesWriter, WritesLine, with_writer};
     ghost use Rattle.cadence_flow.specs.contracts.io.line_buffer.LineBuffer.{the_row};
 
     /// Writes a line and answers its length.
@@ -106,13 +109,14 @@ impl<T: PacketWriter, A: Allocator> LineBuffer<T, A> {
     {
         let required = line.len() + self.ending.len();
         if required > self.capacity {
-            self.flush_noting(fault)?;
+            self.flush_any(fault)?;
             return self.inner.write_packet_noting(line, fault);
         }
-        if self.capacity - self.held.len() < required {
+        if !self.hold(line) {
             self.flush_noting(fault)?;
+            append(&mut self.held, line);
+            append_ending(&mut self.held, self.ending.as_slice());
         }
-        self.keep(line);
         Some(line.len())
     }
 
@@ -121,7 +125,7 @@ impl<T: PacketWriter, A: Allocator> LineBuffer<T, A> {
     pub fn fits(&self, line: &[u8]) -> bool
         ensures { IsTrue result ↔ Fits self.now line.now }
     {
-        line.len() + self.ending.len() <= self.capacity - self.held.len()
+        line.len() + self.ending.len() <= self.capacity - self.held.len() + self.start
     }
 
     /// Holds a line and its ending where they fit the free room, and answers whether they did; else nothing changes.
@@ -130,21 +134,15 @@ impl<T: PacketWriter, A: Allocator> LineBuffer<T, A> {
     pub fn hold(&mut self, line: &[u8]) -> bool
         ensures { HoldsLine self.old self.new line.now result }
     {
-        if !self.fits(line) {
+        let required = line.len() + self.ending.len();
+        if self.capacity - self.held.len() < required
+            && !make_room(&mut self.held, &mut self.start, self.capacity, required)
+        {
             return false;
         }
-        self.keep(line);
-        true
-    }
-
-    // Holds a line and its ending, which fit the free room.
-    #[inline(always)]
-    fn keep(&mut self, line: &[u8])
-        requires { Fits self.old line.now }
-        ensures { self.new ≡ holding self.old line.now }
-    {
         append(&mut self.held, line);
         append_ending(&mut self.held, self.ending.as_slice());
+        true
     }
 
     /// Writes what is held, what is left after a short count too, until all is taken. With nothing held it writes
@@ -170,9 +168,20 @@ impl<T: PacketWriter, A: Allocator> LineBuffer<T, A> {
         if self.held.is_empty() {
             return Some(());
         }
-        let (sent, result) = send(self.held.as_slice(), &mut self.inner, fault);
-        remove_front(&mut self.held, sent);
-        result
+        send_held(&mut self.held, &mut self.start, &mut self.inner, fault)
+    }
+
+    // `flush_noting`, which is called only where something is held.
+    #[inline(always)]
+    fn flush_any(&mut self, fault: &mut SinkError) -> Option<()>
+        ensures flushes { FlushesHeld T.kind T.history self.old self.new (ok_or result fault.new) }
+        ensures offers { FlushesOffers (T.offers self.old.writer)
+            (T.offers self.new.writer) self.old.held (is_ok (ok_or result fault.new)) }
+    {
+        if self.held.is_empty() {
+            return Some(());
+        }
+        self.flush_noting(fault)
     }
 
     /// The text that waits, at most the capacity.
@@ -180,7 +189,7 @@ impl<T: PacketWriter, A: Allocator> LineBuffer<T, A> {
         ensures text { result.now ≡ self.now.held }
         ensures bound { length self.now.held ≤ self.now.format.capacity }
     {
-        &self.held[..]
+        &self.held[self.start..]
     }
 
     /// The writer.
@@ -209,7 +218,8 @@ impl<T: PacketWriter, A: Allocator> LineBuffer<T, A> {
         let Ok(room) = Vec::with_capacity(alloc, self.capacity) else {
             return Err(writer);
         };
-        let held = mem::replace(&mut self.held, room);
+        let mut held = mem::replace(&mut self.held, room);
+        move_to_front(&mut held, &mut self.start);
         let inner = mem::replace(&mut self.inner, writer);
         Ok((inner, held))
     }
@@ -221,10 +231,12 @@ impl<T: PacketWriter, A: Allocator> LineBuffer<T, A> {
     {
         let LineBuffer {
             inner: writer,
-            held: text,
+            held: mut text,
+            mut start,
             capacity: _,
             ending: _,
         } = self;
+        move_to_front(&mut text, &mut start);
         (writer, text)
     }
 }

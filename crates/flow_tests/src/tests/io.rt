@@ -214,11 +214,121 @@ fn a_line_fits_up_to_the_capacity(rt: HostRuntime) -> Result<(), Fail> {
     Ok(())
 }
 
+fn buffer(
+    alloc: Global,
+    capacity: usize,
+    script: &[Answer],
+) -> Result<LineBuffer<PacketLog>, NoMemory> {
+    let Ok(script) = script.to_vec(alloc) else {
+        return Err(NoMemory);
+    };
+    match LineBuffer::new(alloc, PacketLog::new(alloc, script), capacity) {
+        Ok(lines) => Ok(lines),
+        Err(_log) => Err(NoMemory),
+    }
+}
+
+// A call of a packer.
+#[derive(Clone, Copy)]
+enum Call {
+    Hold(&'static str),
+    Write(&'static str),
+    Flush,
+}
+
+// Whether a call goes well.
+fn goes(lines: &mut LineBuffer<PacketLog>, call: Call) -> bool {
+    match call {
+        Call::Hold(line) => lines.hold(line.as_bytes()),
+        Call::Write(line) => lines.write(line.as_bytes()).is_ok(),
+        Call::Flush => lines.flush().is_ok(),
+    }
+}
+
+// The packets that a writer takes which answers `SHORT_COUNTS`.
+const PACKETS: [&str; 4] = ["abc", "\nd", "ef\ngh\nk\n", "1234567\n"];
+
+const SHORT_COUNTS: [Answer; 4] = [
+    Answer::Short(3),
+    Answer::Refuse,
+    Answer::Short(2),
+    Answer::Refuse,
+];
+
+// Calls of a packer of 8 bytes, each with whether it goes well, how many of the packets are taken then, and what
+// waits: what a short count leaves, with a line behind it wherever both have room.
+const CALLS: [(Call, bool, usize, &str); 10] = [
+    (Call::Write("abc"), true, 0, "abc\n"),
+    (Call::Write("def"), true, 0, "abc\ndef\n"),
+    (Call::Flush, false, 1, "\ndef\n"),
+    (Call::Hold("gh"), true, 1, "\ndef\ngh\n"),
+    (Call::Hold(""), false, 1, "\ndef\ngh\n"),
+    (Call::Flush, false, 2, "ef\ngh\n"),
+    (Call::Write("k"), true, 2, "ef\ngh\nk\n"),
+    (Call::Flush, true, 3, ""),
+    (Call::Hold("1234567"), true, 3, "1234567\n"),
+    (Call::Write("x"), true, 4, "x\n"),
+];
+
+#[test]
+fn lines_join_what_a_short_count_leaves(rt: HostRuntime) -> Result<(), Fail> {
+    let mut lines = buffer(rt.alloc(), 8, &SHORT_COUNTS)?;
+    for (call, well, packets, held) in &CALLS {
+        assert!(rt; goes(&mut lines, *call) == *well);
+        assert!(rt; took(lines.get_ref(), &PACKETS[..*packets]));
+        assert!(rt; lines.held() == held.as_bytes());
+    }
+    Ok(())
+}
+
+// Gives up what a packer holds after a first byte was sent. Whether the rest comes back.
+fn gives_the_rest(mut lines: LineBuffer<PacketLog>) -> bool {
+    let well = goes(&mut lines, Call::Write("abc")) && !goes(&mut lines, Call::Flush);
+    let (log, rest) = lines.into_parts();
+    well && took(&log, &["a"]) && rest.as_slice() == b"bc\n".as_slice()
+}
+
+// The same where another writer takes its place. Whether nothing waits then.
+fn gives_the_rest_up(mut lines: LineBuffer<PacketLog>, alloc: Global) -> bool {
+    let well = goes(&mut lines, Call::Write("abc")) && !goes(&mut lines, Call::Flush);
+    match lines.replace_writer(alloc, PacketLog::new(alloc, Vec::new(alloc))) {
+        Ok((_log, rest)) => {
+            well && rest.as_slice() == b"bc\n".as_slice()
+                && lines.fits(b"1234567")
+                && lines.held().is_empty()
+        }
+        Err(_back) => false,
+    }
+}
+
+#[test]
+fn what_a_short_count_leaves_is_given_up(rt: HostRuntime) -> Result<(), Fail> {
+    let script = [Answer::Short(1), Answer::Refuse];
+    assert!(rt; gives_the_rest(buffer(rt.alloc(), 8, &script)?));
+    assert!(rt; gives_the_rest_up(buffer(rt.alloc(), 8, &script)?, rt.alloc()));
+    Ok(())
+}
+
+#[test]
+fn an_error_is_left_in_its_place(rt: HostRuntime) -> Result<(), Fail> {
+    let mut lines = buffer(rt.alloc(), 8, &[Answer::Refuse, Answer::Short(0)])?;
+    let mut fault = SinkError::OutOfMemory;
+    assert!(rt; lines.write_noting(b"abc", &mut fault) == Some(3));
+    assert!(rt; lines.write_noting(b"123456789", &mut fault).is_none());
+    assert!(rt; matches!(fault, SinkError::PacketRefused));
+    assert!(rt; lines.flush_noting(&mut fault).is_none());
+    assert!(rt; matches!(fault, SinkError::NothingWritten));
+    assert!(rt; lines.write_noting(b"123456789", &mut fault) == Some(9));
+    assert!(rt; took(lines.get_ref(), &["", "abc\n", "123456789"]));
+    Ok(())
+}
+
 #[test]
 fn an_error_is_a_refusal(rt: HostRuntime) {
     let mut refusals = Refusals::none();
     refusals.note(&Ok(3), 3);
     refusals.note(&Err(SinkError::PacketRefused), 5);
     refusals.note(&Err(SinkError::OutOfMemory), 2);
-    assert!(rt; refusals == Refusals { count: 2, bytes: 7 });
+    refusals.add(1);
+    assert!(rt; refusals == Refusals { count: 3, bytes: 8 });
 }

@@ -28,10 +28,11 @@ fn each_count_by_itself(rt: HostRuntime) -> Result<(), Fail> {
     stats.incr_packets_sent();
     stats.incr_bytes_dropped(20);
     stats.incr_packets_dropped();
-    stats.incr_packets_dropped();
+    stats.note_count(Some(3), 4);
+    stats.note_count(None, 5);
     let counts = SinkStats::from(&stats);
-    assert!(rt; counts.bytes_sent == 10 && counts.packets_sent == 1);
-    assert!(rt; counts.bytes_dropped == 20 && counts.packets_dropped == 2);
+    assert!(rt; counts.bytes_sent == 13 && counts.packets_sent == 2);
+    assert!(rt; counts.bytes_dropped == 25 && counts.packets_dropped == 2);
     Ok(())
 }
 

@@ -1,4 +1,4 @@
-use Rattle.std.proofs.Common.{◌≡◌, ◌<◌, ap, ◌∙◌, sym, subst, arith, rules, ℕ, List, [], length, Ok, true}
+use Rattle.std.proofs.Common.{◌≡◌, ◌<◌, ap, ◌∙◌, sym, subst, arith, rules, ℕ, List, [], length, drop, Ok, true}
 use Rattle.std.specs.Option.{ok_or}
 use Rattle.cadence_flow.specs.Frame.{is_oversize, size_of}
 use Rattle.cadence_flow.specs.Offers.{FlushesOffers}
@@ -16,21 +16,21 @@ returns-then-required-self g c =
     let was = c.args.self.now in
     let line = c.args.line.now in
     let opened = c.self-then-required-self.view_is in
-    let flushed = c.in_ok-flush_noting.ensures.flushes.flushes in
+    let flushed = c.in_ok-flush_any.ensures.flushes.flushes in
     let writer = ap (λ p. p.writer) opened in
-    let emptied : c.self-then-required-self.inside.held.items ≡ [] = ap (λ p. p.held) opened ∙ flushed.empties in
-    let same_kind : kind c.self-then-required-self.inside.inner ≡ kind was.writer = ap kind writer ∙ c.in_ok-flush_noting.ensures.flushes.same_kind in
+    let emptied : drop c.self-then-required-self.inside.start c.self-then-required-self.inside.held.items ≡ [] = ap (λ p. p.held) opened ∙ flushed.empties in
+    let same_kind : kind c.self-then-required-self.inside.inner ≡ kind was.writer = ap kind writer ∙ c.in_ok-flush_any.ensures.flushes.same_kind in
     let passes : was.format.capacity < size_of was.format line = omega (arith, ap (λ p. p.format.capacity) c.self.view_is, ap (λ p. length p.format.ending) c.self.view_is) in
     let over : is_oversize was.format line ≡ true = search rules in
     let old = history was.writer in
     let mid = history c.self-then-required-self.inside.inner in
     let new = history c.write_packet_noting.new.self in
-    let ok = c.in_ok-flush_noting.field-0 in
+    let ok = c.in_ok-flush_any.field-0 in
     let answer = ok_or c.write_packet_noting.result c.write_packet_noting.new.fault in
     let offers = g.T.PacketWriter.offers in
     let after = offers c.write_packet_noting.new.self in
     let between = offers c.self-then-required-self.inside.inner in
-    let flushed_offers = subst (λ w. FlushesOffers (offers was.writer) (offers w) was.held true) (sym writer) c.in_ok-flush_noting.ensures.offers in
+    let flushed_offers = subst (λ w. FlushesOffers (offers was.writer) (offers w) was.held true) (sym writer) c.in_ok-flush_any.ensures.offers in
     record {
       writes = record {
         same_kind = search rules;
@@ -39,7 +39,7 @@ returns-then-required-self g c =
         writes =
             subst (λ (rest : List ℕ). Writes (kind was.writer) was.format old new was.held rest line answer) (sym emptied)
             (Writes-alone (kind was.writer) old mid new was.held was.format line ok answer
-            (subst (λ w. Flushes (kind was.writer) old (history w) was.held [] (Ok ok)) (sym writer) (subst (λ (rest : List ℕ). Flushes (kind was.writer) old (history c.flush_noting.new.self.writer) was.held rest (Ok ok)) flushed.empties flushed))
+            (subst (λ w. Flushes (kind was.writer) old (history w) was.held [] (Ok ok)) (sym writer) (subst (λ (rest : List ℕ). Flushes (kind was.writer) old (history c.flush_any.new.self.writer) was.held rest (Ok ok)) flushed.empties flushed))
             over passes
             (subst (λ (k : Kind). WritesPacket k mid new line answer) same_kind c.write_packet_noting.ensures.writes));
       };
