@@ -9,4 +9,5 @@ mod worker_end;
 pub use policy::QueuePolicy;
 pub use queue_core::{QueueCore, Taken};
 pub use refusal::Refusal;
+pub use text_ring::TextRing;
 pub use worker_end::WorkerEnd;

@@ -93,6 +93,16 @@ impl<T: Drop, A: Allocator> TextRing<T, A> {
         }
     }
 
+    /// The number of texts that it holds without growing.
+    pub fn room(&self) -> usize
+        ensures { result ≡ self.now.capacity }
+    {
+        match &self.block {
+            Some(block) => block.capacity(),
+            None => 0,
+        }
+    }
+
     /// The text at a place, counted from the front.
     pub fn get(&self, index: usize) -> Option<&T>
         ensures { option_copied result ≡ slice_get self.now.items index }
