@@ -4,6 +4,7 @@
 mod item_log;
 mod line_ledger;
 mod queue_ledger;
+mod seen;
 mod shared_queue;
 mod telling;
 mod text_log;

@@ -4,8 +4,9 @@ ghost use Rattle.cadence_ledger.specs.QueuePast.{IsPast};
 
 use super::item_log::ItemLog;
 use cadence_errors::{MetricResult, SinkError};
-use cadence_flow::queue::{QueueCore, QueuePolicy, Refusal, Taken};
+use cadence_flow::queue::{QueueCore, QueuePolicy, Refusal, Taken, TextRing};
 use std::alloc::{AllocError, Allocator, Global};
+use std::mem;
 
 /// A `QueueCore`, and in proofs alone the texts that it accepted and those that were taken from it. Whoever has one
 /// knows that the accepted texts were taken or dropped, or wait, as the queue's model tells it: `past`.
@@ -18,10 +19,10 @@ pub struct QueueLedger<T, A: Allocator = Global> {
 }
 
 impl<T: Drop, A: Allocator + Clone> QueueLedger<T, A> {
-    ghost use Rattle.std.specs.Prelude.{[], ◌∷◌, ◌++◌, IfOk, IfErr, OnOk, OnErr, Ok, Option, IsTrue};
+    ghost use Rattle.std.specs.Prelude.{[], ◌∷◌, ◌++◌, IfOk, IfErr, OnOk, OnErr, Ok, Option, IsTrue, false};
     ghost use Rattle.std.specs.declared.alloc.AllocError.{AllocError};
     ghost use Rattle.cadence_flow.specs.QueueRoom.{OnlyWantsRoom};
-    ghost use Rattle.cadence_flow.specs.Queue.{Accepts, IsRefusal, error_of, new_queue};
+    ghost use Rattle.cadence_flow.specs.Queue.{Accepts, IsRefusal, error_of, is_crowded, new_queue, refusal_beside};
     ghost use Rattle.cadence_ledger.specs.QueueLedger.{accepted_by, core_of, taken_from};
 
     /// An empty queue that has accepted no text, as `QueueCore::with_policy`.
@@ -57,6 +58,30 @@ impl<T: Drop, A: Allocator + Clone> QueueLedger<T, A> {
         answer
     }
 
+    /// As `offer`, of a queue for which texts that were lent still count as waiting: `QueueCore::is_crowded`.
+    pub fn offer_beside<F: FnOnce() -> Result<T, AllocError>>(
+        &mut self,
+        lent: usize,
+        make: F,
+    ) -> Result<(), Refusal>
+        requires { F.IsAlwaysCallable make }
+        ensures accepted { OnOk result ((text : T) × (dropped : Option T)
+            × F.post make (Ok text)
+            × (accepted_by self.new ≡ accepted_by self.old ++ text ∷ [])
+            × Accepts (core_of self.old) text dropped (core_of self.new)) }
+        ensures room { OnOk result (is_crowded lent (core_of self.old) ≡ false) }
+        ensures refused { OnErr result (accepted_by self.new ≡ accepted_by self.old) }
+        ensures same { taken_from self.new ≡ taken_from self.old }
+        ensures refuses { IfErr result (λ e.
+            (error_of e ≡ refusal_beside lent (core_of self.old))
+            × (core_of self.new ≡ core_of self.old)) }
+    {
+        if self.core.is_crowded(lent) {
+            return Err(Refusal::Full);
+        }
+        self.offer(make)
+    }
+
     /// Puts last the text that `make` makes, as `QueueCore::offer`.
     pub fn offer<F: FnOnce() -> Result<T, AllocError>>(&mut self, make: F) -> Result<(), Refusal>
         requires { F.IsAlwaysCallable make }
@@ -80,8 +105,9 @@ impl<T: Drop, A: Allocator + Clone> QueueLedger<T, A> {
 }
 
 impl<T: Drop, A: Allocator> QueueLedger<T, A> {
-    ghost use Rattle.std.specs.Prelude.{[], ◌∷◌, ◌++◌, length};
-    ghost use Rattle.cadence_flow.specs.Queue.{IsTaken, adding_handle, dropping_handle, is_full, is_idle, stopping};
+    ghost use Rattle.std.specs.Prelude.{[], ◌∷◌, ◌++◌, length, false, IsTrue};
+    ghost use Rattle.cadence_flow.specs.Queue.{IsTaken, adding_handle, dropping_handle, emptying, is_full, is_idle, stopping};
+    ghost use Rattle.cadence_flow.specs.QueueRoom.{is_spare};
     ghost use Rattle.cadence_ledger.specs.QueueLedger.{accepted_by, core_of, taken_from};
     ghost use Rattle.cadence_ledger.specs.QueueTaken.{texts_of};
 
@@ -96,6 +122,25 @@ impl<T: Drop, A: Allocator> QueueLedger<T, A> {
             self.taken = self.taken.and(text);
         }
         answer
+    }
+
+    /// Gives all texts that wait to an empty batch, as `QueueCore::take_all`.
+    pub fn take_all(&mut self, batch: &mut TextRing<T, A>) -> bool
+        ensures answer { result ≡ is_spare (core_of self.old).capacity batch.old }
+        ensures noted { IsTrue result →
+            taken_from self.new ≡ taken_from self.old ++ batch.new.items }
+        ensures same { accepted_by self.new ≡ accepted_by self.old }
+        ensures all { IsTrue result → batch.new.items ≡ (core_of self.old).waiting }
+        ensures emptied { IsTrue result → core_of self.new ≡ emptying (core_of self.old) }
+        ensures none { result ≡ false → (batch.new ≡ batch.old)
+            × (core_of self.new ≡ core_of self.old) × (taken_from self.new ≡ taken_from self.old) }
+    {
+        if !self.core.take_all(batch) {
+            return false;
+        }
+        let taken = mem::replace(&mut self.taken, ItemLog::new());
+        self.taken = taken.and_all(batch);
+        true
     }
 
     /// Sets the stop mark, as `QueueCore::stop`.

@@ -1,38 +1,85 @@
 //! A queue that threads share.
-ghost use Rattle.std.specs.Prelude.{◌≡◌, IfErr, IfOk};
-ghost use Rattle.cadence_flow.specs.Queue.{IsQueueRefusal};
+ghost use Rattle.std.specs.Prelude.{◌≡◌, IfErr, IfOk, None, true};
+ghost use Rattle.cadence_flow.specs.Queue.{IsQueueRefusal, is_idle};
 ghost use Rattle.cadence_flow.specs.QueueRoom.{OnlyWantsRoom};
 ghost use Rattle.cadence_flow.specs.declared.queue.policy.QueuePolicy.TheVariants.{Refuse};
+ghost use Rattle.cadence_flow.specs.declared.queue.queue_core.Taken.TheVariants.{Empty};
+ghost use Rattle.cadence_ledger.specs.QueueLedger.{core_of};
 ghost use Rattle.cadence_ledger.specs.SharedQueue.{bound_of, rule_of};
 
 use super::queue_ledger::QueueLedger;
+use super::seen::{Apart, Seen};
 use cadence_errors::{MetricResult, SinkError};
-use cadence_flow::queue::{QueuePolicy, Refusal, Taken};
+use cadence_flow::queue::{QueueCore, QueuePolicy, Refusal, Taken, TextRing};
 use std::alloc::{AllocError, Allocator, Global};
-use std::sync::{Condvar, Mutex, Wait};
+use std::sync::{Condvar, Mutex, MutexGuard, Wait};
 use std::{hint, thread};
 
 /// How often a taker looks for a text before it sleeps.
-const LOOKS: u32 = 16;
+const LOOKS: u32 = 8;
 
-/// How many turns of a spinning loop a caller leaves the lock alone that a full queue refused.
-const TURNS_ASIDE: u32 = 2;
+/// How many turns of a spinning loop a taker leaves a queue without texts alone, in which some more come.
+const TURNS_BETWEEN_LOOKS: u32 = 128;
 
-// Leaves the lock to the taker for a moment. A caller that tries again at once would else have it nearly always.
-fn stand_aside() {
-    for _ in 0..TURNS_ASIDE {
+/// How often a caller that finds the lock held tries it again before it sleeps.
+const TRIES: u32 = 16;
+
+/// How many turns of a spinning loop a caller leaves a lock alone that was held.
+const TURNS_BETWEEN_TRIES: u32 = 48;
+
+/// How many turns of a spinning loop a caller stands aside that a full queue refused.
+const TURNS_ASIDE: u32 = 24;
+
+fn spin(turns: u32) {
+    for _ in 0..turns {
         hint::spin_loop();
+    }
+}
+
+// Lets some texts come, and others run.
+fn stand_by() {
+    spin(TURNS_BETWEEN_LOOKS);
+    thread::yield_now();
+}
+
+// The oldest text that a batch was lent.
+fn next_lent<T: Drop, A: Allocator>(batch: &mut Option<TextRing<T, A>>) -> Option<T> {
+    match batch {
+        Some(batch) => batch.pop_front(),
+        None => None,
+    }
+}
+
+// Lends all texts that wait to a batch that has none, and takes its oldest one.
+fn lend<T: Drop, A: Allocator>(
+    core: &mut QueueLedger<T, A>,
+    batch: &mut Option<TextRing<T, A>>,
+) -> Option<T>
+    ensures { result ≡ None → is_idle (core_of core.new) ≡ is_idle (core_of core.old) }
+{
+    match batch {
+        Some(batch) => {
+            core.take_all(batch);
+            batch.pop_front()
+        }
+        None => None,
     }
 }
 
 /// A `QueueCore` under a lock, which threads share by reference. Each call is one step of the core, and whenever the
 /// lock is free, a ledger that only proofs read tells its past: `QueueLedger`.
+///
+/// Texts that a taker was lent in a batch (`take_by`) wait as the others do, until it takes each in hand: they count in
+/// `waiting` and against the capacity.
 #[derive(Drop)]
 pub struct SharedQueue<T, A: Allocator = Global> {
+    // the number of texts taken in hand, modulo 2 to the 64
+    taken: Apart,
     core: Mutex<QueueLedger<T, A>>,
     changed: Condvar,
     capacity: Option<usize>,
     policy: QueuePolicy,
+    seen: Seen,
 }
 
 impl<T: Drop, A: Allocator + Clone> SharedQueue<T, A> {
@@ -54,11 +101,25 @@ impl<T: Drop, A: Allocator + Clone> SharedQueue<T, A> {
     {
         let core = QueueLedger::new(alloc, capacity, policy)?;
         Ok(SharedQueue {
+            taken: Apart::new(),
             core: Mutex::new(core),
             changed: Condvar::new(),
             capacity,
             policy,
+            seen: Seen::new(),
         })
+    }
+
+    /// An empty batch for `take_by`, with as much room as a bounded queue has. There is none where the queue drops its
+    /// oldest text, since one that was lent can't be dropped.
+    pub fn batch(&self, alloc: A) -> Result<Option<TextRing<T, A>>, AllocError> {
+        match self.policy {
+            QueuePolicy::Refuse => {
+                let batch = TextRing::with_room(alloc, self.capacity.unwrap_or(0))?;
+                Ok(Some(batch))
+            }
+            QueuePolicy::DropOldest => Ok(None),
+        }
     }
 
     /// Puts a text last, and wakes those who wait for one, which they do where the queue was idle. The answer and the
@@ -67,17 +128,22 @@ impl<T: Drop, A: Allocator + Clone> SharedQueue<T, A> {
     pub fn submit(&self, rt: &impl Wait, text: T) -> Result<Option<T>, (SinkError, T)>
         ensures { IfErr result (λ e. IsQueueRefusal e.0 × (e.1 ≡ text)) }
     {
-        let mut core = self.core.lock(rt);
+        let mut core = self.enter(rt);
         let (idle, full) = (core.core().is_idle(), core.core().is_full());
+        if core.core().is_crowded(self.lent(core.core())) {
+            return Err((SinkError::ChannelFull, text));
+        }
         let answer = core.submit(text);
+        self.note(core.core());
         drop(core);
         self.after_submit(idle, full, answer.is_ok());
         answer
     }
 
-    /// Puts last the text that `make` makes, and wakes those who wait for one. The lock is taken once, and `make` is
-    /// called under it, only where the queue would take the text. A text that was dropped for it is let go. The
-    /// errors are those of `QueueCore::submit_with`; the queue has not changed after an error.
+    /// Puts last the text that `make` makes, and wakes those who wait for one. The errors are those of
+    /// `QueueCore::submit_with`; the queue has not changed after an error. `make` is called before the lock is taken,
+    /// where the queue isn't seen stopped or full; where another caller fills it or stops it just then, what was made
+    /// is let go. A text that was dropped for it is let go too.
     pub fn submit_with<F: FnOnce() -> Result<T, AllocError>>(
         &self,
         rt: &impl Wait,
@@ -97,13 +163,18 @@ impl<T: Drop, A: Allocator + Clone> SharedQueue<T, A> {
     ) -> Result<(), Refusal>
         requires { F.IsAlwaysCallable make }
     {
-        // a lock that is free is taken inline
-        let mut core = match self.core.try_lock() {
-            Some(core) => core,
-            None => self.core.lock(rt),
-        };
+        if let Some(refusal) = self.seen.refusal(self.bound(), &self.taken) {
+            if refusal == Refusal::Full {
+                spin(TURNS_ASIDE);
+            }
+            return Err(refusal);
+        }
+        let made = make();
+        let mut core = self.enter(rt);
         let idle = core.core().is_idle();
-        let answer = core.offer(make);
+        let lent = self.lent(core.core());
+        let answer = core.offer_beside(lent, || made);
+        self.note(core.core());
         drop(core);
         self.after_submit(idle, answer == Err(Refusal::Full), answer.is_ok());
         answer
@@ -111,13 +182,60 @@ impl<T: Drop, A: Allocator + Clone> SharedQueue<T, A> {
 }
 
 impl<T: Drop, A: Allocator> SharedQueue<T, A> {
+    // The most texts that may wait before the queue refuses one.
+    #[inline(always)]
+    fn bound(&self) -> Option<usize> {
+        match self.policy {
+            QueuePolicy::DropOldest if self.capacity != Some(0) => None,
+            _ => self.capacity,
+        }
+    }
+
+    // Tells those without the lock how many texts were submitted, where they may be refused.
+    #[inline(always)]
+    fn note(&self, core: &QueueCore<T, A>) {
+        if self.bound().is_some() {
+            self.seen.note_submitted(core.submitted());
+        }
+    }
+
+    // How many texts takers were lent that wait, where any count.
+    #[inline(always)]
+    fn lent(&self, core: &QueueCore<T, A>) -> usize {
+        match self.bound() {
+            Some(_) => core.drained().wrapping_sub(self.taken.get()) as usize,
+            None => 0,
+        }
+    }
+
+    // Takes the lock, inline where it is free.
+    #[inline(always)]
+    fn enter(&self, rt: &impl Wait) -> MutexGuard<'_, QueueLedger<T, A>> {
+        match self.core.try_lock() {
+            Some(core) => core,
+            None => self.enter_late(rt),
+        }
+    }
+
+    // Takes the lock that was held. To sleep for it would make the one who holds it wake a sleeper.
+    #[inline(never)]
+    fn enter_late(&self, rt: &impl Wait) -> MutexGuard<'_, QueueLedger<T, A>> {
+        for _ in 0..TRIES {
+            spin(TURNS_BETWEEN_TRIES);
+            if let Some(core) = self.core.try_lock() {
+                return core;
+            }
+        }
+        self.core.lock(rt)
+    }
+
     // Wakes those who wait where a queue that was idle has a text now. A caller that is refused by a full queue stands
     // aside.
     #[inline(always)]
     fn after_submit(&self, idle: bool, full: bool, accepted: bool) {
         if !accepted {
             if full {
-                stand_aside();
+                spin(TURNS_ASIDE);
             }
         } else if idle {
             self.changed.notify_all();
@@ -126,46 +244,79 @@ impl<T: Drop, A: Allocator> SharedQueue<T, A> {
 
     /// Takes the oldest text, if there is one.
     pub fn try_take(&self, rt: &impl Wait) -> Taken<T> {
-        self.core.lock(rt).take()
+        self.take_from(&mut self.enter(rt), &mut None)
     }
 
     /// Takes the oldest text, and waits while there is none and the queue is not stopped. `None` is the end. It looks
     /// a few times, and lets others run in between, before it sleeps: to wake a sleeper costs a submit more.
     pub fn take_wait(&self, rt: &impl Wait) -> Option<T> {
+        self.take_by(rt, &mut None)
+    }
+
+    /// Takes the oldest text as `take_wait`, by way of a batch of this queue, which is lent all texts that wait at once,
+    /// where it has none: so the lock is taken once for many texts. Of several takers with batches each takes its own
+    /// texts in order.
+    pub fn take_by(&self, rt: &impl Wait, batch: &mut Option<TextRing<T, A>>) -> Option<T> {
+        if let Some(text) = next_lent(batch) {
+            self.taken.add_one();
+            return Some(text);
+        }
         for _ in 0..LOOKS {
-            match self.look() {
+            match self.look(batch) {
                 Taken::Text(text) => return Some(text),
                 Taken::Ended => return None,
-                Taken::Empty => thread::yield_now(),
+                Taken::Empty => stand_by(),
             }
         }
-        self.take_asleep(rt)
+        self.take_asleep(rt, batch)
     }
 
     // Takes the oldest text where the lock is free. A lock that is held counts as an empty queue: to wait for it would
     // make the one who holds it wake a sleeper.
-    fn look(&self) -> Taken<T> {
+    fn look(&self, batch: &mut Option<TextRing<T, A>>) -> Taken<T> {
         match self.core.try_lock() {
-            Some(mut core) => core.take(),
+            Some(mut core) => self.take_from(&mut core, batch),
             None => Taken::Empty,
         }
     }
 
-    // Takes the oldest text as `take_wait`, and sleeps while there is none.
-    fn take_asleep(&self, rt: &impl Wait) -> Option<T> {
+    // Takes the oldest text as `take_by`, and sleeps while there is none.
+    fn take_asleep(&self, rt: &impl Wait, batch: &mut Option<TextRing<T, A>>) -> Option<T> {
         let mut core = self
             .changed
             .wait_while(rt, self.core.lock(rt), |core| core.core().is_idle());
-        match core.take() {
+        match self.take_from(&mut core, batch) {
             Taken::Text(text) => Some(text),
             Taken::Ended => None,
             Taken::Empty => unreachable!(),
         }
     }
 
+    // Takes the oldest text, by way of the batch where there is one.
+    fn take_from(
+        &self,
+        core: &mut QueueLedger<T, A>,
+        batch: &mut Option<TextRing<T, A>>,
+    ) -> Taken<T>
+        ensures { result ≡ Empty → is_idle (core_of core.old) ≡ true }
+    {
+        if let Some(text) = lend(core, batch) {
+            self.taken.add_one();
+            return Taken::Text(text);
+        }
+        let taken = core.take();
+        if let Taken::Text(_) = &taken {
+            self.taken.add_one();
+        }
+        taken
+    }
+
     /// Sets the stop mark, and wakes those who wait.
     pub fn stop(&self, rt: &impl Wait) {
-        self.core.lock(rt).stop();
+        let mut core = self.core.lock(rt);
+        core.stop();
+        self.seen.note_stop();
+        drop(core);
         self.changed.notify_all();
     }
 
@@ -176,13 +327,21 @@ impl<T: Drop, A: Allocator> SharedQueue<T, A> {
 
     /// Counts one handle less. The last one stops the queue, and wakes those who wait.
     pub fn drop_handle(&self, rt: &impl Wait) {
-        self.core.lock(rt).drop_handle();
+        let mut core = self.core.lock(rt);
+        core.drop_handle();
+        if core.core().is_stopped() {
+            self.seen.note_stop();
+        }
+        drop(core);
         self.changed.notify_all();
     }
 
-    /// The number of texts that wait.
+    /// The number of texts that wait, with those that takers were lent and have not in hand.
     pub fn waiting(&self, rt: &impl Wait) -> usize {
-        self.core.lock(rt).core().waiting()
+        let core = self.core.lock(rt);
+        let taken = self.taken.get();
+        let lent = core.core().drained().wrapping_sub(taken) as usize;
+        core.core().waiting().saturating_add(lent)
     }
 
     /// The number of texts accepted, modulo 2 to the 64.
@@ -190,9 +349,9 @@ impl<T: Drop, A: Allocator> SharedQueue<T, A> {
         self.core.lock(rt).core().submitted()
     }
 
-    /// The number of texts taken, modulo 2 to the 64.
-    pub fn drained(&self, rt: &impl Wait) -> u64 {
-        self.core.lock(rt).core().drained()
+    /// The number of texts taken in hand, modulo 2 to the 64.
+    pub fn drained(&self, _rt: &impl Wait) -> u64 {
+        self.taken.get()
     }
 
     /// The number of texts dropped to make room, modulo 2 to the 64.

@@ -59,9 +59,9 @@ impl<S: MetricSink, R: Wait + Drop, A: Allocator> QueuingMetricSink<S, R, A> {
 /// `emit` puts a copy of the line last in the queue and answers its length, `ChannelDisconnected` where the queue is
 /// stopped, else `ChannelFull` where as many lines wait as its capacity, else `OutOfMemory`; nothing is queued then.
 /// Under `DropOldest` a full queue of a capacity above 0 drops its oldest line in place of `ChannelFull`, and the
-/// handler isn't told. An accepted line takes memory once, beside the growth of an unbounded queue, and one that is
-/// refused by a stop or by the capacity takes none. `flush` flushes the wrapped sink and doesn't wait for the queue;
-/// `stats` are the wrapped sink's.
+/// handler isn't told. An accepted line takes memory once, beside the growth of an unbounded queue; one that finds the
+/// queue stopped or full takes none, and one that another caller comes before just then gives its own back. `flush`
+/// flushes the wrapped sink and doesn't wait for the queue; `stats` are the wrapped sink's.
 impl<S: MetricSink, R: Wait + Drop, A: Allocator + Clone> MetricSink
     for QueuingMetricSink<S, R, A> {
     ghost use Rattle.std.specs.Arc.{arc_value};

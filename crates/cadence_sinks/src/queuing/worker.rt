@@ -3,7 +3,7 @@ ghost use Rattle.std.specs.Prelude.{◌≡◌};
 
 use crate::worklist::{Worklist, work};
 use crate::{Handler, MetricSink};
-use cadence_flow::queue::WorkerEnd;
+use cadence_flow::queue::{TextRing, WorkerEnd};
 use cadence_ledger::{ItemLog, SharedQueue};
 use cadence_resolve::thread::Job;
 use std::alloc::Allocator;
@@ -31,6 +31,7 @@ struct QueueWorklist<'a, S: MetricSink, R: Wait + Drop, A: Allocator> {
     rt: &'a R,
     shared: &'a Shared<S, A>,
     handler: &'a Option<Handler<A>>,
+    batch: Option<TextRing<String<A>, A>>,
     passed: Passed<A>,
 }
 
@@ -48,7 +49,7 @@ impl<'a, S: MetricSink, R: Wait + Drop, A: Allocator> Worklist for QueueWorklist
     ghost tells = { λ _. true };
 
     fn next(&mut self) -> Option<String<A>> {
-        let next = self.shared.queue.take_wait(self.rt);
+        let next = self.shared.queue.take_by(self.rt, &mut self.batch);
         match &next {
             Some(text) => self.passed.taken = self.passed.taken.and(text),
             None => self.passed.ends = self.passed.ends.and(&true),
@@ -71,6 +72,7 @@ fn pass_on<S: MetricSink, R: Wait + Drop, A: Allocator>(
     rt: &R,
     shared: &Shared<S, A>,
     handler: &Option<Handler<A>>,
+    batch: Option<TextRing<String<A>, A>>,
 ) -> Passed<A>
     ensures { result.handed.items ≡ result.taken.items }
 {
@@ -83,6 +85,7 @@ fn pass_on<S: MetricSink, R: Wait + Drop, A: Allocator>(
         rt,
         shared,
         handler,
+        batch,
         passed,
     };
     work(rt, &mut list);
@@ -94,11 +97,13 @@ fn pass_on<S: MetricSink, R: Wait + Drop, A: Allocator>(
 pub struct Worker<S: MetricSink, R: Wait + Drop, A: Allocator> {
     pub rt: R,
     pub shared: Arc<Shared<S, A>, A>,
+    pub batch: Option<TextRing<String<A>, A>>,
 }
 
 impl<S: MetricSink, R: Wait + Drop, A: Allocator> Job<Option<Handler<A>>> for Worker<S, R, A> {
     fn run(self, handler: Option<Handler<A>>) {
-        let _passed = pass_on(&self.rt, &self.shared, &handler);
-        self.shared.end.mark(&self.rt);
+        let Worker { rt, shared, batch } = self;
+        let _passed = pass_on(&rt, &shared, &handler, batch);
+        shared.end.mark(&rt);
     }
 }
