@@ -7,9 +7,9 @@ use Rattle.std.proofs.lemmas.List.{append-nil, map-append}
 use Rattle.std.proofs.lemmas.Grind.{flat_map-append}
 use Rattle.cadence_errors.specs.declared.SinkError.{SinkError}
 use Rattle.cadence_flow.specs.Frame.{Format, size_of, frame_of, held_packet, is_oversize, taken_stream}
-use Rattle.cadence_flow.specs.Packer.{Packer, FlushesHeld, WritesLine}
+use Rattle.cadence_flow.specs.Packer.{Packer, FlushesHeld, WritesLine, new_packer}
 use Rattle.cadence_flow.specs.Writer.{History, Kind}
-use Rattle.cadence_ledger.specs.Telling.{packets_of, telling_history, telling_kind}
+use Rattle.cadence_ledger.specs.Telling.{offers_of, packets_of, telling_history, telling_kind, writer_of}
 use Rattle.cadence_ledger.specs.Whole.{IsWhole}
 use Rattle.cadence_ledger.specs.declared.telling.Telling.{Telling}
 use Rattle.cadence_ledger.proofs.Cutting.{stream_more}
@@ -51,6 +51,20 @@ whole_alone format packets accepted line n over all cut =
 module _ {W : Type 0} where
   abbrev pub PackerWhole : Packer (Telling W) → List (List ℕ × ℕ) → Type 0
   PackerWhole p accepted = IsWhole p.format (packets_of p.writer) accepted p.held
+
+  -- a packer that begins has cut nothing
+  pub whole_begins : (p : Packer (Telling W)) (accepted : List (List ℕ × ℕ))
+      {w : Telling W} {v : W} {capacity : ℕ} {ending : List ℕ}
+      → (p ≡ new_packer w capacity ending) × (writer_of p.writer ≡ v) × (offers_of p.writer ≡ [])
+      → accepted ≡ [] → ∥ PackerWhole p accepted ∥₁
+  whole_begins p accepted (new, is, offered) none =
+      ∣ record {
+        groups = [];
+        lines = [];
+        each = ap (map (λ (o : List ℕ × ℕ). take o.1 o.0)) offered;
+        all_lines = none;
+        rest = ap (λ (q : Packer (Telling W)). q.held) new;
+      } ∣₁
 
 module _ {W : Type 0} (kind : W → Kind) (history : W → History) (old new : Packer (Telling W)) (takes : (telling_kind kind old.writer).takes_whole ≡ true) (accepted : List (List ℕ × ℕ)) where
   -- the cut of the packer before, with other packets and another held text
