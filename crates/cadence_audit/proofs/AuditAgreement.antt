@@ -9,7 +9,7 @@ use Rattle.std.proofs.lemmas.Option.{slice_get_read, slice_get_cases, get_or_fro
 use Rattle.std.specs.Option.{option_eq}
 use Rattle.cadence_audit.specs.declared.event.Event.{Event}
 use Rattle.cadence_audit.specs.AuditHistory.{AreCounted, events_of}
-use Rattle.cadence_audit.specs.AuditSeats.{Held, AreReceiptsOf, AreNewSeats}
+use Rattle.cadence_audit.specs.AuditSeats.{Held, AreReceiptsOf, AreNewSeats, receipt_count}
 
 -- a test that answers false refutes what it would show
 pub fails : {P : Type 0} {b : Bool} → (P → b ≡ true) → b ≡ false → P → ⊥
@@ -145,3 +145,14 @@ new_seats_more n seats new = (
         rw (here, ← new.0) (get_at_push seats _)
   ],
 )
+
+-- the receipts of the seats up to one of them are its own and the earlier ones, and at most all
+pub receipts_more : {Z : Type 0} (seats : List (Held Z)) (i n : ℕ) (seat : Held Z)
+    → i < length seats → seat ≡ get_or seats i seat → n ≡ length seat.receipts
+    → (receipt_count (take (i + 1) seats) ≡ receipt_count (take i seats) + n)
+    × (receipt_count (take (i + 1) seats) ≤ receipt_count seats)
+receipts_more {Z} seats i n seat lt is count =
+    let count_of : Held Z → ℕ = λ s. length s.receipts in
+    let own : count_of (get_or seats i seat) ≡ n = ap count_of (sym is) ∙ sym count in
+    let more = sum_by_more count_of seats i seat lt in
+    (omega (arith, more, own), sum_by-take-le count_of seats (i + 1))

@@ -1,5 +1,5 @@
 -- What a call leaves of the history and of the queue under the lock.
-use Rattle.std.proofs.Common.{drop, map, ◌≡◌, ℕ, zero, suc, ◌+◌, ◌<◌, ◌≤◌, ◌==◌, ◌||◌, ◌&&◌, ◌⊎◌, ◌≢◌, Bool, true, false, IsTrue, cond, List, [], ◌∷◌, ◌++◌, length, take, set, Option, Some, None, is_none, Result, Ok, Err, IfOk, IfErr, slice_get, slice_index, get_or, replicate, count_by, refl, sym, ap, subst, inl, inr, arith, ◌∙◌}
+use Rattle.std.proofs.Common.{drop, map, ◌≡◌, ℕ, zero, suc, ◌+◌, ◌<◌, ◌≤◌, ◌==◌, ◌||◌, ◌&&◌, ◌⊎◌, ◌≢◌, Bool, true, false, IsTrue, cond, List, [], ◌∷◌, ◌++◌, length, take, set, Option, Some, None, is_none, Result, Ok, Err, IfOk, IfErr, IsErrAnd, slice_get, slice_index, get_or, replicate, count_by, refl, sym, ap, subst, inl, inr, arith, ◌∙◌}
 use Rattle.std.proofs.lemmas.Grind.{common_steps, flat_map-append}
 use Rattle.std.proofs.lemmas.Bool.Decides.{nat_tests}
 use Rattle.std.proofs.lemmas.List.{get_or-set_same, get_or-set_other, length-set, take-append-le, append-nil, append_assoc, drop-append-le, drop_more, length-append, length-map, map-append}
@@ -12,18 +12,21 @@ use Rattle.cadence_errors.specs.declared.SinkError.TheVariants as refusal
 use Rattle.cadence_flow.specs.QueueState.{Queue}
 use Rattle.cadence_flow.specs.Queue.{IsTaken, IsRefusal, Accepts, stopping, is_full, lacks_room, drops_for_room, at_capacity}
 use Rattle.cadence_flow.specs.QueueModel.{by_take, IsQueueOf, IsAccepted, IsNext}
-use Rattle.cadence_flow.specs.declared.queue.policy.QueuePolicy.{QueuePolicy}
 use Rattle.cadence_flow.specs.declared.queue.policy.QueuePolicy.TheVariants.{Refuse}
 use Rattle.cadence_flow.specs.declared.queue.queue_core.Taken.{Taken}
 use Rattle.cadence_flow.specs.declared.queue.queue_core.Taken.TheVariants as taken
 use Rattle.cadence_audit.specs.declared.event.Event.{Event}
+use Rattle.cadence_audit.specs.declared.event.AuditCall.{AuditCall}
 use Rattle.cadence_audit.specs.declared.event.AuditCall.TheVariants as call
+use Rattle.cadence_audit.specs.declared.event.AuditReply.{AuditReply}
 use Rattle.cadence_audit.specs.declared.event.AuditReply.TheVariants as reply
 use Rattle.cadence_audit.specs.declared.event.SubmitReply.{SubmitReply}
 use Rattle.cadence_audit.specs.declared.event.SubmitReply.TheVariants as submit
 use Rattle.cadence_audit.specs.AuditHistory.{IsLegal, MayFollow, accepted, taken_texts, taken_count, was_stopped, waiting, events_of, texts_of, text_given, is_stop, first_of, submit_reply}
-use Rattle.cadence_audit.specs.AuditSeats.{AreReceiptsOf}
-use Rattle.cadence_audit.specs.AuditDesk.{IsKept, IsTold, IsToldRefusal, exits}
+use Rattle.cadence_audit.specs.AuditSeats.{Held, AreReceiptsOf, next_event}
+use Rattle.cadence_audit.specs.AuditDesk.{Past, Notes, DoesNothing, IsKnown, IsKept, IsTold, IsToldRefusal, exits}
+use Rattle.cadence_audit.specs.declared.errors.AuditError.{AuditError}
+use Rattle.cadence_audit.specs.declared.errors.AuditError.TheVariants.{OutOfMemory}
 
 -- an accepted text waits last
 order_accepted : (accepted given : List (List ℕ)) (t : ℕ) (x : List ℕ) → t ≤ length accepted → accepted ≡ given ++ drop t accepted
@@ -245,3 +248,30 @@ module _ {Z : Type 0} where
       let full : is_full core ≡ at_capacity capacity (waiting es) = ap (λ c. at_capacity c core.waiting) k.bound ∙ ap (at_capacity capacity) (waits_after capacity es core counts k) in
       let reply_is : r ≡ submit_reply (was_stopped es) (at_capacity capacity (waiting es)) = both.0 ∙ ap (λ b. submit_reply b (is_full core)) k.stop ∙ ap (submit_reply (was_stopped es)) full in
       rw err.2 (refused_submit capacity es core counts seat n x r k (ap reply.Submit reply_is, is) both.1)
+
+-- a call for which memory ran out did nothing
+pub did_nothing : {T Z : Type 0} (r : Result T AuditError) (p q : Past Z) (s t : Held Z)
+    → IsErrAnd r (λ e. e ≡ OutOfMemory) → IsKnown p s → q ≡ p → t ≡ s
+    → IfErr r (DoesNothing p q s t)
+did_nothing (Ok x) p q s t want known past seat = absurd want
+did_nothing (Err e) p q s t want known past seat =
+    subst (DoesNothing p q s t) (sym want) (known, past, seat)
+
+-- a submit that gives its text back left the queue as it was
+pub given_back : (core after : Queue (List ℕ)) (x text : List ℕ)
+    (answer : Result (Option (List ℕ)) (SinkError × List ℕ))
+    → IfErr answer (λ e. IsRefusal core e.0 × (e.1 ≡ x) × (after ≡ core))
+    → IsTold answer (Err text) → after ≡ core
+given_back core after x text (Ok dropped) refused told = cc
+given_back core after x text (Err e) refused told = refused.2
+
+-- a call that puts its event into the past and its receipt into the seat is answered
+pub notes : {Z : Type 0} (p q : Past Z) (s t : Held Z) (c : AuditCall Z) (r : AuditReply Z)
+    {p' : Past Z} {s' : Held Z} {e f : Event Z} {c1 c2 : AuditCall Z} {r1 r2 : AuditReply Z}
+    → p' ≡ p → s' ≡ s → e ≡ next_event s' c1 r1 → f ≡ next_event s' c2 r2
+    → c1 ≡ c → c2 ≡ c → r1 ≡ r → r2 ≡ r
+    → q ≡ record p' { events = p'.events ++ e ∷ [] }
+    → t ≡ record s' { receipts = s'.receipts ++ f ∷ [] }
+    → Notes p q s t c r
+notes p q s t c r past seat event receipt call1 call2 reply1 reply2 more held =
+    rw (more, held, event, receipt, call1, call2, reply1, reply2, past, seat) (refl, refl)

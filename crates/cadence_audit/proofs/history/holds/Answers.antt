@@ -1,5 +1,6 @@
-use Rattle.std.proofs.Common.{◌≡◌, ◌+◌, length, Contains, take, sym, ap, arith, inl, inr, ◌∙◌}
-use Rattle.std.proofs.lemmas.List.{take_all}
+use Rattle.std.proofs.Common.{◌≡◌, ◌+◌, ◌==◌, length, Contains, take, sym, ap, arith, inl, inr, ◌∙◌}
+use Rattle.std.proofs.lemmas.List.{take_all, length-take}
+use Rattle.std.proofs.lemmas.List.Sums.{count_by-le-length}
 use Rattle.std.proofs.lemmas.Bool.{cases_lt}
 use Rattle.std.proofs.lemmas.Bool.Decides.{nat_tests}
 use Rattle.cadence_audit.specs.AuditHistory.{events_of}
@@ -41,3 +42,9 @@ returns g c =
         | inr ge ↦ grind (arith, nat_tests)
       ],
     )
+
+pub overflow_add-found : goal.overflow_add-found
+overflow_add-found g c =
+    let before = take c.loop-event.event-index c.args.events.now in
+    let le = count_by-le-length (λ e. e.seat == c.args.number) before in
+    omega (arith, le, length-take c.loop-event.event-index c.args.events.now)
