@@ -5,6 +5,7 @@ ghost use Rattle.cadence_text.specs.Record.{tag_of};
 use cadence_text::line::{MetricType, Record, Tag, TagList};
 use cadence_value::value::MetricValue;
 use refusing::Refusing;
+use std::alloc::{Allocator, Global};
 use std::test::Fail;
 
 // Tags of a slice, in their order.
@@ -35,28 +36,56 @@ fn tag<'a>(key: Option<&'a str>, text: &'a str) -> Tag<'a> {
     Tag { key, text }
 }
 
+// A counter without tags or options.
+fn counted(alloc: Global) -> Record<'static> {
+    Record::new(
+        alloc,
+        "p.",
+        "k",
+        MetricType::Counter,
+        MetricValue::Signed(54),
+    )
+}
+
+// Whether the room takes the record's line over both lists, and the line is this text.
+fn is_written<A: Allocator + Clone>(
+    record: &Record<'_>,
+    (first, more): (&[Tag<'_>], &[Tag<'_>]),
+    line: &mut Vec<u8, A>,
+    text: &str,
+) -> bool {
+    let (first, more) = (Listed { tags: first }, Listed { tags: more });
+    record.write_line(&first, &more, line).is_ok() && line.as_slice() == text.as_bytes()
+}
+
 #[test]
 fn a_room_is_made_once(rt: HostRuntime) -> Result<(), Fail> {
-    let value = MetricValue::Signed(54);
-    let mut record = Record::new(rt.alloc(), "p.", "k", MetricType::Counter, value);
+    let mut record = counted(rt.alloc());
     let heap = Refusing::after(rt.alloc(), rt.alloc(), 1)?;
     let mut line = Vec::new(heap.clone()?);
-    let keyed = [tag(Some("a"), "b")];
-    let plain = [tag(None, "c")];
-    let (keyed, plain) = (Listed { tags: &keyed }, Listed { tags: &plain });
-    let nothing = Listed { tags: &[] };
-    record.write_line(&keyed, &plain, &mut line)?;
-    assert_eq!(rt; line.as_slice(), b"p.k:54|c|#a:b,c".as_slice());
+    let (keyed, plain) = ([tag(Some("a"), "b")], [tag(None, "c")]);
+    assert!(rt; is_written(&record, (&keyed, &plain), &mut line, "p.k:54|c|#a:b,c"));
     record.set_time(7);
-    record.write_line(&nothing, &nothing, &mut line)?;
-    assert_eq!(rt; line.as_slice(), b"p.k:54|c|T7".as_slice());
-    record.write_line(&nothing, &plain, &mut line)?;
-    assert_eq!(rt; line.as_slice(), b"p.k:54|c|#c|T7".as_slice());
+    assert!(rt; is_written(&record, (&[], &[]), &mut line, "p.k:54|c|T7"));
+    assert!(rt; is_written(&record, (&[], &plain), &mut line, "p.k:54|c|#c|T7"));
     assert_eq!(rt; heap.left(), 0, "a second request would be refused");
+    Ok(())
+}
+
+#[test]
+fn a_longer_line_wants_a_larger_room(rt: HostRuntime) -> Result<(), Fail> {
+    let mut record = counted(rt.alloc());
+    let mut line = Vec::new(Refusing::after(rt.alloc(), rt.alloc(), 1)?);
+    let (keyed, plain) = ([tag(Some("a"), "b")], [tag(None, "c")]);
+    assert!(rt; is_written(&record, (&keyed, &plain), &mut line, "p.k:54|c|#a:b,c"));
     record.add_tag(tag(None, "x"))?;
-    assert!(rt; record.write_line(&keyed, &plain, &mut line).is_err());
+    let refused = record.write_line(
+        &Listed { tags: &keyed },
+        &Listed { tags: &plain },
+        &mut line,
+    );
+    assert!(rt; refused.is_err());
     let mut other = Vec::new(rt.alloc());
-    record.write_line(&keyed, &plain, &mut other)?;
-    assert_eq!(rt; other.as_slice(), b"p.k:54|c|#x,a:b,c|T7".as_slice());
+    assert!(rt; is_written(&record, (&keyed, &plain), &mut other, "p.k:54|c|#x,a:b,c"));
     Ok(())
 }

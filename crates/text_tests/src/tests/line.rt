@@ -200,13 +200,19 @@ fn a_length_counts_no_number_and_the_least_one(rt: HostRuntime) -> Result<(), Fa
 #[test]
 fn a_line_is_one_request(rt: HostRuntime) -> Result<(), Fail> {
     let record = long_record(rt.alloc(), "x")?;
-    let refused = record.format(Refusing::after(rt.alloc(), rt.alloc(), 0)?);
-    assert!(rt; matches!(refused, Err(MetricError::Sink(SinkError::OutOfMemory))));
     let heap = Refusing::after(rt.alloc(), rt.alloc(), 1)?;
     let line = record.format(heap.clone()?)?;
     assert_eq!(rt; heap.left(), 0, "a second request would be refused");
-    assert_eq!(rt; line.as_str(), record.format(rt.alloc())?.as_str());
+    assert!(rt; has_line(rt.alloc(), &record, line.as_str())?);
     assert_eq!(rt; record.line_len(), Some(line.len()));
+    Ok(())
+}
+
+#[test]
+fn a_line_without_memory_is_refused(rt: HostRuntime) -> Result<(), Fail> {
+    let record = long_record(rt.alloc(), "x")?;
+    let refused = record.format(Refusing::after(rt.alloc(), rt.alloc(), 0)?);
+    assert!(rt; matches!(refused, Err(MetricError::Sink(SinkError::OutOfMemory))));
     Ok(())
 }
 
