@@ -4,5 +4,5 @@ pub use cadence_audit::{
     AuditCall, AuditError, AuditReply, AuditedQueue, EndFault, Event, History, Seat, SubmitReply,
     Text,
 };
-pub use cadence_flow::queue::{QueueCore, QueuePolicy, Taken};
+pub use cadence_flow::queue::{QueueCore, QueuePolicy, Refusal, Taken};
 pub use cadence_ledger::SharedQueue;

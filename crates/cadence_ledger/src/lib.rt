@@ -3,6 +3,7 @@
 
 mod item_log;
 mod line_ledger;
+mod lock;
 mod queue_ledger;
 mod seen;
 mod shared_queue;
@@ -12,6 +13,7 @@ mod whole_ledger;
 
 pub use item_log::ItemLog;
 pub use line_ledger::LineLedger;
+pub use lock::acquire;
 pub use shared_queue::SharedQueue;
 pub use telling::Telling;
 pub use whole_ledger::WholeLedger;

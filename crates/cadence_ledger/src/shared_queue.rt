@@ -7,13 +7,14 @@ ghost use Rattle.cadence_flow.specs.declared.queue.queue_core.Taken.TheVariants.
 ghost use Rattle.cadence_ledger.specs.QueueLedger.{core_of};
 ghost use Rattle.cadence_ledger.specs.SharedQueue.{bound_of, rule_of};
 
+use super::lock::{acquire, spin};
 use super::queue_ledger::QueueLedger;
 use super::seen::{Apart, Seen};
 use cadence_errors::{MetricResult, SinkError};
 use cadence_flow::queue::{QueueCore, QueuePolicy, Refusal, Taken, TextRing};
 use std::alloc::{AllocError, Allocator, Global};
-use std::sync::{Condvar, Mutex, MutexGuard, Wait};
-use std::{hint, thread};
+use std::sync::{Condvar, Mutex, Wait};
+use std::thread;
 
 /// How often a taker looks for a text before it sleeps.
 const LOOKS: u32 = 8;
@@ -21,20 +22,8 @@ const LOOKS: u32 = 8;
 /// How many turns of a spinning loop a taker leaves a queue without texts alone, in which some more come.
 const TURNS_BETWEEN_LOOKS: u32 = 128;
 
-/// How often a caller that finds the lock held tries it again before it sleeps.
-const TRIES: u32 = 16;
-
-/// How many turns of a spinning loop a caller leaves a lock alone that was held.
-const TURNS_BETWEEN_TRIES: u32 = 48;
-
 /// How many turns of a spinning loop a caller stands aside that a full queue refused.
 const TURNS_ASIDE: u32 = 24;
-
-fn spin(turns: u32) {
-    for _ in 0..turns {
-        hint::spin_loop();
-    }
-}
 
 // Lets some texts come, and others run.
 fn stand_by() {
@@ -43,6 +32,7 @@ fn stand_by() {
 }
 
 // The oldest text that a batch was lent.
+#[inline(always)]
 fn next_lent<T: Drop, A: Allocator>(batch: &mut Option<TextRing<T, A>>) -> Option<T> {
     match batch {
         Some(batch) => batch.pop_front(),
@@ -128,13 +118,14 @@ impl<T: Drop, A: Allocator + Clone> SharedQueue<T, A> {
     pub fn submit(&self, rt: &impl Wait, text: T) -> Result<Option<T>, (SinkError, T)>
         ensures { IfErr result (λ e. IsQueueRefusal e.0 × (e.1 ≡ text)) }
     {
-        let mut core = self.enter(rt);
+        let mut core = acquire(&self.core, rt);
         let (idle, full) = (core.core().is_idle(), core.core().is_full());
-        if core.core().is_crowded(self.lent(core.core())) {
+        let bound = self.bound();
+        if core.core().is_crowded(self.lent(bound, core.core())) {
             return Err((SinkError::ChannelFull, text));
         }
         let answer = core.submit(text);
-        self.note(core.core());
+        self.note(bound, core.core());
         drop(core);
         self.after_submit(idle, full, answer.is_ok());
         answer
@@ -155,26 +146,27 @@ impl<T: Drop, A: Allocator + Clone> SharedQueue<T, A> {
         Ok(self.offer(rt, make)?)
     }
 
-    // As `submit_with`, with a small error.
-    fn offer<F: FnOnce() -> Result<T, AllocError>>(
+    /// As `submit_with`, with a small error.
+    pub fn offer<F: FnOnce() -> Result<T, AllocError>>(
         &self,
         rt: &impl Wait,
         make: F,
     ) -> Result<(), Refusal>
         requires { F.IsAlwaysCallable make }
     {
-        if let Some(refusal) = self.seen.refusal(self.bound(), &self.taken) {
+        let bound = self.bound();
+        if let Some(refusal) = self.seen.refusal(bound, &self.taken) {
             if refusal == Refusal::Full {
                 spin(TURNS_ASIDE);
             }
             return Err(refusal);
         }
         let made = make();
-        let mut core = self.enter(rt);
+        let mut core = acquire(&self.core, rt);
         let idle = core.core().is_idle();
-        let lent = self.lent(core.core());
+        let lent = self.lent(bound, core.core());
         let answer = core.offer_beside(lent, || made);
-        self.note(core.core());
+        self.note(bound, core.core());
         drop(core);
         self.after_submit(idle, answer == Err(Refusal::Full), answer.is_ok());
         answer
@@ -193,40 +185,19 @@ impl<T: Drop, A: Allocator> SharedQueue<T, A> {
 
     // Tells those without the lock how many texts were submitted, where they may be refused.
     #[inline(always)]
-    fn note(&self, core: &QueueCore<T, A>) {
-        if self.bound().is_some() {
+    fn note(&self, bound: Option<usize>, core: &QueueCore<T, A>) {
+        if bound.is_some() {
             self.seen.note_submitted(core.submitted());
         }
     }
 
     // How many texts takers were lent that wait, where any count.
     #[inline(always)]
-    fn lent(&self, core: &QueueCore<T, A>) -> usize {
-        match self.bound() {
+    fn lent(&self, bound: Option<usize>, core: &QueueCore<T, A>) -> usize {
+        match bound {
             Some(_) => core.drained().wrapping_sub(self.taken.get()) as usize,
             None => 0,
         }
-    }
-
-    // Takes the lock, inline where it is free.
-    #[inline(always)]
-    fn enter(&self, rt: &impl Wait) -> MutexGuard<'_, QueueLedger<T, A>> {
-        match self.core.try_lock() {
-            Some(core) => core,
-            None => self.enter_late(rt),
-        }
-    }
-
-    // Takes the lock that was held. To sleep for it would make the one who holds it wake a sleeper.
-    #[inline(never)]
-    fn enter_late(&self, rt: &impl Wait) -> MutexGuard<'_, QueueLedger<T, A>> {
-        for _ in 0..TRIES {
-            spin(TURNS_BETWEEN_TRIES);
-            if let Some(core) = self.core.try_lock() {
-                return core;
-            }
-        }
-        self.core.lock(rt)
     }
 
     // Wakes those who wait where a queue that was idle has a text now. A caller that is refused by a full queue stands
@@ -244,7 +215,7 @@ impl<T: Drop, A: Allocator> SharedQueue<T, A> {
 
     /// Takes the oldest text, if there is one.
     pub fn try_take(&self, rt: &impl Wait) -> Taken<T> {
-        self.take_from(&mut self.enter(rt), &mut None)
+        self.take_from(&mut acquire(&self.core, rt), &mut None)
     }
 
     /// Takes the oldest text, and waits while there is none and the queue is not stopped. `None` is the end. It looks
@@ -256,11 +227,20 @@ impl<T: Drop, A: Allocator> SharedQueue<T, A> {
     /// Takes the oldest text as `take_wait`, by way of a batch of this queue, which is lent all texts that wait at once,
     /// where it has none: so the lock is taken once for many texts. Of several takers with batches each takes its own
     /// texts in order.
+    #[inline(always)]
     pub fn take_by(&self, rt: &impl Wait, batch: &mut Option<TextRing<T, A>>) -> Option<T> {
-        if let Some(text) = next_lent(batch) {
-            self.taken.add_one();
-            return Some(text);
+        match next_lent(batch) {
+            Some(text) => {
+                self.taken.add_one();
+                Some(text)
+            }
+            None => self.take_more(rt, batch),
         }
+    }
+
+    // Takes the oldest text as `take_by`, with a batch that has none.
+    #[inline(never)]
+    fn take_more(&self, rt: &impl Wait, batch: &mut Option<TextRing<T, A>>) -> Option<T> {
         for _ in 0..LOOKS {
             match self.look(batch) {
                 Taken::Text(text) => return Some(text),

@@ -9,7 +9,7 @@ use super::buffered::{hold_line, write_line};
 use cadence_errors::{MetricResult, SinkError};
 use cadence_flow::io::{PacketWriter, Refusals};
 use cadence_flow::stats::{SinkStats, SocketStats};
-use cadence_ledger::LineLedger;
+use cadence_ledger::{LineLedger, acquire};
 use std::alloc::Allocator;
 use std::sync::{Mutex, MutexGuard, Wait};
 
@@ -136,11 +136,7 @@ impl<D: Datagrams, R: Wait + Drop, A: Allocator> PackedSocket<D, R, A> {
     /// changed, and the lock is given for `write_out`.
     #[inline(always)]
     pub fn hold(&self, metric: &str) -> Option<SocketLines<'_, D, R, A>> {
-        // a lock that is free is taken inline
-        let mut lines = match self.writer.try_lock() {
-            Some(lines) => lines,
-            None => self.writer.lock(&self.rt),
-        };
+        let mut lines = acquire(&self.writer, &self.rt);
         if hold_line(&mut lines, metric) {
             return None;
         }

@@ -95,6 +95,7 @@ impl<T: Drop, A: Allocator + Clone> QueueCore<T, A> {
     }
 
     // Puts a text last in a queue that isn't full, or gives it back where memory ran out.
+    #[inline(always)]
     fn put_last(&mut self, text: T) -> Result<(), T>
         requires { is_full self.old ≡ false }
         ensures pushed { OnOk result (self.new ≡ accepting self.old text) }

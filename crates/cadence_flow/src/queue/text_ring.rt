@@ -43,7 +43,8 @@ impl<T: Drop, A: Allocator + Clone> TextRing<T, A> {
         })
     }
 
-    // Makes the room twice as large.
+    // Makes the room twice as large. It is apart, so that a text that finds room is put inline.
+    #[inline(never)]
     fn grow(&mut self) -> Result<(), AllocError>
         ensures items { self.new.items ≡ self.old.items }
         ensures room { OnOk result (length self.new.items < self.new.capacity) }
@@ -64,21 +65,17 @@ impl<T: Drop, A: Allocator + Clone> TextRing<T, A> {
 
     /// Puts a text last. A ring that is full grows to twice its room; where memory ran out the text comes back, and
     /// nothing has changed. One with room left takes no memory.
+    #[inline(always)]
     pub fn push_back(&mut self, text: T) -> Result<(), T>
         ensures pushed { OnOk result (self.new.items ≡ self.old.items ++ text ∷ []) }
         ensures same { IfErr result (λ back. (back ≡ text) × (self.new ≡ self.old)) }
         ensures room { length self.old.items < self.old.capacity →
             IsOk result × (self.new.capacity ≡ self.old.capacity) }
     {
-        match self.put(text) {
-            Ok(()) => Ok(()),
-            Err(text) => {
-                if self.grow().is_err() {
-                    return Err(text);
-                }
-                self.put(text)
-            }
+        if self.len() >= self.room() && self.grow().is_err() {
+            return Err(text);
         }
+        self.put(text)
     }
 }
 
@@ -125,6 +122,7 @@ impl<T: Drop, A: Allocator> TextRing<T, A> {
     }
 
     // Puts a text last, or gives it back where there is no room.
+    #[inline(always)]
     fn put(&mut self, text: T) -> Result<(), T>
         ensures pushed { OnOk result
             (self.new ≡ buffer (self.old.items ++ text ∷ []) self.old.capacity) }

@@ -73,10 +73,12 @@ impl<S: MetricSink, R: Wait + Drop, A: Allocator + Clone> MetricSink
 
     fn emit(&self, metric: &str) -> Result<usize, SinkError> {
         let alloc = &self.alloc;
-        self.shared
-            .queue
-            .submit_with(&self.rt, || String::from_str(alloc.clone()?, metric))?;
-        Ok(metric.len())
+        let queue = &self.shared.queue;
+        // a refusal is small, and its error as wide as an `io::Error`
+        match queue.offer(&self.rt, || String::from_str(alloc.clone()?, metric)) {
+            Ok(()) => Ok(metric.len()),
+            Err(refusal) => Err(refusal.into()),
+        }
     }
 
     fn flush(&self) -> Result<(), SinkError> {
