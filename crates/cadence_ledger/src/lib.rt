@@ -1,4 +1,5 @@
-//! What lies under the locks of the sinks: a packer and a queue, each with a ledger that only proofs read.
+//! What lies under the locks of the sinks: a packer and a queue, each with a ledger that only proofs read; and how such a
+//! lock is taken.
 #![tactic(auto)]
 
 mod item_log;
