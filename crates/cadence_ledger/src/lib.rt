@@ -2,9 +2,12 @@
 //! lock is taken.
 #![tactic(auto)]
 
+mod batch;
 mod item_log;
+mod kept;
 mod line_ledger;
 mod lock;
+mod pace;
 mod queue_ledger;
 mod seen;
 mod shared_queue;
@@ -12,6 +15,7 @@ mod telling;
 mod text_log;
 mod whole_ledger;
 
+pub use batch::Batch;
 pub use item_log::ItemLog;
 pub use line_ledger::LineLedger;
 pub use lock::acquire;

@@ -7,7 +7,7 @@ use std::sync::{Mutex, MutexGuard, Wait};
 const TRIES: u32 = 16;
 
 /// How many turns of a spinning loop a caller leaves a lock alone that was held.
-const TURNS_BETWEEN_TRIES: u32 = 96;
+const TURNS_BETWEEN_TRIES: u32 = 200;
 
 /// Spins for so many turns of a loop that does nothing.
 pub(super) fn spin(turns: u32) {

@@ -48,6 +48,7 @@ impl Apart {
 pub struct Seen {
     submitted: AtomicU64,
     stopped: AtomicBool,
+    spares: AtomicBool,
 }
 
 impl Seen {
@@ -56,6 +57,7 @@ impl Seen {
         Seen {
             submitted: AtomicU64::new(0),
             stopped: AtomicBool::new(false),
+            spares: AtomicBool::new(false),
         }
     }
 
@@ -67,6 +69,17 @@ impl Seen {
     /// The queue is stopped.
     pub fn note_stop(&self) {
         self.stopped.store(true, Ordering::SeqCst);
+    }
+
+    /// Whether the queue has texts that were given back.
+    pub fn note_spares(&self, any: bool) {
+        self.spares.store(any, Ordering::SeqCst);
+    }
+
+    /// Whether it had some a moment ago.
+    #[inline(always)]
+    pub fn has_spares(&self) -> bool {
+        self.spares.load(Ordering::SeqCst)
     }
 
     /// Why the queue refused a text at a moment of this call, as its lock would have told: it was stopped, else at its

@@ -1,5 +1,5 @@
 //! The handles of a queuing sink.
-ghost use Rattle.std.specs.Prelude.{◌≡◌};
+ghost use Rattle.std.specs.Prelude.{◌≡◌, IfOk, string_bytes};
 ghost use Rattle.cadence_sinks.specs.Queuing.{wrapped_sink};
 
 use super::worker::Shared;
@@ -56,12 +56,22 @@ impl<S: MetricSink, R: Wait + Drop, A: Allocator> QueuingMetricSink<S, R, A> {
     }
 }
 
+// A copy of a line, in the memory of another.
+fn copied_into<A: Allocator>(mut line: String<A>, metric: &str) -> Result<String<A>, AllocError>
+    ensures { IfOk result (λ copy. string_bytes copy ≡ metric.now) }
+{
+    line.clear();
+    line.push_str(metric)?;
+    Ok(line)
+}
+
 /// `emit` puts a copy of the line last in the queue and answers its length, `ChannelDisconnected` where the queue is
 /// stopped, else `ChannelFull` where as many lines wait as its capacity, else `OutOfMemory`; nothing is queued then.
 /// Under `DropOldest` a full queue of a capacity above 0 drops its oldest line in place of `ChannelFull`, and the
-/// handler isn't told. An accepted line takes memory once, beside the growth of an unbounded queue; one that finds the
-/// queue stopped or full takes none, and one that another caller comes before just then gives its own back. `flush`
-/// flushes the wrapped sink and doesn't wait for the queue; `stats` are the wrapped sink's.
+/// handler isn't told. An accepted line takes memory at most once, beside the growth of an unbounded queue: it is copied
+/// into that of a line that the worker has handed on, where there is one. One that finds the queue stopped or full takes
+/// none, and one that another caller comes before just then gives its own back. `flush` flushes the wrapped sink and
+/// doesn't wait for the queue; `stats` are the wrapped sink's.
 impl<S: MetricSink, R: Wait + Drop, A: Allocator + Clone> MetricSink
     for QueuingMetricSink<S, R, A> {
     ghost use Rattle.std.specs.Arc.{arc_value};
@@ -74,8 +84,13 @@ impl<S: MetricSink, R: Wait + Drop, A: Allocator + Clone> MetricSink
     fn emit(&self, metric: &str) -> Result<usize, SinkError> {
         let alloc = &self.alloc;
         let queue = &self.shared.queue;
+        let answer = queue.offer(
+            &self.rt,
+            || String::from_str(alloc.clone()?, metric),
+            |line| copied_into(line, metric),
+        );
         // a refusal is small, and its error as wide as an `io::Error`
-        match queue.offer(&self.rt, || String::from_str(alloc.clone()?, metric)) {
+        match answer {
             Ok(()) => Ok(metric.len()),
             Err(refusal) => Err(refusal.into()),
         }

@@ -3,11 +3,14 @@ ghost use Rattle.std.specs.Prelude.{◌≡◌};
 
 use crate::worklist::{Worklist, work};
 use crate::{Handler, MetricSink};
-use cadence_flow::queue::{TextRing, WorkerEnd};
-use cadence_ledger::{ItemLog, SharedQueue};
+use cadence_flow::queue::WorkerEnd;
+use cadence_ledger::{Batch, ItemLog, SharedQueue};
 use cadence_resolve::thread::Job;
 use std::alloc::Allocator;
 use std::sync::{Arc, Wait};
+
+/// The most bytes of a line's memory that lines to come may use.
+const WIDEST_KEPT: usize = 512;
 
 /// What the handles and the worker share. The queue's lock is never held while the sink works.
 #[derive(Drop)]
@@ -31,11 +34,12 @@ struct QueueWorklist<'a, S: MetricSink, R: Wait + Drop, A: Allocator> {
     rt: &'a R,
     shared: &'a Shared<S, A>,
     handler: &'a Option<Handler<A>>,
-    batch: Option<TextRing<String<A>, A>>,
+    batch: Batch<String<A>, A>,
     passed: Passed<A>,
 }
 
-impl<'a, S: MetricSink, R: Wait + Drop, A: Allocator> Worklist for QueueWorklist<'a, S, R, A> {
+impl<'a, S: MetricSink, R: Wait + Drop, A: Allocator + Clone> Worklist
+    for QueueWorklist<'a, S, R, A> {
     ghost use Rattle.std.specs.Prelude.{true, ltb, length};
 
     type Text = String<A>;
@@ -64,15 +68,18 @@ impl<'a, S: MetricSink, R: Wait + Drop, A: Allocator> Worklist for QueueWorklist
             }
         }
         self.passed.handed = self.passed.handed.and(&text);
+        if text.capacity() <= WIDEST_KEPT {
+            self.shared.queue.give_back(&mut self.batch, text);
+        }
     }
 }
 
 // Goes through the queue to its end. What was taken was handed on, in order.
-fn pass_on<S: MetricSink, R: Wait + Drop, A: Allocator>(
+fn pass_on<S: MetricSink, R: Wait + Drop, A: Allocator + Clone>(
     rt: &R,
     shared: &Shared<S, A>,
     handler: &Option<Handler<A>>,
-    batch: Option<TextRing<String<A>, A>>,
+    batch: Batch<String<A>, A>,
 ) -> Passed<A>
     ensures { result.handed.items ≡ result.taken.items }
 {
@@ -97,10 +104,11 @@ fn pass_on<S: MetricSink, R: Wait + Drop, A: Allocator>(
 pub struct Worker<S: MetricSink, R: Wait + Drop, A: Allocator> {
     pub rt: R,
     pub shared: Arc<Shared<S, A>, A>,
-    pub batch: Option<TextRing<String<A>, A>>,
+    pub batch: Batch<String<A>, A>,
 }
 
-impl<S: MetricSink, R: Wait + Drop, A: Allocator> Job<Option<Handler<A>>> for Worker<S, R, A> {
+impl<S: MetricSink, R: Wait + Drop, A: Allocator + Clone> Job<Option<Handler<A>>>
+    for Worker<S, R, A> {
     fn run(self, handler: Option<Handler<A>>) {
         let Worker { rt, shared, batch } = self;
         let _passed = pass_on(&rt, &shared, &handler, batch);

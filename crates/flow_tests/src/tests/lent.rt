@@ -1,7 +1,8 @@
 //! Texts that a taker of a queue was lent.
 use cadence_errors::SinkError;
 use cadence_flow::queue::{QueueCore, QueuePolicy, TextRing};
-use cadence_ledger::SharedQueue;
+use cadence_ledger::{Batch, SharedQueue};
+use refusing::{Refusing, each_refused};
 use std::alloc::{Allocator, Global};
 use std::sync::Wait;
 use std::sync::atomic::{AtomicBool, AtomicU64, Ordering};
@@ -10,8 +11,6 @@ use std::thread::{self, Threads};
 
 /// How many texts each caller submits to a queue with room for one of each.
 const TURNS: u64 = 300;
-
-type Batch = Option<TextRing<char, Global>>;
 
 // Submits the texts, and answers whether each is taken.
 fn submits<R: Wait>(rt: &R, queue: &SharedQueue<char>, texts: &str) -> bool {
@@ -24,7 +23,7 @@ fn submits<R: Wait>(rt: &R, queue: &SharedQueue<char>, texts: &str) -> bool {
 }
 
 // Whether the texts come by way of the batch, in this order.
-fn come<R: Wait>(rt: &R, queue: &SharedQueue<char>, batch: &mut Batch, texts: &str) -> bool {
+fn come<R: Wait>(rt: &R, queue: &SharedQueue<char>, batch: &mut Batch<char>, texts: &str) -> bool {
     for text in texts.chars() {
         if queue.take_by(rt, batch) != Some(text) {
             return false;
@@ -82,10 +81,141 @@ fn lent_texts_outlive_a_stop(rt: HostRuntime) -> Result<(), Fail> {
 fn dropping_queue_lends_nothing(rt: HostRuntime) -> Result<(), Fail> {
     let queue = SharedQueue::with_policy(rt.alloc(), Some(2), QueuePolicy::DropOldest)?;
     let mut batch = queue.batch(rt.alloc())?;
-    assert!(rt; batch.is_none() && submits(&rt, &queue, "AB"));
+    assert!(rt; submits(&rt, &queue, "AB"));
     assert!(rt; come(&rt, &queue, &mut batch, "A") && submits(&rt, &queue, "C"));
     assert!(rt; matches!(queue.submit(&rt, 'D'), Ok(Some('B'))));
     assert!(rt; come(&rt, &queue, &mut batch, "CD") && queue.dropped(&rt) == 1);
+    Ok(())
+}
+
+type Line = String<Refusing<Global>>;
+
+// Puts a line into the queue, in the memory of one that was given back where there is one. Answers how often it took
+// memory, where it wasn't refused.
+fn requests_of<R: Wait>(
+    rt: &R,
+    queue: &SharedQueue<Line, Refusing<Global>>,
+    heap: &Refusing<Global>,
+    line: &str,
+) -> Option<u64> {
+    let left = heap.left();
+    let answer = queue.offer(
+        rt,
+        || String::from_str(heap.clone()?, line),
+        |mut text| {
+            text.clear();
+            text.push_str(line)?;
+            Ok(text)
+        },
+    );
+    answer.is_ok().then_some(left.wrapping_sub(heap.left()))
+}
+
+/// Lines, and how often each takes memory, where the one before it was given back before it came.
+const GIVEN_BACK: [(&str, u64); 6] = [
+    ("a:1|c", 1),
+    ("b:2|c", 1),
+    ("c:3|c", 0),
+    ("longer:4444|c", 1),
+    ("e:5|c", 0),
+    ("longer:6666|c", 0),
+];
+
+// The line comes by way of the batch, and is given back.
+fn comes_and_goes_back<R: Wait>(
+    rt: &R,
+    queue: &SharedQueue<Line, Refusing<Global>>,
+    batch: &mut Batch<Line, Refusing<Global>>,
+    line: &str,
+) -> Result<(), Fail> {
+    match queue.take_by(rt, batch) {
+        Some(text) if text.as_str() == line => queue.give_back(batch, text),
+        _ => return Err(Fail::new("another text")),
+    }
+    Ok(())
+}
+
+#[test]
+fn texts_given_back_are_used_again(rt: HostRuntime) -> Result<(), Fail> {
+    let heap = Refusing::after(rt.alloc(), rt.alloc(), 1000)?;
+    let queue = SharedQueue::new(heap.clone()?, Some(2))?;
+    let mut batch = queue.batch(heap.clone()?)?;
+    for (line, wanted) in GIVEN_BACK {
+        assert_eq!(rt; requests_of(&rt, &queue, &heap, line), Some(wanted));
+        comes_and_goes_back(&rt, &queue, &mut batch, line)?;
+    }
+    Ok(())
+}
+
+// Puts so many lines of one text into the queue.
+fn puts_many<R: Wait>(
+    rt: &R,
+    queue: &SharedQueue<Line, Refusing<Global>>,
+    heap: &Refusing<Global>,
+    count: u64,
+) -> bool {
+    for _ in 0..count {
+        if requests_of(rt, queue, heap, "a:1|c").is_none() {
+            return false;
+        }
+    }
+    true
+}
+
+#[test]
+fn texts_come_back_while_others_are_lent(rt: HostRuntime) -> Result<(), Fail> {
+    let heap = Refusing::after(rt.alloc(), rt.alloc(), 1000)?;
+    let queue = SharedQueue::new(heap.clone()?, Some(1000))?;
+    let mut batch = queue.batch(heap.clone()?)?;
+    assert!(rt; puts_many(&rt, &queue, &heap, 200));
+    for _ in 0..128 {
+        comes_and_goes_back(&rt, &queue, &mut batch, "a:1|c")?;
+    }
+    assert_eq!(rt; requests_of(&rt, &queue, &heap, "b:2|c"), Some(0));
+    Ok(())
+}
+
+// Whether the heap had memory for all lines. One that is refused for want of it is taken the next time, and comes.
+fn all_have_memory<R: Wait>(
+    rt: &R,
+    heap: &Refusing<Global>,
+    queue: &SharedQueue<Line, Refusing<Global>>,
+    mut batch: Batch<Line, Refusing<Global>>,
+) -> Result<bool, Fail> {
+    for (line, _) in GIVEN_BACK {
+        let is_refused = requests_of(rt, queue, heap, line).is_none();
+        if is_refused && requests_of(rt, queue, heap, line).is_none() {
+            return Err(Fail::new("refused twice"));
+        }
+        comes_and_goes_back(rt, queue, &mut batch, line)?;
+        if is_refused {
+            return Ok(false);
+        }
+    }
+    Ok(true)
+}
+
+// The same of the queue and its batch too.
+fn has_all_memory<R: Wait>(rt: &R, heap: Refusing<Global>) -> Result<bool, Fail> {
+    let Ok(queue) = SharedQueue::new(heap.clone()?, Some(2)) else {
+        return Ok(false);
+    };
+    match queue.batch(heap.clone()?) {
+        Ok(batch) => all_have_memory(rt, &heap, &queue, batch),
+        Err(_) => Ok(false),
+    }
+}
+
+/// A queue's ring, three of its batch, and the lines that take memory.
+const REQUESTS: u64 = 1 + 3 + 3;
+
+#[test]
+fn line_without_memory_leaves_the_queue_in_order(rt: HostRuntime) -> Result<(), Fail> {
+    let granted: Result<Option<u64>, Fail> = each_refused(
+        rt.alloc(),
+        |heap| has_all_memory(&rt, heap),
+    );
+    assert_eq!(rt; granted?, Some(REQUESTS));
     Ok(())
 }
 
@@ -130,7 +260,7 @@ fn submit_one_by_one<R: Wait>(
 fn take_to_the_end<R: Wait>(
     rt: &R,
     queue: &SharedQueue<char>,
-    batch: &mut Batch,
+    batch: &mut Batch<char>,
     taken: [&AtomicU64; 2],
 ) {
     for _ in rt.forever() {

@@ -278,7 +278,7 @@ fn each_request_refused(rt: HostRuntime) -> Result<(), Fail> {
         rt.alloc(),
         |heap| has_all_memory(&rt, heap),
     );
-    assert_eq!(rt; granted?, Some(4));
+    assert_eq!(rt; granted?, Some(6));
     Ok(())
 }
 
