@@ -1,11 +1,11 @@
 //! The receiving end.
 
 use std::io;
-use std::net::{Ipv4Addr, SocketAddr, UdpSocket};
+use std::net::{Ipv4Addr, Net, SocketAddr, UdpSocket};
 use std::time::Duration;
 
 /// A socket on the loopback address, at a port that the system picks. A receive waits five seconds at most.
-pub fn on_loopback(rt: &HostRuntime) -> io::Result<UdpSocket> {
+pub fn on_loopback(rt: &impl Net) -> io::Result<UdpSocket> {
     let socket = UdpSocket::bind(rt, SocketAddr::from((Ipv4Addr::LOCALHOST, 0)))?;
     socket.set_read_timeout(Some(Duration::from_secs(5)))?;
     Ok(socket)

@@ -9,18 +9,29 @@ use cadence::sinks::Target;
 use cadence::{
     BufferedUdpMetricSink, MetricError, MetricResult, MetricSink, QueuingMetricSink, StatsdClient,
 };
-use std::sync::Arc;
+use std::alloc::Global;
+use std::net::{Net, UdpSocket};
 use std::sync::atomic::{AtomicU64, Ordering};
+use std::sync::{Arc, Wait};
 
 /// How much a datagram holds, in bytes.
 const CAPACITY: usize = 128;
 
+// A buffered UDP sink that sends to this socket.
+fn udp_to<R: Net + Wait + Clone + Drop>(
+    rt: &R,
+    alloc: Global,
+    server: &UdpSocket,
+) -> MetricResult<BufferedUdpMetricSink<R>> {
+    let target = Target::Addr(server.local_addr()?);
+    let socket = datagrams::on_loopback(rt)?;
+    BufferedUdpMetricSink::with_capacity(rt.clone()?, alloc, target, socket, CAPACITY)
+}
+
 fn main(rt: HostRuntime) -> MetricResult<()> {
     let alloc = rt.alloc();
     let server = datagrams::on_loopback(&rt)?;
-    let target = Target::Addr(server.local_addr()?);
-    let socket = datagrams::on_loopback(&rt)?;
-    let udp = BufferedUdpMetricSink::with_capacity(rt.clone()?, alloc, target, socket, CAPACITY)?;
+    let udp = udp_to(&rt, alloc, &server)?;
     let queue = QueuingMetricSink::from(rt.clone()?, alloc, udp)?;
 
     let failures = Arc::new(alloc, AtomicU64::new(0))?;

@@ -10,7 +10,7 @@ use cadence::{
 };
 use std::alloc::Global;
 use std::io;
-use std::net::Net;
+use std::net::{Net, UdpSocket};
 use std::sync::{Barrier, Wait};
 use std::thread::{self, Threads};
 use std::time::{Clock, Duration, Instant};
@@ -126,13 +126,25 @@ pub fn udp<R: Clock + Net + Wait + Threads + Clone + Drop + Send + Sync>(
     Ok(sent(time, &sink))
 }
 
-/// Counters with a tag of several callers, through a queue into a buffered UDP sink.
+type QueuedUdp<R> = QueuingMetricSink<BufferedUdpMetricSink<R>, R>;
+
+/// A queue over a buffered UDP sink of 512 bytes, and the socket of this process that it sends to, which nobody reads.
+pub fn queue_over_udp<R: Clock + Net + Wait + Threads + Clone + Drop + Send + Sync + 'static>(
+    rt: &R,
+    alloc: Global,
+    arguments: &Arguments,
+) -> MetricResult<(UdpSocket, QueuedUdp<R>)> {
+    let (server, udp) = buffered(rt, alloc, 512)?;
+    Ok((server, queue_over(rt, alloc, udp, arguments.capacity)?))
+}
+
+/// Counters with a tag of several callers of a client over a queue.
 pub fn service<R: Clock + Net + Wait + Threads + Clone + Drop + Send + Sync>(
     rt: &R,
     alloc: Global,
     arguments: &Arguments,
     client: &StatsdClient,
-    queue: &QueuingMetricSink<BufferedUdpMetricSink<R>, R>,
+    queue: &QueuedUdp<R>,
 ) -> MetricResult<Done> {
     let hidden = BlackBox::new();
     let start = Instant::now(rt)?;

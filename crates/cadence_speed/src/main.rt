@@ -31,10 +31,7 @@ fn main(rt: HostRuntime) -> MetricResult<()> {
         Mode::CountTags => lines::count_tags(&rt, &client, calls)?,
         Mode::Histogram4 => lines::histogram4(&rt, &client, calls)?,
         Mode::Tags => sizes::tags(&rt, &client, calls, size)?,
-        Mode::DefaultTags => {
-            let sink: Box<dyn MetricSink + Send + Sync> = Box::new(rt.alloc(), NopMetricSink)?;
-            sizes::default_tags(&rt, sink, calls, size)?
-        }
+        Mode::DefaultTags => sizes::default_tags(&rt, calls, size)?,
         Mode::Values => sizes::values(&rt, &client, calls, size)?,
         Mode::Key => sizes::key(&rt, &client, calls, size)?,
         Mode::Packer => packets::packer(&rt, &arguments)?,
@@ -48,8 +45,7 @@ fn main(rt: HostRuntime) -> MetricResult<()> {
         Mode::Callers => callers::queue(&rt, rt.alloc(), &arguments)?,
         Mode::UdpCallers => callers::udp(&rt, rt.alloc(), &arguments)?,
         Mode::Service => {
-            let (_server, udp) = sinks::buffered(&rt, rt.alloc(), 512)?;
-            let queue = sinks::queue_over(&rt, rt.alloc(), udp, arguments.capacity)?;
+            let (_server, queue) = callers::queue_over_udp(&rt, rt.alloc(), &arguments)?;
             let sink: Box<dyn MetricSink + Send + Sync> = Box::new(rt.alloc(), queue.clone()?)?;
             let client = StatsdClient::from_sink(rt.alloc(), "my.service", sink)?;
             callers::service(&rt, rt.alloc(), &arguments, &client, &queue)?
