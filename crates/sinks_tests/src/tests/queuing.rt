@@ -48,6 +48,24 @@ fn three_texts_in_order(rt: HostRuntime) -> Result<(), Fail> {
     )
 }
 
+// Lines in turn, each of which comes before the next one goes in, so that one may take the memory of another.
+fn come_in_turn<R: Runtime>(sink: &SpiedSink<R>, receiver: &SpyReceiver<R>) -> Result<(), Fail> {
+    for line in ["a:1|c", "b:2|c", "c:3|c", "d:4|c", "e:5|c"] {
+        takes(sink, &[(line, 5)])?;
+        comes(receiver, line)?;
+    }
+    Ok(())
+}
+
+#[test]
+fn a_line_in_the_memory_of_another_is_its_own(rt: HostRuntime) -> Result<(), Fail> {
+    let (receiver, sink) = before_a_spy(&rt, rt.alloc())?;
+    for _ in 0..4 {
+        come_in_turn(&sink, &receiver)?;
+    }
+    Ok(())
+}
+
 #[test]
 fn stopped_sink_is_disconnected(rt: HostRuntime) -> Result<(), Fail> {
     let sink = QueuingMetricSink::from(rt.clone()?, rt.alloc(), NopMetricSink)?;
