@@ -1,5 +1,5 @@
 //! A sink behind a gate, at which the worker of a queue waits.
-use super::steps::{Runtime, takes};
+use super::steps::{Runtime, gives, spy, takes};
 use cadence_errors::SinkError;
 use cadence_flow::stats::SinkStats;
 use cadence_sinks::{MetricSink, QueuingMetricSink, SpyMetricSink, SpyReceiver};
@@ -75,20 +75,24 @@ pub struct Around<R: Wait + Drop> {
     pub passed: SpyReceiver<R>,
 }
 
+fn closed_gate() -> Gate {
+    Gate {
+        open: AtomicBool::new(false),
+        flushed: AtomicBool::new(false),
+    }
+}
+
 /// A sink behind a closed gate.
 pub fn behind_a_gate<R: Wait + Clone + Drop>(
     rt: &R,
     alloc: Global,
 ) -> Result<(Around<R>, Gated<R>), Fail> {
-    let gate = Gate {
-        open: AtomicBool::new(false),
-        flushed: AtomicBool::new(false),
-    };
-    let gate = Arc::new(alloc, gate)?;
-    let (coming, comes) = SpyMetricSink::new(rt.clone()?, alloc)?;
-    let (passed, passes) = SpyMetricSink::new(rt.clone()?, alloc)?;
+    let gate = Arc::new(alloc, closed_gate())?;
+    let theirs = gate.clone()?;
+    let (coming, comes) = spy(rt, alloc)?;
+    let (passed, passes) = spy(rt, alloc)?;
     let sink = Gated {
-        gate: gate.clone()?,
+        gate: theirs,
         comes,
         passes,
     };
@@ -100,31 +104,44 @@ pub fn behind_a_gate<R: Wait + Clone + Drop>(
     Ok((around, sink))
 }
 
-/// The first line comes to the gate, where the worker waits with it.
-pub fn come_to_the_gate<S: MetricSink, R: Wait + Drop>(
-    sink: &S,
-    around: &Around<R>,
-) -> Result<(), Fail> {
-    takes(sink, &[("first:1|c", 9)])?;
-    around.coming.recv().ok_or("gone")?;
-    Ok(())
+/// A queue before a gate, and what a test holds of the gate.
+#[derive(Drop)]
+pub struct GatedQueue<R: Runtime, A: Allocator = Global> {
+    pub sink: QueuingMetricSink<Gated<R>, R, A>,
+    pub around: Around<R>,
 }
 
-/// Opens the gate, and waits for the end of the worker.
-pub fn open_and_end<S: MetricSink, R: Wait + Drop, A: Allocator>(
-    sink: &QueuingMetricSink<S, R, A>,
-    around: &Around<R>,
-) {
-    around.gate.open.store(true, Ordering::SeqCst);
-    sink.stop_and_wait();
+impl<R: Runtime, A: Allocator + Clone> GatedQueue<R, A> {
+    /// The first line comes to the gate, where the worker waits with it.
+    pub fn come_to_the_gate(&self) -> Result<(), Fail> {
+        takes(&self.sink, &[("first:1|c", 9)])?;
+        self.around.coming.recv().ok_or("gone")?;
+        Ok(())
+    }
+
+    /// The first line comes to the gate, and a second one waits in the queue.
+    pub fn hold_two(&self) -> Result<(), Fail> {
+        self.come_to_the_gate()?;
+        takes(&self.sink, &[("second:1|c", 10)])
+    }
+
+    /// Opens the gate, and waits for the end of the worker.
+    pub fn open_and_end(&self) {
+        self.around.gate.open.store(true, Ordering::SeqCst);
+        self.sink.stop_and_wait();
+    }
+
+    /// Opens the gate, and waits for the end of the worker. These lines passed, and no other.
+    pub fn passes(&self, wanted: &[&str]) -> Result<(), Fail> {
+        self.open_and_end();
+        gives(&self.around.passed, wanted)
+    }
 }
 
 /// A queue before a closed gate.
-pub fn before_a_gate<R: Runtime>(
-    rt: &R,
-    alloc: Global,
-) -> Result<(Around<R>, QueuingMetricSink<Gated<R>, R>), Fail> {
+pub fn before_a_gate<R: Runtime>(rt: &R, alloc: Global) -> Result<GatedQueue<R>, Fail> {
+    let mine = rt.clone()?;
     let (around, gated) = behind_a_gate(rt, alloc)?;
-    let sink = QueuingMetricSink::from(rt.clone()?, alloc, gated)?;
-    Ok((around, sink))
+    let sink = QueuingMetricSink::from(mine, alloc, gated)?;
+    Ok(GatedQueue { sink, around })
 }

@@ -1,12 +1,13 @@
-use super::gate::{Around, Gated, before_a_gate, behind_a_gate, come_to_the_gate, open_and_end};
+use super::gate::{GatedQueue, before_a_gate, behind_a_gate};
 use super::steps::{
-    Refusal, Runtime, are_both, comes, comes_last, emit_from_two, flushes, gives, refuses, takes,
+    Refusal, Runtime, are_both, comes, comes_last, emit_from_two, flushes, gives,
+    has_memory_for_a_line, refuses, spy, takes,
 };
 use cadence_errors::{MetricError, SinkError};
 use cadence_flow::queue::QueuePolicy;
 use cadence_sinks::{
     BufferedSpyMetricSink, MetricSink, NopMetricSink, QueuingMetricSink, QueuingMetricSinkBuilder,
-    SinkErrorHandler, SpyMetricSink, SpyReceiver,
+    SpyMetricSink, SpyReceiver,
 };
 use refusing::{Refusing, each_refused};
 use std::alloc::{Allocator, Global};
@@ -18,8 +19,9 @@ type SpiedSink<R> = QueuingMetricSink<SpyMetricSink<R>, R>;
 
 // A queue before a spy, and the spy's receiver.
 fn before_a_spy<R: Runtime>(rt: &R, alloc: Global) -> Result<(SpyReceiver<R>, SpiedSink<R>), Fail> {
-    let (receiver, spy) = SpyMetricSink::new(rt.clone()?, alloc)?;
-    let sink = QueuingMetricSink::from(rt.clone()?, alloc, spy)?;
+    let mine = rt.clone()?;
+    let (receiver, spy) = spy(rt, alloc)?;
+    let sink = QueuingMetricSink::from(mine, alloc, spy)?;
     Ok((receiver, sink))
 }
 
@@ -38,9 +40,14 @@ fn has_counted<S: MetricSink, R: Wait + Drop, A: Allocator>(
 #[test]
 fn three_texts_in_order(rt: HostRuntime) -> Result<(), Fail> {
     let (receiver, sink) = before_a_spy(&rt, rt.alloc())?;
-    for text in ["foo.counter:1|c", "bar.counter:2|c", "baz.counter:3|c"] {
-        takes(&sink, &[(text, 15)])?;
-    }
+    takes(
+        &sink,
+        &[
+            ("foo.counter:1|c", 15),
+            ("bar.counter:2|c", 15),
+            ("baz.counter:3|c", 15),
+        ],
+    )?;
     sink.stop_and_wait();
     gives(
         &receiver,
@@ -78,35 +85,44 @@ fn stopped_sink_is_disconnected(rt: HostRuntime) -> Result<(), Fail> {
 
 #[test]
 fn caller_does_not_wait_for_the_sink(rt: HostRuntime) -> Result<(), Fail> {
-    let (around, sink) = before_a_gate(&rt, rt.alloc())?;
-    come_to_the_gate(&sink, &around)?;
-    takes(&sink, &[("second:1|c", 10)])?;
-    assert_eq!(rt; sink.queued(), 1);
-    open_and_end(&sink, &around);
-    gives(&around.passed, &["first:1|c", "second:1|c"])
+    let queue = before_a_gate(&rt, rt.alloc())?;
+    queue.hold_two()?;
+    assert!(rt; queue.sink.queued() == 1);
+    queue.passes(&["first:1|c", "second:1|c"])
 }
 
 #[test]
 fn a_flush_does_not_wait_for_the_queue(rt: HostRuntime) -> Result<(), Fail> {
-    let (around, sink) = before_a_gate(&rt, rt.alloc())?;
-    come_to_the_gate(&sink, &around)?;
-    takes(&sink, &[("second:1|c", 10)])?;
-    flushes(&sink)?;
-    assert!(rt; around.gate.flushed.load(Ordering::SeqCst));
-    assert_eq!(rt; (sink.queued(), sink.stats().packets_dropped), (1, 4));
-    open_and_end(&sink, &around);
-    gives(&around.passed, &["first:1|c", "second:1|c"])
+    let queue = before_a_gate(&rt, rt.alloc())?;
+    queue.hold_two()?;
+    flushes(&queue.sink)?;
+    assert!(rt; queue.around.gate.flushed.load(Ordering::SeqCst));
+    assert!(rt; queue.sink.queued() == 1 && queue.sink.stats().packets_dropped == 4);
+    queue.passes(&["first:1|c", "second:1|c"])
 }
 
-type ShortQueue<R> = QueuingMetricSink<Gated<R>, R, Refusing<Global>>;
+type RefusingQueue<R> = GatedQueue<R, Refusing<Global>>;
+
+// What the builder makes, before a gate.
+fn built_before_a_gate<R: Runtime>(
+    rt: &R,
+    alloc: Global,
+    heap: Refusing<Global>,
+    builder: QueuingMetricSinkBuilder<Refusing<Global>>,
+) -> Result<RefusingQueue<R>, Fail> {
+    let mine = rt.clone()?;
+    let (around, gated) = behind_a_gate(rt, alloc)?;
+    let sink = builder.build(mine, heap, gated)?;
+    Ok(GatedQueue { sink, around })
+}
 
 // A queue of one line, which drops its oldest, before a gate. Its handler counts the faults.
 fn short_queue<R: Runtime>(
     rt: &R,
+    alloc: Global,
     heap: &Refusing<Global>,
-    gated: Gated<R>,
     faults: &Arc<AtomicU64>,
-) -> Result<ShortQueue<R>, Fail> {
+) -> Result<RefusingQueue<R>, Fail> {
     let counted = faults.clone()?;
     let handler = Box::new(heap.clone()?, move |_fault| {
         counted.fetch_add(1, Ordering::SeqCst);
@@ -115,36 +131,32 @@ fn short_queue<R: Runtime>(
         .with_capacity(1)
         .with_policy(QueuePolicy::DropOldest)
         .with_error_handler(handler);
-    Ok(builder.build(rt.clone()?, heap.clone()?, gated)?)
+    built_before_a_gate(rt, alloc, heap.clone()?, builder)
 }
 
-// While a first line is at the gate, a third one takes the place of a second one. It takes memory once.
+// While a first line is at the gate, a third one takes the place of a second one, and passes. It takes memory once.
 fn replaces_the_second<R: Runtime>(
-    sink: &ShortQueue<R>,
-    around: &Around<R>,
+    queue: &RefusingQueue<R>,
     heap: &Refusing<Global>,
 ) -> Result<(), Fail> {
-    come_to_the_gate(sink, around)?;
-    takes(sink, &[("second:1|c", 10)])?;
+    queue.hold_two()?;
     let left = heap.left();
-    takes(sink, &[("third:1|c", 9)])?;
+    takes(&queue.sink, &[("third:1|c", 9)])?;
     if heap.left().wrapping_add(1) != left {
         return Err(Fail::new("another number of requests"));
     }
-    Ok(())
+    queue.passes(&["first:1|c", "third:1|c"])?;
+    has_counted(&queue.sink, [3, 1, 2])
 }
 
 #[test]
 fn newest_lines_win(rt: HostRuntime) -> Result<(), Fail> {
-    let (around, gated) = behind_a_gate(&rt, rt.alloc())?;
     let faults = Arc::new(rt.alloc(), AtomicU64::new(0))?;
     let heap = Refusing::after(rt.alloc(), rt.alloc(), 1000)?;
-    let sink = short_queue(&rt, &heap, gated, &faults)?;
-    replaces_the_second(&sink, &around, &heap)?;
-    open_and_end(&sink, &around);
-    has_counted(&sink, [3, 1, 2])?;
-    assert_eq!(rt; faults.load(Ordering::SeqCst), 0);
-    gives(&around.passed, &["first:1|c", "third:1|c"])
+    let queue = short_queue(&rt, rt.alloc(), &heap, &faults)?;
+    replaces_the_second(&queue, &heap)?;
+    assert!(rt; faults.load(Ordering::SeqCst) == 0);
+    Ok(())
 }
 
 #[test]
@@ -168,8 +180,18 @@ fn last_drop_hands_on_and_flushes(rt: HostRuntime) -> Result<(), Fail> {
 
 // A spy without a receiver.
 fn lonely_spy<R: Runtime>(rt: &R, alloc: Global) -> Result<SpyMetricSink<R>, Fail> {
-    let (_receiver, spy) = SpyMetricSink::new(rt.clone()?, alloc)?;
+    let (_receiver, spy) = spy(rt, alloc)?;
     Ok(spy)
+}
+
+// What the builder makes, before a spy without a receiver.
+fn built_before_a_lonely_spy<R: Runtime>(
+    rt: &R,
+    alloc: Global,
+    builder: QueuingMetricSinkBuilder,
+) -> Result<SpiedSink<R>, Fail> {
+    let mine = rt.clone()?;
+    Ok(builder.build(mine, alloc, lonely_spy(rt, alloc)?)?)
 }
 
 // A queue of ten lines before a spy without a receiver. Its handler counts the faults.
@@ -187,7 +209,7 @@ fn before_a_lonely_spy<R: Runtime>(
     let builder = QueuingMetricSinkBuilder::new()
         .with_capacity(10)
         .with_error_handler(handler);
-    Ok(builder.build(rt.clone()?, alloc, lonely_spy(rt, alloc)?)?)
+    built_before_a_lonely_spy(rt, alloc, builder)
 }
 
 #[test]
@@ -244,28 +266,40 @@ fn is_full_at<S: MetricSink, R: Wait + Drop, A: Allocator + Clone>(
 
 // Each accepted line takes memory once, and a refused one takes none.
 fn takes_memory_once<R: Runtime>(
-    sink: &ShortQueue<R>,
-    around: &Around<R>,
+    queue: &RefusingQueue<R>,
     heap: &Refusing<Global>,
     capacity: usize,
 ) -> Result<bool, Fail> {
     let left = heap.left();
-    come_to_the_gate(sink, around)?;
+    let sink = &queue.sink;
+    queue.come_to_the_gate()?;
     let is_full = is_full_at(sink, capacity)?;
-    open_and_end(sink, around);
+    queue.open_and_end();
     refuses(sink, "a:1|c", Refusal::Disconnected)?;
     let taken = left.wrapping_sub(heap.left());
     let drained = (capacity as u64).wrapping_add(1);
     Ok(is_full && taken == sink.submitted() && sink.drained() == drained)
 }
 
+// A queue of so many lines before a gate.
+fn of_capacity<R: Runtime>(
+    rt: &R,
+    alloc: Global,
+    heap: Refusing<Global>,
+    capacity: usize,
+) -> Result<RefusingQueue<R>, Fail> {
+    let mine = rt.clone()?;
+    let (around, gated) = behind_a_gate(rt, alloc)?;
+    let sink = QueuingMetricSink::with_capacity(mine, heap, gated, capacity)?;
+    Ok(GatedQueue { sink, around })
+}
+
 #[test]
 fn a_full_queue_takes_no_memory(rt: HostRuntime) -> Result<(), Fail> {
     for capacity in [2usize, 1000] {
-        let (around, gated) = behind_a_gate(&rt, rt.alloc())?;
         let heap = Refusing::after(rt.alloc(), rt.alloc(), 9_999)?;
-        let sink = QueuingMetricSink::with_capacity(rt.clone()?, heap.clone()?, gated, capacity)?;
-        assert!(rt; takes_memory_once(&sink, &around, &heap, capacity)?);
+        let queue = of_capacity(&rt, rt.alloc(), heap.clone()?, capacity)?;
+        assert!(rt; takes_memory_once(&queue, &heap, capacity)?);
     }
     Ok(())
 }
@@ -278,16 +312,11 @@ fn has_all_memory<R: Runtime>(rt: &R, heap: Refusing<Global>) -> Result<bool, Fa
         Err(MetricError::Sink(SinkError::OutOfMemory)) => return Ok(false),
         Err(_) => return Err(Fail::new("another error")),
     };
-    match sink.emit("a:1|c") {
-        Ok(_) => return Ok(true),
-        Err(SinkError::OutOfMemory) => {}
-        Err(_) => return Err(Fail::new("another error")),
-    }
-    takes(&sink, &[("b:1|c", 5)])?;
+    let is_taken = has_memory_for_a_line(&sink)?;
     if sink.submitted() != 1 {
         return Err(Fail::new("another count"));
     }
-    Ok(false)
+    Ok(is_taken)
 }
 
 #[test]
@@ -302,20 +331,11 @@ fn each_request_refused(rt: HostRuntime) -> Result<(), Fail> {
 
 // Emits a line through the handle in the slot, and notes whether it was queued.
 fn emit_and_note<R: Runtime>(slot: &OnceLock<SpiedSink<R>>, notes: &SpyMetricSink<R>) {
-    let queued = slot.get().is_some_and(|sink| sink.emit("b:1|c").is_ok());
+    let queued = match slot.get() {
+        Some(sink) => sink.emit("b:1|c").is_ok(),
+        None => false,
+    };
     let _ = notes.emit(if queued { "queued" } else { "refused" });
-}
-
-// A queue before a spy without a receiver, with this handler.
-fn handled_by<R: Runtime>(
-    rt: &R,
-    alloc: Global,
-    handler: SinkErrorHandler,
-) -> Result<SpiedSink<R>, Fail>
-    requires { IsAlwaysCallable handler }
-{
-    let builder = QueuingMetricSinkBuilder::new().with_error_handler(handler);
-    Ok(builder.build(rt.clone()?, alloc, lonely_spy(rt, alloc)?)?)
 }
 
 // Puts a handle of the sink into the slot, emits a line, and waits for the handler's note and for the end of the
@@ -336,7 +356,7 @@ fn emits_again<R: Runtime>(
 
 #[test]
 fn handler_may_emit(rt: HostRuntime) -> Result<(), Fail> {
-    let (noted, notes) = SpyMetricSink::new(rt.clone()?, rt.alloc())?;
+    let (noted, notes) = spy(&rt, rt.alloc())?;
     let told = Arc::new(rt.alloc(), AtomicU64::new(0))?;
     let slot: Arc<OnceLock<SpiedSink<HostRuntime>>> = Arc::new(rt.alloc(), OnceLock::new())?;
     let (counted, handle) = (told.clone()?, slot.clone()?);
@@ -345,8 +365,9 @@ fn handler_may_emit(rt: HostRuntime) -> Result<(), Fail> {
             emit_and_note(&handle, &notes);
         }
     })?;
-    let sink = handled_by(&rt, rt.alloc(), handler)?;
+    let builder = QueuingMetricSinkBuilder::new().with_error_handler(handler);
+    let sink = built_before_a_lonely_spy(&rt, rt.alloc(), builder)?;
     emits_again(&sink, &slot, &noted)?;
-    assert_eq!(rt; told.load(Ordering::SeqCst), 2);
+    assert!(rt; told.load(Ordering::SeqCst) == 2);
     Ok(())
 }

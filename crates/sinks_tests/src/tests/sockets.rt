@@ -1,4 +1,6 @@
 //! Sockets on the loopback address.
+use super::steps::{flushes, takes};
+use cadence_sinks::MetricSink;
 use std::alloc::Global;
 use std::io;
 use std::net::{Ipv4Addr, Net, SocketAddr, UdpSocket};
@@ -10,6 +12,25 @@ pub fn on_loopback(net: &impl Net) -> io::Result<UdpSocket> {
     let socket = UdpSocket::bind(net, SocketAddr::from((Ipv4Addr::LOCALHOST, 0)))?;
     socket.set_read_timeout(Some(Duration::from_secs(5)))?;
     Ok(socket)
+}
+
+/// A server, its address, and a socket that sends to it.
+#[derive(Drop)]
+pub struct Ends {
+    pub server: UdpSocket,
+    pub address: SocketAddr,
+    pub socket: UdpSocket,
+}
+
+pub fn make_ends(net: &impl Net) -> io::Result<Ends> {
+    let server = on_loopback(net)?;
+    let address = server.local_addr()?;
+    let socket = on_loopback(net)?;
+    Ok(Ends {
+        server,
+        address,
+        socket,
+    })
 }
 
 /// As `on_loopback`, at the address that the host "localhost" has.
@@ -34,6 +55,13 @@ pub fn gets(server: &UdpSocket, texts: &[&str]) -> Result<(), Fail> {
         }
     }
     Ok(())
+}
+
+/// The sink takes a line and flushes, and the server gets this datagram.
+pub fn sends<S: MetricSink>(sink: &S, server: &UdpSocket, datagram: &str) -> Result<(), Fail> {
+    takes(sink, &[("buz:1|m", 7)])?;
+    flushes(sink)?;
+    gets(server, &[datagram])
 }
 
 /// The next datagram, up to 64 bytes of it.

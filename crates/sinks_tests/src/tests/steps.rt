@@ -1,8 +1,8 @@
 //! What tests of sinks share: lines that go in, messages that come out, and counts.
 use cadence_errors::SinkError;
 use cadence_flow::stats::SinkStats;
-use cadence_sinks::{MetricSink, SpyReceiver};
-use std::alloc::Allocator;
+use cadence_sinks::{MetricSink, SpyMetricSink, SpyReceiver};
+use std::alloc::{Allocator, Global};
 use std::sync::Wait;
 use std::test::Fail;
 use std::thread;
@@ -12,6 +12,14 @@ use std::thread::Threads;
 pub trait Runtime: Wait + Threads + Clone + Drop + Send + Sync + 'static {}
 
 impl<R: Wait + Threads + Clone + Drop + Send + Sync + 'static> Runtime for R {}
+
+/// A spy, and the receiver of its messages.
+pub fn spy<R: Wait + Clone + Drop>(
+    rt: &R,
+    alloc: Global,
+) -> Result<(SpyReceiver<R>, SpyMetricSink<R>), Fail> {
+    Ok(SpyMetricSink::new(rt.clone()?, alloc)?)
+}
 
 /// Why a line or a flush was refused.
 #[derive(Clone, Copy, Debug, PartialEq)]
@@ -43,6 +51,17 @@ pub fn takes<S: MetricSink>(sink: &S, lines: &[(&str, usize)]) -> Result<(), Fai
         }
     }
     Ok(())
+}
+
+/// Whether the sink had the memory for a line. Where it had not, it takes the next one.
+pub fn has_memory_for_a_line<S: MetricSink>(sink: &S) -> Result<bool, Fail> {
+    match sink.emit("a:1|c") {
+        Ok(_) => return Ok(true),
+        Err(SinkError::OutOfMemory) => {}
+        Err(_) => return Err(Fail::new("another error")),
+    }
+    takes(sink, &[("b:1|c", 5)])?;
+    Ok(false)
 }
 
 /// The sink refuses the line for this reason.

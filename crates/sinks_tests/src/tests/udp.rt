@@ -1,4 +1,4 @@
-use super::sockets::{gets, on_localhost, on_loopback, received};
+use super::sockets::{Ends, gets, make_ends, on_localhost, on_loopback, received, sends};
 use super::steps::{Refusal, are_both, counts, emit_from_two, flushes, refuses, takes};
 use cadence_errors::{MetricError, MetricResult, SinkError};
 use cadence_sinks::{
@@ -6,7 +6,7 @@ use cadence_sinks::{
     SinkErrorHandler, Target, UdpMetricSink, UdpMetricSinkBuilder,
 };
 use refusing::{Refusing, each_refused};
-use std::alloc::Global;
+use std::alloc::{AllocError, Allocator, Global};
 use std::net::{Ipv4Addr, Net, SocketAddr, UdpSocket};
 use std::sync::atomic::{AtomicU64, Ordering};
 use std::sync::{Arc, Wait};
@@ -19,9 +19,13 @@ fn sending<R: Net + Wait + Clone + Drop>(
     rt: &R,
     alloc: Global,
 ) -> Result<(UdpSocket, UdpMetricSink<R>), Fail> {
-    let server = on_loopback(rt)?;
-    let target = Target::Addr(server.local_addr()?);
-    let sink = UdpMetricSink::from(rt.clone()?, alloc, target, on_loopback(rt)?)?;
+    let mine = rt.clone()?;
+    let Ends {
+        server,
+        address,
+        socket,
+    } = make_ends(rt)?;
+    let sink = UdpMetricSink::from(mine, alloc, Target::Addr(address), socket)?;
     Ok((server, sink))
 }
 
@@ -70,8 +74,7 @@ fn a_host_is_looked_up(rt: HostRuntime) -> Result<(), Fail> {
     let server = on_localhost(&rt)?;
     let target = by_name(&server, rt.alloc())?;
     let sink = UdpMetricSink::from(rt.clone()?, rt.alloc(), target, on_localhost(&rt)?)?;
-    takes(&sink, &[("buz:1|m", 7)])?;
-    gets(&server, &["buz:1|m"])
+    sends(&sink, &server, "buz:1|m")
 }
 
 // The second line finds no room beside the first, in a buffer of 16 bytes.
@@ -86,17 +89,26 @@ fn fills_a_datagram<S: MetricSink>(sink: &S, server: &UdpSocket) -> Result<(), F
 
 #[test]
 fn a_full_buffer_is_a_datagram(rt: HostRuntime) -> Result<(), Fail> {
-    let server = on_loopback(&rt)?;
-    let (target, socket) = (Target::Addr(server.local_addr()?), on_loopback(&rt)?);
-    let sink = BufferedUdpMetricSink::with_capacity(rt.clone()?, rt.alloc(), target, socket, 16)?;
+    let mine = rt.clone()?;
+    let Ends {
+        server,
+        address,
+        socket,
+    } = make_ends(&rt)?;
+    let target = Target::Addr(address);
+    let sink = BufferedUdpMetricSink::with_capacity(mine, rt.alloc(), target, socket, 16)?;
     fills_a_datagram(&sink, &server)
 }
 
 #[test]
 fn a_dropped_sink_flushes(rt: HostRuntime) -> Result<(), Fail> {
-    let server = on_loopback(&rt)?;
-    let target = Target::Addr(server.local_addr()?);
-    let sink = BufferedUdpMetricSink::from(rt.clone()?, rt.alloc(), target, on_loopback(&rt)?)?;
+    let mine = rt.clone()?;
+    let Ends {
+        server,
+        address,
+        socket,
+    } = make_ends(&rt)?;
+    let sink = BufferedUdpMetricSink::from(mine, rt.alloc(), Target::Addr(address), socket)?;
     takes(&sink, &[("foo:54|c", 8), ("foo:67|c", 8)])?;
     drop(sink);
     gets(&server, &["foo:54|c\nfoo:67|c\n"])
@@ -115,83 +127,100 @@ fn a_lost_host_is_refused(rt: HostRuntime) -> Result<(), Fail> {
     Ok(())
 }
 
-// A sink of datagrams to the server, which looks up each millisecond.
-fn looking_up<R: ResolverRuntime>(
+// What the builder of a sink answers, over this memory. The sink looks up each millisecond, and its handler counts the
+// calls.
+fn made_over<R: ResolverRuntime, A: Allocator + Clone + Send + Sync + 'static>(
     rt: &R,
     alloc: Global,
-    server: &UdpSocket,
-) -> Result<UdpMetricSink<R>, Fail> {
-    let target = Target::Addr(server.local_addr()?);
-    let handler: SinkErrorHandler = Box::new(alloc, |_| ())?;
+    heap: A,
+    server: SocketAddr,
+    calls: Arc<AtomicU64>,
+) -> MetricResult<UdpMetricSink<R, A>> {
+    let (mine, socket) = (rt.clone()?, on_loopback(rt)?);
+    let handler: SinkErrorHandler = Box::new(alloc, move |_| {
+        calls.fetch_add(1, Ordering::SeqCst);
+    })?;
     let builder = UdpMetricSinkBuilder::new()
         .with_resolver_period(Duration::from_millis(1))
         .with_resolver_error_handler(handler);
-    Ok(builder.build(rt.clone()?, alloc, target, on_loopback(rt)?)?)
+    builder.build(mine, heap, Target::Addr(server), socket)
+}
+
+fn zero(alloc: Global) -> Result<Arc<AtomicU64>, AllocError> {
+    let zero = Arc::new(alloc, AtomicU64::new(0))?;
+    Ok(zero)
 }
 
 #[test]
 fn a_builder_makes_a_sink_that_looks_up(rt: HostRuntime) -> Result<(), Fail> {
     let server = on_loopback(&rt)?;
-    let sink = looking_up(&rt, rt.alloc(), &server)?;
+    let sink = made_over(
+        &rt,
+        rt.alloc(),
+        rt.alloc(),
+        server.local_addr()?,
+        zero(rt.alloc())?,
+    )?;
     thread::sleep(&rt, Duration::from_millis(5));
-    takes(&sink, &[("buz:1|m", 7)])?;
-    flushes(&sink)?;
-    gets(&server, &["buz:1|m"])
+    sends(&sink, &server, "buz:1|m")
 }
 
-// A sink as the one above, with a buffer of 16 bytes.
-fn looking_up_with_a_buffer<R: ResolverRuntime>(
+// What this builder of a buffered sink answers, for a server and a socket. The sink looks up each millisecond.
+fn buffered<R: ResolverRuntime, A: Allocator + Clone + Send + Sync + 'static>(
+    rt: &R,
+    alloc: A,
+    ends: (SocketAddr, UdpSocket),
+    builder: BufferedUdpMetricSinkBuilder,
+) -> MetricResult<BufferedUdpMetricSink<R, A>> {
+    let (server, socket) = ends;
+    let builder = builder.with_resolver_period(Duration::from_millis(1));
+    builder.build(rt.clone()?, alloc, Target::Addr(server), socket)
+}
+
+// A sink with a buffer of 16 bytes.
+fn of_16_bytes<R: ResolverRuntime>(
     rt: &R,
     alloc: Global,
-    server: &UdpSocket,
-) -> Result<BufferedUdpMetricSink<R>, Fail> {
-    let target = Target::Addr(server.local_addr()?);
+    server: SocketAddr,
+) -> MetricResult<BufferedUdpMetricSink<R>> {
     let handler: SinkErrorHandler = Box::new(alloc, |_| ())?;
     let builder = BufferedUdpMetricSinkBuilder::new()
         .with_capacity(16)
-        .with_resolver_period(Duration::from_millis(1))
         .with_resolver_error_handler(handler);
-    Ok(builder.build(rt.clone()?, alloc, target, on_loopback(rt)?)?)
+    buffered(rt, alloc, (server, on_loopback(rt)?), builder)
 }
 
 #[test]
 fn a_builder_makes_a_buffered_sink_that_looks_up(rt: HostRuntime) -> Result<(), Fail> {
     let server = on_loopback(&rt)?;
-    let sink = looking_up_with_a_buffer(&rt, rt.alloc(), &server)?;
-    takes(&sink, &[("buz:1|m", 7)])?;
-    flushes(&sink)?;
-    gets(&server, &["buz:1|m\n"])
+    let sink = of_16_bytes(&rt, rt.alloc(), server.local_addr()?)?;
+    sends(&sink, &server, "buz:1|m\n")
 }
 
 // Waits until a handler has counted a call, five seconds at most.
-fn wait_for_a_call<R: Clock>(rt: &R, calls: &AtomicU64) -> bool {
+fn wait_for_a_call<R: Clock>(rt: &R, calls: &AtomicU64) -> Result<(), Fail> {
     for _ in 0..5000u64 {
         if calls.load(Ordering::SeqCst) > 0 {
-            return true;
+            return Ok(());
         }
         thread::sleep(rt, Duration::from_millis(1));
     }
-    false
+    Err(Fail::new("no call"))
 }
 
-// What the builder of a buffered sink answers, over this heap, for a server and a socket. The sink looks up each
-// millisecond, and its handler counts the calls.
+// What the builder of a buffered sink answers, over this heap. Its handler counts the calls.
 fn buffered_over<R: ResolverRuntime>(
     rt: &R,
     alloc: Global,
     heap: Refusing<Global>,
     ends: (SocketAddr, UdpSocket),
-    calls: &Arc<AtomicU64>,
-) -> Result<MetricResult<BufferedUdpMetricSink<R, Refusing<Global>>>, Fail> {
-    let theirs = calls.clone()?;
+    calls: Arc<AtomicU64>,
+) -> MetricResult<BufferedUdpMetricSink<R, Refusing<Global>>> {
     let handler: SinkErrorHandler = Box::new(alloc, move |_| {
-        theirs.fetch_add(1, Ordering::SeqCst);
+        calls.fetch_add(1, Ordering::SeqCst);
     })?;
-    let builder = BufferedUdpMetricSinkBuilder::new()
-        .with_resolver_period(Duration::from_millis(1))
-        .with_resolver_error_handler(handler);
-    let (server, socket) = ends;
-    Ok(builder.build(rt.clone()?, heap, Target::Addr(server), socket))
+    let builder = BufferedUdpMetricSinkBuilder::new().with_resolver_error_handler(handler);
+    buffered(rt, heap, ends, builder)
 }
 
 // Whether the heap had all memory for a sink and a line. The first request that is refused then is that of a later
@@ -202,17 +231,16 @@ fn has_all_memory<R: ResolverRuntime>(
     heap: Refusing<Global>,
     ends: (SocketAddr, UdpSocket),
 ) -> Result<bool, Fail> {
-    let calls = Arc::new(alloc, AtomicU64::new(0))?;
-    let sink = match buffered_over(rt, alloc, heap, ends, &calls)? {
-        Ok(sink) => sink,
-        Err(MetricError::Sink(SinkError::OutOfMemory)) => return Ok(false),
-        Err(_) => return Err(Fail::new("another error")),
-    };
-    takes(&sink, &[("buz:1|m", 7)])?;
-    if !wait_for_a_call(rt, &calls) {
-        return Err(Fail::new("no call"));
+    let calls = zero(alloc)?;
+    match buffered_over(rt, alloc, heap, ends, calls.clone()?) {
+        Ok(sink) => {
+            takes(&sink, &[("buz:1|m", 7)])?;
+            wait_for_a_call(rt, &calls)?;
+            Ok(true)
+        }
+        Err(MetricError::Sink(SinkError::OutOfMemory)) => Ok(false),
+        Err(_) => Err(Fail::new("another error")),
     }
-    Ok(true)
 }
 
 #[test]
@@ -222,40 +250,32 @@ fn each_request_of_a_builder_refused(rt: HostRuntime) -> Result<(), Fail> {
         let ends = (server, on_loopback(&rt)?);
         has_all_memory(&rt, alloc, heap, ends)
     });
-    assert!(rt; granted?.is_some_and(|granted| granted > 3));
+    assert!(rt; granted? > Some(3));
     Ok(())
 }
 
-// What the builder of a sink answers, over this heap. The sink looks up each millisecond, and its handler counts the
-// calls.
-fn made_over<R: ResolverRuntime>(
+// Whether a sink is made with so many requests for memory. The first one that is refused then is that of a later
+// lookup, of which the handler is told.
+fn is_made_and_told<R: ResolverRuntime>(
     rt: &R,
     alloc: Global,
     heap: Refusing<Global>,
     server: SocketAddr,
-    calls: &Arc<AtomicU64>,
-) -> Result<MetricResult<UdpMetricSink<R, Refusing<Global>>>, Fail> {
-    let theirs = calls.clone()?;
-    let handler: SinkErrorHandler = Box::new(alloc, move |_| {
-        theirs.fetch_add(1, Ordering::SeqCst);
-    })?;
-    let builder = UdpMetricSinkBuilder::new()
-        .with_resolver_period(Duration::from_millis(1))
-        .with_resolver_error_handler(handler);
-    let socket = on_loopback(rt)?;
-    Ok(builder.build(rt.clone()?, heap, Target::Addr(server), socket))
+) -> Result<bool, Fail> {
+    let calls = zero(alloc)?;
+    let made = made_over(rt, alloc, heap, server, calls.clone()?);
+    if made.is_ok() {
+        wait_for_a_call(rt, &calls)?;
+    }
+    Ok(made.is_ok())
 }
 
 #[test]
 fn a_handler_is_told_of_a_later_fault(rt: HostRuntime) -> Result<(), Fail> {
     let server = on_loopback(&rt)?.local_addr()?;
     for granted in 0..16u64 {
-        // the first request that is refused after the sink is made is that of a later lookup
         let heap = Refusing::after(rt.alloc(), rt.alloc(), granted)?;
-        let calls = Arc::new(rt.alloc(), AtomicU64::new(0))?;
-        let made = made_over(&rt, rt.alloc(), heap, server, &calls)?;
-        if made.is_ok() {
-            assert!(rt; wait_for_a_call(&rt, &calls));
+        if is_made_and_told(&rt, rt.alloc(), heap, server)? {
             return Ok(());
         }
     }

@@ -1,10 +1,10 @@
-use super::sockets::{gets, on_loopback};
+use super::sockets::{Ends, make_ends, sends};
 use super::steps::{Refusal, counts, flushes, refuses, refuses_to_flush, takes};
 use cadence_errors::{MetricError, MetricResult, SinkError};
 use cadence_sinks::{BufferedUnixMetricSink, MetricSink, PathSocket, UnixMetricSink};
 use refusing::{Refusing, each_refused};
 use std::alloc::Global;
-use std::net::UdpSocket;
+use std::net::{Net, UdpSocket};
 use std::sync::atomic::{AtomicU64, Ordering};
 use std::sync::{Arc, Mutex, Wait};
 use std::test::Fail;
@@ -74,10 +74,22 @@ fn came<R: Wait>(rt: &R, packets: &Packets, wanted: &[&str]) -> Result<(), Fail>
     Ok(())
 }
 
+// A sink over a socket that refuses the first packets, and what the socket will have got.
+fn to_a_path<R: Wait + Clone + Drop>(
+    rt: &R,
+    alloc: Global,
+    path: &str,
+    refusals: u64,
+) -> MetricResult<(Packets, UnixMetricSink<Noting<R>, R>)> {
+    let mine = rt.clone()?;
+    let (packets, socket) = make_socket(rt.clone()?, alloc, refusals)?;
+    let sink = UnixMetricSink::from(mine, alloc, path, socket)?;
+    Ok((packets, sink))
+}
+
 #[test]
 fn each_line_goes_to_the_path(rt: HostRuntime) -> Result<(), Fail> {
-    let (packets, socket) = make_socket(rt.clone()?, rt.alloc(), 0)?;
-    let sink = UnixMetricSink::from(rt.clone()?, rt.alloc(), "/run/s ", socket)?;
+    let (packets, sink) = to_a_path(&rt, rt.alloc(), "/run/s ", 0)?;
     takes(&sink, &[("buz:1|m", 7)])?;
     flushes(&sink)?;
     came(&rt, &packets, &["/run/s buz:1|m"])?;
@@ -86,8 +98,7 @@ fn each_line_goes_to_the_path(rt: HostRuntime) -> Result<(), Fail> {
 
 #[test]
 fn a_refused_line_is_counted(rt: HostRuntime) -> Result<(), Fail> {
-    let (_packets, socket) = make_socket(rt.clone()?, rt.alloc(), 1)?;
-    let sink = UnixMetricSink::from(rt.clone()?, rt.alloc(), "", socket)?;
+    let (_packets, sink) = to_a_path(&rt, rt.alloc(), "", 1)?;
     refuses(&sink, "buz:1|m", Refusal::Packet)?;
     counts(&sink, [0, 0, 7, 1])
 }
@@ -101,8 +112,9 @@ fn of_16_bytes<R: Wait + Clone + Drop>(
     path: &str,
     refusals: u64,
 ) -> Result<(Packets, BufferedSink<R>), Fail> {
+    let mine = rt.clone()?;
     let (packets, socket) = make_socket(rt.clone()?, alloc, refusals)?;
-    let sink = BufferedUnixMetricSink::with_capacity(rt.clone()?, alloc, path, socket, 16)?;
+    let sink = BufferedUnixMetricSink::with_capacity(mine, alloc, path, socket, 16)?;
     Ok((packets, sink))
 }
 
@@ -139,8 +151,9 @@ fn buffered<R: Wait + Clone + Drop>(
     alloc: Global,
     path: &str,
 ) -> Result<(Packets, BufferedSink<R>), Fail> {
+    let mine = rt.clone()?;
     let (packets, socket) = make_socket(rt.clone()?, alloc, 0)?;
-    let sink = BufferedUnixMetricSink::from(rt.clone()?, alloc, path, socket)?;
+    let sink = BufferedUnixMetricSink::from(mine, alloc, path, socket)?;
     Ok((packets, sink))
 }
 
@@ -150,29 +163,39 @@ fn text(alloc: Global, length: usize) -> Result<String, Fail> {
     Ok(text.ok().ok_or("text")?)
 }
 
-// The sink takes the line, with its count of bytes, and holds it until it is flushed.
-fn holds<R: Wait, S: MetricSink>(
+// The sink takes a text of so many bytes.
+fn takes_long<S: MetricSink>(sink: &S, alloc: Global, length: usize) -> Result<(), Fail> {
+    let text = text(alloc, length)?;
+    takes(sink, &[(text.as_str(), length)])
+}
+
+// A packet of such a text, with its path before it.
+fn packet(alloc: Global, length: usize, end: &str) -> Result<String, Fail> {
+    let text = text(alloc, length)?;
+    Ok(format!(in alloc; "/run/s {text}{end}")?)
+}
+
+// The sink holds a line of 511 bytes until it is flushed, and sends one of 512 bytes alone.
+fn has_512_bytes<R: Wait, S: MetricSink>(
     rt: &R,
+    alloc: Global,
     sink: &S,
     packets: &Packets,
-    line: (&str, usize),
 ) -> Result<(), Fail> {
-    takes(sink, &[line])?;
+    takes_long(sink, alloc, 511)?;
     came(rt, packets, &[])?;
-    flushes(sink)
+    flushes(sink)?;
+    let held = packet(alloc, 511, "\n")?;
+    came(rt, packets, &[held.as_str()])?;
+    takes_long(sink, alloc, 512)?;
+    let alone = packet(alloc, 512, "")?;
+    came(rt, packets, &[held.as_str(), alone.as_str()])
 }
 
 #[test]
 fn a_buffer_has_512_bytes(rt: HostRuntime) -> Result<(), Fail> {
     let (packets, sink) = buffered(&rt, rt.alloc(), "/run/s ")?;
-    let most = text(rt.alloc(), 511)?;
-    holds(&rt, &sink, &packets, (most.as_str(), 511))?;
-    let held = format!(in rt.alloc(); "/run/s {most}\n")?;
-    came(&rt, &packets, &[held.as_str()])?;
-    let oversize = text(rt.alloc(), 512)?;
-    takes(&sink, &[(oversize.as_str(), 512)])?;
-    let alone = format!(in rt.alloc(); "/run/s {oversize}")?;
-    came(&rt, &packets, &[held.as_str(), alone.as_str()])
+    has_512_bytes(&rt, rt.alloc(), &sink, &packets)
 }
 
 #[test]
@@ -198,14 +221,26 @@ impl PathSocket for Addressed {
     }
 }
 
+// A server, and a sink over such a socket to its address.
+fn by_address<R: Net + Wait + Clone + Drop>(
+    rt: &R,
+    alloc: Global,
+) -> Result<(UdpSocket, UnixMetricSink<Addressed, R>), Fail> {
+    let mine = rt.clone()?;
+    let Ends {
+        server,
+        address,
+        socket,
+    } = make_ends(rt)?;
+    let path = format!(in alloc; "{address}")?;
+    let sink = UnixMetricSink::from(mine, alloc, path.as_str(), Addressed { socket })?;
+    Ok((server, sink))
+}
+
 #[test]
 fn a_datagram_socket_of_the_callers(rt: HostRuntime) -> Result<(), Fail> {
-    let (server, socket) = (on_loopback(&rt)?, on_loopback(&rt)?);
-    let path = format!(in rt.alloc(); "{}", server.local_addr()?)?;
-    let socket = Addressed { socket };
-    let sink = UnixMetricSink::from(rt.clone()?, rt.alloc(), path.as_str(), socket)?;
-    takes(&sink, &[("buz:1|m", 7)])?;
-    gets(&server, &["buz:1|m"])
+    let (server, sink) = by_address(&rt, rt.alloc())?;
+    sends(&sink, &server, "buz:1|m")
 }
 
 // Whether the heap had all memory for a buffered sink, a line and a flush.
@@ -230,6 +265,6 @@ fn each_request_of_a_sink_refused(rt: HostRuntime) -> Result<(), Fail> {
         rt.alloc(),
         |heap| has_all_memory(&rt, rt.alloc(), heap),
     );
-    assert!(rt; granted?.is_some_and(|granted| granted > 3));
+    assert!(rt; granted? > Some(3));
     Ok(())
 }
