@@ -2,8 +2,10 @@
 ghost use Rattle.std.specs.Prelude.{◌≡◌, ◌↔◌, IfOk, IsTrue};
 ghost use Rattle.cadence_value.specs.Number.{IsLowestForm};
 
+use super::errors::tells;
 use cadence_errors::{ErrorKind, MetricError, MetricResult};
 use cadence_value::decimal::{Decimal, ParseDecimalError};
+use std::alloc::Global;
 use std::hash::{DefaultHasher, Hash, Hasher};
 use std::test::Fail;
 
@@ -30,8 +32,19 @@ fn tenths(mantissa: i128) -> MetricResult<Decimal>
     Ok(decimal)
 }
 
+// Whether the decimal prints this text.
+fn is_printed(alloc: Global, mantissa: i128, places: u8, text: &str) -> bool {
+    let Ok(decimal) = Decimal::new(mantissa, places) else {
+        return false;
+    };
+    match decimal.to_string(alloc) {
+        Ok(printed) => printed.as_str() == text,
+        Err(_) => false,
+    }
+}
+
 #[test]
-fn prints_its_lowest_form(rt: HostRuntime) -> Result<(), Fail> {
+fn prints_its_lowest_form(rt: HostRuntime) {
     for (mantissa, places, text) in [
         (500, 2, "5"),
         (50, 2, "0.5"),
@@ -41,11 +54,8 @@ fn prints_its_lowest_form(rt: HostRuntime) -> Result<(), Fail> {
         (i128::MIN, 30, "-170141183.460469231731687303715884105728"),
         (i128::MAX, 0, "170141183460469231731687303715884105727"),
     ] {
-        let decimal = Decimal::new(mantissa, places)?;
-        let printed = format!(in rt.alloc(); "{decimal}")?;
-        assert_eq!(rt; printed.as_str(), text);
+        assert!(rt; is_printed(rt.alloc(), mantissa, places, text), "{text}");
     }
-    Ok(())
 }
 
 #[test]
@@ -53,10 +63,16 @@ fn refuses_31_places(rt: HostRuntime) -> Result<(), Fail> {
     let Err(error) = Decimal::new(1, 31) else {
         return Err(Fail::new("31 places were taken"));
     };
-    assert_eq!(rt; error.kind(), ErrorKind::InvalidInput);
-    let printed = format!(in rt.alloc(); "{error}")?;
-    assert_eq!(rt; printed.as_str(), "too many decimal places");
+    let (kind, text) = (ErrorKind::InvalidInput, "too many decimal places");
+    assert!(rt; tells(rt.alloc(), &error, kind, text));
     Ok(())
+}
+
+// Whether both leave the same hash.
+fn hash_alike(one: &Decimal, other: &Decimal) -> bool {
+    let (mut first, mut second) = (DefaultHasher::new(), DefaultHasher::new());
+    hash_both(one, other, &mut first, &mut second);
+    first.finish() == second.finish()
 }
 
 #[test]
@@ -64,12 +80,8 @@ fn is_equal_in_lowest_form(rt: HostRuntime) -> Result<(), Fail> {
     let half = tenths(5)?;
     let copy = half;
     let same_half = Decimal::new(500, 3)?;
-    assert_eq!(rt; same_half.mantissa(), 5);
-    assert_eq!(rt; same_half.places(), 1);
-    assert!(rt; is_same(&copy, &same_half));
-    let (mut first, mut second) = (DefaultHasher::new(), DefaultHasher::new());
-    hash_both(&half, &same_half, &mut first, &mut second);
-    assert_eq!(rt; first.finish(), second.finish());
+    assert_eq!(rt; (same_half.mantissa(), same_half.places()), (5, 1));
+    assert!(rt; is_same(&copy, &same_half) && hash_alike(&half, &same_half));
     assert!(rt; !is_same(&half, &Decimal::new(5, 2)?));
     let shown = format!(in rt.alloc(); "{half:?}")?;
     assert!(rt; !shown.is_empty());
@@ -77,7 +89,7 @@ fn is_equal_in_lowest_form(rt: HostRuntime) -> Result<(), Fail> {
 }
 
 // Texts that say a number, and the number's own text.
-const SAID: [(&str, &str); 12] = [
+const SAID: &[(&str, &str)] = &[
     ("5", "5"),
     ("5.00", "5"),
     ("0", "0"),
@@ -104,20 +116,26 @@ const SAID: [(&str, &str); 12] = [
     ),
 ];
 
-#[test]
-fn reads_what_a_text_says(rt: HostRuntime) -> Result<(), Fail> {
-    for (text, own) in SAID {
-        let read: Decimal = text.parse()?;
-        let printed = format!(in rt.alloc(); "{read}")?;
-        assert_eq!(rt; printed.as_str(), own);
-        let again: Decimal = own.parse()?;
-        assert!(rt; read == again, "{text}");
+// Whether the text is read as the number with this own text.
+fn is_read(alloc: Global, text: &str, own: &str) -> bool {
+    let (Ok(read), Ok(again)) = (text.parse::<Decimal>(), own.parse::<Decimal>()) else {
+        return false;
+    };
+    match read.to_string(alloc) {
+        Ok(printed) => printed.as_str() == own && read == again,
+        Err(_) => false,
     }
-    Ok(())
+}
+
+#[test]
+fn reads_what_a_text_says(rt: HostRuntime) {
+    for (text, own) in SAID {
+        assert!(rt; is_read(rt.alloc(), text, own), "{text}");
+    }
 }
 
 // Texts that are refused, and why.
-const REFUSED: [(&str, ParseDecimalError); 20] = [
+const REFUSED: &[(&str, ParseDecimalError)] = &[
     ("", ParseDecimalError::NotANumber),
     ("-", ParseDecimalError::NotANumber),
     (".", ParseDecimalError::NotANumber),
@@ -156,24 +174,30 @@ const REFUSED: [(&str, ParseDecimalError); 20] = [
 ];
 
 #[test]
-fn names_why_a_text_is_refused(rt: HostRuntime) -> Result<(), Fail> {
+fn names_why_a_text_is_refused(rt: HostRuntime) {
     for (text, why) in REFUSED {
-        assert_eq!(rt; text.parse::<Decimal>(), Err(why), "{text}");
+        assert!(rt; text.parse::<Decimal>() == Err(*why), "{text}");
     }
-    Ok(())
+}
+
+// Whether the refusal prints this text, and so does the error of a metric that is made of it.
+fn is_told(alloc: Global, why: ParseDecimalError, text: &str) -> bool {
+    match why.to_string(alloc) {
+        Ok(told) => {
+            let error = MetricError::from(why);
+            told.as_str() == text && tells(alloc, &error, ErrorKind::InvalidInput, text)
+        }
+        Err(_) => false,
+    }
 }
 
 #[test]
-fn a_refusal_has_its_text(rt: HostRuntime) -> Result<(), Fail> {
+fn a_refusal_has_its_text(rt: HostRuntime) {
     for (why, text) in [
         (ParseDecimalError::NotANumber, "not a decimal number"),
         (ParseDecimalError::TooManyPlaces, "too many decimal places"),
         (ParseDecimalError::TooLarge, "decimal number too large"),
     ] {
-        assert_eq!(rt; why.to_string(rt.alloc())?.as_str(), text);
-        let error = MetricError::from(why);
-        assert_eq!(rt; error.kind(), ErrorKind::InvalidInput);
-        assert_eq!(rt; error.to_string(rt.alloc())?.as_str(), text);
+        assert!(rt; is_told(rt.alloc(), why, text), "{text}");
     }
-    Ok(())
 }

@@ -5,7 +5,7 @@ ghost use Rattle.cadence_text.specs.Record.{tag_of};
 use cadence_text::line::{MetricType, Record, Tag, TagList};
 use cadence_value::value::MetricValue;
 use refusing::Refusing;
-use std::alloc::{Allocator, Global};
+use std::alloc::{AllocError, Allocator, Global};
 use std::test::Fail;
 
 // Tags of a slice, in their order.
@@ -32,10 +32,6 @@ impl TagList for Listed<'_> {
     }
 }
 
-fn tag<'a>(key: Option<&'a str>, text: &'a str) -> Tag<'a> {
-    Tag { key, text }
-}
-
 // A counter without tags or options.
 fn counted(alloc: Global) -> Record<'static> {
     Record::new(
@@ -58,34 +54,80 @@ fn is_written<A: Allocator + Clone>(
     record.write_line(&first, &more, line).is_ok() && line.as_slice() == text.as_bytes()
 }
 
+const KEYED: &[Tag<'static>] = &[Tag {
+    key: Some("a"),
+    text: "b",
+}];
+
+const PLAIN: &[Tag<'static>] = &[Tag {
+    key: None,
+    text: "c",
+}];
+
+// A counter, and a room for its lines from a heap that refuses its second request.
+#[derive(Drop)]
+struct Room {
+    record: Record<'static>,
+    heap: Refusing<Global>,
+    line: Vec<u8, Refusing<Global>>,
+}
+
+impl Room {
+    fn new(alloc: Global) -> Result<Room, AllocError> {
+        let heap = Refusing::after(alloc, alloc, 1)?;
+        Ok(Room {
+            record: counted(alloc),
+            heap: heap.clone()?,
+            line: Vec::new(heap),
+        })
+    }
+
+    fn takes(&mut self, first: &[Tag<'_>], more: &[Tag<'_>], text: &str) -> bool {
+        is_written(&self.record, (first, more), &mut self.line, text)
+    }
+
+    fn takes_both(&mut self) -> bool {
+        self.takes(KEYED, PLAIN, "p.k:54|c|#a:b,c")
+    }
+
+    // Whether lines with a time and without a tag are written too.
+    fn takes_shorter(&mut self) -> bool {
+        self.record.set_time(7);
+        self.takes(&[], &[], "p.k:54|c|T7") && self.takes(&[], PLAIN, "p.k:54|c|#c|T7")
+    }
+
+    // Whether the room has no memory for the line with both tags.
+    fn is_too_small(&mut self) -> bool {
+        let (keyed, plain) = (Listed { tags: KEYED }, Listed { tags: PLAIN });
+        self.record
+            .write_line(&keyed, &plain, &mut self.line)
+            .is_err()
+    }
+
+    // Whether the line with a tag more goes into another room alone.
+    fn wants_another(&mut self, alloc: Global) -> Result<bool, AllocError> {
+        self.record.add_tag(Tag {
+            key: None,
+            text: "x",
+        })?;
+        let mut other = Vec::new(alloc);
+        let line = "p.k:54|c|#x,a:b,c";
+        Ok(self.is_too_small() && is_written(&self.record, (KEYED, PLAIN), &mut other, line))
+    }
+}
+
 #[test]
 fn a_room_is_made_once(rt: HostRuntime) -> Result<(), Fail> {
-    let mut record = counted(rt.alloc());
-    let heap = Refusing::after(rt.alloc(), rt.alloc(), 1)?;
-    let mut line = Vec::new(heap.clone()?);
-    let (keyed, plain) = ([tag(Some("a"), "b")], [tag(None, "c")]);
-    assert!(rt; is_written(&record, (&keyed, &plain), &mut line, "p.k:54|c|#a:b,c"));
-    record.set_time(7);
-    assert!(rt; is_written(&record, (&[], &[]), &mut line, "p.k:54|c|T7"));
-    assert!(rt; is_written(&record, (&[], &plain), &mut line, "p.k:54|c|#c|T7"));
-    assert_eq!(rt; heap.left(), 0, "a second request would be refused");
+    let mut room = Room::new(rt.alloc())?;
+    assert!(rt; room.takes_both() && room.takes_shorter());
+    assert_eq!(rt; room.heap.left(), 0, "a second request would be refused");
     Ok(())
 }
 
 #[test]
 fn a_longer_line_wants_a_larger_room(rt: HostRuntime) -> Result<(), Fail> {
-    let mut record = counted(rt.alloc());
-    let mut line = Vec::new(Refusing::after(rt.alloc(), rt.alloc(), 1)?);
-    let (keyed, plain) = ([tag(Some("a"), "b")], [tag(None, "c")]);
-    assert!(rt; is_written(&record, (&keyed, &plain), &mut line, "p.k:54|c|#a:b,c"));
-    record.add_tag(tag(None, "x"))?;
-    let refused = record.write_line(
-        &Listed { tags: &keyed },
-        &Listed { tags: &plain },
-        &mut line,
-    );
-    assert!(rt; refused.is_err());
-    let mut other = Vec::new(rt.alloc());
-    assert!(rt; is_written(&record, (&keyed, &plain), &mut other, "p.k:54|c|#x,a:b,c"));
+    let mut room = Room::new(rt.alloc())?;
+    assert!(rt; room.takes_both());
+    assert!(rt; room.wants_another(rt.alloc())?);
     Ok(())
 }
