@@ -1,10 +1,11 @@
 use super::callers::run_threads;
 use cadence_audit::{
-    AuditCall, AuditError, AuditReply, AuditedQueue, EndFault, History, Seat, SubmitReply, Text,
+    AuditCall, AuditError, AuditReply, AuditedQueue, EndFault, Event, History, Seat, SubmitReply,
+    Text,
 };
 use cadence_flow::queue::Taken;
 use refusing::{Refusing, each_refused};
-use std::alloc::Global;
+use std::alloc::{AllocError, Global};
 use std::sync::Wait;
 use std::sync::atomic::{AtomicU64, Ordering};
 use std::test::Fail;
@@ -53,19 +54,31 @@ fn call_each<R: Wait>(
 }
 
 // A queue of capacity 1 with two seats, after each kind of call and each reply to a submit.
-fn used<R: Wait>(rt: &R, alloc: Global) -> Result<(AuditedQueue, Seat, Seat), Fail> {
+#[derive(Drop)]
+struct Used {
+    queue: AuditedQueue,
+    zero: Seat,
+    one: Seat,
+}
+
+fn used_queue<R: Wait>(rt: &R, alloc: Global) -> Result<Used, Fail> {
     let (queue, mut seats) = AuditedQueue::new(alloc, Some(1), 2)?;
     let mut one = seats.pop().ok_or("no seat")?;
     let mut zero = seats.pop().ok_or("no seat")?;
     call_each(rt, alloc, &queue, &mut zero, &mut one)?;
-    Ok((queue, zero, one))
+    Ok(Used { queue, zero, one })
 }
 
 // The history of that queue.
 fn history_of<R: Wait>(rt: &R, alloc: Global) -> Result<History, Fail> {
-    let (queue, zero, one) = used(rt, alloc)?;
+    let Used { queue, zero, one } = used_queue(rt, alloc)?;
     let history = queue.end(vec![in alloc; zero, one]?);
     Ok(history.ok().ok_or("differs")?)
+}
+
+// Whether the event is of this seat and has this count, and so has a copy.
+fn stands_at(event: &Event, place: (usize, usize)) -> Result<bool, AllocError> {
+    Ok((event.seat, event.count) == place && event.clone()? == *event)
 }
 
 #[test]
@@ -74,19 +87,22 @@ fn events_stand_in_the_order_of_the_calls(rt: HostRuntime) -> Result<(), Fail> {
     let wanted = [(0, 0), (1, 0), (1, 1), (0, 1), (1, 2)];
     assert!(rt; history.events().len() == wanted.len());
     for (event, place) in history.events().iter().zip(wanted) {
-        assert!(rt; (event.seat, event.count) == place);
-        assert!(rt; event.clone()? == *event);
+        assert!(rt; stands_at(event, place)?);
     }
     Ok(())
+}
+
+// Whether the event is a submit of this text, with this reply.
+fn is_submit(alloc: Global, event: &Event, own: &str, reply: SubmitReply) -> Result<bool, Fail> {
+    let call = AuditCall::Submit(Text::from(text(alloc, own)?));
+    Ok(event.call == call && event.reply == AuditReply::Submit(reply))
 }
 
 #[test]
 fn an_event_has_its_call_and_reply(rt: HostRuntime) -> Result<(), Fail> {
     let history = history_of(&rt, rt.alloc())?;
     let second = history.events().get(1).ok_or("no event")?;
-    let b = AuditCall::Submit(Text::from(text(rt.alloc(), "b")?));
-    assert!(rt; second.call == b);
-    assert!(rt; second.reply == AuditReply::Submit(SubmitReply::Full));
+    assert!(rt; is_submit(rt.alloc(), second, "b", SubmitReply::Full)?);
     Ok(())
 }
 
@@ -98,38 +114,65 @@ fn no_receipts_agree_with_no_such_history(rt: HostRuntime) -> Result<(), Fail> {
 
 #[test]
 fn a_seat_has_its_number_and_receipts(rt: HostRuntime) -> Result<(), Fail> {
-    let (_queue, _zero, one) = used(&rt, rt.alloc())?;
-    assert!(rt; one.number() == 1 && one.receipts().len() == 3);
+    let used = used_queue(&rt, rt.alloc())?;
+    assert!(rt; used.one.number() == 1 && used.one.receipts().len() == 3);
     Ok(())
 }
 
 #[test]
 fn seat_left_out(rt: HostRuntime) -> Result<(), Fail> {
-    let (queue, zero, one) = used(&rt, rt.alloc())?;
-    drop(one);
-    let ended = queue.end(vec![in rt.alloc(); zero]?);
-    assert!(rt; matches!(ended, Err(EndFault::SeatsMissing)));
+    let Used {
+        queue,
+        zero,
+        one: _,
+    } = used_queue(&rt, rt.alloc())?;
+    let seats = vec![in rt.alloc(); zero]?;
+    assert!(rt; matches!(queue.end(seats), Err(EndFault::SeatsMissing)));
     Ok(())
+}
+
+// The last seat of another queue with so many.
+fn seat_of_another(alloc: Global, seats: usize) -> Result<Seat, Fail> {
+    let (_other, mut seats) = AuditedQueue::new(alloc, None, seats)?;
+    Ok(seats.pop().ok_or("no seat")?)
+}
+
+// Whether the queue refuses a text of this seat as of a stranger, and gives it back.
+fn is_stranger<R: Wait>(
+    rt: &R,
+    alloc: Global,
+    queue: &AuditedQueue,
+    mut seat: Seat,
+) -> Result<bool, Fail> {
+    match queue.submit(rt, &mut seat, text(alloc, "x")?) {
+        Err((AuditError::Stranger, back)) => Ok(back.as_str() == "x"),
+        _ => Err(Fail::from("accepted")),
+    }
 }
 
 #[test]
 fn a_seat_past_the_last_is_a_stranger(rt: HostRuntime) -> Result<(), Fail> {
+    let two = seat_of_another(rt.alloc(), 3)?;
     let (queue, _mine) = AuditedQueue::new(rt.alloc(), None, 2)?;
-    let (_other, mut seats) = AuditedQueue::new(rt.alloc(), None, 3)?;
-    let mut two = seats.pop().ok_or("no seat")?;
-    match queue.submit(&rt, &mut two, text(rt.alloc(), "x")?) {
-        Err((AuditError::Stranger, back)) => assert!(rt; back.as_str() == "x"),
-        _ => return Err(Fail::from("accepted")),
-    }
+    assert!(rt; is_stranger(&rt, rt.alloc(), &queue, two)?);
     Ok(())
+}
+
+// Whether the queue takes a text of this seat.
+fn is_accepted<R: Wait>(
+    rt: &R,
+    alloc: Global,
+    queue: &AuditedQueue,
+    mut seat: Seat,
+) -> Result<bool, Fail> {
+    Ok(queue.submit(rt, &mut seat, text(alloc, "x")?).is_ok())
 }
 
 #[test]
 fn a_seat_of_another_queue_shows_at_the_end(rt: HostRuntime) -> Result<(), Fail> {
+    let zero = seat_of_another(rt.alloc(), 1)?;
     let (queue, mine) = AuditedQueue::new(rt.alloc(), None, 1)?;
-    let (_other, mut seats) = AuditedQueue::new(rt.alloc(), None, 1)?;
-    let mut zero = seats.pop().ok_or("no seat")?;
-    assert!(rt; queue.submit(&rt, &mut zero, text(rt.alloc(), "x")?).is_ok());
+    assert!(rt; is_accepted(&rt, rt.alloc(), &queue, zero)?);
     assert!(rt; matches!(queue.end(mine), Err(EndFault::Mismatch)));
     Ok(())
 }

@@ -6,21 +6,18 @@ use refusing::{Refusing, each_refused};
 use std::alloc::Global;
 use std::test::Fail;
 
-#[derive(Debug, Drop)]
-struct NoMemory;
-
 fn made(
     alloc: Global,
     capacity: usize,
     ending: &str,
     script: &[Answer],
-) -> Result<MultiLineWriter<PacketLog>, NoMemory> {
+) -> Result<MultiLineWriter<PacketLog>, Fail> {
     let Ok(script) = script.to_vec(alloc) else {
-        return Err(NoMemory);
+        return Err(Fail::new("no memory"));
     };
     match MultiLineWriter::with_ending(alloc, PacketLog::new(alloc, script), capacity, ending) {
         Ok(packer) => Ok(packer),
-        Err(_log) => Err(NoMemory),
+        Err(_log) => Err(Fail::new("no memory")),
     }
 }
 
@@ -51,20 +48,17 @@ fn is_count(answer: Result<usize, SinkError>, count: usize) -> bool {
     }
 }
 
-#[test]
-fn a_flush_goes_on_after_a_short_count(rt: HostRuntime) -> Result<(), Fail> {
-    let mut p = made(rt.alloc(), 32, "\n", &[Answer::Short(3)])?;
-    for line in ["xyz", "abc"] {
-        assert!(rt; is_count(p.write(line.as_bytes()), 3));
-    }
-    assert!(rt; p.flush().is_ok());
-    assert!(rt; stands(&p, &["xyz", "\nabc\n"], ""));
-    Ok(())
-}
-
 // Whether so many bytes of the line were taken, and flushed.
 fn is_flushed(packer: &mut MultiLineWriter<PacketLog>, line: &[u8], count: usize) -> bool {
     is_count(packer.write(line), count) && packer.flush().is_ok()
+}
+
+#[test]
+fn a_flush_goes_on_after_a_short_count(rt: HostRuntime) -> Result<(), Fail> {
+    let mut p = made(rt.alloc(), 32, "\n", &[Answer::Short(3)])?;
+    assert!(rt; is_count(p.write(b"xyz"), 3) && is_flushed(&mut p, b"abc", 3));
+    assert!(rt; stands(&p, &["xyz", "\nabc\n"], ""));
+    Ok(())
 }
 
 // Puts a new log in the place of the old one. Whether the old one comes back with these packets, and this text.
@@ -80,26 +74,39 @@ fn comes_back(
     }
 }
 
+// Whether the log of a packer that holds a line comes back, and nothing of it is left.
+fn is_replaced(packer: &mut MultiLineWriter<PacketLog>, alloc: Global) -> bool {
+    is_count(packer.write(b"second data"), 11)
+        && comes_back(packer, alloc, &["first data\n"], "second data\n")
+        && stands(packer, &[], "")
+}
+
 #[test]
 fn replaced_writer_comes_back(rt: HostRuntime) -> Result<(), Fail> {
     let mut p = made(rt.alloc(), 32, "\n", &[])?;
-    assert!(rt; is_flushed(&mut p, b"first data", 10));
-    assert!(rt; is_count(p.write(b"second data"), 11));
-    assert!(rt; comes_back(&mut p, rt.alloc(), &["first data\n"], "second data\n"));
-    assert!(rt; stands(&p, &[], ""));
+    assert!(rt; is_flushed(&mut p, b"first data", 10) && is_replaced(&mut p, rt.alloc()));
     assert!(rt; is_flushed(&mut p, b"third data", 10) && stands(&p, &["third data\n"], ""));
     Ok(())
+}
+
+// Whether a packet by way of the writer goes past a line that is held.
+fn goes_past(packer: &mut MultiLineWriter<PacketLog>) -> bool {
+    is_count(packer.write(b"a:1|c"), 5)
+        && is_count(packer.get_mut().write_packet(b"direct"), 6)
+        && stands(packer, &["direct"], "a:1|c\n")
+}
+
+// Whether the writer comes back with that packet, and the line that is held.
+fn is_given_back(packer: MultiLineWriter<PacketLog>) -> bool {
+    let (log, text) = packer.into_parts();
+    took(&log, &["direct"]) && text.as_slice() == b"a:1|c\n".as_slice()
 }
 
 #[test]
 fn writer_is_lent_and_given_back(rt: HostRuntime) -> Result<(), Fail> {
     let mut p = made(rt.alloc(), 32, "\n", &[])?;
-    assert!(rt; is_count(p.write(b"a:1|c"), 5));
-    assert!(rt; is_count(p.get_mut().write_packet(b"direct"), 6));
-    assert!(rt; stands(&p, &["direct"], "a:1|c\n"));
-    let (log, text) = p.into_parts();
-    assert!(rt; took(&log, &["direct"]));
-    assert!(rt; text.as_slice() == b"a:1|c\n".as_slice());
+    assert!(rt; goes_past(&mut p));
+    assert!(rt; is_given_back(p));
     Ok(())
 }
 
@@ -122,16 +129,18 @@ impl<'a> PacketWriter for Lender<'a> {
     }
 }
 
+// Whether a packer takes two lines, which is dropped at once.
+fn takes_two(alloc: Global, into: &mut Vec<u8>) -> bool {
+    match MultiLineWriter::new(alloc, Lender { into }, 64) {
+        Ok(mut p) => is_count(p.write(b"foo:54|c"), 8) && is_count(p.write(b"foo:67|c"), 8),
+        Err(_) => false,
+    }
+}
+
 #[test]
 fn drop_flushes(rt: HostRuntime) -> Result<(), Fail> {
     let mut bytes = Vec::new(rt.alloc());
-    {
-        let Ok(mut p) = MultiLineWriter::new(rt.alloc(), Lender { into: &mut bytes }, 64) else {
-            return Err(Fail::new("no memory"));
-        };
-        assert!(rt; is_count(p.write(b"foo:54|c"), 8));
-        assert!(rt; is_count(p.write(b"foo:67|c"), 8));
-    }
+    assert!(rt; takes_two(rt.alloc(), &mut bytes));
     assert!(rt; bytes.as_slice() == b"foo:54|c\nfoo:67|c\n".as_slice());
     Ok(())
 }
@@ -143,22 +152,25 @@ fn used_log(alloc: Global) -> PacketLog {
     log
 }
 
+// Whether a packer is made over a used log, or refused for want of memory, and then the log comes back.
+fn is_made(alloc: Global, heap: Refusing<Global>) -> Result<bool, Fail> {
+    let (is_made, is_same) = match MultiLineWriter::new(heap, used_log(alloc), 16) {
+        Ok(mut p) => (
+            true,
+            is_count(p.write(b"foo:54|c"), 8) && took(p.get_ref(), &["before"]),
+        ),
+        Err(back) => (false, took(&back, &["before"])),
+    };
+    if !is_same {
+        return Err(Fail::new("another log"));
+    }
+    Ok(is_made)
+}
+
 #[test]
 fn each_request_of_a_new_packer(rt: HostRuntime) -> Result<(), Fail> {
-    let granted: Result<Option<u64>, Fail> = each_refused(rt.alloc(), |heap| {
-        match MultiLineWriter::new(heap, used_log(rt.alloc()), 16) {
-            Ok(mut p) => {
-                assert!(rt; is_count(p.write(b"foo:54|c"), 8));
-                assert!(rt; took(p.get_ref(), &["before"]));
-                Ok(true)
-            }
-            Err(back) => {
-                assert!(rt; took(&back, &["before"]));
-                Ok(false)
-            }
-        }
-    });
-    assert_eq!(rt; granted?, Some(2));
+    let granted = each_refused(rt.alloc(), |heap| is_made(rt.alloc(), heap))?;
+    assert_eq!(rt; granted, Some(2));
     Ok(())
 }
 
@@ -185,32 +197,21 @@ fn refused_replacement_changes_nothing(rt: HostRuntime) -> Result<(), Fail> {
     Ok(())
 }
 
-#[test]
-fn refused_packet_uses_up_its_answer(rt: HostRuntime) -> Result<(), Fail> {
-    for granted in 0..2u64 {
-        let heap = Refusing::after(rt.alloc(), rt.alloc(), granted + 1)?;
-        let mut script = Vec::new(heap.clone()?);
-        assert!(rt; script.push(Answer::Short(1)).is_ok());
-        let mut log = PacketLog::new(heap, script);
-        assert!(rt; matches!(log.write_packet(b"abc"), Err(SinkError::OutOfMemory)));
-        assert!(rt; log.packets().len() == 0);
-        assert!(rt; is_count(log.write_packet(b"abc"), 3));
-        assert!(rt; log.packets().len() == 1);
-    }
-    Ok(())
+// Whether a packet that is refused the request after so many uses up the answer of its log.
+fn uses_up_its_answer(alloc: Global, granted: u64) -> Result<bool, Fail> {
+    let heap = Refusing::after(alloc, alloc, granted)?;
+    let mut script = Vec::new(heap.clone()?);
+    script.push(Answer::Short(1))?;
+    let mut log = PacketLog::new(heap, script);
+    let refused = log.write_packet(b"abc");
+    let is_refused = matches!(refused, Err(SinkError::OutOfMemory)) && log.packets().len() == 0;
+    Ok(is_refused && is_count(log.write_packet(b"abc"), 3) && log.packets().len() == 1)
 }
 
 #[test]
-fn a_line_fits_up_to_the_capacity(rt: HostRuntime) -> Result<(), Fail> {
-    let log = PacketLog::new(rt.alloc(), Vec::new(rt.alloc()));
-    let Ok(mut lines) = LineBuffer::new(rt.alloc(), log, 6) else {
-        return Err(Fail::new("no memory"));
-    };
-    assert!(rt; lines.fits(b"12345"));
-    assert!(rt; !lines.fits(b"123456"));
-    assert!(rt; lines.hold(b"12"));
-    assert!(rt; lines.fits(b"45"));
-    assert!(rt; !lines.fits(b"456"));
+fn refused_packet_uses_up_its_answer(rt: HostRuntime) -> Result<(), Fail> {
+    assert!(rt; uses_up_its_answer(rt.alloc(), 1)?);
+    assert!(rt; uses_up_its_answer(rt.alloc(), 2)?);
     Ok(())
 }
 
@@ -218,14 +219,30 @@ fn buffer(
     alloc: Global,
     capacity: usize,
     script: &[Answer],
-) -> Result<LineBuffer<PacketLog>, NoMemory> {
+) -> Result<LineBuffer<PacketLog>, Fail> {
     let Ok(script) = script.to_vec(alloc) else {
-        return Err(NoMemory);
+        return Err(Fail::new("no memory"));
     };
     match LineBuffer::new(alloc, PacketLog::new(alloc, script), capacity) {
         Ok(lines) => Ok(lines),
-        Err(_log) => Err(NoMemory),
+        Err(_log) => Err(Fail::new("no memory")),
     }
+}
+
+// Whether a packer of 6 bytes has room for so much, with its ending, and no more.
+fn fits_up_to_6(lines: &mut LineBuffer<PacketLog>) -> bool {
+    lines.fits(b"12345")
+        && !lines.fits(b"123456")
+        && lines.hold(b"12")
+        && lines.fits(b"45")
+        && !lines.fits(b"456")
+}
+
+#[test]
+fn a_line_fits_up_to_the_capacity(rt: HostRuntime) -> Result<(), Fail> {
+    let mut lines = buffer(rt.alloc(), 6, &[])?;
+    assert!(rt; fits_up_to_6(&mut lines));
+    Ok(())
 }
 
 // A call of a packer.
@@ -246,7 +263,7 @@ fn goes(lines: &mut LineBuffer<PacketLog>, call: Call) -> bool {
 }
 
 // The packets that a writer takes which answers `SHORT_COUNTS`.
-const PACKETS: [&str; 4] = ["abc", "\nd", "ef\ngh\nk\n", "1234567\n"];
+const PACKETS: &[&str] = &["abc", "\nd", "ef\ngh\nk\n", "1234567\n"];
 
 const SHORT_COUNTS: [Answer; 4] = [
     Answer::Short(3),
@@ -255,9 +272,11 @@ const SHORT_COUNTS: [Answer; 4] = [
     Answer::Refuse,
 ];
 
+type Row = (Call, bool, usize, &'static str);
+
 // Calls of a packer of 8 bytes, each with whether it goes well, how many of the packets are taken then, and what
 // waits: what a short count leaves, with a line behind it wherever both have room.
-const CALLS: [(Call, bool, usize, &str); 10] = [
+const CALLS: &[Row] = &[
     (Call::Write("abc"), true, 0, "abc\n"),
     (Call::Write("def"), true, 0, "abc\ndef\n"),
     (Call::Flush, false, 1, "\ndef\n"),
@@ -270,13 +289,21 @@ const CALLS: [(Call, bool, usize, &str); 10] = [
     (Call::Write("x"), true, 4, "x\n"),
 ];
 
+// Whether a call goes as its row says, and leaves that behind.
+fn leaves(lines: &mut LineBuffer<PacketLog>, row: &Row) -> bool {
+    let (call, well, packets, held) = *row;
+    let Some(packets) = PACKETS.get(..packets) else {
+        return false;
+    };
+    let is_same = goes(lines, call) == well;
+    is_same && took(lines.get_ref(), packets) && lines.held() == held.as_bytes()
+}
+
 #[test]
 fn lines_join_what_a_short_count_leaves(rt: HostRuntime) -> Result<(), Fail> {
     let mut lines = buffer(rt.alloc(), 8, &SHORT_COUNTS)?;
-    for (call, well, packets, held) in &CALLS {
-        assert!(rt; goes(&mut lines, *call) == *well);
-        assert!(rt; took(lines.get_ref(), &PACKETS[..*packets]));
-        assert!(rt; lines.held() == held.as_bytes());
+    for row in CALLS {
+        assert!(rt; leaves(&mut lines, row));
     }
     Ok(())
 }
@@ -309,16 +336,22 @@ fn what_a_short_count_leaves_is_given_up(rt: HostRuntime) -> Result<(), Fail> {
     Ok(())
 }
 
+// Whether the error of a line, and that of a flush, is left in its place, where there is one.
+fn are_left(lines: &mut LineBuffer<PacketLog>) -> bool {
+    let mut fault = SinkError::OutOfMemory;
+    let is_held = lines.write_noting(b"abc", &mut fault) == Some(3);
+    let is_refused = lines.write_noting(b"123456789", &mut fault).is_none()
+        && matches!(fault, SinkError::PacketRefused);
+    let is_kept = lines.flush_noting(&mut fault).is_none()
+        && matches!(fault, SinkError::NothingWritten);
+    let is_written = lines.write_noting(b"123456789", &mut fault) == Some(9);
+    is_held && is_refused && is_kept && is_written
+}
+
 #[test]
 fn an_error_is_left_in_its_place(rt: HostRuntime) -> Result<(), Fail> {
     let mut lines = buffer(rt.alloc(), 8, &[Answer::Refuse, Answer::Short(0)])?;
-    let mut fault = SinkError::OutOfMemory;
-    assert!(rt; lines.write_noting(b"abc", &mut fault) == Some(3));
-    assert!(rt; lines.write_noting(b"123456789", &mut fault).is_none());
-    assert!(rt; matches!(fault, SinkError::PacketRefused));
-    assert!(rt; lines.flush_noting(&mut fault).is_none());
-    assert!(rt; matches!(fault, SinkError::NothingWritten));
-    assert!(rt; lines.write_noting(b"123456789", &mut fault) == Some(9));
+    assert!(rt; are_left(&mut lines));
     assert!(rt; took(lines.get_ref(), &["", "abc\n", "123456789"]));
     Ok(())
 }

@@ -3,6 +3,7 @@ use cadence_flow::queue::{QueueCore, QueuePolicy, Taken, WorkerEnd};
 use cadence_ledger::SharedQueue;
 use refusing::Refusing;
 use std::alloc::{AllocError, Allocator, Global};
+use std::process::Abort;
 use std::sync::Wait;
 use std::sync::atomic::{AtomicBool, Ordering};
 use std::test::Fail;
@@ -25,82 +26,192 @@ fn is_text(taken: Taken<char>, text: char) -> bool {
     }
 }
 
-// Whether the text is at the place, counted from the oldest.
-fn has<A: Allocator>(queue: &QueueCore<char, A>, index: usize, text: char) -> bool {
-    match queue.get(index) {
-        Some(found) => *found == text,
-        None => false,
+// Whether these texts wait, the oldest first.
+fn are_waiting<A: Allocator>(queue: &QueueCore<char, A>, texts: &str) -> bool {
+    let mut index = 0usize;
+    for text in texts.chars() {
+        if queue.get(index) != Some(&text) {
+            return false;
+        }
+        index = index.saturating_add(1);
+    }
+    queue.get(index).is_none() && queue.waiting() == index
+}
+
+// Why a text comes back.
+#[derive(Clone, Copy)]
+enum Why {
+    Full,
+    Stopped,
+    NoMemory,
+}
+
+// A call of a queue, or what is to be seen of it.
+#[derive(Clone, Copy)]
+enum Step {
+    // The text is taken.
+    Submit(char),
+    // The text is made, and taken.
+    SubmitWith(char),
+    // No text is made for want of memory, which is told.
+    SubmitNone,
+    // The text comes back.
+    Refuse(char, Why),
+    // The oldest text is this one.
+    Take(char),
+    // The queue is stopped, and no text waits.
+    Ended,
+    Stop,
+    AddHandle,
+    DropHandle,
+    // These texts wait, the oldest first.
+    Wait(&'static str),
+    // How many texts were submitted, drained and dropped.
+    Counts(u64, u64, u64),
+}
+
+// Whether the text comes back for this reason.
+fn is_refused<A: Allocator + Clone>(queue: &mut QueueCore<char, A>, text: char, why: Why) -> bool {
+    match (queue.submit(text), why) {
+        (Err((SinkError::ChannelFull, back)), Why::Full) => back == text,
+        (Err((SinkError::ChannelDisconnected, back)), Why::Stopped) => back == text,
+        (Err((SinkError::OutOfMemory, back)), Why::NoMemory) => back == text,
+        _ => false,
     }
 }
+
+// Whether a step goes well.
+fn goes<A: Allocator + Clone>(queue: &mut QueueCore<char, A>, step: Step) -> bool {
+    match step {
+        Step::Submit(text) => queue.submit(text).is_ok(),
+        Step::SubmitWith(text) => queue.submit_with(|| Ok(text)).is_ok(),
+        Step::SubmitNone => {
+            let answer = queue.submit_with(|| Err(AllocError));
+            matches!(answer, Err(SinkError::OutOfMemory))
+        }
+        Step::Refuse(text, why) => is_refused(queue, text, why),
+        Step::Take(text) => is_text(queue.take(), text),
+        Step::Ended => matches!(queue.take(), Taken::Ended),
+        Step::Wait(texts) => are_waiting(queue, texts),
+        Step::Counts(submitted, drained, dropped) => {
+            let counts = (queue.submitted(), queue.drained(), queue.dropped());
+            counts == (submitted, drained, dropped)
+        }
+        Step::Stop => {
+            queue.stop();
+            true
+        }
+        Step::AddHandle => {
+            queue.add_handle();
+            true
+        }
+        Step::DropHandle => {
+            queue.drop_handle();
+            true
+        }
+    }
+}
+
+// Each step goes well, one after the other.
+fn go<A: Allocator + Clone>(
+    rt: &impl Abort,
+    queue: &mut QueueCore<char, A>,
+    steps: &[Step],
+) -> Result<(), Fail> {
+    for (index, step) in steps.iter().enumerate() {
+        assert!(rt; goes(queue, *step), "step {index}");
+    }
+    Ok(())
+}
+
+const STOPPED: [Step; 7] = [
+    Step::Submit('A'),
+    Step::Stop,
+    Step::Refuse('B', Why::Stopped),
+    Step::Take('A'),
+    Step::Ended,
+    Step::Stop,
+    Step::Ended,
+];
 
 #[test]
 fn stopped_before_full(rt: HostRuntime) -> Result<(), Fail> {
     let mut queue = QueueCore::new(rt.alloc(), Some(1))?;
-    assert!(rt; queue.submit('A').is_ok());
-    queue.stop();
-    assert!(rt; comes_back(queue.submit('B'), 'B'));
-    assert!(rt; is_text(queue.take(), 'A'));
-    assert!(rt; matches!(queue.take(), Taken::Ended));
-    queue.stop();
-    assert!(rt; matches!(queue.take(), Taken::Ended));
-    Ok(())
+    go(&rt, &mut queue, &STOPPED)
 }
+
+const HANDLES: [Step; 8] = [
+    Step::AddHandle,
+    Step::AddHandle,
+    Step::DropHandle,
+    Step::DropHandle,
+    Step::Submit('A'),
+    Step::DropHandle,
+    Step::Refuse('B', Why::Stopped),
+    Step::Take('A'),
+];
 
 #[test]
 fn last_handle_stops(rt: HostRuntime) -> Result<(), Fail> {
     let mut queue = QueueCore::new(rt.alloc(), None)?;
-    queue.add_handle();
-    queue.add_handle();
-    queue.drop_handle();
-    queue.drop_handle();
-    assert!(rt; queue.submit('A').is_ok());
-    queue.drop_handle();
-    assert!(rt; comes_back(queue.submit('B'), 'B'));
-    assert!(rt; is_text(queue.take(), 'A'));
-    Ok(())
+    go(&rt, &mut queue, &HANDLES)
 }
+
+const COUNTED: [Step; 5] = [
+    Step::Submit('A'),
+    Step::SubmitWith('B'),
+    Step::Take('A'),
+    Step::Counts(2, 1, 0),
+    Step::Wait("B"),
+];
 
 #[test]
 fn counts(rt: HostRuntime) -> Result<(), Fail> {
     let mut queue = QueueCore::new(rt.alloc(), Some(3))?;
     assert!(rt; queue.is_idle());
-    assert!(rt; queue.submit('A').is_ok());
-    assert!(rt; queue.submit_with(|| Ok('B')).is_ok());
-    queue.take();
-    assert!(rt; queue.submitted() == 2 && queue.drained() == 1 && queue.waiting() == 1);
+    go(&rt, &mut queue, &COUNTED)?;
     assert!(rt; !queue.is_full());
     Ok(())
 }
 
+const OLDEST: [Step; 4] = [
+    Step::Submit('A'),
+    Step::Submit('B'),
+    Step::Take('A'),
+    Step::Wait("B"),
+];
+
 #[test]
 fn oldest_is_at_0(rt: HostRuntime) -> Result<(), Fail> {
     let mut queue = QueueCore::new(rt.alloc(), None)?;
-    assert!(rt; queue.submit('A').is_ok());
-    assert!(rt; queue.submit('B').is_ok());
-    queue.take();
-    assert!(rt; has(&queue, 0, 'B'));
-    assert!(rt; queue.get(1).is_none());
-    Ok(())
+    go(&rt, &mut queue, &OLDEST)
 }
+
+const REFUSED: [Step; 4] = [
+    Step::Refuse('A', Why::NoMemory),
+    Step::Submit('B'),
+    Step::Counts(1, 0, 0),
+    Step::Wait("B"),
+];
 
 #[test]
 fn refused_memory(rt: HostRuntime) -> Result<(), Fail> {
     let heap = Refusing::after(rt.alloc(), rt.alloc(), 0)?;
     let mut queue = QueueCore::new(heap, None)?;
-    assert!(rt; matches!(queue.submit('A'), Err((SinkError::OutOfMemory, 'A'))));
-    assert!(rt; queue.submit('B').is_ok());
-    assert!(rt; queue.submitted() == 1 && queue.waiting() == 1);
-    assert!(rt; has(&queue, 0, 'B'));
-    Ok(())
+    go(&rt, &mut queue, &REFUSED)
 }
+
+const RESERVED: [Step; 3] = [
+    Step::Submit('A'),
+    Step::Submit('B'),
+    Step::Refuse('C', Why::Full),
+];
 
 #[test]
 fn bounded_queue_reserves(rt: HostRuntime) -> Result<(), Fail> {
     let heap = Refusing::after(rt.alloc(), rt.alloc(), 1)?;
     let mut queue = QueueCore::new(heap.clone()?, Some(2))?;
-    assert!(rt; queue.submit('A').is_ok());
-    assert!(rt; queue.submit('B').is_ok());
-    assert!(rt; matches!(queue.submit('C'), Err((SinkError::ChannelFull, 'C'))));
+    go(&rt, &mut queue, &RESERVED)?;
     assert!(rt; heap.left() == 0);
     Ok(())
 }
@@ -164,21 +275,21 @@ fn full_queue_drops_its_oldest(rt: HostRuntime) -> Result<(), Fail> {
     Ok(())
 }
 
+const DROPPED: [Step; 6] = [
+    Step::Submit('A'),
+    Step::Submit('B'),
+    Step::Submit('C'),
+    Step::SubmitNone,
+    Step::Wait("BC"),
+    Step::Counts(3, 0, 1),
+];
+
 #[test]
 fn a_drop_takes_no_memory(rt: HostRuntime) -> Result<(), Fail> {
     let heap = Refusing::after(rt.alloc(), rt.alloc(), 1)?;
     let mut queue = QueueCore::with_policy(heap.clone()?, Some(2), QueuePolicy::DropOldest)?;
-    for text in ['A', 'B', 'C'] {
-        assert!(rt; queue.submit(text).is_ok());
-    }
-    assert!(rt;
-        matches!(
-            queue.submit_with(|| Err(AllocError)),
-            Err(SinkError::OutOfMemory)
-        )
-    );
-    assert!(rt; has(&queue, 0, 'B') && has(&queue, 1, 'C'));
-    assert!(rt; queue.submitted() == 3 && queue.dropped() == 1 && heap.left() == 0);
+    go(&rt, &mut queue, &DROPPED)?;
+    assert!(rt; heap.left() == 0);
     Ok(())
 }
 
