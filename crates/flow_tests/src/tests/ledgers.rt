@@ -2,14 +2,14 @@
 use cadence_flow::io::{LineBuffer, PacketLog};
 use cadence_ledger::{ItemLog, LineLedger, Telling, WholeLedger};
 use std::mem::size_of;
-use std::test::Fail;
 
 #[test]
-fn a_ledger_takes_no_byte(rt: HostRuntime) -> Result<(), Fail> {
-    assert_eq!(rt; size_of::<ItemLog<u64>>(), 0);
-    assert_eq!(rt; size_of::<Telling<PacketLog>>(), size_of::<PacketLog>());
-    let packer = size_of::<LineBuffer<PacketLog>>();
-    assert_eq!(rt; size_of::<LineLedger<PacketLog>>(), packer);
-    assert_eq!(rt; size_of::<WholeLedger<PacketLog>>(), packer);
-    Ok(())
+fn a_ledger_takes_no_byte(rt: HostRuntime) {
+    let of_logs = [size_of::<ItemLog<u64>>(), size_of::<Telling<PacketLog>>()];
+    assert_eq!(rt; of_logs, [0, size_of::<PacketLog>()]);
+    let of_lines = [
+        size_of::<LineLedger<PacketLog>>(),
+        size_of::<WholeLedger<PacketLog>>(),
+    ];
+    assert_eq!(rt; of_lines, [size_of::<LineBuffer<PacketLog>>(); 2]);
 }

@@ -234,7 +234,7 @@ impl Lines {
 }
 
 /// Lines, and how often each takes memory, where the one before it was given back before it came.
-const GIVEN_BACK: [(&str, u64); 6] = [
+const GIVEN_BACK: &[(&str, u64)] = &[
     ("a:1|c", 1),
     ("b:2|c", 1),
     ("c:3|c", 0),
@@ -248,7 +248,7 @@ fn texts_given_back_are_used_again(rt: HostRuntime) -> Result<(), Fail> {
     let heap = Refusing::after(rt.alloc(), rt.alloc(), 1000)?;
     let mut lines = Lines::new(heap, 2)?;
     for (line, wanted) in GIVEN_BACK {
-        assert_eq!(rt; lines.requests_of(&rt, line), Some(wanted));
+        assert!(rt; lines.requests_of(&rt, line) == Some(*wanted), "{line}");
         lines.comes_and_goes_back(&rt, line)?;
     }
     Ok(())
