@@ -1,11 +1,10 @@
 //! The words of the command line.
 
 use std::env::Args;
-use std::fmt;
 
-/// What to do.
-#[derive(Clone, Copy, Debug, PartialEq, Eq)]
-pub enum Mode {
+/// A call of a client.
+#[derive(Clone, Copy)]
+pub enum Calling {
     /// A counter without tags.
     Count,
     /// A counter with three tags of the call's own.
@@ -14,22 +13,28 @@ pub enum Mode {
     Histogram4,
     /// A counter with so many tags of the call's own.
     Tags,
-    /// A counter with so many default tags.
-    DefaultTags,
     /// A histogram of so many values.
     Values,
     /// A counter with a key of so many bytes.
     Key,
-    /// Lines into a packer.
-    Packer,
-    /// Packets of plain counters that are read.
-    Read,
-    /// Packets of lines with every field that are read.
-    ReadFull,
-    /// The packets of `Read`, into an arena that is emptied after each.
-    ReadArena,
-    /// The packets of `ReadFull`, into such an arena.
-    ReadFullArena,
+}
+
+/// Packets that are read.
+#[derive(Clone, Copy)]
+pub enum Reading {
+    /// Packets of plain counters.
+    Counters,
+    /// Packets of lines with every field.
+    Full,
+    /// The packets of `Counters`, into an arena that is emptied after each.
+    CountersInArena,
+    /// The packets of `Full`, into such an arena.
+    FullInArena,
+}
+
+/// Lines into a sink or a queue.
+#[derive(Clone, Copy)]
+pub enum Emitting {
     /// Lines into a buffered UDP sink.
     Udp,
     /// Lines into a queue.
@@ -40,59 +45,64 @@ pub enum Mode {
     Callers,
     /// Lines of several callers into a buffered UDP sink.
     UdpCallers,
+}
+
+/// What to do.
+#[derive(Clone, Copy)]
+pub enum Mode {
+    /// Calls of a client over a sink that does nothing.
+    Client(Calling),
+    /// A counter of a client with so many default tags.
+    DefaultTags,
+    /// Lines into a packer.
+    Packer,
+    /// Packets that are read.
+    Read(Reading),
+    /// Lines into a sink or a queue.
+    Emit(Emitting),
     /// Counters of several callers through a queue into a buffered UDP sink.
     Service,
 }
 
 // The modes and their words.
 const MODES: [(Mode, &str); 18] = [
-    (Mode::Count, "count"),
-    (Mode::CountTags, "count_tags"),
-    (Mode::Histogram4, "histogram4"),
-    (Mode::Tags, "tags"),
+    (Mode::Client(Calling::Count), "count"),
+    (Mode::Client(Calling::CountTags), "count_tags"),
+    (Mode::Client(Calling::Histogram4), "histogram4"),
+    (Mode::Client(Calling::Tags), "tags"),
     (Mode::DefaultTags, "dtags"),
-    (Mode::Values, "values"),
-    (Mode::Key, "key"),
+    (Mode::Client(Calling::Values), "values"),
+    (Mode::Client(Calling::Key), "key"),
     (Mode::Packer, "packer"),
-    (Mode::Read, "read"),
-    (Mode::ReadFull, "read_full"),
-    (Mode::ReadArena, "read_arena"),
-    (Mode::ReadFullArena, "read_full_arena"),
-    (Mode::Udp, "udp"),
-    (Mode::Queue, "queue"),
-    (Mode::Drop, "drop"),
-    (Mode::Callers, "callers"),
-    (Mode::UdpCallers, "udp_callers"),
+    (Mode::Read(Reading::Counters), "read"),
+    (Mode::Read(Reading::Full), "read_full"),
+    (Mode::Read(Reading::CountersInArena), "read_arena"),
+    (Mode::Read(Reading::FullInArena), "read_full_arena"),
+    (Mode::Emit(Emitting::Udp), "udp"),
+    (Mode::Emit(Emitting::Queue), "queue"),
+    (Mode::Emit(Emitting::Drop), "drop"),
+    (Mode::Emit(Emitting::Callers), "callers"),
+    (Mode::Emit(Emitting::UdpCallers), "udp_callers"),
     (Mode::Service, "service"),
 ];
 
-impl Mode {
-    fn of(word: &str) -> Option<Mode> {
-        for (mode, name) in &MODES {
-            if *name == word {
-                return Some(*mode);
-            }
+// The mode that a word names, and its word.
+fn mode_of(word: &str) -> Option<(Mode, &'static str)> {
+    for (mode, name) in &MODES {
+        if *name == word {
+            return Some((*mode, *name));
         }
-        None
     }
-}
-
-impl fmt::Display for Mode {
-    fn fmt<W: fmt::Write>(&self, f: &mut fmt::Formatter<W>) -> fmt::Result {
-        for (mode, name) in &MODES {
-            if mode == self {
-                return f.write_str(name);
-            }
-        }
-        Ok(())
-    }
+    None
 }
 
 /// What to do, how often, and over which sizes.
-#[derive(Clone, Copy, Debug, PartialEq, Eq)]
+#[derive(Clone, Copy)]
 pub struct Arguments {
     /// What to do.
     pub mode: Mode,
+    /// Its word.
+    pub name: &'static str,
     /// How often.
     pub calls: u64,
     /// How many tags or values a call has, or how many bytes its key.
@@ -125,20 +135,20 @@ fn number(word: Option<String>) -> Option<u64> {
 /// missing.
 pub fn read(words: &mut Args) -> Option<Arguments> {
     let word = words.next()?;
-    let mode = Mode::of(&word)?;
+    let (mode, name) = mode_of(&word)?;
     let calls = number(words.next()).unwrap_or(1);
     let (first, second) = (number(words.next()), number(words.next()));
-    let callers = if mode == Mode::Service {
+    let callers = if matches!(mode, Mode::Service) {
         second
     } else {
         number(words.next())
     };
     Some(Arguments {
         mode,
-        calls: if mode == Mode::Udp || mode == Mode::UdpCallers {
-            calls.min(MOST_DATAGRAMS)
-        } else {
-            calls
+        name,
+        calls: match mode {
+            Mode::Emit(Emitting::Udp | Emitting::UdpCallers) => calls.min(MOST_DATAGRAMS),
+            _ => calls,
         },
         size: first.unwrap_or(3) as usize,
         capacity: first.unwrap_or(512) as usize,

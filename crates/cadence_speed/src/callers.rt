@@ -1,9 +1,9 @@
 //! Callers that work at the same time.
 
-use crate::arguments::Arguments;
-use crate::done::{BlackBox, Done, Note};
+use crate::arguments::{Arguments, Emitting};
+use crate::done::{Accepted, BlackBox, Done};
 use crate::packets::text;
-use crate::sinks::{buffered, queue_over, sent, wait_until_drained};
+use crate::sinks::{self, buffered, queue_over, sent, wait_until_drained};
 use cadence::prelude::*;
 use cadence::{
     BufferedUdpMetricSink, MetricResult, MetricSink, NopMetricSink, QueuingMetricSink, StatsdClient,
@@ -23,18 +23,24 @@ struct Turns {
     well: u64,
 }
 
-fn take_turns<R: Clock, F: Fn(u64) -> bool>(
+// What callers do at the same time.
+trait Turn: Sync {
+    // Does it once, and answers whether it went well.
+    fn take(&self, hidden: &BlackBox, number: u64) -> bool;
+}
+
+// Takes so many turns.
+fn take_turns<R: Clock, T: Turn>(
     rt: &R,
     since: Instant,
     count: u64,
-    turn: &F,
-) -> io::Result<Turns>
-    requires { F.IsAlwaysCallable turn.now }
-{
+    turn: &T,
+) -> io::Result<Turns> {
+    let hidden = BlackBox::new();
     let begun = since.elapsed(rt)?;
     let mut well = 0u64;
     for i in 0..count {
-        if turn(i) {
+        if turn.take(&hidden, i) {
             well = well.wrapping_add(1);
         }
     }
@@ -47,14 +53,12 @@ fn take_turns<R: Clock, F: Fn(u64) -> bool>(
 
 // Callers that each take their part of the turns, all from the same moment. Answers the time from the first one's begin
 // to the last one's end, and how many turns went well.
-fn together<R: Clock + Wait + Threads + Sync, F: Fn(u64) -> bool + Sync>(
+fn together<R: Clock + Wait + Threads + Sync, T: Turn>(
     rt: &R,
     alloc: Global,
     arguments: &Arguments,
-    turn: &F,
-) -> MetricResult<(Duration, u64)>
-    requires { F.IsAlwaysCallable turn.now }
-{
+    turn: &T,
+) -> MetricResult<Accepted> {
     let each = arguments.calls / (arguments.callers as u64).max(1);
     let ready = Barrier::new(arguments.callers);
     let since = Instant::now(rt)?;
@@ -62,25 +66,39 @@ fn together<R: Clock + Wait + Threads + Sync, F: Fn(u64) -> bool + Sync>(
         rt,
         alloc,
         arguments.callers,
-        &|_caller|
-            requires { F.IsAlwaysCallable turn.now }
-        {
+        &|_caller| {
             ready.wait(rt);
             take_turns(rt, since, each, turn)
         },
     )?;
-    let (mut begun, mut ended, mut well) = (Duration::MAX, Duration::ZERO, 0u64);
+    let (mut begun, mut ended, mut lines) = (Duration::MAX, Duration::ZERO, 0u64);
     for one in all {
         let one = one?;
         begun = begun.min(one.begun);
         ended = ended.max(one.ended);
-        well = well.wrapping_add(one.well);
+        lines = lines.wrapping_add(one.well);
     }
-    Ok((ended.saturating_sub(begun), well))
+    Ok(Accepted {
+        lines,
+        time: ended.saturating_sub(begun),
+    })
 }
 
-/// Lines of several callers into a queue over a sink that does nothing.
-pub fn queue<R: Clock + Wait + Threads + Clone + Drop + Send + Sync + 'static>(
+// A line into a sink.
+#[derive(Drop)]
+struct EmitLine<'a, S: MetricSink> {
+    sink: &'a S,
+    line: &'a str,
+}
+
+impl<S: MetricSink + Sync> Turn for EmitLine<'_, S> {
+    fn take(&self, hidden: &BlackBox, _number: u64) -> bool {
+        self.sink.emit(hidden.text(self.line)).is_ok()
+    }
+}
+
+// Lines of several callers into a queue over a sink that does nothing.
+fn queue<R: Clock + Wait + Threads + Clone + Drop + Send + Sync + 'static>(
     rt: &R,
     alloc: Global,
     arguments: &Arguments,
@@ -89,41 +107,52 @@ pub fn queue<R: Clock + Wait + Threads + Clone + Drop + Send + Sync + 'static>(
     let queue = queue_over(rt, alloc, NopMetricSink, arguments.capacity)?;
     queue.emit(&line)?;
     wait_until_drained(rt, &queue, 1);
-    let hidden = BlackBox::new();
+    let emit = EmitLine {
+        sink: &queue,
+        line: &line,
+    };
     let start = Instant::now(rt)?;
-    let (time, accepted) = together(
-        rt,
-        alloc,
-        arguments,
-        &|_turn| { queue.emit(hidden.text(&line)).is_ok() },
-    )?;
-    wait_until_drained(rt, &queue, accepted.wrapping_add(1));
+    let accepted = together(rt, alloc, arguments, &emit)?;
+    wait_until_drained(rt, &queue, accepted.lines.wrapping_add(1));
     let drained = start.elapsed(rt)?;
     queue.stop_and_wait();
-    Ok(Done {
-        time,
-        check: if arguments.capacity == 0 { accepted } else { 0 },
-        note: Note::Accepted(accepted, drained),
-    })
+    Ok(accepted.done(arguments.capacity, drained))
 }
 
-/// Lines of several callers into a buffered UDP sink, to a socket of this process that nobody reads.
-pub fn udp<R: Clock + Net + Wait + Threads + Clone + Drop + Send + Sync>(
+// Lines of several callers into a buffered UDP sink, to a socket of this process that nobody reads.
+fn udp<R: Clock + Net + Wait + Threads + Clone + Drop + Send + Sync>(
     rt: &R,
     alloc: Global,
     arguments: &Arguments,
 ) -> MetricResult<Done> {
     let line = text(alloc, arguments.length)?;
     let (_server, sink) = buffered(rt, alloc, arguments.capacity)?;
-    let hidden = BlackBox::new();
-    let (time, _) = together(
-        rt,
-        alloc,
-        arguments,
-        &|_turn| sink.emit(hidden.text(&line)).is_ok(),
-    )?;
+    let emit = EmitLine {
+        sink: &sink,
+        line: &line,
+    };
+    let emitted = together(rt, alloc, arguments, &emit)?;
     sink.flush()?;
-    Ok(sent(time, &sink))
+    Ok(sent(emitted.time, &sink))
+}
+
+// A counter with a tag.
+#[derive(Clone, Copy)]
+struct Visit<'a> {
+    client: &'a StatsdClient,
+}
+
+impl Turn for Visit<'_> {
+    fn take(&self, hidden: &BlackBox, number: u64) -> bool {
+        self.client
+            .count_with_tags(
+                hidden.text("visits"),
+                hidden.hide((number % 1000) as i64, 0),
+            )
+            .with_tag(hidden.text("page"), hidden.text("home"))
+            .try_send()
+            .is_ok()
+    }
 }
 
 type QueuedUdp<R> = QueuingMetricSink<BufferedUdpMetricSink<R>, R>;
@@ -138,34 +167,33 @@ pub fn queue_over_udp<R: Clock + Net + Wait + Threads + Clone + Drop + Send + Sy
     Ok((server, queue_over(rt, alloc, udp, arguments.capacity)?))
 }
 
-/// Counters with a tag of several callers of a client over a queue.
-pub fn service<R: Clock + Net + Wait + Threads + Clone + Drop + Send + Sync>(
+/// Counters of several callers of a client over a queue, until the last line that it accepted was taken.
+pub fn service<R: Clock + Wait + Threads + Drop + Sync, S: MetricSink>(
     rt: &R,
     alloc: Global,
     arguments: &Arguments,
     client: &StatsdClient,
-    queue: &QueuedUdp<R>,
+    queue: &QueuingMetricSink<S, R>,
 ) -> MetricResult<Done> {
-    let hidden = BlackBox::new();
     let start = Instant::now(rt)?;
-    let (time, accepted) = together(
-        rt,
-        alloc,
-        arguments,
-        &|turn| {
-            client
-                .count_with_tags(hidden.text("visits"), hidden.hide((turn % 1000) as i64, 0))
-                .with_tag(hidden.text("page"), hidden.text("home"))
-                .try_send()
-                .is_ok()
-        },
-    )?;
-    wait_until_drained(rt, queue, accepted);
+    let accepted = together(rt, alloc, arguments, &Visit { client })?;
+    wait_until_drained(rt, queue, accepted.lines);
     client.flush()?;
-    let drained = start.elapsed(rt)?;
-    Ok(Done {
-        time,
-        check: if arguments.capacity == 0 { accepted } else { 0 },
-        note: Note::Accepted(accepted, drained),
-    })
+    Ok(accepted.done(arguments.capacity, start.elapsed(rt)?))
+}
+
+/// Lines into a sink or a queue.
+pub fn emit<R: Clock + Net + Wait + Threads + Clone + Drop + Send + Sync + 'static>(
+    rt: &R,
+    alloc: Global,
+    what: Emitting,
+    arguments: &Arguments,
+) -> MetricResult<Done> {
+    match what {
+        Emitting::Udp => sinks::udp(rt, alloc, arguments),
+        Emitting::Queue => sinks::queue(rt, alloc, arguments),
+        Emitting::Callers => queue(rt, alloc, arguments),
+        Emitting::Drop => sinks::dropping(rt, alloc, arguments),
+        Emitting::UdpCallers => udp(rt, alloc, arguments),
+    }
 }

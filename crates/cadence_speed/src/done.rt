@@ -6,7 +6,7 @@ use std::sync::atomic::{AtomicU64, Ordering};
 use std::time::Duration;
 
 /// What a mode tells beside its time.
-#[derive(Clone, Copy, Debug)]
+#[derive(Clone, Copy)]
 pub enum Note {
     /// Nothing.
     Nothing,
@@ -17,7 +17,7 @@ pub enum Note {
 }
 
 /// What the measured part of a mode did.
-#[derive(Clone, Copy, Debug)]
+#[derive(Clone, Copy)]
 pub struct Done {
     /// How long it took.
     pub time: Duration,
@@ -25,6 +25,26 @@ pub struct Done {
     pub check: u64,
     /// What else is told.
     pub note: Note,
+}
+
+/// The lines that a queue accepted, and how long the emits took.
+#[derive(Clone, Copy)]
+pub struct Accepted {
+    /// How many lines.
+    pub lines: u64,
+    /// How long the emits took.
+    pub time: Duration,
+}
+
+impl Accepted {
+    /// What is told of a queue of such a capacity once the last line was taken. What a bounded one accepts is no check.
+    pub fn done(self, capacity: usize, drained: Duration) -> Done {
+        Done {
+            time: self.time,
+            check: if capacity == 0 { self.lines } else { 0 },
+            note: Note::Accepted(self.lines, drained),
+        }
+    }
 }
 
 /// Keeps the compiler from knowing a value: it can't tell what a shared number holds.
@@ -66,9 +86,9 @@ fn per_call(time: Duration, calls: u64) -> (u128, u128) {
 
 /// Tells the check on standard output, and the time of a call in nanoseconds on standard error.
 pub fn report(rt: &HostRuntime, arguments: &Arguments, done: &Done) -> MetricResult<()> {
-    let Arguments { mode, calls, .. } = arguments;
+    let Arguments { name, calls, .. } = arguments;
     let check = done.check;
-    println!(rt; "{mode} n={calls} check={check}")?;
+    println!(rt; "{name} n={calls} check={check}")?;
     match done.note {
         Note::Nothing => {}
         Note::Packets(packets) => eprint!(rt; "packets={packets} ")?,

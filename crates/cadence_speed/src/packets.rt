@@ -10,22 +10,19 @@ use std::time::Instant;
 
 /// A text that looks like a counter's line, of just so many bytes where they are four at least.
 pub fn text(alloc: Global, length: usize) -> Result<String, AllocError> {
-    let mut text = String::with_capacity(alloc, length.max(4))?;
-    for _ in 0..length.saturating_sub(4) {
-        text.push('k')?;
-    }
+    let mut text = "k".repeat(alloc, length.saturating_sub(4))?;
     text.push_str(":1|c")?;
     Ok(text)
 }
 
 /// Lines into a packer over a writer that counts.
-pub fn packer(rt: &HostRuntime, arguments: &Arguments) -> MetricResult<Done> {
-    let line = text(rt.alloc(), arguments.length)?;
+pub fn packer(rt: &HostRuntime, alloc: Global, arguments: &Arguments) -> MetricResult<Done> {
+    let line = text(alloc, arguments.length)?;
     let counting = Counting {
         bytes: 0,
         packets: 0,
     };
-    let Ok(mut writer) = MultiLineWriter::new(rt.alloc(), counting, arguments.capacity) else {
+    let Ok(mut writer) = MultiLineWriter::new(alloc, counting, arguments.capacity) else {
         return Err(AllocError.into());
     };
     let hidden = BlackBox::new();

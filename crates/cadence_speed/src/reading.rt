@@ -1,6 +1,6 @@
 //! Packets that are read.
 
-use crate::arguments::Arguments;
+use crate::arguments::{Arguments, Reading};
 use crate::done::{BlackBox, Done, Note};
 use crate::packets::text;
 use bumpalo::Bump;
@@ -33,13 +33,18 @@ fn count_metrics<A: Allocator + Clone>(alloc: A, packet: &str) -> Result<u64, Al
 }
 
 // Reads a packet of such lines, each block of its metrics from the heap.
-fn read_lines(rt: &HostRuntime, arguments: &Arguments, line: &str) -> MetricResult<Done> {
-    let packet = packet(rt.alloc(), line, arguments.capacity)?;
+fn read_lines(
+    rt: &HostRuntime,
+    alloc: Global,
+    arguments: &Arguments,
+    line: &str,
+) -> MetricResult<Done> {
+    let packet = packet(alloc, line, arguments.capacity)?;
     let hidden = BlackBox::new();
     let mut metrics = 0u64;
     let start = Instant::now(rt)?;
     for _ in 0..arguments.calls {
-        metrics = metrics.wrapping_add(count_metrics(rt.alloc(), hidden.text(&packet))?);
+        metrics = metrics.wrapping_add(count_metrics(alloc, hidden.text(&packet))?);
     }
     Ok(Done {
         time: start.elapsed(rt)?,
@@ -49,10 +54,15 @@ fn read_lines(rt: &HostRuntime, arguments: &Arguments, line: &str) -> MetricResu
 }
 
 // The same, each packet into an arena that is emptied then.
-fn read_in_arena(rt: &HostRuntime, arguments: &Arguments, line: &str) -> MetricResult<Done> {
-    let packet = packet(rt.alloc(), line, arguments.capacity)?;
+fn read_in_arena(
+    rt: &HostRuntime,
+    alloc: Global,
+    arguments: &Arguments,
+    line: &str,
+) -> MetricResult<Done> {
+    let packet = packet(alloc, line, arguments.capacity)?;
     let hidden = BlackBox::new();
-    let mut arena = Bump::new(rt.alloc());
+    let mut arena = Bump::new(alloc);
     let mut metrics = 0u64;
     let start = Instant::now(rt)?;
     for _ in 0..arguments.calls {
@@ -68,24 +78,19 @@ fn read_in_arena(rt: &HostRuntime, arguments: &Arguments, line: &str) -> MetricR
     })
 }
 
-/// Packets of plain counters.
-pub fn counters(rt: &HostRuntime, arguments: &Arguments) -> MetricResult<Done> {
-    let line = text(rt.alloc(), arguments.length)?;
-    read_lines(rt, arguments, &line)
-}
-
-/// Packets of plain counters, into an arena.
-pub fn counters_in_arena(rt: &HostRuntime, arguments: &Arguments) -> MetricResult<Done> {
-    let line = text(rt.alloc(), arguments.length)?;
-    read_in_arena(rt, arguments, &line)
-}
-
-/// Packets of lines with every field.
-pub fn full(rt: &HostRuntime, arguments: &Arguments) -> MetricResult<Done> {
-    read_lines(rt, arguments, FULL)
-}
-
-/// Packets of lines with every field, into an arena.
-pub fn full_in_arena(rt: &HostRuntime, arguments: &Arguments) -> MetricResult<Done> {
-    read_in_arena(rt, arguments, FULL)
+/// Packets of plain counters, or of lines with every field, from the heap or into an arena.
+pub fn read(
+    rt: &HostRuntime,
+    alloc: Global,
+    what: Reading,
+    arguments: &Arguments,
+) -> MetricResult<Done> {
+    match what {
+        Reading::Counters => read_lines(rt, alloc, arguments, &text(alloc, arguments.length)?),
+        Reading::CountersInArena => {
+            read_in_arena(rt, alloc, arguments, &text(alloc, arguments.length)?)
+        }
+        Reading::Full => read_lines(rt, alloc, arguments, FULL),
+        Reading::FullInArena => read_in_arena(rt, alloc, arguments, FULL),
+    }
 }

@@ -29,8 +29,8 @@ pub fn buffered<R: Net + Wait + Clone + Drop>(
     Ok((server, sink))
 }
 
-/// What a buffered UDP sink sent.
-pub fn sent<R: Wait + Drop>(time: Duration, sink: &BufferedUdpMetricSink<R>) -> Done {
+/// What a buffered sink sent.
+pub fn sent<S: MetricSink>(time: Duration, sink: &S) -> Done {
     let stats = sink.stats();
     let bytes = stats.bytes_sent.wrapping_mul(1_000_003);
     Done {
@@ -38,6 +38,22 @@ pub fn sent<R: Wait + Drop>(time: Duration, sink: &BufferedUdpMetricSink<R>) -> 
         check: bytes.wrapping_add(stats.packets_sent),
         note: Note::Packets(stats.packets_sent),
     }
+}
+
+// Emits the line so often, and flushes.
+fn emit_all<R: Clock, S: MetricSink>(
+    rt: &R,
+    sink: &S,
+    line: &str,
+    calls: u64,
+) -> MetricResult<Done> {
+    let hidden = BlackBox::new();
+    let start = Instant::now(rt)?;
+    for _ in 0..calls {
+        sink.emit(hidden.text(line))?;
+    }
+    sink.flush()?;
+    Ok(sent(start.elapsed(rt)?, sink))
 }
 
 /// Lines into a buffered UDP sink, to a socket of this process that nobody reads.
@@ -48,13 +64,7 @@ pub fn udp<R: Clock + Net + Wait + Clone + Drop>(
 ) -> MetricResult<Done> {
     let line = text(alloc, arguments.length)?;
     let (_server, sink) = buffered(rt, alloc, arguments.capacity)?;
-    let hidden = BlackBox::new();
-    let start = Instant::now(rt)?;
-    for _ in 0..arguments.calls {
-        sink.emit(hidden.text(&line))?;
-    }
-    sink.flush()?;
-    Ok(sent(start.elapsed(rt)?, &sink))
+    emit_all(rt, &sink, &line, arguments.calls)
 }
 
 /// A queue over a sink; one of capacity 0 is unbounded.

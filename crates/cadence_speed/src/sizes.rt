@@ -72,6 +72,7 @@ pub fn values(
 }
 
 /// A counter with a key of so many bytes.
+#[inline(never)]
 pub fn key(
     rt: &HostRuntime,
     client: &StatsdClient,
