@@ -1,5 +1,5 @@
 //! Sockets on the loopback address.
-use super::steps::{flushes, takes};
+use super::steps::takes;
 use cadence_sinks::MetricSink;
 use std::alloc::Global;
 use std::io;
@@ -57,10 +57,9 @@ pub fn gets(server: &UdpSocket, texts: &[&str]) -> Result<(), Fail> {
     Ok(())
 }
 
-/// The sink takes a line and flushes, and the server gets this datagram.
+/// The sink takes a line, and the server gets this datagram, without a flush.
 pub fn sends<S: MetricSink>(sink: &S, server: &UdpSocket, datagram: &str) -> Result<(), Fail> {
     takes(sink, &[("buz:1|m", 7)])?;
-    flushes(sink)?;
     gets(server, &[datagram])
 }
 

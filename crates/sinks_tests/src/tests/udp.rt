@@ -194,7 +194,9 @@ fn of_16_bytes<R: ResolverRuntime>(
 fn a_builder_makes_a_buffered_sink_that_looks_up(rt: HostRuntime) -> Result<(), Fail> {
     let server = on_loopback(&rt)?;
     let sink = of_16_bytes(&rt, rt.alloc(), server.local_addr()?)?;
-    sends(&sink, &server, "buz:1|m\n")
+    takes(&sink, &[("buz:1|m", 7)])?;
+    flushes(&sink)?;
+    gets(&server, &["buz:1|m\n"])
 }
 
 // Waits until a handler has counted a call, five seconds at most.
