@@ -5,4 +5,4 @@ pub use cadence_audit::{
     Text,
 };
 pub use cadence_flow::queue::{QueueCore, QueuePolicy, Refusal, Taken};
-pub use cadence_ledger::{Batch, SharedQueue};
+pub use cadence_ledger::SharedQueue;

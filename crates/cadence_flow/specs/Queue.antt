@@ -2,18 +2,13 @@
 use Rattle.std.specs.Prelude.{◌≡◌, ℕ, ◌+◌, ◌-◌, ◌%◌, ◌^◌, ◌==◌, ◌||◌, ◌&&◌, not, Bool, true, false, IsTrue, is_none, cond, leb, List, [], ◌∷◌, ◌++◌, length, drop, Option, Some, None}
 use Rattle.cadence_errors.specs.declared.SinkError.{SinkError}
 use Rattle.cadence_errors.specs.declared.SinkError.TheVariants.{ChannelFull, ChannelDisconnected, OutOfMemory}
-use Rattle.cadence_flow.specs.QueueState.{Queue, drops}
+use Rattle.cadence_flow.specs.QueueState.{Queue}
 use Rattle.cadence_flow.specs.declared.queue.policy.QueuePolicy.{QueuePolicy}
 use Rattle.cadence_flow.specs.declared.queue.policy.QueuePolicy.TheVariants.{Refuse, DropOldest}
 use Rattle.cadence_flow.specs.declared.queue.refusal.Refusal.{Refusal}
 use Rattle.cadence_flow.specs.declared.queue.refusal.Refusal.TheVariants as Small
 use Rattle.cadence_flow.specs.declared.queue.queue_core.Taken.{Taken}
 use Rattle.cadence_flow.specs.declared.queue.queue_core.Taken.TheVariants.{Text, Empty, Ended}
-
--- what a capacity leaves beside texts that were lent
-abbrev pub beside : ℕ → Option ℕ → Option ℕ
-beside lent (Some capacity) = Some (capacity - lent)
-beside lent None = None
 
 module _ {T : Type 0} where
   -- an empty queue with one handle
@@ -66,17 +61,9 @@ module _ {T : Type 0} where
       × (drops_for_room q.policy q.waiting ≡ Some oldest)
       × (r ≡ accepting (dropping q) text)
 
-  -- whether a queue that isn't stopped refuses a text since it is full with those that were lent
-  abbrev pub is_crowded : ℕ → Queue T → Bool
-  is_crowded lent q = not q.stopped && not (drops q.policy) && at_capacity (beside lent q.capacity) q.waiting
-
   -- why a queue refuses a text: it is stopped; else it is full and drops none; else memory ran out
   abbrev pub refusal : Queue T → SinkError
   refusal q = cond q.stopped ChannelDisconnected (cond (lacks_room q) ChannelFull OutOfMemory)
-
-  -- why it does where texts were lent
-  abbrev pub refusal_beside : ℕ → Queue T → SinkError
-  refusal_beside lent q = cond (is_crowded lent q) ChannelFull (refusal q)
 
   -- a refusal of the queue
   abbrev pub IsRefusal : Queue T → SinkError → Type 0
@@ -88,10 +75,6 @@ module _ {T : Type 0} where
       (q.waiting ≡ text ∷ r.waiting) × (r ≡ record q { waiting = r.waiting; drained = (q.drained + 1) % 2 ^ 64 })
   IsTaken q Empty r = (q.waiting ≡ []) × (q.stopped ≡ false) × (r ≡ q)
   IsTaken q Ended r = (q.waiting ≡ []) × (q.stopped ≡ true) × (r ≡ q)
-
-  -- the queue without texts, all of which were taken
-  abbrev pub emptying : Queue T → Queue T
-  emptying q = record q { waiting = []; drained = (q.drained + length q.waiting) % 2 ^ 64 }
 
   -- whether no text waits and more may come
   abbrev pub is_idle : Queue T → Bool

@@ -1,5 +1,5 @@
 -- The room of a queue's ring.
-use Rattle.std.specs.Prelude.{◌≡◌, ℕ, ◌<◌, ◌==◌, ◌&&◌, Bool, true, [], length, Option, Some, None, Result, IfErr}
+use Rattle.std.specs.Prelude.{◌≡◌, ℕ, ◌<◌, [], Option, Some, None, Result, IfErr}
 use Rattle.circular_buffer.specs.Buffer.{Buffer, buffer}
 use Rattle.cadence_errors.specs.Errors.{out_of_memory}
 use Rattle.cadence_errors.specs.declared.MetricError.{MetricError}
@@ -13,15 +13,6 @@ ring_of None = buffer [] 0
 abbrev pub HasRoom : Option ℕ → ℕ → Type 0
 HasRoom (Some capacity) room = room ≡ capacity
 HasRoom None room = Unit {0}
-
--- whether a ring of this room can be the ring of a queue of this capacity
-abbrev pub serves : Option ℕ → ℕ → Bool
-serves (Some capacity) room = room == capacity
-serves None room = true
-
--- whether a ring has no texts, and can be that of a queue of this capacity
-abbrev pub is_spare : {T : Type 0} → Option ℕ → Buffer T → Bool
-is_spare capacity ring = (length ring.items == 0) && serves capacity ring.capacity
 
 -- the queue has a bound
 abbrev pub IsBounded : Option ℕ → Type 0

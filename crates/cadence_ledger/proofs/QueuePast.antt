@@ -5,7 +5,7 @@ use Rattle.std.proofs.lemmas.List.{append-nil}
 use Rattle.std.specs.Prelude.{slice_get}
 use Rattle.std.proofs.Math.Logic.{∥∥₁_map}
 use Rattle.cadence_flow.specs.QueueState.{Queue}
-use Rattle.cadence_flow.specs.Queue.{Accepts, dropping_handle, emptying}
+use Rattle.cadence_flow.specs.Queue.{Accepts, dropping_handle}
 use Rattle.cadence_flow.specs.QueueModel.{Exit, by_take, by_drop, is_take, IsQueueOf, IsNext, IsAccepted}
 use Rattle.cadence_flow.specs.declared.queue.queue_core.Taken.{Taken}
 use Rattle.cadence_flow.specs.declared.queue.queue_core.Taken.TheVariants.{Text, Empty, Ended}
@@ -67,32 +67,6 @@ module _ {T : Type 0} where
     where
       past_stays : IsQueueOf accepted past.exits r → IsPast accepted (taken ++ []) r
       past_stays queue = record { exits = past.exits; queue = queue; takes = append-nil taken ∙ past.takes }
-
-  -- all texts that wait are taken
-  past_takes_all : (rest accepted taken : List T) (q : Queue T) → q.waiting ≡ rest → IsPast accepted taken q → IsPast accepted (taken ++ rest) (emptying q)
-  past_takes_all [] accepted taken q is past =
-      record {
-        exits = past.exits;
-        queue = record {
-          waits = sym is ∙ past.queue.waits;
-          front = past.queue.front;
-          submitted = past.queue.submitted;
-          drained = ap (λ n. (q.drained + n) % 2 ^ 64) (ap length is) ∙ ap (λ n. (n + 0) % 2 ^ 64) past.queue.drained ∙ mod-add-mod (count_by is_take past.exits) (2 ^ 64) 0 ∙ ap (λ n. n % 2 ^ 64) (omega arith);
-          dropped = past.queue.dropped;
-        };
-        takes = append-nil taken ∙ past.takes;
-      }
-  past_takes_all (x ∷ rest) accepted taken q is past =
-      let one : Queue T = record q { waiting = rest; drained = (q.drained + 1) % 2 ^ 64 } in
-      let next : IsPast accepted (taken ++ x ∷ []) one = past_takes accepted taken q (Text x) one (taken_is_next q x one (is, refl)) past in
-      let all : IsPast accepted ((taken ++ x ∷ []) ++ rest) (emptying one) = past_takes_all rest accepted (taken ++ x ∷ []) one refl next in
-      let count : (q.drained + length q.waiting) % 2 ^ 64 ≡ ((q.drained + 1) % 2 ^ 64 + length rest) % 2 ^ 64 =
-      ap (λ n. (q.drained + n) % 2 ^ 64) (ap length is) ∙ ap (λ n. n % 2 ^ 64) (omega arith) ∙ sym (mod-add-mod (q.drained + 1) (2 ^ 64) (length rest)) in
-      subst (λ n. IsPast accepted (taken ++ x ∷ rest) (record q { waiting = []; drained = n })) (sym count)
-      (subst (λ l. IsPast accepted l (emptying one)) (append_assoc taken (x ∷ []) rest) all)
-
-  pub past_taken_all : (accepted taken : List T) (q : Queue T) → ∥ IsPast accepted taken q ∥₁ → ∥ IsPast accepted (taken ++ q.waiting) (emptying q) ∥₁
-  past_taken_all accepted taken q past = ∥∥₁_map past (past_takes_all q.waiting accepted taken q refl)
 
   -- an accepted text
   pub past_accepted : (accepted taken : List T) (q : Queue T) (text : T) (dropped : Option T) (r : Queue T) → Accepts q text dropped r → ∥ IsPast accepted taken q ∥₁ → ∥ IsPast (accepted ++ text ∷ []) taken r ∥₁

@@ -4,6 +4,7 @@ pub mod QueueLedger
 pub mod QueuePast
 pub mod QueueTaken
 pub mod SharedQueue
+pub mod Taker
 pub mod Telling
 pub mod Whole
 pub mod WholeLedgers

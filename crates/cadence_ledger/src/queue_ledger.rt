@@ -6,7 +6,6 @@ use super::item_log::ItemLog;
 use cadence_errors::{MetricResult, SinkError};
 use cadence_flow::queue::{QueueCore, QueuePolicy, Refusal, Taken, TextRing};
 use std::alloc::{AllocError, Allocator, Global};
-use std::mem;
 
 /// A `QueueCore`, and in proofs alone the texts that it accepted and those that were taken from it. Whoever has one
 /// knows that the accepted texts were taken or dropped, or wait, as the queue's model tells it: `past`.
@@ -19,11 +18,12 @@ pub struct QueueLedger<T, A: Allocator = Global> {
 }
 
 impl<T: Drop, A: Allocator + Clone> QueueLedger<T, A> {
-    ghost use Rattle.std.specs.Prelude.{[], ◌∷◌, ◌++◌, IfOk, IfErr, OnOk, OnErr, Ok, Option, IsTrue, false};
+    ghost use Rattle.std.specs.Prelude.{[], ◌∷◌, ◌++◌, IfOk, IfErr, OnOk, OnErr, Ok, Option, length, ◌⊎◌};
     ghost use Rattle.std.specs.declared.alloc.AllocError.{AllocError};
     ghost use Rattle.cadence_flow.specs.QueueRoom.{OnlyWantsRoom};
-    ghost use Rattle.cadence_flow.specs.Queue.{Accepts, IsRefusal, error_of, is_crowded, new_queue, refusal_beside};
+    ghost use Rattle.cadence_flow.specs.Queue.{Accepts, IsRefusal, error_of, new_queue};
     ghost use Rattle.cadence_ledger.specs.QueueLedger.{accepted_by, core_of, taken_from};
+    ghost use Rattle.cadence_ledger.specs.QueueTaken.{AreTaken};
 
     /// An empty queue that has accepted no text, as `QueueCore::with_policy`.
     pub fn new(alloc: A, capacity: Option<usize>, policy: QueuePolicy) -> MetricResult<Self>
@@ -58,30 +58,6 @@ impl<T: Drop, A: Allocator + Clone> QueueLedger<T, A> {
         answer
     }
 
-    /// As `offer`, of a queue for which texts that were lent still count as waiting: `QueueCore::is_crowded`.
-    pub fn offer_beside<F: FnOnce() -> Result<T, AllocError>>(
-        &mut self,
-        lent: usize,
-        make: F,
-    ) -> Result<(), Refusal>
-        requires { F.IsAlwaysCallable make }
-        ensures accepted { OnOk result ((text : T) × (dropped : Option T)
-            × F.post make (Ok text)
-            × (accepted_by self.new ≡ accepted_by self.old ++ text ∷ [])
-            × Accepts (core_of self.old) text dropped (core_of self.new)) }
-        ensures room { OnOk result (is_crowded lent (core_of self.old) ≡ false) }
-        ensures refused { OnErr result (accepted_by self.new ≡ accepted_by self.old) }
-        ensures same { taken_from self.new ≡ taken_from self.old }
-        ensures refuses { IfErr result (λ e.
-            (error_of e ≡ refusal_beside lent (core_of self.old))
-            × (core_of self.new ≡ core_of self.old)) }
-    {
-        if self.core.is_crowded(lent) {
-            return Err(Refusal::Full);
-        }
-        self.offer(make)
-    }
-
     /// Puts last the text that `make` makes, as `QueueCore::offer`.
     pub fn offer<F: FnOnce() -> Result<T, AllocError>>(&mut self, make: F) -> Result<(), Refusal>
         requires { F.IsAlwaysCallable make }
@@ -102,12 +78,34 @@ impl<T: Drop, A: Allocator + Clone> QueueLedger<T, A> {
         }
         Ok(())
     }
+
+    /// Moves the oldest texts into an empty ring, in order, as `take` takes one: as many as it has room for, or all. It
+    /// takes no memory. In proofs alone they are noted in `taken` too.
+    pub fn take_some(&mut self, texts: &mut TextRing<T, A>, taken: &mut ItemLog<T>)
+        requires { texts.old.items ≡ [] }
+        ensures told { taken.new.items ≡ taken.old.items ++ texts.new.items }
+        ensures noted { taken_from self.new ≡ taken_from self.old ++ texts.new.items }
+        ensures same { accepted_by self.new ≡ accepted_by self.old }
+        ensures taken { AreTaken (core_of self.old) texts.new.items (core_of self.new) }
+        ensures room { texts.new.capacity ≡ texts.old.capacity }
+        ensures most { (length texts.new.items ≡ texts.old.capacity)
+            ⊎ ((core_of self.new).waiting ≡ []) }
+    {
+        for _ in 0..texts.room() {
+            let Taken::Text(text) = self.take() else {
+                return;
+            };
+            *taken = taken.and(&text);
+            let Ok(()) = texts.push_back(text) else {
+                unreachable!()
+            };
+        }
+    }
 }
 
 impl<T: Drop, A: Allocator> QueueLedger<T, A> {
-    ghost use Rattle.std.specs.Prelude.{[], ◌∷◌, ◌++◌, length, false, IsTrue};
-    ghost use Rattle.cadence_flow.specs.Queue.{IsTaken, adding_handle, dropping_handle, emptying, is_full, is_idle, stopping};
-    ghost use Rattle.cadence_flow.specs.QueueRoom.{is_spare};
+    ghost use Rattle.std.specs.Prelude.{◌++◌};
+    ghost use Rattle.cadence_flow.specs.Queue.{IsTaken, adding_handle, dropping_handle, stopping};
     ghost use Rattle.cadence_ledger.specs.QueueLedger.{accepted_by, core_of, taken_from};
     ghost use Rattle.cadence_ledger.specs.QueueTaken.{texts_of};
 
@@ -124,42 +122,29 @@ impl<T: Drop, A: Allocator> QueueLedger<T, A> {
         answer
     }
 
-    /// Gives all texts that wait to an empty batch, as `QueueCore::take_all`.
-    pub fn take_all(&mut self, batch: &mut TextRing<T, A>) -> bool
-        ensures answer { result ≡ is_spare (core_of self.old).capacity batch.old }
-        ensures noted { IsTrue result →
-            taken_from self.new ≡ taken_from self.old ++ batch.new.items }
-        ensures same { accepted_by self.new ≡ accepted_by self.old }
-        ensures all { IsTrue result → batch.new.items ≡ (core_of self.old).waiting }
-        ensures emptied { IsTrue result → core_of self.new ≡ emptying (core_of self.old) }
-        ensures none { result ≡ false → (batch.new ≡ batch.old)
-            × (core_of self.new ≡ core_of self.old) × (taken_from self.new ≡ taken_from self.old) }
-    {
-        if !self.core.take_all(batch) {
-            return false;
-        }
-        let taken = mem::replace(&mut self.taken, ItemLog::new());
-        self.taken = taken.and_all(batch);
-        true
-    }
-
     /// Sets the stop mark, as `QueueCore::stop`.
     pub fn stop(&mut self)
-        ensures { core_of self.new ≡ stopping (core_of self.old) }
+        ensures queue { core_of self.new ≡ stopping (core_of self.old) }
+        ensures same { (accepted_by self.new ≡ accepted_by self.old)
+            × (taken_from self.new ≡ taken_from self.old) }
     {
         self.core.stop();
     }
 
     /// Counts one more handle, as `QueueCore::add_handle`.
     pub fn add_handle(&mut self)
-        ensures { core_of self.new ≡ adding_handle (core_of self.old) }
+        ensures queue { core_of self.new ≡ adding_handle (core_of self.old) }
+        ensures same { (accepted_by self.new ≡ accepted_by self.old)
+            × (taken_from self.new ≡ taken_from self.old) }
     {
         self.core.add_handle();
     }
 
     /// Counts one handle less, as `QueueCore::drop_handle`.
     pub fn drop_handle(&mut self)
-        ensures { core_of self.new ≡ dropping_handle (core_of self.old) }
+        ensures queue { core_of self.new ≡ dropping_handle (core_of self.old) }
+        ensures same { (accepted_by self.new ≡ accepted_by self.old)
+            × (taken_from self.new ≡ taken_from self.old) }
     {
         self.core.drop_handle();
     }

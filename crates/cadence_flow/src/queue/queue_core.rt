@@ -1,9 +1,9 @@
 //! A queue of texts with a stop mark, a capacity and a count of handles, which one thread works with.
 ghost use Rattle.std.specs.Prelude.{◌≡◌, [], length, slice_get, option_copied, IfOk, IfErr, OnOk, OnErr, IsOk, IsTrue, Option, Ok, Err, Some, None, true, false};
 ghost use Rattle.std.specs.declared.alloc.AllocError.{AllocError};
-ghost use Rattle.cadence_flow.specs.QueueRoom.{IsBounded, OnlyWantsRoom, is_spare, serves};
+ghost use Rattle.cadence_flow.specs.QueueRoom.{IsBounded, OnlyWantsRoom};
 ghost use Rattle.cadence_flow.specs.QueueState.{IsWithin, IsCounted, HasDropped};
-ghost use Rattle.cadence_flow.specs.Queue.{Accepts, IsRefusal, error_of, is_open, lacks_room, MakesRoom, IsTaken, accepting, stopping, adding_handle, dropping_handle, emptying, is_crowded, new_queue, is_full, is_idle};
+ghost use Rattle.cadence_flow.specs.Queue.{Accepts, IsRefusal, error_of, is_open, lacks_room, MakesRoom, IsTaken, accepting, stopping, adding_handle, dropping_handle, new_queue, is_full, is_idle};
 ghost use Rattle.cadence_flow.specs.QueueModel.{IsQueueOf, IsAccepted, IsNext};
 ghost use Rattle.cadence_flow.specs.declared.queue.policy.QueuePolicy.TheVariants.{Refuse};
 
@@ -13,7 +13,6 @@ use super::text_ring::TextRing;
 use cadence_errors::{MetricResult, SinkError};
 use std::alloc::{AllocError, Allocator, Global};
 use std::marker::Model;
-use std::mem;
 
 /// What a queue answers to a request for its oldest text.
 #[derive(Clone, Drop, PartialEq, Eq)]
@@ -261,46 +260,6 @@ impl<T: Drop, A: Allocator> QueueCore<T, A> {
             }
             None if self.stopped => Taken::Ended,
             None => Taken::Empty,
-        }
-    }
-
-    // Whether a ring with this room can stand in the place of the queue's own.
-    fn has_use_for(&self, room: usize) -> bool
-        ensures { result ≡ serves self.now.capacity room }
-    {
-        match self.capacity {
-            Some(capacity) => room == capacity,
-            None => true,
-        }
-    }
-
-    /// Takes all texts at once, without memory, where the batch is empty and, for a bounded queue, has room for as many
-    /// texts as its capacity: the batch has the queue's ring then, and the queue goes on in the batch's. Answers
-    /// whether it did; else nothing has changed.
-    pub fn take_all(&mut self, batch: &mut TextRing<T, A>) -> bool
-        ensures answer { result ≡ is_spare self.old.capacity batch.old }
-        ensures all { IsTrue result → batch.new.items ≡ self.old.waiting }
-        ensures emptied { IsTrue result → self.new ≡ emptying self.old }
-        ensures none { result ≡ false → (batch.new ≡ batch.old) × (self.new ≡ self.old) }
-    {
-        if batch.len() > 0 || !self.has_use_for(batch.room()) {
-            return false;
-        }
-        self.drained = self.drained.wrapping_add(self.texts.len() as u64);
-        mem::swap(&mut self.texts, batch);
-        true
-    }
-
-    /// Whether the queue refuses one more text since it is full with those `lent`, which were taken but still count as
-    /// waiting. One that is stopped, or drops its oldest text, isn't.
-    pub fn is_crowded(&self, lent: usize) -> bool
-        ensures { result ≡ is_crowded lent self.now }
-    {
-        match self.capacity {
-            Some(capacity) if self.policy == QueuePolicy::Refuse => {
-                !self.stopped && self.texts.len() >= capacity.saturating_sub(lent)
-            }
-            _ => false,
         }
     }
 

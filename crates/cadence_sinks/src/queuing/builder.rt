@@ -84,13 +84,13 @@ impl<A: Allocator + Clone + Send + Sync + 'static> QueuingMetricSinkBuilder<A> {
         ensures refused { IfErr result IsQueuingRefusal }
     {
         let queue = SharedQueue::with_policy(alloc.clone()?, self.capacity, self.policy)?;
-        let batch = queue.batch(alloc.clone()?)?;
+        let room = queue.room_of_taker(alloc.clone()?)?;
         let end = WorkerEnd::new();
         let shared = Arc::new(alloc.clone()?, Shared { sink, queue, end })?;
         let worker = Worker {
             rt: rt.clone()?,
             shared: shared.clone()?,
-            batch,
+            room,
         };
         start(&rt, worker, self.handler)?;
         Ok(QueuingMetricSink { rt, alloc, shared })

@@ -56,13 +56,22 @@ impl<S: MetricSink, R: Wait + Drop, A: Allocator> QueuingMetricSink<S, R, A> {
     }
 }
 
-// A copy of a line, in the memory of another.
-fn copied_into<A: Allocator>(mut line: String<A>, metric: &str) -> Result<String<A>, AllocError>
+// A copy of a line, in the memory of an older one if that is wide enough.
+fn copy_of<A: Allocator + Clone>(
+    older: Option<String<A>>,
+    alloc: &A,
+    metric: &str,
+) -> Result<String<A>, AllocError>
     ensures { IfOk result (λ copy. string_bytes copy ≡ metric.now) }
 {
-    line.clear();
-    line.push_str(metric)?;
-    Ok(line)
+    match older {
+        Some(mut line) if line.capacity() >= metric.len() => {
+            line.clear();
+            line.push_str(metric)?;
+            Ok(line)
+        }
+        _ => String::from_str(alloc.clone()?, metric),
+    }
 }
 
 /// `emit` puts a copy of the line last in the queue and answers its length, `ChannelDisconnected` where the queue is
@@ -84,11 +93,7 @@ impl<S: MetricSink, R: Wait + Drop, A: Allocator + Clone> MetricSink
     fn emit(&self, metric: &str) -> Result<usize, SinkError> {
         let alloc = &self.alloc;
         let queue = &self.shared.queue;
-        let answer = queue.offer(
-            &self.rt,
-            || String::from_str(alloc.clone()?, metric),
-            |line| copied_into(line, metric),
-        );
+        let answer = queue.offer(&self.rt, |older| copy_of(older, alloc, metric));
         // a refusal is small, and its error as wide as an `io::Error`
         match answer {
             Ok(()) => Ok(metric.len()),

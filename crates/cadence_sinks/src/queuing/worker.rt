@@ -1,15 +1,16 @@
 //! The thread that calls the wrapped sink.
-ghost use Rattle.std.specs.Prelude.{◌≡◌};
+ghost use Rattle.std.specs.Prelude.{◌≡◌, true};
+ghost use Rattle.cadence_ledger.specs.Taker.{given_by, has_ended};
 
 use crate::worklist::{Worklist, work};
 use crate::{Handler, MetricSink};
 use cadence_flow::queue::WorkerEnd;
-use cadence_ledger::{Batch, ItemLog, SharedQueue};
+use cadence_ledger::{ItemLog, SharedQueue, Taker, TakerRoom};
 use cadence_resolve::thread::Job;
 use std::alloc::Allocator;
 use std::sync::{Arc, Wait};
 
-/// The most bytes of a line's memory that lines to come may use.
+/// The most bytes of a line's memory that a line to come may be made in.
 const WIDEST_KEPT: usize = 512;
 
 /// What the handles and the worker share. The queue's lock is never held while the sink works.
@@ -20,83 +21,79 @@ pub struct Shared<S: MetricSink, A: Allocator> {
     pub end: WorkerEnd,
 }
 
-// What a worker took from the queue, what it handed on, and the end where it was told, all in proofs alone.
+// The lines that a worker took and those that it handed on, in proofs alone.
 #[derive(Drop)]
 struct Passed<A: Allocator> {
     taken: ItemLog<String<A>>,
     handed: ItemLog<String<A>>,
-    ends: ItemLog<bool>,
 }
 
-// The worker's list: it takes from the queue, and hands on to the wrapped sink.
-#[derive(Drop)]
+// The worker's list: it takes from the queue, and hands on to the wrapped sink. At the end it has no line left.
 struct QueueWorklist<'a, S: MetricSink, R: Wait + Drop, A: Allocator> {
     rt: &'a R,
-    shared: &'a Shared<S, A>,
+    sink: &'a S,
     handler: &'a Option<Handler<A>>,
-    batch: Batch<String<A>, A>,
-    passed: Passed<A>,
+    taker: Taker<'a, String<A>, A>,
+    handed: ItemLog<String<A>>,
 }
 
 impl<'a, S: MetricSink, R: Wait + Drop, A: Allocator + Clone> Worklist
     for QueueWorklist<'a, S, R, A> {
-    ghost use Rattle.std.specs.Prelude.{true, ltb, length};
-
     type Text = String<A>;
 
-    ghost given = { λ w. w.passed.taken.items };
+    ghost given = { λ w. given_by w.taker };
 
-    ghost handed = { λ w. w.passed.handed.items };
+    ghost handed = { λ w. w.handed.items };
 
-    ghost ended = { λ w. ltb 0 (length w.passed.ends.items) };
+    ghost ended = { λ w. has_ended w.taker };
 
     ghost tells = { λ _. true };
 
     fn next(&mut self) -> Option<String<A>> {
-        let next = self.shared.queue.take_by(self.rt, &mut self.batch);
-        match &next {
-            Some(text) => self.passed.taken = self.passed.taken.and(text),
-            None => self.passed.ends = self.passed.ends.and(&true),
-        }
-        next
+        self.taker.next(self.rt)
     }
 
     fn hand(&mut self, text: String<A>) {
-        if let Err(fault) = self.shared.sink.emit(text.as_str()) {
+        if let Err(fault) = self.sink.emit(text.as_str()) {
             if let Some(handler) = self.handler {
                 handler.tell(fault);
             }
         }
-        self.passed.handed = self.passed.handed.and(&text);
+        self.handed = self.handed.and(&text);
         if text.capacity() <= WIDEST_KEPT {
-            self.shared.queue.give_back(&mut self.batch, text);
+            self.taker.give_back(text);
         }
     }
 }
 
-// Goes through the queue to its end. What was taken was handed on, in order.
+// Goes through the queue to its end. Each line that was taken from it is handed on, in order.
 fn pass_on<S: MetricSink, R: Wait + Drop, A: Allocator + Clone>(
     rt: &R,
     shared: &Shared<S, A>,
     handler: &Option<Handler<A>>,
-    batch: Batch<String<A>, A>,
+    room: TakerRoom<String<A>, A>,
 ) -> Passed<A>
     ensures { result.handed.items ≡ result.taken.items }
 {
-    let passed = Passed {
-        taken: ItemLog::new(),
-        handed: ItemLog::new(),
-        ends: ItemLog::new(),
-    };
     let mut list = QueueWorklist {
         rt,
-        shared,
+        sink: &shared.sink,
         handler,
-        batch,
-        passed,
+        taker: shared.queue.taker(rt, room),
+        handed: ItemLog::new(),
     };
     work(rt, &mut list);
-    list.passed
+    let QueueWorklist {
+        rt: _,
+        sink: _,
+        handler: _,
+        taker,
+        handed,
+    } = list;
+    Passed {
+        taken: taker.finish(),
+        handed,
+    }
 }
 
 /// What the worker needs beside the handler.
@@ -104,14 +101,14 @@ fn pass_on<S: MetricSink, R: Wait + Drop, A: Allocator + Clone>(
 pub struct Worker<S: MetricSink, R: Wait + Drop, A: Allocator> {
     pub rt: R,
     pub shared: Arc<Shared<S, A>, A>,
-    pub batch: Batch<String<A>, A>,
+    pub room: TakerRoom<String<A>, A>,
 }
 
 impl<S: MetricSink, R: Wait + Drop, A: Allocator + Clone> Job<Option<Handler<A>>>
     for Worker<S, R, A> {
     fn run(self, handler: Option<Handler<A>>) {
-        let Worker { rt, shared, batch } = self;
-        let _passed = pass_on(&rt, &shared, &handler, batch);
+        let Worker { rt, shared, room } = self;
+        let _passed = pass_on(&rt, &shared, &handler, room);
         shared.end.mark(&rt);
     }
 }
