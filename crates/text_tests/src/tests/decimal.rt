@@ -1,4 +1,4 @@
-//! Worked rows, equality and hashes.
+//! Equality and hashes, and the texts that are read and refused.
 ghost use Rattle.std.specs.Prelude.{◌≡◌, ◌↔◌, IfOk, IsTrue};
 ghost use Rattle.cadence_value.specs.Number.{IsLowestForm};
 
@@ -32,42 +32,6 @@ fn tenths(mantissa: i128) -> MetricResult<Decimal>
     Ok(decimal)
 }
 
-// Whether the decimal prints this text.
-fn is_printed(alloc: Global, mantissa: i128, places: u8, text: &str) -> bool {
-    let Ok(decimal) = Decimal::new(mantissa, places) else {
-        return false;
-    };
-    match decimal.to_string(alloc) {
-        Ok(printed) => printed.as_str() == text,
-        Err(_) => false,
-    }
-}
-
-#[test]
-fn prints_its_lowest_form(rt: HostRuntime) {
-    for (mantissa, places, text) in [
-        (500, 2, "5"),
-        (50, 2, "0.5"),
-        (-5, 1, "-0.5"),
-        (0, 30, "0"),
-        (1, 21, "0.000000000000000000001"),
-        (i128::MIN, 30, "-170141183.460469231731687303715884105728"),
-        (i128::MAX, 0, "170141183460469231731687303715884105727"),
-    ] {
-        assert!(rt; is_printed(rt.alloc(), mantissa, places, text), "{text}");
-    }
-}
-
-#[test]
-fn refuses_31_places(rt: HostRuntime) -> Result<(), Fail> {
-    let Err(error) = Decimal::new(1, 31) else {
-        return Err(Fail::new("31 places were taken"));
-    };
-    let (kind, text) = (ErrorKind::InvalidInput, "too many decimal places");
-    assert!(rt; tells(rt.alloc(), &error, kind, text));
-    Ok(())
-}
-
 // Whether both leave the same hash.
 fn hash_alike(one: &Decimal, other: &Decimal) -> bool {
     let (mut first, mut second) = (DefaultHasher::new(), DefaultHasher::new());
@@ -80,7 +44,7 @@ fn is_equal_in_lowest_form(rt: HostRuntime) -> Result<(), Fail> {
     let half = tenths(5)?;
     let copy = half;
     let same_half = Decimal::new(500, 3)?;
-    assert_eq!(rt; (same_half.mantissa(), same_half.places()), (5, 1));
+    assert!(rt; same_half.mantissa() == 5 && same_half.places() == 1);
     assert!(rt; is_same(&copy, &same_half) && hash_alike(&half, &same_half));
     assert!(rt; !is_same(&half, &Decimal::new(5, 2)?));
     let shown = format!(in rt.alloc(); "{half:?}")?;
@@ -191,6 +155,14 @@ fn is_told(alloc: Global, why: ParseDecimalError, text: &str) -> bool {
     }
 }
 
+// Whether a number with 31 places is refused, and this is told.
+fn is_past_the_places(alloc: Global, text: &str) -> bool {
+    match Decimal::new(1, 31) {
+        Ok(_) => false,
+        Err(error) => tells(alloc, &error, ErrorKind::InvalidInput, text),
+    }
+}
+
 #[test]
 fn a_refusal_has_its_text(rt: HostRuntime) {
     for (why, text) in [
@@ -200,4 +172,5 @@ fn a_refusal_has_its_text(rt: HostRuntime) {
     ] {
         assert!(rt; is_told(rt.alloc(), why, text), "{text}");
     }
+    assert!(rt; is_past_the_places(rt.alloc(), "too many decimal places"));
 }

@@ -5,11 +5,11 @@ ghost use Rattle.cadence_text.specs.Record.{tag_of};
 use cadence_text::line::{MetricType, Record, Tag, TagList};
 use cadence_value::value::MetricValue;
 use refusing::Refusing;
-use std::alloc::{AllocError, Allocator, Global};
+use std::alloc::Allocator;
 use std::test::Fail;
 
 // Tags of a slice, in their order.
-#[derive(Drop)]
+#[derive(Clone, Copy)]
 struct Listed<'a> {
     tags: &'a [Tag<'a>],
 }
@@ -32,27 +32,7 @@ impl TagList for Listed<'_> {
     }
 }
 
-// A counter without tags or options.
-fn counted(alloc: Global) -> Record<'static> {
-    Record::new(
-        alloc,
-        "p.",
-        "k",
-        MetricType::Counter,
-        MetricValue::Signed(54),
-    )
-}
-
-// Whether the room takes the record's line over both lists, and the line is this text.
-fn is_written<A: Allocator + Clone>(
-    record: &Record<'_>,
-    (first, more): (&[Tag<'_>], &[Tag<'_>]),
-    line: &mut Vec<u8, A>,
-    text: &str,
-) -> bool {
-    let (first, more) = (Listed { tags: first }, Listed { tags: more });
-    record.write_line(&first, &more, line).is_ok() && line.as_slice() == text.as_bytes()
-}
+const NONE: &[Tag<'static>] = &[];
 
 const KEYED: &[Tag<'static>] = &[Tag {
     key: Some("a"),
@@ -64,70 +44,37 @@ const PLAIN: &[Tag<'static>] = &[Tag {
     text: "c",
 }];
 
-// A counter, and a room for its lines from a heap that refuses its second request.
-#[derive(Drop)]
-struct Room {
-    record: Record<'static>,
-    heap: Refusing<Global>,
-    line: Vec<u8, Refusing<Global>>,
-}
+// Lines of a counter over both lists. The first is the longest, and the room that is made for it takes the others.
+const LINES: [(&[Tag<'static>], &[Tag<'static>], &str); 4] = [
+    (KEYED, PLAIN, "p.k:54|c|#a:b,c"),
+    (NONE, NONE, "p.k:54|c"),
+    (NONE, PLAIN, "p.k:54|c|#c"),
+    (PLAIN, KEYED, "p.k:54|c|#c,a:b"),
+];
 
-impl Room {
-    fn new(alloc: Global) -> Result<Room, AllocError> {
-        let heap = Refusing::after(alloc, alloc, 1)?;
-        Ok(Room {
-            record: counted(alloc),
-            heap: heap.clone()?,
-            line: Vec::new(heap),
-        })
-    }
-
-    fn takes(&mut self, first: &[Tag<'_>], more: &[Tag<'_>], text: &str) -> bool {
-        is_written(&self.record, (first, more), &mut self.line, text)
-    }
-
-    fn takes_both(&mut self) -> bool {
-        self.takes(KEYED, PLAIN, "p.k:54|c|#a:b,c")
-    }
-
-    // Whether lines with a time and without a tag are written too.
-    fn takes_shorter(&mut self) -> bool {
-        self.record.set_time(7);
-        self.takes(&[], &[], "p.k:54|c|T7") && self.takes(&[], PLAIN, "p.k:54|c|#c|T7")
-    }
-
-    // Whether the room has no memory for the line with both tags.
-    fn is_too_small(&mut self) -> bool {
-        let (keyed, plain) = (Listed { tags: KEYED }, Listed { tags: PLAIN });
-        self.record
-            .write_line(&keyed, &plain, &mut self.line)
-            .is_err()
-    }
-
-    // Whether the line with a tag more goes into another room alone.
-    fn wants_another(&mut self, alloc: Global) -> Result<bool, AllocError> {
-        self.record.add_tag(Tag {
-            key: None,
-            text: "x",
-        })?;
-        let mut other = Vec::new(alloc);
-        let line = "p.k:54|c|#x,a:b,c";
-        Ok(self.is_too_small() && is_written(&self.record, (KEYED, PLAIN), &mut other, line))
-    }
+// The line of the record over both lists in this room, and nothing where it is refused.
+fn written<'a, A: Allocator + Clone>(
+    record: &Record<'_>,
+    first: &[Tag<'_>],
+    more: &[Tag<'_>],
+    room: &'a mut Vec<u8, A>,
+) -> Option<&'a [u8]> {
+    record
+        .write_line(&Listed { tags: first }, &Listed { tags: more }, room)
+        .ok()?;
+    Some(room.as_slice())
 }
 
 #[test]
 fn a_room_is_made_once(rt: HostRuntime) -> Result<(), Fail> {
-    let mut room = Room::new(rt.alloc())?;
-    assert!(rt; room.takes_both() && room.takes_shorter());
-    assert_eq!(rt; room.heap.left(), 0, "a second request would be refused");
-    Ok(())
-}
-
-#[test]
-fn a_longer_line_wants_a_larger_room(rt: HostRuntime) -> Result<(), Fail> {
-    let mut room = Room::new(rt.alloc())?;
-    assert!(rt; room.takes_both());
-    assert!(rt; room.wants_another(rt.alloc())?);
+    let value = MetricValue::Signed(54);
+    let record = Record::new(rt.alloc(), "p.", "k", MetricType::Counter, value);
+    let heap = Refusing::after(rt.alloc(), rt.alloc(), 1)?;
+    let mut room = Vec::new(heap);
+    for (first, more, line) in LINES {
+        let made = written(&record, first, more, &mut room);
+        assert!(rt; made == Some(line.as_bytes()), "{line}");
+    }
+    assert!(rt; written(&record, KEYED, KEYED, &mut room).is_none());
     Ok(())
 }
