@@ -1,12 +1,67 @@
-//! A run whose packets are read.
+//! A line, and runs whose packets are read.
 use cadence_flow::io::PacketLog;
-use cadence_listen::{ReadFault, run_and_read};
+use cadence_listen::{ReadFault, read_line, read_run, run_and_read};
 use cadence_schedule::{Call, CallValue, ClientSettings, Step};
 use cadence_text::line::{MetricType, OwnedMetric};
-use cadence_value::decimal::Decimal;
 use refusing::{Refusing, each_refused};
 use std::alloc::{Allocator, Global};
 use std::test::Fail;
+
+// Whether these are the lines of the metrics.
+fn have_lines(alloc: Global, metrics: &[OwnedMetric], lines: &[&str]) -> Result<bool, Fail> {
+    if metrics.len() != lines.len() {
+        return Ok(false);
+    }
+    for (metric, line) in metrics.iter().zip(lines) {
+        if metric.to_record()?.format(alloc)?.as_str() != *line {
+            return Ok(false);
+        }
+    }
+    Ok(true)
+}
+
+const FULL: &str = "a:1:2.5|ms|@0.5|#k:v,w|c:id|T7";
+
+// Whether the metric of that line has its parts.
+fn has_its_parts(metric: &OwnedMetric) -> bool {
+    let is_named = metric.name.as_str() == "a" && metric.kind == MetricType::Timer;
+    let is_counted = metric.numbers.len() == 2 && metric.tags.len() == 2;
+    let is_set = metric.container.is_some() && metric.rate.is_some();
+    is_named && is_counted && is_set && metric.time == Some(7)
+}
+
+#[test]
+fn a_line_is_read(rt: HostRuntime) -> Result<(), Fail> {
+    let metric = read_line(&rt.alloc(), FULL.as_bytes())?;
+    assert!(rt; has_its_parts(&metric));
+    assert!(rt; have_lines(rt.alloc(), &[metric], &[FULL])?);
+    Ok(())
+}
+
+// Whether these are the metrics of a run with this packet and this held text; with no lines, those of none.
+fn is_read(
+    alloc: Global,
+    packet: &[u8],
+    held: &[u8],
+    lines: Option<&[&str]>,
+) -> Result<bool, Fail> {
+    let packets = [Vec::from_slice(alloc, packet)?];
+    match (read_run(alloc, &packets, held), lines) {
+        (Ok(metrics), Some(lines)) => have_lines(alloc, &metrics, lines),
+        (Err(ReadFault::NotMetrics), None) => Ok(true),
+        _ => Ok(false),
+    }
+}
+
+const TWO: &[&str] = &["a:1|c", "b:2|c"];
+
+#[test]
+fn a_run_is_read_with_its_held_text(rt: HostRuntime) -> Result<(), Fail> {
+    assert!(rt; is_read(rt.alloc(), b"a:1|c", b"b:2|c\n", Some(TWO))?);
+    assert!(rt; is_read(rt.alloc(), b"a:1|c", b"b", None)?);
+    assert!(rt; read_run(rt.alloc(), &[], b"")?.is_empty());
+    Ok(())
+}
 
 // A count of n under this key, as a step.
 fn count<A: Allocator + Clone>(alloc: &A, key: &str, n: i64) -> Result<Step<A>, Fail> {
@@ -30,56 +85,47 @@ fn two_counters(alloc: Global) -> Result<Vec<Step>, Fail> {
     Ok(steps)
 }
 
-// Whether the metric is this counter.
-fn is_counter(metric: &OwnedMetric, name: &str, number: i128) -> Result<bool, Fail> {
-    let numbers = [Decimal::new(number, 0)?];
-    Ok(
-        metric.name.as_str() == name
-            && metric.kind == MetricType::Counter
-            && metric.numbers.as_slice() == numbers.as_slice(),
-    )
-}
-
 #[test]
 fn a_run_gives_its_two_counters(rt: HostRuntime) -> Result<(), Fail> {
     let settings = ClientSettings::new(rt.alloc(), "p")?;
     let steps = two_counters(rt.alloc())?;
     let log = PacketLog::new(rt.alloc(), Vec::new(rt.alloc()));
     let (report, metrics) = run_and_read(rt.alloc(), &settings, 16, None, &steps, log)?;
-    assert_eq!(rt; (report.held().len(), metrics.len()), (11, 2));
-    for (metric, number) in metrics.iter().zip([54, 67]) {
-        assert!(rt; is_counter(metric, "p.foo", number)?);
-    }
+    assert!(rt; report.held().len() == 11);
+    assert!(rt; have_lines(rt.alloc(), &metrics, &["p.foo:54|c", "p.foo:67|c"])?);
+    Ok(())
+}
+
+// Whether the metric of a run under this key is read, and the run isn't refused for want of memory. It is None where
+// its packet is one of no metrics.
+fn is_run(alloc: Global, heap: Refusing<Global>, key: &str) -> Result<Option<bool>, Fail> {
+    let ample = Refusing::after(alloc, alloc, u64::MAX)?;
+    let settings = ClientSettings::new(ample.clone()?, "p")?;
+    let steps = [count(&ample, key, 1)?, Step::Take, Step::Hand];
+    let log = PacketLog::new(ample.clone()?, Vec::new(ample));
+    Ok(match run_and_read(heap, &settings, 4, None, &steps, log) {
+        Ok((_report, metrics)) => Some(metrics.len() == 1),
+        Err(ReadFault::OutOfMemory) => Some(false),
+        Err(ReadFault::NotMetrics) => None,
+    })
+}
+
+// The same of a key that can be read.
+fn is_read_back(alloc: Global, heap: Refusing<Global>) -> Result<bool, Fail> {
+    let read = is_run(alloc, heap, "a")?;
+    Ok(read.ok_or("no metrics")?)
+}
+
+#[test]
+fn each_request_is_refused(rt: HostRuntime) -> Result<(), Fail> {
+    let granted = each_refused(rt.alloc(), |heap| is_read_back(rt.alloc(), heap))?;
+    assert!(rt; granted.is_some_and(|granted| granted > 4));
     Ok(())
 }
 
 #[test]
 fn a_separator_in_a_key_is_told(rt: HostRuntime) -> Result<(), Fail> {
-    let alloc = rt.alloc();
-    let settings = ClientSettings::new(alloc, "")?;
-    let steps = [count(&alloc, "a,b", 1)?, Step::Take, Step::Hand];
-    let log = PacketLog::new(alloc, Vec::new(alloc));
-    let read = run_and_read(alloc, &settings, 16, None, &steps, log);
-    assert!(rt; matches!(read, Err(ReadFault::NotMetrics)));
-    Ok(())
-}
-
-// Whether the metric of a run is read, and the run isn't refused for want of memory.
-fn is_read(alloc: Global, heap: Refusing<Global>) -> Result<bool, Fail> {
-    let ample = Refusing::after(alloc, alloc, u64::MAX)?;
-    let settings = ClientSettings::new(ample.clone()?, "p")?;
-    let steps = [count(&ample, "a", 1)?, Step::Take, Step::Hand];
-    let log = PacketLog::new(ample.clone()?, Vec::new(ample));
-    match run_and_read(heap, &settings, 4, None, &steps, log) {
-        Ok((_report, metrics)) => Ok(metrics.len() == 1),
-        Err(ReadFault::OutOfMemory) => Ok(false),
-        Err(_) => Err(Fail::new("another fault")),
-    }
-}
-
-#[test]
-fn each_request_is_refused(rt: HostRuntime) -> Result<(), Fail> {
-    let granted = each_refused(rt.alloc(), |heap| is_read(rt.alloc(), heap))?;
-    assert!(rt; granted.is_some_and(|granted| granted > 4));
+    let ample = Refusing::after(rt.alloc(), rt.alloc(), u64::MAX)?;
+    assert!(rt; is_run(rt.alloc(), ample, "a,b")?.is_none());
     Ok(())
 }
