@@ -1,5 +1,4 @@
-//! The tests, a module for each thing.
+//! The engine's tests. What words, options and texts send, and what is told of those that can't be read, is shown by
+//! runs of `statsd_send` itself.
 
 mod faults;
-mod options;
-mod sent;

@@ -30,19 +30,23 @@ const NONE: &[&str] = &[];
 /// A log that takes a byte of each packet, as often as `LINES` has bytes.
 const SHORT: [Answer; 60] = [Answer::Short(1); 60];
 
-/// Words, or none and a text, and answers of the log; the status, and what is sent.
-const FAULTY: [(&[&str], &[u8], &[Answer], u8, &[u8]); 4] = [
-    (NONE, b"c a 1 k:v\nc\nx y 1\n", &[], 2, LINE),
-    (NONE, b"c a 1 k:v", &[Answer::Refuse], 1, b""),
-    (&["c", "a", "k:v"], b"", &[], 2, b""),
-    (WORDS, b"", &[Answer::Refuse], 1, b""),
-];
-
 /// More requests for memory than a run makes. A countdown that refused one has passed 0, and is greater.
 const MOST_REQUESTS: u64 = 1000;
 
 /// More writes of one byte than a run makes.
-const MOST_WRITES: u64 = 200;
+const MOST_WRITES: u64 = 300;
+
+const UNREAD: &[u8] = b"statsd_send: input: cannot read\n";
+
+const REFUSED: &[u8] = b"statsd_send: cannot send: packet refused\n";
+
+const NO_VALUE: &[u8] =
+    b"statsd_send: VALUE is a number of its kind, as in `c visits 1`, `g load 0.75` or `ms wait 12,1.25s`\n";
+
+const NO_METRICS: &[u8] =
+    b"statsd_send: line 2: wants KIND NAME VALUE [TAG ..], as in `c visits 1 page:home`
+statsd_send: line 3: KIND is c, ms, g, m, h, s, d or the name of one, as in `count visits 1`
+statsd_send: 2 of 3 lines: cannot read\n";
 
 // A status that no run has: what was accepted is held at its end, though the writer refused nothing.
 const LOST: u8 = 9;
@@ -108,36 +112,6 @@ fn print<A: Allocator + Clone, O: Write + Drop>(
     Some(status)
 }
 
-// How a run ended, what was sent, and what was told.
-#[derive(Drop)]
-struct Ended {
-    status: u8,
-    sent: Vec<u8>,
-    errors: Vec<u8>,
-}
-
-impl Ended {
-    fn is(&self, status: u8, sent: &[u8], told: &[u8]) -> bool {
-        self.status == status && self.sent.as_slice() == sent && self.errors.as_slice() == told
-    }
-}
-
-// `run` with ample memory, and its errors kept.
-fn end_of_run<I: Read>(
-    alloc: Global,
-    answers: &[Answer],
-    words: &[&str],
-    input: &mut I,
-) -> Result<Ended, Fail> {
-    let mut errors = Vec::new(alloc);
-    let (status, sent) = run(alloc, alloc, answers, words, input, &mut errors)?;
-    Ok(Ended {
-        status,
-        sent,
-        errors,
-    })
-}
-
 // The first of the lines.
 fn first_lines(count: usize) -> &'static [u8] {
     match count {
@@ -148,61 +122,85 @@ fn first_lines(count: usize) -> &'static [u8] {
     }
 }
 
-// Whether a run whose reader fails after so many reads ends well; else it ends as it must.
-fn ends_well_after_reads(alloc: Global, passed: u64) -> Result<bool, Fail> {
+/// A read for each byte of the text, and one that finds the end.
+const READS: u64 = 31;
+
+// Whether a run whose reader fails after so many reads ends as it must.
+fn ends_after_reads(alloc: Global, passed: u64) -> Result<bool, Fail> {
     let mut input = FailingReader::after(ByteReader::new(TEXT), passed);
-    let ended = end_of_run(alloc, &[], NONE, &mut input)?;
+    let mut errors = Vec::new(alloc);
+    let (status, sent) = run(alloc, alloc, &[], NONE, &mut input, &mut errors)?;
     let taken = TEXT.iter().take(passed as usize);
     let lines = first_lines(taken.filter(|byte| **byte == b'\n').count());
-    if ended.is(1, lines, b"statsd_send: input: cannot read\n") {
-        return Ok(false);
-    }
-    if ended.is(0, lines, b"") && lines == LINES {
-        return Ok(true);
-    }
-    Err(Fail::new("another end"))
+    let (failed, told) = if passed < READS {
+        (1, UNREAD)
+    } else {
+        (0, b"".as_slice())
+    };
+    Ok(status == failed && sent.as_slice() == lines && errors.as_slice() == told)
 }
 
 #[test]
 fn each_read_fails(rt: HostRuntime) -> Result<(), Fail> {
-    for passed in 0..100 {
-        if ends_well_after_reads(rt.alloc(), passed)? {
-            assert_eq!(rt; passed, 31, "each byte, and the end");
-            return Ok(());
-        }
-    }
-    Err(Fail::new("always failed"))
-}
-
-/// Answers of the log, words, and the lines that are sent: what is held when a packet is refused is sent at the end.
-const REFUSED: [(&[Answer], &[&str], &[u8]); 4] = [
-    (
-        &[Answer::Whole, Answer::Whole, Answer::Refuse],
-        NONE,
-        TWO_LINES,
-    ),
-    (&[Answer::Whole, Answer::Refuse], NONE, TWO_LINES),
-    (&[Answer::Refuse], NONE, LINE),
-    (&[Answer::Refuse], WORDS, b""),
-];
-
-#[test]
-fn each_packet_is_refused(rt: HostRuntime) -> Result<(), Fail> {
-    let told = b"statsd_send: cannot send: packet refused\n".as_slice();
-    for (answers, words, lines) in REFUSED {
-        let mut input = ByteReader::new(TEXT);
-        let ended = end_of_run(rt.alloc(), answers, words, &mut input)?;
-        assert!(rt; ended.is(1, lines, told));
+    for passed in 0..=READS {
+        assert!(rt; ends_after_reads(rt.alloc(), passed)?, "{passed} reads");
     }
     Ok(())
 }
 
+/// Words, or none and a text, and the answers of the log; the status, what is sent, and what is told.
+type Row = (
+    &'static [&'static str],
+    &'static [u8],
+    &'static [Answer],
+    u8,
+    &'static [u8],
+    &'static [u8],
+);
+
+/// What is held when a packet is refused is sent at the end.
+const ROWS: [Row; 8] = [
+    (NONE, TEXT, &SHORT, 0, LINES, b""),
+    (WORDS, b"", &SHORT, 0, LINE, b""),
+    (
+        NONE,
+        TEXT,
+        &[Answer::Whole, Answer::Whole, Answer::Refuse],
+        1,
+        TWO_LINES,
+        REFUSED,
+    ),
+    (
+        NONE,
+        TEXT,
+        &[Answer::Whole, Answer::Refuse],
+        1,
+        TWO_LINES,
+        REFUSED,
+    ),
+    (NONE, TEXT, &[Answer::Refuse], 1, LINE, REFUSED),
+    (WORDS, b"", &[Answer::Refuse], 1, b"", REFUSED),
+    (&["c", "a", "k:v"], b"", &[], 2, b"", NO_VALUE),
+    (NONE, b"c a 1 k:v\nc\nx y 1\n", &[], 2, LINE, NO_METRICS),
+];
+
+// Whether a row's run ends as it has to over errors that fail at the write after so many; where none fails, what is
+// told is compared too.
+fn ends_after_errors(alloc: Global, row: &Row, passed: u64) -> Result<bool, Fail> {
+    let (words, text, answers, status, lines, told) = *row;
+    let mut input = ByteReader::new(text);
+    let mut errors = FailingWriter::after(ByteWriter::new(alloc), passed);
+    let (ended, sent) = run(alloc, alloc, answers, words, &mut input, &mut errors)?;
+    let is_told = passed < MOST_WRITES || errors.get_ref().taken() == told;
+    Ok(ended == status && sent.as_slice() == lines && is_told)
+}
+
 #[test]
-fn short_counts_send_all(rt: HostRuntime) -> Result<(), Fail> {
-    for (words, lines) in [(NONE, LINES), (WORDS, LINE)] {
-        let mut input = ByteReader::new(TEXT);
-        let ended = end_of_run(rt.alloc(), &SHORT, words, &mut input)?;
-        assert!(rt; ended.is(0, lines, b""));
+fn each_answer_is_told_and_each_write_of_an_error_fails(rt: HostRuntime) -> Result<(), Fail> {
+    for row in &ROWS {
+        for passed in 0..=MOST_WRITES {
+            assert!(rt; ends_after_errors(rt.alloc(), row, passed)?);
+        }
     }
     Ok(())
 }
@@ -283,25 +281,5 @@ fn is_printed_with(alloc: Global, heap: Refusing<Global>) -> Result<bool, Fail> 
 fn each_request_of_a_printed_packet_is_refused(rt: HostRuntime) -> Result<(), Fail> {
     let granted = each_refused(rt.alloc(), |heap| is_printed_with(rt.alloc(), heap))?;
     assert!(rt; granted.is_some());
-    Ok(())
-}
-
-// Whether each faulty run ends as it has to over errors that fail at the write after so many.
-fn end_as_told(alloc: Global, passed: u64) -> Result<bool, Fail> {
-    let mut all = true;
-    for (words, text, answers, status, lines) in FAULTY {
-        let mut input = ByteReader::new(text);
-        let mut errors = FailingWriter::after(ByteWriter::new(alloc), passed);
-        let (ended, sent) = run(alloc, alloc, answers, words, &mut input, &mut errors)?;
-        all = ended == status && sent.as_slice() == lines && all;
-    }
-    Ok(all)
-}
-
-#[test]
-fn errors_that_fail_change_nothing(rt: HostRuntime) -> Result<(), Fail> {
-    for passed in 0..MOST_WRITES {
-        assert!(rt; end_as_told(rt.alloc(), passed)?);
-    }
     Ok(())
 }
