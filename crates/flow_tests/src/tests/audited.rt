@@ -1,8 +1,5 @@
 use super::callers::run_threads;
-use cadence_audit::{
-    AuditCall, AuditError, AuditReply, AuditedQueue, EndFault, Event, History, Seat, SubmitReply,
-    Text,
-};
+use cadence_audit::{AuditError, AuditedQueue, EndFault, Event, History, Seat, SubmitReply};
 use cadence_flow::queue::Taken;
 use refusing::{Refusing, each_refused};
 use std::alloc::{AllocError, Global};
@@ -89,43 +86,14 @@ fn events_stand_in_the_order_of_the_calls(rt: HostRuntime) -> Result<(), Fail> {
     for (event, place) in history.events().iter().zip(wanted) {
         assert!(rt; stands_at(event, place)?);
     }
-    Ok(())
-}
-
-// Whether the event is a submit of this text, with this reply.
-fn is_submit(alloc: Global, event: &Event, own: &str, reply: SubmitReply) -> Result<bool, Fail> {
-    let call = AuditCall::Submit(Text::from(text(alloc, own)?));
-    Ok(event.call == call && event.reply == AuditReply::Submit(reply))
-}
-
-#[test]
-fn an_event_has_its_call_and_reply(rt: HostRuntime) -> Result<(), Fail> {
-    let history = history_of(&rt, rt.alloc())?;
-    let second = history.events().get(1).ok_or("no event")?;
-    assert!(rt; is_submit(rt.alloc(), second, "b", SubmitReply::Full)?);
-    Ok(())
-}
-
-#[test]
-fn no_receipts_agree_with_no_such_history(rt: HostRuntime) -> Result<(), Fail> {
-    assert!(rt; !history_of(&rt, rt.alloc())?.agrees(&[]));
-    Ok(())
-}
-
-#[test]
-fn a_seat_has_its_number_and_receipts(rt: HostRuntime) -> Result<(), Fail> {
-    let used = used_queue(&rt, rt.alloc())?;
-    assert!(rt; used.one.number() == 1 && used.one.receipts().len() == 3);
+    assert!(rt; !history.agrees(&[]));
     Ok(())
 }
 
 #[test]
 fn seat_left_out(rt: HostRuntime) -> Result<(), Fail> {
-    let Used {
-        queue,
-        zero,
-        one: _,
-    } = used_queue(&rt, rt.alloc())?;
+    let Used { queue, zero, one } = used_queue(&rt, rt.alloc())?;
+    assert!(rt; one.number() == 1 && one.receipts().len() == 3);
     let seats = vec![in rt.alloc(); zero]?;
     assert!(rt; matches!(queue.end(seats), Err(EndFault::SeatsMissing)));
     Ok(())
@@ -182,14 +150,6 @@ fn no_seats(rt: HostRuntime) -> Result<(), Fail> {
     let (queue, seats) = AuditedQueue::new(rt.alloc(), Some(0), 0)?;
     let history = queue.end(seats).ok().ok_or("differs")?;
     assert!(rt; history.events().is_empty());
-    Ok(())
-}
-
-#[test]
-fn the_only_seat_left_out(rt: HostRuntime) -> Result<(), Fail> {
-    let (queue, _seats) = AuditedQueue::new(rt.alloc(), None, 1)?;
-    let ended = queue.end(Vec::new(rt.alloc()));
-    assert!(rt; matches!(ended, Err(EndFault::SeatsMissing)));
     Ok(())
 }
 
@@ -331,12 +291,8 @@ fn each_request_of_a_stop_refused(rt: HostRuntime) -> Result<(), Fail> {
 
 #[test]
 fn threads_share_a_queue(rt: HostRuntime) -> Result<(), Fail> {
-    assert!(rt; run_threads(&rt, rt.alloc(), None)?);
-    Ok(())
-}
-
-#[test]
-fn threads_share_a_bounded_queue(rt: HostRuntime) -> Result<(), Fail> {
-    assert!(rt; run_threads(&rt, rt.alloc(), Some(8))?);
+    for capacity in [None, Some(8)] {
+        assert!(rt; run_threads(&rt, rt.alloc(), capacity)?);
+    }
     Ok(())
 }

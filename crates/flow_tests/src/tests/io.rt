@@ -1,7 +1,7 @@
-//! Writers that are replaced, lent and given back, the drop, and each refused request for memory. What a packer makes
-//! of lines, flushes and answers is shown by the rows of the program `rows`.
+//! Writers that are replaced, lent and given back, the drop, each refused request for memory, and calls that a client
+//! doesn't make. What a packer makes of a client's lines, flushes and answers is shown by the rows of the program `rows`.
 use cadence_errors::SinkError;
-use cadence_flow::io::{Answer, LineBuffer, MultiLineWriter, PacketLog, PacketWriter, Refusals};
+use cadence_flow::io::{Answer, LineBuffer, MultiLineWriter, PacketLog, PacketWriter};
 use refusing::{Refusing, each_refused};
 use std::alloc::Global;
 use std::test::Fail;
@@ -81,31 +81,18 @@ fn is_replaced(packer: &mut MultiLineWriter<PacketLog>, alloc: Global) -> bool {
         && stands(packer, &[], "")
 }
 
+// Whether the writer comes back with a packet that went past the packer, and the line that is held.
+fn is_given_back(packer: MultiLineWriter<PacketLog>) -> bool {
+    let (log, text) = packer.into_parts();
+    took(&log, &["third data\n", "direct"]) && text.as_slice() == b"a:1|c\n".as_slice()
+}
+
 #[test]
 fn replaced_writer_comes_back(rt: HostRuntime) -> Result<(), Fail> {
     let mut p = made(rt.alloc(), 32, "\n", &[])?;
     assert!(rt; is_flushed(&mut p, b"first data", 10) && is_replaced(&mut p, rt.alloc()));
     assert!(rt; is_flushed(&mut p, b"third data", 10) && stands(&p, &["third data\n"], ""));
-    Ok(())
-}
-
-// Whether a packet by way of the writer goes past a line that is held.
-fn goes_past(packer: &mut MultiLineWriter<PacketLog>) -> bool {
-    is_count(packer.write(b"a:1|c"), 5)
-        && is_count(packer.get_mut().write_packet(b"direct"), 6)
-        && stands(packer, &["direct"], "a:1|c\n")
-}
-
-// Whether the writer comes back with that packet, and the line that is held.
-fn is_given_back(packer: MultiLineWriter<PacketLog>) -> bool {
-    let (log, text) = packer.into_parts();
-    took(&log, &["direct"]) && text.as_slice() == b"a:1|c\n".as_slice()
-}
-
-#[test]
-fn writer_is_lent_and_given_back(rt: HostRuntime) -> Result<(), Fail> {
-    let mut p = made(rt.alloc(), 32, "\n", &[])?;
-    assert!(rt; goes_past(&mut p));
+    assert!(rt; is_count(p.write(b"a:1|c"), 5) && is_count(p.get_mut().write_packet(b"direct"), 6));
     assert!(rt; is_given_back(p));
     Ok(())
 }
@@ -170,7 +157,7 @@ fn is_made(alloc: Global, heap: Refusing<Global>) -> Result<bool, Fail> {
 #[test]
 fn each_request_of_a_new_packer(rt: HostRuntime) -> Result<(), Fail> {
     let granted = each_refused(rt.alloc(), |heap| is_made(rt.alloc(), heap))?;
-    assert_eq!(rt; granted, Some(2));
+    assert!(rt; granted == Some(2));
     Ok(())
 }
 
@@ -229,54 +216,75 @@ fn buffer(
     }
 }
 
-// Whether a packer of 6 bytes has room for so much, with its ending, and no more.
-fn fits_up_to_6(lines: &mut LineBuffer<PacketLog>) -> bool {
-    lines.fits(b"12345")
-        && !lines.fits(b"123456")
-        && lines.hold(b"12")
-        && lines.fits(b"45")
-        && !lines.fits(b"456")
-}
-
-#[test]
-fn a_line_fits_up_to_the_capacity(rt: HostRuntime) -> Result<(), Fail> {
-    let mut lines = buffer(rt.alloc(), 6, &[])?;
-    assert!(rt; fits_up_to_6(&mut lines));
-    Ok(())
+// What an answer is that leaves its error in a place of its own.
+#[derive(Clone, Copy)]
+enum Noted {
+    Taken,
+    Refused,
+    Nothing,
 }
 
 // A call of a packer.
 #[derive(Clone, Copy)]
 enum Call {
+    Fits(&'static str),
     Hold(&'static str),
     Write(&'static str),
     Flush,
+    WriteNoting(&'static str, Noted),
+    FlushNoting(Noted),
 }
 
-// Whether a call goes well.
-fn goes(lines: &mut LineBuffer<PacketLog>, call: Call) -> bool {
-    match call {
-        Call::Hold(line) => lines.hold(line.as_bytes()),
-        Call::Write(line) => lines.write(line.as_bytes()).is_ok(),
-        Call::Flush => lines.flush().is_ok(),
+// Whether the answer is that, and the error that is left.
+fn is_noted(is_taken: bool, fault: &SinkError, wanted: Noted) -> bool {
+    match wanted {
+        Noted::Taken => is_taken,
+        Noted::Refused => !is_taken && matches!(fault, SinkError::PacketRefused),
+        Noted::Nothing => !is_taken && matches!(fault, SinkError::NothingWritten),
     }
 }
 
-// The packets that a writer takes which answers `SHORT_COUNTS`.
-const PACKETS: &[&str] = &["abc", "\nd", "ef\ngh\nk\n", "1234567\n"];
+// Whether a call goes well, or as it is wanted.
+fn goes(lines: &mut LineBuffer<PacketLog>, call: Call) -> bool {
+    let mut fault = SinkError::OutOfMemory;
+    match call {
+        Call::Fits(line) => lines.fits(line.as_bytes()),
+        Call::Hold(line) => lines.hold(line.as_bytes()),
+        Call::Write(line) => is_count(lines.write(line.as_bytes()), line.len()),
+        Call::Flush => lines.flush().is_ok(),
+        Call::WriteNoting(line, wanted) => {
+            let taken = lines.write_noting(line.as_bytes(), &mut fault);
+            is_noted(taken == Some(line.len()), &fault, wanted)
+        }
+        Call::FlushNoting(wanted) => {
+            let is_taken = lines.flush_noting(&mut fault).is_some();
+            is_noted(is_taken, &fault, wanted)
+        }
+    }
+}
 
-const SHORT_COUNTS: [Answer; 4] = [
-    Answer::Short(3),
-    Answer::Refuse,
-    Answer::Short(2),
-    Answer::Refuse,
-];
-
+// A call, whether it goes well, how many of the run's packets are taken then, and what is held.
 type Row = (Call, bool, usize, &'static str);
 
-// Calls of a packer of 8 bytes, each with whether it goes well, how many of the packets are taken then, and what
-// waits: what a short count leaves, with a line behind it wherever both have room.
-const CALLS: &[Row] = &[
+// A packer's capacity, the answers of its writer, the packets that it takes, and the calls.
+type Run = (
+    usize,
+    &'static [Answer],
+    &'static [&'static str],
+    &'static [Row],
+);
+
+// A line fits up to the capacity, with its ending.
+const FITTING: &[Row] = &[
+    (Call::Fits("12345"), true, 0, ""),
+    (Call::Fits("123456"), false, 0, ""),
+    (Call::Hold("12"), true, 0, "12\n"),
+    (Call::Fits("45"), true, 0, "12\n"),
+    (Call::Fits("456"), false, 0, "12\n"),
+];
+
+// A line stands behind what a short count leaves wherever both have room.
+const JOINING: &[Row] = &[
     (Call::Write("abc"), true, 0, "abc\n"),
     (Call::Write("def"), true, 0, "abc\ndef\n"),
     (Call::Flush, false, 1, "\ndef\n"),
@@ -289,79 +297,74 @@ const CALLS: &[Row] = &[
     (Call::Write("x"), true, 4, "x\n"),
 ];
 
+// What a short count leaves is given back.
+const LEAVING: &[Row] = &[
+    (Call::Write("abc"), true, 0, "abc\n"),
+    (Call::Flush, false, 1, "bc\n"),
+];
+
+// An error is left in its place, where there is one.
+const NOTING: &[Row] = &[
+    (Call::WriteNoting("abc", Noted::Taken), true, 0, "abc\n"),
+    (
+        Call::WriteNoting("123456789", Noted::Refused),
+        true,
+        0,
+        "abc\n",
+    ),
+    (Call::FlushNoting(Noted::Nothing), true, 1, "abc\n"),
+    (Call::WriteNoting("123456789", Noted::Taken), true, 3, ""),
+];
+
+const RUNS: [Run; 4] = [
+    (6, &[], &[], FITTING),
+    (
+        8,
+        &[
+            Answer::Short(3),
+            Answer::Refuse,
+            Answer::Short(2),
+            Answer::Refuse,
+        ],
+        &["abc", "\nd", "ef\ngh\nk\n", "1234567\n"],
+        JOINING,
+    ),
+    (8, &[Answer::Short(1), Answer::Refuse], &["a"], LEAVING),
+    (
+        8,
+        &[Answer::Refuse, Answer::Short(0)],
+        &["", "abc\n", "123456789"],
+        NOTING,
+    ),
+];
+
 // Whether a call goes as its row says, and leaves that behind.
-fn leaves(lines: &mut LineBuffer<PacketLog>, row: &Row) -> bool {
-    let (call, well, packets, held) = *row;
-    let Some(packets) = PACKETS.get(..packets) else {
+fn leaves(lines: &mut LineBuffer<PacketLog>, packets: &[&str], row: &Row) -> bool {
+    let (call, well, count, held) = *row;
+    let is_same = goes(lines, call) == well;
+    let taken = packets
+        .get(..count)
+        .is_some_and(|packets| took(lines.get_ref(), packets));
+    is_same && taken && lines.held() == held.as_bytes()
+}
+
+// Whether the packer gives back its writer, and what the last row left.
+fn gives_back(lines: LineBuffer<PacketLog>, packets: &[&str], rows: &[Row]) -> bool {
+    let (log, rest) = lines.into_parts();
+    let Some((_call, _well, _count, held)) = rows.last() else {
         return false;
     };
-    let is_same = goes(lines, call) == well;
-    is_same && took(lines.get_ref(), packets) && lines.held() == held.as_bytes()
+    took(&log, packets) && rest.as_slice() == held.as_bytes()
 }
 
 #[test]
-fn lines_join_what_a_short_count_leaves(rt: HostRuntime) -> Result<(), Fail> {
-    let mut lines = buffer(rt.alloc(), 8, &SHORT_COUNTS)?;
-    for row in CALLS {
-        assert!(rt; leaves(&mut lines, row));
-    }
-    Ok(())
-}
-
-// Gives up what a packer holds after a first byte was sent. Whether the rest comes back.
-fn gives_the_rest(mut lines: LineBuffer<PacketLog>) -> bool {
-    let well = goes(&mut lines, Call::Write("abc")) && !goes(&mut lines, Call::Flush);
-    let (log, rest) = lines.into_parts();
-    well && took(&log, &["a"]) && rest.as_slice() == b"bc\n".as_slice()
-}
-
-// The same where another writer takes its place. Whether nothing waits then.
-fn gives_the_rest_up(mut lines: LineBuffer<PacketLog>, alloc: Global) -> bool {
-    let well = goes(&mut lines, Call::Write("abc")) && !goes(&mut lines, Call::Flush);
-    match lines.replace_writer(alloc, PacketLog::new(alloc, Vec::new(alloc))) {
-        Ok((_log, rest)) => {
-            well && rest.as_slice() == b"bc\n".as_slice()
-                && lines.fits(b"1234567")
-                && lines.held().is_empty()
+fn a_packer_of_lines_goes_call_by_call(rt: HostRuntime) -> Result<(), Fail> {
+    for (capacity, answers, packets, rows) in RUNS {
+        let mut lines = buffer(rt.alloc(), capacity, answers)?;
+        for row in rows {
+            assert!(rt; leaves(&mut lines, packets, row));
         }
-        Err(_back) => false,
+        assert!(rt; gives_back(lines, packets, rows));
     }
-}
-
-#[test]
-fn what_a_short_count_leaves_is_given_up(rt: HostRuntime) -> Result<(), Fail> {
-    let script = [Answer::Short(1), Answer::Refuse];
-    assert!(rt; gives_the_rest(buffer(rt.alloc(), 8, &script)?));
-    assert!(rt; gives_the_rest_up(buffer(rt.alloc(), 8, &script)?, rt.alloc()));
     Ok(())
-}
-
-// Whether the error of a line, and that of a flush, is left in its place, where there is one.
-fn are_left(lines: &mut LineBuffer<PacketLog>) -> bool {
-    let mut fault = SinkError::OutOfMemory;
-    let is_held = lines.write_noting(b"abc", &mut fault) == Some(3);
-    let is_refused = lines.write_noting(b"123456789", &mut fault).is_none()
-        && matches!(fault, SinkError::PacketRefused);
-    let is_kept = lines.flush_noting(&mut fault).is_none()
-        && matches!(fault, SinkError::NothingWritten);
-    let is_written = lines.write_noting(b"123456789", &mut fault) == Some(9);
-    is_held && is_refused && is_kept && is_written
-}
-
-#[test]
-fn an_error_is_left_in_its_place(rt: HostRuntime) -> Result<(), Fail> {
-    let mut lines = buffer(rt.alloc(), 8, &[Answer::Refuse, Answer::Short(0)])?;
-    assert!(rt; are_left(&mut lines));
-    assert!(rt; took(lines.get_ref(), &["", "abc\n", "123456789"]));
-    Ok(())
-}
-
-#[test]
-fn an_error_is_a_refusal(rt: HostRuntime) {
-    let mut refusals = Refusals::none();
-    refusals.note(&Ok(3), 3);
-    refusals.note(&Err(SinkError::PacketRefused), 5);
-    refusals.note(&Err(SinkError::OutOfMemory), 2);
-    refusals.add(1);
-    assert!(rt; refusals == Refusals { count: 3, bytes: 8 });
 }

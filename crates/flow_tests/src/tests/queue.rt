@@ -3,7 +3,6 @@ use cadence_flow::queue::{QueueCore, QueuePolicy, Taken, WorkerEnd};
 use cadence_ledger::SharedQueue;
 use refusing::Refusing;
 use std::alloc::{AllocError, Allocator, Global};
-use std::process::Abort;
 use std::sync::Wait;
 use std::sync::atomic::{AtomicBool, Ordering};
 use std::test::Fail;
@@ -68,6 +67,10 @@ enum Step {
     Wait(&'static str),
     // How many texts were submitted, drained and dropped.
     Counts(u64, u64, u64),
+    // Nothing waits.
+    Idle,
+    // Another text has room.
+    Room,
 }
 
 // Whether the text comes back for this reason.
@@ -97,6 +100,8 @@ fn goes<A: Allocator + Clone>(queue: &mut QueueCore<char, A>, step: Step) -> boo
             let counts = (queue.submitted(), queue.drained(), queue.dropped());
             counts == (submitted, drained, dropped)
         }
+        Step::Idle => queue.is_idle(),
+        Step::Room => !queue.is_full(),
         Step::Stop => {
             queue.stop();
             true
@@ -112,19 +117,8 @@ fn goes<A: Allocator + Clone>(queue: &mut QueueCore<char, A>, step: Step) -> boo
     }
 }
 
-// Each step goes well, one after the other.
-fn go<A: Allocator + Clone>(
-    rt: &impl Abort,
-    queue: &mut QueueCore<char, A>,
-    steps: &[Step],
-) -> Result<(), Fail> {
-    for (index, step) in steps.iter().enumerate() {
-        assert!(rt; goes(queue, *step), "step {index}");
-    }
-    Ok(())
-}
-
-const STOPPED: [Step; 7] = [
+// A stop comes before a full queue, and may come again.
+const STOPPED: &[Step] = &[
     Step::Submit('A'),
     Step::Stop,
     Step::Refuse('B', Why::Stopped),
@@ -134,13 +128,8 @@ const STOPPED: [Step; 7] = [
     Step::Ended,
 ];
 
-#[test]
-fn stopped_before_full(rt: HostRuntime) -> Result<(), Fail> {
-    let mut queue = QueueCore::new(rt.alloc(), Some(1))?;
-    go(&rt, &mut queue, &STOPPED)
-}
-
-const HANDLES: [Step; 8] = [
+// The last of three handles stops a queue.
+const HANDLES: &[Step] = &[
     Step::AddHandle,
     Step::AddHandle,
     Step::DropHandle,
@@ -151,68 +140,74 @@ const HANDLES: [Step; 8] = [
     Step::Take('A'),
 ];
 
-#[test]
-fn last_handle_stops(rt: HostRuntime) -> Result<(), Fail> {
-    let mut queue = QueueCore::new(rt.alloc(), None)?;
-    go(&rt, &mut queue, &HANDLES)
-}
-
-const COUNTED: [Step; 5] = [
+// Texts are counted, and the oldest stands first.
+const COUNTED: &[Step] = &[
+    Step::Idle,
     Step::Submit('A'),
     Step::SubmitWith('B'),
     Step::Take('A'),
     Step::Counts(2, 1, 0),
     Step::Wait("B"),
+    Step::Room,
 ];
 
-#[test]
-fn counts(rt: HostRuntime) -> Result<(), Fail> {
-    let mut queue = QueueCore::new(rt.alloc(), Some(3))?;
-    assert!(rt; queue.is_idle());
-    go(&rt, &mut queue, &COUNTED)?;
-    assert!(rt; !queue.is_full());
-    Ok(())
-}
-
-const OLDEST: [Step; 4] = [
-    Step::Submit('A'),
-    Step::Submit('B'),
-    Step::Take('A'),
-    Step::Wait("B"),
-];
-
-#[test]
-fn oldest_is_at_0(rt: HostRuntime) -> Result<(), Fail> {
-    let mut queue = QueueCore::new(rt.alloc(), None)?;
-    go(&rt, &mut queue, &OLDEST)
-}
-
-const REFUSED: [Step; 4] = [
+// A text that is refused for want of memory isn't counted.
+const REFUSED: &[Step] = &[
     Step::Refuse('A', Why::NoMemory),
     Step::Submit('B'),
     Step::Counts(1, 0, 0),
     Step::Wait("B"),
 ];
 
-#[test]
-fn refused_memory(rt: HostRuntime) -> Result<(), Fail> {
-    let heap = Refusing::after(rt.alloc(), rt.alloc(), 0)?;
-    let mut queue = QueueCore::new(heap, None)?;
-    go(&rt, &mut queue, &REFUSED)
-}
-
-const RESERVED: [Step; 3] = [
+// A bounded queue has all its room from the start.
+const RESERVED: &[Step] = &[
     Step::Submit('A'),
     Step::Submit('B'),
     Step::Refuse('C', Why::Full),
 ];
 
+// A drop takes no memory, and comes where a text is made alone.
+const DROPPED: &[Step] = &[
+    Step::Submit('A'),
+    Step::Submit('B'),
+    Step::Submit('C'),
+    Step::SubmitNone,
+    Step::Wait("BC"),
+    Step::Counts(3, 0, 1),
+];
+
+// A capacity, a policy, how many requests for memory are granted before one is refused, how many are made, and steps.
+type Run = (Option<usize>, QueuePolicy, u64, u64, &'static [Step]);
+
+const RUNS: [Run; 6] = [
+    (Some(1), QueuePolicy::Refuse, 1, 1, STOPPED),
+    (None, QueuePolicy::Refuse, 1, 1, HANDLES),
+    (Some(3), QueuePolicy::Refuse, 1, 1, COUNTED),
+    (None, QueuePolicy::Refuse, 0, 2, REFUSED),
+    (Some(2), QueuePolicy::Refuse, 1, 1, RESERVED),
+    (Some(2), QueuePolicy::DropOldest, 1, 1, DROPPED),
+];
+
+// Whether each step of a run goes well, one after the other; else the first that doesn't, where the one behind the last
+// stands for other requests.
+fn first_fault(alloc: Global, run: &Run) -> Result<Option<usize>, Fail> {
+    let (capacity, policy, granted, requests, steps) = *run;
+    let heap = Refusing::after(alloc, alloc, granted)?;
+    let mut queue = QueueCore::with_policy(heap.clone()?, capacity, policy)?;
+    for (index, step) in steps.iter().enumerate() {
+        if !goes(&mut queue, *step) {
+            return Ok(Some(index));
+        }
+    }
+    let is_asked = heap.left() == granted.wrapping_sub(requests);
+    Ok(if is_asked { None } else { Some(steps.len()) })
+}
+
 #[test]
-fn bounded_queue_reserves(rt: HostRuntime) -> Result<(), Fail> {
-    let heap = Refusing::after(rt.alloc(), rt.alloc(), 1)?;
-    let mut queue = QueueCore::new(heap.clone()?, Some(2))?;
-    go(&rt, &mut queue, &RESERVED)?;
-    assert!(rt; heap.left() == 0);
+fn a_queue_goes_step_by_step(rt: HostRuntime) -> Result<(), Fail> {
+    for (index, run) in RUNS.iter().enumerate() {
+        assert!(rt; first_fault(rt.alloc(), run)?.is_none(), "run {index}");
+    }
     Ok(())
 }
 
@@ -272,24 +267,6 @@ fn full_queue_drops_its_oldest(rt: HostRuntime) -> Result<(), Fail> {
     queue.stop(&rt);
     assert!(rt; comes_back(queue.submit(&rt, 'D'), 'D') && is_text(queue.try_take(&rt), 'C'));
     assert!(rt; queue.submitted(&rt) == 3 && queue.drained(&rt) == 1 && queue.dropped(&rt) == 2);
-    Ok(())
-}
-
-const DROPPED: [Step; 6] = [
-    Step::Submit('A'),
-    Step::Submit('B'),
-    Step::Submit('C'),
-    Step::SubmitNone,
-    Step::Wait("BC"),
-    Step::Counts(3, 0, 1),
-];
-
-#[test]
-fn a_drop_takes_no_memory(rt: HostRuntime) -> Result<(), Fail> {
-    let heap = Refusing::after(rt.alloc(), rt.alloc(), 1)?;
-    let mut queue = QueueCore::with_policy(heap.clone()?, Some(2), QueuePolicy::DropOldest)?;
-    go(&rt, &mut queue, &DROPPED)?;
-    assert!(rt; heap.left() == 0);
     Ok(())
 }
 

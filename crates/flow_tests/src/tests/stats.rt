@@ -42,22 +42,3 @@ fn shared_counts_want_memory(rt: HostRuntime) -> Result<(), Fail> {
     assert!(rt; SocketStats::new(rt.clone()?, heap).is_err());
     Ok(())
 }
-
-#[test]
-fn counts_and_wraps(rt: HostRuntime) {
-    let mut stats = SinkStats::default();
-    stats.add_taken(9);
-    stats.add_refused(7);
-    stats.add_answer(&Ok(0), 4);
-    let wanted = SinkStats {
-        bytes_sent: 9,
-        packets_sent: 2,
-        bytes_dropped: 7,
-        packets_dropped: 1,
-    };
-    assert!(rt; stats == wanted);
-    stats.bytes_sent = u64::MAX;
-    stats.packets_sent = u64::MAX;
-    stats.add_taken(2);
-    assert!(rt; stats.bytes_sent == 1 && stats.packets_sent == 0);
-}
