@@ -44,37 +44,40 @@ const PLAIN: &[Tag<'static>] = &[Tag {
     text: "c",
 }];
 
-// Lines of a counter over both lists. The first is the longest, and the room that is made for it takes the others.
-const LINES: [(&[Tag<'static>], &[Tag<'static>], &str); 4] = [
+// Two lists, and the line of a counter over both.
+type Row = (
+    &'static [Tag<'static>],
+    &'static [Tag<'static>],
+    &'static str,
+);
+
+// None is longer than the first, and the room that is made for it takes the others.
+const LINES: [Row; 4] = [
     (KEYED, PLAIN, "p.k:54|c|#a:b,c"),
     (NONE, NONE, "p.k:54|c"),
     (NONE, PLAIN, "p.k:54|c|#c"),
     (PLAIN, KEYED, "p.k:54|c|#c,a:b"),
 ];
 
-// The line of the record over both lists in this room, and nothing where it is refused.
-fn written<'a, A: Allocator + Clone>(
-    record: &Record<'_>,
-    first: &[Tag<'_>],
-    more: &[Tag<'_>],
-    room: &'a mut Vec<u8, A>,
-) -> Option<&'a [u8]> {
-    record
-        .write_line(&Listed { tags: first }, &Listed { tags: more }, room)
-        .ok()?;
-    Some(room.as_slice())
+// A longer line wants a larger room.
+const LONGER: Row = (KEYED, KEYED, "p.k:54|c|#a:b,a:b");
+
+// Whether the room takes the record's line over both lists, and it is this text.
+fn takes<A: Allocator + Clone>(record: &Record<'_>, room: &mut Vec<u8, A>, row: &Row) -> bool {
+    let (first, more, line) = *row;
+    let answer = record.write_line(&Listed { tags: first }, &Listed { tags: more }, room);
+    answer.is_ok() && room.as_slice() == line.as_bytes()
 }
 
 #[test]
 fn a_room_is_made_once(rt: HostRuntime) -> Result<(), Fail> {
     let value = MetricValue::Signed(54);
     let record = Record::new(rt.alloc(), "p.", "k", MetricType::Counter, value);
-    let heap = Refusing::after(rt.alloc(), rt.alloc(), 1)?;
-    let mut room = Vec::new(heap);
-    for (first, more, line) in LINES {
-        let made = written(&record, first, more, &mut room);
-        assert!(rt; made == Some(line.as_bytes()), "{line}");
+    let mut room = Vec::new(Refusing::after(rt.alloc(), rt.alloc(), 1)?);
+    for row in &LINES {
+        assert!(rt; takes(&record, &mut room, row));
     }
-    assert!(rt; written(&record, KEYED, KEYED, &mut room).is_none());
+    assert!(rt; !takes(&record, &mut room, &LONGER));
+    assert!(rt; takes(&record, &mut room, &LONGER));
     Ok(())
 }
