@@ -45,7 +45,6 @@ MODES = [
     Work('udp_callers', '512 20', '1 2 4', 'a line of {} callers into a buffered UDP sink', 200000),
     Work('service', '0', '1 2 4', 'a counter of {} callers, through an unbounded queue into a buffered UDP sink', 200000),
     Work('service', '1024', '1 2 4', 'the same through one of 1024 lines', 200000),
-    Work('drop', '1 20', '', 'a line that drops another', 500000),
     Work('read', '512 20', '', 'a byte of a packet of counters of 20 bytes', 20000, 500, 24 * 21),
     Work('read', '1432 20', '', 'the same', 10000, 500, 68 * 21),
     Work('read', '1432 60', '', 'a byte of a packet of counters of 60 bytes', 20000, 500, 23 * 61),
@@ -57,7 +56,7 @@ MODES = [
     Work('read_full_arena', '512 93', '', 'a byte of lines with every field, read into an arena', 20000, 500, 5 * 94),
     Work('read_full_arena', '1432 93', '', 'the same', 10000, 500, 15 * 94),
 ]
-HERE_ALONE = ('drop', 'read', 'read_full', 'read_arena', 'read_full_arena')   # what the Rust crate has nothing like
+HERE_ALONE = ('read', 'read_full', 'read_arena', 'read_full_arena')   # what the Rust crate has nothing like
 PACKED = ('packer', 'udp', 'udp_callers')
 QUEUED = ('queue', 'callers', 'service')
 

@@ -39,8 +39,6 @@ pub enum Emitting {
     Udp,
     /// Lines into a queue.
     Queue,
-    /// Lines into a queue that drops its oldest line when it is full.
-    Drop,
     /// Lines of several callers into a queue.
     Callers,
     /// Lines of several callers into a buffered UDP sink.
@@ -65,7 +63,7 @@ pub enum Mode {
 }
 
 // The modes and their words.
-const MODES: [(Mode, &str); 18] = [
+const MODES: [(Mode, &str); 17] = [
     (Mode::Client(Calling::Count), "count"),
     (Mode::Client(Calling::CountTags), "count_tags"),
     (Mode::Client(Calling::Histogram4), "histogram4"),
@@ -80,7 +78,6 @@ const MODES: [(Mode, &str); 18] = [
     (Mode::Read(Reading::FullInArena), "read_full_arena"),
     (Mode::Emit(Emitting::Udp), "udp"),
     (Mode::Emit(Emitting::Queue), "queue"),
-    (Mode::Emit(Emitting::Drop), "drop"),
     (Mode::Emit(Emitting::Callers), "callers"),
     (Mode::Emit(Emitting::UdpCallers), "udp_callers"),
     (Mode::Service, "service"),
@@ -119,7 +116,7 @@ pub struct Arguments {
 /// How to call the program.
 pub const USAGE: &str = "cadence_speed count|count_tags|histogram4 N
 cadence_speed tags|dtags|values|key N [SIZE]
-cadence_speed packer|udp|queue|drop N [CAP LEN]
+cadence_speed packer|udp|queue N [CAP LEN]
 cadence_speed read|read_full|read_arena|read_full_arena N [CAP LEN]
 cadence_speed callers|udp_callers N [CAP LEN CALLERS]
 cadence_speed service N [CAP CALLERS]";

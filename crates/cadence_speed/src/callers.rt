@@ -193,7 +193,6 @@ pub fn emit<R: Clock + Net + Wait + Threads + Clone + Drop + Send + Sync + 'stat
         Emitting::Udp => sinks::udp(rt, alloc, arguments),
         Emitting::Queue => sinks::queue(rt, alloc, arguments),
         Emitting::Callers => queue(rt, alloc, arguments),
-        Emitting::Drop => sinks::dropping(rt, alloc, arguments),
         Emitting::UdpCallers => udp(rt, alloc, arguments),
     }
 }

@@ -3,7 +3,6 @@
 use crate::arguments::Arguments;
 use crate::done::{BlackBox, Done, Note};
 use crate::packets::text;
-use cadence::queue::{QueuePolicy, SharedQueue};
 use cadence::sinks::Target;
 use cadence::{BufferedUdpMetricSink, MetricResult, MetricSink, NopMetricSink, QueuingMetricSink};
 use std::alloc::Global;
@@ -118,27 +117,5 @@ pub fn queue<R: Clock + Wait + Threads + Clone + Drop + Send + Sync + 'static>(
         time,
         check: if arguments.capacity == 0 { accepted } else { 0 },
         note: Note::Accepted(accepted, drained),
-    })
-}
-
-/// Lines into a queue that drops its oldest line when it is full, and from which nobody takes.
-pub fn dropping<R: Clock + Wait>(
-    rt: &R,
-    alloc: Global,
-    arguments: &Arguments,
-) -> MetricResult<Done> {
-    let line = text(alloc, arguments.length)?;
-    let capacity = Some(arguments.capacity);
-    let queue = SharedQueue::with_policy(alloc, capacity, QueuePolicy::DropOldest)?;
-    let hidden = BlackBox::new();
-    let start = Instant::now(rt)?;
-    for _ in 0..arguments.calls {
-        queue.submit_with(rt, || String::from_str(alloc, hidden.text(&line)))?;
-    }
-    let time = start.elapsed(rt)?;
-    Ok(Done {
-        time,
-        check: queue.submitted(rt),
-        note: Note::Nothing,
     })
 }
