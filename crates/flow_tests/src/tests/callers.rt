@@ -11,14 +11,25 @@ const TEXTS: u32 = 50;
 
 const TAKES: u32 = 300;
 
-// Submits 50 texts, which increase and begin with the caller's name, and counts those that were accepted.
+/// The names of those that submit; the caller with the seat behind theirs takes.
+const NAMES: [&str; 3] = ["a", "b", "c"];
+
+// What a caller leaves: its seat, how many texts of its own were accepted, and those that it took.
+#[derive(Drop)]
+struct Left {
+    seat: Seat,
+    accepted: usize,
+    taken: Vec<String>,
+}
+
+// Submits 50 texts, which increase and begin with the caller's name.
 fn submit_all<R: Wait>(
     rt: &R,
     alloc: Global,
     queue: &AuditedQueue,
     mut seat: Seat,
     name: &str,
-) -> Result<(Seat, usize), &'static str> {
+) -> Result<Left, &'static str> {
     let mut accepted = 0usize;
     for number in 0..TEXTS {
         let text = format!(in alloc; "{name}{number:02}").map_err(|_| "memory")?;
@@ -28,7 +39,11 @@ fn submit_all<R: Wait>(
             Err(_) => return Err("refused"),
         }
     }
-    Ok((seat, accepted))
+    Ok(Left {
+        seat,
+        accepted,
+        taken: Vec::new(alloc),
+    })
 }
 
 // Takes a number of times, or until no text waits, and adds the texts to those taken.
@@ -38,7 +53,7 @@ fn take_all<R: Wait>(
     mut seat: Seat,
     mut taken: Vec<String>,
     to_the_end: bool,
-) -> Result<(Seat, Vec<String>), &'static str> {
+) -> Result<Left, &'static str> {
     for _ in 0..TAKES {
         match queue.take(rt, &mut seat) {
             Ok(Taken::Text(text)) => taken.push(text).map_err(|_| "memory")?,
@@ -47,7 +62,24 @@ fn take_all<R: Wait>(
             Err(_) => return Err("refused"),
         }
     }
-    Ok((seat, taken))
+    Ok(Left {
+        seat,
+        accepted: 0,
+        taken,
+    })
+}
+
+// Makes the calls of the caller with this seat.
+fn call_all<R: Wait>(
+    rt: &R,
+    alloc: Global,
+    queue: &AuditedQueue,
+    seat: Seat,
+) -> Result<Left, &'static str> {
+    match NAMES.get(seat.number()) {
+        Some(name) => submit_all(rt, alloc, queue, seat, name),
+        None => take_all(rt, queue, seat, Vec::new(alloc), false),
+    }
 }
 
 // Whether the caller's texts increase.
@@ -64,132 +96,42 @@ fn increase(taken: &[String], name: &str) -> bool {
     true
 }
 
-// Two callers submit, each in a thread, and the texts of both that were accepted are counted.
-fn submit_from_two<R: Wait + Threads + Sync>(
-    rt: &R,
-    alloc: Global,
-    queue: &AuditedQueue,
-    zero: Seat,
-    one: Seat,
-) -> Result<(Seat, Seat, usize), &'static str> {
-    let (a, b) = thread::join(
-        rt,
-        || submit_all(rt, alloc, queue, zero, "a"),
-        || submit_all(rt, alloc, queue, one, "b"),
-    );
-    let ((zero, first), (one, second)) = (a?, b?);
-    Ok((zero, one, first.saturating_add(second)))
-}
-
-// A third caller submits and one takes, each in a thread.
-fn submit_and_take<R: Wait + Threads + Sync>(
-    rt: &R,
-    alloc: Global,
-    queue: &AuditedQueue,
-    two: Seat,
-    taker: Seat,
-) -> Result<((Seat, usize), (Seat, Vec<String>)), &'static str> {
-    let (c, d) = thread::join(
-        rt,
-        || submit_all(rt, alloc, queue, two, "c"),
-        || take_all(rt, queue, taker, Vec::new(alloc), false),
-    );
-    Ok((c?, d?))
-}
-
-// The four seats of a queue.
-#[derive(Drop)]
-struct Seats {
-    zero: Seat,
-    one: Seat,
-    two: Seat,
-    taker: Seat,
-}
-
-fn seats_of(mut seats: Vec<Seat>) -> Option<Seats> {
-    let taker = seats.pop()?;
-    let two = seats.pop()?;
-    let one = seats.pop()?;
-    let zero = seats.pop()?;
-    Some(Seats {
-        zero,
-        one,
-        two,
-        taker,
-    })
-}
-
-// What the callers leave: their seats, how many texts were accepted, and those that were taken.
-#[derive(Drop)]
-struct Left {
-    seats: Seats,
-    accepted: usize,
-    taken: Vec<String>,
-}
-
-// Three callers submit and one takes, each in a thread.
-fn run_callers<R: Wait + Threads + Sync>(
-    rt: &R,
-    alloc: Global,
-    queue: &AuditedQueue,
-    seats: Seats,
-) -> Result<Left, &'static str> {
-    let Seats {
-        zero,
-        one,
-        two,
-        taker,
-    } = seats;
-    let (ab, cd) = thread::join(
-        rt,
-        || submit_from_two(rt, alloc, queue, zero, one),
-        || submit_and_take(rt, alloc, queue, two, taker),
-    );
-    let (zero, one, accepted) = ab?;
-    let ((two, third), (taker, taken)) = cd?;
-    Ok(Left {
-        seats: Seats {
-            zero,
-            one,
-            two,
-            taker,
-        },
-        accepted: accepted.saturating_add(third),
-        taken,
-    })
-}
-
 // Whether the texts are as many as were accepted, and those of each caller increase.
 fn are_all(taken: &[String], accepted: usize) -> bool {
-    taken.len() == accepted && increase(taken, "a") && increase(taken, "b") && increase(taken, "c")
+    taken.len() == accepted && NAMES.iter().all(|name| increase(taken, name))
 }
 
-// Whether the history agrees with the receipts of all four seats.
-fn agrees(alloc: Global, queue: AuditedQueue, seats: Seats) -> Result<bool, Fail> {
-    let Seats {
-        zero,
-        one,
-        two,
-        taker,
-    } = seats;
-    let seats = vec![in alloc; zero, one, two, taker]?;
-    Ok(queue.end(seats).is_ok())
+// The seats of all callers, how many texts were accepted, and what the last one took.
+fn joined(
+    alloc: Global,
+    all: Vec<Result<Left, &'static str>>,
+) -> Result<(Vec<Seat>, usize, Vec<String>), Fail> {
+    let (mut seats, mut accepted, mut last) = (Vec::new(alloc), 0usize, Vec::new(alloc));
+    for left in all {
+        let Left {
+            seat,
+            accepted: own,
+            taken,
+        } = left?;
+        seats.push(seat)?;
+        accepted = accepted.saturating_add(own);
+        last = taken;
+    }
+    Ok((seats, accepted, last))
 }
 
-/// Runs the callers, and takes what they left. Whether each text came, and the history agrees.
+/// Three callers submit and one takes, each in a thread, and then the taker takes what they left. Whether each text
+/// came, and the history agrees with the receipts of all four seats.
 pub fn run_threads<R: Wait + Threads + Sync>(
     rt: &R,
     alloc: Global,
     capacity: Option<usize>,
 ) -> Result<bool, Fail> {
-    let (queue, seats) = AuditedQueue::new(alloc, capacity, 4)?;
-    let seats = seats_of(seats).ok_or("no seat")?;
-    let Left {
-        mut seats,
-        accepted,
-        taken,
-    } = run_callers(rt, alloc, &queue, seats)?;
-    let (taker, taken) = take_all(rt, &queue, seats.taker, taken, true)?;
-    seats.taker = taker;
-    Ok(are_all(&taken, accepted) && agrees(alloc, queue, seats)?)
+    let (queue, seats) = AuditedQueue::new(alloc, capacity, NAMES.len() + 1)?;
+    let all = thread::map_vec(rt, seats, &|seat| call_all(rt, alloc, &queue, seat))?;
+    let (mut seats, accepted, taken) = joined(alloc, all)?;
+    let taker = seats.pop().ok_or("no seat")?;
+    let Left { seat, taken, .. } = take_all(rt, &queue, taker, taken, true)?;
+    seats.push(seat)?;
+    Ok(are_all(&taken, accepted) && queue.end(seats).is_ok())
 }

@@ -5,11 +5,9 @@ use std::mem::size_of;
 
 #[test]
 fn a_ledger_takes_no_byte(rt: HostRuntime) {
-    let of_logs = [size_of::<ItemLog<u64>>(), size_of::<Telling<PacketLog>>()];
-    assert_eq!(rt; of_logs, [0, size_of::<PacketLog>()]);
-    let of_lines = [
-        size_of::<LineLedger<PacketLog>>(),
-        size_of::<WholeLedger<PacketLog>>(),
-    ];
-    assert_eq!(rt; of_lines, [size_of::<LineBuffer<PacketLog>>(); 2]);
+    assert!(rt; size_of::<ItemLog<u64>>() == 0);
+    assert!(rt; size_of::<Telling<PacketLog>>() == size_of::<PacketLog>());
+    let of_lines = size_of::<LineBuffer<PacketLog>>();
+    assert!(rt; size_of::<LineLedger<PacketLog>>() == of_lines);
+    assert!(rt; size_of::<WholeLedger<PacketLog>>() == of_lines);
 }
