@@ -1,6 +1,6 @@
 //! Whether a sink does with a list what the proved run does.
 use crate::lists::{Given, List};
-use crate::recording::{Log, Recording, packets_of};
+use crate::recording::{Log, PATH, Recording, packets_of};
 use crate::runs::Run;
 use crate::same;
 use crate::sockets::on_loopback;
@@ -22,14 +22,23 @@ fn unix_sink<R: Wait + Clone + Drop>(
 ) -> MetricResult<(Log, BufferedUnixMetricSink<Recording<R>, R>)> {
     let (log, socket) = Recording::new(rt.clone()?, alloc, list.log(alloc)?)?;
     let capacity = list.capacity;
-    let sink = BufferedUnixMetricSink::with_capacity(rt.clone()?, alloc, "", socket, capacity)?;
+    let sink = BufferedUnixMetricSink::with_capacity(rt.clone()?, alloc, PATH, socket, capacity)?;
     Ok((log, sink))
 }
 
-/// A buffered Unix sink over a socket that refuses: answers, counts, packets, and those of its drop.
+/// A buffered Unix sink over a socket that refuses.
 pub fn unix<R: Wait + Clone + Drop>(rt: &R, alloc: Global, list: &List) -> MetricResult<bool> {
+    logged(rt, alloc, unix_sink(rt, alloc, list)?, list)
+}
+
+/// A sink over a socket that answers as the list says: answers, counts, packets, and those of its drop.
+pub fn logged<R: Wait, S: MetricSink>(
+    rt: &R,
+    alloc: Global,
+    (log, sink): (Log, S),
+    list: &List,
+) -> MetricResult<bool> {
     let run = Run::of(alloc, list)?;
-    let (log, sink) = unix_sink(rt, alloc, list)?;
     let answers = same::answers(alloc, &sink, list, &run)?;
     let counts = same::counts(&sink, &run);
     let packets = packets_of(alloc, rt, &log)? == run.packets;

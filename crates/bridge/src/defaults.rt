@@ -1,9 +1,13 @@
 //! Sinks that are made without a capacity or a period.
 use crate::checks;
 use crate::lists::List;
+use crate::recording::{PATH, Recording};
 use crate::sockets::on_loopback;
 use cadence::sinks::{ResolverRuntime, Target};
-use cadence::{BufferedSpyMetricSink, BufferedUdpMetricSink, MetricResult, UdpMetricSink};
+use cadence::{
+    BufferedSpyMetricSink, BufferedUdpMetricSink, BufferedUnixMetricSink, MetricResult,
+    UdpMetricSink,
+};
 use std::alloc::Global;
 use std::net::UdpSocket;
 
@@ -16,7 +20,14 @@ fn spies<R: ResolverRuntime>(rt: &R, alloc: Global, held: &List) -> MetricResult
     Ok(format!(in alloc; "buffered spy {free}\nbuffered spy with a bound {bound}\n")?)
 }
 
-// Whether a buffered UDP sink does as the run.
+// Whether a buffered Unix sink does as the run.
+fn unix<R: ResolverRuntime>(rt: &R, alloc: Global, held: &List) -> MetricResult<bool> {
+    let (log, socket) = Recording::new(rt.clone()?, alloc, held.log(alloc)?)?;
+    let sink = BufferedUnixMetricSink::from(rt.clone()?, alloc, PATH, socket)?;
+    checks::logged(rt, alloc, (log, sink), held)
+}
+
+// The same of a buffered UDP sink.
 fn buffered<R: ResolverRuntime>(
     rt: &R,
     alloc: Global,
@@ -59,6 +70,7 @@ fn built<R: ResolverRuntime>(
 pub fn told<R: ResolverRuntime>(rt: &R, alloc: Global, server: &UdpSocket) -> MetricResult<String> {
     let held = List::about_512(alloc, 512)?;
     let mut text = spies(rt, alloc, &held)?;
+    writeln!(&mut text, "buffered Unix sink {}", unix(rt, alloc, &held)?)?;
     let is_same = buffered(rt, alloc, server, &held)?;
     writeln!(&mut text, "buffered UDP sink {is_same}")?;
     let is_same = built_buffered(rt, alloc, server, &held)?;

@@ -79,11 +79,15 @@ impl List {
         }
     }
 
-    /// Lines that fill 512 bytes, pass them, or share them, over a socket that takes everything whole.
+    /// Lines that fill 512 bytes, pass them, or share them, with a flush after the first, over a socket that takes
+    /// everything whole.
     pub fn about_512(alloc: Global, capacity: usize) -> Result<List, AllocError> {
         let mut list = List::none(alloc, capacity);
         for (count, length) in (0..10u64).zip(ABOUT_512) {
             list.given.push(Given::Line(key_of(alloc, length)?, count))?;
+            if count == 0 {
+                list.given.push(Given::Flush)?;
+            }
         }
         Ok(list)
     }

@@ -1,6 +1,6 @@
 //! Gives the same lists of lines and flushes to the proved run and to each shipped sink that packs lines, and prints
 //! how many lists gave the same packets, answers and counts. Then the same of sinks that are made without a capacity or
-//! a period, and of boxed sinks that two threads share.
+//! a period, of the worked rows after each of their steps, and of sinks that two threads share, boxed and by themselves.
 #![tactic(auto)]
 
 mod checks;
@@ -12,6 +12,7 @@ mod runs;
 mod same;
 mod sharing;
 mod sockets;
+mod worked;
 
 use cadence::sinks::ResolverRuntime;
 use cadence::{MetricResult, MetricSink};
@@ -19,48 +20,33 @@ use counts::LISTS;
 use sharing::CAPACITY;
 use sockets::on_loopback;
 use std::alloc::Global;
-use std::io;
-use std::net::UdpSocket;
 use std::time::Duration;
 
 // What each sink does, by itself.
-fn alone_told<R: ResolverRuntime>(
-    rt: &R,
-    alloc: Global,
-    server: &UdpSocket,
-) -> MetricResult<String> {
+fn alone_told<R: ResolverRuntime>(rt: &R, alloc: Global) -> MetricResult<String> {
+    let server = on_loopback(rt)?;
     server.set_read_timeout(Some(Duration::from_secs(5)))?;
-    let lists = counts::told(rt, alloc, server)?;
-    let defaults = defaults::told(rt, alloc, server)?;
-    let heading = "without a capacity or a period as in the run of 512 bytes, or of none:";
-    Ok(format!(in alloc; "of {LISTS} lists as in the proved run:\n{lists}{heading}\n{defaults}")?)
-}
-
-// Prints what the boxed sinks did: the buffered one, and the other.
-fn print_shared(rt: &HostRuntime, buffered: (bool, bool), other: (bool, bool)) -> io::Result<()> {
-    println!(rt; "shared by two threads as in the run of the lines as they came:")?;
-    println!(rt; "boxed buffered Unix sink {}", buffered.0)?;
-    println!(rt; "queue over a boxed buffered Unix sink {}", buffered.1)?;
-    println!(rt; "boxed Unix sink {}", other.0)?;
-    println!(rt; "queue over a boxed Unix sink {}", other.1)
+    let mut text = format!(in alloc; "of {LISTS} lists as in the proved run:\n")?;
+    text.push_str(&counts::told(rt, alloc, &server)?)?;
+    text.push_str("without a capacity or a period as in the run of 512 bytes, or of none:\n")?;
+    text.push_str(&defaults::told(rt, alloc, &server)?)?;
+    text.push_str("worked rows of 16 bytes, as in the proved run:\n")?;
+    text.push_str(&worked::told(rt, alloc, &server)?)?;
+    Ok(text)
 }
 
 fn main(rt: HostRuntime) -> MetricResult<()> {
     let alloc = rt.alloc();
-    let server = on_loopback(&rt)?;
-    print!(rt; "{}", alone_told(&rt, alloc, &server)?)?;
+    print!(rt; "{}", alone_told(&rt, alloc)?)?;
+    println!(rt; "shared by two threads as in the run of the lines as they came:")?;
+    print!(rt; "{}", sharing::told(&rt, alloc)?)?;
     let (log, sink) = sharing::buffered(&rt, alloc)?;
     let sink: Box<dyn MetricSink + Send + Sync> = Box::new(alloc, sink)?;
-    let shared = sharing::shared(&rt, alloc, CAPACITY, sink, log)?;
-    let (log, sink) = sharing::buffered(&rt, alloc)?;
-    let sink: Box<dyn MetricSink + Send + Sync> = Box::new(alloc, sink)?;
-    let buffered = (shared, sharing::queued(&rt, alloc, CAPACITY, sink, log)?);
+    let is_same = sharing::queued(&rt, alloc, CAPACITY, sink, log)?;
+    println!(rt; "queue over a boxed buffered Unix sink {is_same}")?;
     let (log, sink) = sharing::unbuffered(&rt, alloc)?;
     let sink: Box<dyn MetricSink + Send + Sync> = Box::new(alloc, sink)?;
-    let shared = sharing::shared(&rt, alloc, 0, sink, log)?;
-    let (log, sink) = sharing::unbuffered(&rt, alloc)?;
-    let sink: Box<dyn MetricSink + Send + Sync> = Box::new(alloc, sink)?;
-    let other = (shared, sharing::queued(&rt, alloc, 0, sink, log)?);
-    print_shared(&rt, buffered, other)?;
+    let is_same = sharing::shared(&rt, alloc, 0, sink, log)?;
+    println!(rt; "boxed Unix sink {is_same}")?;
     Ok(())
 }

@@ -5,10 +5,13 @@ use cadence::types::SinkError;
 use std::alloc::{AllocError, Global};
 use std::sync::{Arc, Mutex, Wait};
 
+/// The path that each sink is to send to.
+pub const PATH: &str = "/run/statsd.sock";
+
 /// What a socket got, and how it answers.
 pub type Log = Arc<Mutex<PacketLog>>;
 
-/// Answers as the packet log that it shares.
+/// Answers as the packet log that it shares. What goes to another path is refused, and not logged.
 #[derive(Drop)]
 pub struct Recording<R: Wait + Drop> {
     rt: R,
@@ -28,7 +31,10 @@ impl<R: Wait + Drop> Recording<R> {
 }
 
 impl<R: Wait + Drop> PathSocket for Recording<R> {
-    fn send_to(&self, packet: &[u8], _path: &str) -> Result<usize, SinkError> {
+    fn send_to(&self, packet: &[u8], path: &str) -> Result<usize, SinkError> {
+        if path != PATH {
+            return Err(SinkError::NothingWritten);
+        }
         self.log.lock(&self.rt).write_packet(packet)
     }
 }

@@ -1,6 +1,6 @@
 //! Sinks that two threads share, by themselves and behind a queue.
 use crate::lists::{Given, List};
-use crate::recording::{Log, Recording, packets_of};
+use crate::recording::{Log, PATH, Recording, packets_of};
 use crate::runs::Run;
 use cadence::io::PacketLog;
 use cadence::{
@@ -47,8 +47,8 @@ fn emit_both<R: Threads, S: MetricSink + Sync>(
     Ok(one? && other?)
 }
 
-// The packets, each with a newline after it.
-fn joined(alloc: Global, packets: &[Vec<u8>]) -> Result<String, AllocError> {
+/// The packets, each with a newline after it.
+pub fn joined(alloc: Global, packets: &[Vec<u8>]) -> Result<String, AllocError> {
     let mut bytes = Vec::new(alloc);
     for packet in packets {
         bytes.extend_from_slice(packet)?;
@@ -98,7 +98,7 @@ pub fn buffered<R: Wait + Clone + Drop>(
     alloc: Global,
 ) -> MetricResult<(Log, BufferedUnixMetricSink<Recording<R>, R>)> {
     let (log, socket) = taking_all(rt, alloc)?;
-    let sink = BufferedUnixMetricSink::with_capacity(rt.clone()?, alloc, "", socket, CAPACITY)?;
+    let sink = BufferedUnixMetricSink::with_capacity(rt.clone()?, alloc, PATH, socket, CAPACITY)?;
     Ok((log, sink))
 }
 
@@ -108,7 +108,7 @@ pub fn unbuffered<R: Wait + Clone + Drop>(
     alloc: Global,
 ) -> MetricResult<(Log, UnixMetricSink<Recording<R>, R>)> {
     let (log, socket) = taking_all(rt, alloc)?;
-    let sink = UnixMetricSink::from(rt.clone()?, alloc, "", socket)?;
+    let sink = UnixMetricSink::from(rt.clone()?, alloc, PATH, socket)?;
     Ok((log, sink))
 }
 
@@ -136,4 +136,16 @@ pub fn queued<
     let flushed = queue.flush().is_ok();
     let packets = packets_of(alloc, rt, &log)?;
     Ok(taken && flushed && are_of_the_run(alloc, capacity, &packets, queue.stats())?)
+}
+
+/// Whether two threads that share a buffered sink, or a queue over one that holds nothing, make the packets of the run.
+pub fn told<R: Wait + Threads + Clone + Drop + Send + Sync + 'static>(
+    rt: &R,
+    alloc: Global,
+) -> MetricResult<String> {
+    let (log, sink) = buffered(rt, alloc)?;
+    let by_itself = shared(rt, alloc, CAPACITY, sink, log)?;
+    let (log, sink) = unbuffered(rt, alloc)?;
+    let behind = queued(rt, alloc, 0, sink, log)?;
+    Ok(format!(in alloc; "buffered Unix sink {by_itself}\nqueue over a Unix sink {behind}\n")?)
 }

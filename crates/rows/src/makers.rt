@@ -3,7 +3,7 @@ use crate::takes::{Heap, took};
 use crate::udp_makers::UdpMaker;
 use cadence::prelude::*;
 use cadence::queue::{QueueCore, QueuePolicy};
-use cadence::sinks::{PathSocket, ResolverRuntime};
+use cadence::sinks::{PathSocket, ResolverRuntime, SpyReceiver};
 use cadence::types::SinkError;
 use cadence::{
     BufferedSpyMetricSink, BufferedUnixMetricSink, Metric, MetricError, MetricResult, MetricSink,
@@ -13,6 +13,7 @@ use cadence::{
 use refusing::each_refused;
 use std::alloc::Global;
 use std::net::SocketAddr;
+use std::sync::Wait;
 
 /// How a spy is made.
 #[derive(Clone, Copy)]
@@ -21,6 +22,7 @@ enum SpyMaker {
     Bounded,
     Buffered,
     BoundedBuffered,
+    Dropped,
 }
 
 /// How a sink over a Unix socket is made.
@@ -52,7 +54,7 @@ enum Maker {
 }
 
 /// The constructors, with what they are called.
-const MAKERS: [(&str, Maker); 23] = [
+const MAKERS: [(&str, Maker); 24] = [
     ("SpyMetricSink::new", Maker::Spy(SpyMaker::New)),
     (
         "SpyMetricSink::with_capacity",
@@ -62,6 +64,10 @@ const MAKERS: [(&str, Maker); 23] = [
     (
         "BufferedSpyMetricSink::with_capacity",
         Maker::Spy(SpyMaker::BoundedBuffered),
+    ),
+    (
+        "BufferedSpyMetricSink dropped with a line",
+        Maker::Spy(SpyMaker::Dropped),
     ),
     ("UnixMetricSink::from", Maker::Unix(UnixMaker::From)),
     (
@@ -121,20 +127,47 @@ impl PathSocket for Taking {
     }
 }
 
-// The same of a spy, whose receiver is there.
-fn spied<T: Drop, S: MetricSink>((_receiver, sink): (T, S)) -> MetricResult<bool> {
-    took(&sink)
+// Whether a spy had all memory, where what it lacked memory for left no message, and the line that it took is one.
+fn spied<R: Wait + Drop, S: MetricSink>(
+    (receiver, sink): (SpyReceiver<R, Heap>, S),
+    is_buffered: bool,
+) -> MetricResult<bool> {
+    let has_all = took(&sink)?;
+    let came = !receiver.is_empty();
+    sink.flush()?;
+    let is_one = receiver.try_recv().is_some() && receiver.is_empty();
+    if is_one && came == (has_all || !is_buffered) {
+        return Ok(has_all);
+    }
+    Err(MetricError::from(SinkError::PacketRefused))
+}
+
+// Whether a buffered spy that is dropped with a line had all memory. Else there is no message.
+fn dropped<R: Wait + Drop>(
+    (receiver, sink): (SpyReceiver<R, Heap>, BufferedSpyMetricSink<R, Heap>),
+) -> MetricResult<bool> {
+    sink.emit("a:1|c")?;
+    drop(sink);
+    match receiver.recv() {
+        Some(message) if message.as_slice() == b"a:1|c\n".as_slice() => Ok(true),
+        Some(_) => Err(MetricError::from(SinkError::PacketRefused)),
+        None => Ok(false),
+    }
 }
 
 impl SpyMaker {
     fn has_memory<R: ResolverRuntime>(self, rt: R, heap: Heap) -> MetricResult<bool> {
         match self {
-            SpyMaker::New => spied(SpyMetricSink::new(rt, heap)?),
-            SpyMaker::Bounded => spied(SpyMetricSink::with_capacity(rt, heap, 1)?),
-            SpyMaker::Buffered => spied(BufferedSpyMetricSink::new(rt, heap)?),
+            SpyMaker::New => spied(SpyMetricSink::new(rt, heap)?, false),
+            SpyMaker::Bounded => spied(SpyMetricSink::with_capacity(rt, heap, 1)?, false),
+            SpyMaker::Buffered => spied(BufferedSpyMetricSink::new(rt, heap)?, true),
             SpyMaker::BoundedBuffered => {
-                spied(BufferedSpyMetricSink::with_capacity(rt, heap, Some(1), Some(16))?)
+                spied(
+                    BufferedSpyMetricSink::with_capacity(rt, heap, Some(1), Some(16))?,
+                    true,
+                )
             }
+            SpyMaker::Dropped => dropped(BufferedSpyMetricSink::new(rt, heap)?),
         }
     }
 }
@@ -151,6 +184,17 @@ impl UnixMaker {
     }
 }
 
+// The same of a queue, which has accepted one line alone then.
+fn queued<R: ResolverRuntime>(
+    sink: QueuingMetricSink<NopMetricSink, R, Heap>,
+) -> MetricResult<bool> {
+    let has_all = took(&sink)?;
+    if sink.submitted() != 1 {
+        return Err(MetricError::from(SinkError::PacketRefused));
+    }
+    Ok(has_all)
+}
+
 impl QueueMaker {
     fn has_memory<R: ResolverRuntime>(self, rt: R, heap: Heap) -> MetricResult<bool> {
         match self {
@@ -159,19 +203,19 @@ impl QueueMaker {
                 let mut core = QueueCore::with_policy(heap, Some(1), QueuePolicy::DropOldest)?;
                 Ok(core.submit(1u64).is_ok())
             }
-            QueueMaker::From => took(&QueuingMetricSink::from(rt, heap, NopMetricSink)?),
+            QueueMaker::From => queued(QueuingMetricSink::from(rt, heap, NopMetricSink)?),
             QueueMaker::Bounded => {
-                took(&QueuingMetricSink::with_capacity(rt, heap, NopMetricSink, 1)?)
+                queued(QueuingMetricSink::with_capacity(rt, heap, NopMetricSink, 1)?)
             }
             QueueMaker::Built => {
                 let builder = QueuingMetricSinkBuilder::new().with_policy(QueuePolicy::DropOldest);
-                took(&builder.with_capacity(1).build(rt, heap, NopMetricSink)?)
+                queued(builder.with_capacity(1).build(rt, heap, NopMetricSink)?)
             }
         }
     }
 }
 
-// The same of a client that counts.
+// Whether a client that counts had all memory.
 fn client_has_memory(heap: Heap) -> MetricResult<bool> {
     let line = StatsdClient::from_sink(heap, "p", NopMetricSink)?.count("k", 1u64)?;
     Ok(line.as_metric_str() == "p.k:1|c")

@@ -1,19 +1,17 @@
 use super::gate::{GatedQueue, before_a_gate, behind_a_gate};
-use super::steps::{
-    Refusal, Runtime, are_both, comes, comes_last, emit_from_two, flushes, gives,
-    has_memory_for_a_line, refuses, spy, takes,
-};
-use cadence_errors::{MetricError, SinkError};
+use super::steps::{Refusal, Runtime, comes, comes_last, flushes, gives, refuses, spy, takes};
+use cadence_errors::SinkError;
 use cadence_flow::queue::QueuePolicy;
 use cadence_sinks::{
     BufferedSpyMetricSink, MetricSink, NopMetricSink, QueuingMetricSink, QueuingMetricSinkBuilder,
     SpyMetricSink, SpyReceiver,
 };
-use refusing::{Refusing, each_refused};
+use refusing::Refusing;
 use std::alloc::{Allocator, Global};
 use std::sync::atomic::{AtomicU64, Ordering};
 use std::sync::{Arc, OnceLock, Wait};
 use std::test::Fail;
+use std::thread::{self, Threads};
 
 type SpiedSink<R> = QueuingMetricSink<SpyMetricSink<R>, R>;
 
@@ -23,18 +21,6 @@ fn before_a_spy<R: Runtime>(rt: &R, alloc: Global) -> Result<(SpyReceiver<R>, Sp
     let (receiver, spy) = spy(rt, alloc)?;
     let sink = QueuingMetricSink::from(mine, alloc, spy)?;
     Ok((receiver, sink))
-}
-
-// The queue has accepted, dropped and handed on that many lines.
-fn has_counted<S: MetricSink, R: Wait + Drop, A: Allocator>(
-    sink: &QueuingMetricSink<S, R, A>,
-    wanted: [u64; 3],
-) -> Result<(), Fail> {
-    let found = [sink.submitted(), sink.dropped(), sink.drained()];
-    if found != wanted {
-        return Err(Fail::new(format_args!("the counts are {found:?}")));
-    }
-    Ok(())
 }
 
 #[test]
@@ -79,8 +65,8 @@ fn stopped_sink_is_disconnected(rt: HostRuntime) -> Result<(), Fail> {
     takes(&sink, &[("a:1|c", 5), ("b:1|c", 5)])?;
     sink.stop_and_wait();
     refuses(&sink, "d:1|c", Refusal::Disconnected)?;
-    assert_eq!(rt; (sink.queued(), sink.panics()), (0, 0));
-    has_counted(&sink, [2, 0, 2])
+    assert!(rt; counts_of(&sink) == [2, 0, 2, 0] && sink.panics() == 0);
+    Ok(())
 }
 
 #[test]
@@ -101,61 +87,189 @@ fn a_flush_does_not_wait_for_the_queue(rt: HostRuntime) -> Result<(), Fail> {
     queue.passes(&["first:1|c", "second:1|c"])
 }
 
-type RefusingQueue<R> = GatedQueue<R, Refusing<Global>>;
+// A queue before a gate whose memory is counted.
+type CountedQueue<R> = GatedQueue<R, Refusing<Global>>;
 
-// What the builder makes, before a gate.
-fn built_before_a_gate<R: Runtime>(
+/// A bound of a queue, and what it does where it is full.
+type Bound = (Option<usize>, QueuePolicy);
+
+// A queue of this bound before a gate, over this memory. Its handler counts the faults.
+fn bounded<R: Runtime>(
     rt: &R,
     alloc: Global,
-    heap: Refusing<Global>,
-    builder: QueuingMetricSinkBuilder<Refusing<Global>>,
-) -> Result<RefusingQueue<R>, Fail> {
-    let mine = rt.clone()?;
+    (heap, faults): (&Refusing<Global>, Arc<AtomicU64>),
+    (capacity, policy): Bound,
+) -> Result<CountedQueue<R>, Fail> {
+    let handler = Box::new(heap.clone()?, move |_fault| {
+        faults.fetch_add(1, Ordering::SeqCst);
+    })?;
+    let mut builder = QueuingMetricSinkBuilder::new()
+        .with_policy(policy)
+        .with_error_handler(handler);
+    if let Some(capacity) = capacity {
+        builder = builder.with_capacity(capacity);
+    }
     let (around, gated) = behind_a_gate(rt, alloc)?;
-    let sink = builder.build(mine, heap, gated)?;
+    let sink = builder.build(rt.clone()?, heap.clone()?, gated)?;
     Ok(GatedQueue { sink, around })
 }
 
-// A queue of one line, which drops its oldest, before a gate. Its handler counts the faults.
-fn short_queue<R: Runtime>(
-    rt: &R,
-    alloc: Global,
-    heap: &Refusing<Global>,
-    faults: &Arc<AtomicU64>,
-) -> Result<RefusingQueue<R>, Fail> {
-    let counted = faults.clone()?;
-    let handler = Box::new(heap.clone()?, move |_fault| {
-        counted.fetch_add(1, Ordering::SeqCst);
-    })?;
-    let builder = QueuingMetricSinkBuilder::new()
-        .with_capacity(1)
-        .with_policy(QueuePolicy::DropOldest)
-        .with_error_handler(handler);
-    built_before_a_gate(rt, alloc, heap.clone()?, builder)
+// How many of these lines a sink takes, and how many its full queue refuses.
+fn taken_and_refused<S: MetricSink>(sink: &S, lines: &[&str]) -> (u64, u64) {
+    let (mut taken, mut refused) = (0u64, 0u64);
+    for line in lines {
+        match sink.emit(line) {
+            Ok(length) if length == line.len() => taken = taken.wrapping_add(1),
+            Err(SinkError::ChannelFull) => refused = refused.wrapping_add(1),
+            _ => {}
+        }
+    }
+    (taken, refused)
 }
 
-// While a first line is at the gate, a third one takes the place of a second one, and passes. It takes memory once.
-fn replaces_the_second<R: Runtime>(
-    queue: &RefusingQueue<R>,
+// How many lines the queue has accepted, dropped and handed on, and how many wait.
+fn counts_of<S: MetricSink, R: Wait + Drop, A: Allocator>(
+    sink: &QueuingMetricSink<S, R, A>,
+) -> [u64; 4] {
+    let passed = (sink.submitted(), sink.dropped(), sink.drained());
+    [passed.0, passed.1, passed.2, sink.queued()]
+}
+
+// Whether a second and a third line are taken and refused so while the first one is at the gate. Each that is taken
+// takes memory once, beside the growth of a queue without a bound, and one that is refused takes none.
+fn takes_beside<R: Runtime>(
+    queue: &CountedQueue<R>,
     heap: &Refusing<Global>,
-) -> Result<(), Fail> {
-    queue.hold_two()?;
+    wanted: (u64, u64),
+    has_bound: bool,
+) -> bool {
     let left = heap.left();
-    takes(&queue.sink, &[("third:1|c", 9)])?;
-    if heap.left().wrapping_add(1) != left {
-        return Err(Fail::new("another number of requests"));
-    }
-    queue.passes(&["first:1|c", "third:1|c"])?;
-    has_counted(&queue.sink, [3, 1, 2])
+    let found = taken_and_refused(&queue.sink, &["second:1|c", "third:1|c"]);
+    let requests = left.wrapping_sub(heap.left());
+    found == wanted && (requests == wanted.0 || !has_bound)
+}
+
+/// What a queue does with a second and a third line while the first one is at the gate: how many it takes and refuses,
+/// what it counts as accepted, dropped and handed on and how many lines wait, and the lines that pass.
+const BESIDE: [(Bound, (u64, u64), [u64; 4], &[&str]); 4] = [
+    (
+        (None, QueuePolicy::Refuse),
+        (2, 0),
+        [3, 0, 1, 2],
+        &["first:1|c", "second:1|c", "third:1|c"],
+    ),
+    (
+        (Some(2), QueuePolicy::Refuse),
+        (2, 0),
+        [3, 0, 1, 2],
+        &["first:1|c", "second:1|c", "third:1|c"],
+    ),
+    (
+        (Some(1), QueuePolicy::Refuse),
+        (1, 1),
+        [2, 0, 1, 1],
+        &["first:1|c", "second:1|c"],
+    ),
+    (
+        (Some(1), QueuePolicy::DropOldest),
+        (2, 0),
+        [3, 1, 1, 1],
+        &["first:1|c", "third:1|c"],
+    ),
+];
+
+// After the end of the queue the lines passed that are wanted, each that was taken was dropped or handed on, and a line
+// that is refused takes no memory.
+fn ends_so<R: Runtime>(
+    queue: &CountedQueue<R>,
+    heap: &Refusing<Global>,
+    passed: &[&str],
+) -> Result<bool, Fail> {
+    queue.passes(passed)?;
+    let left = heap.left();
+    refuses(&queue.sink, "fourth:1|c", Refusal::Disconnected)?;
+    let [submitted, dropped, drained, queued] = counts_of(&queue.sink);
+    let all = dropped.wrapping_add(drained) == submitted && drained == passed.len() as u64;
+    Ok(all && queued == 0 && heap.left() == left)
+}
+
+// Whether the queue of a row goes so, and its handler is told of nothing.
+fn goes_so<R: Runtime>(
+    rt: &R,
+    alloc: Global,
+    (bound, taken, counts, passed): (Bound, (u64, u64), [u64; 4], &[&str]),
+) -> Result<bool, Fail> {
+    let faults = Arc::new(alloc, AtomicU64::new(0))?;
+    let heap = Refusing::after(alloc, alloc, 9_999)?;
+    let queue = bounded(rt, alloc, (&heap, faults.clone()?), bound)?;
+    queue.come_to_the_gate()?;
+    let beside = takes_beside(&queue, &heap, taken, bound.0.is_some())
+        && counts_of(&queue.sink) == counts;
+    let ends = ends_so(&queue, &heap, passed)?;
+    Ok(beside && ends && faults.load(Ordering::SeqCst) == 0)
 }
 
 #[test]
-fn newest_lines_win(rt: HostRuntime) -> Result<(), Fail> {
-    let faults = Arc::new(rt.alloc(), AtomicU64::new(0))?;
-    let heap = Refusing::after(rt.alloc(), rt.alloc(), 1000)?;
-    let queue = short_queue(&rt, rt.alloc(), &heap, &faults)?;
-    replaces_the_second(&queue, &heap)?;
-    assert!(rt; faults.load(Ordering::SeqCst) == 0);
+fn a_full_queue_refuses_or_drops(rt: HostRuntime) -> Result<(), Fail> {
+    for row in BESIDE {
+        assert!(rt; goes_so(&rt, rt.alloc(), row)?);
+    }
+    Ok(())
+}
+
+// How many of 500 lines a sink takes, and how many its full queue refuses.
+fn of_500<S: MetricSink>(sink: &S) -> (u64, u64) {
+    let (mut taken, mut refused) = (0u64, 0u64);
+    for _ in 0..500 {
+        let one = taken_and_refused(sink, &["a:1|c"]);
+        taken = taken.wrapping_add(one.0);
+        refused = refused.wrapping_add(one.1);
+    }
+    (taken, refused)
+}
+
+// The same of two threads, each with as many.
+fn of_two_threads<R: Threads + Sync, S: MetricSink + Sync>(rt: &R, sink: &S) -> (u64, u64) {
+    let (one, other) = thread::join(rt, || of_500(sink), || of_500(sink));
+    (one.0.wrapping_add(other.0), one.1.wrapping_add(other.1))
+}
+
+/// What a queue does with a thousand lines of two threads while another line is at the gate, as above.
+const OF_TWO: [(Bound, (u64, u64), [u64; 4]); 3] = [
+    ((None, QueuePolicy::Refuse), (1000, 0), [1001, 0, 1, 1000]),
+    (
+        (Some(300), QueuePolicy::Refuse),
+        (300, 700),
+        [301, 0, 1, 300],
+    ),
+    (
+        (Some(300), QueuePolicy::DropOldest),
+        (1000, 0),
+        [1001, 700, 1, 300],
+    ),
+];
+
+// Whether the queue of a row goes so, and then each line that it has is handed on.
+fn goes_so_for_two<R: Runtime>(
+    rt: &R,
+    alloc: Global,
+    (bound, taken, counts): (Bound, (u64, u64), [u64; 4]),
+) -> Result<bool, Fail> {
+    let faults = Arc::new(alloc, AtomicU64::new(0))?;
+    let heap = Refusing::after(alloc, alloc, 9_999)?;
+    let queue = bounded(rt, alloc, (&heap, faults), bound)?;
+    queue.come_to_the_gate()?;
+    let beside = of_two_threads(rt, &queue.sink) == taken && counts_of(&queue.sink) == counts;
+    queue.open_and_end();
+    let [submitted, dropped, drained, _] = counts_of(&queue.sink);
+    Ok(beside && dropped.wrapping_add(drained) == submitted)
+}
+
+#[test]
+fn two_threads_fill_a_queue_to_its_bound(rt: HostRuntime) -> Result<(), Fail> {
+    for row in OF_TWO {
+        assert!(rt; goes_so_for_two(&rt, rt.alloc(), row)?);
+    }
     Ok(())
 }
 
@@ -219,113 +333,6 @@ fn handler_gets_each_fault_once(rt: HostRuntime) -> Result<(), Fail> {
     takes(&sink, &[("a:1|c", 5), ("b:1|c", 5)])?;
     sink.stop_and_wait();
     assert_eq!(rt; faults.load(Ordering::SeqCst), 2);
-    Ok(())
-}
-
-// The lines of both threads wait, and no other.
-fn gives_both<R: Wait + Drop>(receiver: &SpyReceiver<R>) -> Result<bool, Fail> {
-    let one = receiver.try_recv().ok_or("nothing")?;
-    let other = receiver.try_recv().ok_or("nothing")?;
-    Ok(are_both(&one, &other) && receiver.is_empty())
-}
-
-#[test]
-fn threads_share_a_handle(rt: HostRuntime) -> Result<(), Fail> {
-    let (receiver, sink) = before_a_spy(&rt, rt.alloc())?;
-    assert!(rt; emit_from_two(&rt, &sink));
-    sink.stop_and_wait();
-    assert!(rt; gives_both(&receiver)?);
-    Ok(())
-}
-
-#[test]
-fn capacity_0_refuses(rt: HostRuntime) -> Result<(), Fail> {
-    let sink = QueuingMetricSink::with_capacity(rt.clone()?, rt.alloc(), NopMetricSink, 0)?;
-    refuses(&sink, "a:1|c", Refusal::Full)?;
-    has_counted(&sink, [0, 0, 0])
-}
-
-#[test]
-fn capacity_0_of_a_builder_refuses(rt: HostRuntime) -> Result<(), Fail> {
-    let builder = QueuingMetricSink::<NopMetricSink, HostRuntime>::builder().with_capacity(0);
-    let sink = builder.build(rt.clone()?, rt.alloc(), NopMetricSink)?;
-    refuses(&sink, "a:1|c", Refusal::Full)
-}
-
-// Takes as many lines as its capacity while one is at the gate, and no other.
-fn is_full_at<S: MetricSink, R: Wait + Drop, A: Allocator + Clone>(
-    sink: &QueuingMetricSink<S, R, A>,
-    capacity: usize,
-) -> Result<bool, Fail> {
-    for _ in 0..capacity {
-        takes(sink, &[("a:1|c", 5)])?;
-    }
-    refuses(sink, "a:1|c", Refusal::Full)?;
-    Ok(sink.queued() == capacity as u64)
-}
-
-// Each accepted line takes memory once, and a refused one takes none.
-fn takes_memory_once<R: Runtime>(
-    queue: &RefusingQueue<R>,
-    heap: &Refusing<Global>,
-    capacity: usize,
-) -> Result<bool, Fail> {
-    let left = heap.left();
-    let sink = &queue.sink;
-    queue.come_to_the_gate()?;
-    let is_full = is_full_at(sink, capacity)?;
-    queue.open_and_end();
-    refuses(sink, "a:1|c", Refusal::Disconnected)?;
-    let taken = left.wrapping_sub(heap.left());
-    let drained = (capacity as u64).wrapping_add(1);
-    Ok(is_full && taken == sink.submitted() && sink.drained() == drained)
-}
-
-// A queue of so many lines before a gate.
-fn of_capacity<R: Runtime>(
-    rt: &R,
-    alloc: Global,
-    heap: Refusing<Global>,
-    capacity: usize,
-) -> Result<RefusingQueue<R>, Fail> {
-    let mine = rt.clone()?;
-    let (around, gated) = behind_a_gate(rt, alloc)?;
-    let sink = QueuingMetricSink::with_capacity(mine, heap, gated, capacity)?;
-    Ok(GatedQueue { sink, around })
-}
-
-#[test]
-fn a_full_queue_takes_no_memory(rt: HostRuntime) -> Result<(), Fail> {
-    for capacity in [2usize, 1000] {
-        let heap = Refusing::after(rt.alloc(), rt.alloc(), 9_999)?;
-        let queue = of_capacity(&rt, rt.alloc(), heap.clone()?, capacity)?;
-        assert!(rt; takes_memory_once(&queue, &heap, capacity)?);
-    }
-    Ok(())
-}
-
-// Whether the heap had all memory for a queue and its first line. A line that is refused for want of it leaves the
-// sink in order.
-fn has_all_memory<R: Runtime>(rt: &R, heap: Refusing<Global>) -> Result<bool, Fail> {
-    let sink = match QueuingMetricSink::with_capacity(rt.clone()?, heap, NopMetricSink, 1) {
-        Ok(sink) => sink,
-        Err(MetricError::Sink(SinkError::OutOfMemory)) => return Ok(false),
-        Err(_) => return Err(Fail::new("another error")),
-    };
-    let is_taken = has_memory_for_a_line(&sink)?;
-    if sink.submitted() != 1 {
-        return Err(Fail::new("another count"));
-    }
-    Ok(is_taken)
-}
-
-#[test]
-fn each_request_refused(rt: HostRuntime) -> Result<(), Fail> {
-    let granted: Result<Option<u64>, Fail> = each_refused(
-        rt.alloc(),
-        |heap| has_all_memory(&rt, heap),
-    );
-    assert_eq!(rt; granted?, Some(6));
     Ok(())
 }
 

@@ -1,7 +1,6 @@
 //! Sockets on the loopback address.
 use super::steps::takes;
 use cadence_sinks::MetricSink;
-use std::alloc::Global;
 use std::io;
 use std::net::{Ipv4Addr, Net, SocketAddr, UdpSocket};
 use std::test::Fail;
@@ -61,12 +60,4 @@ pub fn gets(server: &UdpSocket, texts: &[&str]) -> Result<(), Fail> {
 pub fn sends<S: MetricSink>(sink: &S, server: &UdpSocket, datagram: &str) -> Result<(), Fail> {
     takes(sink, &[("buz:1|m", 7)])?;
     gets(server, &[datagram])
-}
-
-/// The next datagram, up to 64 bytes of it.
-pub fn received(server: &UdpSocket, alloc: Global) -> io::Result<Vec<u8>> {
-    let mut bytes = [0u8; 64];
-    let (count, _from) = server.recv_from(&mut bytes)?;
-    let datagram = Vec::from_slice(alloc, &bytes[..count])?;
-    Ok(datagram)
 }

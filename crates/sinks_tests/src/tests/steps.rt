@@ -5,7 +5,6 @@ use cadence_sinks::{MetricSink, SpyMetricSink, SpyReceiver};
 use std::alloc::{Allocator, Global};
 use std::sync::Wait;
 use std::test::Fail;
-use std::thread;
 use std::thread::Threads;
 
 /// A runtime under which a queue has a worker. Each type with these bounds is one.
@@ -28,7 +27,6 @@ pub enum Refusal {
     Disconnected,
     Socket,
     Packet,
-    NoMemory,
     Other,
 }
 
@@ -38,7 +36,6 @@ fn why(fault: &SinkError) -> Refusal {
         SinkError::ChannelDisconnected => Refusal::Disconnected,
         SinkError::Io(_) => Refusal::Socket,
         SinkError::PacketRefused => Refusal::Packet,
-        SinkError::OutOfMemory => Refusal::NoMemory,
         _ => Refusal::Other,
     }
 }
@@ -51,17 +48,6 @@ pub fn takes<S: MetricSink>(sink: &S, lines: &[(&str, usize)]) -> Result<(), Fai
         }
     }
     Ok(())
-}
-
-/// Whether the sink had the memory for a line. Where it had not, it takes the next one.
-pub fn has_memory_for_a_line<S: MetricSink>(sink: &S) -> Result<bool, Fail> {
-    match sink.emit("a:1|c") {
-        Ok(_) => return Ok(true),
-        Err(SinkError::OutOfMemory) => {}
-        Err(_) => return Err(Fail::new("another error")),
-    }
-    takes(sink, &[("b:1|c", 5)])?;
-    Ok(false)
 }
 
 /// The sink refuses the line for this reason.
@@ -138,24 +124,4 @@ pub fn comes_last<R: Wait + Drop>(receiver: &SpyReceiver<R>, wanted: &str) -> Re
         return Err(Fail::new("a message more"));
     }
     Ok(())
-}
-
-/// Two threads emit a line each. Whether both were taken.
-pub fn emit_from_two<R, S>(rt: &R, sink: &S) -> bool
-where
-    R: Threads + Sync,
-    S: MetricSink + Sync,
-{
-    let (first, second) = thread::join(
-        rt,
-        || sink.emit("a:1|c").is_ok(),
-        || sink.emit("bb:1|c").is_ok(),
-    );
-    first && second
-}
-
-/// Whether these are the lines of the two threads, in either order.
-pub fn are_both(one: &[u8], other: &[u8]) -> bool {
-    let (first, second) = (b"a:1|c".as_slice(), b"bb:1|c".as_slice());
-    (one == first && other == second) || (one == second && other == first)
 }
