@@ -4,4 +4,3 @@ mod client;
 mod metrics;
 mod own;
 mod plan;
-mod run;

@@ -82,7 +82,10 @@ fn is_line<K>(
 fn is_made(heap: Refusing<Global>, number: u8) -> Result<bool, Fail> {
     match number {
         0 => is_line(Counter::new(heap, "a..", "k", 1), "a..k:1|c"),
-        1 => is_line(Timer::new(heap, "p.", "k", 34), "p.k:34|ms"),
+        1 => is_line(
+            Timer::new(heap, "my.app.", "test.timer", 34),
+            "my.app.test.timer:34|ms",
+        ),
         2 => is_line(Gauge::new(heap, "p.", "k", 8), "p.k:8|g"),
         3 => is_line(Meter::new(heap, "p.", "k", 8), "p.k:8|m"),
         4 => is_line(Histogram::new(heap, "p.", "k", 8), "p.k:8|h"),
@@ -96,9 +99,12 @@ fn is_made_too(heap: Refusing<Global>, number: u8) -> Result<bool, Fail> {
     match number {
         5 => is_line(Distribution::new(heap, "p.", "k", 8), "p.k:8|d"),
         6 => is_line(Set::new(heap, "p.", "k", -8), "p.k:-8|s"),
-        7 => is_line(Gauge::new_decimal(heap, "", "k", half), "k:0.5|g"),
-        8 => is_line(Histogram::new_decimal(heap, "", "k", half), "k:0.5|h"),
-        _ => is_line(Distribution::new_decimal(heap, "", "k", half), "k:0.5|d"),
+        7 => is_line(Gauge::new_decimal(heap, "p.", "k", half), "p.k:0.5|g"),
+        8 => is_line(Histogram::new_decimal(heap, "p.", "k", half), "p.k:0.5|h"),
+        _ => is_line(
+            Distribution::new_decimal(heap, "p.", "k", half),
+            "p.k:0.5|d",
+        ),
     }
 }
 

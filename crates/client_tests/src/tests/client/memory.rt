@@ -1,8 +1,6 @@
 //! Each request for memory refused in turn.
 
-use cadence::client::{
-    BoxedErrorHandler, BoxedHandler, ClientSettings, MetricBuilder, StatsdClient,
-};
+use cadence::client::{ClientSettings, StatsdClient};
 use cadence::decimal::Decimal;
 use cadence::prelude::*;
 use cadence::schedule::{Call, CallOption, CallValue};
@@ -10,13 +8,14 @@ use cadence::sinks::{MetricSink, NopMetricSink};
 use cadence::types::{ErrorKind, Metric, MetricError, MetricResult, SinkError};
 use refusing::{Refusing, each_refused};
 use std::alloc::{AllocError, Allocator, Global};
-use std::sync::Arc;
-use std::sync::atomic::{AtomicU64, Ordering};
 use std::test::Fail;
 use std::time::Duration;
 
-// A client with default tags and a container, whose sink takes and drops every line. Takes eight requests for memory.
-fn made(heap: &Refusing<Global>) -> MetricResult<StatsdClient<Refusing<Global>, NopMetricSink>> {
+// The client of these turns, whose sink takes and drops every line.
+type Client = StatsdClient<Refusing<Global>, NopMetricSink>;
+
+// Such a client with default tags and a container. Takes eight requests for memory.
+fn made(heap: &Refusing<Global>) -> MetricResult<Client> {
     StatsdClient::builder(heap.clone()?, "p", NopMetricSink)
         .with_tag("a", "b")
         .with_tag_value("c")
@@ -33,132 +32,36 @@ fn is_made<T: Drop>(answer: MetricResult<T>) -> Result<bool, Fail> {
     }
 }
 
-#[test]
-fn a_client_is_made_or_refused(rt: HostRuntime) -> Result<(), Fail> {
-    let granted: Result<Option<u64>, Fail> = each_refused(rt.alloc(), |heap| is_made(made(&heap)));
-    assert_eq!(rt; granted?, Some(8));
-    Ok(())
-}
-
-// The client of these turns.
-type Client = StatsdClient<Refusing<Global>, NopMetricSink>;
-
 // Whether the call answered just this line, and was not refused for want of memory.
-fn is_line<M: Metric + Drop>(sent: MetricResult<M>, start: &str, end: &str) -> Result<bool, Fail> {
+fn is_line<M: Metric + Drop>(sent: MetricResult<M>, line: &str) -> Result<bool, Fail> {
     if let Ok(metric) = &sent {
-        if metric.as_metric_str().strip_prefix(start) != Some(end) {
+        if metric.as_metric_str() != line {
             return Err(Fail::new("another line"));
         }
     }
     is_made(sent)
 }
 
-// A plain call of one of the seven kinds, or an `incr`.
-fn is_sent(client: &Client, number: u8) -> Result<bool, Fail> {
-    let end = "|#a:b,c|c:id";
-    match number {
-        0 => is_line(client.count("k", 3i64), "p.k:3|c", end),
-        1 => is_line(client.time("k", 34u64), "p.k:34|ms", end),
-        2 => is_line(client.gauge("k", 8u64), "p.k:8|g", end),
-        3 => is_line(client.meter("k", 8u64), "p.k:8|m", end),
-        _ => is_sent_too(client, number),
+// Whether a client is made and sends a plain call, or one with a tag of its own. One function of the library does so
+// for the calls of all kinds.
+fn is_sent(heap: &Refusing<Global>, with_tag: bool) -> Result<bool, Fail> {
+    let client = match made(heap) {
+        Ok(client) => client,
+        refused => return is_made(refused),
+    };
+    if with_tag {
+        let call = client.gauge_with_tags("k", 8u64).with_tag("d", "e");
+        return is_line(call.try_send(), "p.k:8|g|#a:b,c,d:e|c:id");
     }
-}
-
-// One of the other four.
-fn is_sent_too(client: &Client, number: u8) -> Result<bool, Fail> {
-    let end = "|#a:b,c|c:id";
-    match number {
-        4 => is_line(client.histogram("k", 8u64), "p.k:8|h", end),
-        5 => is_line(client.distribution("k", 8u64), "p.k:8|d", end),
-        6 => is_line(client.set("k", -8i64), "p.k:-8|s", end),
-        _ => is_line(client.incr("k"), "p.k:1|c", end),
-    }
-}
-
-// The same of a call that gets a tag of its own.
-fn is_tagged<M: Metric + From<String<Refusing<Global>>> + Drop>(
-    call: MetricBuilder<'_, '_, M, Client>,
-    start: &str,
-) -> Result<bool, Fail> {
-    is_line(
-        call.with_tag("d", "e").try_send(),
-        start,
-        "|#a:b,c,d:e|c:id",
-    )
-}
-
-// Such a call with a tag of its own.
-fn is_sent_with_tag(client: &Client, number: u8) -> Result<bool, Fail> {
-    match number {
-        0 => is_tagged(client.count_with_tags("k", 3i64), "p.k:3|c"),
-        1 => is_tagged(client.time_with_tags("k", 34u64), "p.k:34|ms"),
-        2 => is_tagged(client.gauge_with_tags("k", 8u64), "p.k:8|g"),
-        3 => is_tagged(client.meter_with_tags("k", 8u64), "p.k:8|m"),
-        _ => is_sent_with_tag_too(client, number),
-    }
-}
-
-// One of the other four.
-fn is_sent_with_tag_too(client: &Client, number: u8) -> Result<bool, Fail> {
-    match number {
-        4 => is_tagged(client.histogram_with_tags("k", 8u64), "p.k:8|h"),
-        5 => is_tagged(client.distribution_with_tags("k", 8u64), "p.k:8|d"),
-        6 => is_tagged(client.set_with_tags("k", -8i64), "p.k:-8|s"),
-        _ => is_tagged(client.incr_with_tags("k"), "p.k:1|c"),
-    }
+    is_line(client.count("k", 3i64), "p.k:3|c|#a:b,c|c:id")
 }
 
 #[test]
-fn a_call_of_each_kind_is_sent_or_refused(rt: HostRuntime) -> Result<(), Fail> {
-    for number in 0..16 {
-        let granted = each_refused(rt.alloc(), |heap| match made(&heap) {
-            Ok(client) if number < 8 => is_sent(&client, number),
-            Ok(client) => is_sent_with_tag(&client, number - 8),
-            Err(_) => Ok(false),
-        })?;
+fn a_call_is_sent_or_refused(rt: HostRuntime) -> Result<(), Fail> {
+    for with_tag in [false, true] {
+        let granted = each_refused(rt.alloc(), |heap| is_sent(&heap, with_tag))?;
         assert_eq!(rt; granted, Some(9), "eight for the client, and the line");
     }
-    Ok(())
-}
-
-// A client of this allocator with a boxed handler.
-type TellingClient = StatsdClient<
-    Refusing<Global>,
-    NopMetricSink,
-    BoxedErrorHandler<Refusing<Global>>,
->;
-
-// Such a client, whose handler adds 1 for want of memory and 100 for another error. Takes nine requests.
-fn telling(heap: &Refusing<Global>, told: Arc<AtomicU64>) -> MetricResult<TellingClient> {
-    let handler: BoxedHandler<Refusing<Global>> = Box::new(
-        heap.clone()?,
-        move |error: MetricError| {
-            let wants_memory = error.kind() == ErrorKind::OutOfMemory;
-            told.fetch_add(if wants_memory { 1 } else { 100 }, Ordering::SeqCst);
-        },
-    )?;
-    StatsdClient::builder(heap.clone()?, "p", NopMetricSink)
-        .with_error_handler(handler)
-        .with_tag("a", "b")
-        .with_tag_value("c")
-        .with_container_id("id")
-        .build()
-}
-
-#[test]
-fn a_handler_is_told_want_of_memory_once(rt: HostRuntime) -> Result<(), Fail> {
-    let granted: Result<Option<u64>, Fail> = each_refused(rt.alloc(), |heap| {
-        let told = Arc::new(rt.alloc(), AtomicU64::new(0))?;
-        let Ok(client) = telling(&heap, told.clone()?) else {
-            return Ok(false);
-        };
-        client.incr_with_tags("k").with_tag("d", "e").send();
-        let told = told.load(Ordering::SeqCst);
-        assert!(rt; told < 2);
-        Ok(told == 0)
-    });
-    assert_eq!(rt; granted?, Some(10));
     Ok(())
 }
 
@@ -183,8 +86,7 @@ fn is_long_line(client: &Client, tag: &str) -> Result<bool, Fail> {
             .with_tag_value(tag)
             .with_timestamp(7)
             .try_send(),
-        "p.k:1|c",
-        "|@0.5|#a:b,c,d:ffffffffffffffffffffffffffffffffffffffffffffffffffffffffffff,ffffffffffffffffffffffffffffffffffffffffffffffffffffffffffff|c:id|T7",
+        "p.k:1|c|@0.5|#a:b,c,d:ffffffffffffffffffffffffffffffffffffffffffffffffffffffffffff,ffffffffffffffffffffffffffffffffffffffffffffffffffffffffffff|c:id|T7",
     )
 }
 
