@@ -8,21 +8,28 @@ mod lines;
 mod numbers;
 mod own;
 mod ported;
+mod round_trip;
 mod runtime;
 mod shop;
 mod sinks;
 
 use cadence::client::BoxedHandler;
 use cadence::{MetricError, MetricResult, NopMetricSink, StatsdClient};
-use std::sync::Arc;
-use std::sync::atomic::AtomicU64;
+use runtime::Runtime;
+use std::alloc::Global;
+
+// What is sent over sinks of each kind, and what is counted.
+fn told<R: Runtime>(rt: &R, alloc: Global) -> MetricResult<String> {
+    let mut text = lines::told(rt, alloc)?;
+    text.push_str(&numbers::told(rt, alloc)?)?;
+    text.push_str(&round_trip::told(rt, alloc)?)?;
+    Ok(text)
+}
 
 fn main(rt: HostRuntime) -> MetricResult<()> {
     let alloc = rt.alloc();
-    print!(rt; "{}", lines::told(&rt, alloc)?)?;
-    ported::all(&rt, alloc)?;
-    ported::re_resolving(&rt, alloc, Arc::new(alloc, AtomicU64::new(0))?)?;
-    print!(rt; "{}", numbers::told(&rt, alloc)?)?;
+    print!(rt; "{}", told(&rt, alloc)?)?;
+    ported::re_resolving(&rt, alloc)?;
 
     let printer = rt.clone()?;
     let handler: BoxedHandler = Box::new(alloc, move |error: MetricError| {
