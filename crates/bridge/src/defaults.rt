@@ -70,7 +70,8 @@ fn built<R: ResolverRuntime>(
 pub fn told<R: ResolverRuntime>(rt: &R, alloc: Global, server: &UdpSocket) -> MetricResult<String> {
     let held = List::about_512(alloc, 512)?;
     let mut text = spies(rt, alloc, &held)?;
-    writeln!(&mut text, "buffered Unix sink {}", unix(rt, alloc, &held)?)?;
+    let is_same = unix(rt, alloc, &held)?;
+    writeln!(&mut text, "buffered Unix sink {is_same}")?;
     let is_same = buffered(rt, alloc, server, &held)?;
     writeln!(&mut text, "buffered UDP sink {is_same}")?;
     let is_same = built_buffered(rt, alloc, server, &held)?;

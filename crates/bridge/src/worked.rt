@@ -36,7 +36,7 @@ fn list_of(
     refusals: usize,
 ) -> Result<List, AllocError> {
     let mut list = List::none(alloc, CAPACITY);
-    for (_, (key, count)) in (0..length).zip(steps) {
+    for (_, (key, count)) in (0..length).zip(steps.iter()) {
         list.given.push(given_of(alloc, key, *count)?)?;
     }
     for _ in 0..refusals {

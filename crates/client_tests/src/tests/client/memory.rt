@@ -42,13 +42,8 @@ fn is_line<M: Metric + Drop>(sent: MetricResult<M>, line: &str) -> Result<bool, 
     is_made(sent)
 }
 
-// Whether a client is made and sends a plain call, or one with a tag of its own. One function of the library does so
-// for the calls of all kinds.
-fn is_sent(heap: &Refusing<Global>, with_tag: bool) -> Result<bool, Fail> {
-    let client = match made(heap) {
-        Ok(client) => client,
-        refused => return is_made(refused),
-    };
+// Whether a plain call is sent, or one with a tag of its own. One function of the library sends those of all kinds.
+fn is_sent(client: &Client, with_tag: bool) -> Result<bool, Fail> {
     if with_tag {
         let call = client.gauge_with_tags("k", 8u64).with_tag("d", "e");
         return is_line(call.try_send(), "p.k:8|g|#a:b,c,d:e|c:id");
@@ -56,10 +51,18 @@ fn is_sent(heap: &Refusing<Global>, with_tag: bool) -> Result<bool, Fail> {
     is_line(client.count("k", 3i64), "p.k:3|c|#a:b,c|c:id")
 }
 
+// Whether a client is made, and sends such a call.
+fn is_made_and_sent(heap: &Refusing<Global>, with_tag: bool) -> Result<bool, Fail> {
+    match made(heap) {
+        Ok(client) => is_sent(&client, with_tag),
+        Err(error) => is_made::<Client>(Err(error)),
+    }
+}
+
 #[test]
 fn a_call_is_sent_or_refused(rt: HostRuntime) -> Result<(), Fail> {
     for with_tag in [false, true] {
-        let granted = each_refused(rt.alloc(), |heap| is_sent(&heap, with_tag))?;
+        let granted = each_refused(rt.alloc(), |heap| is_made_and_sent(&heap, with_tag))?;
         assert_eq!(rt; granted, Some(9), "eight for the client, and the line");
     }
     Ok(())
