@@ -95,16 +95,23 @@ fn told_setting<R: Wait + Clone + Drop>(
     Ok(told(alloc, setting.heading(), &lines)?)
 }
 
+// What clients of their own send, and texts that no call sends.
+fn told_settings<R: Wait + Clone + Drop>(rt: &R, alloc: Global) -> MetricResult<String> {
+    let mut text = String::new(alloc);
+    for setting in SETTINGS {
+        text.push_str(&told_setting(rt, alloc, setting)?)?;
+    }
+    writeln!(&mut text, "port {DEFAULT_PORT}")?;
+    text.push_str(&told_faults(alloc)?)?;
+    Ok(text)
+}
+
 fn main(rt: HostRuntime) -> MetricResult<()> {
     let alloc = rt.alloc();
     let (lines, spy) = SpyMetricSink::new(rt.clone()?, alloc)?;
     let sink: Box<dyn MetricSink + Send + Sync> = Box::new(alloc, spy)?;
     let client = StatsdClient::from_sink(alloc, "p", sink)?;
     print!(rt; "{}", told_groups(alloc, &client, &lines)?)?;
-    for setting in SETTINGS {
-        print!(rt; "{}", told_setting(&rt, alloc, setting)?)?;
-    }
-    println!(rt; "port {DEFAULT_PORT}")?;
-    print!(rt; "{}", told_faults(alloc)?)?;
+    print!(rt; "{}", told_settings(&rt, alloc)?)?;
     Ok(())
 }

@@ -27,15 +27,12 @@ pub fn choose_each(client: &StatsdClient) -> MetricResult<()> {
 /// The last of each option counts.
 pub fn choose_twice(client: &StatsdClient) -> MetricResult<()> {
     let (half, whole) = (Decimal::new(5, 1)?, Decimal::new(1, 0)?);
-    client
-        .incr_with_tags("k")
-        .with_sampling_rate(half)
-        .with_container_id("x")
-        .with_timestamp(1)
-        .with_timestamp(2)
-        .with_container_id("y")
-        .with_sampling_rate(whole)
-        .send();
+    let call = client.incr_with_tags("k").with_sampling_rate(half);
+    call.with_sampling_rate(whole).send();
+    let call = client.incr_with_tags("k").with_container_id("x");
+    call.with_container_id("y").send();
+    let call = client.incr_with_tags("k").with_timestamp(1);
+    call.with_timestamp(2).send();
     Ok(())
 }
 
