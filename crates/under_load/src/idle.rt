@@ -15,7 +15,7 @@ pub const EMITS: u64 = OF_EACH * CALLERS as u64;
 
 /// How many callers came to their end, and what they were answered.
 pub fn told<R: Runtime>(rt: &R, alloc: Global, kind: Kind) -> MetricResult<String> {
-    let (_shared, queue) = queue_of(rt, alloc, kind, true)?;
+    let (_shared, queue) = queue_of(rt, alloc, kind)?;
     let answers = all_answered(rt, alloc, &queue, Pace::LineByLine, [OF_EACH; CALLERS])?;
     let Totals {
         accepted,

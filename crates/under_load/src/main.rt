@@ -3,7 +3,6 @@
 #![tactic(auto)]
 
 mod callers;
-mod full;
 mod idle;
 mod open;
 mod queues;
@@ -16,15 +15,7 @@ use queues::Kind;
 fn main(rt: HostRuntime) -> MetricResult<()> {
     let alloc = rt.alloc();
     println!(rt;
-        "while the wrapped sink has a line in hand and waits, of {} emits:",
-        full::EMITS
-    )?;
-    for kind in Kind::ALL {
-        println!(rt; "{kind}")?;
-        print!(rt; "{}", full::told(&rt, alloc, kind)?)?;
-    }
-    println!(rt;
-        "while it takes each line at once, of {} emits:",
+        "while the wrapped sink takes each line at once, of {} emits:",
         open::EMITS
     )?;
     for kind in Kind::ALL {

@@ -102,7 +102,7 @@ fn handed_on(
 
 /// Which properties hold.
 pub fn told<R: Runtime>(rt: &R, alloc: Global, kind: Kind) -> MetricResult<String> {
-    let (shared, queue) = queue_of(rt, alloc, kind, true)?;
+    let (shared, queue) = queue_of(rt, alloc, kind)?;
     let answers = all_answered(rt, alloc, &queue, Pace::AtOnce, OF_EACH)?;
     let counts = once_empty(rt, &queue);
     let mut text = format!(in alloc; "  callers that come to their end {}\n", answers.len())?;

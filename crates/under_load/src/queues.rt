@@ -59,9 +59,8 @@ pub fn queue_of<R: Runtime>(
     rt: &R,
     alloc: Global,
     kind: Kind,
-    open: bool,
 ) -> MetricResult<(Arc<Shared>, Queue<R>)> {
-    let shared = Arc::new(alloc, Shared::new(alloc, open)?)?;
+    let shared = Arc::new(alloc, Shared::new(alloc)?)?;
     let sink = Recording::new(rt.clone()?, shared.clone()?);
     let mut builder = QueuingMetricSinkBuilder::new().with_policy(kind.policy());
     if let Some(capacity) = kind.capacity() {

@@ -1,12 +1,10 @@
 //! The wrapped sink, which records the last number of each caller.
 
-use crate::turns::in_time;
 use cadence::MetricSink;
 use cadence::types::SinkError;
 use std::alloc::{AllocError, Global};
 use std::sync::atomic::{AtomicBool, Ordering};
 use std::sync::{Arc, Mutex, Wait};
-use std::time::Clock;
 
 /// How many callers there are.
 pub const CALLERS: usize = 4;
@@ -24,8 +22,6 @@ pub fn trace(before: u64, number: u64) -> u64 {
 pub struct Came {
     /// The lines that came.
     pub lines: u64,
-    /// The number of the first of them, or 0.
-    pub first: u64,
     /// The number of the last of them, or 0.
     pub last: u64,
     /// Whether each had a greater number than the one before.
@@ -37,7 +33,6 @@ pub struct Came {
 impl Came {
     const NONE: Came = Came {
         lines: 0,
-        first: 0,
         last: 0,
         in_order: true,
         trace: 0,
@@ -45,9 +40,6 @@ impl Came {
 
     fn note(&mut self, number: u64) {
         self.in_order = self.in_order && self.last < number;
-        if self.lines == 0 {
-            self.first = number;
-        }
         self.lines = self.lines.wrapping_add(1);
         self.last = number;
         self.trace = trace(self.trace, number);
@@ -107,11 +99,9 @@ impl Record {
 /// What the wrapped sink shares with the one who looks at it.
 #[derive(Drop)]
 pub struct Shared {
-    /// Whether it goes on with the line in its hand.
-    pub open: AtomicBool,
     /// Whether it has a line in its hand.
     pub has_one: AtomicBool,
-    /// Whether it had two at once, or had to wait for too long.
+    /// Whether it had two at once.
     pub had_two: AtomicBool,
     /// Whether it is gone.
     pub gone: AtomicBool,
@@ -121,9 +111,8 @@ pub struct Shared {
 
 impl Shared {
     /// Nothing came yet.
-    pub fn new(alloc: Global, open: bool) -> Result<Shared, AllocError> {
+    pub fn new(alloc: Global) -> Result<Shared, AllocError> {
         Ok(Shared {
-            open: AtomicBool::new(open),
             has_one: AtomicBool::new(false),
             had_two: AtomicBool::new(false),
             gone: AtomicBool::new(false),
@@ -142,7 +131,7 @@ pub fn set(flag: &AtomicBool) {
     flag.store(true, Ordering::SeqCst);
 }
 
-/// Takes each line, and notes it once it may go on.
+/// Takes each line, and notes it.
 pub struct Recording<R: Wait + Drop> {
     rt: R,
     shared: Arc<Shared>,
@@ -155,16 +144,13 @@ impl<R: Wait + Drop> Recording<R> {
     }
 }
 
-impl<R: Clock + Wait + Drop> MetricSink for Recording<R> {
+impl<R: Wait + Drop> MetricSink for Recording<R> {
     ghost may_answer = { λ _ _ _. Unit {0} };
 
     fn emit(&self, metric: &str) -> Result<usize, SinkError> {
         let shared = &self.shared;
         if shared.has_one.swap(true, Ordering::SeqCst) {
             set(&shared.had_two);
-        }
-        if !in_time(&self.rt, &|| is_set(&shared.open)) {
-            return Err(SinkError::PacketRefused);
         }
         shared.record.lock(&self.rt).note(metric);
         shared.has_one.store(false, Ordering::SeqCst);

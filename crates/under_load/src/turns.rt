@@ -26,11 +26,6 @@ pub fn in_time<R: Clock, F: Fn() -> bool>(rt: &R, is_so: &F) -> bool
     false
 }
 
-/// How a property is told.
-pub fn yes_or_no(holds: bool) -> &'static str {
-    if holds { "yes" } else { "no" }
-}
-
 /// Adds a line that tells whether something holds.
 pub fn push_whether(text: &mut String, what: &str, holds: bool) -> Result<(), AllocError> {
     text.push_str("  ")?;
