@@ -57,6 +57,37 @@ pub fn joined(alloc: Global, packets: &[Vec<u8>]) -> Result<String, AllocError> 
     String::from_utf8_lossy(alloc, &bytes)
 }
 
+// Adds the next line of a thread where a line is one of that thread. The run shows whether it is that one.
+fn add_next(
+    alloc: Global,
+    list: &mut List,
+    line: &str,
+    key: &str,
+    next: &mut u64,
+) -> Result<(), AllocError> {
+    if line.starts_with(key) {
+        list.given
+            .push(Given::Line(String::from_str(alloc, key)?, *next))?;
+        *next = next.wrapping_add(1);
+    }
+    Ok(())
+}
+
+// The list of the lines in the order in which they came, and whether all came.
+fn list_of(
+    alloc: Global,
+    capacity: usize,
+    packets: &[Vec<u8>],
+) -> Result<(List, bool), AllocError> {
+    let mut list = List::none(alloc, capacity);
+    let (mut one, mut other) = (FIRST, FIRST);
+    for line in joined(alloc, packets)?.lines() {
+        add_next(alloc, &mut list, line, ONE, &mut one)?;
+        add_next(alloc, &mut list, line, OTHER, &mut other)?;
+    }
+    Ok((list, (one, other) == (LAST, LAST)))
+}
+
 // Whether packets and counts are those of the run of all lines, in the order in which they came.
 fn are_of_the_run(
     alloc: Global,
@@ -64,24 +95,10 @@ fn are_of_the_run(
     packets: &[Vec<u8>],
     counts: SinkStats,
 ) -> MetricResult<bool> {
-    let mut list = List::none(alloc, capacity);
-    let (mut one, mut other) = (FIRST, FIRST);
-    for line in joined(alloc, packets)?.lines() {
-        // each is taken for the next line of its thread, and the run shows whether it is that
-        if line.starts_with(ONE) {
-            let key = String::from_str(alloc, ONE)?;
-            list.given.push(Given::Line(key, one))?;
-            one = one.wrapping_add(1);
-        } else if line.starts_with(OTHER) {
-            let key = String::from_str(alloc, OTHER)?;
-            list.given.push(Given::Line(key, other))?;
-            other = other.wrapping_add(1);
-        }
-    }
+    let (list, all) = list_of(alloc, capacity, packets)?;
     let run = Run::of_lines(alloc, &list)?;
-    let counted = counts == run.stats_at_the_end;
     let packed = packets == run.packets_at_the_end.as_slice();
-    Ok((one, other) == (LAST, LAST) && packed && counted)
+    Ok(all && packed && counts == run.stats_at_the_end)
 }
 
 // A socket that takes all, and its log.

@@ -6,6 +6,7 @@ use crate::record::{CALLERS, Record, Shared, is_set};
 use crate::turns::{Runtime, in_time, push_whether};
 use cadence::MetricResult;
 use std::alloc::Global;
+use std::sync::Wait;
 
 /// The emits of all callers.
 pub const EMITS: u64 = 1_000_000;
@@ -77,23 +78,27 @@ fn counted(alloc: Global, kind: Kind, totals: &Totals, counts: &Counts) -> Metri
     Ok(text)
 }
 
-// What came at the wrapped sink.
-fn handed_on(
-    alloc: Global,
+// Whether each line came that wasn't dropped, where each was accepted that came, and each caller's in their order.
+fn are_right<R: Wait>(
+    rt: &R,
     kind: Kind,
     answers: &[Answered],
     counts: &Counts,
     shared: &Shared,
-    record: &Record,
-) -> MetricResult<String> {
+) -> [bool; 3] {
+    let record = shared.record.lock(rt);
     let all = record.lines() == counts.submitted.wrapping_sub(counts.dropped);
-    let one = !is_set(&shared.had_two);
-    let order = record.is_in_order();
+    let accepted = kind == Kind::Dropping || are_the_accepted(answers, &record);
+    [all, accepted, record.is_in_order()]
+}
+
+// What came at the wrapped sink.
+fn handed_on(alloc: Global, kind: Kind, right: [bool; 3], one: bool) -> MetricResult<String> {
+    let [all, accepted, order] = right;
     let mut text = String::new(alloc);
     push_whether(&mut text, "each comes that isn't dropped", all)?;
     if kind != Kind::Dropping {
-        let same = are_the_accepted(answers, record);
-        push_whether(&mut text, "just those accepted of each caller", same)?;
+        push_whether(&mut text, "just those accepted of each caller", accepted)?;
     }
     push_whether(&mut text, "each caller's in order", order)?;
     push_whether(&mut text, "one at a time", one)?;
@@ -105,12 +110,12 @@ pub fn told<R: Runtime>(rt: &R, alloc: Global, kind: Kind) -> MetricResult<Strin
     let (shared, queue) = queue_of(rt, alloc, kind)?;
     let answers = all_answered(rt, alloc, &queue, Pace::AtOnce, OF_EACH)?;
     let counts = once_empty(rt, &queue);
-    let mut text = format!(in alloc; "  callers that come to their end {}\n", answers.len())?;
-    text.push_str(&counted(alloc, kind, &Totals::of(&answers), &counts)?)?;
     drop(queue);
     let goes = in_time(rt, &|| is_set(&shared.gone));
-    let record = shared.record.lock(rt);
-    text.push_str(&handed_on(alloc, kind, &answers, &counts, &shared, &record)?)?;
+    let right = are_right(rt, kind, &answers, &counts, &shared);
+    let mut text = format!(in alloc; "  callers that come to their end {}\n", answers.len())?;
+    text.push_str(&counted(alloc, kind, &Totals::of(&answers), &counts)?)?;
+    text.push_str(&handed_on(alloc, kind, right, !is_set(&shared.had_two))?)?;
     push_whether(&mut text, "the sink goes after the last handle", goes)?;
     Ok(text)
 }
