@@ -87,7 +87,8 @@ impl<'a, T: Drop, A: Allocator + Clone> Taker<'a, T, A> {
             return None;
         }
         if self.lent.len() == 0 {
-            self.queue.take_some(rt, &mut self.lent, &mut self.taken, &mut self.done);
+            self.queue
+                .take_some(rt, &mut self.lent, &mut self.taken, &mut self.done);
         }
         let Some(text) = self.lent.pop_front() else {
             self.has_ended = true;

@@ -3,9 +3,9 @@ ghost use Rattle.std.specs.Prelude.{◌≤◌};
 ghost use Rattle.cadence_script.specs.Words.{bytes_left};
 
 use crate::words::{LineError, Words, number, signed_number, text_of};
-use cadence::decimal::Decimal;
-use cadence::line::MetricType;
-use cadence::schedule::{Call, CallOption, CallValue};
+use cadence_schedule::{Call, CallOption, CallValue};
+use cadence_text::line::MetricType;
+use cadence_value::decimal::Decimal;
 use std::alloc::Allocator;
 use std::time::Duration;
 

@@ -3,9 +3,9 @@ ghost use Rattle.std.specs.Prelude.{◌≤◌};
 
 use crate::print::report_text;
 use crate::script::{ScriptError, read_script};
-use cadence::io::PacketLog;
-use cadence::schedule::run_schedule_with;
 use cadence_console::{Failure, print_report, read_all};
+use cadence_flow::io::PacketLog;
+use cadence_schedule::run_schedule_with;
 use std::alloc::Allocator;
 use std::io::{Read, Write};
 use thiserror::Error;

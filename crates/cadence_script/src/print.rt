@@ -1,7 +1,7 @@
 //! The report of a run, line by line.
-use cadence::io::{Answer, PacketLog};
-use cadence::schedule::{Reply, Report};
 use cadence_console::push_text;
+use cadence_flow::io::{Answer, PacketLog};
+use cadence_schedule::{Reply, Report};
 use std::alloc::{AllocError, Allocator};
 
 // One step's reply.

@@ -2,11 +2,10 @@
 
 use crate::calls::call_of;
 use crate::words::{LineError, Words, number, text_of};
-use cadence::client::ClientSettings;
-use cadence::io::Answer;
-use cadence::queue::QueuePolicy;
-use cadence::schedule::Step;
-use cadence::types::MetricError;
+use cadence_errors::MetricError;
+use cadence_flow::io::Answer;
+use cadence_flow::queue::QueuePolicy;
+use cadence_schedule::{ClientSettings, Step};
 use std::alloc::{AllocError, Allocator};
 
 /// The capacity of the packer where no line sets it, in bytes.

@@ -3,9 +3,9 @@ ghost use Rattle.std.specs.Prelude.{◌≡◌, List, [], ◌∷◌, ◌++◌, Bo
 
 use std::sync::Wait;
 
-/// Texts to hand on, one after the other, until the end. An impl states
-/// the texts that it gave, those that were handed on, whether it told the end, and whether it tells all this, which no
-/// call changes: one whose texts come from another thread doesn't tell.
+/// Texts to hand on, one after the other, until the end. An impl states the texts that it gave, those that were handed on,
+/// whether it told the end, and whether it tells all this, which no call changes. One that doesn't tell owes nothing. The
+/// list of a queuing sink's worker tells.
 pub trait Worklist {
     /// A text, as a `String`. It needn't be `Clone`, so `work` can't have one twice.
     type Text: Drop;

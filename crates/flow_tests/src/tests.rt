@@ -4,6 +4,6 @@ mod audited;
 mod callers;
 mod io;
 mod ledgers;
-mod lent;
 mod queue;
 mod stats;
+mod taker;

@@ -59,7 +59,8 @@ impl<A: Allocator> QueuingMetricSinkBuilder<A> {
     }
 
     /// The handler is told of each line that the wrapped sink refuses, with what it refused it with. It runs in the
-    /// worker thread, without any lock held, and may itself `emit` into the same queue.
+    /// worker thread, without any lock held, and may itself `emit` into the same queue. A handler that owns a handle of
+    /// its own queue keeps that queue and its worker alive until somebody stops it.
     pub fn with_error_handler(mut self, handler: SinkErrorHandler<A>) -> Self
         requires { IsAlwaysCallable handler }
         ensures capacity { capacity_of result ≡ capacity_of self }

@@ -21,13 +21,15 @@ pub struct QueuingMetricSink<S: MetricSink, R: Wait + Drop, A: Allocator = Globa
 }
 
 impl<S: MetricSink, R: Wait + Drop, A: Allocator> QueuingMetricSink<S, R, A> {
-    /// Stops the queue for all handles, and waits until the worker has handed on what was queued and has ended.
+    /// Stops the queue for all handles, and waits until the worker has handed on what was queued and has ended. The worker
+    /// itself would wait for ever, so neither the wrapped sink nor the queue's handler may call this.
     pub fn stop_and_wait(&self) {
         self.shared.queue.stop(&self.rt);
         self.shared.end.wait(&self.rt);
     }
 
-    /// The number of lines that wait in the queue.
+    /// The number of lines that wait in the queue. Those that the worker has taken, at most 32, are not among them, though it
+    /// may not have handed on each of them yet.
     pub fn queued(&self) -> u64 {
         self.shared.queue.waiting(&self.rt) as u64
     }
@@ -37,7 +39,8 @@ impl<S: MetricSink, R: Wait + Drop, A: Allocator> QueuingMetricSink<S, R, A> {
         self.shared.queue.submitted(&self.rt)
     }
 
-    /// The number of lines that the worker took from the queue, modulo 2 to the 64.
+    /// The number of lines that the worker took from the queue, several at a time, modulo 2 to the 64. After
+    /// `stop_and_wait` each of them was handed on.
     pub fn drained(&self) -> u64 {
         self.shared.queue.drained(&self.rt)
     }
@@ -74,13 +77,13 @@ fn copy_of<A: Allocator + Clone>(
     }
 }
 
-/// `emit` puts a copy of the line last in the queue and answers its length, `ChannelDisconnected` where the queue is
-/// stopped, else `ChannelFull` where as many lines wait as its capacity, else `OutOfMemory`; nothing is queued then.
-/// Under `DropOldest` a full queue of a capacity above 0 drops its oldest line in place of `ChannelFull`, and the
-/// handler isn't told. An accepted line takes memory at most once, beside the growth of an unbounded queue: it is copied
-/// into that of a line that the worker has handed on, where there is one. One that finds the queue stopped or full takes
-/// none, and one that another caller comes before just then gives its own back. `flush` flushes the wrapped sink and
-/// doesn't wait for the queue; `stats` are the wrapped sink's.
+/// `emit` puts a copy of the line last in the queue and returns its length. It fails with `ChannelDisconnected` if the
+/// queue is stopped, else with `ChannelFull` if as many lines wait as its capacity, else with `OutOfMemory`; nothing is
+/// queued then. Under `DropOldest` a full queue of a capacity above 0 drops its oldest line in place of `ChannelFull`,
+/// and the handler isn't told. An accepted line takes memory at most once, beside the growth of an unbounded queue: it is
+/// copied into the memory of a line that the worker has handed on, if there is one that is wide enough. A refusal by a
+/// stopped or full queue takes no memory. `flush` flushes the wrapped sink and doesn't wait for the queue; `stats` are the
+/// wrapped sink's.
 impl<S: MetricSink, R: Wait + Drop, A: Allocator + Clone> MetricSink
     for QueuingMetricSink<S, R, A> {
     ghost use Rattle.std.specs.Arc.{arc_value};

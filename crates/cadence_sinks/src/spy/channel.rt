@@ -75,7 +75,8 @@ pub fn new_channel<R: Wait + Clone + Drop, A: Allocator + Clone>(
 }
 
 impl<R: Wait + Drop, A: Allocator + Clone> Sender<R, A> {
-    /// Puts a copy of the bytes last, and answers their number. A refusal by stop or by capacity takes no memory.
+    /// Puts a copy of the bytes last, and returns their number. It is refused with `ChannelDisconnected` after a stop, else
+    /// with `ChannelFull` if as many messages wait as the capacity, which takes no memory, else with `OutOfMemory`.
     pub fn send(&self, bytes: &[u8]) -> Result<usize, SinkError>
         ensures { IsQueueAnswer bytes.now result }
     {
