@@ -1,4 +1,4 @@
-// Cargo.toml: cadence = { package = "cadence-proved", path = "bindings/rust" }; CADENCE_LIB names the library's folder
+// Cargo.toml: cadence = { path = "cadence_c-1.8.0/bindings/rust" }, in the archive, where the build finds the library
 use cadence::prelude::*;
 use cadence::{BufferedUdpMetricSink, StatsdClient};
 

@@ -1,199 +1,329 @@
-//! The client, its builders and its traits.
-use crate::error::{MetricError, MetricResult};
-use crate::packer::Line;
-use crate::raw::{Decimal, Options, Tag};
+//! The client, its builder and the traits of its calls.
+use crate::builder::MetricBuilder;
+use crate::line::Record;
+use crate::raw::{Kind, Tag};
+use crate::sealed::Sealed;
 use crate::sinks::MetricSink;
-use crate::value::*;
-use std::marker::PhantomData;
-use std::panic::{RefUnwindSafe, UnwindSafe};
+use crate::types::{Counter, Distribution, Gauge, Histogram, Meter, Metric, MetricError, MetricResult, Set, Timer};
+use crate::value::{
+    MetricValue, ToCounterValue, ToDistributionValue, ToGaugeValue, ToHistogramValue, ToMeterValue, ToSetValue, ToTimerValue,
+};
+use std::fmt;
+use std::panic::RefUnwindSafe;
+use std::time::Duration;
 
-/// A metric that was sent.
-pub trait Metric {
-    fn as_metric_str(&self) -> &str;
-}
-
-type Sink = Box<dyn MetricSink + Send + Sync + UnwindSafe + RefUnwindSafe>;
-type Handler = Box<dyn Fn(MetricError) + Send + Sync + UnwindSafe + RefUnwindSafe>;
-
-/// Makes the lines of metrics, without a lock, and hands them to its sink.
-pub struct StatsdClient {
-    prefix: String,
-    sink: Sink,
-    errors: Handler,
-    tags: Vec<(Option<String>, String)>,
-    container: Option<String>,
-}
-
+/// Makes a client of a prefix, a sink, default tags, a container and an error handler.
+///
+/// [`StatsdClient::builder`] answers one.
+///
+/// ```
+/// use cadence::prelude::*;
+/// use cadence::{Metric, NopMetricSink, StatsdClient};
+///
+/// let client = StatsdClient::builder("my.service", NopMetricSink)
+///     .with_tag("env", "prod")
+///     .with_error_handler(|error| eprintln!("metric lost: {error}"))
+///     .build();
+/// assert_eq!("my.service.visits:1|c|#env:prod", client.incr("visits").unwrap().as_metric_str());
+/// ```
 pub struct StatsdClientBuilder {
     client: StatsdClient,
 }
 
 impl StatsdClientBuilder {
-    pub fn with_error_handler<F: Fn(MetricError) + Send + Sync + UnwindSafe + RefUnwindSafe + 'static>(mut self, errors: F) -> Self {
-        self.client.errors = Box::new(errors);
-        self
-    }
-
-    pub fn with_tag<K: ToString, V: ToString>(mut self, key: K, value: V) -> Self {
-        self.client.tags.push((Some(key.to_string()), value.to_string()));
-        self
-    }
-
-    pub fn with_tag_value<K: ToString>(mut self, value: K) -> Self {
-        self.client.tags.push((None, value.to_string()));
-        self
-    }
-
-    pub fn with_container_id<K: ToString>(mut self, container: K) -> Self {
-        self.client.container = Some(container.to_string());
-        self
-    }
-
-    pub fn build(self) -> StatsdClient {
-        self.client
-    }
-}
-
-impl StatsdClient {
-    pub fn from_sink<S: MetricSink + Send + Sync + UnwindSafe + RefUnwindSafe + 'static>(prefix: &str, sink: S) -> Self {
-        Self::builder(prefix, sink).build()
-    }
-
-    pub fn builder<S: MetricSink + Send + Sync + UnwindSafe + RefUnwindSafe + 'static>(prefix: &str, sink: S) -> StatsdClientBuilder {
+    fn new<S>(prefix: &str, sink: S) -> Self
+    where
+        S: MetricSink + Sync + Send + RefUnwindSafe + 'static,
+    {
         let prefix = if prefix.is_empty() { String::new() } else { format!("{}.", prefix.trim_end_matches('.')) };
         let client = StatsdClient { prefix, sink: Box::new(sink), errors: Box::new(|_| ()), tags: Vec::new(), container: None };
         StatsdClientBuilder { client }
     }
 
+    /// Sets what gets the errors of [`MetricBuilder::send`], in the caller's thread. Without it they are dropped.
+    pub fn with_error_handler<F>(mut self, errors: F) -> Self
+    where
+        F: Fn(MetricError) + Sync + Send + RefUnwindSafe + 'static,
+    {
+        self.client.errors = Box::new(errors);
+        self
+    }
+
+    /// Adds a default tag of a key and a value, which every metric of the client has, before its own.
+    pub fn with_tag<K, V>(mut self, key: K, value: V) -> Self
+    where
+        K: ToString,
+        V: ToString,
+    {
+        self.client.tags.push((Some(key.to_string()), value.to_string()));
+        self
+    }
+
+    /// Adds a default tag of a value alone.
+    pub fn with_tag_value<K>(mut self, value: K) -> Self
+    where
+        K: ToString,
+    {
+        self.client.tags.push((None, value.to_string()));
+        self
+    }
+
+    /// Sets the container that every metric of the client has, if it has none of its own.
+    pub fn with_container_id<K>(mut self, container_id: K) -> Self
+    where
+        K: ToString,
+    {
+        self.client.container = Some(container_id.to_string());
+        self
+    }
+
+    /// Makes the client.
+    pub fn build(self) -> StatsdClient {
+        self.client
+    }
+}
+
+/// Makes metrics of a prefix, and hands the line of each to its sink.
+///
+/// Threads share a client by reference or in an `Arc`. It takes no lock of its own; its sink may. The traits of
+/// [`prelude`](crate::prelude) have its calls, and [`MetricClient`] all of them.
+///
+/// ```
+/// use std::sync::Arc;
+/// use std::thread;
+/// use cadence::prelude::*;
+/// use cadence::{NopMetricSink, StatsdClient};
+///
+/// let client = Arc::new(StatsdClient::from_sink("my.service", NopMetricSink));
+/// let shared = Arc::clone(&client);
+/// thread::spawn(move || shared.incr("visits").unwrap()).join().unwrap();
+/// client.time("startup", 1250).unwrap();
+/// ```
+pub struct StatsdClient {
+    prefix: String,
+    sink: Box<dyn MetricSink + Sync + Send + RefUnwindSafe>,
+    errors: Box<dyn Fn(MetricError) + Sync + Send + RefUnwindSafe>,
+    tags: Vec<(Option<String>, String)>,
+    container: Option<String>,
+}
+
+impl StatsdClient {
+    /// Makes a client of a prefix and a sink, with no default tags. An empty prefix prints nothing; another loses the dots
+    /// at its end, and one dot stands between it and a key.
+    pub fn from_sink<S>(prefix: &str, sink: S) -> Self
+    where
+        S: MetricSink + Sync + Send + RefUnwindSafe + 'static,
+    {
+        Self::builder(prefix, sink).build()
+    }
+
+    /// Starts a client of a prefix, as in [`from_sink`](Self::from_sink), and a sink, to which more is added before it is
+    /// built.
+    pub fn builder<S>(prefix: &str, sink: S) -> StatsdClientBuilder
+    where
+        S: MetricSink + Sync + Send + RefUnwindSafe + 'static,
+    {
+        StatsdClientBuilder::new(prefix, sink)
+    }
+
+    /// Has the sink send what it holds.
+    ///
+    /// It fails with `IoError` if the sink does. What a buffered sink of this crate couldn't send it holds on to.
     pub fn flush(&self) -> MetricResult<()> {
         Ok(self.sink.flush()?)
     }
 
-    fn start<'a, T>(&'a self, kind: u32, key: &'a str, value: MetricResult<MetricValue>) -> MetricBuilder<'a, 'a, T> {
-        let tags = self.tags.iter().map(|(key, text)| Tag::new(key.as_deref(), text)).collect();
-        MetricBuilder { client: self, kind, key, value, tags, container: self.container.as_deref(), rate: None, time: None, of: PhantomData }
+    #[inline]
+    fn start<'a, T>(&'a self, kind: Kind, key: &'a str, value: MetricResult<MetricValue>) -> MetricBuilder<'a, 'a, T>
+    where
+        T: Metric + From<String>,
+    {
+        let record = value.map(|value| {
+            let mut record = Record::new(&self.prefix, kind, key, value);
+            record.container = self.container.as_deref();
+            record.tags.extend(self.tags.iter().map(|(key, text)| Tag::new(key.as_deref(), text)));
+            record
+        });
+        MetricBuilder::new(record, self)
     }
 }
 
-/// A metric before it is sent.
-#[must_use = "Did you forget to call .send() after adding tags?"]
-pub struct MetricBuilder<'m, 'c, T> {
-    client: &'c StatsdClient,
-    kind: u32,
-    key: &'m str,
-    value: MetricResult<MetricValue>,
-    tags: Vec<Tag<'m>>,
-    container: Option<&'m str>,
-    rate: Option<MetricResult<Decimal>>,
-    time: Option<u64>,
-    of: PhantomData<T>,
+impl fmt::Debug for StatsdClient {
+    fn fmt(&self, f: &mut fmt::Formatter<'_>) -> fmt::Result {
+        let (prefix, tags) = (&self.prefix, &self.tags);
+        write!(f, "StatsdClient {{ prefix: {prefix:?}, sink: ..., errors: ..., tags: {tags:?} }}")
+    }
 }
 
-impl<'m, 'c, T: Metric + From<String>> MetricBuilder<'m, 'c, T> {
-    pub fn with_tag(mut self, key: &'m str, value: &'m str) -> Self {
-        self.tags.push(Tag::new(Some(key), value));
-        self
+/// What a client does with a metric that is made, for metrics of your own. Only [`StatsdClient`] has it.
+///
+/// ```
+/// use cadence::ext::MetricBackend;
+/// use cadence::{Metric, NopMetricSink, StatsdClient};
+///
+/// struct Event(String);
+///
+/// impl Metric for Event {
+///     fn as_metric_str(&self) -> &str {
+///         &self.0
+///     }
+/// }
+///
+/// let client = StatsdClient::from_sink("my.service", NopMetricSink);
+/// if let Err(error) = client.send_metric(&Event("my.service.deployed:1|e".to_string())) {
+///     client.consume_error(error);
+/// }
+/// ```
+pub trait MetricBackend: Sealed {
+    /// Hands the metric's text to the sink as it stands: no prefix, tag or container is added.
+    ///
+    /// It fails with `IoError` if the sink does.
+    fn send_metric<M>(&self, metric: &M) -> MetricResult<()>
+    where
+        M: Metric;
+
+    /// Gives an error to the client's error handler.
+    fn consume_error(&self, err: MetricError);
+}
+
+impl Sealed for StatsdClient {}
+
+impl MetricBackend for StatsdClient {
+    #[inline]
+    fn send_metric<M>(&self, metric: &M) -> MetricResult<()>
+    where
+        M: Metric,
+    {
+        self.sink.emit(metric.as_metric_str())?;
+        Ok(())
     }
 
-    pub fn with_tag_value(mut self, value: &'m str) -> Self {
-        self.tags.push(Tag::new(None, value));
-        self
+    fn consume_error(&self, err: MetricError) {
+        (self.errors)(err);
     }
+}
 
-    pub fn with_container_id(mut self, container: &'m str) -> Self {
-        self.container = Some(container);
-        self
-    }
+macro_rules! calls {
+    ($(#[$about:meta])* $calls:ident of $metric:ident, $value:ident: $plain:ident $tagged:ident) => {
+        $(#[$about])*
+        pub trait $calls<T>
+        where
+            T: $value,
+        {
+            /// Sends a metric with the client's tags alone, and answers it. It fails as
+            /// [`try_send`](MetricBuilder::try_send) does.
+            #[inline]
+            fn $plain(&self, key: &str, value: T) -> MetricResult<$metric> {
+                self.$tagged(key, value).try_send()
+            }
 
-    pub fn with_timestamp(mut self, time: u64) -> Self {
-        self.time = Some(time);
-        self
-    }
-
-    pub fn with_sampling_rate(mut self, rate: f64) -> Self {
-        self.rate = Some(decimal_of(rate));
-        self
-    }
-
-    pub fn try_send(self) -> MetricResult<T> {
-        self.sent(|line| T::from(line.to_owned()))
-    }
-
-    pub fn send(self) {
-        let client = self.client;
-        if let Err(e) = self.sent(|_| ()) {
-            (client.errors)(e)
+            /// Starts a metric, to which tags and other options are added before it is sent.
+            fn $tagged<'a>(&'a self, key: &'a str, value: T) -> MetricBuilder<'a, 'a, $metric>;
         }
-    }
 
-    fn sent<R>(self, with: impl FnOnce(&str) -> R) -> MetricResult<R> {
-        let (value, rate) = (self.value?, self.rate.transpose()?);
-        let options = Options::new(&self.tags, self.container, rate, self.time);
-        let line = Line { prefix: &self.client.prefix, kind: self.kind, key: self.key, value: &value, options };
-        let sink = &self.client.sink;
-        Ok(line.with(|text| sink.emit(text).map(|_| with(text)))??)
-    }
-}
-
-macro_rules! kinds {
-    ($($kind:literal $metric:ident $takes:ident $sends:ident $plain:ident $tagged:ident;)*) => {
-        $(
-            #[derive(Debug, Clone, PartialEq, Eq)]
-            pub struct $metric {
-                repr: String,
+        impl<T> $calls<T> for StatsdClient
+        where
+            T: $value,
+        {
+            #[inline]
+            fn $tagged<'a>(&'a self, key: &'a str, value: T) -> MetricBuilder<'a, 'a, $metric> {
+                self.start(Kind::$metric, key, value.try_to_value())
             }
-
-            impl Metric for $metric {
-                fn as_metric_str(&self) -> &str {
-                    &self.repr
-                }
-            }
-
-            impl From<String> for $metric {
-                fn from(repr: String) -> Self {
-                    $metric { repr }
-                }
-            }
-
-            pub trait $sends<T: $takes> {
-                fn $plain(&self, key: &str, value: T) -> MetricResult<$metric> {
-                    self.$tagged(key, value).try_send()
-                }
-                fn $tagged<'a>(&'a self, key: &'a str, value: T) -> MetricBuilder<'a, 'a, $metric>;
-            }
-
-            impl<T: $takes> $sends<T> for StatsdClient {
-                fn $tagged<'a>(&'a self, key: &'a str, value: T) -> MetricBuilder<'a, 'a, $metric> {
-                    self.start($kind, key, value.try_to_value())
-                }
-            }
-        )*
+        }
     };
 }
 
-kinds! {
-    0 Counter ToCounterValue Counted count count_with_tags;
-    1 Timer ToTimerValue Timed time time_with_tags;
-    2 Gauge ToGaugeValue Gauged gauge gauge_with_tags;
-    3 Meter ToMeterValue Metered meter meter_with_tags;
-    4 Histogram ToHistogramValue Histogrammed histogram histogram_with_tags;
-    5 Set ToSetValue Setted set set_with_tags;
-    6 Distribution ToDistributionValue Distributed distribution distribution_with_tags;
+calls! {
+    /// Counters, which a server adds up: `i64`, `i32`, `u64` and `u32`.
+    Counted of Counter, ToCounterValue: count count_with_tags
+}
+calls! {
+    /// Timers: milliseconds as `u64`, a `Duration`, which is cut off to whole milliseconds, and a `Vec` of either, which is
+    /// packed in one line.
+    Timed of Timer, ToTimerValue: time time_with_tags
+}
+calls! {
+    /// Gauges, values that stay until the next one: `u64` and `f64`. NaN and infinities are refused.
+    Gauged of Gauge, ToGaugeValue: gauge gauge_with_tags
+}
+calls! {
+    /// Meters, of which a server measures the rate: `u64`.
+    Metered of Meter, ToMeterValue: meter meter_with_tags
+}
+calls! {
+    /// Histograms, of whose values a server computes the distribution: `u64`, `f64`, a `Duration`, which is taken in
+    /// nanoseconds, and a `Vec` of each, which is packed in one line. NaN and infinities are refused.
+    Histogrammed of Histogram, ToHistogramValue: histogram histogram_with_tags
+}
+calls! {
+    /// Distributions, which a server computes over all hosts: `u64`, `f64`, and a `Vec` of either, which is packed in one
+    /// line. NaN and infinities are refused.
+    Distributed of Distribution, ToDistributionValue: distribution distribution_with_tags
+}
+calls! {
+    /// Sets, of which a server counts the different values: `i64`.
+    Setted of Set, ToSetValue: set set_with_tags
 }
 
+/// Counters of 1 and -1.
 pub trait CountedExt: Counted<i64> {
+    /// Adds 1 to a counter, as [`Counted::count`] does.
     fn incr(&self, key: &str) -> MetricResult<Counter> {
         self.count(key, 1)
     }
+
+    /// Starts a counter of 1, to which tags are added.
     fn incr_with_tags<'a>(&'a self, key: &'a str) -> MetricBuilder<'a, 'a, Counter> {
         self.count_with_tags(key, 1)
     }
+
+    /// Takes 1 from a counter, as [`Counted::count`] does.
     fn decr(&self, key: &str) -> MetricResult<Counter> {
         self.count(key, -1)
     }
+
+    /// Starts a counter of -1, to which tags are added.
     fn decr_with_tags<'a>(&'a self, key: &'a str) -> MetricBuilder<'a, 'a, Counter> {
         self.count_with_tags(key, -1)
     }
 }
 
 impl CountedExt for StatsdClient {}
+
+/// All calls of a client, for code that takes any client or keeps one in a box.
+///
+/// ```
+/// use cadence::{MetricClient, NopMetricSink, StatsdClient};
+///
+/// let client: Box<dyn MetricClient> = Box::new(StatsdClient::from_sink("my.service", NopMetricSink));
+/// client.count("visits", 1).unwrap();
+/// client.histogram("size", vec![0.5, 1.5]).unwrap();
+/// ```
+pub trait MetricClient:
+    Counted<i64>
+    + Counted<i32>
+    + Counted<u64>
+    + Counted<u32>
+    + CountedExt
+    + Timed<u64>
+    + Timed<Duration>
+    + Timed<Vec<u64>>
+    + Timed<Vec<Duration>>
+    + Gauged<u64>
+    + Gauged<f64>
+    + Metered<u64>
+    + Histogrammed<u64>
+    + Histogrammed<f64>
+    + Histogrammed<Duration>
+    + Histogrammed<Vec<u64>>
+    + Histogrammed<Vec<f64>>
+    + Histogrammed<Vec<Duration>>
+    + Distributed<u64>
+    + Distributed<f64>
+    + Distributed<Vec<u64>>
+    + Distributed<Vec<f64>>
+    + Setted<i64>
+{
+}
+
+impl MetricClient for StatsdClient {}

@@ -1,18 +1,34 @@
-//! The declarations, as `cadence.h` has them.
+//! The library in C, and safe calls of it. The only `unsafe` code of the crate stands here.
+//!
+//! What is to be shown of each block is that the declarations fit `cadence.h` (a test compares the layouts), that each
+//! pointer comes with the length of what it leads to, and that a handle is used by one call at a time.
+use std::io;
 use std::marker::PhantomData;
+use std::ptr;
+use std::slice;
+
+/// A kind of metric, by the number and the text that the library has for it.
+#[derive(Debug, Clone, Copy, PartialEq, Eq)]
+pub(crate) enum Kind {
+    Counter = 0,
+    Timer = 1,
+    Gauge = 2,
+    Meter = 3,
+    Histogram = 4,
+    Set = 5,
+    Distribution = 6,
+}
 
 #[repr(C)]
-pub struct Handle {
+struct Handle {
     at: *mut u8,
     open: bool,
 }
 
-impl Handle {
-    pub const CLOSED: Handle = Handle { at: std::ptr::null_mut(), open: false };
-}
-
+/// A tag as the library reads it: two texts of the caller's, of which the key may be missing.
 #[repr(C)]
-pub struct Tag<'a> {
+#[derive(Clone, Copy, Debug)]
+pub(crate) struct Tag<'a> {
     key: *const u8,
     key_len: usize,
     text: *const u8,
@@ -21,23 +37,37 @@ pub struct Tag<'a> {
     of: PhantomData<&'a str>,
 }
 
+// SAFETY: a tag is two `&str`s in another layout, and those may go to other threads.
+unsafe impl Send for Tag<'_> {}
+// SAFETY: as above.
+unsafe impl Sync for Tag<'_> {}
+
 impl<'a> Tag<'a> {
-    pub fn new(key: Option<&'a str>, text: &'a str) -> Tag<'a> {
+    #[inline]
+    pub(crate) fn new(key: Option<&'a str>, text: &'a str) -> Tag<'a> {
         let keyed = key.is_some();
         let key = key.unwrap_or("");
         Tag { key: key.as_ptr(), key_len: key.len(), text: text.as_ptr(), text_len: text.len(), keyed, of: PhantomData }
     }
+
+    /// How many bytes the tag has in a line, at most.
+    #[inline]
+    pub(crate) fn size(&self) -> usize {
+        self.key_len + 1 + self.text_len
+    }
 }
 
+/// `mantissa` over 10 to the power of `places`, which are at most 30.
 #[repr(C)]
 #[derive(Clone, Copy, Debug, Default, PartialEq, Eq)]
-pub struct Decimal {
-    pub mantissa: i64,
-    pub places: u8,
+pub(crate) struct Decimal {
+    pub(crate) mantissa: i64,
+    pub(crate) places: u8,
 }
 
+/// What a call adds to its metric.
 #[repr(C)]
-pub struct Options<'a> {
+pub(crate) struct Options<'a> {
     tags: *const Tag<'a>,
     tags_len: usize,
     container: *const u8,
@@ -48,10 +78,12 @@ pub struct Options<'a> {
     rated: bool,
     timed: bool,
     known: bool,
+    of: PhantomData<&'a [Tag<'a>]>,
 }
 
 impl<'a> Options<'a> {
-    pub fn new(tags: &'a [Tag<'a>], container: Option<&'a str>, rate: Option<Decimal>, time: Option<u64>) -> Self {
+    #[inline]
+    pub(crate) fn new(tags: &'a [Tag<'a>], container: Option<&'a str>, rate: Option<Decimal>, time: Option<u64>) -> Self {
         let text = container.unwrap_or("");
         Options {
             tags: tags.as_ptr(),
@@ -63,29 +95,225 @@ impl<'a> Options<'a> {
             contained: container.is_some(),
             rated: rate.is_some(),
             timed: time.is_some(),
-            // a `&str` is UTF-8, and so are the key and the prefix that packer.rs gives
+            // every text that gets here is a `&str`, and so is UTF-8
             known: true,
+            of: PhantomData,
         }
     }
 }
 
-pub const OK: u32 = 0;
-pub const NO_MEMORY: u32 = 2;
-pub const FULL: u32 = 3;
-pub const INVALID: u32 = 4;
-pub const TOO_SMALL: u32 = 7;
-pub const REFUSE: u32 = 0;
+#[repr(C)]
+#[derive(Default)]
+struct Counts {
+    held: usize,
+    waiting: usize,
+    made: u64,
+    sent: u64,
+    dropped: u64,
+}
+
+const OK: u32 = 0;
+const NO_MEMORY: u32 = 2;
+const TOO_SMALL: u32 = 7;
+const REFUSE: u32 = 0;
+
+/// How many packets may wait in a packer: what was held, and a line that is a packet of its own.
+const PACKETS: usize = 2;
+
+type Format<T> = unsafe extern "C" fn(
+    prefix: *const u8,
+    prefix_len: usize,
+    kind: u32,
+    key: *const u8,
+    key_len: usize,
+    values: *const T,
+    values_len: usize,
+    options: *const Options<'_>,
+    out: *mut u8,
+    out_len: usize,
+    length: *mut usize,
+) -> u32;
 
 unsafe extern "C" {
-    pub fn cadence_new(h: *mut Handle, prefix: *const u8, len: usize, capacity: usize, packets: usize, policy: u32) -> u32;
-    pub fn cadence_free(h: *mut Handle);
-    pub fn cadence_line(h: *mut Handle, line: *const u8, len: usize) -> u32;
-    pub fn cadence_flush(h: *mut Handle) -> u32;
-    pub fn cadence_next(h: *mut Handle, buf: *mut u8, buf_len: usize, length: *mut usize) -> u32;
-    pub fn cadence_sent(h: *mut Handle) -> u32;
-    pub fn cadence_format_signed(prefix: *const u8, prefix_len: usize, kind: u32, key: *const u8, key_len: usize, values: *const i64, values_len: usize, options: *const Options<'_>, out: *mut u8, out_len: usize, length: *mut usize) -> u32;
-    pub fn cadence_format_unsigned(prefix: *const u8, prefix_len: usize, kind: u32, key: *const u8, key_len: usize, values: *const u64, values_len: usize, options: *const Options<'_>, out: *mut u8, out_len: usize, length: *mut usize) -> u32;
-    pub fn cadence_format_decimal(prefix: *const u8, prefix_len: usize, kind: u32, key: *const u8, key_len: usize, values: *const Decimal, values_len: usize, options: *const Options<'_>, out: *mut u8, out_len: usize, length: *mut usize) -> u32;
+    fn cadence_new(handle: *mut Handle, prefix: *const u8, len: usize, capacity: usize, packets: usize, policy: u32) -> u32;
+    fn cadence_free(handle: *mut Handle);
+    fn cadence_line(handle: *mut Handle, line: *const u8, len: usize) -> u32;
+    fn cadence_flush(handle: *mut Handle) -> u32;
+    fn cadence_next(handle: *mut Handle, buf: *mut u8, buf_len: usize, length: *mut usize) -> u32;
+    fn cadence_sent(handle: *mut Handle) -> u32;
+    fn cadence_counts(handle: *mut Handle, counts: *mut Counts) -> u32;
+    fn cadence_format_signed(
+        prefix: *const u8, prefix_len: usize, kind: u32, key: *const u8, key_len: usize, values: *const i64,
+        values_len: usize, options: *const Options<'_>, out: *mut u8, out_len: usize, length: *mut usize,
+    ) -> u32;
+    fn cadence_format_unsigned(
+        prefix: *const u8, prefix_len: usize, kind: u32, key: *const u8, key_len: usize, values: *const u64,
+        values_len: usize, options: *const Options<'_>, out: *mut u8, out_len: usize, length: *mut usize,
+    ) -> u32;
+    fn cadence_format_decimal(
+        prefix: *const u8, prefix_len: usize, kind: u32, key: *const u8, key_len: usize, values: *const Decimal,
+        values_len: usize, options: *const Options<'_>, out: *mut u8, out_len: usize, length: *mut usize,
+    ) -> u32;
+}
+
+/// The error of a status that isn't `OK`.
+#[cold]
+fn refusal(status: u32) -> io::Error {
+    match status {
+        NO_MEMORY => io::ErrorKind::OutOfMemory.into(),
+        status => io::Error::other(format!("the library answered the status {status}")),
+    }
+}
+
+fn checked(status: u32) -> io::Result<()> {
+    if status == OK { Ok(()) } else { Err(refusal(status)) }
+}
+
+/// Numbers that the library prints.
+#[derive(Clone, Copy)]
+pub(crate) enum Numbers<'a> {
+    Signed(&'a [i64]),
+    Unsigned(&'a [u64]),
+    Decimal(&'a [Decimal]),
+}
+
+/// Adds the line of a metric to a text. The line is made in the room that the text has, if that is enough.
+#[inline]
+pub(crate) fn append_line(
+    line: &mut String,
+    prefix: &str,
+    kind: Kind,
+    key: &str,
+    numbers: Numbers<'_>,
+    options: &Options<'_>,
+) -> io::Result<()> {
+    match numbers {
+        Numbers::Signed(values) => append_by(cadence_format_signed, line, prefix, kind, key, values, options),
+        Numbers::Unsigned(values) => append_by(cadence_format_unsigned, line, prefix, kind, key, values, options),
+        Numbers::Decimal(values) => append_by(cadence_format_decimal, line, prefix, kind, key, values, options),
+    }
+}
+
+#[inline]
+fn append_by<T>(
+    format: Format<T>,
+    line: &mut String,
+    prefix: &str,
+    kind: Kind,
+    key: &str,
+    values: &[T],
+    options: &Options<'_>,
+) -> io::Result<()> {
+    // SAFETY: what is added below is a line of texts that are UTF-8, and of ASCII.
+    let bytes = unsafe { line.as_mut_vec() };
+    loop {
+        let (start, room) = (bytes.len(), bytes.spare_capacity_mut());
+        let mut size = 0;
+        let (prefix_at, prefix_len, key_at, key_len) = (prefix.as_ptr(), prefix.len(), key.as_ptr(), key.len());
+        let (out, out_len) = (room.as_mut_ptr().cast::<u8>(), room.len());
+        // SAFETY: each pointer has the length of its slice, and the room is only written to.
+        let status = unsafe {
+            format(prefix_at, prefix_len, kind as u32, key_at, key_len, values.as_ptr(), values.len(), options, out, out_len, &mut size)
+        };
+        match status {
+            OK => {
+                // SAFETY: the library wrote the first `size` bytes of the room.
+                unsafe { bytes.set_len(start + size) };
+                return Ok(());
+            }
+            TOO_SMALL => bytes.reserve_exact(size),
+            status => return Err(refusal(status)),
+        }
+    }
+}
+
+/// The packer, with the text that it holds and the packets that wait.
+#[derive(Debug)]
+pub(crate) struct Packer {
+    handle: Handle,
+    packet: Vec<u8>,
+}
+
+// SAFETY: the library keeps nothing of a thread, and each call that changes it takes `&mut self`.
+unsafe impl Send for Packer {}
+
+impl std::fmt::Debug for Handle {
+    fn fmt(&self, f: &mut std::fmt::Formatter<'_>) -> std::fmt::Result {
+        f.write_str("...")
+    }
+}
+
+impl Packer {
+    /// A packer of packets of at most so many bytes.
+    pub(crate) fn new(capacity: usize) -> io::Result<Packer> {
+        let mut handle = Handle { at: ptr::null_mut(), open: false };
+        // SAFETY: the handle is closed, and an empty prefix has the length 0.
+        checked(unsafe { cadence_new(&mut handle, ptr::null(), 0, capacity, PACKETS, REFUSE) })?;
+        Ok(Packer { handle, packet: Vec::new() })
+    }
+
+    /// How many bytes are held for the next packet, and how many packets wait.
+    #[inline]
+    pub(crate) fn counts(&mut self) -> (usize, usize) {
+        let mut counts = Counts::default();
+        // SAFETY: the handle is open, and `&mut self` is one call at a time.
+        unsafe { cadence_counts(&mut self.handle, &mut counts) };
+        (counts.held, counts.waiting)
+    }
+
+    /// Keeps a line. After an error it isn't kept.
+    #[inline]
+    pub(crate) fn keep(&mut self, line: &[u8]) -> io::Result<()> {
+        // SAFETY: as in `counts`; the pointer has the length of its slice.
+        checked(unsafe { cadence_line(&mut self.handle, line.as_ptr(), line.len()) })
+    }
+
+    /// Makes a packet of what is held, if anything is.
+    pub(crate) fn flush(&mut self) -> io::Result<()> {
+        // SAFETY: as in `counts`.
+        checked(unsafe { cadence_flush(&mut self.handle) })
+    }
+
+    /// The oldest packet that waits. It waits on.
+    pub(crate) fn next(&mut self) -> Option<&[u8]> {
+        let mut size = 0;
+        loop {
+            let (at, room) = (self.packet.as_mut_ptr(), self.packet.len());
+            // SAFETY: as in `counts`; the pointer has the length of its slice.
+            match unsafe { cadence_next(&mut self.handle, at, room, &mut size) } {
+                // SAFETY: the library wrote the first `size` bytes of `packet`.
+                OK => return Some(unsafe { slice::from_raw_parts(self.packet.as_ptr(), size) }),
+                TOO_SMALL => self.packet.resize(size, 0),
+                _ => return None,
+            }
+        }
+    }
+
+    /// Drops the oldest packet that waits, if one does.
+    pub(crate) fn drop_oldest(&mut self) {
+        // SAFETY: as in `counts`.
+        unsafe { cadence_sent(&mut self.handle) };
+    }
+
+    /// Holds the one packet that waits again, if nothing else is held. It was made of whole lines, each with its newline,
+    /// so it is the text of one line and a newline too. If memory is refused, the packet waits on.
+    pub(crate) fn hold_again(&mut self) {
+        if self.counts() != (0, 1) {
+            return;
+        }
+        let Some(size) = self.next().map(<[u8]>::len) else { return };
+        let line = self.packet[..size - 1].to_vec();
+        if self.keep(&line).is_ok() {
+            self.drop_oldest();
+        }
+    }
+}
+
+impl Drop for Packer {
+    fn drop(&mut self) {
+        // SAFETY: as in `counts`; nobody uses the handle after this.
+        unsafe { cadence_free(&mut self.handle) }
+    }
 }
 
 #[cfg(test)]
@@ -111,6 +339,7 @@ mod tests {
             layout!("tag" Tag<'_>: key key_len text text_len keyed),
             layout!("decimal" Decimal: mantissa places),
             layout!("options" Options<'_>: tags tags_len container container_len rate time contained rated timed known),
+            layout!("counts" Counts: held waiting made sent dropped),
         ];
         for line in ours {
             assert!(header.lines().any(|theirs| theirs == line), "{line}");

@@ -1,40 +1,132 @@
-//! Values of metrics.
-use crate::error::{ErrorKind, MetricError, MetricResult};
-pub use crate::raw::Decimal;
+//! The values of metrics, and the traits of what is one.
+use crate::decimal::decimal_of;
+use crate::raw::{Decimal, Numbers};
+use crate::types::{ErrorKind, MetricError, MetricResult};
+use std::fmt::{self, Write};
 use std::time::Duration;
 
-/// The value of a metric. Floats are kept as the decimals that they print.
-#[derive(Clone, Debug, PartialEq, Eq)]
+/// The value of a metric: one number, or several that are packed in one line with a colon between each two.
+///
+/// Its text is what stands in the line.
+///
+/// ```
+/// use cadence::ext::MetricValue;
+///
+/// assert_eq!("-3", MetricValue::Signed(-3).to_string());
+/// assert_eq!("0.5:2", MetricValue::PackedFloat(vec![0.5, 2.0]).to_string());
+/// ```
+#[derive(Debug, Clone)]
 pub enum MetricValue {
+    /// One signed number.
     Signed(i64),
+    /// Several signed numbers.
+    PackedSigned(Vec<i64>),
+    /// One unsigned number.
     Unsigned(u64),
+    /// Several unsigned numbers.
     PackedUnsigned(Vec<u64>),
-    Float(Decimal),
-    PackedFloat(Vec<Decimal>),
+    /// One float. A client refuses it if it is NaN or infinite.
+    Float(f64),
+    /// Several floats. A client refuses them if one is NaN or infinite.
+    PackedFloat(Vec<f64>),
 }
 
-/// The decimal that a float prints as, where it fits 63 bits over 10 to the power of 30.
-pub fn decimal_of(number: f64) -> MetricResult<Decimal> {
-    let text = number.to_string();
-    let places = text.split_once('.').map_or(0, |(_, places)| places.len());
-    let digits: String = text.chars().filter(|c| *c != '.').collect();
-    match (digits.parse(), u8::try_from(places)) {
-        (Ok(mantissa), Ok(places @ 0..=30)) => Ok(Decimal { mantissa, places }),
-        _ => Err(MetricError::from((ErrorKind::InvalidInput, "float out of range"))),
+/// How many floats need no memory to be printed.
+const FEW: usize = 8;
+
+impl MetricValue {
+    /// How many numbers there are.
+    pub(crate) fn count(&self) -> usize {
+        match self {
+            MetricValue::Signed(_) | MetricValue::Unsigned(_) | MetricValue::Float(_) => 1,
+            MetricValue::PackedSigned(values) => values.len(),
+            MetricValue::PackedUnsigned(values) => values.len(),
+            MetricValue::PackedFloat(values) => values.len(),
+        }
+    }
+
+    /// Whether each number is finite.
+    pub(crate) fn is_finite(&self) -> bool {
+        match self {
+            MetricValue::Float(value) => value.is_finite(),
+            MetricValue::PackedFloat(values) => values.iter().all(|value| value.is_finite()),
+            _ => true,
+        }
+    }
+
+    /// Hands the numbers on as the library prints them, or none, if one is a float that has no decimal.
+    pub(crate) fn with_numbers<R>(&self, with: impl FnOnce(Option<Numbers<'_>>) -> R) -> R {
+        use std::slice::from_ref;
+        match self {
+            MetricValue::Signed(value) => with(Some(Numbers::Signed(from_ref(value)))),
+            MetricValue::PackedSigned(values) => with(Some(Numbers::Signed(values))),
+            MetricValue::Unsigned(value) => with(Some(Numbers::Unsigned(from_ref(value)))),
+            MetricValue::PackedUnsigned(values) => with(Some(Numbers::Unsigned(values))),
+            MetricValue::Float(value) => with(decimal_of(*value).as_ref().map(|number| Numbers::Decimal(from_ref(number)))),
+            MetricValue::PackedFloat(values) => with_decimals(values, with),
+        }
     }
 }
 
-fn overflow(count: u128) -> MetricResult<u64> {
+fn with_decimals<R>(values: &[f64], with: impl FnOnce(Option<Numbers<'_>>) -> R) -> R {
+    let (mut few, mut many) = ([Decimal::default(); FEW], Vec::new());
+    let decimals = match few.get_mut(..values.len()) {
+        Some(decimals) => decimals,
+        None => {
+            many.resize(values.len(), Decimal::default());
+            &mut many[..]
+        }
+    };
+    for (decimal, value) in decimals.iter_mut().zip(values) {
+        match decimal_of(*value) {
+            Some(found) => *decimal = found,
+            None => return with(None),
+        }
+    }
+    with(Some(Numbers::Decimal(decimals)))
+}
+
+fn join<T: fmt::Display>(f: &mut fmt::Formatter<'_>, values: &[T]) -> fmt::Result {
+    for (index, value) in values.iter().enumerate() {
+        if index > 0 {
+            f.write_char(':')?;
+        }
+        value.fmt(f)?;
+    }
+    Ok(())
+}
+
+impl fmt::Display for MetricValue {
+    fn fmt(&self, f: &mut fmt::Formatter<'_>) -> fmt::Result {
+        match self {
+            MetricValue::Signed(value) => value.fmt(f),
+            MetricValue::PackedSigned(values) => join(f, values),
+            MetricValue::Unsigned(value) => value.fmt(f),
+            MetricValue::PackedUnsigned(values) => join(f, values),
+            MetricValue::Float(value) => value.fmt(f),
+            MetricValue::PackedFloat(values) => join(f, values),
+        }
+    }
+}
+
+/// A count of milliseconds or nanoseconds, if it fits 64 bits.
+fn fitting(count: u128) -> MetricResult<u64> {
     u64::try_from(count).map_err(|_| MetricError::from((ErrorKind::InvalidInput, "u64 overflow")))
 }
 
-fn floats(values: Vec<f64>) -> MetricResult<MetricValue> {
-    Ok(MetricValue::PackedFloat(values.into_iter().map(decimal_of).collect::<Result<_, _>>()?))
+fn packed_durations(durations: &[Duration], unit: fn(&Duration) -> u128) -> MetricResult<MetricValue> {
+    let counts: MetricResult<Vec<u64>> = durations.iter().map(|duration| fitting(unit(duration))).collect();
+    Ok(MetricValue::PackedUnsigned(counts?))
 }
 
-macro_rules! takes {
-    ($name:ident: $($type:ty => |$value:ident| $to:expr;)*) => {
+macro_rules! value_trait {
+    ($(#[$about:meta])* $name:ident: $($type:ty => |$value:ident| $to:expr;)*) => {
+        $(#[$about])*
+        ///
+        /// Implement it for a type of your own to hand that type to a client.
         pub trait $name {
+            /// Answers the value, or the error that the client's call then answers. The impls here fail with
+            /// `InvalidInput` if a duration doesn't fit 64 bits.
             fn try_to_value(self) -> MetricResult<MetricValue>;
         }
         $(impl $name for $type {
@@ -46,39 +138,59 @@ macro_rules! takes {
     };
 }
 
-takes! { ToCounterValue:
+value_trait! {
+    /// What a counter takes: `i64`, `i32`, `u64` and `u32`.
+    ToCounterValue:
     i64 => |n| Ok(MetricValue::Signed(n));
     i32 => |n| Ok(MetricValue::Signed(n.into()));
     u64 => |n| Ok(MetricValue::Unsigned(n));
     u32 => |n| Ok(MetricValue::Unsigned(n.into()));
 }
-takes! { ToTimerValue:
+
+value_trait! {
+    /// What a timer takes: milliseconds as `u64`, a `Duration`, which is cut off to whole milliseconds, and a `Vec` of either.
+    ToTimerValue:
     u64 => |n| Ok(MetricValue::Unsigned(n));
     Vec<u64> => |ns| Ok(MetricValue::PackedUnsigned(ns));
-    Duration => |d| Ok(MetricValue::Unsigned(overflow(d.as_millis())?));
-    Vec<Duration> => |ds| Ok(MetricValue::PackedUnsigned(ds.iter().map(|d| overflow(d.as_millis())).collect::<Result<_, _>>()?));
+    Duration => |d| Ok(MetricValue::Unsigned(fitting(d.as_millis())?));
+    Vec<Duration> => |ds| packed_durations(&ds, Duration::as_millis);
 }
-takes! { ToGaugeValue:
+
+value_trait! {
+    /// What a gauge takes: `u64` and `f64`.
+    ToGaugeValue:
     u64 => |n| Ok(MetricValue::Unsigned(n));
-    f64 => |x| Ok(MetricValue::Float(decimal_of(x)?));
+    f64 => |x| Ok(MetricValue::Float(x));
 }
-takes! { ToMeterValue:
+
+value_trait! {
+    /// What a meter takes: `u64`.
+    ToMeterValue:
     u64 => |n| Ok(MetricValue::Unsigned(n));
 }
-takes! { ToHistogramValue:
+
+value_trait! {
+    /// What a histogram takes: `u64`, `f64`, a `Duration`, which is taken in nanoseconds, and a `Vec` of each.
+    ToHistogramValue:
     u64 => |n| Ok(MetricValue::Unsigned(n));
-    f64 => |x| Ok(MetricValue::Float(decimal_of(x)?));
-    Duration => |d| Ok(MetricValue::Unsigned(overflow(d.as_nanos())?));
+    f64 => |x| Ok(MetricValue::Float(x));
+    Duration => |d| Ok(MetricValue::Unsigned(fitting(d.as_nanos())?));
     Vec<u64> => |ns| Ok(MetricValue::PackedUnsigned(ns));
-    Vec<f64> => |xs| floats(xs);
-    Vec<Duration> => |ds| Ok(MetricValue::PackedUnsigned(ds.iter().map(|d| overflow(d.as_nanos())).collect::<Result<_, _>>()?));
+    Vec<f64> => |xs| Ok(MetricValue::PackedFloat(xs));
+    Vec<Duration> => |ds| packed_durations(&ds, Duration::as_nanos);
 }
-takes! { ToDistributionValue:
+
+value_trait! {
+    /// What a distribution takes: `u64`, `f64`, and a `Vec` of either.
+    ToDistributionValue:
     u64 => |n| Ok(MetricValue::Unsigned(n));
-    f64 => |x| Ok(MetricValue::Float(decimal_of(x)?));
+    f64 => |x| Ok(MetricValue::Float(x));
     Vec<u64> => |ns| Ok(MetricValue::PackedUnsigned(ns));
-    Vec<f64> => |xs| floats(xs);
+    Vec<f64> => |xs| Ok(MetricValue::PackedFloat(xs));
 }
-takes! { ToSetValue:
+
+value_trait! {
+    /// What a set takes: `i64`.
+    ToSetValue:
     i64 => |n| Ok(MetricValue::Signed(n));
 }

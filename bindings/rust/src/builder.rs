@@ -1,0 +1,107 @@
+//! A metric before it is sent.
+use crate::client::{MetricBackend, StatsdClient};
+use crate::line::Record;
+use crate::raw::Tag;
+use crate::types::{Metric, MetricResult};
+use std::marker::PhantomData;
+
+/// A metric before it is sent, to which options are added: tags, a container, a time and a sampling rate.
+///
+/// The calls of a client that end in `_with_tags` make it, and it is sent by [`try_send`](Self::try_send) or
+/// [`send`](Self::send). Texts are printed as they are, separators too.
+///
+/// ```
+/// use cadence::prelude::*;
+/// use cadence::{Metric, NopMetricSink, StatsdClient};
+///
+/// let client = StatsdClient::from_sink("my.service", NopMetricSink);
+/// let counter = client
+///     .count_with_tags("visits", 1)
+///     .with_tag("page", "home")
+///     .with_tag_value("beta")
+///     .try_send()
+///     .unwrap();
+/// assert_eq!("my.service.visits:1|c|#page:home,beta", counter.as_metric_str());
+/// ```
+#[must_use = "a metric is sent by `send` or `try_send`"]
+#[derive(Debug)]
+pub struct MetricBuilder<'m, 'c, T>
+where
+    T: Metric + From<String>,
+{
+    record: MetricResult<Record<'m>>,
+    client: &'c StatsdClient,
+    of: PhantomData<T>,
+}
+
+impl<'m, 'c, T> MetricBuilder<'m, 'c, T>
+where
+    T: Metric + From<String>,
+{
+    #[inline]
+    pub(crate) fn new(record: MetricResult<Record<'m>>, client: &'c StatsdClient) -> Self {
+        MetricBuilder { record, client, of: PhantomData }
+    }
+
+    #[inline]
+    fn with(mut self, add: impl FnOnce(&mut Record<'m>)) -> Self {
+        if let Ok(record) = &mut self.record {
+            add(record);
+        }
+        self
+    }
+
+    /// Adds a tag of a key and a value, after the client's and those that were added before.
+    #[inline]
+    pub fn with_tag(self, key: &'m str, value: &'m str) -> Self {
+        self.with(|record| record.tags.push(Tag::new(Some(key), value)))
+    }
+
+    /// Adds a tag of a value alone.
+    #[inline]
+    pub fn with_tag_value(self, value: &'m str) -> Self {
+        self.with(|record| record.tags.push(Tag::new(None, value)))
+    }
+
+    /// Sets the container, in the place of the client's.
+    pub fn with_container_id(self, container_id: &'m str) -> Self {
+        self.with(|record| record.container = Some(container_id))
+    }
+
+    /// Sets the time of the metric, in seconds since 1970.
+    pub fn with_timestamp(self, timestamp: u64) -> Self {
+        self.with(|record| record.time = Some(timestamp))
+    }
+
+    /// Sets the sampling rate, which a server scales a count by. Nothing is sampled here: every call is sent, so the caller
+    /// sends only that share of its metrics.
+    ///
+    /// A rate that is NaN or infinite makes the call fail with `InvalidInput`.
+    pub fn with_sampling_rate(self, rate: f64) -> Self {
+        self.with(|record| record.rate = Some(rate))
+    }
+
+    /// Sends the metric, and answers it.
+    ///
+    /// It fails with `InvalidInput` if the value doesn't fit or a number is NaN or infinite, and with `IoError` if the sink
+    /// fails or memory is refused. The client can be used after that.
+    pub fn try_send(self) -> MetricResult<T> {
+        let metric = T::from(self.record?.line()?);
+        self.client.send_metric(&metric)?;
+        Ok(metric)
+    }
+
+    /// Sends the metric, and gives an error to the client's error handler, which does nothing if none was set.
+    pub fn send(self) {
+        let client = self.client;
+        if let Err(error) = self.try_send() {
+            client.consume_error(error);
+        }
+    }
+}
+
+// A builder goes to other threads as the crate's does.
+const _: fn() = || {
+    fn both<T: Send + Sync>() {}
+    both::<MetricBuilder<'_, '_, crate::Counter>>();
+};

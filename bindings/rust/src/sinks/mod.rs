@@ -1,0 +1,21 @@
+//! Sinks, which the client hands its lines to.
+mod buffer;
+mod channel;
+mod core;
+mod queuing;
+mod resolve;
+mod spy;
+mod udp;
+#[cfg(unix)]
+mod unix;
+
+pub use self::channel::SpyReceiver;
+pub use self::core::{MetricSink, NopMetricSink, SinkStats, SocketStats};
+pub use self::queuing::{QueuingMetricSink, QueuingMetricSinkBuilder};
+pub use self::spy::{BufferedSpyMetricSink, SpyMetricSink};
+pub use self::udp::{BufferedUdpMetricSink, BufferedUdpMetricSinkBuilder, UdpMetricSink, UdpMetricSinkBuilder};
+#[cfg(unix)]
+pub use self::unix::{BufferedUnixMetricSink, UnixMetricSink};
+
+/// The capacity of a buffered sink that isn't given one: a datagram of so many bytes passes most networks whole.
+const DEFAULT_CAPACITY: usize = 512;

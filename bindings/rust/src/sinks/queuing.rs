@@ -1,0 +1,178 @@
+//! A sink that hands lines to another one in a thread of its own.
+use super::channel::{channel, Sender};
+use super::core::{MetricSink, SinkStats};
+use crate::sync::run_to_end;
+use std::fmt;
+use std::io;
+use std::panic::RefUnwindSafe;
+use std::sync::atomic::{AtomicU64, Ordering};
+use std::sync::Arc;
+
+/// What gets the errors of the wrapped sink.
+type Handler = Box<dyn Fn(io::Error) + Sync + Send + RefUnwindSafe>;
+
+/// Makes a [`QueuingMetricSink`] with a capacity and an error handler.
+///
+/// ```
+/// use cadence::{MetricSink, NopMetricSink, QueuingMetricSinkBuilder};
+///
+/// let sink = QueuingMetricSinkBuilder::new()
+///     .with_capacity(1000)
+///     .with_error_handler(|error| eprintln!("metric lost: {error}"))
+///     .build(NopMetricSink);
+/// sink.emit("visits:1|c").unwrap();
+/// ```
+#[derive(Default)]
+pub struct QueuingMetricSinkBuilder {
+    errors: Option<Handler>,
+    capacity: Option<usize>,
+}
+
+impl QueuingMetricSinkBuilder {
+    /// Starts a sink whose queue has no limit, and which drops the errors of the wrapped one.
+    pub fn new() -> Self {
+        Self::default()
+    }
+
+    /// Makes the sink and its worker thread.
+    ///
+    /// # Panics
+    ///
+    /// If no thread can be started.
+    pub fn build<T>(self, sink: T) -> QueuingMetricSink
+    where
+        T: MetricSink + Sync + Send + RefUnwindSafe + 'static,
+    {
+        let sink = Arc::new(sink);
+        let (sender, receiver) = channel::<String>(self.capacity);
+        let counts = Arc::new(Counts::default());
+        let (counted, wrapped, errors) = (Arc::clone(&counts), Arc::clone(&sink), self.errors);
+        let panics = run_to_end(move || {
+            for line in receiver.iter() {
+                counted.drained.fetch_add(1, Ordering::Relaxed);
+                if let (Err(error), Some(handler)) = (wrapped.emit(&line), &errors) {
+                    handler(error);
+                }
+            }
+        });
+        let panics = panics.expect("a queuing sink needs a thread");
+        QueuingMetricSink { queue: Arc::new(sender), counts, panics, sink }
+    }
+
+    /// Sets what gets the errors of the wrapped sink, in the worker's thread. If it panics, the worker goes on.
+    pub fn with_error_handler<F>(mut self, error_handler: F) -> Self
+    where
+        F: Fn(io::Error) + Sync + Send + RefUnwindSafe + 'static,
+    {
+        self.errors = Some(Box::new(error_handler));
+        self
+    }
+
+    /// Sets how many lines may wait in the queue. With 0 a line is taken only while the worker waits for one.
+    pub fn with_capacity(mut self, capacity: usize) -> Self {
+        self.capacity = Some(capacity);
+        self
+    }
+}
+
+#[derive(Debug, Default)]
+struct Counts {
+    submitted: AtomicU64,
+    drained: AtomicU64,
+}
+
+/// Puts lines in a queue, from which a worker thread hands them to another sink, so that a caller doesn't wait for a socket.
+///
+/// `emit` fails if the queue is full, and puts in nothing then; a queue without a limit is never full. `flush` flushes the
+/// wrapped sink, and doesn't wait for the queue. Clones share the queue. After the drop of the last clone the worker hands
+/// on what is queued, drops the wrapped sink, and ends; the drop doesn't wait for that. If the wrapped sink panics, the
+/// line is lost, and the worker goes on.
+///
+/// ```
+/// use cadence::{MetricSink, QueuingMetricSink, SpyMetricSink};
+///
+/// let (receiver, spy) = SpyMetricSink::new();
+/// let sink = QueuingMetricSink::with_capacity(spy, 1000);
+/// sink.emit("visits:1|c").unwrap();
+/// assert_eq!(b"visits:1|c".to_vec(), receiver.recv().unwrap());
+/// ```
+#[derive(Clone)]
+pub struct QueuingMetricSink {
+    queue: Arc<Sender<String>>,
+    counts: Arc<Counts>,
+    panics: Arc<AtomicU64>,
+    sink: Arc<dyn MetricSink + Send + Sync + RefUnwindSafe>,
+}
+
+impl fmt::Debug for QueuingMetricSink {
+    fn fmt(&self, f: &mut fmt::Formatter<'_>) -> fmt::Result {
+        f.write_str("QueuingMetricSink { Worker { ... } }")
+    }
+}
+
+impl QueuingMetricSink {
+    /// Starts a sink with a capacity or an error handler.
+    pub fn builder() -> QueuingMetricSinkBuilder {
+        QueuingMetricSinkBuilder::new()
+    }
+
+    /// Makes a sink whose queue has no limit: it grows as long as the wrapped sink is slower than the callers.
+    ///
+    /// # Panics
+    ///
+    /// If no thread can be started.
+    pub fn from<T>(sink: T) -> Self
+    where
+        T: MetricSink + Sync + Send + RefUnwindSafe + 'static,
+    {
+        Self::builder().build(sink)
+    }
+
+    /// Makes a sink in whose queue at most so many lines wait.
+    ///
+    /// # Panics
+    ///
+    /// If no thread can be started.
+    pub fn with_capacity<T>(sink: T, capacity: usize) -> Self
+    where
+        T: MetricSink + Sync + Send + RefUnwindSafe + 'static,
+    {
+        Self::builder().with_capacity(capacity).build(sink)
+    }
+
+    /// How often the wrapped sink or the error handler panicked.
+    pub fn panics(&self) -> u64 {
+        self.panics.load(Ordering::Relaxed)
+    }
+
+    /// How many lines wait: those that were put in less those that were handed on. The two are read one after the other.
+    pub fn queued(&self) -> u64 {
+        self.submitted().saturating_sub(self.drained())
+    }
+
+    /// How many lines were put in the queue.
+    pub fn submitted(&self) -> u64 {
+        self.counts.submitted.load(Ordering::Relaxed)
+    }
+
+    /// How many lines the worker handed on, whatever the wrapped sink answered.
+    pub fn drained(&self) -> u64 {
+        self.counts.drained.load(Ordering::Relaxed)
+    }
+}
+
+impl MetricSink for QueuingMetricSink {
+    fn emit(&self, metric: &str) -> io::Result<usize> {
+        self.queue.try_send(metric.to_string())?;
+        self.counts.submitted.fetch_add(1, Ordering::Relaxed);
+        Ok(metric.len())
+    }
+
+    fn flush(&self) -> io::Result<()> {
+        self.sink.flush()
+    }
+
+    fn stats(&self) -> SinkStats {
+        self.sink.stats()
+    }
+}

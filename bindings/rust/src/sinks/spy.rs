@@ -1,0 +1,98 @@
+//! Sinks for tests, whose lines a receiver gets.
+use super::buffer::{Buffer, Outlet};
+use super::channel::{spy_channel, SpyReceiver, SpySender};
+use super::{MetricSink, DEFAULT_CAPACITY};
+use std::io;
+
+/// Gives each line to a receiver, for tests of a service.
+///
+/// `emit` fails if the queue is full or the receiver is gone.
+///
+/// ```
+/// use cadence::prelude::*;
+/// use cadence::{SpyMetricSink, StatsdClient};
+///
+/// let (receiver, sink) = SpyMetricSink::new();
+/// StatsdClient::from_sink("my.service", sink).count("visits", 3).unwrap();
+/// assert_eq!(b"my.service.visits:3|c".to_vec(), receiver.recv().unwrap());
+/// ```
+#[derive(Debug)]
+pub struct SpyMetricSink {
+    sender: SpySender,
+}
+
+impl SpyMetricSink {
+    /// Makes a spy that takes every line.
+    #[allow(clippy::new_ret_no_self)]
+    pub fn new() -> (SpyReceiver<Vec<u8>>, Self) {
+        Self::of(None)
+    }
+
+    /// Makes a spy that refuses a line if so many are there that were not received.
+    pub fn with_capacity(queue: usize) -> (SpyReceiver<Vec<u8>>, Self) {
+        Self::of(Some(queue))
+    }
+
+    fn of(queue: Option<usize>) -> (SpyReceiver<Vec<u8>>, Self) {
+        let (sender, receiver) = spy_channel(queue);
+        (receiver, SpyMetricSink { sender })
+    }
+}
+
+impl MetricSink for SpyMetricSink {
+    fn emit(&self, metric: &str) -> io::Result<usize> {
+        self.sender.send(metric.as_bytes())
+    }
+}
+
+impl Outlet for SpySender {
+    fn send(&self, packet: &[u8]) -> io::Result<usize> {
+        SpySender::send(self, packet)
+    }
+}
+
+/// Packs lines as the buffered sinks over sockets do, and gives each packet to a receiver, for tests of a service.
+///
+/// What is held is given on by `flush` and by the drop.
+///
+/// ```
+/// use cadence::prelude::*;
+/// use cadence::{BufferedSpyMetricSink, StatsdClient};
+///
+/// let (receiver, sink) = BufferedSpyMetricSink::new();
+/// let client = StatsdClient::from_sink("my.service", sink);
+/// client.incr("visits").unwrap();
+/// client.incr("logins").unwrap();
+/// assert!(receiver.is_empty());
+/// client.flush().unwrap();
+/// assert_eq!(b"my.service.visits:1|c\nmy.service.logins:1|c\n".to_vec(), receiver.recv().unwrap());
+/// ```
+#[derive(Debug)]
+pub struct BufferedSpyMetricSink {
+    buffer: Buffer<SpySender>,
+}
+
+impl BufferedSpyMetricSink {
+    /// Makes a spy of packets of 512 bytes, which takes every packet.
+    #[allow(clippy::new_ret_no_self)]
+    pub fn new() -> (SpyReceiver<Vec<u8>>, Self) {
+        Self::with_capacity(None, None)
+    }
+
+    /// Makes a spy of packets of `buffer` bytes, or 512. It refuses a packet if `queue` of them are there that were not
+    /// received.
+    pub fn with_capacity(queue: Option<usize>, buffer: Option<usize>) -> (SpyReceiver<Vec<u8>>, Self) {
+        let (sender, receiver) = spy_channel(queue);
+        (receiver, BufferedSpyMetricSink { buffer: Buffer::expect(sender, buffer.unwrap_or(DEFAULT_CAPACITY)) })
+    }
+}
+
+impl MetricSink for BufferedSpyMetricSink {
+    fn emit(&self, metric: &str) -> io::Result<usize> {
+        self.buffer.emit(metric)
+    }
+
+    fn flush(&self) -> io::Result<()> {
+        self.buffer.flush()
+    }
+}

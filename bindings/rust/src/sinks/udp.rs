@@ -1,0 +1,267 @@
+//! Sinks over UDP.
+use super::buffer::{Buffer, Outlet};
+use super::core::{MetricSink, SinkStats, SocketStats};
+use super::resolve::{LookupHandler, Resolver};
+use super::DEFAULT_CAPACITY;
+use crate::types::MetricResult;
+use std::fmt;
+use std::io;
+use std::net::{ToSocketAddrs, UdpSocket};
+use std::panic::RefUnwindSafe;
+use std::time::Duration;
+
+#[derive(Debug)]
+struct UdpOutlet {
+    resolver: Resolver,
+    socket: UdpSocket,
+    stats: SocketStats,
+}
+
+impl UdpOutlet {
+    fn new(resolver: Resolver, socket: UdpSocket) -> Self {
+        UdpOutlet { resolver, socket, stats: SocketStats::default() }
+    }
+}
+
+impl Outlet for UdpOutlet {
+    fn send(&self, packet: &[u8]) -> io::Result<usize> {
+        self.stats.update(self.socket.send_to(packet, self.resolver.address()), packet.len())
+    }
+}
+
+/// Makes a [`UdpMetricSink`] that looks its host up again and again.
+///
+/// ```no_run
+/// use std::net::UdpSocket;
+/// use std::time::Duration;
+/// use cadence::{UdpMetricSink, DEFAULT_PORT};
+///
+/// let socket = UdpSocket::bind("0.0.0.0:0").unwrap();
+/// let sink = UdpMetricSink::builder()
+///     .with_resolver_period(Duration::from_secs(30))
+///     .with_resolver_error_handler(|error| eprintln!("no address: {error}"))
+///     .build(("statsd.internal", DEFAULT_PORT), socket)
+///     .unwrap();
+/// ```
+#[derive(Default)]
+pub struct UdpMetricSinkBuilder {
+    period: Option<Duration>,
+    errors: Option<LookupHandler>,
+}
+
+impl UdpMetricSinkBuilder {
+    /// Starts a sink that looks its host up once.
+    pub fn new() -> Self {
+        Self::default()
+    }
+
+    /// Makes the sink, which sends to the first address that the host has now, and to the last one that was found later.
+    /// The socket keeps its settings, such as whether it blocks.
+    ///
+    /// It fails with `IoError` if the host can't be looked up or no thread can be started, and with `InvalidInput` if the
+    /// host has no address.
+    pub fn build<A>(self, to_addr: A, socket: UdpSocket) -> MetricResult<UdpMetricSink>
+    where
+        A: ToSocketAddrs + fmt::Debug + Send + Sync + RefUnwindSafe + 'static,
+    {
+        Ok(UdpMetricSink { outlet: UdpOutlet::new(Resolver::new(to_addr, self.period, self.errors)?, socket) })
+    }
+
+    /// Has a thread look the host up again, each time that the period has passed. It ends with the sink's drop.
+    pub fn with_resolver_period(mut self, duration: Duration) -> Self {
+        self.period = Some(duration);
+        self
+    }
+
+    /// Sets what gets the errors of later lookups, in the thread of these. The address stays as it was then. Without a
+    /// period there are no such lookups.
+    pub fn with_resolver_error_handler<F>(mut self, error_handler: F) -> Self
+    where
+        F: Fn(io::Error) + Sync + Send + RefUnwindSafe + 'static,
+    {
+        self.errors = Some(Box::new(error_handler));
+        self
+    }
+}
+
+/// Sends each line as a datagram, in the caller's thread.
+///
+/// ```
+/// use std::net::UdpSocket;
+/// use cadence::prelude::*;
+/// use cadence::{StatsdClient, UdpMetricSink};
+///
+/// let server = UdpSocket::bind("127.0.0.1:0").unwrap();
+/// let sink = UdpMetricSink::from(server.local_addr().unwrap(), UdpSocket::bind("127.0.0.1:0").unwrap()).unwrap();
+/// StatsdClient::from_sink("my.service", sink).incr("visits").unwrap();
+///
+/// let mut packet = [0; 64];
+/// let size = server.recv(&mut packet).unwrap();
+/// assert_eq!(b"my.service.visits:1|c", &packet[..size]);
+/// ```
+#[derive(Debug)]
+pub struct UdpMetricSink {
+    outlet: UdpOutlet,
+}
+
+impl UdpMetricSink {
+    /// Starts a sink that may look its host up again and again.
+    pub fn builder() -> UdpMetricSinkBuilder {
+        UdpMetricSinkBuilder::new()
+    }
+
+    /// Makes a sink that sends to the first address that the host has now. The socket keeps its settings.
+    ///
+    /// It fails with `IoError` if the host can't be looked up, and with `InvalidInput` if it has no address.
+    pub fn from<A>(to_addr: A, socket: UdpSocket) -> MetricResult<Self>
+    where
+        A: ToSocketAddrs,
+    {
+        Ok(UdpMetricSink { outlet: UdpOutlet::new(Resolver::once(&to_addr)?, socket) })
+    }
+}
+
+impl MetricSink for UdpMetricSink {
+    fn emit(&self, metric: &str) -> io::Result<usize> {
+        self.outlet.send(metric.as_bytes())
+    }
+
+    fn stats(&self) -> SinkStats {
+        (&self.outlet.stats).into()
+    }
+}
+
+/// Makes a [`BufferedUdpMetricSink`] of a capacity, which may look its host up again and again.
+///
+/// ```no_run
+/// use std::net::UdpSocket;
+/// use std::time::Duration;
+/// use cadence::{BufferedUdpMetricSink, DEFAULT_PORT};
+///
+/// let socket = UdpSocket::bind("0.0.0.0:0").unwrap();
+/// let sink = BufferedUdpMetricSink::builder()
+///     .with_capacity(1432)
+///     .with_resolver_period(Duration::from_secs(30))
+///     .build(("statsd.internal", DEFAULT_PORT), socket)
+///     .unwrap();
+/// ```
+#[derive(Default)]
+pub struct BufferedUdpMetricSinkBuilder {
+    capacity: Option<usize>,
+    outlet: UdpMetricSinkBuilder,
+}
+
+impl BufferedUdpMetricSinkBuilder {
+    /// Starts a sink of packets of 512 bytes, which looks its host up once.
+    pub fn new() -> Self {
+        Self::default()
+    }
+
+    /// Makes the sink, as [`UdpMetricSinkBuilder::build`] does, and fails as that.
+    pub fn build<A>(self, to_addr: A, socket: UdpSocket) -> MetricResult<BufferedUdpMetricSink>
+    where
+        A: ToSocketAddrs + fmt::Debug + Send + Sync + RefUnwindSafe + 'static,
+    {
+        let outlet = self.outlet.build(to_addr, socket)?.outlet;
+        BufferedUdpMetricSink::of(outlet, self.capacity.unwrap_or(DEFAULT_CAPACITY))
+    }
+
+    /// Sets how many bytes a packet holds.
+    pub fn with_capacity(mut self, capacity: usize) -> Self {
+        self.capacity = Some(capacity);
+        self
+    }
+
+    /// Has a thread look the host up again, each time that the period has passed. It ends with the sink's drop.
+    pub fn with_resolver_period(mut self, duration: Duration) -> Self {
+        self.outlet = self.outlet.with_resolver_period(duration);
+        self
+    }
+
+    /// Sets what gets the errors of later lookups, in the thread of these. The address stays as it was then.
+    pub fn with_resolver_error_handler<F>(mut self, error_handler: F) -> Self
+    where
+        F: Fn(io::Error) + Sync + Send + RefUnwindSafe + 'static,
+    {
+        self.outlet = self.outlet.with_resolver_error_handler(error_handler);
+        self
+    }
+}
+
+/// Packs lines, and sends each packet as a datagram, in the caller's thread.
+///
+/// A line is held with a newline. If it doesn't fit beside what is held, that is sent first. If it passes the capacity with
+/// its newline, it is sent alone, without the newline. `flush` and the drop send what is held.
+///
+/// If the socket refuses what is held, that stays held and is sent with a later call; the line of a call that answers an
+/// error is not kept, so a caller may try it again. A line that is sent alone is dropped if the socket refuses it, because
+/// a datagram that is too long for it would be refused for ever.
+///
+/// ```
+/// use std::net::UdpSocket;
+/// use cadence::prelude::*;
+/// use cadence::{BufferedUdpMetricSink, StatsdClient};
+///
+/// let server = UdpSocket::bind("127.0.0.1:0").unwrap();
+/// let socket = UdpSocket::bind("127.0.0.1:0").unwrap();
+/// let sink = BufferedUdpMetricSink::with_capacity(server.local_addr().unwrap(), socket, 1432).unwrap();
+/// let client = StatsdClient::from_sink("my.service", sink);
+/// client.incr("visits").unwrap();
+/// client.gauge("load", 0.75).unwrap();
+/// client.flush().unwrap();
+///
+/// let mut packet = [0; 1432];
+/// let size = server.recv(&mut packet).unwrap();
+/// assert_eq!(b"my.service.visits:1|c\nmy.service.load:0.75|g\n", &packet[..size]);
+/// ```
+#[derive(Debug)]
+pub struct BufferedUdpMetricSink {
+    buffer: Buffer<UdpOutlet>,
+    stats: SocketStats,
+}
+
+impl BufferedUdpMetricSink {
+    /// Makes a sink of packets of 512 bytes, which sends to the first address that the host has now.
+    ///
+    /// It fails with `IoError` if the host can't be looked up or memory is refused, and with `InvalidInput` if the host has
+    /// no address.
+    pub fn from<A>(sink_addr: A, socket: UdpSocket) -> MetricResult<Self>
+    where
+        A: ToSocketAddrs,
+    {
+        Self::with_capacity(sink_addr, socket, DEFAULT_CAPACITY)
+    }
+
+    /// Makes a sink of packets of `cap` bytes, which sends to the first address that the host has now. The socket keeps its
+    /// settings, such as whether it blocks. It fails as [`from`](Self::from) does.
+    pub fn with_capacity<A>(to_addr: A, socket: UdpSocket, cap: usize) -> MetricResult<Self>
+    where
+        A: ToSocketAddrs,
+    {
+        Self::of(UdpOutlet::new(Resolver::once(&to_addr)?, socket), cap)
+    }
+
+    /// Starts a sink that may look its host up again and again.
+    pub fn builder() -> BufferedUdpMetricSinkBuilder {
+        BufferedUdpMetricSinkBuilder::new()
+    }
+
+    fn of(outlet: UdpOutlet, capacity: usize) -> MetricResult<Self> {
+        let stats = outlet.stats.clone();
+        Ok(BufferedUdpMetricSink { buffer: Buffer::new(outlet, capacity)?, stats })
+    }
+}
+
+impl MetricSink for BufferedUdpMetricSink {
+    fn emit(&self, metric: &str) -> io::Result<usize> {
+        self.buffer.emit(metric)
+    }
+
+    fn flush(&self) -> io::Result<()> {
+        self.buffer.flush()
+    }
+
+    fn stats(&self) -> SinkStats {
+        (&self.stats).into()
+    }
+}

@@ -1,0 +1,113 @@
+//! Sinks over Unix datagram sockets.
+use super::buffer::{Buffer, Outlet};
+use super::core::{MetricSink, SinkStats, SocketStats};
+use super::DEFAULT_CAPACITY;
+use std::io;
+use std::os::unix::net::UnixDatagram;
+use std::path::{Path, PathBuf};
+
+#[derive(Debug)]
+struct UnixOutlet {
+    socket: UnixDatagram,
+    path: PathBuf,
+    stats: SocketStats,
+}
+
+impl UnixOutlet {
+    fn new<P: AsRef<Path>>(path: P, socket: UnixDatagram) -> Self {
+        UnixOutlet { socket, path: path.as_ref().to_path_buf(), stats: SocketStats::default() }
+    }
+}
+
+impl Outlet for UnixOutlet {
+    fn send(&self, packet: &[u8]) -> io::Result<usize> {
+        self.stats.update(self.socket.send_to(packet, &self.path), packet.len())
+    }
+}
+
+/// Sends each line as a datagram to a Unix socket, in the caller's thread.
+///
+/// `emit` fails if no socket has the path or nobody listens there.
+///
+/// ```no_run
+/// use std::os::unix::net::UnixDatagram;
+/// use cadence::{StatsdClient, UnixMetricSink};
+///
+/// let sink = UnixMetricSink::from("/run/statsd.sock", UnixDatagram::unbound().unwrap());
+/// let client = StatsdClient::from_sink("my.service", sink);
+/// ```
+#[derive(Debug)]
+pub struct UnixMetricSink {
+    outlet: UnixOutlet,
+}
+
+impl UnixMetricSink {
+    /// Makes a sink that sends to a path. The socket keeps its settings, such as whether it blocks, and may be unbound.
+    pub fn from<P>(path: P, socket: UnixDatagram) -> UnixMetricSink
+    where
+        P: AsRef<Path>,
+    {
+        UnixMetricSink { outlet: UnixOutlet::new(path, socket) }
+    }
+}
+
+impl MetricSink for UnixMetricSink {
+    fn emit(&self, metric: &str) -> io::Result<usize> {
+        self.outlet.send(metric.as_bytes())
+    }
+
+    fn stats(&self) -> SinkStats {
+        (&self.outlet.stats).into()
+    }
+}
+
+/// Packs lines, and sends each packet as a datagram to a Unix socket, in the caller's thread.
+///
+/// It packs, refuses and tries again as [`BufferedUdpMetricSink`](crate::BufferedUdpMetricSink) does.
+///
+/// ```no_run
+/// use std::os::unix::net::UnixDatagram;
+/// use cadence::{BufferedUnixMetricSink, StatsdClient};
+///
+/// let sink = BufferedUnixMetricSink::with_capacity("/run/statsd.sock", UnixDatagram::unbound().unwrap(), 1432);
+/// let client = StatsdClient::from_sink("my.service", sink);
+/// ```
+#[derive(Debug)]
+pub struct BufferedUnixMetricSink {
+    buffer: Buffer<UnixOutlet>,
+    stats: SocketStats,
+}
+
+impl BufferedUnixMetricSink {
+    /// Makes a sink of packets of 512 bytes, which sends to a path.
+    pub fn from<P>(path: P, socket: UnixDatagram) -> BufferedUnixMetricSink
+    where
+        P: AsRef<Path>,
+    {
+        Self::with_capacity(path, socket, DEFAULT_CAPACITY)
+    }
+
+    /// Makes a sink of packets of `cap` bytes, which sends to a path. The socket keeps its settings, and may be unbound.
+    pub fn with_capacity<P>(path: P, socket: UnixDatagram, cap: usize) -> BufferedUnixMetricSink
+    where
+        P: AsRef<Path>,
+    {
+        let outlet = UnixOutlet::new(path, socket);
+        let stats = outlet.stats.clone();
+        BufferedUnixMetricSink { buffer: Buffer::expect(outlet, cap), stats }
+    }
+}
+
+impl MetricSink for BufferedUnixMetricSink {
+    fn emit(&self, metric: &str) -> io::Result<usize> {
+        self.buffer.emit(metric)
+    }
+
+    fn flush(&self) -> io::Result<()> {
+        self.buffer.flush()
+    }
+
+    fn stats(&self) -> SinkStats {
+        (&self.stats).into()
+    }
+}

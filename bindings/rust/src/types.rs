@@ -1,0 +1,194 @@
+//! Metrics that were made, and the errors of calls.
+use crate::line::Record;
+use crate::raw::Kind;
+use crate::value::MetricValue;
+use std::alloc::{handle_alloc_error, Layout};
+use std::{error, fmt, io};
+
+/// A metric that has a line of the Statsd format.
+pub trait Metric {
+    /// The line, without a newline.
+    fn as_metric_str(&self) -> &str;
+}
+
+/// The line of a metric's constructor, which has no way to answer an error: if memory is refused, the process ends, as it
+/// does for a `Vec`.
+fn line_of(prefix: &str, kind: Kind, key: &str, value: MetricValue) -> String {
+    let record = Record::new(prefix, kind, key, value);
+    record.any_line().unwrap_or_else(|_| handle_alloc_error(Layout::new::<String>()))
+}
+
+macro_rules! metric {
+    ($(#[$about:meta])* $name:ident: $($(#[$of:meta])* $new:ident($type:ty => $value:ident);)*) => {
+        $(#[$about])*
+        ///
+        /// It is its line, which `as_metric_str` answers.
+        #[derive(PartialEq, Eq, Debug, Hash, Clone)]
+        pub struct $name {
+            line: String,
+        }
+
+        impl $name {
+            $($(#[$of])* pub fn $new(prefix: &str, key: &str, value: $type) -> Self {
+                Self::from(line_of(prefix, Kind::$name, key, MetricValue::$value(value)))
+            })*
+        }
+
+        impl From<String> for $name {
+            fn from(line: String) -> Self {
+                $name { line }
+            }
+        }
+
+        impl Metric for $name {
+            fn as_metric_str(&self) -> &str {
+                &self.line
+            }
+        }
+    };
+}
+
+metric! {
+    /// A counter, which a server adds up.
+    Counter:
+    /// Makes a counter without a client. The prefix is printed as it stands, so it ends with a dot if it is to.
+    ///
+    /// ```
+    /// use cadence::{Counter, Metric};
+    ///
+    /// assert_eq!("my.service.visits:4|c", Counter::new("my.service.", "visits", 4).as_metric_str());
+    /// ```
+    new(i64 => Signed);
+}
+
+metric! {
+    /// A timer, in milliseconds.
+    Timer:
+    /// Makes a timer without a client. The prefix is printed as it stands.
+    new(u64 => Unsigned);
+}
+
+metric! {
+    /// A gauge, a value at a moment, which stays until the next one.
+    Gauge:
+    /// Makes a gauge of a whole number without a client. The prefix is printed as it stands.
+    new(u64 => Unsigned);
+    /// Makes a gauge of a float without a client. The prefix is printed as it stands. NaN and infinities are printed as
+    /// `NaN`, `inf` and `-inf`, because there is no error to answer; a client refuses them.
+    new_f64(f64 => Float);
+}
+
+metric! {
+    /// A meter, of which a server measures the rate.
+    Meter:
+    /// Makes a meter without a client. The prefix is printed as it stands.
+    new(u64 => Unsigned);
+}
+
+metric! {
+    /// A histogram, of whose values a server computes the distribution.
+    Histogram:
+    /// Makes a histogram of a whole number without a client. The prefix is printed as it stands.
+    new(u64 => Unsigned);
+    /// Makes a histogram of a float without a client, as [`Gauge::new_f64`] makes a gauge.
+    new_f64(f64 => Float);
+}
+
+metric! {
+    /// A distribution, which a server computes over all hosts.
+    Distribution:
+    /// Makes a distribution of a whole number without a client. The prefix is printed as it stands.
+    new(u64 => Unsigned);
+    /// Makes a distribution of a float without a client, as [`Gauge::new_f64`] makes a gauge.
+    new_f64(f64 => Float);
+}
+
+metric! {
+    /// A set, of which a server counts the different values.
+    Set:
+    /// Makes a set's value without a client. The prefix is printed as it stands.
+    new(i64 => Signed);
+}
+
+/// What kind of error a call met.
+#[derive(PartialEq, Eq, Debug, Hash, Clone, Copy)]
+pub enum ErrorKind {
+    /// The value can't be sent: a duration doesn't fit 64 bits, or a float is NaN or infinite. Or a sink was given a name
+    /// that leads to no address.
+    InvalidInput,
+    /// A sink, a socket or a lookup failed, or memory was refused; the error's `source` says why.
+    IoError,
+}
+
+/// Why a metric was not sent, or why a sink was not made. A client can be used after each of its errors.
+///
+/// ```
+/// use std::error::Error;
+/// use cadence::{ErrorKind, MetricError};
+///
+/// let error = MetricError::from(std::io::Error::other("the socket is gone"));
+/// assert_eq!(ErrorKind::IoError, error.kind());
+/// assert_eq!("the socket is gone", error.source().unwrap().to_string());
+/// ```
+#[derive(Debug)]
+pub struct MetricError {
+    fault: Fault,
+}
+
+#[derive(Debug)]
+enum Fault {
+    Text(ErrorKind, &'static str),
+    Io(io::Error),
+}
+
+/// The answer of a call: what it made, or its error.
+pub type MetricResult<T> = Result<T, MetricError>;
+
+impl MetricError {
+    /// The kind of the error.
+    pub fn kind(&self) -> ErrorKind {
+        match &self.fault {
+            Fault::Text(kind, _) => *kind,
+            Fault::Io(_) => ErrorKind::IoError,
+        }
+    }
+}
+
+impl From<io::Error> for MetricError {
+    fn from(error: io::Error) -> Self {
+        MetricError { fault: Fault::Io(error) }
+    }
+}
+
+impl From<(ErrorKind, &'static str)> for MetricError {
+    fn from((kind, text): (ErrorKind, &'static str)) -> Self {
+        MetricError { fault: Fault::Text(kind, text) }
+    }
+}
+
+impl fmt::Display for MetricError {
+    fn fmt(&self, f: &mut fmt::Formatter<'_>) -> fmt::Result {
+        match &self.fault {
+            Fault::Text(_, text) => text.fmt(f),
+            Fault::Io(error) => error.fmt(f),
+        }
+    }
+}
+
+impl error::Error for MetricError {
+    fn source(&self) -> Option<&(dyn error::Error + 'static)> {
+        match &self.fault {
+            Fault::Text(..) => None,
+            Fault::Io(error) => Some(error),
+        }
+    }
+
+    // Callers of the deprecated method get the text of the error, as the crate answers it.
+    #[allow(deprecated)]
+    fn description(&self) -> &str {
+        match &self.fault {
+            Fault::Text(_, text) => text,
+            Fault::Io(error) => error.description(),
+        }
+    }
+}

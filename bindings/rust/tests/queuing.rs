@@ -1,0 +1,191 @@
+//! The sink with a worker thread.
+use cadence::prelude::*;
+use cadence::{MetricSink, NopMetricSink, QueuingMetricSink, SinkStats, SpyMetricSink, StatsdClient};
+use std::io;
+use std::panic::{catch_unwind, AssertUnwindSafe};
+use std::sync::atomic::{AtomicU64, Ordering};
+use std::sync::mpsc::{channel, Receiver, Sender};
+use std::sync::{Arc, Mutex};
+use std::thread;
+use std::time::{Duration, Instant};
+
+fn until(what: impl Fn() -> bool) {
+    let start = Instant::now();
+    while !what() {
+        assert!(start.elapsed() < Duration::from_secs(60), "it never comes true");
+        thread::yield_now();
+    }
+}
+
+fn texts(receiver: &cadence::ext::SpyReceiver<Vec<u8>>) -> Vec<String> {
+    receiver.iter().map(|line| String::from_utf8(line).unwrap()).collect()
+}
+
+#[test]
+fn lines_are_handed_on_in_order_and_after_the_drop_too() {
+    let (receiver, spy) = SpyMetricSink::new();
+    let sink = QueuingMetricSink::from(spy);
+    let lines: Vec<String> = (0..1_000).map(|n| format!("k:{n}|c")).collect();
+    for line in &lines {
+        assert_eq!(line.len(), sink.emit(line).unwrap());
+    }
+    assert_eq!(1_000, sink.submitted());
+    drop(sink);
+    assert_eq!(lines, texts(&receiver));
+}
+
+/// A sink that waits for leave to take each line.
+struct Gate {
+    leave: Mutex<Receiver<()>>,
+}
+
+fn gate() -> (Sender<()>, Gate) {
+    let (sender, receiver) = channel();
+    (sender, Gate { leave: Mutex::new(receiver) })
+}
+
+impl MetricSink for Gate {
+    fn emit(&self, metric: &str) -> io::Result<usize> {
+        let _ = self.leave.lock().unwrap().recv();
+        Ok(metric.len())
+    }
+}
+
+#[test]
+fn a_full_queue_refuses() {
+    let (leave, gate) = gate();
+    let sink = QueuingMetricSink::with_capacity(gate, 2);
+    sink.emit("a").unwrap();
+    until(|| sink.drained() == 1);
+    sink.emit("b").unwrap();
+    sink.emit("c").unwrap();
+    assert_eq!("channel full", sink.emit("d").unwrap_err().to_string());
+    assert_eq!((3, 1, 2), (sink.submitted(), sink.drained(), sink.queued()));
+    leave.send(()).unwrap();
+    until(|| sink.drained() == 2);
+    sink.emit("e").unwrap();
+    assert_eq!(4, sink.submitted());
+}
+
+#[test]
+fn a_full_queue_still_ends_and_drops_the_wrapped_sink() {
+    struct Told(Gate, Sender<&'static str>);
+    impl MetricSink for Told {
+        fn emit(&self, metric: &str) -> io::Result<usize> {
+            self.0.emit(metric)
+        }
+    }
+    impl Drop for Told {
+        fn drop(&mut self) {
+            self.1.send("dropped").unwrap();
+        }
+    }
+    let ((leave, gate), (tell, told)) = (gate(), channel());
+    let sink = QueuingMetricSink::with_capacity(Told(gate, tell), 1);
+    sink.emit("a").unwrap();
+    until(|| sink.drained() == 1);
+    sink.emit("b").unwrap();
+    assert!(sink.emit("c").is_err());
+    drop(sink);
+    drop(leave);
+    assert_eq!("dropped", told.recv_timeout(Duration::from_secs(60)).unwrap());
+}
+
+#[test]
+fn the_worker_ends_with_the_last_clone() {
+    let (receiver, spy) = SpyMetricSink::new();
+    let sink = QueuingMetricSink::from(spy);
+    let other = sink.clone();
+    drop(sink);
+    other.emit("a").unwrap();
+    assert_eq!(b"a".to_vec(), receiver.recv().unwrap());
+    assert_eq!((1, 1), (other.submitted(), other.drained()));
+    drop(other);
+    assert!(receiver.recv().is_err());
+}
+
+struct Panicking {
+    every: u64,
+    calls: AtomicU64,
+}
+
+impl MetricSink for Panicking {
+    fn emit(&self, metric: &str) -> io::Result<usize> {
+        let nth = self.calls.fetch_add(1, Ordering::SeqCst) + 1;
+        assert!(nth % self.every != 0, "this sink is meant to panic");
+        Ok(metric.len())
+    }
+}
+
+#[test]
+fn the_worker_goes_on_after_panics() {
+    for (every, panics) in [(1, 3), (2, 1)] {
+        let sink = QueuingMetricSink::from(Panicking { every, calls: AtomicU64::new(0) });
+        let caught = catch_unwind(AssertUnwindSafe(|| ["a", "b", "c"].map(|line| sink.emit(line).unwrap())));
+        assert!(caught.is_ok());
+        until(|| sink.drained() == 3 && sink.panics() == panics);
+        assert_eq!(0, sink.queued());
+    }
+}
+
+struct Failing;
+
+impl MetricSink for Failing {
+    fn emit(&self, metric: &str) -> io::Result<usize> {
+        Err(io::Error::other(metric.to_string()))
+    }
+
+    fn flush(&self) -> io::Result<()> {
+        Err(io::Error::other("flush"))
+    }
+
+    fn stats(&self) -> SinkStats {
+        SinkStats { packets_dropped: 7, ..SinkStats::default() }
+    }
+}
+
+#[test]
+fn the_handler_gets_the_errors_of_the_wrapped_sink() {
+    let (tell, told) = channel();
+    let tell = Mutex::new(tell);
+    let sink = QueuingMetricSink::builder()
+        .with_capacity(10)
+        .with_error_handler(move |error| tell.lock().unwrap().send(error.to_string()).unwrap())
+        .build(Failing);
+    sink.emit("a").unwrap();
+    sink.emit("b").unwrap();
+    let get = || told.recv_timeout(Duration::from_secs(60)).unwrap();
+    assert_eq!(("a".to_string(), "b".to_string()), (get(), get()));
+    assert_eq!("flush", sink.flush().unwrap_err().to_string());
+    assert_eq!(7, sink.stats().packets_dropped);
+}
+
+#[test]
+fn without_a_handler_errors_are_dropped() {
+    let sink = QueuingMetricSink::from(Failing);
+    sink.emit("a").unwrap();
+    until(|| sink.drained() == 1);
+    assert_eq!(0, sink.panics());
+}
+
+#[test]
+fn threads_share_a_queue() {
+    let (receiver, spy) = SpyMetricSink::new();
+    let client = Arc::new(StatsdClient::from_sink("p", QueuingMetricSink::from(spy)));
+    let threads: Vec<_> = (0..4)
+        .map(|_| {
+            let client = Arc::clone(&client);
+            thread::spawn(move || (0..5_000).for_each(|n| drop(client.count("k", n).unwrap())))
+        })
+        .collect();
+    threads.into_iter().for_each(|thread| thread.join().unwrap());
+    drop(client);
+    assert_eq!(20_000, texts(&receiver).len());
+}
+
+#[test]
+fn a_queue_of_capacity_0_takes_a_line_while_its_worker_waits() {
+    let sink = QueuingMetricSink::with_capacity(NopMetricSink, 0);
+    until(|| sink.emit("a").is_ok());
+    until(|| sink.drained() == 1);
+}
