@@ -54,13 +54,13 @@ where
     /// Adds a tag of a key and a value, after the client's and those that were added before.
     #[inline]
     pub fn with_tag(self, key: &'m str, value: &'m str) -> Self {
-        self.with(|record| record.tags.push(Tag::new(Some(key), value)))
+        self.with(|record| record.add_tag(Tag::new(Some(key), value)))
     }
 
     /// Adds a tag of a value alone.
     #[inline]
     pub fn with_tag_value(self, value: &'m str) -> Self {
-        self.with(|record| record.tags.push(Tag::new(None, value)))
+        self.with(|record| record.add_tag(Tag::new(None, value)))
     }
 
     /// Sets the container, in the place of the client's.
@@ -86,7 +86,11 @@ where
     /// It fails with `InvalidInput` if the value doesn't fit or a number is NaN or infinite, and with `IoError` if the sink
     /// fails or memory is refused. The client can be used after that.
     pub fn try_send(self) -> MetricResult<T> {
-        let metric = T::from(self.record?.line()?);
+        let record = match &self.record {
+            Ok(record) => record,
+            Err(_) => return self.record.and_then(|record| Ok(T::from(record.line()?))),
+        };
+        let metric = T::from(record.line()?);
         self.client.send_metric(&metric)?;
         Ok(metric)
     }

@@ -2,19 +2,47 @@
 use crate::raw::Decimal;
 use std::fmt::{self, Write};
 
-/// The most places that the library prints.
-const PLACES: usize = 30;
+/// The most places that the library prints, and the most digits that fit 63 bits for sure or may do so.
+const PLACES: u8 = 30;
+const DIGITS: usize = 19;
+
+/// The longest text of a decimal: a sign, a 0, a dot and 30 places.
+const LONGEST: usize = 33;
+
+/// How many floats need no memory to be printed.
+const FEW: usize = 8;
 
 /// The decimal that a float prints as, if its digits fit 63 bits over at most 10 to the power of 30. There is none for -0,
-/// because a decimal has no sign of zero, nor for what is not finite.
+/// because a decimal has no sign of zero, nor for what is not finite. It has no zeros at the end of its places.
+#[inline]
 pub(crate) fn decimal_of(number: f64) -> Option<Decimal> {
     short_decimal(number, 2, 1e2).or_else(|| short_decimal(number, 6, 1e6)).or_else(|| shortest_decimal(number))
+}
+
+/// Hands on the decimals of several floats, or nothing if one has none.
+pub(crate) fn with_decimals<R>(numbers: &[f64], with: impl FnOnce(Option<&[Decimal]>) -> R) -> R {
+    let (mut few, mut many) = ([Decimal::default(); FEW], Vec::new());
+    let decimals = match few.get_mut(..numbers.len()) {
+        Some(decimals) => decimals,
+        None => {
+            many.resize(numbers.len(), Decimal::default());
+            &mut many[..]
+        }
+    };
+    for (decimal, number) in decimals.iter_mut().zip(numbers) {
+        match decimal_of(*number) {
+            Some(found) => *decimal = found,
+            None => return with(None),
+        }
+    }
+    with(Some(decimals))
 }
 
 /// The decimal of a float that prints with at most so many places, and with at most 15 digits.
 ///
 /// Decimals of at most 15 digits lead to floats that differ, so the one that leads to this float is what it prints as.
 /// `scale` is 10 to the power of `places`; both numbers of the division are exact, so its answer is the float of the decimal.
+#[inline]
 fn short_decimal(number: f64, places: u8, scale: f64) -> Option<Decimal> {
     let scaled = number * scale;
     if scaled.is_nan() || scaled.abs() >= 1e15 {
@@ -22,52 +50,59 @@ fn short_decimal(number: f64, places: u8, scale: f64) -> Option<Decimal> {
     }
     let mantissa = (scaled + 0.5_f64.copysign(scaled)) as i64;
     let found = mantissa as f64 / scale == number && (mantissa != 0 || number.is_sign_positive());
-    found.then_some(Decimal { mantissa, places })
+    found.then(|| lowest(mantissa, places))
 }
 
-/// The decimal of the text that a float prints.
+/// The decimal without the zeros at the end of its places.
+#[inline]
+fn lowest(mut mantissa: i64, mut places: u8) -> Decimal {
+    while places > 0 && mantissa % 10 == 0 {
+        mantissa /= 10;
+        places -= 1;
+    }
+    Decimal { mantissa, places }
+}
+
+/// The decimal of the text that a float prints. It has no zeros at the end of its places, since the text has none.
 fn shortest_decimal(number: f64) -> Option<Decimal> {
-    let mut text = Digits::default();
-    write!(text, "{number}").ok()?;
-    let magnitude = i64::try_from(text.magnitude).ok()?;
-    if magnitude == 0 {
+    if !number.is_finite() {
         return None;
     }
-    let mantissa = if text.negative { -magnitude } else { magnitude };
-    Some(Decimal { mantissa, places: text.places.unwrap_or(0) as u8 })
-}
-
-/// Reads the text of a decimal as it is printed. It refuses what doesn't fit.
-#[derive(Default)]
-struct Digits {
-    magnitude: u64,
-    places: Option<usize>,
-    negative: bool,
-}
-
-impl Digits {
-    fn read(&mut self, byte: u8) -> Option<()> {
+    let mut text = Text { bytes: [0; LONGEST], length: 0 };
+    write!(text, "{number}").ok()?;
+    let (mut magnitude, mut digits, mut places) = (0_u64, 0, None);
+    for byte in &text.bytes[..text.length] {
         match byte {
-            b'-' => self.negative = true,
-            b'.' => self.places = Some(0),
-            b'0'..=b'9' => {
-                self.magnitude = self.magnitude.checked_mul(10)?.checked_add(u64::from(byte - b'0'))?;
-                if let Some(places) = &mut self.places {
-                    *places += 1;
-                    if *places > PLACES {
-                        return None;
-                    }
-                }
+            b'-' => {}
+            b'.' => places = Some(0),
+            digit => {
+                magnitude = magnitude.wrapping_mul(10).wrapping_add(u64::from(digit - b'0'));
+                digits += usize::from(magnitude > 0);
+                places = places.map(|places| places + 1);
             }
-            _ => return None,
         }
-        Some(())
     }
+    let places = places.unwrap_or(0);
+    if digits > DIGITS || places > PLACES || magnitude == 0 {
+        return None;
+    }
+    let magnitude = i64::try_from(magnitude).ok()?;
+    Some(Decimal { mantissa: if text.bytes[0] == b'-' { -magnitude } else { magnitude }, places })
 }
 
-impl Write for Digits {
+/// A text that is refused if it is longer than that of any decimal.
+struct Text {
+    bytes: [u8; LONGEST],
+    length: usize,
+}
+
+impl Write for Text {
     fn write_str(&mut self, text: &str) -> fmt::Result {
-        text.bytes().try_for_each(|byte| self.read(byte)).ok_or(fmt::Error)
+        let end = self.length + text.len();
+        let room = self.bytes.get_mut(self.length..end).ok_or(fmt::Error)?;
+        room.copy_from_slice(text.as_bytes());
+        self.length = end;
+        Ok(())
     }
 }
 
@@ -86,10 +121,10 @@ mod tests {
     }
 
     fn agrees(number: f64) {
-        for found in [short_decimal(number, 2, 1e2), short_decimal(number, 6, 1e6), shortest_decimal(number)] {
-            if let Some(decimal) = found {
-                assert_eq!(number.to_string(), text_of(decimal), "{number:?}");
-            }
+        let found = [short_decimal(number, 2, 1e2), short_decimal(number, 6, 1e6), shortest_decimal(number)];
+        for decimal in found.into_iter().flatten() {
+            assert_eq!(number.to_string(), text_of(decimal), "{number:?}");
+            assert!(decimal.places == 0 || decimal.mantissa % 10 != 0, "{number:?}");
         }
     }
 

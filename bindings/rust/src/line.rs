@@ -1,13 +1,17 @@
 //! The line of a metric.
-use crate::decimal::decimal_of;
+use crate::decimal::{decimal_of, with_decimals};
 use crate::raw::{append_line, Decimal, Kind, Numbers, Options, Tag};
 use crate::types::{ErrorKind, MetricError, MetricResult};
 use crate::value::MetricValue;
 use std::io;
+use std::slice::from_ref;
 
 /// The most bytes of an integer, and of a decimal, which has at most 30 places.
 const INTEGER: usize = 20;
 const DECIMAL: usize = 33;
+
+/// For how many tags the first one takes memory.
+const FIRST_TAGS: usize = 4;
 
 /// What a line is made of. The library formats it. It has no text for a float whose digits don't fit 63 bits over 10 to the
 /// power of 30, nor for -0: there the library formats the line without that number, and its text is put in.
@@ -40,25 +44,41 @@ impl<'a> Record<'a> {
 
     /// The line, whatever its numbers are.
     pub(crate) fn any_line(&self) -> io::Result<String> {
+        let numbers = match &self.value {
+            MetricValue::Signed(value) => Numbers::Signed(from_ref(value)),
+            MetricValue::PackedSigned(values) => Numbers::Signed(values),
+            MetricValue::Unsigned(value) => Numbers::Unsigned(from_ref(value)),
+            MetricValue::PackedUnsigned(values) => Numbers::Unsigned(values),
+            MetricValue::Float(value) => return self.line_of_float(*value),
+            MetricValue::PackedFloat(values) => {
+                return with_decimals(values, |found| self.line_of(found.map(Numbers::Decimal)));
+            }
+        };
+        self.line_of(Some(numbers))
+    }
+
+    /// The line of a float, which the library prints faster as an integer, if it is one.
+    fn line_of_float(&self, value: f64) -> io::Result<String> {
+        match decimal_of(value) {
+            None => self.line_of(None),
+            Some(Decimal { mantissa, places: 0 }) => self.line_of(Some(Numbers::Signed(&[mantissa]))),
+            Some(decimal) => self.line_of(Some(Numbers::Decimal(&[decimal]))),
+        }
+    }
+
+    /// The line of these numbers, or of the value's text, if there are none.
+    fn line_of(&self, numbers: Option<Numbers<'_>>) -> io::Result<String> {
         let rate = self.rate.map(decimal_of);
+        let options = Options::new(&self.tags, self.container, rate.flatten(), self.time);
         let mut line = String::with_capacity(self.size());
-        self.value.with_numbers(|numbers| self.append(&mut line, numbers, rate.flatten()))?;
+        append_line(&mut line, self.prefix, self.kind, self.key, numbers.unwrap_or(Numbers::Decimal(&[])), &options)?;
+        if numbers.is_none() {
+            line.insert_str(self.value_at(), &self.value.to_string());
+        }
         if let (Some(None), Some(rate)) = (rate, self.rate) {
             self.insert_rate(&mut line, rate);
         }
         Ok(line)
-    }
-
-    fn append(&self, line: &mut String, numbers: Option<Numbers<'_>>, rate: Option<Decimal>) -> io::Result<()> {
-        let options = Options::new(&self.tags, self.container, rate, self.time);
-        match numbers {
-            Some(numbers) => append_line(line, self.prefix, self.kind, self.key, numbers, &options),
-            None => {
-                append_line(line, self.prefix, self.kind, self.key, Numbers::Decimal(&[]), &options)?;
-                line.insert_str(self.value_at(), &self.value.to_string());
-                Ok(())
-            }
-        }
     }
 
     /// Where the value stands in the line: after the prefix, the key and a colon.
@@ -71,6 +91,15 @@ impl<'a> Record<'a> {
         let after_value = self.value_at() + self.value.to_string().len();
         let at = line[after_value + 1..].find('|').map_or(line.len(), |size| after_value + 1 + size);
         line.insert_str(at, &format!("|@{rate}"));
+    }
+
+    /// Adds a tag. The first one takes memory for some more.
+    #[inline]
+    pub(crate) fn add_tag(&mut self, tag: Tag<'a>) {
+        if self.tags.capacity() == 0 {
+            self.tags = Vec::with_capacity(FIRST_TAGS);
+        }
+        self.tags.push(tag);
     }
 
     /// How many bytes the line has, at most, if the library formats its numbers.

@@ -2,10 +2,12 @@
 //!
 //! What is to be shown of each block is that the declarations fit `cadence.h` (a test compares the layouts), that each
 //! pointer comes with the length of what it leads to, and that a handle is used by one call at a time.
+use std::cell::{Cell, UnsafeCell};
+use std::ffi::c_void;
 use std::io;
 use std::marker::PhantomData;
-use std::ptr;
-use std::slice;
+use std::mem::MaybeUninit;
+use std::{ptr, slice};
 
 /// A kind of metric, by the number and the text that the library has for it.
 #[derive(Debug, Clone, Copy, PartialEq, Eq)]
@@ -120,19 +122,33 @@ const REFUSE: u32 = 0;
 /// How many packets may wait in a packer: what was held, and a line that is a packet of its own.
 const PACKETS: usize = 2;
 
-type Format<T> = unsafe extern "C" fn(
+/// A call that writes a line. `values` leads to numbers of the type that the call has.
+type Format = unsafe extern "C" fn(
     prefix: *const u8,
     prefix_len: usize,
     kind: u32,
     key: *const u8,
     key_len: usize,
-    values: *const T,
+    values: *const c_void,
     values_len: usize,
     options: *const Options<'_>,
     out: *mut u8,
     out_len: usize,
     length: *mut usize,
 ) -> u32;
+
+macro_rules! formats {
+    ($($name:ident)*) => {
+        unsafe extern "C" {
+            $(fn $name(
+                prefix: *const u8, prefix_len: usize, kind: u32, key: *const u8, key_len: usize, values: *const c_void,
+                values_len: usize, options: *const Options<'_>, out: *mut u8, out_len: usize, length: *mut usize,
+            ) -> u32;)*
+        }
+    };
+}
+
+formats! { cadence_format_signed cadence_format_unsigned cadence_format_decimal }
 
 unsafe extern "C" {
     fn cadence_new(handle: *mut Handle, prefix: *const u8, len: usize, capacity: usize, packets: usize, policy: u32) -> u32;
@@ -142,18 +158,6 @@ unsafe extern "C" {
     fn cadence_next(handle: *mut Handle, buf: *mut u8, buf_len: usize, length: *mut usize) -> u32;
     fn cadence_sent(handle: *mut Handle) -> u32;
     fn cadence_counts(handle: *mut Handle, counts: *mut Counts) -> u32;
-    fn cadence_format_signed(
-        prefix: *const u8, prefix_len: usize, kind: u32, key: *const u8, key_len: usize, values: *const i64,
-        values_len: usize, options: *const Options<'_>, out: *mut u8, out_len: usize, length: *mut usize,
-    ) -> u32;
-    fn cadence_format_unsigned(
-        prefix: *const u8, prefix_len: usize, kind: u32, key: *const u8, key_len: usize, values: *const u64,
-        values_len: usize, options: *const Options<'_>, out: *mut u8, out_len: usize, length: *mut usize,
-    ) -> u32;
-    fn cadence_format_decimal(
-        prefix: *const u8, prefix_len: usize, kind: u32, key: *const u8, key_len: usize, values: *const Decimal,
-        values_len: usize, options: *const Options<'_>, out: *mut u8, out_len: usize, length: *mut usize,
-    ) -> u32;
 }
 
 /// The error of a status that isn't `OK`.
@@ -165,6 +169,7 @@ fn refusal(status: u32) -> io::Error {
     }
 }
 
+#[inline]
 fn checked(status: u32) -> io::Result<()> {
     if status == OK { Ok(()) } else { Err(refusal(status)) }
 }
@@ -177,6 +182,17 @@ pub(crate) enum Numbers<'a> {
     Decimal(&'a [Decimal]),
 }
 
+impl Numbers<'_> {
+    #[inline]
+    fn parts(&self) -> (Format, *const c_void, usize) {
+        match self {
+            Numbers::Signed(values) => (cadence_format_signed, values.as_ptr().cast(), values.len()),
+            Numbers::Unsigned(values) => (cadence_format_unsigned, values.as_ptr().cast(), values.len()),
+            Numbers::Decimal(values) => (cadence_format_decimal, values.as_ptr().cast(), values.len()),
+        }
+    }
+}
+
 /// Adds the line of a metric to a text. The line is made in the room that the text has, if that is enough.
 #[inline]
 pub(crate) fn append_line(
@@ -187,34 +203,18 @@ pub(crate) fn append_line(
     numbers: Numbers<'_>,
     options: &Options<'_>,
 ) -> io::Result<()> {
-    match numbers {
-        Numbers::Signed(values) => append_by(cadence_format_signed, line, prefix, kind, key, values, options),
-        Numbers::Unsigned(values) => append_by(cadence_format_unsigned, line, prefix, kind, key, values, options),
-        Numbers::Decimal(values) => append_by(cadence_format_decimal, line, prefix, kind, key, values, options),
-    }
-}
-
-#[inline]
-fn append_by<T>(
-    format: Format<T>,
-    line: &mut String,
-    prefix: &str,
-    kind: Kind,
-    key: &str,
-    values: &[T],
-    options: &Options<'_>,
-) -> io::Result<()> {
+    let (format, values, values_len) = numbers.parts();
+    let (prefix_at, prefix_len, key_at, key_len) = (prefix.as_ptr(), prefix.len(), key.as_ptr(), key.len());
     // SAFETY: what is added below is a line of texts that are UTF-8, and of ASCII.
     let bytes = unsafe { line.as_mut_vec() };
     loop {
         let (start, room) = (bytes.len(), bytes.spare_capacity_mut());
-        let mut size = 0;
-        let (prefix_at, prefix_len, key_at, key_len) = (prefix.as_ptr(), prefix.len(), key.as_ptr(), key.len());
-        let (out, out_len) = (room.as_mut_ptr().cast::<u8>(), room.len());
-        // SAFETY: each pointer has the length of its slice, and the room is only written to.
-        let status = unsafe {
-            format(prefix_at, prefix_len, kind as u32, key_at, key_len, values.as_ptr(), values.len(), options, out, out_len, &mut size)
-        };
+        let (out, out_len, mut size) = (room.as_mut_ptr().cast::<u8>(), room.len(), 0);
+        // SAFETY: each pointer has the length of its slice, `format` is the call of the numbers' type, the room is only
+        // written to, and the call keeps no memory.
+        let status = scratch::lent(|| unsafe {
+            format(prefix_at, prefix_len, kind as u32, key_at, key_len, values, values_len, options, out, out_len, &mut size)
+        });
         match status {
             OK => {
                 // SAFETY: the library wrote the first `size` bytes of the room.
@@ -313,6 +313,110 @@ impl Drop for Packer {
     fn drop(&mut self) {
         // SAFETY: as in `counts`; nobody uses the handle after this.
         unsafe { cadence_free(&mut self.handle) }
+    }
+}
+
+/// The heap of the library, in the place of the one that its archive has.
+///
+/// A call that formats a line takes memory for the line, and gives it back before it ends. It gets a piece of a room of its
+/// thread, if that is enough. All other memory is malloc's.
+mod scratch {
+    use super::*;
+
+    const SIZE: usize = 1024;
+
+    #[repr(C, align(16))]
+    struct Room {
+        bytes: UnsafeCell<[MaybeUninit<u8>; SIZE]>,
+        /// How many bytes are taken, or `SIZE`, if none is lent.
+        taken: Cell<usize>,
+    }
+
+    thread_local! {
+        static ROOM: Room = const { Room { bytes: UnsafeCell::new([MaybeUninit::uninit(); SIZE]), taken: Cell::new(SIZE) } };
+    }
+
+    /// A block as the library gets it, or none.
+    #[repr(C)]
+    pub struct Block {
+        given: u64,
+        at: *mut c_void,
+    }
+
+    unsafe extern "C" {
+        fn malloc(size: usize) -> *mut c_void;
+        fn realloc(at: *mut c_void, size: usize) -> *mut c_void;
+        fn free(at: *mut c_void);
+    }
+
+    impl Room {
+        /// A piece of the room, if it is lent and the piece fits. Pieces begin at multiples of 16.
+        #[inline]
+        fn piece(&self, size: usize) -> Option<*mut c_void> {
+            let start = self.taken.get();
+            if size > SIZE - start {
+                return None;
+            }
+            self.taken.set((start + size).next_multiple_of(16).min(SIZE));
+            // SAFETY: the piece lies within the room.
+            Some(unsafe { self.bytes.get().cast::<u8>().add(start) }.cast())
+        }
+
+        #[inline]
+        fn has(&self, at: *mut c_void) -> bool {
+            (at as usize).wrapping_sub(self.bytes.get() as usize) < SIZE
+        }
+    }
+
+    fn block(at: *mut c_void) -> Block {
+        if at.is_null() { Block { given: 0, at: ptr::NonNull::<u64>::dangling().as_ptr().cast() } } else { Block { given: 1, at } }
+    }
+
+    /// Lends the room to a call that gives back all memory that it takes.
+    #[inline]
+    pub(super) fn lent<R>(call: impl FnOnce() -> R) -> R {
+        ROOM.with(|room| room.taken.set(0));
+        let answer = call();
+        ROOM.with(|room| room.taken.set(SIZE));
+        answer
+    }
+
+    #[unsafe(no_mangle)]
+    extern "C" fn rattle_alloc(size: usize, align: usize) -> Block {
+        let size = if size == 0 { align } else { size };
+        match ROOM.with(|room| room.piece(size)) {
+            Some(at) => Block { given: 1, at },
+            // SAFETY: malloc takes any size, and its blocks fit every alignment that the library has.
+            None => block(unsafe { malloc(size) }),
+        }
+    }
+
+    /// # Safety
+    ///
+    /// `at` leads to a block of `old_size` bytes that was given by these functions.
+    #[unsafe(no_mangle)]
+    unsafe extern "C" fn rattle_realloc(at: *mut c_void, old_size: usize, size: usize, align: usize) -> Block {
+        if !ROOM.with(|room| room.has(at)) {
+            // SAFETY: the block is malloc's.
+            return block(unsafe { realloc(at, if size == 0 { align } else { size }) });
+        }
+        let new = rattle_alloc(size, align);
+        if new.given == 1 {
+            // SAFETY: both blocks have so many bytes, and the new one is another one.
+            unsafe { ptr::copy_nonoverlapping(at.cast::<u8>(), new.at.cast::<u8>(), old_size.min(size)) };
+        }
+        new
+    }
+
+    /// # Safety
+    ///
+    /// `at` leads to a block that was given by these functions. A piece of a room is given back with the whole room.
+    #[unsafe(no_mangle)]
+    unsafe extern "C" fn rattle_dealloc(at: *mut c_void) {
+        if !ROOM.with(|room| room.has(at)) {
+            // SAFETY: the block is malloc's.
+            unsafe { free(at) };
+        }
     }
 }
 

@@ -1,6 +1,4 @@
 //! The values of metrics, and the traits of what is one.
-use crate::decimal::decimal_of;
-use crate::raw::{Decimal, Numbers};
 use crate::types::{ErrorKind, MetricError, MetricResult};
 use std::fmt::{self, Write};
 use std::time::Duration;
@@ -31,9 +29,6 @@ pub enum MetricValue {
     PackedFloat(Vec<f64>),
 }
 
-/// How many floats need no memory to be printed.
-const FEW: usize = 8;
-
 impl MetricValue {
     /// How many numbers there are.
     pub(crate) fn count(&self) -> usize {
@@ -53,37 +48,6 @@ impl MetricValue {
             _ => true,
         }
     }
-
-    /// Hands the numbers on as the library prints them, or none, if one is a float that has no decimal.
-    pub(crate) fn with_numbers<R>(&self, with: impl FnOnce(Option<Numbers<'_>>) -> R) -> R {
-        use std::slice::from_ref;
-        match self {
-            MetricValue::Signed(value) => with(Some(Numbers::Signed(from_ref(value)))),
-            MetricValue::PackedSigned(values) => with(Some(Numbers::Signed(values))),
-            MetricValue::Unsigned(value) => with(Some(Numbers::Unsigned(from_ref(value)))),
-            MetricValue::PackedUnsigned(values) => with(Some(Numbers::Unsigned(values))),
-            MetricValue::Float(value) => with(decimal_of(*value).as_ref().map(|number| Numbers::Decimal(from_ref(number)))),
-            MetricValue::PackedFloat(values) => with_decimals(values, with),
-        }
-    }
-}
-
-fn with_decimals<R>(values: &[f64], with: impl FnOnce(Option<Numbers<'_>>) -> R) -> R {
-    let (mut few, mut many) = ([Decimal::default(); FEW], Vec::new());
-    let decimals = match few.get_mut(..values.len()) {
-        Some(decimals) => decimals,
-        None => {
-            many.resize(values.len(), Decimal::default());
-            &mut many[..]
-        }
-    };
-    for (decimal, value) in decimals.iter_mut().zip(values) {
-        match decimal_of(*value) {
-            Some(found) => *decimal = found,
-            None => return with(None),
-        }
-    }
-    with(Some(Numbers::Decimal(decimals)))
 }
 
 fn join<T: fmt::Display>(f: &mut fmt::Formatter<'_>, values: &[T]) -> fmt::Result {
