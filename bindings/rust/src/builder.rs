@@ -1,7 +1,7 @@
 //! A metric before it is sent.
 use crate::client::{MetricBackend, StatsdClient};
+use crate::layout::Tag;
 use crate::line::Record;
-use crate::raw::Tag;
 use crate::types::{Metric, MetricResult};
 use std::marker::PhantomData;
 

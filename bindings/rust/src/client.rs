@@ -1,7 +1,7 @@
 //! The client, its builder and the traits of its calls.
 use crate::builder::MetricBuilder;
+use crate::layout::{Kind, Tag};
 use crate::line::Record;
-use crate::raw::{Kind, Tag};
 use crate::sealed::Sealed;
 use crate::sinks::MetricSink;
 use crate::types::{Counter, Distribution, Gauge, Histogram, Meter, Metric, MetricError, MetricResult, Set, Timer};

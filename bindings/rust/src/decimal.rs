@@ -1,5 +1,5 @@
 //! The decimals that floats print as.
-use crate::raw::Decimal;
+use crate::layout::Decimal;
 use std::fmt::{self, Write};
 
 /// The most places that the library prints, and the most digits that fit 63 bits for sure or may do so.

@@ -63,6 +63,7 @@ mod client;
 mod decimal;
 pub mod ext;
 mod io;
+mod layout;
 mod line;
 pub mod prelude;
 #[allow(unsafe_code)]

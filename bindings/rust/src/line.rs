@@ -1,6 +1,7 @@
 //! The line of a metric.
 use crate::decimal::{decimal_of, with_decimals};
-use crate::raw::{append_line, Decimal, Kind, Numbers, Options, Tag};
+use crate::layout::{Decimal, Kind, Options, Tag};
+use crate::raw::{append_line, Numbers};
 use crate::types::{ErrorKind, MetricError, MetricResult};
 use crate::value::MetricValue;
 use std::io;

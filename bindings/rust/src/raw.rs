@@ -1,118 +1,18 @@
 //! The library in C, and safe calls of it. The only `unsafe` code of the crate stands here.
 //!
-//! What is to be shown of each block is that the declarations fit `cadence.h` (a test compares the layouts), that each
-//! pointer comes with the length of what it leads to, and that a handle is used by one call at a time.
+//! What is to be shown of each block is that the declarations fit `cadence.h` (a test of `layout.rs` compares the layouts),
+//! that each pointer comes with the length of what it leads to, and that a handle is used by one call at a time.
+use crate::layout::{Counts, Decimal, Handle, Kind, Options, Tag};
 use std::cell::{Cell, UnsafeCell};
 use std::ffi::c_void;
 use std::io;
-use std::marker::PhantomData;
 use std::mem::MaybeUninit;
 use std::{ptr, slice};
-
-/// A kind of metric, by the number and the text that the library has for it.
-#[derive(Debug, Clone, Copy, PartialEq, Eq)]
-pub(crate) enum Kind {
-    Counter = 0,
-    Timer = 1,
-    Gauge = 2,
-    Meter = 3,
-    Histogram = 4,
-    Set = 5,
-    Distribution = 6,
-}
-
-#[repr(C)]
-struct Handle {
-    at: *mut u8,
-    open: bool,
-}
-
-/// A tag as the library reads it: two texts of the caller's, of which the key may be missing.
-#[repr(C)]
-#[derive(Clone, Copy, Debug)]
-pub(crate) struct Tag<'a> {
-    key: *const u8,
-    key_len: usize,
-    text: *const u8,
-    text_len: usize,
-    keyed: bool,
-    of: PhantomData<&'a str>,
-}
 
 // SAFETY: a tag is two `&str`s in another layout, and those may go to other threads.
 unsafe impl Send for Tag<'_> {}
 // SAFETY: as above.
 unsafe impl Sync for Tag<'_> {}
-
-impl<'a> Tag<'a> {
-    #[inline]
-    pub(crate) fn new(key: Option<&'a str>, text: &'a str) -> Tag<'a> {
-        let keyed = key.is_some();
-        let key = key.unwrap_or("");
-        Tag { key: key.as_ptr(), key_len: key.len(), text: text.as_ptr(), text_len: text.len(), keyed, of: PhantomData }
-    }
-
-    /// How many bytes the tag has in a line, at most.
-    #[inline]
-    pub(crate) fn size(&self) -> usize {
-        self.key_len + 1 + self.text_len
-    }
-}
-
-/// `mantissa` over 10 to the power of `places`, which are at most 30.
-#[repr(C)]
-#[derive(Clone, Copy, Debug, Default, PartialEq, Eq)]
-pub(crate) struct Decimal {
-    pub(crate) mantissa: i64,
-    pub(crate) places: u8,
-}
-
-/// What a call adds to its metric.
-#[repr(C)]
-pub(crate) struct Options<'a> {
-    tags: *const Tag<'a>,
-    tags_len: usize,
-    container: *const u8,
-    container_len: usize,
-    rate: Decimal,
-    time: u64,
-    contained: bool,
-    rated: bool,
-    timed: bool,
-    known: bool,
-    of: PhantomData<&'a [Tag<'a>]>,
-}
-
-impl<'a> Options<'a> {
-    #[inline]
-    pub(crate) fn new(tags: &'a [Tag<'a>], container: Option<&'a str>, rate: Option<Decimal>, time: Option<u64>) -> Self {
-        let text = container.unwrap_or("");
-        Options {
-            tags: tags.as_ptr(),
-            tags_len: tags.len(),
-            container: text.as_ptr(),
-            container_len: text.len(),
-            rate: rate.unwrap_or_default(),
-            time: time.unwrap_or_default(),
-            contained: container.is_some(),
-            rated: rate.is_some(),
-            timed: time.is_some(),
-            // every text that gets here is a `&str`, and so is UTF-8
-            known: true,
-            of: PhantomData,
-        }
-    }
-}
-
-#[repr(C)]
-#[derive(Default)]
-struct Counts {
-    held: usize,
-    waiting: usize,
-    made: u64,
-    sent: u64,
-    dropped: u64,
-}
 
 const OK: u32 = 0;
 const NO_MEMORY: u32 = 2;
@@ -237,16 +137,10 @@ pub(crate) struct Packer {
 // SAFETY: the library keeps nothing of a thread, and each call that changes it takes `&mut self`.
 unsafe impl Send for Packer {}
 
-impl std::fmt::Debug for Handle {
-    fn fmt(&self, f: &mut std::fmt::Formatter<'_>) -> std::fmt::Result {
-        f.write_str("...")
-    }
-}
-
 impl Packer {
     /// A packer of packets of at most so many bytes.
     pub(crate) fn new(capacity: usize) -> io::Result<Packer> {
-        let mut handle = Handle { at: ptr::null_mut(), open: false };
+        let mut handle = Handle::CLOSED;
         // SAFETY: the handle is closed, and an empty prefix has the length 0.
         checked(unsafe { cadence_new(&mut handle, ptr::null(), 0, capacity, PACKETS, REFUSE) })?;
         Ok(Packer { handle, packet: Vec::new() })
@@ -418,35 +312,63 @@ mod scratch {
             unsafe { free(at) };
         }
     }
-}
 
-#[cfg(test)]
-mod tests {
-    use super::*;
-    use std::mem::{offset_of, size_of};
+    #[cfg(test)]
+    mod tests {
+        use super::*;
 
-    macro_rules! layout {
-        ($name:literal $type:ty: $($field:ident)*) => {{
-            let mut line = format!("{} {}", $name, size_of::<$type>());
-            $(line += &format!(" {}", offset_of!($type, $field));)*
-            line
-        }};
-    }
+        fn bytes_of_the_room(size: usize) -> Vec<u8> {
+            // SAFETY: the test has written these bytes, and no call has the room.
+            ROOM.with(|room| unsafe { slice::from_raw_parts(room.bytes.get().cast::<u8>(), size) }.to_vec())
+        }
 
-    /// CADENCE_LAYOUT names a file of what the header says, as `bindings/c/layout.cpp` prints it.
-    #[test]
-    fn layouts_are_those_of_the_header() {
-        let Ok(file) = std::env::var("CADENCE_LAYOUT") else { return };
-        let header = std::fs::read_to_string(file).unwrap();
-        let ours = [
-            layout!("handle" Handle: at open),
-            layout!("tag" Tag<'_>: key key_len text text_len keyed),
-            layout!("decimal" Decimal: mantissa places),
-            layout!("options" Options<'_>: tags tags_len container container_len rate time contained rated timed known),
-            layout!("counts" Counts: held waiting made sent dropped),
-        ];
-        for line in ours {
-            assert!(header.lines().any(|theirs| theirs == line), "{line}");
+        #[test]
+        fn the_library_makes_its_line_in_the_room() {
+            let mut line = String::new();
+            append_line(&mut line, "p.", Kind::Gauge, "k", Numbers::Signed(&[-7]), &Options::new(&[], None, None, None)).unwrap();
+            assert_eq!("p.k:-7|g", line);
+            assert_eq!(b"p.k:-7|g".to_vec(), bytes_of_the_room(line.len()));
+        }
+
+        #[test]
+        fn a_line_that_passes_the_room_is_made_too() {
+            let key = "k".repeat(5 * SIZE);
+            let mut line = String::new();
+            append_line(&mut line, "", Kind::Set, &key, Numbers::Signed(&[1, 2]), &Options::new(&[], None, None, None)).unwrap();
+            assert_eq!(format!("{key}:1:2|s"), line);
+        }
+
+        #[test]
+        fn blocks_keep_their_bytes_as_they_grow() {
+            for inside in [true, false] {
+                let grow = || {
+                    let other = rattle_alloc(24, 8);
+                    let mut block = rattle_alloc(1, 1);
+                    for size in 1..3 * SIZE {
+                        // SAFETY: the block has `size` bytes, and grows by one.
+                        unsafe {
+                            block.at.cast::<u8>().add(size - 1).write(size as u8);
+                            block = rattle_realloc(block.at, size, size + 1, 1);
+                        }
+                        assert_eq!(1, block.given);
+                        assert_eq!(0, block.at as usize % 16);
+                    }
+                    // SAFETY: so many bytes were written, and both blocks are given back once.
+                    let bytes = unsafe { slice::from_raw_parts(block.at.cast::<u8>(), 3 * SIZE - 1) };
+                    assert!(bytes.iter().enumerate().all(|(index, byte)| *byte == (index + 1) as u8));
+                    unsafe { rattle_dealloc(block.at) };
+                    unsafe { rattle_dealloc(other.at) };
+                };
+                if inside { lent(grow) } else { grow() }
+            }
+        }
+
+        #[test]
+        fn a_request_that_cant_be_met_gives_nothing() {
+            assert_eq!(0, rattle_alloc(usize::MAX / 2, 1).given);
+            assert_eq!(0, lent(|| rattle_alloc(usize::MAX, 1)).given);
+            let empty = lent(|| rattle_alloc(0, 8));
+            assert_eq!(1, empty.given);
         }
     }
 }

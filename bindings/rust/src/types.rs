@@ -1,6 +1,6 @@
 //! Metrics that were made, and the errors of calls.
+use crate::layout::Kind;
 use crate::line::Record;
-use crate::raw::Kind;
 use crate::value::MetricValue;
 use std::alloc::{handle_alloc_error, Layout};
 use std::{error, fmt, io};

@@ -1,0 +1,146 @@
+//! What crosses to the library, in the layout of `cadence.h`.
+use std::marker::PhantomData;
+use std::{fmt, ptr};
+
+/// A kind of metric, by the number and the text that the library has for it.
+#[derive(Debug, Clone, Copy, PartialEq, Eq)]
+pub(crate) enum Kind {
+    Counter = 0,
+    Timer = 1,
+    Gauge = 2,
+    Meter = 3,
+    Histogram = 4,
+    Set = 5,
+    Distribution = 6,
+}
+
+/// A packer, or none. Its fields are the library's own.
+#[repr(C)]
+pub(crate) struct Handle {
+    at: *mut u8,
+    open: bool,
+}
+
+impl Handle {
+    pub(crate) const CLOSED: Handle = Handle { at: ptr::null_mut(), open: false };
+}
+
+impl fmt::Debug for Handle {
+    fn fmt(&self, f: &mut fmt::Formatter<'_>) -> fmt::Result {
+        f.write_str("...")
+    }
+}
+
+/// A tag as the library reads it: two texts of the caller's, of which the key may be missing.
+#[repr(C)]
+#[derive(Clone, Copy, Debug)]
+pub(crate) struct Tag<'a> {
+    key: *const u8,
+    key_len: usize,
+    text: *const u8,
+    text_len: usize,
+    keyed: bool,
+    of: PhantomData<&'a str>,
+}
+
+impl<'a> Tag<'a> {
+    #[inline]
+    pub(crate) fn new(key: Option<&'a str>, text: &'a str) -> Tag<'a> {
+        let keyed = key.is_some();
+        let key = key.unwrap_or("");
+        Tag { key: key.as_ptr(), key_len: key.len(), text: text.as_ptr(), text_len: text.len(), keyed, of: PhantomData }
+    }
+
+    /// How many bytes the tag has in a line, at most.
+    #[inline]
+    pub(crate) fn size(&self) -> usize {
+        self.key_len + 1 + self.text_len
+    }
+}
+
+/// `mantissa` over 10 to the power of `places`, which are at most 30.
+#[repr(C)]
+#[derive(Clone, Copy, Debug, Default, PartialEq, Eq)]
+pub(crate) struct Decimal {
+    pub(crate) mantissa: i64,
+    pub(crate) places: u8,
+}
+
+/// What a call adds to its metric.
+#[repr(C)]
+pub(crate) struct Options<'a> {
+    tags: *const Tag<'a>,
+    tags_len: usize,
+    container: *const u8,
+    container_len: usize,
+    rate: Decimal,
+    time: u64,
+    contained: bool,
+    rated: bool,
+    timed: bool,
+    known: bool,
+    of: PhantomData<&'a [Tag<'a>]>,
+}
+
+impl<'a> Options<'a> {
+    #[inline]
+    pub(crate) fn new(tags: &'a [Tag<'a>], container: Option<&'a str>, rate: Option<Decimal>, time: Option<u64>) -> Self {
+        let text = container.unwrap_or("");
+        Options {
+            tags: tags.as_ptr(),
+            tags_len: tags.len(),
+            container: text.as_ptr(),
+            container_len: text.len(),
+            rate: rate.unwrap_or_default(),
+            time: time.unwrap_or_default(),
+            contained: container.is_some(),
+            rated: rate.is_some(),
+            timed: time.is_some(),
+            // every text that gets here is a `&str`, and so is UTF-8
+            known: true,
+            of: PhantomData,
+        }
+    }
+}
+
+/// What a packer has and did.
+#[repr(C)]
+#[derive(Default)]
+pub(crate) struct Counts {
+    pub(crate) held: usize,
+    pub(crate) waiting: usize,
+    made: u64,
+    sent: u64,
+    dropped: u64,
+}
+
+#[cfg(test)]
+mod tests {
+    use super::*;
+    use std::mem::{offset_of, size_of};
+
+    macro_rules! layout {
+        ($name:literal $type:ty: $($field:ident)*) => {{
+            let mut line = format!("{} {}", $name, size_of::<$type>());
+            $(line += &format!(" {}", offset_of!($type, $field));)*
+            line
+        }};
+    }
+
+    /// CADENCE_LAYOUT names a file of what the header says, as `bindings/c/layout.cpp` prints it.
+    #[test]
+    fn layouts_are_those_of_the_header() {
+        let Ok(file) = std::env::var("CADENCE_LAYOUT") else { return };
+        let header = std::fs::read_to_string(file).unwrap();
+        let ours = [
+            layout!("handle" Handle: at open),
+            layout!("tag" Tag<'_>: key key_len text text_len keyed),
+            layout!("decimal" Decimal: mantissa places),
+            layout!("options" Options<'_>: tags tags_len container container_len rate time contained rated timed known),
+            layout!("counts" Counts: held waiting made sent dropped),
+        ];
+        for line in ours {
+            assert!(header.lines().any(|theirs| theirs == line), "{line}");
+        }
+    }
+}

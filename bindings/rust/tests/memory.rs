@@ -1,0 +1,69 @@
+//! How often a call asks for memory.
+use cadence::prelude::*;
+use cadence::{BufferedSpyMetricSink, NopMetricSink, QueuingMetricSink, StatsdClient};
+use std::alloc::{GlobalAlloc, Layout, System};
+use std::cell::Cell;
+
+thread_local! {
+    static REQUESTS: Cell<u64> = const { Cell::new(0) };
+}
+
+/// Counts the requests of each thread.
+struct Counting;
+
+// SAFETY: each call is the system's.
+unsafe impl GlobalAlloc for Counting {
+    unsafe fn alloc(&self, layout: Layout) -> *mut u8 {
+        let _ = REQUESTS.try_with(|requests| requests.set(requests.get() + 1));
+        System.alloc(layout)
+    }
+
+    unsafe fn realloc(&self, at: *mut u8, layout: Layout, size: usize) -> *mut u8 {
+        let _ = REQUESTS.try_with(|requests| requests.set(requests.get() + 1));
+        System.realloc(at, layout, size)
+    }
+
+    unsafe fn dealloc(&self, at: *mut u8, layout: Layout) {
+        System.dealloc(at, layout)
+    }
+}
+
+#[global_allocator]
+static ALLOCATOR: Counting = Counting;
+
+/// The requests of this thread in a call, after one that takes what is taken once.
+fn requests(call: impl Fn()) -> u64 {
+    call();
+    let before = REQUESTS.with(Cell::get);
+    call();
+    REQUESTS.with(Cell::get) - before
+}
+
+#[test]
+fn a_line_is_one_request_and_its_tags_another() {
+    let client = StatsdClient::from_sink("p", NopMetricSink);
+    assert_eq!(1, requests(|| drop(client.count("k", i64::MIN).unwrap())));
+    assert_eq!(1, requests(|| drop(client.gauge("k", 1.25).unwrap())));
+    assert_eq!(1, requests(|| drop(client.gauge("k", -1.0 / 3.0).unwrap())));
+    assert_eq!(1, requests(|| client.gauge_with_tags("k", 1e-25).with_sampling_rate(1e-7).with_timestamp(u64::MAX).send()));
+    assert_eq!(1, requests(|| client.incr_with_tags("k").with_container_id("box").send()));
+    let tagged = || client.count_with_tags("k", 1).with_tag("a", "b").with_tag("c", "d").with_tag_value("e");
+    assert_eq!(2, requests(|| drop(tagged().try_send().unwrap())));
+    assert_eq!(2, requests(|| tagged().with_tag("f", "g").send()));
+    let list = requests(|| drop(client.histogram("k", vec![1.5, 2.5, 3.5, 4.5]).unwrap()));
+    assert_eq!(2, list, "the list and the line");
+}
+
+#[test]
+fn a_queue_takes_a_copy_of_the_line() {
+    let client = StatsdClient::from_sink("p", QueuingMetricSink::from(NopMetricSink));
+    assert_eq!(2, requests(|| drop(client.incr("k").unwrap())));
+    assert_eq!(3, requests(|| client.incr_with_tags("k").with_tag("a", "b").send()));
+}
+
+#[test]
+fn a_held_line_takes_no_memory() {
+    let (_receiver, sink) = BufferedSpyMetricSink::with_capacity(None, Some(4096));
+    let client = StatsdClient::from_sink("p", sink);
+    assert_eq!(1, requests(|| drop(client.incr("k").unwrap())));
+}
