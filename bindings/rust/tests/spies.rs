@@ -135,3 +135,11 @@ fn what_a_full_receiver_refuses_is_held_and_comes_once() {
     drop(sink);
     assert_eq!(vec!["eee\n"], receiver.iter().map(text).collect::<Vec<_>>());
 }
+
+#[test]
+fn a_capacity_past_the_memory_is_refused() {
+    let socket = || std::net::UdpSocket::bind("127.0.0.1:0").unwrap();
+    let error = cadence::BufferedUdpMetricSink::with_capacity("127.0.0.1:9", socket(), usize::MAX).unwrap_err();
+    assert_eq!("out of memory", error.to_string());
+    assert!(std::panic::catch_unwind(|| BufferedSpyMetricSink::with_capacity(None, Some(usize::MAX))).is_err());
+}

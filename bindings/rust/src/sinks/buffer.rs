@@ -1,6 +1,5 @@
 //! Lines that are packed before they are sent, which the buffered sinks share.
 use crate::raw::Packer;
-use std::alloc::{handle_alloc_error, Layout};
 use std::io;
 use std::sync::{Mutex, MutexGuard, PoisonError};
 
@@ -28,9 +27,9 @@ impl<O: Outlet> Buffer<O> {
         Ok(Buffer { lines: Mutex::new(Lines { packer: Packer::new(capacity)?, outlet, capacity }) })
     }
 
-    /// A buffer for a constructor that has no error to answer. If memory is refused, the process ends, as it does for a `Vec`.
+    /// A buffer for a constructor that has no error to answer. It panics if memory is refused.
     pub(crate) fn expect(outlet: O, capacity: usize) -> Self {
-        Self::new(outlet, capacity).unwrap_or_else(|_| handle_alloc_error(Layout::new::<Self>()))
+        Self::new(outlet, capacity).expect("a buffered sink needs memory of its capacity")
     }
 
     // After a panic in an outlet the packer is whole, since the library was not running.

@@ -81,6 +81,10 @@ impl BufferedSpyMetricSink {
 
     /// Makes a spy of packets of `buffer` bytes, or 512. It refuses a packet if `queue` of them are there that were not
     /// received.
+    ///
+    /// # Panics
+    ///
+    /// If memory for the buffer is refused.
     pub fn with_capacity(queue: Option<usize>, buffer: Option<usize>) -> (SpyReceiver<Vec<u8>>, Self) {
         let (sender, receiver) = spy_channel(queue);
         (receiver, BufferedSpyMetricSink { buffer: Buffer::expect(sender, buffer.unwrap_or(DEFAULT_CAPACITY)) })

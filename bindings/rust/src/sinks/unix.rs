@@ -80,6 +80,10 @@ pub struct BufferedUnixMetricSink {
 
 impl BufferedUnixMetricSink {
     /// Makes a sink of packets of 512 bytes, which sends to a path.
+    ///
+    /// # Panics
+    ///
+    /// If memory for the buffer is refused.
     pub fn from<P>(path: P, socket: UnixDatagram) -> BufferedUnixMetricSink
     where
         P: AsRef<Path>,
@@ -88,6 +92,10 @@ impl BufferedUnixMetricSink {
     }
 
     /// Makes a sink of packets of `cap` bytes, which sends to a path. The socket keeps its settings, and may be unbound.
+    ///
+    /// # Panics
+    ///
+    /// If memory for the buffer is refused.
     pub fn with_capacity<P>(path: P, socket: UnixDatagram, cap: usize) -> BufferedUnixMetricSink
     where
         P: AsRef<Path>,
