@@ -69,17 +69,25 @@ impl<'a> Record<'a> {
 
     /// The line of these numbers, or of the value's text, if there are none.
     fn line_of(&self, numbers: Option<Numbers<'_>>) -> io::Result<String> {
-        let rate = self.rate.map(decimal_of);
-        let options = Options::new(&self.tags, self.container, rate.flatten(), self.time);
+        let rate = self.rate.and_then(decimal_of);
+        let options = Options::new(&self.tags, self.container, rate, self.time);
         let mut line = String::with_capacity(self.size());
         append_line(&mut line, self.prefix, self.kind, self.key, numbers.unwrap_or(Numbers::Decimal(&[])), &options)?;
-        if numbers.is_none() {
-            line.insert_str(self.value_at(), &self.value.to_string());
-        }
-        if let (Some(None), Some(rate)) = (rate, self.rate) {
-            self.insert_rate(&mut line, rate);
+        if numbers.is_none() || self.rate.is_some() != rate.is_some() {
+            self.insert_texts(&mut line, numbers.is_none(), rate.is_none());
         }
         Ok(line)
+    }
+
+    /// Puts the texts of the value and of the rate in their places, where the library has printed none.
+    #[cold]
+    fn insert_texts(&self, line: &mut String, value: bool, rate: bool) {
+        if value {
+            line.insert_str(self.value_at(), &self.value.to_string());
+        }
+        if let (Some(number), true) = (self.rate, rate) {
+            self.insert_rate(line, number);
+        }
     }
 
     /// Where the value stands in the line: after the prefix, the key and a colon.

@@ -31,6 +31,7 @@ pub enum MetricValue {
 
 impl MetricValue {
     /// How many numbers there are.
+    #[inline]
     pub(crate) fn count(&self) -> usize {
         match self {
             MetricValue::Signed(_) | MetricValue::Unsigned(_) | MetricValue::Float(_) => 1,
@@ -41,6 +42,7 @@ impl MetricValue {
     }
 
     /// Whether each number is finite.
+    #[inline]
     pub(crate) fn is_finite(&self) -> bool {
         match self {
             MetricValue::Float(value) => value.is_finite(),

@@ -6,6 +6,7 @@ use std::collections::HashSet;
 use std::error::Error;
 use std::fmt::{Debug, Display};
 use std::hash::Hash;
+use std::marker::PhantomData;
 use std::panic::{RefUnwindSafe, UnwindSafe};
 use std::sync::Arc;
 use std::thread;
@@ -49,6 +50,29 @@ fn sinks_are_sinks_of_a_client() {
     assert_eq!(0, boxed.emit("x").unwrap());
 }
 
+/// What may go to a client and to its handlers: it is `RefUnwindSafe`, but not `UnwindSafe`.
+struct Odd(PhantomData<&'static mut u8>);
+
+impl MetricSink for Odd {
+    fn emit(&self, metric: &str) -> std::io::Result<usize> {
+        Ok(metric.len())
+    }
+}
+
+#[test]
+fn sinks_and_handlers_need_not_be_unwind_safe() {
+    let odd = || Odd(PhantomData);
+    let (client, queue, plain, packed) = (odd(), odd(), odd(), odd());
+    StatsdClient::from_sink("p", odd()).incr("k").unwrap();
+    let built = StatsdClient::builder("p", odd()).with_error_handler(move |_| drop(client.emit("lost"))).build();
+    built.incr("k").unwrap();
+    QueuingMetricSink::from(odd()).emit("k").unwrap();
+    QueuingMetricSink::with_capacity(odd(), 1).emit("k").unwrap();
+    QueuingMetricSink::builder().with_error_handler(move |_| drop(queue.emit("lost"))).build(odd()).emit("k").unwrap();
+    let _ = UdpMetricSink::builder().with_resolver_error_handler(move |_| drop(plain.emit("lost")));
+    let _ = BufferedUdpMetricSink::builder().with_resolver_error_handler(move |_| drop(packed.emit("lost")));
+}
+
 #[test]
 fn metrics_have_their_derives() {
     metric::<Counter>();
@@ -67,6 +91,10 @@ fn metrics_have_their_derives() {
     fn stats<T: Clone + Debug + Default>() {}
     stats::<SinkStats>();
     stats::<SocketStats>();
+    fn cloned<T: Clone + Debug>() {}
+    cloned::<NopMetricSink>();
+    cloned::<QueuingMetricSink>();
+    cloned::<SpyReceiver<Vec<u8>>>();
     fn defaults<T: Default>() {}
     defaults::<UdpMetricSinkBuilder>();
     defaults::<BufferedUdpMetricSinkBuilder>();
