@@ -28,7 +28,9 @@ pub fn folder(crate_folder: &Path, variable: Option<&str>) -> Result<PathBuf, St
 fn named_folder(variable: &str) -> Result<PathBuf, String> {
     let path = Path::new(variable);
     if !path.is_absolute() {
-        return Err(format!("CADENCE_LIB is the relative path \"{variable}\", and cargo would read it from another folder. {CURE}"));
+        return Err(format!(
+            "CADENCE_LIB is the relative path \"{variable}\", and cargo would read it from another folder. {CURE}"
+        ));
     }
     if !path.join(LIBRARY).is_file() {
         return Err(format!("CADENCE_LIB is \"{variable}\", where there is no {LIBRARY}. {CURE}"));

@@ -15,7 +15,11 @@ fn work(client: &StatsdClient) -> cadence::MetricResult<()> {
     client.gauge("load", 1.25)?;
     client.meter("bytes", 18_446_744_073_709_551_615u64)?;
     client.histogram("waits", vec![Duration::from_nanos(7), Duration::from_secs(2)])?;
-    client.distribution_with_tags("sizes", vec![0.1, 20.0, -3.5]).with_container_id("box-2").with_timestamp(1_700_000_000).try_send()?;
+    client
+        .distribution_with_tags("sizes", vec![0.1, 20.0, -3.5])
+        .with_container_id("box-2")
+        .with_timestamp(1_700_000_000)
+        .try_send()?;
     let set = client.set("users", -5)?;
     println!("{}", set.as_metric_str());
     client.count(&"a.long.key.".repeat(20), -1)?;

@@ -117,7 +117,11 @@ mod tests {
         let (whole, rest) = padded.split_at(padded.len() - places);
         let rest = rest.trim_end_matches('0');
         let sign = if decimal.mantissa < 0 { "-" } else { "" };
-        if rest.is_empty() { format!("{sign}{whole}") } else { format!("{sign}{whole}.{rest}") }
+        if rest.is_empty() {
+            format!("{sign}{whole}")
+        } else {
+            format!("{sign}{whole}.{rest}")
+        }
     }
 
     fn agrees(number: f64) {

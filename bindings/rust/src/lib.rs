@@ -46,7 +46,8 @@ pub const DEFAULT_PORT: u16 = 8125;
 
 pub use self::builder::MetricBuilder;
 pub use self::client::{
-    Counted, CountedExt, Distributed, Gauged, Histogrammed, Metered, MetricClient, Setted, StatsdClient, StatsdClientBuilder, Timed,
+    Counted, CountedExt, Distributed, Gauged, Histogrammed, Metered, MetricClient, Setted, StatsdClient, StatsdClientBuilder,
+    Timed,
 };
 pub use self::sinks::{
     BufferedSpyMetricSink, BufferedUdpMetricSink, BufferedUdpMetricSinkBuilder, MetricSink, NopMetricSink, QueuingMetricSink,

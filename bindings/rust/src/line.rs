@@ -117,7 +117,8 @@ impl<'a> Record<'a> {
         let number = if matches!(self.value, MetricValue::Float(_) | MetricValue::PackedFloat(_)) { DECIMAL } else { INTEGER };
         let tags = self.tags.iter().map(|tag| tag.size() + 1).sum::<usize>() + 2;
         let values = self.value.count() * (number + 1);
-        let options = self.container.map_or(0, |text| text.len() + 3) + self.rate.map_or(0, |_| DECIMAL + 2)
+        let options = self.container.map_or(0, |text| text.len() + 3)
+            + self.rate.map_or(0, |_| DECIMAL + 2)
             + self.time.map_or(0, |_| INTEGER + 2);
         self.value_at() + values + 3 + tags + options
     }

@@ -71,7 +71,11 @@ fn refusal(status: u32) -> io::Error {
 
 #[inline]
 fn checked(status: u32) -> io::Result<()> {
-    if status == OK { Ok(()) } else { Err(refusal(status)) }
+    if status == OK {
+        Ok(())
+    } else {
+        Err(refusal(status))
+    }
 }
 
 /// Numbers that the library prints.
@@ -263,7 +267,11 @@ mod scratch {
     }
 
     fn block(at: *mut c_void) -> Block {
-        if at.is_null() { Block { given: 0, at: ptr::NonNull::<u64>::dangling().as_ptr().cast() } } else { Block { given: 1, at } }
+        if at.is_null() {
+            Block { given: 0, at: ptr::NonNull::<u64>::dangling().as_ptr().cast() }
+        } else {
+            Block { given: 1, at }
+        }
     }
 
     /// Lends the room to a call that gives back all memory that it takes.
@@ -325,7 +333,8 @@ mod scratch {
         #[test]
         fn the_library_makes_its_line_in_the_room() {
             let mut line = String::new();
-            append_line(&mut line, "p.", Kind::Gauge, "k", Numbers::Signed(&[-7]), &Options::new(&[], None, None, None)).unwrap();
+            append_line(&mut line, "p.", Kind::Gauge, "k", Numbers::Signed(&[-7]), &Options::new(&[], None, None, None))
+                .unwrap();
             assert_eq!("p.k:-7|g", line);
             assert_eq!(b"p.k:-7|g".to_vec(), bytes_of_the_room(line.len()));
         }
@@ -334,7 +343,8 @@ mod scratch {
         fn a_line_that_passes_the_room_is_made_too() {
             let key = "k".repeat(5 * SIZE);
             let mut line = String::new();
-            append_line(&mut line, "", Kind::Set, &key, Numbers::Signed(&[1, 2]), &Options::new(&[], None, None, None)).unwrap();
+            append_line(&mut line, "", Kind::Set, &key, Numbers::Signed(&[1, 2]), &Options::new(&[], None, None, None))
+                .unwrap();
             assert_eq!(format!("{key}:1:2|s"), line);
         }
 
@@ -359,7 +369,11 @@ mod scratch {
                     unsafe { rattle_dealloc(block.at) };
                     unsafe { rattle_dealloc(other.at) };
                 };
-                if inside { lent(grow) } else { grow() }
+                if inside {
+                    lent(grow)
+                } else {
+                    grow()
+                }
             }
         }
 

@@ -13,8 +13,10 @@ where
     let panics = Arc::new(AtomicU64::new(0));
     let counted = Arc::clone(&panics);
     // What a job shares with others is unwind safe, or is a receiver, which a panic leaves whole.
-    let run = move || while catch_unwind(AssertUnwindSafe(&job)).is_err() {
-        counted.fetch_add(1, Ordering::Relaxed);
+    let run = move || {
+        while catch_unwind(AssertUnwindSafe(&job)).is_err() {
+            counted.fetch_add(1, Ordering::Relaxed);
+        }
     };
     thread::Builder::new().name("cadence".to_string()).spawn(run)?;
     Ok(panics)

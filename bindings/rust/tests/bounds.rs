@@ -162,11 +162,15 @@ fn threads_share_a_client() {
         .collect();
     threads.into_iter().for_each(|thread| thread.join().unwrap());
     drop(client);
-    let mut lines: Vec<String> = receiver.iter().flat_map(|packet| {
-        assert!(packet.len() <= 64 && packet.ends_with(b"\n"));
-        String::from_utf8(packet).unwrap().lines().map(str::to_string).collect::<Vec<_>>()
-    }).collect();
-    let mut wanted: Vec<String> = (0..8).flat_map(|thread| (0..2_000).map(move |turn| format!("p.k:{}|c", thread * 10_000 + turn))).collect();
+    let mut lines: Vec<String> = receiver
+        .iter()
+        .flat_map(|packet| {
+            assert!(packet.len() <= 64 && packet.ends_with(b"\n"));
+            String::from_utf8(packet).unwrap().lines().map(str::to_string).collect::<Vec<_>>()
+        })
+        .collect();
+    let mut wanted: Vec<String> =
+        (0..8).flat_map(|thread| (0..2_000).map(move |turn| format!("p.k:{}|c", thread * 10_000 + turn))).collect();
     lines.sort();
     wanted.sort();
     assert_eq!(wanted, lines);

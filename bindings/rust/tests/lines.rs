@@ -1,7 +1,9 @@
 //! The line of each call.
 use cadence::ext::MetricValue;
 use cadence::prelude::*;
-use cadence::{Counter, Distribution, ErrorKind, Gauge, Histogram, Meter, Metric, MetricResult, NopMetricSink, Set, StatsdClient, Timer};
+use cadence::{
+    Counter, Distribution, ErrorKind, Gauge, Histogram, Meter, Metric, MetricResult, NopMetricSink, Set, StatsdClient, Timer,
+};
 use std::time::Duration;
 
 fn client() -> StatsdClient {
@@ -133,8 +135,26 @@ fn texts_are_printed_as_they_are() {
 
 /// Floats, each of which prints as `{}` of it: those of the library first, then those that go by their text.
 const FLOATS: [f64; 20] = [
-    0.0, 1.0, -1.0, 0.1, 2.5, 1e-30, 123_456.789, 0.300_000_000_000_000_04, 9.2e18, -9.2e18,
-    -0.0, 9.3e18, 1e19, -1e300, 1e-31, 5e-324, f64::MAX, f64::MIN_POSITIVE, 1.0e-25 / 3.0, 1.797_693_134_862_315_7e308,
+    0.0,
+    1.0,
+    -1.0,
+    0.1,
+    2.5,
+    1e-30,
+    123_456.789,
+    0.300_000_000_000_000_04,
+    9.2e18,
+    -9.2e18,
+    -0.0,
+    9.3e18,
+    1e19,
+    -1e300,
+    1e-31,
+    5e-324,
+    f64::MAX,
+    f64::MIN_POSITIVE,
+    1.0e-25 / 3.0,
+    1.797_693_134_862_315_7e308,
 ];
 
 #[test]

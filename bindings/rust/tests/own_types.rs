@@ -1,7 +1,9 @@
 //! Values, metrics and sinks of a caller's own, and the error handler.
 use cadence::ext::{MetricBackend, MetricValue, SocketStats, ToCounterValue, ToGaugeValue};
 use cadence::prelude::*;
-use cadence::{ErrorKind, Metric, MetricError, MetricResult, MetricSink, NopMetricSink, SinkStats, SpyMetricSink, StatsdClient};
+use cadence::{
+    ErrorKind, Metric, MetricError, MetricResult, MetricSink, NopMetricSink, SinkStats, SpyMetricSink, StatsdClient,
+};
 use std::error::Error;
 use std::io;
 use std::sync::atomic::{AtomicUsize, Ordering};
@@ -62,7 +64,8 @@ fn metrics_of_ones_own_are_sent_as_they_stand() {
 fn send_tells_the_handler_and_the_other_calls_answer() {
     let texts = Arc::new(Mutex::new(Vec::new()));
     let told = Arc::clone(&texts);
-    let client = StatsdClient::builder("p", Broken).with_error_handler(move |e| told.lock().unwrap().push(e.to_string())).build();
+    let client =
+        StatsdClient::builder("p", Broken).with_error_handler(move |e| told.lock().unwrap().push(e.to_string())).build();
     client.count_with_tags("k", 1).with_tag("a", "b").send();
     client.gauge_with_tags("k", f64::NAN).send();
     client.consume_error(MetricError::from((ErrorKind::InvalidInput, "mine")));

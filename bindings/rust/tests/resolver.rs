@@ -74,8 +74,10 @@ fn packets_go_to_the_address_that_was_found_last() {
     let answers = || vec![Ok(vec![old_address, new_address]), Ok(vec![old_address]), Ok(vec![new_address])];
     let plain = UdpMetricSink::builder().with_resolver_period(Duration::from_millis(5));
     let packed = BufferedUdpMetricSink::builder().with_capacity(0).with_resolver_period(Duration::from_millis(5));
-    let sinks: [Box<dyn MetricSink>; 2] =
-        [Box::new(plain.build(host(answers()).0, socket()).unwrap()), Box::new(packed.build(host(answers()).0, socket()).unwrap())];
+    let sinks: [Box<dyn MetricSink>; 2] = [
+        Box::new(plain.build(host(answers()).0, socket()).unwrap()),
+        Box::new(packed.build(host(answers()).0, socket()).unwrap()),
+    ];
     for sink in sinks {
         let start = Instant::now();
         new.set_nonblocking(true).unwrap();
@@ -109,7 +111,9 @@ fn the_handler_gets_the_errors_and_the_address_stays() {
     let tell = Arc::new(Mutex::new(tell));
     let sink = BufferedUdpMetricSink::builder()
         .with_resolver_period(Duration::from_millis(2))
-        .with_resolver_error_handler(move |error| { let _ = tell.lock().unwrap().send(error.kind()); })
+        .with_resolver_error_handler(move |error| {
+            let _ = tell.lock().unwrap().send(error.kind());
+        })
         .build(host, socket())
         .unwrap();
     assert_eq!(io::ErrorKind::TimedOut, told.recv_timeout(LONG).unwrap());

@@ -61,7 +61,9 @@ fn lines_are_packed() {
     assert_eq!("foo:54|c\n", packet(&server));
     sink.flush().unwrap();
     assert_eq!("foo:67|c\n", packet(&server));
-    for (line, sent) in [("fifteen-bytes-x", None), ("sixteen-bytes-xx", Some("fifteen-bytes-x\n")), ("a", Some("sixteen-bytes-xx"))] {
+    for (line, sent) in
+        [("fifteen-bytes-x", None), ("sixteen-bytes-xx", Some("fifteen-bytes-x\n")), ("a", Some("sixteen-bytes-xx"))]
+    {
         assert_eq!(line.len(), sink.emit(line).unwrap());
         sent.into_iter().for_each(|sent| assert_eq!(sent, packet(&server)));
     }
