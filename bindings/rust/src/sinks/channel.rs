@@ -42,6 +42,24 @@ impl<T> Sender<T> {
     }
 }
 
+/// How often a worker looks for a message before it sleeps, and how often of these without giving way to other threads.
+const LOOKS: u32 = 11;
+const SPINS: u32 = 7;
+
+/// Waits for a message, or answers that no sender is left. It looks some times before it sleeps, because a sender that has to
+/// wake it takes longer.
+pub(crate) fn wait<T>(receiver: &mpsc::Receiver<T>) -> Result<T, RecvError> {
+    for look in 0..LOOKS {
+        match receiver.try_recv() {
+            Ok(message) => return Ok(message),
+            Err(TryRecvError::Disconnected) => return Err(RecvError),
+            Err(TryRecvError::Empty) if look < SPINS => (0..1 << look).for_each(|_| std::hint::spin_loop()),
+            Err(TryRecvError::Empty) => std::thread::yield_now(),
+        }
+    }
+    receiver.recv()
+}
+
 /// The sending end of a spy.
 #[derive(Debug)]
 pub(crate) struct SpySender {

@@ -1,5 +1,5 @@
 //! A sink that hands lines to another one in a thread of its own.
-use super::channel::{channel, Sender};
+use super::channel::{channel, wait, Sender};
 use super::core::{MetricSink, SinkStats};
 use crate::sync::run_to_end;
 use std::fmt;
@@ -48,7 +48,7 @@ impl QueuingMetricSinkBuilder {
         let counts = Arc::new(Counts::default());
         let (counted, wrapped, errors) = (Arc::clone(&counts), Arc::clone(&sink), self.errors);
         let panics = run_to_end(move || {
-            for line in receiver.iter() {
+            while let Ok(line) = wait(&receiver) {
                 counted.drained.fetch_add(1, Ordering::Relaxed);
                 if let (Err(error), Some(handler)) = (wrapped.emit(&line), &errors) {
                     handler(error);
