@@ -3,7 +3,7 @@ use crate::layout::Decimal;
 use std::fmt::{self, Write};
 
 /// The most places that the library prints, and the most digits that fit 63 bits for sure or may do so.
-const PLACES: u8 = 30;
+const PLACES: u64 = 30;
 const DIGITS: usize = 19;
 
 /// The longest text of a decimal: a sign, a 0, a dot and 30 places.
@@ -43,7 +43,7 @@ pub(crate) fn with_decimals<R>(numbers: &[f64], with: impl FnOnce(Option<&[Decim
 /// Decimals of at most 15 digits lead to floats that differ, so the one that leads to this float is what it prints as.
 /// `scale` is 10 to the power of `places`; both numbers of the division are exact, so its answer is the float of the decimal.
 #[inline]
-fn short_decimal(number: f64, places: u8, scale: f64) -> Option<Decimal> {
+fn short_decimal(number: f64, places: u64, scale: f64) -> Option<Decimal> {
     let scaled = number * scale;
     if scaled.is_nan() || scaled.abs() >= 1e15 {
         return None;
@@ -55,7 +55,7 @@ fn short_decimal(number: f64, places: u8, scale: f64) -> Option<Decimal> {
 
 /// The decimal without the zeros at the end of its places.
 #[inline]
-fn lowest(mut mantissa: i64, mut places: u8) -> Decimal {
+fn lowest(mut mantissa: i64, mut places: u64) -> Decimal {
     while places > 0 && mantissa % 10 == 0 {
         mantissa /= 10;
         places -= 1;
@@ -112,7 +112,7 @@ mod tests {
 
     /// The text of a decimal, with no zeros at its end.
     fn text_of(decimal: Decimal) -> String {
-        let (digits, places) = (decimal.mantissa.unsigned_abs().to_string(), usize::from(decimal.places));
+        let (digits, places) = (decimal.mantissa.unsigned_abs().to_string(), decimal.places as usize);
         let padded = format!("{digits:0>width$}", width = places + 1);
         let (whole, rest) = padded.split_at(padded.len() - places);
         let rest = rest.trim_end_matches('0');

@@ -59,12 +59,17 @@ impl<'a> Tag<'a> {
 }
 
 /// `mantissa` over 10 to the power of `places`, which are at most 30.
+///
+/// C has one byte for the places and leaves seven to chance. Here they are one number, whose first byte that is, because the
+/// library reads all 16 bytes at once, and a processor waits for bytes that were written in smaller pieces.
 #[repr(C)]
 #[derive(Clone, Copy, Debug, Default, PartialEq, Eq)]
 pub(crate) struct Decimal {
     pub(crate) mantissa: i64,
-    pub(crate) places: u8,
+    pub(crate) places: u64,
 }
+
+const _: () = assert!(cfg!(target_endian = "little"), "the places of a decimal begin with their lowest byte");
 
 /// What a call adds to its metric.
 #[repr(C)]
@@ -83,23 +88,31 @@ pub(crate) struct Options<'a> {
 }
 
 impl<'a> Options<'a> {
+    /// Tags, a container and a time, without a rate.
     #[inline]
-    pub(crate) fn new(tags: &'a [Tag<'a>], container: Option<&'a str>, rate: Option<Decimal>, time: Option<u64>) -> Self {
+    pub(crate) fn new(tags: &'a [Tag<'a>], container: Option<&'a str>, time: Option<u64>) -> Self {
         let text = container.unwrap_or("");
         Options {
             tags: tags.as_ptr(),
             tags_len: tags.len(),
             container: text.as_ptr(),
             container_len: text.len(),
-            rate: rate.unwrap_or_default(),
+            rate: Decimal { mantissa: 0, places: 0 },
             time: time.unwrap_or_default(),
             contained: container.is_some(),
-            rated: rate.is_some(),
+            rated: false,
             timed: time.is_some(),
             // every text that gets here is a `&str`, and so is UTF-8
             known: true,
             of: PhantomData,
         }
+    }
+
+    #[cold]
+    #[inline(never)]
+    pub(crate) fn set_rate(&mut self, rate: Decimal) {
+        self.rate = rate;
+        self.rated = true;
     }
 }
 

@@ -70,7 +70,10 @@ impl<'a> Record<'a> {
     /// The line of these numbers, or of the value's text, if there are none.
     fn line_of(&self, numbers: Option<Numbers<'_>>) -> io::Result<String> {
         let rate = self.rate.and_then(decimal_of);
-        let options = Options::new(&self.tags, self.container, rate, self.time);
+        let mut options = Options::new(&self.tags, self.container, self.time);
+        if let Some(rate) = rate {
+            options.set_rate(rate);
+        }
         let mut line = String::with_capacity(self.size());
         append_line(&mut line, self.prefix, self.kind, self.key, numbers.unwrap_or(Numbers::Decimal(&[])), &options)?;
         if numbers.is_none() || self.rate.is_some() != rate.is_some() {

@@ -333,8 +333,7 @@ mod scratch {
         #[test]
         fn the_library_makes_its_line_in_the_room() {
             let mut line = String::new();
-            append_line(&mut line, "p.", Kind::Gauge, "k", Numbers::Signed(&[-7]), &Options::new(&[], None, None, None))
-                .unwrap();
+            append_line(&mut line, "p.", Kind::Gauge, "k", Numbers::Signed(&[-7]), &Options::new(&[], None, None)).unwrap();
             assert_eq!("p.k:-7|g", line);
             assert_eq!(b"p.k:-7|g".to_vec(), bytes_of_the_room(line.len()));
         }
@@ -343,8 +342,7 @@ mod scratch {
         fn a_line_that_passes_the_room_is_made_too() {
             let key = "k".repeat(5 * SIZE);
             let mut line = String::new();
-            append_line(&mut line, "", Kind::Set, &key, Numbers::Signed(&[1, 2]), &Options::new(&[], None, None, None))
-                .unwrap();
+            append_line(&mut line, "", Kind::Set, &key, Numbers::Signed(&[1, 2]), &Options::new(&[], None, None)).unwrap();
             assert_eq!(format!("{key}:1:2|s"), line);
         }
 
