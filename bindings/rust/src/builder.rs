@@ -86,11 +86,14 @@ where
     /// It fails with `InvalidInput` if the value doesn't fit or a number is NaN or infinite, and with `IoError` if the sink
     /// fails or memory is refused. The client can be used after that.
     pub fn try_send(self) -> MetricResult<T> {
-        let record = match &self.record {
-            Ok(record) => record,
-            Err(_) => return self.record.and_then(|record| Ok(T::from(record.line()?))),
+        let record = match self.record {
+            Ok(ref record) => record,
+            Err(error) => return Err(error),
         };
-        let metric = T::from(record.line()?);
+        record.check()?;
+        let mut line = String::new();
+        record.write(&mut line)?;
+        let metric = T::from(line);
         self.client.send_metric(&metric)?;
         Ok(metric)
     }

@@ -34,52 +34,53 @@ impl<'a> Record<'a> {
         Record { prefix, kind, key, value, tags: Vec::new(), container: None, rate: None, time: None }
     }
 
-    /// The line, if no number is NaN or infinite.
+    /// The error of a number that is NaN or infinite, if there is one.
     #[inline]
-    pub(crate) fn line(&self) -> MetricResult<String> {
-        if !self.value.is_finite() || self.rate.is_some_and(|rate| !rate.is_finite()) {
-            return Err(MetricError::from((ErrorKind::InvalidInput, "a number is NaN or infinite")));
+    pub(crate) fn check(&self) -> MetricResult<()> {
+        if self.value.is_finite() && self.rate.is_none_or(f64::is_finite) {
+            return Ok(());
         }
-        Ok(self.any_line()?)
+        Err(MetricError::from((ErrorKind::InvalidInput, "a number is NaN or infinite")))
     }
 
-    /// The line, whatever its numbers are.
-    pub(crate) fn any_line(&self) -> io::Result<String> {
+    /// Puts the line in the place of a text, whatever its numbers are.
+    #[inline]
+    pub(crate) fn write(&self, line: &mut String) -> io::Result<()> {
         let numbers = match &self.value {
             MetricValue::Signed(value) => Numbers::Signed(from_ref(value)),
             MetricValue::PackedSigned(values) => Numbers::Signed(values),
             MetricValue::Unsigned(value) => Numbers::Unsigned(from_ref(value)),
             MetricValue::PackedUnsigned(values) => Numbers::Unsigned(values),
-            MetricValue::Float(value) => return self.line_of_float(*value),
+            MetricValue::Float(value) => return self.write_float(*value, line),
             MetricValue::PackedFloat(values) => {
-                return with_decimals(values, |found| self.line_of(found.map(Numbers::Decimal)));
+                return with_decimals(values, |found| self.write_numbers(found.map(Numbers::Decimal), line));
             }
         };
-        self.line_of(Some(numbers))
+        self.write_numbers(Some(numbers), line)
     }
 
-    /// The line of a float, which the library prints faster as an integer, if it is one.
-    fn line_of_float(&self, value: f64) -> io::Result<String> {
+    /// Writes the line of a float, which the library prints faster as an integer, if it is one.
+    fn write_float(&self, value: f64, line: &mut String) -> io::Result<()> {
         match decimal_of(value) {
-            None => self.line_of(None),
-            Some(Decimal { mantissa, places: 0 }) => self.line_of(Some(Numbers::Signed(&[mantissa]))),
-            Some(decimal) => self.line_of(Some(Numbers::Decimal(&[decimal]))),
+            None => self.write_numbers(None, line),
+            Some(Decimal { mantissa, places: 0 }) => self.write_numbers(Some(Numbers::Signed(&[mantissa])), line),
+            Some(decimal) => self.write_numbers(Some(Numbers::Decimal(&[decimal])), line),
         }
     }
 
-    /// The line of these numbers, or of the value's text, if there are none.
-    fn line_of(&self, numbers: Option<Numbers<'_>>) -> io::Result<String> {
+    /// Writes the line of these numbers, or of the value's text, if there are none.
+    fn write_numbers(&self, numbers: Option<Numbers<'_>>, line: &mut String) -> io::Result<()> {
         let rate = self.rate.and_then(decimal_of);
         let mut options = Options::new(&self.tags, self.container, self.time);
         if let Some(rate) = rate {
             options.set_rate(rate);
         }
-        let mut line = String::with_capacity(self.size());
-        append_line(&mut line, self.prefix, self.kind, self.key, numbers.unwrap_or(Numbers::Decimal(&[])), &options)?;
+        *line = String::with_capacity(self.size());
+        append_line(line, self.prefix, self.kind, self.key, numbers.unwrap_or(Numbers::Decimal(&[])), &options)?;
         if numbers.is_none() || self.rate.is_some() != rate.is_some() {
-            self.insert_texts(&mut line, numbers.is_none(), rate.is_none());
+            self.insert_texts(line, numbers.is_none(), rate.is_none());
         }
-        Ok(line)
+        Ok(())
     }
 
     /// Puts the texts of the value and of the rate in their places, where the library has printed none.

@@ -14,8 +14,10 @@ pub trait Metric {
 /// The line of a metric's constructor, which has no way to answer an error: if memory is refused, the process ends, as it
 /// does for a `Vec`.
 fn line_of(prefix: &str, kind: Kind, key: &str, value: MetricValue) -> String {
-    let record = Record::new(prefix, kind, key, value);
-    record.any_line().unwrap_or_else(|_| handle_alloc_error(Layout::new::<String>()))
+    let mut line = String::new();
+    let written = Record::new(prefix, kind, key, value).write(&mut line);
+    written.unwrap_or_else(|_| handle_alloc_error(Layout::new::<String>()));
+    line
 }
 
 macro_rules! metric {
