@@ -74,13 +74,18 @@ static bool does_not_fit(PyObject *value) {
     return false;
 }
 
-/* A float: its shortest text, and of milliseconds six places. */
-static bool decimal_of_float(PyObject *value, bool in_millis, cadence_decimal_number *to) {
-    char *text = PyOS_double_to_string(PyFloat_AsDouble(value), in_millis ? 'f' : 'r', in_millis ? 6 : 0, 0, NULL);
-    if (text == NULL) return false;
-    const bool fits = decimal_of_text(text, to);
+static bool decimal_of_double(double value, char form, int places, cadence_decimal_number *to) {
+    char *text = PyOS_double_to_string(value, form, places, 0, NULL);
+    const bool fits = text != NULL && decimal_of_text(text, to);
     PyMem_Free(text);
-    return fits || does_not_fit(value);
+    return fits;
+}
+
+/* A float: of milliseconds six places, where these fit, and else its shortest text. */
+static bool decimal_of_float(PyObject *value, bool in_millis, cadence_decimal_number *to) {
+    const double number = PyFloat_AsDouble(value);
+    if (in_millis && decimal_of_double(number, 'f', 6, to)) return true;
+    return decimal_of_double(number, 'r', 0, to) || (PyErr_Occurred() == NULL && does_not_fit(value));
 }
 
 static bool decimal_of_whole(PyObject *value, cadence_decimal_number *to) {

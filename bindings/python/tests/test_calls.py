@@ -55,6 +55,9 @@ class Calls(ClientTest):
         self.check(lambda c: (c.timing("t", 350), c.timing("t", 0.1 + 0.2), c.timing("t", 1 / 3), c.timing("t", hour)),
                    "t:350|ms", "t:0.3|ms", "t:0.333333|ms", "t:3600001.5|ms")
 
+    def test_timing_whose_six_places_do_not_fit(self):
+        self.check(lambda c: c.timing("t", 28627697007271.367), "t:28627697007271.367|ms")
+
     def test_other_kinds(self):
         self.check(lambda c: (c.histogram("h", 2.5), c.distribution("d", 3), c.meter("m"), c.meter("m", 4)),
                    "h:2.5|h", "d:3|d", "m:1|m", "m:4|m")

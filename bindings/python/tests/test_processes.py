@@ -11,7 +11,15 @@ import unittest
 from receiver import ClientTest, Recorder
 
 THREADS, CALLS = 8, 5000
-AT_EXIT = "import statsd_proved, sys; client = statsd_proved.StatsClient('127.0.0.1', int(sys.argv[1])); client.incr('a')"
+AT_EXIT = """
+import atexit
+atexit.register(lambda: client.incr("late"))  # runs after what the package does at exit
+import statsd_proved, sys, threading
+client = statsd_proved.StatsClient("127.0.0.1", int(sys.argv[1]))
+client.incr("a")
+# the frame of this thread holds the client to the end
+threading.Thread(target=lambda client: threading.Event().wait(), args=(client,), daemon=True).start()
+"""
 
 
 def _in_worker(client):
@@ -124,13 +132,13 @@ class Processes(ClientTest):
 
     def test_what_is_held_goes_out_at_exit(self):
         subprocess.run([sys.executable, "-c", AT_EXIT, str(self.receiver.address[1])], check=True)
-        self.assertEqual(self.receiver.lines(), ["a:1|c"])
+        self.assertEqual(self.receiver.lines(), ["a:1|c", "late:1|c"])
 
     def test_what_is_held_goes_out_at_an_exit_by_an_error(self):
-        told = subprocess.run([sys.executable, "-c", AT_EXIT + "; client.pipeline().incr('b'); 1 / 0",
+        told = subprocess.run([sys.executable, "-c", AT_EXIT + "client.pipeline().incr('b'); 1 / 0",
                                str(self.receiver.address[1])], stderr=subprocess.PIPE, text=True)
         self.assertIn("ZeroDivisionError", told.stderr.splitlines()[-1])
-        self.assertEqual(self.receiver.lines(), ["a:1|c"])
+        self.assertEqual(self.receiver.lines(), ["a:1|c", "late:1|c"])
 
 
 if __name__ == "__main__":

@@ -93,7 +93,7 @@ class StatsClient(Metrics):
 
     def __del__(self) -> None:
         if hasattr(self, "_ended"):
-            self.close()
+            self._tell(self._close(), may_raise=False)
 
     def pipeline(self) -> Pipeline:
         """Metrics that go out together."""
@@ -107,23 +107,7 @@ class StatsClient(Metrics):
 
     def close(self) -> None:
         """Sends what is held and what waits, drops what the socket refuses, and closes. A second call does nothing."""
-        faults: list[Exception] = []
-        self._ended.set()
-        with self._sending:
-            self._starts = False
-            waiting = [] if self._refused is None else [self._refused]
-            self._refused = None
-            try:
-                waiting += self._packer.close()
-            except MemoryError as fault:
-                faults.append(fault)
-            for packet in waiting:
-                fault = self._send(packet)
-                if fault is not None:
-                    faults.append(fault)
-                    self._lost += 1
-            self._socket.close()
-        self._tell(faults)
+        self._tell(self._close())
 
     def counts(self) -> Counts:
         """The counts, also after `close`."""
@@ -139,6 +123,32 @@ class StatsClient(Metrics):
         self._sent = self._lost = self._refusals = self._bad_calls = 0
         self._starts = bool(self._flush_every)
         self._ended = threading.Event()
+
+    def _close(self) -> list[Exception]:
+        faults: list[Exception] = []
+        self._ended.set()
+        with self._sending:
+            self._starts = False
+            waiting = [] if self._refused is None else [self._refused]
+            self._refused = None
+            try:
+                waiting += self._packer.close()
+            except MemoryError as fault:
+                faults.append(fault)
+            for packet in waiting:
+                if (refusal := self._send(packet)) is not None:
+                    faults.append(refusal)
+                    self._lost += 1
+            self._socket.close()
+        return faults
+
+    def _end(self) -> None:
+        """Sends what is held, and what comes later at once, because the process ends."""
+        if not self._ended.is_set():
+            self._ended.set()
+            self._starts = False
+            self._at_once = True
+            self._tell(self._flush(), may_raise=False)
 
     def _renew(self) -> None:
         """Drops, in the child of a fork, what is the parent's."""

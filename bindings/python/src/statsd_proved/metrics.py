@@ -6,10 +6,10 @@ import datetime
 import decimal
 import random
 from collections.abc import Iterable, Mapping, Sequence
-from typing import TYPE_CHECKING, Any, Union
+from typing import Any, Union
 
-if TYPE_CHECKING:
-    from .timer import Timer
+from ._core import Packer
+from .timer import Timer
 
 Number = Union[int, float, decimal.Decimal]
 Tags = Union[Mapping[str, Union[str, Number]], Iterable[Union[str, Number, tuple[str, Union[str, Number]]]]]
@@ -26,6 +26,8 @@ class Metrics(abc.ABC):
     by which the server scales. Each takes `tags`, a `container` and a `timestamp` (whole seconds since 1970) too, which
     servers with the Datadog fields read. A value is an int, a float or a Decimal.
     """
+
+    _packer: Packer
 
     def incr(self, stat: str, count: Number = 1, rate: float = 1, *, tags: Tags | None = None,
              container: str | None = None, timestamp: int | None = None) -> None:
@@ -54,7 +56,7 @@ class Metrics(abc.ABC):
 
     def timing(self, stat: str, delta: Number | datetime.timedelta | Sequence[Number], rate: float = 1, *,
                tags: Tags | None = None, container: str | None = None, timestamp: int | None = None) -> None:
-        """A time in milliseconds, or a timedelta. A float is rounded to six places. A list makes one line."""
+        """A time in milliseconds, or a timedelta. A float is rounded to six places, where these fit. A list makes one line."""
         if isinstance(delta, datetime.timedelta):
             delta = delta.total_seconds() * 1000
         self._keep(TIMER, PLAIN, stat, delta, rate, tags, container, timestamp)
@@ -85,7 +87,6 @@ class Metrics(abc.ABC):
     def timer(self, stat: str, rate: float = 1, **fields: Any) -> Timer:
         """A timer, which is a context manager, a decorator (of functions and of coroutine functions) and an object with
         `start`, `stop` and `send`. `fields` are `tags`, `container` and `timestamp`."""
-        from .timer import Timer
         return Timer(self, stat, rate, **fields)
 
     def _keep(self, kind: int, form: int, stat: str, value: Any, rate: float, tags: Any, container: Any,
@@ -100,8 +101,6 @@ class Metrics(abc.ABC):
         except Exception as fault:
             return self._bad(fault)
         self._kept(made_packet)
-
-    _packer: Any
 
     @abc.abstractmethod
     def _kept(self, made_packet: bool) -> None:

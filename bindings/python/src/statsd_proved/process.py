@@ -14,21 +14,20 @@ _clients: weakref.WeakSet[StatsClient] = weakref.WeakSet()
 
 
 def watch(client: StatsClient) -> None:
-    """Has the client closed when the process ends, and begin anew in the child of a fork."""
+    """Has the client send what it holds when the process ends, and begin anew in the child of a fork."""
     _clients.add(client)
 
 
 def watch_worker() -> None:
-    """Has all clients closed when a process of multiprocessing ends, where atexit is not called."""
+    """Has all clients do so when a process of multiprocessing ends, where atexit is not called."""
     util = sys.modules.get("multiprocessing.util")
     if util is not None:
-        util.Finalize(None, close_all, exitpriority=0)
+        util.Finalize(None, _end_all, exitpriority=0)
 
 
-def close_all() -> None:
-    """Sends what the clients hold, and closes them."""
+def _end_all() -> None:
     for client in list(_clients):
-        client.close()
+        client._end()
 
 
 def _renew_all() -> None:
@@ -36,5 +35,5 @@ def _renew_all() -> None:
         client._renew()
 
 
-atexit.register(close_all)
+atexit.register(_end_all)
 os.register_at_fork(after_in_child=_renew_all)
