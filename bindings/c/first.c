@@ -16,14 +16,15 @@ static void send_waiting(cadence_handle *client, int fd) {
     }
 }
 
-int main(int count, char **names) {
+int main(int argc, char **argv) {
+    const char *name = argc > 1 ? argv[1] : "visits";
     const struct sockaddr_in to = { .sin_family = AF_INET, .sin_port = htons(8125), .sin_addr = { htonl(INADDR_LOOPBACK) } };
     const int fd = socket(AF_INET, SOCK_DGRAM, 0);
     if (connect(fd, (const struct sockaddr *)&to, sizeof to)) return 1;
 
     cadence_handle client = CADENCE_CLOSED;
     uint32_t status = cadence_open(&client, "my.service", 512, 8, CADENCE_DROP_OLDEST);
-    if (status == CADENCE_OK) status = cadence_count(&client, count > 1 ? names[1] : "visits", 1, NULL);
+    if (status == CADENCE_OK) status = cadence_count(&client, name, 1, NULL);
     if (status == CADENCE_OK) status = cadence_flush(&client);
     if (status != CADENCE_OK) fprintf(stderr, "%s\n", cadence_status_text(status));
     send_waiting(&client, fd);

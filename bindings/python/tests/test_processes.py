@@ -3,6 +3,7 @@ import collections
 import multiprocessing
 import os
 import select
+import signal
 import subprocess
 import sys
 import threading
@@ -79,6 +80,7 @@ class Processes(ClientTest):
         """Runs work in the child of a fork, which ends without the handlers of an exit."""
         child = os.fork()
         if child == 0:
+            signal.alarm(30)  # ends a child that waits for ever
             try:
                 work()
             finally:
