@@ -11,7 +11,8 @@ if TYPE_CHECKING:
 
 
 class Pipeline(Metrics):
-    """Metrics that are held until `send`, or the end of a `with`, and then go out at once, in as few packets as hold them."""
+    """Metrics that are held until `send`, or the end of a `with`, and then go out at once, in as few packets as hold
+    them. A pipeline is for one thread at a time."""
 
     def __init__(self, client: StatsClient, packer: Packer) -> None:
         self._client = client
