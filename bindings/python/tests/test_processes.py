@@ -125,12 +125,13 @@ class Processes(ClientTest):
         thread.join()
 
     def test_the_end_of_a_worker(self):
-        client = self.client(flush_every=60)
-        client.incr("parent")
-        worker = multiprocessing.get_context("fork").Process(target=_in_worker, args=(client,))
-        worker.start()
-        worker.join()
-        self.assertEqual(self.receiver.lines(), ["child:1|c"])
+        for every in (None, 60):
+            client = self.client(flush_every=every)
+            client.incr("parent")
+            worker = multiprocessing.get_context("fork").Process(target=_in_worker, args=(client,))
+            worker.start()
+            worker.join()
+            self.assertEqual(self.receiver.lines(), ["child:1|c"])
 
     def test_what_is_held_goes_out_at_exit(self):
         subprocess.run([sys.executable, "-c", AT_EXIT, str(self.receiver.address[1])], check=True)

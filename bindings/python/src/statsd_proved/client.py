@@ -121,7 +121,7 @@ class StatsClient(Metrics):
         self._sending = threading.RLock()
         self._refused: bytes | None = None
         self._sent = self._lost = self._refusals = self._bad_calls = 0
-        self._starts = bool(self._flush_every)
+        self._starts = True
         self._ended = threading.Event()
 
     def _close(self) -> list[Exception]:
@@ -167,12 +167,14 @@ class StatsClient(Metrics):
         return packer
 
     def _start(self) -> None:
-        """Starts the thread that flushes."""
+        """Follows the first line of a process: starts the thread that flushes, where there is one."""
         with self._sending:
             if not self._starts:
                 return
             self._starts = False
         process.watch_worker()
+        if not self._flush_every:
+            return
         words = (weakref.ref(self), self._flush_every, self._ended)
         try:
             threading.Thread(target=_flush_often, args=words, name="statsd_proved", daemon=True).start()
