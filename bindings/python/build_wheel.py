@@ -1,6 +1,7 @@
 """Builds the wheel: the extension module, in which the library is, and the Python files.
 
-The library stands in ../../lib, as in the archive, or in the folder that CADENCE_LIB names.
+The library stands in ../../lib, as in the archive, or in the folder that CADENCE_LIB names, and the header in `include` beside
+that folder.
 """
 import base64
 import hashlib
@@ -16,7 +17,6 @@ import tomllib
 import zipfile
 
 HERE = pathlib.Path(__file__).resolve().parent
-INCLUDE = HERE.parent.parent / "include"
 TAG = f"cp311-abi3-{sysconfig.get_platform().replace('-', '_').replace('.', '_')}"
 
 
@@ -31,9 +31,18 @@ def library():
              "CADENCE_LIB=/opt/cadence_c-1.8.0/lib")
 
 
+def header():
+    """The path of the header."""
+    for folder in (HERE.parent.parent, library().parent.parent):
+        if (path := folder / "include" / "cadence.h").exists():
+            return path
+    sys.exit(f"statsd-proved: cadence.h is neither in ../../include nor in {library().parent.parent}/include: set CADENCE_LIB to the "
+             "folder lib of the archive, beside which its include stands")
+
+
 def version():
     """The version of the header, which is the library's."""
-    return re.search(r'#define CADENCE_VERSION "(.*)"', (INCLUDE / "cadence.h").read_text())[1]
+    return re.search(r'#define CADENCE_VERSION "(.*)"', header().read_text())[1]
 
 
 def compiled(to):
@@ -41,7 +50,7 @@ def compiled(to):
     compiler = shlex.split(os.environ.get("CC") or sysconfig.get_config_var("CC") or "gcc")
     sources = sorted(str(path) for path in (HERE / "c").glob("*.c"))
     subprocess.run([*compiler, "-std=gnu11", "-O2", "-Wall", "-Wextra", "-fPIC", "-fvisibility=hidden", "-shared",
-                    f"-I{INCLUDE}", f"-I{sysconfig.get_paths()['include']}", *sources, str(library()),
+                    f"-I{header().parent}", f"-I{sysconfig.get_paths()['include']}", *sources, str(library()),
                     "-Wl,--exclude-libs,ALL", "-o", str(to)], check=True)
     return to.read_bytes()
 

@@ -17,10 +17,10 @@ class Build(unittest.TestCase):
         self.place.mkdir(parents=True)
         shutil.copy(HERE / "build_wheel.py", self.place)
 
-    def library(self, **environment):
+    def library(self, of="library", **environment):
         """What a run says of the library, and of its fault."""
         others = {name: text for name, text in os.environ.items() if name != "CADENCE_LIB"}
-        run = subprocess.run([sys.executable, "-c", "import build_wheel; print(build_wheel.library())"], cwd=self.place,
+        run = subprocess.run([sys.executable, "-c", f"import build_wheel; print(build_wheel.{of}())"], cwd=self.place,
                              env={**others, **environment}, stdout=subprocess.PIPE, stderr=subprocess.PIPE, text=True)
         return run.stdout.strip(), run.stderr
 
@@ -45,6 +45,18 @@ class Build(unittest.TestCase):
             self.assertEqual(path, "")
             self.assertIn(told, error)
             self.assertIn("set CADENCE_LIB to the folder that it is in, as in CADENCE_LIB=/opt/cadence_c-1.8.0/lib", error)
+
+    def test_the_header_stands_beside_the_library(self):
+        self.put("lib")
+        path, error = self.library("header")
+        self.assertEqual(path, "")
+        self.assertIn("set CADENCE_LIB to the folder lib of the archive, beside which its include stands", error)
+        other = self.top / "other"
+        (other / "include").mkdir(parents=True)
+        (other / "include" / "cadence.h").touch()
+        self.put("other/lib")
+        (self.top / "lib" / "libcadence_c.a").unlink()
+        self.assertEqual(self.library("header", CADENCE_LIB=str(other / "lib")), (str((other / "include/cadence.h").resolve()), ""))
 
 
 if __name__ == "__main__":
