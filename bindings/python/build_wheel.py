@@ -27,8 +27,8 @@ def library():
         if (path := folder.resolve() / "libcadence_c.a").exists():
             return path
     told = f"CADENCE_LIB is {named}" if named else "CADENCE_LIB is not set"
-    sys.exit(f"statsd-proved: libcadence_c.a is not in ../../lib, and {told}: set CADENCE_LIB to the folder that it is in, as in "
-             "CADENCE_LIB=/opt/cadence_c-1.8.0/lib")
+    sys.exit(f"statsd-proved: libcadence_c.a is not in ../../lib, and {told}: set CADENCE_LIB to the folder that it is in, "
+             "as in CADENCE_LIB=/opt/cadence_c-1.8.0/lib")
 
 
 def header():
@@ -36,8 +36,9 @@ def header():
     for folder in (HERE.parent.parent, library().parent.parent):
         if (path := folder / "include" / "cadence.h").exists():
             return path
-    sys.exit(f"statsd-proved: cadence.h is neither in ../../include nor in {library().parent.parent}/include: set CADENCE_LIB to the "
-             "folder lib of the archive, beside which its include stands")
+    beside = library().parent.parent / "include"
+    sys.exit(f"statsd-proved: cadence.h is neither in ../../include nor in {beside}: set CADENCE_LIB to the folder lib of the "
+             "archive, beside which its include stands")
 
 
 def version():

@@ -56,7 +56,8 @@ class Build(unittest.TestCase):
         (other / "include" / "cadence.h").touch()
         self.put("other/lib")
         (self.top / "lib" / "libcadence_c.a").unlink()
-        self.assertEqual(self.library("header", CADENCE_LIB=str(other / "lib")), (str((other / "include/cadence.h").resolve()), ""))
+        found = str((other / "include" / "cadence.h").resolve())
+        self.assertEqual(self.library("header", CADENCE_LIB=str(other / "lib")), (found, ""))
 
 
 if __name__ == "__main__":

@@ -63,8 +63,8 @@ class Values(ClientTest):
                      lambda c: c.incr("x", rate="1"), lambda c: c.raw(b"x:1|c"), lambda c: c.incr("x", timestamp="now"))
 
     def test_tags_that_are_none(self):
-        self.refuses(TypeError, lambda c: c.incr("x", tags="a:b"), lambda c: c.incr("x", tags=b"a"), lambda c: c.incr("x", tags=7),
-                     lambda c: c.incr("x", tags={"a": None}), lambda c: c.incr("x", tags=[("a", "b", "c")]),
+        self.refuses(TypeError, *(lambda c, tags=tags: c.incr("x", tags=tags)
+                                  for tags in ("a:b", b"a", 7, {"a": None}, [("a", "b", "c")])),
                      lambda c: c.incr("x", container=b"id"))
 
     def test_texts_that_are_not_unicode(self):

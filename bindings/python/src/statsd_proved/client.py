@@ -61,10 +61,10 @@ class StatsClient(Metrics):
     what was held is the parent's.
 
     No call raises, because a metric is not worth a service: a bad value is counted, a packet that the socket refuses is
-    counted and waits, to be offered again with the next one, and where as many wait behind it as `packets` says, the oldest of
-    these is dropped and counted. A packet that is too long for the socket is dropped. `on_error` gets each of these errors: a TypeError,
-    ValueError, OverflowError, MemoryError or StatusError of a call, or an OSError of a packet. With `raises`, the call raises
-    it too.
+    counted and waits, to be offered again with the next one, and where as many wait behind it as `packets` says, the
+    oldest of these is dropped and counted. A packet that is too long for the socket is dropped. `on_error` gets each of
+    these errors: a TypeError, ValueError, OverflowError, MemoryError or StatusError of a call, or an OSError of a packet.
+    With `raises`, the call raises it too.
     """
 
     def __init__(self, host: str = "localhost", port: int = 8125, prefix: str | None = None, maxudpsize: int = 512,
