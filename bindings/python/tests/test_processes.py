@@ -7,6 +7,7 @@ import signal
 import subprocess
 import sys
 import threading
+import time
 import unittest
 
 from receiver import ClientTest, Recorder
@@ -52,6 +53,28 @@ class Threads(ClientTest):
         for number in range(THREADS):
             wanted = [f"thread{number}:{call}|c|#t:1,k:{call}" for call in range(CALLS)]
             self.assertEqual(by_thread[f"thread{number}"], wanted)
+
+    def test_a_packet_waits_for_the_one_before_it(self):
+        begun = threading.Event()
+
+        class Slow(Recorder):
+            def sendto(self, packet, address):
+                if not begun.is_set():
+                    begun.set()
+                    time.sleep(0.2)
+                super().sendto(packet, address)
+
+        client = self.client(maxudpsize=8)
+        client._socket.close()
+        client._socket = Slow()
+        client.incr("a")
+        first = threading.Thread(target=client.incr, args=("b",))  # sends a
+        first.start()
+        begun.wait()
+        client.incr("c")  # sends b
+        first.join()
+        client.close()
+        self.assertEqual(client._socket.lines(), ["a:1|c", "b:1|c", "c:1|c"])
 
     def test_threads_close_a_client(self):
         for _ in range(10):
