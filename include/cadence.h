@@ -8,8 +8,9 @@
  *   such a lock. It is never copied: there is one owner.
  * - A pointer leads to as many values as the length beside it says, and what a call writes to is read and written by
  *   nobody else meanwhile. Where the length is 0, the pointer may be null. Pointers without a length are never null.
- * - malloc, realloc and free of one allocator; no call from a signal handler, nor in the forked child of a process
- *   with threads.
+ * - malloc, realloc and free of one allocator; no call from a signal handler, nor where malloc may not be called, as in
+ *   the forked child of a process with threads (glibc's may). Such a child has what its parent holds: it makes a client
+ *   anew, since else both would send it.
  *
  * Each call of a client but cadence_free answers a status. Where it is not CADENCE_OK, the client is as it was. Where
  * several statuses apply, a call answers the first of these:

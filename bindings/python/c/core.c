@@ -1,7 +1,8 @@
 /* The type Packer of statsd_proved._core: the calls of cadence.h.
  *
  * Each method reads its arguments first, which may run other Python code, and then calls the library with no Python code
- * in between and the interpreter's lock held: so threads may share a Packer, and none sees another's call half done. */
+ * in between and the interpreter's lock held: so threads may share a Packer, and none sees another's call half done. A fork
+ * of Python is made with that lock held too, and glibc's malloc may be called in its child, so calls may follow there. */
 #include "core.h"
 #include <string.h>
 
