@@ -1,32 +1,47 @@
-/* Sends metrics to a socket of its own on the loopback address, and prints the datagrams that arrive. */
+/* Sends metrics to a socket of its own on the loopback address, and prints what the calls answer that keep no line, then the
+ * datagrams that arrive. The socket refuses for a while, and one packet is longer than any datagram. */
 #include "cadence.h"
 #include <arpa/inet.h>
+#include <errno.h>
 #include <stdio.h>
 #include <string.h>
 #include <sys/socket.h>
-#include <unistd.h>
 
-#define TEXT(s) (const uint8_t *)(s), strlen(s)
-#define TAG(key, text) { TEXT(key), TEXT(text), true }
+enum { LONGEST = 65507 }; /* bytes of a datagram of UDP */
 
 static int server, client;
 static struct sockaddr_in to;
 
-/* Sends what waits. A packet that the socket refuses still waits. */
+/* Sends what waits. A packet that no datagram holds is dropped, since it would stay first; one that the socket refuses
+ * for now still waits. */
 static void send_waiting(cadence_handle *handle) {
-    uint8_t packet[512];
+    static uint8_t packet[LONGEST];
     size_t length;
-    while (cadence_next(handle, packet, sizeof packet, &length) == CADENCE_OK) {
-        if (sendto(client, packet, length, 0, (struct sockaddr *)&to, sizeof to) < 0) return;
+    for (;;) {
+        const uint32_t status = cadence_next(handle, packet, sizeof packet, &length);
+        const bool too_long = status == CADENCE_TOO_SMALL;
+        if (status != CADENCE_OK && !too_long) return;
+        if (!too_long && sendto(client, packet, length, 0, (struct sockaddr *)&to, sizeof to) < 0 && errno != EMSGSIZE) return;
+        if (too_long) printf("a packet of %zu bytes is dropped\n", length);
         cadence_sent(handle);
     }
 }
 
+/* Where as many packets wait as may, they are sent, and the call is made once more. */
 static void count(cadence_handle *handle, const char *key, int64_t value, const cadence_options *options) {
-    uint32_t status;
-    while ((status = cadence_signed(handle, CADENCE_COUNTER, TEXT(key), &value, 1, options)) == CADENCE_FULL)
+    uint32_t status = cadence_count(handle, key, value, options);
+    if (status == CADENCE_FULL) {
         send_waiting(handle);
-    if (status != CADENCE_OK) printf("status %u\n", status);
+        status = cadence_count(handle, key, value, options);
+    }
+    if (status != CADENCE_OK) printf("%s\n", cadence_status_text(status));
+}
+
+static void flush(cadence_handle *handle) {
+    send_waiting(handle);
+    const uint32_t status = cadence_flush(handle);
+    if (status != CADENCE_OK) printf("flush: %s\n", cadence_status_text(status));
+    send_waiting(handle);
 }
 
 static int open_sockets(void) {
@@ -38,33 +53,56 @@ static int open_sockets(void) {
     return bind(server, (struct sockaddr *)&to, sizeof to) || getsockname(server, (struct sockaddr *)&to, &size);
 }
 
-int main(void) {
+static void counters(cadence_handle *handle) {
+    const cadence_tag page[] = { cadence_tag_of("page", "home"), cadence_tag_of(NULL, "beta") };
+    cadence_options tagged = cadence_options_of(page, 2);
+    tagged.rated = true, tagged.rate = (cadence_decimal_number){ 50, 2 };
+    for (int i = 0; i < 4; i++) count(handle, "visits", i, NULL);
+    count(handle, "requests", -7, &tagged);
+    count(handle, "\xff", 1, NULL);
+    count(handle, "a.key.that.is.too.long.for.a.packet.of.sixty.four.bytes", 1, NULL);
+    flush(handle);
+}
+
+static void other_kinds(cadence_handle *handle) {
+    const uint64_t sizes[] = { 1, 22, 333 };
     const cadence_options none = CADENCE_NO_OPTIONS;
-    const cadence_tag env = TAG("env", "prod"), page[] = { TAG("page", "home"), { NULL, 0, TEXT("beta"), false } };
-    cadence_options tagged = CADENCE_NO_OPTIONS;
+    cadence_unsigned(handle, CADENCE_HISTOGRAM, (const uint8_t *)"sizes", 5, sizes, 3, &none);
+    cadence_parts(handle, CADENCE_GAUGE, "load", -1250, 3, NULL);
+    flush(handle);
+    cadence_time_nanos(handle, "took", 1999999, NULL);
+    cadence_raw(handle, "own:1|c");
+    flush(handle);
+}
+
+/* No datagram has port 0: the socket refuses each packet, until the port is there again. */
+static void refusals(cadence_handle *handle) {
+    const in_port_t port = to.sin_port;
+    to.sin_port = 0;
+    for (int i = 0; i < 7; i++) count(handle, "kept", i, NULL);
+    to.sin_port = port;
+    flush(handle);
+}
+
+static void long_line(cadence_handle *handle) {
+    static char key[70000];
+    memset(key, 'x', sizeof key - 1);
+    count(handle, key, 1, NULL);
+    flush(handle);
+    count(handle, "after", 1, NULL);
+    flush(handle);
+}
+
+int main(void) {
     cadence_handle handle = CADENCE_CLOSED;
     if (open_sockets()) return 1;
-    count(&handle, "closed", 1, &none);
-    if (cadence_new(&handle, TEXT("my.service"), 64, 2, CADENCE_REFUSE) != CADENCE_OK) return 2;
-    if (cadence_add_tag(&handle, &env) != CADENCE_OK) return 3;
-    for (int i = 0; i < 4; i++) count(&handle, "visits", i, &none);
-    tagged.tags = page, tagged.tags_len = 2, tagged.rated = true, tagged.rate = (cadence_decimal_number){ 50, 2 };
-    count(&handle, "requests", -7, &tagged);
-    count(&handle, "\xff", 1, &none);
-    count(&handle, "a.key.that.is.too.long.for.a.packet.of.sixty.four.bytes", 1, &none);
-    while (cadence_flush(&handle) == CADENCE_FULL) send_waiting(&handle);
-    send_waiting(&handle);
-
-    const uint64_t times[] = { 1, 22, 333 }, nanos[] = { 1999999, 2000000 };
-    const cadence_decimal_number load = { -1250, 3 };
-    send_waiting(&handle);
-    cadence_unsigned(&handle, CADENCE_HISTOGRAM, TEXT("sizes"), times, 3, &none);
-    cadence_decimal(&handle, CADENCE_GAUGE, TEXT("load"), &load, 1, &none);
-    send_waiting(&handle);
-    cadence_duration(&handle, CADENCE_TIMER, TEXT("took"), nanos, 2, &none);
-    cadence_line(&handle, TEXT("own:1|c"));
-    cadence_flush(&handle);
-    send_waiting(&handle);
+    count(&handle, "closed", 1, NULL);
+    if (cadence_open(&handle, "my.service", 64, 2, CADENCE_REFUSE) != CADENCE_OK) return 2;
+    if (cadence_default_tag(&handle, "env", "prod") != CADENCE_OK) return 3;
+    counters(&handle);
+    other_kinds(&handle);
+    refusals(&handle);
+    long_line(&handle);
 
     cadence_counts_of counts;
     cadence_counts(&handle, &counts);

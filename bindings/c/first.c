@@ -1,23 +1,33 @@
 /* gcc first.c $(pkg-config --cflags --libs cadence_c) */
 #include <arpa/inet.h>
 #include <cadence.h>
+#include <errno.h>
+#include <stdio.h>
 #include <sys/socket.h>
 
-int main(void) {
+/* Sends the packets that wait. One that no datagram holds is dropped; one that the socket refuses still waits. */
+static void send_waiting(cadence_handle *client, int fd) {
+    static uint8_t packet[65507];
+    size_t length;
+    uint32_t status;
+    while ((status = cadence_next(client, packet, sizeof packet, &length)) == CADENCE_OK || status == CADENCE_TOO_SMALL) {
+        if (status == CADENCE_OK && send(fd, packet, length, 0) < 0 && errno != EMSGSIZE) return;
+        cadence_sent(client);
+    }
+}
+
+int main(int argc, char **argv) {
+    const char *name = argc > 1 ? argv[1] : "visits";
     const struct sockaddr_in to = { .sin_family = AF_INET, .sin_port = htons(8125), .sin_addr = { htonl(INADDR_LOOPBACK) } };
     const int fd = socket(AF_INET, SOCK_DGRAM, 0);
     if (connect(fd, (const struct sockaddr *)&to, sizeof to)) return 1;
 
     cadence_handle client = CADENCE_CLOSED;
-    const cadence_options none = CADENCE_NO_OPTIONS;
-    const int64_t one = 1;
-    uint8_t packet[512];
-    size_t length;
-    cadence_new(&client, (const uint8_t *)"my.service", 10, sizeof packet, 8, CADENCE_DROP_OLDEST);
-    cadence_signed(&client, CADENCE_COUNTER, (const uint8_t *)"visits", 6, &one, 1, &none);
-    cadence_flush(&client);
-    while (cadence_next(&client, packet, sizeof packet, &length) == CADENCE_OK && send(fd, packet, length, 0) >= 0)
-        cadence_sent(&client);
+    uint32_t status = cadence_open(&client, "my.service", 512, 8, CADENCE_DROP_OLDEST);
+    if (status == CADENCE_OK) status = cadence_count(&client, name, 1, NULL);
+    if (status == CADENCE_OK) status = cadence_flush(&client);
+    if (status != CADENCE_OK) fprintf(stderr, "%s\n", cadence_status_text(status));
+    send_waiting(&client, fd);
     cadence_free(&client);
     return 0;
 }

@@ -1,0 +1,150 @@
+/* Tests what include/cadence.h says beside the types of the calls: which status is answered where several apply, what is neither
+ * read nor tested, what stays, and its own code. It prints each check that fails; the status is 1 then. It is C and C++. */
+#include <cadence.h>
+#include <stdio.h>
+#include <string.h>
+
+#define CHECK(holds) ((holds) ? (void)0 : fail(#holds, __LINE__))
+#define BYTES(s) (const uint8_t *)(s), sizeof(s) - 1
+#define BAD BYTES("\xff")
+
+static int failures;
+static const cadence_options none = CADENCE_NO_OPTIONS;
+static const int64_t one = 1;
+static const uint64_t nanos = 1;
+static const cadence_decimal_number many_places = { 1, 31 };
+
+static void fail(const char *what, int line) {
+    printf("calls.c:%d: %s\n", line, what);
+    failures++;
+}
+
+static cadence_handle opened(size_t capacity, uint32_t policy) {
+    cadence_handle handle = CADENCE_CLOSED;
+    CHECK(cadence_open(&handle, "p", capacity, 2, policy) == CADENCE_OK);
+    return handle;
+}
+
+/* Whether the oldest packet is this text, which then no longer waits. */
+static bool sends(cadence_handle *handle, const char *text) {
+    uint8_t packet[256];
+    size_t length = 0;
+    cadence_flush(handle);
+    const bool same = cadence_next(handle, packet, sizeof packet, &length) == CADENCE_OK && length == strlen(text)
+        && memcmp(packet, text, length) == 0;
+    if (!same) printf("%.*s in place of %s", (int)length, (const char *)packet, text);
+    cadence_sent(handle);
+    return same;
+}
+
+static void texts(void) {
+    char version[32];
+    snprintf(version, sizeof version, "%d.%d.%d", CADENCE_VERSION_MAJOR, CADENCE_VERSION_MINOR, CADENCE_VERSION_PATCH);
+    CHECK(strcmp(version, CADENCE_VERSION) == 0);
+    CHECK(strcmp(version, cadence_version()) == 0);
+    for (uint32_t status = 0; status <= 8; status++) {
+        CHECK(strlen(cadence_status_text(status)) != 0);
+        for (uint32_t other = 0; other < status; other++)
+            CHECK(strcmp(cadence_status_text(status), cadence_status_text(other)) != 0);
+    }
+    CHECK(strstr(cadence_status_text(CADENCE_FULL), "(CADENCE_FULL)") != NULL);
+    CHECK(strcmp(cadence_status_text(8), cadence_status_text(UINT32_MAX)) == 0);
+}
+
+static void helpers(void) {
+    cadence_handle handle = opened(256, CADENCE_REFUSE);
+    const cadence_tag tags[] = { cadence_tag_of("k", "v"), cadence_tag_of(NULL, "w"), cadence_tag_of("", NULL) };
+    const cadence_options tagged = cadence_options_of(tags, 3);
+    CHECK(cadence_count(&handle, "c", -7, &tagged) == CADENCE_OK && sends(&handle, "p.c:-7|c|#k:v,w,:\n"));
+    CHECK(cadence_default_tag(&handle, "env", "prod") == CADENCE_OK);
+    CHECK(cadence_default_tag(&handle, NULL, "beta") == CADENCE_OK);
+    CHECK(cadence_default_container(&handle, "id") == CADENCE_OK);
+    CHECK(cadence_gauge(&handle, "g", 5, NULL) == CADENCE_OK && sends(&handle, "p.g:5|g|#env:prod,beta|c:id\n"));
+    cadence_free(&handle);
+    CHECK(cadence_open(&handle, NULL, 256, 2, CADENCE_REFUSE) == CADENCE_OK);
+    CHECK(cadence_time_millis(&handle, "t", 320, NULL) == CADENCE_OK && sends(&handle, "t:320|ms\n"));
+    CHECK(cadence_time_nanos(&handle, "t", 1999999, NULL) == CADENCE_OK && sends(&handle, "t:1.999999|ms\n"));
+    CHECK(cadence_distribute(&handle, "d", 3, NULL) == CADENCE_OK && sends(&handle, "d:3|d\n"));
+    CHECK(cadence_whole(&handle, CADENCE_SET, "s", 3, NULL) == CADENCE_OK && sends(&handle, "s:3|s\n"));
+    CHECK(cadence_parts(&handle, CADENCE_GAUGE, "g", -1250, 3, NULL) == CADENCE_OK && sends(&handle, "g:-1.25|g\n"));
+    CHECK(cadence_raw(&handle, "own:1|c") == CADENCE_OK && sends(&handle, "own:1|c\n"));
+    CHECK(cadence_count(&handle, NULL, 1, NULL) == CADENCE_OK && sends(&handle, ":1|c\n"));
+    cadence_free(&handle);
+}
+
+static void order_of_a_client(void) {
+    cadence_handle closed = CADENCE_CLOSED;
+    const cadence_tag bad_tag = { NULL, 0, BAD, false };
+    CHECK(cadence_new(&closed, BAD, 8, 1, 9) == CADENCE_NOT_UTF8);
+    CHECK(cadence_new(&closed, BYTES("p"), SIZE_MAX, 2, 9) == CADENCE_INVALID);
+    CHECK(cadence_new(&closed, BYTES("p"), SIZE_MAX, 1, CADENCE_REFUSE) == CADENCE_INVALID);
+    CHECK(cadence_new(&closed, BYTES("p"), 8, SIZE_MAX / 32, CADENCE_REFUSE) == CADENCE_NO_MEMORY);
+    CHECK(cadence_new(&closed, BYTES("p"), SIZE_MAX / 2, 2, CADENCE_REFUSE) == CADENCE_NO_MEMORY);
+    CHECK(cadence_add_tag(&closed, &bad_tag) == CADENCE_NOT_UTF8);
+    CHECK(cadence_set_container(&closed, BAD) == CADENCE_NOT_UTF8);
+    CHECK(cadence_line(&closed, BAD) == CADENCE_NO_CLIENT && cadence_flush(&closed) == CADENCE_NO_CLIENT);
+    CHECK(cadence_sent(&closed) == CADENCE_NO_CLIENT);
+}
+
+static void order_of_a_call(void) {
+    cadence_handle closed = CADENCE_CLOSED, open = opened(0, CADENCE_REFUSE);
+    const cadence_tag bad_tag = { NULL, 0, BAD, false };
+    cadence_options bad_tags = cadence_options_of(&bad_tag, 1), bad_container = none, bad_rate = none;
+    bad_container.contained = bad_container.rated = bad_rate.rated = bad_tags.rated = true;
+    bad_container.container = (const uint8_t *)"\xff", bad_container.container_len = 1;
+    bad_container.rate = bad_rate.rate = bad_tags.rate = many_places;
+    CHECK(cadence_decimal(&closed, 9, BAD, &many_places, 1, &none) == CADENCE_INVALID);
+    CHECK(cadence_duration(&closed, CADENCE_GAUGE, BAD, &nanos, 1, &none) == CADENCE_INVALID);
+    CHECK(cadence_signed(&closed, 9, BAD, &one, 1, &none) == CADENCE_NO_CLIENT);
+    CHECK(cadence_signed(&open, 9, BAD, &one, 1, &none) == CADENCE_NOT_UTF8);
+    CHECK(cadence_signed(&open, 9, BYTES("k"), &one, 1, &bad_tags) == CADENCE_INVALID);
+    CHECK(cadence_signed(&open, 0, BYTES("k"), &one, 1, &bad_tags) == CADENCE_NOT_UTF8);
+    CHECK(cadence_signed(&open, 0, BYTES("k"), &one, 1, &bad_container) == CADENCE_NOT_UTF8);
+    CHECK(cadence_raw(&open, "a") == CADENCE_OK && cadence_raw(&open, "b") == CADENCE_OK);
+    CHECK(cadence_signed(&open, 0, BYTES("k"), &one, 1, &bad_rate) == CADENCE_INVALID);
+    CHECK(cadence_signed(&open, 0, BYTES("k"), &one, 1, &none) == CADENCE_FULL);
+    CHECK(cadence_raw(&open, "c") == CADENCE_FULL);
+    cadence_free(&open);
+}
+
+static void order_of_a_line(void) {
+    const cadence_tag bad_tag = { NULL, 0, BAD, false };
+    const cadence_options bad_tags = cadence_options_of(&bad_tag, 1);
+    size_t length = 9;
+    CHECK(cadence_format_duration(BAD, 9, BAD, &nanos, 1, &none, NULL, 0, &length) == CADENCE_INVALID && length == 0);
+    CHECK(cadence_format_signed(BAD, 9, BYTES("k"), &one, 1, &none, NULL, 0, &length) == CADENCE_NOT_UTF8);
+    CHECK(cadence_format_signed(BYTES("p"), 9, BAD, &one, 1, &none, NULL, 0, &length) == CADENCE_NOT_UTF8);
+    CHECK(cadence_format_signed(BYTES("p"), 9, BYTES("k"), &one, 1, &bad_tags, NULL, 0, &length) == CADENCE_INVALID);
+    CHECK(cadence_format_signed(BYTES("p"), 0, BYTES("k"), &one, 1, &bad_tags, NULL, 0, &length) == CADENCE_NOT_UTF8);
+    CHECK(cadence_format_signed(BYTES("p"), 0, BYTES("k"), &one, 1, &none, NULL, 0, &length) == CADENCE_TOO_SMALL);
+    CHECK(length == 6);
+}
+
+static void what_stays(void) {
+    cadence_handle handle = CADENCE_CLOSED;
+    const cadence_tag unkeyed = { BAD, BYTES("w"), false };
+    const cadence_options tagged = cadence_options_of(&unkeyed, 1);
+    cadence_counts_of counts = { 1, 2, 3, 4, 5 };
+    size_t length = 9;
+    uint8_t byte = 7;
+    CHECK(cadence_next(&handle, &byte, 1, &length) == CADENCE_NO_CLIENT && length == 0 && byte == 7);
+    CHECK(cadence_counts(&handle, &counts) == CADENCE_NO_CLIENT && counts.held == 1 && counts.dropped == 5);
+    handle = opened(64, CADENCE_DROP_OLDEST);
+    length = 9;
+    CHECK(cadence_next(&handle, &byte, 1, &length) == CADENCE_NO_PACKET && length == 0 && byte == 7);
+    CHECK(cadence_count(&handle, "c", 1, &tagged) == CADENCE_OK && cadence_flush(&handle) == CADENCE_OK);
+    CHECK(cadence_next(&handle, &byte, 1, &length) == CADENCE_TOO_SMALL && length == 11 && byte == 7);
+    CHECK(sends(&handle, "p.c:1|c|#w\n"));
+    cadence_free(&handle);
+    cadence_free(&handle);
+}
+
+int main(void) {
+    texts();
+    helpers();
+    order_of_a_client();
+    order_of_a_call();
+    order_of_a_line();
+    what_stays();
+    return failures != 0;
+}

@@ -1,0 +1,92 @@
+"""Builds the wheel: the extension module, in which the library is, and the Python files.
+
+The library stands in ../../lib, as in the archive, or in the folder that CADENCE_LIB names, and the header in `include` beside
+that folder.
+"""
+import base64
+import hashlib
+import os
+import pathlib
+import re
+import shlex
+import subprocess
+import sys
+import sysconfig
+import tempfile
+import tomllib
+import zipfile
+
+HERE = pathlib.Path(__file__).resolve().parent
+TAG = f"cp311-abi3-{sysconfig.get_platform().replace('-', '_').replace('.', '_')}"
+
+
+def library():
+    """The path of the library."""
+    named = os.environ.get("CADENCE_LIB")
+    for folder in (HERE.parent.parent / "lib", pathlib.Path(named or HERE)):
+        if (path := folder.resolve() / "libcadence_c.a").exists():
+            return path
+    told = f"CADENCE_LIB is {named}" if named else "CADENCE_LIB is not set"
+    sys.exit(f"statsd-proved: libcadence_c.a is not in ../../lib, and {told}: set CADENCE_LIB to the folder that it is in, "
+             "as in CADENCE_LIB=/opt/cadence_c-1.8.0/lib")
+
+
+def header():
+    """The path of the header."""
+    for folder in (HERE.parent.parent, library().parent.parent):
+        if (path := folder / "include" / "cadence.h").exists():
+            return path
+    beside = library().parent.parent / "include"
+    sys.exit(f"statsd-proved: cadence.h is neither in ../../include nor in {beside}: set CADENCE_LIB to the folder lib of the "
+             "archive, beside which its include stands")
+
+
+def version():
+    """The version of the header, which is the library's."""
+    return re.search(r'#define CADENCE_VERSION "(.*)"', header().read_text())[1]
+
+
+def compiled(to):
+    """Compiles the extension module."""
+    compiler = shlex.split(os.environ.get("CC") or sysconfig.get_config_var("CC") or "gcc")
+    sources = sorted(str(path) for path in (HERE / "c").glob("*.c"))
+    subprocess.run([*compiler, "-std=gnu11", "-O2", "-Wall", "-Wextra", "-fPIC", "-fvisibility=hidden", "-shared",
+                    f"-I{header().parent}", f"-I{sysconfig.get_paths()['include']}", *sources, str(library()),
+                    "-Wl,--exclude-libs,ALL", "-o", str(to)], check=True)
+    return to.read_bytes()
+
+
+def files():
+    """The files of the wheel but RECORD, by their names."""
+    project = tomllib.loads((HERE / "pyproject.toml").read_text())["project"]
+    information = f"statsd_proved-{version()}.dist-info"
+    for path in sorted((HERE / "src" / "statsd_proved").iterdir()):
+        if path.suffix in (".py", ".pyi", ".typed"):
+            yield f"statsd_proved/{path.name}", path.read_bytes()
+    with tempfile.TemporaryDirectory() as folder:
+        yield "statsd_proved/_core.abi3.so", compiled(pathlib.Path(folder) / "_core.abi3.so")
+    metadata = ["Metadata-Version: 2.1", f"Name: {project['name']}", f"Version: {version()}",
+                f"Summary: {project['description']}", f"License: {project['license']['text']}",
+                f"Requires-Python: {project['requires-python']}", *map("Classifier: {}".format, project["classifiers"])]
+    yield f"{information}/METADATA", "\n".join([*metadata, ""]).encode()
+    wheel = ["Wheel-Version: 1.0", "Generator: build_wheel", "Root-Is-Purelib: false", f"Tag: {TAG}", ""]
+    yield f"{information}/WHEEL", "\n".join(wheel).encode()
+
+
+def build_wheel(wheel_directory, config_settings=None, metadata_directory=None):
+    """Writes the wheel, and returns its name."""
+    name = f"statsd_proved-{version()}-{TAG}.whl"
+    record = f"statsd_proved-{version()}.dist-info/RECORD"
+    rows = []
+    with zipfile.ZipFile(os.path.join(wheel_directory, name), "w", zipfile.ZIP_DEFLATED) as wheel:
+        for path, data in files():
+            digest = base64.urlsafe_b64encode(hashlib.sha256(data).digest()).rstrip(b"=").decode()
+            rows.append(f"{path},sha256={digest},{len(data)}\n")
+            wheel.writestr(zipfile.ZipInfo(path), data)
+        wheel.writestr(zipfile.ZipInfo(record), "".join([*rows, f"{record},,\n"]))
+    return name
+
+
+def build_sdist(sdist_directory, config_settings=None):
+    """There is no source distribution but the archive, since the library is built from another language."""
+    sys.exit("statsd-proved: the archive of ./package is the source distribution: install from its bindings/python")

@@ -1,0 +1,340 @@
+/* The type Packer of statsd_proved._core: the calls of cadence.h.
+ *
+ * Each method reads its arguments first, which may run other Python code, and then calls the library with no Python code
+ * in between and the interpreter's lock held: so threads may share a Packer, and none sees another's call half done. A fork
+ * of Python is made with that lock held too, and glibc's malloc may be called in its child, so calls may follow there. */
+#include "core.h"
+#include <string.h>
+
+enum { PLAIN, CHANGE, LEVEL, SPARE = 64 };
+
+typedef struct {
+    PyObject_HEAD
+    cadence_handle handle;
+    cadence_counts_of counts; /* as they were after the last call */
+    PyObject *prefix, *container, *texts;
+    cadence_tag *tags;
+    size_t tags_len, capacity, packets;
+    uint8_t *line; /* a line that is made by hand */
+    size_t line_len, line_room;
+} packer;
+
+/* What a call of a metric says. */
+typedef struct {
+    values_of_call values;
+    tags_of_call tags;
+    cadence_options options;
+    PyObject *texts;
+    const uint8_t *prefix, *key, *text;
+    size_t prefix_len, key_len, text_len;
+    uint32_t kind;
+    long form;
+} call;
+
+static PyObject *status_error;
+
+static PyObject *refused(uint32_t status) {
+    if (status == CADENCE_NO_MEMORY) return PyErr_NoMemory();
+    PyObject *arguments = Py_BuildValue("(Is)", status, cadence_status_text(status));
+    if (arguments != NULL) PyErr_SetObject(status_error, arguments);
+    Py_XDECREF(arguments);
+    return NULL;
+}
+
+/* What a call that keeps a line answers: whether it made a packet. */
+static PyObject *answer(packer *self, uint32_t status) {
+    const uint64_t made = self->counts.made;
+    if (status != CADENCE_OK) return refused(status);
+    cadence_counts(&self->handle, &self->counts);
+    return PyBool_FromLong(self->counts.made != made);
+}
+
+static uint32_t renew(packer *self) {
+    const uint8_t *prefix;
+    size_t len;
+    if (!text_of(self->prefix, NULL, &prefix, &len)) return CADENCE_NOT_UTF8;
+    memset(&self->counts, 0, sizeof self->counts);
+    return cadence_new(&self->handle, prefix, len, self->capacity, self->packets, CADENCE_DROP_OLDEST);
+}
+
+static int packer_init(packer *self, PyObject *args, PyObject *named) {
+    static char *names[] = { "prefix", "capacity", "packets", NULL };
+    PyObject *prefix;
+    Py_ssize_t capacity, packets;
+    const uint8_t *at;
+    size_t len;
+    if (!PyArg_ParseTupleAndKeywords(args, named, "Unn", names, &prefix, &capacity, &packets)) return -1;
+    if (self->prefix != NULL || capacity < 0 || packets < 0) {
+        PyErr_SetString(PyExc_ValueError, "a Packer is made once, of a capacity and packets from 0 on");
+        return -1;
+    }
+    if (!text_of(prefix, NULL, &at, &len)) return -1;
+    self->prefix = Py_NewRef(prefix);
+    self->capacity = (size_t)capacity;
+    self->packets = (size_t)packets;
+    self->texts = PyList_New(0);
+    if (self->texts == NULL) return -1;
+    const uint32_t status = renew(self);
+    return status == CADENCE_OK || refused(status) != NULL ? 0 : -1;
+}
+
+static void packer_dealloc(packer *self) {
+    PyTypeObject *type = Py_TYPE((PyObject *)self);
+    cadence_free(&self->handle);
+    PyMem_Free(self->tags);
+    PyMem_Free(self->line);
+    Py_XDECREF(self->prefix);
+    Py_XDECREF(self->container);
+    Py_XDECREF(self->texts);
+    freefunc release = (freefunc)PyType_GetSlot(type, Py_tp_free);
+    release(self);
+    Py_DECREF(type);
+}
+
+/* The options of a call: its rate, where that is below 1, its container or the client's, and its time. */
+static bool read_options(packer *self, call *c, PyObject *rate, PyObject *container, PyObject *time) {
+    c->options.known = true; /* what text_of gives is UTF-8 */
+    c->options.rated = !(PyLong_Check(rate) && PyLong_AsLong(rate) == 1);
+    if (PyErr_Occurred() || (c->options.rated && !decimal_of(rate, false, &c->options.rate))) return false;
+    if (container == Py_None && self->container != NULL) container = self->container;
+    c->options.contained = container != Py_None;
+    if (c->options.contained && !text_of(container, c->texts, &c->options.container, &c->options.container_len))
+        return false;
+    c->options.timed = time != Py_None;
+    if (c->options.timed) c->options.time = PyLong_AsUnsignedLongLong(time);
+    return !c->options.timed || !PyErr_Occurred();
+}
+
+/* The arguments kind, form, stat, value, rate, tags, container, timestamp. */
+static bool call_begin(packer *self, call *c, PyObject *const *args, Py_ssize_t count) {
+    const cadence_options none = CADENCE_NO_OPTIONS;
+    memset(c, 0, sizeof *c);
+    c->options = none;
+    c->values.at = c->values.small;
+    c->tags.at = c->tags.small;
+    if (self->prefix == NULL) return refused(CADENCE_NO_CLIENT) != NULL;
+    if (count != 8 || (c->texts = PyList_New(0)) == NULL) {
+        if (!PyErr_Occurred()) PyErr_SetString(PyExc_TypeError, "keep takes 8 arguments");
+        return false;
+    }
+    c->kind = (uint32_t)PyLong_AsUnsignedLong(args[0]);
+    c->form = PyLong_AsLong(args[1]);
+    if (PyErr_Occurred() || !text_of(self->prefix, NULL, &c->prefix, &c->prefix_len)) return false;
+    if (!PyUnicode_Check(args[2])) {
+        PyErr_Format(PyExc_TypeError, "the name %R is no str", args[2]);
+        return false;
+    }
+    if (!text_of(args[2], NULL, &c->key, &c->key_len)) return false;
+    if (c->kind == CADENCE_SET && PyUnicode_Check(args[3])) {
+        if (!text_of(args[3], NULL, &c->text, &c->text_len)) return false;
+        c->values.len = 1;
+    } else if (!values_begin(&c->values, args[3], c->kind == CADENCE_TIMER)) return false;
+    if (!read_options(self, c, args[4], args[6], args[7])) return false;
+    if (!tags_begin(&c->tags, self->tags, self->tags_len, args[5])) return false;
+    c->options.tags = c->tags.at;
+    c->options.tags_len = c->tags.len;
+    return true;
+}
+
+static void call_end(call *c) {
+    values_end(&c->values);
+    tags_end(&c->tags);
+    Py_XDECREF(c->texts);
+}
+
+static bool has_room(packer *self, size_t room) {
+    if (room <= self->line_room) return true;
+    uint8_t *line = PyMem_Realloc(self->line, room + SPARE);
+    if (line == NULL) return false;
+    self->line = line;
+    self->line_room = room + SPARE;
+    return true;
+}
+
+/* Makes the line of a call, after what the line has. */
+static uint32_t put_line(packer *self, const call *c) {
+    for (;;) {
+        size_t len = 0;
+        uint8_t *out = self->line + self->line_len;
+        const size_t room = self->line_room - self->line_len;
+        const uint32_t status = c->values.is_large
+            ? cadence_format_unsigned(c->prefix, c->prefix_len, c->kind, c->key, c->key_len, &c->values.large, 1,
+                                      &c->options, out, room, &len)
+            : cadence_format_decimal(c->prefix, c->prefix_len, c->kind, c->key, c->key_len, c->values.at,
+                                     c->values.len, &c->options, out, room, &len);
+        if (status == CADENCE_OK) self->line_len += len;
+        if (status != CADENCE_TOO_SMALL) return status;
+        if (!has_room(self, self->line_len + len)) return CADENCE_NO_MEMORY;
+    }
+}
+
+/* Puts a text into the line, in the place of so many bytes. */
+static uint32_t splice(packer *self, size_t at, size_t cut, const void *text, size_t len) {
+    if (!has_room(self, self->line_len - cut + len)) return CADENCE_NO_MEMORY;
+    memmove(self->line + at + len, self->line + at + cut, self->line_len - at - cut);
+    if (len != 0) memcpy(self->line + at, text, len);
+    self->line_len += len - cut;
+    return CADENCE_OK;
+}
+
+/* The line of a number with a text in its place, or before it: the calls of the library print neither. */
+static uint32_t spliced(packer *self, call *c, size_t cut, const void *text, size_t len) {
+    uint32_t status = put_line(self, c);
+    if (status == CADENCE_OK) status = splice(self, c->prefix_len + c->key_len + 1, cut, text, len);
+    return status != CADENCE_OK ? status : cadence_line(&self->handle, self->line, self->line_len);
+}
+
+/* A gauge below 0, which a server reads as a change: it is set to 0 first, in one packet. */
+static uint32_t below_zero(packer *self, call *c) {
+    const int64_t mantissa = c->values.at->mantissa;
+    c->options.rated = false;
+    c->values.at->mantissa = 0;
+    uint32_t status = put_line(self, c);
+    c->values.at->mantissa = mantissa;
+    if (status == CADENCE_OK) status = splice(self, self->line_len, 0, "\n", 1);
+    if (status == CADENCE_OK) status = put_line(self, c);
+    return status != CADENCE_OK ? status : cadence_line(&self->handle, self->line, self->line_len);
+}
+
+static uint32_t keep(packer *self, call *c) {
+    const bool minus = c->values.len == 1 && !c->values.is_large && c->values.at->mantissa < 0;
+    self->line_len = 0;
+    if (c->text != NULL) return spliced(self, c, 1, c->text, c->text_len);
+    if (c->form == CHANGE && !minus) return spliced(self, c, 0, "+", 1);
+    if (c->form == LEVEL && minus) return below_zero(self, c);
+    if (c->values.is_large)
+        return cadence_unsigned(&self->handle, c->kind, c->key, c->key_len, &c->values.large, 1, &c->options);
+    return cadence_decimal(&self->handle, c->kind, c->key, c->key_len, c->values.at, c->values.len, &c->options);
+}
+
+static PyObject *packer_keep(packer *self, PyObject *const *args, Py_ssize_t count) {
+    call c;
+    PyObject *made = NULL;
+    if (call_begin(self, &c, args, count)) made = answer(self, keep(self, &c));
+    call_end(&c);
+    return made;
+}
+
+static PyObject *packer_line(packer *self, PyObject *line) {
+    const uint8_t *at;
+    size_t len;
+    if (!PyUnicode_Check(line)) return PyErr_Format(PyExc_TypeError, "the line %R is no str", line);
+    if (!text_of(line, NULL, &at, &len)) return NULL;
+    return answer(self, cadence_line(&self->handle, at, len));
+}
+
+static PyObject *packer_flush(packer *self, PyObject *unused) {
+    (void)unused;
+    return answer(self, cadence_flush(&self->handle));
+}
+
+/* The oldest packet as bytes, which then no longer waits, or None. */
+static PyObject *packer_take(packer *self, PyObject *unused) {
+    size_t len;
+    uint32_t status = cadence_next(&self->handle, NULL, 0, &len);
+    (void)unused;
+    if (status == CADENCE_NO_PACKET || status == CADENCE_NO_CLIENT) return Py_NewRef(Py_None);
+    PyObject *packet = PyBytes_FromStringAndSize(NULL, (Py_ssize_t)len);
+    if (packet == NULL) return NULL;
+    cadence_next(&self->handle, (uint8_t *)PyBytes_AsString(packet), len, &len);
+    cadence_sent(&self->handle);
+    cadence_counts(&self->handle, &self->counts);
+    return packet;
+}
+
+/* The packets that are left, in a list, after which the client is closed. */
+static PyObject *packer_close(packer *self, PyObject *unused) {
+    PyObject *packets = PyList_New(0), *packet;
+    const uint32_t status = cadence_flush(&self->handle);
+    if (packets == NULL) return NULL;
+    if (status != CADENCE_OK && status != CADENCE_NO_CLIENT) {
+        Py_DECREF(packets);
+        return refused(status);
+    }
+    while ((packet = packer_take(self, unused)) != NULL && packet != Py_None) {
+        const int put = PyList_Append(packets, packet);
+        Py_DECREF(packet);
+        if (put < 0) break;
+    }
+    if (packet != Py_None) Py_CLEAR(packets);
+    else {
+        Py_DECREF(packet);
+        cadence_free(&self->handle);
+    }
+    return packets;
+}
+
+static PyObject *packer_renew(packer *self, PyObject *unused) {
+    (void)unused;
+    if (!self->handle.open) Py_RETURN_NONE;
+    const uint32_t status = renew(self);
+    return status == CADENCE_OK ? Py_NewRef(Py_None) : refused(status);
+}
+
+static PyObject *packer_counts(packer *self, PyObject *unused) {
+    (void)unused;
+    cadence_counts(&self->handle, &self->counts);
+    return Py_BuildValue("nnKKK", (Py_ssize_t)self->counts.held, (Py_ssize_t)self->counts.waiting,
+                         (unsigned long long)self->counts.made, (unsigned long long)self->counts.sent,
+                         (unsigned long long)self->counts.dropped);
+}
+
+/* Adds a tag of each call that follows. Its texts stay in a list, which only grows. */
+static PyObject *packer_add_tag(packer *self, PyObject *item) {
+    cadence_tag tag;
+    if (PyList_Append(self->texts, item) < 0 || !tag_of(item, self->texts, &tag)) return NULL;
+    cadence_tag *tags = PyMem_Realloc(self->tags, (self->tags_len + 1) * sizeof tag);
+    if (tags == NULL) return PyErr_NoMemory();
+    self->tags = tags;
+    self->tags[self->tags_len++] = tag;
+    Py_RETURN_NONE;
+}
+
+static PyObject *packer_set_container(packer *self, PyObject *container) {
+    const uint8_t *at;
+    size_t len;
+    if (!text_of(container, self->texts, &at, &len)) return NULL;
+    PyObject *earlier = self->container;
+    self->container = Py_NewRef(container);
+    Py_XDECREF(earlier);
+    Py_RETURN_NONE;
+}
+
+static PyMethodDef methods[] = {
+    { "keep", (PyCFunction)(void (*)(void))packer_keep, METH_FASTCALL,
+      "keep(kind, form, stat, value, rate, tags, container, timestamp): keeps a metric, and says whether that made a packet." },
+    { "line", (PyCFunction)packer_line, METH_O, "Keeps a line as it is, and says whether that made a packet." },
+    { "flush", (PyCFunction)packer_flush, METH_NOARGS, "Makes a packet of what is held, and says whether there was any." },
+    { "take", (PyCFunction)packer_take, METH_NOARGS, "Returns the oldest packet, which then no longer waits, or None." },
+    { "close", (PyCFunction)packer_close, METH_NOARGS, "Closes, and returns the packets that are left." },
+    { "renew", (PyCFunction)packer_renew, METH_NOARGS, "Drops all that is held and that waits, unless it is closed." },
+    { "counts", (PyCFunction)packer_counts, METH_NOARGS, "Returns held, waiting, made, sent, dropped." },
+    { "add_tag", (PyCFunction)packer_add_tag, METH_O, "Adds a tag of each call that follows." },
+    { "set_container", (PyCFunction)packer_set_container, METH_O, "Sets the container of each call that follows." },
+    { NULL, NULL, 0, NULL },
+};
+
+static PyType_Slot slots[] = {
+    { Py_tp_doc, "Packer(prefix, capacity, packets): makes lines and packs them into packets." },
+    { Py_tp_init, packer_init },
+    { Py_tp_dealloc, packer_dealloc },
+    { Py_tp_methods, methods },
+    { 0, NULL },
+};
+
+static PyType_Spec spec = { "statsd_proved._core.Packer", sizeof(packer), 0, Py_TPFLAGS_DEFAULT, slots };
+
+static struct PyModuleDef module = { PyModuleDef_HEAD_INIT, "_core", "The calls of cadence.h.", -1, NULL, NULL, NULL, NULL, NULL };
+
+PyMODINIT_FUNC PyInit__core(void) {
+    PyObject *errors = PyImport_ImportModule("statsd_proved.errors");
+    status_error = errors != NULL ? PyObject_GetAttrString(errors, "StatusError") : NULL;
+    Py_XDECREF(errors);
+    PyObject *made = status_error != NULL ? PyModule_Create(&module) : NULL;
+    PyObject *type = made != NULL ? PyType_FromSpec(&spec) : NULL;
+    if (type == NULL || PyModule_AddObjectRef(made, "Packer", type) < 0
+        || PyModule_AddStringConstant(made, "VERSION", cadence_version()) < 0)
+        Py_CLEAR(made);
+    Py_XDECREF(type);
+    return made;
+}

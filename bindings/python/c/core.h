@@ -1,0 +1,34 @@
+/* What the files of the extension module share. */
+#ifndef CORE_H
+#define CORE_H
+
+#define PY_SSIZE_T_CLEAN
+#define Py_LIMITED_API 0x030B0000
+#include <Python.h>
+#include <cadence.h>
+
+/* One value of a call, or several: as decimals, or as one whole number past 63 bits. */
+typedef struct {
+    cadence_decimal_number small[8], *at;
+    size_t len;
+    bool is_large;
+    uint64_t large;
+} values_of_call;
+
+/* The tags of a call, the client's first, and what has to live as long as they do. */
+typedef struct {
+    cadence_tag small[16], *at;
+    size_t len;
+    PyObject *items, *texts;
+} tags_of_call;
+
+/* Each answers false with an exception set; values_end and tags_end are to be called in any case. */
+bool decimal_of(PyObject *value, bool in_millis, cadence_decimal_number *to);
+bool values_begin(values_of_call *values, PyObject *value, bool in_millis);
+void values_end(values_of_call *values);
+bool text_of(PyObject *value, PyObject *texts, const uint8_t **at, size_t *len);
+bool tag_of(PyObject *item, PyObject *texts, cadence_tag *to);
+bool tags_begin(tags_of_call *tags, const cadence_tag *defaults, size_t defaults_len, PyObject *given);
+void tags_end(tags_of_call *tags);
+
+#endif

@@ -1,0 +1,76 @@
+/* Texts and tags of Python as the library takes them. */
+#include "core.h"
+#include <string.h>
+
+/* A text or a number. The text of a number is put into the list `texts`, which keeps it. */
+bool text_of(PyObject *value, PyObject *texts, const uint8_t **at, size_t *len) {
+    Py_ssize_t size;
+    if (!PyUnicode_Check(value)) {
+        if (!PyNumber_Check(value)) {
+            PyErr_Format(PyExc_TypeError, "%R is neither a str nor a number", value);
+            return false;
+        }
+        value = PyObject_Str(value);
+        if (value == NULL) return false;
+        const int put = PyList_Append(texts, value);
+        Py_DECREF(value);
+        if (put < 0) return false;
+    }
+    *at = (const uint8_t *)PyUnicode_AsUTF8AndSize(value, &size);
+    *len = (size_t)size;
+    return *at != NULL;
+}
+
+/* A tag: a pair of a key and a text, or a text alone, as in "page:home". */
+bool tag_of(PyObject *item, PyObject *texts, cadence_tag *to) {
+    to->keyed = PyTuple_Check(item);
+    to->key = NULL;
+    to->key_len = 0;
+    if (!to->keyed) return text_of(item, texts, &to->text, &to->text_len);
+    if (PyTuple_Size(item) != 2) {
+        PyErr_Format(PyExc_TypeError, "the tag %R is no pair", item);
+        return false;
+    }
+    return text_of(PyTuple_GetItem(item, 0), texts, &to->key, &to->key_len)
+        && text_of(PyTuple_GetItem(item, 1), texts, &to->text, &to->text_len);
+}
+
+/* Room for the tags of the client, which are copied, and for as many more. */
+static bool tags_room(tags_of_call *tags, const cadence_tag *defaults, size_t defaults_len, size_t more) {
+    if (defaults_len + more > sizeof tags->small / sizeof tags->small[0]) {
+        tags->at = PyMem_Calloc(defaults_len + more, sizeof *defaults);
+        if (tags->at == NULL) return PyErr_NoMemory() != NULL;
+    }
+    if (defaults_len != 0) memcpy(tags->at, defaults, defaults_len * sizeof *defaults);
+    tags->len = defaults_len;
+    return true;
+}
+
+bool tags_begin(tags_of_call *tags, const cadence_tag *defaults, size_t defaults_len, PyObject *given) {
+    tags->at = tags->small;
+    tags->len = 0;
+    tags->items = tags->texts = NULL;
+    if (given == Py_None) return tags_room(tags, defaults, defaults_len, 0);
+    if (PyUnicode_Check(given) || PyBytes_Check(given)) {
+        PyErr_Format(PyExc_TypeError, "tags are a dict or a list, as in [%R]", given);
+        return false;
+    }
+    /* a copy, since the text of a number may run code that changes what was given */
+    PyObject *items = PyDict_Check(given) ? PyDict_Items(given) : NULL;
+    if (PyDict_Check(given) && items == NULL) return false;
+    tags->items = PySequence_Tuple(items != NULL ? items : given);
+    Py_XDECREF(items);
+    tags->texts = tags->items != NULL ? PyList_New(0) : NULL;
+    if (tags->texts == NULL) return false;
+    const Py_ssize_t more = PyTuple_Size(tags->items);
+    if (!tags_room(tags, defaults, defaults_len, (size_t)more)) return false;
+    for (Py_ssize_t i = 0; i < more; i++, tags->len++)
+        if (!tag_of(PyTuple_GetItem(tags->items, i), tags->texts, &tags->at[tags->len])) return false;
+    return true;
+}
+
+void tags_end(tags_of_call *tags) {
+    if (tags->at != tags->small) PyMem_Free(tags->at);
+    Py_XDECREF(tags->items);
+    Py_XDECREF(tags->texts);
+}

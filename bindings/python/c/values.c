@@ -1,0 +1,162 @@
+/* Numbers of Python as the library takes them. */
+#include "core.h"
+#include <stdlib.h>
+#include <string.h>
+
+enum { MOST_PLACES = 30, MOST_EXPONENT = 100000 };
+
+static bool put_digit(uint64_t *mantissa, int digit) {
+    if (*mantissa > (uint64_t)(INT64_MAX - digit) / 10) return false;
+    *mantissa = *mantissa * 10 + (uint64_t)digit;
+    return true;
+}
+
+static bool put_zeros(uint64_t *mantissa, long zeros) {
+    for (; zeros > 0; zeros--)
+        if (!put_digit(mantissa, 0)) return false;
+    return true;
+}
+
+static bool is_digit(char c) {
+    return c >= '0' && c <= '9';
+}
+
+/* Reads digits with a point, and tells where they end, or null. Zeros that end the places are left out. */
+static const char *read_digits(const char *text, uint64_t *mantissa, long *places) {
+    long zeros = 0;
+    bool point = false, some = false;
+    for (; is_digit(*text) || (*text == '.' && !point); text++) {
+        if (*text == '.') {
+            point = true;
+            continue;
+        }
+        some = true;
+        if (point && *text == '0') {
+            zeros++;
+            continue;
+        }
+        if (!put_zeros(mantissa, zeros) || !put_digit(mantissa, *text - '0')) return NULL;
+        *places += point ? zeros + 1 : 0;
+        zeros = 0;
+    }
+    return some ? text : NULL;
+}
+
+/* Takes an exponent into the places, and cuts off what is past the last place. */
+static bool shift(uint64_t *mantissa, long *places, long exponent) {
+    if (exponent > MOST_EXPONENT || exponent < -MOST_EXPONENT) return false;
+    *places -= exponent;
+    if (*places < 0 && *mantissa != 0 && !put_zeros(mantissa, -*places)) return false;
+    for (; *places > MOST_PLACES && *mantissa != 0; --*places) *mantissa /= 10;
+    if (*places < 0 || *mantissa == 0) *places = 0;
+    return true;
+}
+
+/* Reads what Python prints of a number. */
+static bool decimal_of_text(const char *text, cadence_decimal_number *to) {
+    const bool minus = *text == '-';
+    uint64_t mantissa = 0;
+    long places = 0, exponent = 0;
+    text = read_digits(text + minus, &mantissa, &places);
+    if (text != NULL && (*text == 'e' || *text == 'E')) {
+        char *end;
+        exponent = strtol(text + 1, &end, 10);
+        text = end;
+    }
+    if (text == NULL || *text != '\0' || !shift(&mantissa, &places, exponent)) return false;
+    to->mantissa = minus ? -(int64_t)mantissa : (int64_t)mantissa;
+    to->places = (uint8_t)places;
+    return true;
+}
+
+static bool does_not_fit(PyObject *value) {
+    PyErr_Format(PyExc_ValueError, "%R does not fit 63 bits over 10 to the power of 30", value);
+    return false;
+}
+
+static bool decimal_of_double(double value, char form, int places, cadence_decimal_number *to) {
+    char *text = PyOS_double_to_string(value, form, places, 0, NULL);
+    const bool fits = text != NULL && decimal_of_text(text, to);
+    PyMem_Free(text);
+    return fits;
+}
+
+/* A float: of milliseconds six places, where these fit, and else its shortest text. */
+static bool decimal_of_float(PyObject *value, bool in_millis, cadence_decimal_number *to) {
+    const double number = PyFloat_AsDouble(value);
+    if (in_millis && decimal_of_double(number, 'f', 6, to)) return true;
+    return decimal_of_double(number, 'r', 0, to) || (PyErr_Occurred() == NULL && does_not_fit(value));
+}
+
+static bool decimal_of_whole(PyObject *value, cadence_decimal_number *to) {
+    int overflow;
+    to->mantissa = PyLong_AsLongLongAndOverflow(value, &overflow);
+    to->places = 0;
+    if (overflow != 0) return does_not_fit(value);
+    return to->mantissa != -1 || !PyErr_Occurred();
+}
+
+/* A number of another type, by its index or else by its text. */
+static bool decimal_of_other(PyObject *value, cadence_decimal_number *to) {
+    const bool whole = PyIndex_Check(value);
+    if (!PyNumber_Check(value)) {
+        PyErr_Format(PyExc_TypeError, "%R is no number", value);
+        return false;
+    }
+    PyObject *made = whole ? PyNumber_Index(value) : PyObject_Str(value);
+    if (made == NULL) return false;
+    const char *text = whole ? NULL : PyUnicode_AsUTF8AndSize(made, NULL);
+    bool fits = whole ? decimal_of_whole(made, to) : text != NULL && decimal_of_text(text, to);
+    Py_DECREF(made);
+    return fits || (PyErr_Occurred() == NULL && does_not_fit(value));
+}
+
+bool decimal_of(PyObject *value, bool in_millis, cadence_decimal_number *to) {
+    if (PyLong_Check(value)) return decimal_of_whole(value, to);
+    if (PyFloat_Check(value)) return decimal_of_float(value, in_millis, to);
+    return decimal_of_other(value, to);
+}
+
+/* One value: a whole number may have 64 bits. */
+static bool one_value(values_of_call *values, PyObject *value, bool in_millis) {
+    values->len = 1;
+    if (decimal_of(value, in_millis, values->at)) return true;
+    if (!PyLong_Check(value)) return false;
+    PyErr_Clear();
+    values->large = PyLong_AsUnsignedLongLong(value);
+    values->is_large = values->large != (uint64_t)-1 || !PyErr_Occurred();
+    if (values->is_large) return true;
+    PyErr_Clear();
+    PyErr_Format(PyExc_OverflowError, "%R is below -2**63 or above 2**64 - 1", value);
+    return false;
+}
+
+/* The values of a list or a tuple, which nobody else holds. */
+static bool each_value(values_of_call *values, PyObject *tuple, bool in_millis) {
+    const size_t len = (size_t)PyTuple_Size(tuple);
+    if (len > sizeof values->small / sizeof values->small[0]) {
+        values->at = PyMem_Calloc(len, sizeof values->small[0]);
+        if (values->at == NULL) return PyErr_NoMemory() != NULL;
+    }
+    for (; values->len < len; values->len++) {
+        PyObject *value = PyTuple_GetItem(tuple, (Py_ssize_t)values->len);
+        if (!decimal_of(value, in_millis, &values->at[values->len])) return false;
+    }
+    return true;
+}
+
+bool values_begin(values_of_call *values, PyObject *value, bool in_millis) {
+    values->at = values->small;
+    values->len = 0;
+    values->is_large = false;
+    if (!PyList_Check(value) && !PyTuple_Check(value)) return one_value(values, value, in_millis);
+    PyObject *tuple = PySequence_Tuple(value);
+    if (tuple == NULL) return false;
+    const bool all = each_value(values, tuple, in_millis);
+    Py_DECREF(tuple);
+    return all;
+}
+
+void values_end(values_of_call *values) {
+    if (values->at != values->small) PyMem_Free(values->at);
+}

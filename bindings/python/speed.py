@@ -1,0 +1,57 @@
+"""speed CALLS: the nanoseconds of processor time of a call, of this client and, where python3-statsd is there, of
+statsd.StatsClient and its pipeline: medians of 11 turns, with the least and the greatest, to a UDP socket on the loopback
+address."""
+import socket
+import statistics
+import sys
+import time
+
+import statsd_proved
+
+try:
+    import statsd
+except ImportError:
+    statsd = None
+
+TURNS = 11
+TAGS = {"host": "web03.example.com", "region": "us-east-2", "page": "home"}
+TAGGED = "some.counter.web03.example.com.us-east-2.home"
+CALLS = {
+    "incr": lambda client, i: client.incr("some.counter", i),
+    "timing": lambda client, i: client.timing("some.timer", i * 0.37),
+    "gauge": lambda client, i: client.gauge("some.gauge", i * 0.37),
+    "tags": lambda client, i: client.incr("some.counter", i, tags=TAGS),
+    "name": lambda client, i: client.incr(TAGGED, i),  # the same texts in the name, which statsd has no tags for
+}
+
+
+def nanos(client, call, count):
+    """The nanoseconds of a call, with what sends its packets."""
+    start = time.process_time_ns()
+    for i in range(count):
+        call(client, i)
+    getattr(client, "flush", getattr(client, "send", int))()
+    return (time.process_time_ns() - start) / count
+
+
+def shown(figures):
+    return f"{statistics.median(figures):.0f} ({min(figures):.0f}..{max(figures):.0f})"
+
+
+def main(count):
+    with socket.socket(socket.AF_INET, socket.SOCK_DGRAM) as server:
+        server.bind(("127.0.0.1", 0))
+        clients = {"this": statsd_proved.StatsClient(*server.getsockname(), prefix="some.prefix")}
+        if statsd is not None:
+            clients["statsd"] = statsd.StatsClient(*server.getsockname(), prefix="some.prefix")
+            clients["its pipeline"] = clients["statsd"].pipeline()
+        for name, call in CALLS.items():
+            figures = {whose: [] for whose in clients if name != "tags" or whose == "this"}
+            for _ in range(TURNS):
+                for whose in figures:
+                    figures[whose].append(nanos(clients[whose], call, count))
+            print(name, "; ".join(f"{whose} {shown(those)}" for whose, those in figures.items()))
+
+
+if __name__ == "__main__":
+    main(int(sys.argv[1]))

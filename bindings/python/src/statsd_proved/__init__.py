@@ -1,0 +1,15 @@
+"""A Statsd client over a proved formatter and packer, with the calls of statsd.StatsClient and the Datadog fields.
+
+    from statsd_proved import StatsClient
+
+    with StatsClient("localhost", 8125, prefix="my.service") as client:
+        client.incr("visits", tags={"page": "home"})
+"""
+from ._core import VERSION as __version__
+from .client import Counts, StatsClient
+from .errors import Status, StatusError
+from .metrics import Number, Tags
+from .pipeline import Pipeline
+from .timer import Timer
+
+__all__ = ["Counts", "Number", "Pipeline", "StatsClient", "Status", "StatusError", "Tags", "Timer", "__version__"]

@@ -1,0 +1,260 @@
+"""The client."""
+from __future__ import annotations
+
+import errno
+import logging
+import socket
+import threading
+import weakref
+from collections.abc import Callable, Mapping
+from typing import Any, TypedDict
+
+from . import process
+from ._core import Packer
+from .metrics import Metrics, Tags
+from .pipeline import Pipeline
+
+_log = logging.getLogger("statsd_proved")
+UNIX = "unix://"
+
+
+class Counts(TypedDict):
+    """Bytes that are held for the next packet, packets that wait, and how many packets were made, were sent and were
+    dropped (to make room, because the socket takes none so long, or at `close`), how many sends the socket refused, and how
+    many calls kept no line."""
+
+    held: int
+    waiting: int
+    made: int
+    sent: int
+    dropped: int
+    refused: int
+    bad: int
+
+
+def _open(host: str, port: int, ipv6: bool) -> tuple[socket.socket, Any]:
+    """A socket and where it sends."""
+    if host.startswith(UNIX):
+        return socket.socket(socket.AF_UNIX, socket.SOCK_DGRAM), host[len(UNIX):]
+    family = socket.AF_INET6 if ipv6 else socket.AF_INET
+    found = socket.getaddrinfo(host, port, family, socket.SOCK_DGRAM)
+    return socket.socket(family, socket.SOCK_DGRAM), found[0][4]
+
+
+def _flush_often(client: weakref.ref[StatsClient], seconds: float, ended: threading.Event) -> None:
+    """Flushes until the client is closed or let go."""
+    while not ended.wait(seconds):
+        it = client()
+        if it is None:
+            return
+        it._tick()
+        del it
+
+
+class StatsClient(Metrics):
+    """A client that packs metrics into packets, and sends these to one address.
+
+    `host` is a name, an address, or `unix:///path` of a datagram socket. `maxudpsize` is the capacity of a packet in bytes:
+    a line that is longer is a packet of its own. What is held goes out when a packet is full, `flush_every` seconds later
+    at the latest (by a thread; None: by none; 0: with each call), at `flush`, `close` and the end of a `with`, when the
+    client is let go, and when the process ends. Threads may share a client. In the child of a fork it begins anew, since
+    what was held is the parent's.
+
+    No call raises, because a metric is not worth a service: a bad value is counted, a packet that the socket refuses is
+    counted and waits, to be offered again with the next one, and where as many wait behind it as `packets` says, the
+    oldest of these is dropped and counted. A packet that is too long for the socket is dropped. `on_error` gets each of
+    these errors: a TypeError, ValueError, OverflowError, MemoryError or StatusError of a call, or an OSError of a packet.
+    With `raises`, the call raises it too.
+    """
+
+    def __init__(self, host: str = "localhost", port: int = 8125, prefix: str | None = None, maxudpsize: int = 512,
+                 ipv6: bool = False, *, tags: Tags | None = None, container: str | None = None, packets: int = 64,
+                 flush_every: float | None = 1.0, on_error: Callable[[Exception], object] | None = None,
+                 raises: bool = False) -> None:
+        self._settings = (prefix.rstrip(".") + "." if prefix else "", maxudpsize, packets)
+        self._tags = list(tags.items() if isinstance(tags, Mapping) else tags or ())
+        self._container = container
+        self._packer = self._new_packer()
+        self._socket, self._address = _open(host, port, ipv6)
+        self._socket.setblocking(False)
+        self._flush_every = flush_every
+        self._at_once = flush_every == 0
+        self._on_error = on_error
+        self._raises = raises
+        self._pipelines: weakref.WeakSet[Pipeline] = weakref.WeakSet()
+        self._begin()
+        process.watch(self)
+
+    def __enter__(self) -> StatsClient:
+        return self
+
+    def __exit__(self, *_: object) -> None:
+        self.close()
+
+    def __del__(self) -> None:
+        if hasattr(self, "_ended"):
+            self._tell(self._close(), may_raise=False)
+
+    def pipeline(self) -> Pipeline:
+        """Metrics that go out together."""
+        made = Pipeline(self, self._new_packer())
+        self._pipelines.add(made)
+        return made
+
+    def flush(self) -> None:
+        """Sends what is held and what waits."""
+        self._tell(self._flush())
+
+    def close(self) -> None:
+        """Sends what is held and what waits, drops what the socket refuses, and closes. A second call does nothing."""
+        self._tell(self._close())
+
+    def counts(self) -> Counts:
+        """The counts, also after `close`."""
+        with self._sending:
+            held, waiting, made, _, dropped = self._packer.counts()
+            return Counts(held=held, waiting=waiting + (self._refused is not None), made=made, sent=self._sent,
+                          dropped=dropped + self._lost, refused=self._refusals, bad=self._bad_calls)
+
+    def _begin(self) -> None:
+        """Nothing is held, nothing is counted, and no thread runs."""
+        self._sending = threading.RLock()
+        self._refused: bytes | None = None
+        self._sent = self._lost = self._refusals = self._bad_calls = 0
+        self._starts = True
+        self._ended = threading.Event()
+
+    def _close(self) -> list[Exception]:
+        faults: list[Exception] = []
+        self._ended.set()
+        with self._sending:
+            self._starts = False
+            waiting = [] if self._refused is None else [self._refused]
+            self._refused = None
+            try:
+                waiting += self._packer.close()
+            except MemoryError as fault:
+                faults.append(fault)
+            for packet in waiting:
+                if (refusal := self._send(packet)) is not None:
+                    faults.append(refusal)
+                    self._lost += 1
+            self._socket.close()
+        return faults
+
+    def _end(self) -> None:
+        """Sends what is held, and what comes later at once, because the process ends."""
+        if not self._ended.is_set():
+            self._ended.set()
+            self._starts = False
+            self._at_once = True
+            self._tell(self._flush(), may_raise=False)
+
+    def _renew(self) -> None:
+        """Drops, in the child of a fork, what is the parent's."""
+        if not self._ended.is_set():
+            self._begin()
+        self._packer.renew()
+        for pipeline in list(self._pipelines):
+            pipeline._renew()
+
+    def _new_packer(self) -> Packer:
+        packer = Packer(*self._settings)
+        for tag in self._tags:
+            packer.add_tag(tag)
+        if self._container is not None:
+            packer.set_container(self._container)
+        return packer
+
+    def _start(self) -> None:
+        """Follows the first line of a process: starts the thread that flushes, where there is one."""
+        with self._sending:
+            if not self._starts:
+                return
+            self._starts = False
+        process.watch_worker()
+        if not self._flush_every:
+            return
+        words = (weakref.ref(self), self._flush_every, self._ended)
+        try:
+            threading.Thread(target=_flush_often, args=words, name="statsd_proved", daemon=True).start()
+        except RuntimeError as fault:
+            self._tell([fault])
+
+    def _kept(self, made_packet: bool) -> None:
+        if self._starts:
+            self._start()
+        if self._at_once:
+            self.flush()
+        elif made_packet:
+            with self._sending:
+                faults = self._send_all()
+            self._tell(faults)
+
+    def _bad(self, fault: Exception) -> None:
+        with self._sending:
+            self._bad_calls += 1
+        self._tell([fault])
+
+    def _tick(self) -> None:
+        if not self._ended.is_set():
+            self._tell(self._flush(), may_raise=False)
+
+    def _tell(self, faults: list[Exception], may_raise: bool = True) -> None:
+        for fault in faults if self._on_error is not None else ():
+            try:
+                self._on_error(fault)
+            except Exception:
+                _log.exception("on_error raises")
+        if self._raises and may_raise and faults:
+            raise faults[0]
+
+    def _flush(self) -> list[Exception]:
+        with self._sending:
+            faults = self._send_all()
+            try:
+                self._packer.flush()
+            except Exception as fault:
+                faults.append(fault)
+            return faults + (self._send_all() if self._refused is None else [])
+
+    def _send_packets(self, packets: list[bytes]) -> None:
+        """Sends the packets of a pipeline, after what is held."""
+        faults: list[Exception] = []
+        with self._sending:
+            for packet in packets:
+                try:
+                    self._packer.line(packet.decode().removesuffix("\n"))
+                except Exception as fault:
+                    self._bad_calls += 1
+                    faults.append(fault)
+                    continue
+                faults += self._send_all()
+            faults += self._flush()
+        self._tell(faults)
+
+    def _send_all(self) -> list[Exception]:
+        """Sends the packets that wait, until the socket refuses one, which waits then, unless it is too long."""
+        faults: list[Exception] = []
+        while True:
+            packet = self._packer.take() if self._refused is None else self._refused
+            self._refused = None
+            if packet is None:
+                return faults
+            fault = self._send(packet)
+            if fault is None:
+                continue
+            faults.append(fault)
+            if fault.errno != errno.EMSGSIZE:
+                self._refused = packet
+                return faults
+            self._lost += 1
+
+    def _send(self, packet: bytes) -> OSError | None:
+        try:
+            self._socket.sendto(packet, self._address)
+        except OSError as fault:
+            self._refusals += 1
+            return fault
+        self._sent += 1
+        return None

@@ -1,0 +1,23 @@
+"""What the library answers, by name."""
+import enum
+
+
+class Status(enum.IntEnum):
+    """The statuses of cadence.h."""
+
+    OK = 0
+    NO_CLIENT = 1
+    NO_MEMORY = 2
+    FULL = 3
+    INVALID = 4
+    NOT_UTF8 = 5
+    NO_PACKET = 6
+    TOO_SMALL = 7
+
+
+class StatusError(ValueError):
+    """A call that the library refused, with its `status`. The client is as it was."""
+
+    def __init__(self, status: int, text: str) -> None:
+        super().__init__(text)
+        self.status = Status(status)

@@ -1,0 +1,111 @@
+"""The calls that make metrics, of clients and of pipelines."""
+from __future__ import annotations
+
+import abc
+import datetime
+import decimal
+import random
+from collections.abc import Iterable, Mapping, Sequence
+from typing import Any, Union
+
+from ._core import Packer
+from .timer import Timer
+
+Number = Union[int, float, decimal.Decimal]
+Tags = Union[Mapping[str, Union[str, Number]], Iterable[Union[str, Number, tuple[str, Union[str, Number]]]]]
+"""Tags: a dict, or a list of texts ("page:home", "beta") and of pairs."""
+
+COUNTER, TIMER, GAUGE, METER, HISTOGRAM, SET, DISTRIBUTION = range(7)
+PLAIN, CHANGE, LEVEL = range(3)  # forms of a gauge: as any metric, a change by a value, a value that may be below 0
+
+
+class Metrics(abc.ABC):
+    """Calls that make metrics.
+
+    Each takes a `rate`, and where that is below 1, keeps such a part of the calls, chosen at random, and prints the rate,
+    by which the server scales. Each takes `tags`, a `container` and a `timestamp` (whole seconds since 1970) too, which
+    servers with the Datadog fields read. A value is an int, a float or a Decimal.
+    """
+
+    _packer: Packer
+
+    def incr(self, stat: str, count: Number = 1, rate: float = 1, *, tags: Tags | None = None,
+             container: str | None = None, timestamp: int | None = None) -> None:
+        """Adds `count` to a counter."""
+        self._keep(COUNTER, PLAIN, stat, count, rate, tags, container, timestamp)
+
+    def decr(self, stat: str, count: Number = 1, rate: float = 1, *, tags: Tags | None = None,
+             container: str | None = None, timestamp: int | None = None) -> None:
+        """Takes `count` from a counter."""
+        try:
+            count = -count
+        except TypeError as fault:
+            return self._bad(fault)
+        self._keep(COUNTER, PLAIN, stat, count, rate, tags, container, timestamp)
+
+    def gauge(self, stat: str, value: Number, rate: float = 1, delta: bool = False, *, tags: Tags | None = None,
+              container: str | None = None, timestamp: int | None = None) -> None:
+        """Sets a gauge, or with `delta` changes it by the value. A gauge that is set below 0 is set to 0 first, in the same
+        packet and without the rate, because a server reads a sign as a change."""
+        self._keep(GAUGE, CHANGE if delta else LEVEL, stat, value, rate, tags, container, timestamp)
+
+    def set(self, stat: str, value: Number | str, rate: float = 1, *, tags: Tags | None = None,
+            container: str | None = None, timestamp: int | None = None) -> None:
+        """Adds a value, which may be a text, to a set. A text is printed as it is, separators too."""
+        self._keep(SET, PLAIN, stat, value, rate, tags, container, timestamp)
+
+    def timing(self, stat: str, delta: Number | datetime.timedelta | Sequence[Number], rate: float = 1, *,
+               tags: Tags | None = None, container: str | None = None, timestamp: int | None = None) -> None:
+        """A time in milliseconds, or a timedelta. A float is rounded to six places, where these fit. A list makes one line."""
+        if isinstance(delta, datetime.timedelta):
+            delta = delta.total_seconds() * 1000
+        self._keep(TIMER, PLAIN, stat, delta, rate, tags, container, timestamp)
+
+    def histogram(self, stat: str, value: Number | Sequence[Number], rate: float = 1, *, tags: Tags | None = None,
+                  container: str | None = None, timestamp: int | None = None) -> None:
+        """A value of a histogram. A list makes one line."""
+        self._keep(HISTOGRAM, PLAIN, stat, value, rate, tags, container, timestamp)
+
+    def distribution(self, stat: str, value: Number | Sequence[Number], rate: float = 1, *, tags: Tags | None = None,
+                     container: str | None = None, timestamp: int | None = None) -> None:
+        """A value of a distribution. A list makes one line."""
+        self._keep(DISTRIBUTION, PLAIN, stat, value, rate, tags, container, timestamp)
+
+    def meter(self, stat: str, value: Number = 1, rate: float = 1, *, tags: Tags | None = None,
+              container: str | None = None, timestamp: int | None = None) -> None:
+        """Marks a meter."""
+        self._keep(METER, PLAIN, stat, value, rate, tags, container, timestamp)
+
+    def raw(self, line: str) -> None:
+        """Keeps a line as it is, without the prefix and the tags of the client."""
+        try:
+            made_packet = self._packer.line(line)
+        except Exception as fault:
+            return self._bad(fault)
+        self._kept(made_packet)
+
+    def timer(self, stat: str, rate: float = 1, **fields: Any) -> Timer:
+        """A timer, which is a context manager, a decorator (of functions and of coroutine functions) and an object with
+        `start`, `stop` and `send`. `fields` are `tags`, `container` and `timestamp`."""
+        return Timer(self, stat, rate, **fields)
+
+    def _keep(self, kind: int, form: int, stat: str, value: Any, rate: float, tags: Any, container: Any,
+              timestamp: Any) -> None:
+        try:
+            if rate < 1:
+                if random.random() >= rate:
+                    return
+            else:
+                rate = 1
+            made_packet = self._packer.keep(kind, form, stat, value, rate, tags, container, timestamp)
+        except Exception as fault:
+            return self._bad(fault)
+        self._kept(made_packet)
+
+    @abc.abstractmethod
+    def _kept(self, made_packet: bool) -> None:
+        """Follows each line that was kept."""
+
+    @abc.abstractmethod
+    def _bad(self, fault: Exception) -> None:
+        """Follows each call that keeps no line."""

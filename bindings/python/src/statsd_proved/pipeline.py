@@ -1,0 +1,56 @@
+"""Metrics that go out together."""
+from __future__ import annotations
+
+from typing import TYPE_CHECKING
+
+from ._core import Packer
+from .metrics import Metrics
+
+if TYPE_CHECKING:
+    from .client import StatsClient
+
+
+class Pipeline(Metrics):
+    """Metrics that are held until `send`, or the end of a `with`, and then go out at once, in as few packets as hold
+    them. A pipeline is for one thread at a time."""
+
+    def __init__(self, client: StatsClient, packer: Packer) -> None:
+        self._client = client
+        self._packer = packer
+        self._packets: list[bytes] = []
+
+    def __enter__(self) -> Pipeline:
+        return self
+
+    def __exit__(self, *_: object) -> None:
+        self.send()
+
+    def send(self) -> None:
+        """Sends what is held."""
+        try:
+            self._packer.flush()
+            self._take()
+        except MemoryError as fault:
+            self._client._bad(fault)
+        packets, self._packets = self._packets, []
+        self._client._send_packets(packets)
+
+    def pipeline(self) -> Pipeline:
+        """A pipeline of the same client."""
+        return self._client.pipeline()
+
+    def _kept(self, made_packet: bool) -> None:
+        if made_packet:
+            self._take()
+
+    def _take(self) -> None:
+        while (packet := self._packer.take()) is not None:
+            self._packets.append(packet)
+
+    def _renew(self) -> None:
+        """Drops, in the child of a fork, what is the parent's."""
+        self._packets = []
+        self._packer.renew()
+
+    def _bad(self, fault: Exception) -> None:
+        self._client._bad(fault)

@@ -1,0 +1,79 @@
+"""Times of blocks and of functions."""
+from __future__ import annotations
+
+import functools
+import inspect
+import time
+from collections.abc import Callable
+from typing import TYPE_CHECKING, Any, TypeVar
+
+if TYPE_CHECKING:
+    from .metrics import Metrics
+
+Function = TypeVar("Function", bound=Callable[..., Any])
+
+
+def _wraps(function: Callable[..., Any]) -> Callable[[Callable[..., Any]], Any]:
+    while isinstance(function, functools.partial):
+        function = function.func
+    return functools.wraps(function)
+
+
+class Timer:
+    """A time in milliseconds: `ms` holds it once the timer was stopped."""
+
+    def __init__(self, client: Metrics, stat: str, rate: float = 1, **fields: Any) -> None:
+        self.client = client
+        self.stat = stat
+        self.rate = rate
+        self.ms: float | None = None
+        self._fields = fields
+        self._sent = False
+        self._start_time: float | None = None
+
+    def __call__(self, function: Function) -> Function:
+        """A function that times each of its calls, also in several threads at once; a coroutine from its first step to its
+        end."""
+        if inspect.iscoroutinefunction(function):
+            @_wraps(function)
+            async def timed_coroutine(*args: Any, **kwargs: Any) -> Any:
+                with Timer(self.client, self.stat, self.rate, **self._fields):
+                    return await function(*args, **kwargs)
+            return timed_coroutine
+
+        @_wraps(function)
+        def timed(*args: Any, **kwargs: Any) -> Any:
+            with Timer(self.client, self.stat, self.rate, **self._fields):
+                return function(*args, **kwargs)
+        return timed
+
+    def __enter__(self) -> Timer:
+        return self.start()
+
+    def __exit__(self, *_: object) -> None:
+        self.stop()
+
+    def start(self) -> Timer:
+        """Starts, anew where it was started already."""
+        self.ms = None
+        self._sent = False
+        self._start_time = time.perf_counter()
+        return self
+
+    def stop(self, send: bool = True) -> Timer:
+        """Stops, and sends unless `send` is false."""
+        if self._start_time is None:
+            raise RuntimeError("the timer has not started")
+        self.ms = 1000 * (time.perf_counter() - self._start_time)
+        if send:
+            self.send()
+        return self
+
+    def send(self) -> None:
+        """Sends the time, once."""
+        if self.ms is None:
+            raise RuntimeError("the timer has no time yet")
+        if self._sent:
+            raise RuntimeError("the time was sent already")
+        self._sent = True
+        self.client.timing(self.stat, self.ms, self.rate, **self._fields)

@@ -1,0 +1,71 @@
+"""A receiver of datagrams, and tests with a client that sends to it."""
+import socket
+import unittest
+
+from statsd_proved import StatsClient
+
+
+class Receiver:
+    """A socket on the loopback address, or of another family."""
+
+    def __init__(self, family=socket.AF_INET, address=("127.0.0.1", 0)):
+        self.socket = socket.socket(family, socket.SOCK_DGRAM)
+        self.socket.bind(address)
+        self.address = self.socket.getsockname()
+
+    def packets(self, seconds=0.0):
+        """The packets that are there; for the first one it waits so long."""
+        found = []
+        self.socket.settimeout(seconds or 0.0)
+        try:
+            while True:
+                found.append(self.socket.recv(65536).decode())
+                self.socket.settimeout(0.0)
+        except (BlockingIOError, TimeoutError):
+            return found
+
+    def lines(self, seconds=0.0):
+        """Their lines."""
+        return [line for packet in self.packets(seconds) for line in packet.splitlines()]
+
+
+class Recorder:
+    """In the place of a client's socket: it keeps each packet, or refuses it with `fault`."""
+
+    def __init__(self):
+        self.sent = []
+        self.fault = None
+
+    def sendto(self, packet, address):
+        if self.fault is not None:
+            raise self.fault
+        self.sent.append(packet)
+
+    def lines(self):
+        return [line for packet in self.sent for line in packet.decode().splitlines()]
+
+    def close(self):
+        pass
+
+
+class ClientTest(unittest.TestCase):
+    """Tests with a receiver, and with the errors that clients told."""
+
+    def setUp(self):
+        self.receiver = Receiver()
+        self.addCleanup(self.receiver.socket.close)
+        self.faults = []
+
+    def client(self, **words):
+        """A client that sends to the receiver, without a thread."""
+        words = {"flush_every": None, "on_error": self.faults.append, **words}
+        client = StatsClient(*self.receiver.address[:2], **words)
+        self.addCleanup(client.close)
+        return client
+
+    def sent_by(self, calls, **words):
+        """The lines that a client sends of calls which it is given, and which tell no error."""
+        with self.client(**words) as client:
+            calls(client)
+        self.assertEqual(self.faults, [])
+        return self.receiver.lines()

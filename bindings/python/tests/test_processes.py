@@ -1,0 +1,171 @@
+"""Threads, forks, and the end of a process."""
+import collections
+import multiprocessing
+import os
+import select
+import signal
+import subprocess
+import sys
+import threading
+import time
+import unittest
+
+from receiver import ClientTest, Recorder
+
+THREADS, CALLS = 8, 5000
+AT_EXIT = """
+import atexit
+atexit.register(lambda: client.incr("late"))  # runs after what the package does at exit
+import statsd_proved, sys, threading
+client = statsd_proved.StatsClient("127.0.0.1", int(sys.argv[1]))
+client.incr("a")
+# the frame of this thread holds the client to the end
+threading.Thread(target=lambda client: threading.Event().wait(), args=(client,), daemon=True).start()
+"""
+
+
+def _in_worker(client):
+    client.incr("child")
+
+
+class Threads(ClientTest):
+    def test_threads_share_a_client(self):
+        client = self.client(flush_every=0.001, tags={"t": 1})
+        client._socket.close()
+        client._socket = Recorder()
+
+        def work(number):
+            for call in range(CALLS):
+                client.incr(f"thread{number}", call, tags={"k": call})
+                if call % 500 == 0:
+                    client.flush()
+                    client.counts()
+        threads = [threading.Thread(target=work, args=(number,)) for number in range(THREADS)]
+        for thread in threads:
+            thread.start()
+        for thread in threads:
+            thread.join()
+        client.close()
+        self.assertEqual(self.faults, [])
+        by_thread = collections.defaultdict(list)
+        for line in client._socket.lines():
+            by_thread[line.partition(":")[0]].append(line)
+        for number in range(THREADS):
+            wanted = [f"thread{number}:{call}|c|#t:1,k:{call}" for call in range(CALLS)]
+            self.assertEqual(by_thread[f"thread{number}"], wanted)
+
+    def test_a_packet_waits_for_the_one_before_it(self):
+        begun = threading.Event()
+
+        class Slow(Recorder):
+            def sendto(self, packet, address):
+                if not begun.is_set():
+                    begun.set()
+                    time.sleep(0.2)
+                super().sendto(packet, address)
+
+        client = self.client(maxudpsize=8)
+        client._socket.close()
+        client._socket = Slow()
+        client.incr("a")
+        first = threading.Thread(target=client.incr, args=("b",))  # sends a
+        first.start()
+        begun.wait()
+        client.incr("c")  # sends b
+        first.join()
+        client.close()
+        self.assertEqual(client._socket.lines(), ["a:1|c", "b:1|c", "c:1|c"])
+
+    def test_threads_close_a_client(self):
+        for _ in range(10):
+            client = self.client(flush_every=0.001)
+            client._socket.close()
+            client._socket = Recorder()
+            kept = [0] * 4
+
+            def work(number):
+                while not client._ended.is_set():
+                    client.incr("a")
+                    kept[number] += 1
+            threads = [threading.Thread(target=work, args=(number,)) for number in range(4)]
+            for thread in threads:
+                thread.start()
+            while sum(kept) < 100:
+                pass
+            client.close()
+            for thread in threads:
+                thread.join()
+            self.assertEqual(len(client._socket.lines()) + client.counts()["bad"], sum(kept))
+
+
+class Processes(ClientTest):
+    def forked(self, work):
+        """Runs work in the child of a fork, which ends without the handlers of an exit."""
+        child = os.fork()
+        if child == 0:
+            signal.alarm(30)  # ends a child that waits for ever
+            try:
+                work()
+            finally:
+                os._exit(0)
+        os.waitpid(child, 0)
+
+    def test_nothing_is_sent_twice_after_a_fork(self):
+        for every in (None, 60):
+            client = self.client(flush_every=every)
+            pipe = client.pipeline()
+            client.incr("parent")
+            pipe.incr("pipe")
+            self.forked(lambda: (client.flush(), pipe.send(), client.close()))
+            pipe.send()
+            self.assertEqual(self.receiver.lines(), ["parent:1|c", "pipe:1|c"])
+
+    def test_packets_that_wait_are_the_parents(self):
+        client = self.client(maxudpsize=8)
+        way, client._socket = client._socket, Recorder()
+        client._socket.fault = OSError()
+        client.incr("a")
+        client.incr("b")
+        client.incr("c")
+        client._socket = way
+        self.forked(client.flush)
+        client.flush()
+        self.assertEqual(self.receiver.lines(), ["a:1|c", "b:1|c", "c:1|c"])
+
+    def test_the_child_of_a_fork_sends_its_own(self):
+        client = self.client(prefix="p", tags=["t"], flush_every=0.01)
+        client.incr("parent")
+        self.assertEqual(self.receiver.lines(30), ["p.parent:1|c|#t"])
+        self.forked(lambda: (client.incr("child"), select.select([self.receiver.socket], [], [], 30)))
+        self.assertEqual(self.receiver.lines(), ["p.child:1|c|#t"])
+
+    def test_a_fork_while_another_thread_sends(self):
+        client = self.client()
+        with client._sending:
+            thread = threading.Thread(target=lambda: self.forked(lambda: (client.incr("child"), client.flush())))
+            thread.start()
+            self.assertEqual(self.receiver.lines(30), ["child:1|c"])
+        thread.join()
+
+    def test_the_end_of_a_worker(self):
+        for every in (None, 60):
+            client = self.client(flush_every=every)
+            client.incr("parent")
+            worker = multiprocessing.get_context("fork").Process(target=_in_worker, args=(client,))
+            worker.start()
+            worker.join()
+            self.assertEqual(self.receiver.lines(), ["child:1|c"])
+
+    def test_what_is_held_goes_out_at_exit(self):
+        subprocess.run([sys.executable, "-c", AT_EXIT, str(self.receiver.address[1])], check=True)
+        self.assertEqual(self.receiver.lines(), ["a:1|c", "late:1|c"])
+
+    def test_what_is_held_goes_out_at_an_exit_by_an_error(self):
+        told = subprocess.run([sys.executable, "-c", AT_EXIT + "client.pipeline().incr('b'); 1 / 0",
+                               str(self.receiver.address[1])], stderr=subprocess.PIPE, text=True)
+        self.assertIn("ZeroDivisionError", told.stderr.splitlines()[-1])
+        self.assertEqual(self.receiver.lines(), ["a:1|c", "late:1|c"])
+
+
+if __name__ == "__main__":
+    unittest.main()

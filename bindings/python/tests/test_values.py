@@ -1,0 +1,125 @@
+"""Values, texts and tags that make no line."""
+import math
+import pathlib
+import re
+import unittest
+
+from receiver import ClientTest
+from statsd_proved import StatsClient, Status, StatusError
+
+HEADER = pathlib.Path(__file__).resolve().parents[3] / "include" / "cadence.h"
+
+
+class Odd:
+    """A number whose text runs code."""
+
+    def __init__(self, text, run=lambda: None):
+        self.text, self.run = text, run
+
+    def __float__(self):
+        return float(self.text)
+
+    def __str__(self):
+        self.run()
+        return self.text
+
+
+class Values(ClientTest):
+    def test_whole_numbers_do_not_wrap(self):
+        least, most = -2 ** 63, 2 ** 64 - 1
+        self.assertEqual(self.sent_by(lambda c: [c.incr("x", value) for value in (2 ** 63, least, most)]),
+                         [f"x:{2 ** 63}|c", f"x:{least}|c", f"x:{most}|c"])
+
+    def refuses(self, kind, *calls):
+        """Each call keeps no line, raises nothing, is counted, and tells an error of the kind, which another client raises."""
+        for call in calls:
+            with self.subTest(call=call), self.client() as client, self.client(raises=True) as strict:
+                self.faults.clear()
+                call(client)
+                self.assertEqual([type(fault) for fault in self.faults], [kind])
+                self.assertEqual(client.counts()["bad"], 1)
+                with self.assertRaises(kind):
+                    call(strict)
+            self.assertEqual(self.receiver.lines(), [])
+
+    def test_whole_numbers_past_64_bits(self):
+        self.refuses(OverflowError, lambda c: c.incr("x", 2 ** 64 + 5), lambda c: c.incr("x", -2 ** 63 - 1),
+                     lambda c: c.gauge("x", 10 ** 30), lambda c: c.set("x", 2 ** 64), lambda c: c.incr("x", timestamp=-1),
+                     lambda c: c.incr("x", timestamp=2 ** 64))
+
+    def test_floats_that_do_not_fit(self):
+        self.refuses(ValueError, *(lambda c, call=call, value=value: getattr(c, call)("x", value)
+                                   for call in ("incr", "gauge", "timing", "histogram")
+                                   for value in (math.nan, math.inf, -math.inf, 1e19, 1e300)))
+        self.refuses(ValueError, lambda c: c.histogram("x", [1, 2 ** 63]), lambda c: c.histogram("x", [1, math.nan]))
+
+    def test_small_numbers_are_cut_after_30_places(self):
+        self.assertEqual(self.sent_by(lambda c: [c.gauge("x", value) for value in (1e-7, 5e-324, 1.5e-30, -0.0, 1e18)]),
+                         ["x:0.0000001|g", "x:0|g", "x:0.000000000000000000000000000001|g", "x:0|g", "x:1000000000000000000|g"])
+
+    def test_values_that_are_no_numbers(self):
+        self.refuses(TypeError, lambda c: c.incr("x", None), lambda c: c.decr("x", "5"), lambda c: c.gauge("x", "5"),
+                     lambda c: c.set("x", None), lambda c: c.timing("x", object()), lambda c: c.incr(5),
+                     lambda c: c.incr("x", rate="1"), lambda c: c.raw(b"x:1|c"), lambda c: c.incr("x", timestamp="now"))
+
+    def test_tags_that_are_none(self):
+        self.refuses(TypeError, *(lambda c, tags=tags: c.incr("x", tags=tags)
+                                  for tags in ("a:b", b"a", 7, {"a": None}, [("a", "b", "c")])),
+                     lambda c: c.incr("x", container=b"id"))
+
+    def test_texts_that_are_not_unicode(self):
+        self.refuses(UnicodeEncodeError, lambda c: c.incr("\ud800"), lambda c: c.set("x", "\ud800"), lambda c: c.raw("\ud800"),
+                     lambda c: c.incr("x", tags=["\ud800"]), lambda c: c.incr("x", container="\ud800"))
+
+    def test_a_number_may_call_the_client(self):
+        with self.client() as client:
+            tags = [Odd("1", lambda: client.incr("inner", tags={"k": 2})), "plain"]
+            client.incr("outer", tags=tags)
+            given = {"a": Odd("2", lambda: given.clear()), "b": "c"}
+            client.incr("outer", tags=given)
+        self.assertEqual(self.receiver.lines(), ["inner:1|c|#k:2", "outer:1|c|#1,plain", "outer:1|c|#a:2,b:c"])
+        self.assertEqual(self.faults, [])
+
+    def test_an_error_of_the_callers_own(self):
+        def fail():
+            raise KeyError("own")
+        self.refuses(KeyError, lambda c: c.incr("x", tags=[Odd("1", fail)]), lambda c: c.incr("x", Odd("1", fail)))
+
+    def test_on_error_that_raises_is_logged(self):
+        def fail(fault):
+            raise RuntimeError("on_error")
+        with self.client(on_error=fail) as client, self.assertLogs("statsd_proved"):
+            client.incr("x", math.nan)
+
+    def test_without_on_error(self):
+        with self.client(on_error=None) as client:
+            client.incr("x", math.nan)
+            self.assertEqual(client.counts()["bad"], 1)
+
+
+class Statuses(ClientTest):
+    def test_a_closed_client(self):
+        client = self.client()
+        client.close()
+        client.incr("x")
+        self.assertIsInstance(self.faults[0], StatusError)
+        self.assertIs(self.faults[0].status, Status.NO_CLIENT)
+        self.assertEqual(str(self.faults[0]), "the client is closed (CADENCE_NO_CLIENT)")
+
+    def test_too_few_packets(self):
+        with self.assertRaises(StatusError) as told:
+            StatsClient(*self.receiver.address, packets=1)
+        self.assertIs(told.exception.status, Status.INVALID)
+
+    def test_too_many_packets(self):
+        with self.assertRaises(MemoryError):
+            StatsClient(*self.receiver.address, packets=2 ** 60)
+
+    def test_names_are_the_headers(self):
+        found = re.findall(r"^    CADENCE_(\w+) = (\d),? +/\* ", HEADER.read_text().partition("/* What a client does")[0], re.M)
+        self.assertEqual({name: int(value) for name, value in found},
+                         {status.name: status.value for status in Status if status})
+
+
+if __name__ == "__main__":
+    unittest.main()
