@@ -20,10 +20,11 @@ use counts::LISTS;
 use sharing::CAPACITY;
 use sockets::on_loopback;
 use std::alloc::Global;
+use std::io;
 use std::time::Duration;
 
-// What each sink does, by itself.
-fn alone_told<R: ResolverRuntime>(rt: &R, alloc: Global) -> MetricResult<String> {
+// What each sink does, and those that two threads share.
+fn told<R: ResolverRuntime>(rt: &R, alloc: Global) -> MetricResult<String> {
     let server = on_loopback(rt)?;
     server.set_read_timeout(Some(Duration::from_secs(5)))?;
     let mut text = format!(in alloc; "of {LISTS} lists as in the proved run:\n")?;
@@ -32,21 +33,26 @@ fn alone_told<R: ResolverRuntime>(rt: &R, alloc: Global) -> MetricResult<String>
     text.push_str(&defaults::told(rt, alloc, &server)?)?;
     text.push_str("worked rows of 16 bytes, as in the proved run:\n")?;
     text.push_str(&worked::told(rt, alloc, &server)?)?;
+    text.push_str("shared by two threads as in the run of the lines as they came:\n")?;
+    text.push_str(&sharing::told(rt, alloc)?)?;
     Ok(text)
+}
+
+// Prints what the boxed sinks did.
+fn print_boxed(rt: &HostRuntime, queued: bool, shared: bool) -> io::Result<()> {
+    println!(rt; "queue over a boxed buffered Unix sink {queued}")?;
+    println!(rt; "boxed Unix sink {shared}")
 }
 
 fn main(rt: HostRuntime) -> MetricResult<()> {
     let alloc = rt.alloc();
-    print!(rt; "{}", alone_told(&rt, alloc)?)?;
-    println!(rt; "shared by two threads as in the run of the lines as they came:")?;
-    print!(rt; "{}", sharing::told(&rt, alloc)?)?;
+    print!(rt; "{}", told(&rt, alloc)?)?;
     let (log, sink) = sharing::buffered(&rt, alloc)?;
     let sink: Box<dyn MetricSink + Send + Sync> = Box::new(alloc, sink)?;
-    let is_same = sharing::queued(&rt, alloc, CAPACITY, sink, log)?;
-    println!(rt; "queue over a boxed buffered Unix sink {is_same}")?;
+    let queued = sharing::queued(&rt, alloc, CAPACITY, sink, log)?;
     let (log, sink) = sharing::unbuffered(&rt, alloc)?;
     let sink: Box<dyn MetricSink + Send + Sync> = Box::new(alloc, sink)?;
-    let is_same = sharing::shared(&rt, alloc, 0, sink, log)?;
-    println!(rt; "boxed Unix sink {is_same}")?;
+    let shared = sharing::shared(&rt, alloc, 0, sink, log)?;
+    print_boxed(&rt, queued, shared)?;
     Ok(())
 }

@@ -157,15 +157,37 @@ fn tells_and_sends<R: Clock, S: MetricSink>(
     Ok(true)
 }
 
+// Whether the heap had memory for a sink, which then sends on.
+fn is_made_over<R: ResolverRuntime>(
+    rt: &R,
+    alloc: Global,
+    heap: Refusing<Global>,
+    server: &UdpSocket,
+) -> Result<bool, Fail> {
+    let calls = zero(alloc)?;
+    let made = built(rt, alloc, heap, server.local_addr()?, calls.clone()?);
+    tells_and_sends(rt, made, &calls, (server, false))
+}
+
+// The same of a sink with a buffer.
+fn is_buffered_over<R: ResolverRuntime>(
+    rt: &R,
+    alloc: Global,
+    heap: Refusing<Global>,
+    server: &UdpSocket,
+) -> Result<bool, Fail> {
+    let calls = zero(alloc)?;
+    let made = built_buffered(rt, alloc, heap, server.local_addr()?, calls.clone()?);
+    tells_and_sends(rt, made, &calls, (server, true))
+}
+
 #[test]
 fn a_sink_that_looks_up_tells_its_handler(rt: HostRuntime) -> Result<(), Fail> {
     let (alloc, server) = (rt.alloc(), on_loopback(&rt)?);
-    let address = server.local_addr()?;
-    let granted: Result<Option<u64>, Fail> = each_refused(alloc, |heap| {
-        let calls = zero(alloc)?;
-        let made = built(&rt, alloc, heap, address, calls.clone()?);
-        tells_and_sends(&rt, made, &calls, (&server, false))
-    });
+    let granted: Result<Option<u64>, Fail> = each_refused(
+        alloc,
+        |heap| is_made_over(&rt, alloc, heap, &server),
+    );
     assert!(rt; granted?.is_some());
     Ok(())
 }
@@ -173,12 +195,10 @@ fn a_sink_that_looks_up_tells_its_handler(rt: HostRuntime) -> Result<(), Fail> {
 #[test]
 fn a_buffered_sink_that_looks_up_tells_its_handler(rt: HostRuntime) -> Result<(), Fail> {
     let (alloc, server) = (rt.alloc(), on_loopback(&rt)?);
-    let address = server.local_addr()?;
-    let granted: Result<Option<u64>, Fail> = each_refused(alloc, |heap| {
-        let calls = zero(alloc)?;
-        let made = built_buffered(&rt, alloc, heap, address, calls.clone()?);
-        tells_and_sends(&rt, made, &calls, (&server, true))
-    });
+    let granted: Result<Option<u64>, Fail> = each_refused(
+        alloc,
+        |heap| is_buffered_over(&rt, alloc, heap, &server),
+    );
     assert!(rt; granted?.is_some());
     Ok(())
 }
