@@ -1,0 +1,471 @@
+/* The queue that threads share, as crates/cadence_ledger/src/shared_queue.rt and taker.rt have it: callers offer texts,
+   a worker takes several at once and hands them on one by one, and the queue is stopped, by a thread that then waits for
+   the worker's end, or by the drop of its last handle. Below lie the kit's Condvar, step by step, and a lock, which is plain
+   or, where KIT is 1, the kit's Mutex, step by step. README.md tells what is checked, and .ci/model checks it. Each process
+   is a thread, and each statement is a step, between which the others may do theirs; what is `atomic` is one step.
+
+   These macros (-D) say what is checked: */
+
+#ifndef CAPACITY
+#define CAPACITY 1      /* the most texts that may wait; -1 is no bound */
+#endif
+#ifndef DROP_OLDEST
+#define DROP_OLDEST 0   /* 1: a full queue drops its oldest text for a new one; 0: it refuses the new one */
+#endif
+#ifndef CALLERS
+#define CALLERS 2       /* the threads that offer texts, each with a handle */
+#endif
+#ifndef EMITS
+#define EMITS 2         /* how many texts each of them offers */
+#endif
+#ifndef ROOM
+#define ROOM 1          /* the most texts that the worker takes at once */
+#endif
+#ifndef STOPPERS
+#define STOPPERS 0      /* the threads that stop the queue at some moment, and wait for the worker's end */
+#endif
+#ifndef LAST_HANDLE
+#define LAST_HANDLE 0   /* 1: each caller drops its handle in the end, so the last one stops the queue */
+#endif
+#ifndef LOOKS
+#define LOOKS 1         /* how often the worker looks before it sleeps */
+#endif
+#ifndef NO_MEMORY
+#define NO_MEMORY 0     /* 1: memory may be refused for any text */
+#endif
+#ifndef SPURIOUS
+#define SPURIOUS 0      /* how often in all one that sleeps on a Condvar may wake though nobody woke it */
+#endif
+#ifndef KIT
+#define KIT 0           /* 1: the kit's Mutex step by step; 0: a plain lock */
+#endif
+#ifndef FAULT
+#define FAULT 0         /* which of the faults in .ci/model the model has; 0 is none */
+#endif
+
+#define TEXTS (CALLERS * EMITS)
+
+/* what an offer answers */
+#define OK 1
+#define FULL 2
+#define STOPPED 3
+#define OUT_OF_MEMORY 4
+
+/* Where a thread sleeps: for one of the two locks, the queue's and the end mark's, or on the Condvar of one of them. The
+   first thread is the one that starts the others, the second is the worker, and the last ones are those that stop. */
+#define THREADS (2 + CALLERS + STOPPERS)
+#define WORKER 1
+#define NOWHERE 0
+#define QUEUE 1
+#define END 2
+#define CHANGED 3
+#define MARKED 4
+byte sleeps_at[THREADS];
+
+/* What lies under the queue's lock. */
+chan ring = [TEXTS] of { byte };
+byte submitted, drained, dropped;
+bool stopped;
+byte handles = CALLERS;
+
+/* The texts that the worker has taken and not given yet; and its end mark, which lies under a lock of its own. */
+chan lent = [ROOM] of { byte };
+bool ended;
+
+/* What only the checks read: the accepted texts that were neither handed on nor dropped, in the order in which they were
+   accepted; how many offers answered that they were accepted; how many texts were handed on; and how many calls have
+   changed the queue and not returned yet. */
+chan owed = [TEXTS] of { byte };
+byte accepted, handed, under_way;
+
+#define IS_IDLE (!stopped && len(ring) == 0)
+
+#if CAPACITY < 0
+#define IS_FULL false
+#define IS_WITHIN true
+#else
+#define IS_FULL (len(ring) >= CAPACITY)
+#define IS_WITHIN (len(ring) <= CAPACITY)
+#endif
+
+/* The worker sleeps though it has something to do, and no call is under way that might wake it. */
+#define IS_NEGLECTED (sleeps_at[WORKER] == CHANGED && !IS_IDLE && under_way == 0)
+
+/* ---- The locks ---- */
+
+#if KIT
+
+/* The kit's Mutex, each step on its word by itself. The word is 1 where the lock is free, and 4 where it is free for a
+   thread that has slept; it is 0 where the lock is held, 2 where besides a thread may sleep, and 3 where one that has slept
+   twice asks for 4. */
+byte word[3] = 1;
+byte holders[3];
+
+#define LOCALS bool got, missed; byte seen, slept, wanted, noted
+
+inline TRY_WORD(lock) {
+  atomic { if :: word[lock] == 1 -> word[lock] = 0; got = true :: else -> got = false fi }
+}
+
+inline TRY_LOCK(lock) {
+  TRY_WORD(lock);
+  if
+  :: got -> atomic { holders[lock]++; assert(holders[lock] == 1) }
+  :: else
+  fi
+}
+
+inline LOCK(lock) {
+  TRY_WORD(lock);
+  if
+  :: got
+  :: else ->
+     seen = word[lock];
+     if :: seen == 1 -> TRY_WORD(lock) :: else fi
+  fi;
+  do
+  :: got -> break
+  :: !got && (seen == 1 || (seen == 4 && slept > 0)) ->
+     atomic { if :: word[lock] == seen -> word[lock] = 2; got = true :: else fi };
+     if :: got :: else -> seen = word[lock] fi
+  :: !got && !(seen == 1 || (seen == 4 && slept > 0)) ->
+     wanted = (slept < 2 -> 2 : 3);
+     missed = false;
+     if
+     :: seen < wanted ->
+        atomic {
+          if
+          :: word[lock] == seen -> word[lock] = wanted; seen = wanted
+          :: else -> seen = word[lock]; missed = true
+          fi
+        }
+     :: else
+     fi;
+     if
+     :: missed
+     :: else ->
+        atomic { if :: word[lock] == seen -> sleeps_at[_pid] = lock :: else fi };
+        sleeps_at[_pid] == NOWHERE;
+        slept = (slept < 2 -> slept + 1 : 2);
+        seen = word[lock]
+     fi
+  od;
+  atomic {
+    holders[lock]++; assert(holders[lock] == 1);
+    got = false; missed = false; seen = 0; slept = 0; wanted = 0
+  }
+}
+
+/* It wakes any one of those that sleep for the lock. */
+inline UNLOCK(lock) {
+  atomic { holders[lock]--; if :: word[lock] == 0 -> word[lock] = 1; got = true :: else fi };
+  if
+  :: got
+  :: else ->
+     atomic { if :: word[lock] == 2 -> word[lock] = 1; got = true :: else fi };
+     if :: got :: else -> word[lock] = 4 fi;
+     atomic {
+       if
+       :: sleeps_at[1] == lock -> sleeps_at[1] = NOWHERE
+       :: sleeps_at[2] == lock -> sleeps_at[2] = NOWHERE
+#if CALLERS + STOPPERS > 1
+       :: sleeps_at[3] == lock -> sleeps_at[3] = NOWHERE
+#endif
+#if CALLERS + STOPPERS > 2
+       :: sleeps_at[4] == lock -> sleeps_at[4] = NOWHERE
+#endif
+#if CALLERS + STOPPERS > 3
+       :: sleeps_at[5] == lock -> sleeps_at[5] = NOWHERE
+#endif
+       :: else
+       fi
+     }
+  fi;
+  got = false
+}
+
+#define ARE_FREE (holders[QUEUE] + holders[END] == 0 && word[QUEUE] == 1 && word[END] == 1)
+
+#else
+
+bool held[3];
+
+#define LOCALS bool got; byte noted
+
+/* It may fail at any moment, because the kit's fails too where the lock is free for a thread that has slept. */
+inline TRY_LOCK(lock) {
+  atomic { if :: !held[lock] -> held[lock] = true; got = true :: got = false fi }
+}
+
+inline LOCK(lock) {
+  atomic { !held[lock] -> held[lock] = true }
+}
+
+inline UNLOCK(lock) {
+  held[lock] = false
+}
+
+#define ARE_FREE (!held[QUEUE] && !held[END])
+
+#endif
+
+/* ---- The Condvars ---- */
+
+/* The kit's Condvar: how many notifications there were, and how many threads sleep or are about to. */
+byte notifications[2], sleepers[2];
+byte spurious = SPURIOUS;
+hidden byte each;
+
+#define NOTIFICATIONS(condvar) notifications[condvar - CHANGED]
+#define SLEEPERS(condvar) sleepers[condvar - CHANGED]
+
+/* The thread doesn't fall asleep if there was a notification since it noted their number, which it did under the lock. */
+inline WAIT(condvar, lock) {
+#if FAULT == 9
+  UNLOCK(lock);
+  noted = NOTIFICATIONS(condvar);
+#else
+  noted = NOTIFICATIONS(condvar);
+  UNLOCK(lock);
+#endif
+  SLEEPERS(condvar)++;
+  atomic {
+    if :: NOTIFICATIONS(condvar) == noted -> sleeps_at[_pid] = condvar :: else fi;
+    noted = 0;
+    assert(!IS_NEGLECTED)
+  };
+#if STOPPERS == 0 && !LAST_HANDLE
+  /* where nobody stops the queue, the worker may sleep for ever */
+end_asleep:
+#endif
+  if
+  :: sleeps_at[_pid] == NOWHERE
+#if SPURIOUS > 0
+  :: atomic { sleeps_at[_pid] != NOWHERE && spurious > 0 -> spurious--; sleeps_at[_pid] = NOWHERE }
+#endif
+  fi;
+  SLEEPERS(condvar)--;
+  LOCK(lock)
+}
+
+inline NOTIFY_ALL(condvar) {
+  NOTIFICATIONS(condvar)++;
+  if
+  :: SLEEPERS(condvar) != 0 ->
+     d_step {
+       each = 0;
+       do
+       :: each < THREADS ->
+          if :: sleeps_at[each] == condvar -> sleeps_at[each] = NOWHERE :: else fi;
+          each++
+       :: else -> break
+       od;
+       each = 0
+     }
+  :: else
+  fi
+}
+
+/* ---- The queue ---- */
+
+/* What holds at each moment at which the queue's lock is free. The one who holds it looks before it lets the lock go. */
+#define CHECK() assert(IS_WITHIN); assert(len(ring) == submitted - drained - dropped)
+
+/* The last step of a call that changed the queue. */
+#define RETURN() under_way--; assert(!IS_NEGLECTED)
+
+#if FAULT == 5
+/* a queue that had room before the lock was taken isn't tested under it */
+#define LACKS_ROOM (was_full && IS_FULL && (!DROP_OLDEST || len(ring) == 0))
+#else
+#define LACKS_ROOM (IS_FULL && (!DROP_OLDEST || len(ring) == 0))
+#endif
+
+/* `SharedQueue::offer`. A try of the lock that fails changes nothing, so `acquire`, which tries it a few times before it
+   sleeps for it, is LOCK here. */
+inline OFFER(text) {
+#if FAULT == 5
+  was_full = IS_FULL;
+#endif
+  LOCK(QUEUE);
+  idle = IS_IDLE;
+  if
+  :: stopped -> answer = STOPPED
+  :: !stopped && LACKS_ROOM -> answer = FULL
+#if NO_MEMORY
+  :: !stopped && !LACKS_ROOM -> answer = OUT_OF_MEMORY
+#endif
+  :: !stopped && !LACKS_ROOM ->
+#if DROP_OLDEST
+     if
+     :: IS_FULL ->
+        atomic { ring ? oldest; dropped++; assert(owed ?? [eval(oldest)]); owed ?? eval(oldest); oldest = 0 }
+     :: else
+     fi;
+#endif
+     atomic { ring ! text; submitted++; owed ! text; under_way++; answer = OK }
+  fi;
+  CHECK();
+  assert(answer != STOPPED || stopped);
+  assert(answer != FULL || (!stopped && IS_FULL));
+  assert(answer != OK || !stopped);
+  UNLOCK(QUEUE);
+#if FAULT == 1
+  idle = idle && len(ring) == 2;
+#elif FAULT == 7
+  idle = (len(ring) == 1);
+#endif
+  if
+  :: idle && answer == OK -> NOTIFY_ALL(CHANGED)
+  :: else
+  fi
+}
+
+/* Offers its texts, and then drops its handle if LAST_HANDLE is 1. */
+proctype Caller(byte me) {
+  LOCALS; byte offers, answer, oldest; bool idle, was_full;
+  do
+  :: offers < EMITS ->
+     OFFER(me * EMITS + offers);
+     atomic {
+       if :: answer == OK -> accepted++; RETURN() :: else fi;
+       answer = 0; idle = false; was_full = false; offers++
+     }
+  :: else -> break
+  od;
+#if LAST_HANDLE
+  /* `SharedQueue::drop_handle` */
+  LOCK(QUEUE);
+  atomic {
+    under_way++;
+    handles--;
+#if FAULT != 6
+    if :: handles == 0 -> stopped = true :: else fi
+#endif
+  };
+  CHECK();
+  UNLOCK(QUEUE);
+  NOTIFY_ALL(CHANGED);
+  atomic { RETURN() }
+#endif
+}
+
+/* `QueuingMetricSink::stop_and_wait`: `SharedQueue::stop` and `WorkerEnd::wait`. */
+proctype Stopper() {
+  LOCALS;
+  LOCK(QUEUE);
+  atomic { under_way++; stopped = true };
+  CHECK();
+  UNLOCK(QUEUE);
+#if FAULT != 2
+  NOTIFY_ALL(CHANGED);
+#endif
+  atomic { RETURN() };
+  LOCK(END);
+  do
+  :: ended -> break
+  :: else -> WAIT(MARKED, END)
+  od;
+  UNLOCK(END);
+  assert(len(owed) == 0 && len(ring) == 0 && len(lent) == 0)
+}
+
+/* Moves the oldest texts to the worker, as many as it has room for. */
+inline MOVE() {
+  do
+  :: len(lent) < ROOM && len(ring) > 0 -> atomic { ring ? text; drained++; lent ! text; text = 0 }
+  :: else -> break
+  od
+}
+
+/* `Taker::next` and `SharedQueue::take_some`, text by text until the end, and then `WorkerEnd::mark`. */
+proctype Worker() {
+  LOCALS; byte text, looks; bool idle;
+  assert(_pid == WORKER);
+next:
+  if
+  :: len(lent) > 0 -> goto give
+  :: else
+  fi;
+look:
+  if
+  :: looks == LOOKS -> looks = 0; goto sleep
+  :: else -> looks++
+  fi;
+  TRY_LOCK(QUEUE);
+  if
+  :: !got -> goto look
+  :: else -> got = false
+  fi;
+  if
+  :: IS_IDLE -> CHECK(); UNLOCK(QUEUE); goto look
+  :: else -> looks = 0
+  fi;
+  MOVE();
+#if FAULT == 4
+  if :: len(lent) == 2 -> lent ? _ :: else fi;
+#endif
+  CHECK();
+  UNLOCK(QUEUE);
+  goto moved;
+sleep:
+#if FAULT == 3
+  idle = IS_IDLE;
+  LOCK(QUEUE);
+  do
+  :: !idle -> break
+  :: else -> WAIT(CHANGED, QUEUE); idle = IS_IDLE
+  od;
+#else
+  LOCK(QUEUE);
+  do
+  :: !IS_IDLE -> break
+  :: else -> CHECK(); WAIT(CHANGED, QUEUE)
+  od;
+#endif
+  MOVE();
+  assert(len(lent) > 0 || (stopped && len(ring) == 0));
+  CHECK();
+  UNLOCK(QUEUE);
+moved:
+  if
+  :: len(lent) == 0 -> goto finish
+  :: else
+  fi;
+give:
+  lent ? text;
+  /* the wrapped sink works here, and the worker holds no lock */
+  atomic { assert(owed ? [eval(text)]); owed ? eval(text); handed++; text = 0 };
+  goto next;
+finish:
+  assert(stopped && len(ring) == 0 && len(owed) == 0);
+  LOCK(END);
+  ended = true;
+  UNLOCK(END);
+#if FAULT != 8
+  NOTIFY_ALL(MARKED)
+#endif
+}
+
+init {
+  byte n;
+  atomic {
+    run Worker();
+    do :: n < CALLERS -> run Caller(n); n++ :: else -> break od;
+    n = 0;
+    do :: n < STOPPERS -> run Stopper(); n++ :: else -> break od;
+    n = 0
+  };
+#if STOPPERS == 0 && !LAST_HANDLE
+  /* no thread can go on: the worker sleeps */
+  timeout;
+  assert(!stopped && !ended && sleeps_at[WORKER] == CHANGED);
+#else
+  /* each of the threads has come to its end */
+  _nr_pr == 1;
+  assert(stopped && ended);
+#endif
+  assert(len(ring) == 0 && len(lent) == 0 && len(owed) == 0);
+  assert(accepted == submitted && handed == drained && accepted == handed + dropped);
+  assert(under_way == 0 && ARE_FREE)
+}
