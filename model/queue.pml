@@ -268,8 +268,20 @@ inline NOTIFY_ALL(condvar) {
 
 /* ---- The queue ---- */
 
-/* What holds at each moment at which the queue's lock is free. The one who holds it looks before it lets the lock go. */
-#define CHECK() assert(IS_WITHIN); assert(len(ring) == submitted - drained - dropped)
+/* What holds at each moment at which the queue's lock is free, and what else the one who held it claims. */
+#define CHECK(claim) assert(IS_WITHIN); assert(len(ring) == submitted - drained - dropped); assert(claim)
+
+/* Gives up the queue's lock after these checks, which see only what lies under it. */
+#if KIT
+inline RELEASE(claim) {
+  atomic { CHECK(claim) };
+  UNLOCK(QUEUE)
+}
+#else
+inline RELEASE(claim) {
+  atomic { CHECK(claim); UNLOCK(QUEUE) }
+}
+#endif
 
 /* The last step of a call that changed the queue. */
 #define RETURN() under_way--; assert(!IS_NEGLECTED)
@@ -280,6 +292,8 @@ inline NOTIFY_ALL(condvar) {
 #else
 #define LACKS_ROOM (IS_FULL && (!DROP_OLDEST || len(ring) == 0))
 #endif
+
+#define IS_TRUE_ANSWER ((answer == STOPPED) == stopped && (answer != FULL || IS_FULL))
 
 /* `SharedQueue::offer`. A try of the lock that fails changes nothing, so `acquire`, which tries it a few times before it
    sleeps for it, is LOCK here. */
@@ -305,11 +319,7 @@ inline OFFER(text) {
 #endif
      atomic { ring ! text; submitted++; owed ! text; under_way++; answer = OK }
   fi;
-  CHECK();
-  assert(answer != STOPPED || stopped);
-  assert(answer != FULL || (!stopped && IS_FULL));
-  assert(answer != OK || !stopped);
-  UNLOCK(QUEUE);
+  RELEASE(IS_TRUE_ANSWER);
 #if FAULT == 1
   idle = idle && len(ring) == 2;
 #elif FAULT == 7
@@ -343,8 +353,7 @@ proctype Caller(byte me) {
     if :: handles == 0 -> stopped = true :: else fi
 #endif
   };
-  CHECK();
-  UNLOCK(QUEUE);
+  RELEASE(true);
   NOTIFY_ALL(CHANGED);
   atomic { RETURN() }
 #endif
@@ -355,8 +364,7 @@ proctype Stopper() {
   LOCALS;
   LOCK(QUEUE);
   atomic { under_way++; stopped = true };
-  CHECK();
-  UNLOCK(QUEUE);
+  RELEASE(stopped);
 #if FAULT != 2
   NOTIFY_ALL(CHANGED);
 #endif
@@ -373,7 +381,7 @@ proctype Stopper() {
 /* Moves the oldest texts to the worker, as many as it has room for. */
 inline MOVE() {
   do
-  :: len(lent) < ROOM && len(ring) > 0 -> atomic { ring ? text; drained++; lent ! text; text = 0 }
+  :: atomic { len(lent) < ROOM && len(ring) > 0 -> ring ? text; drained++; lent ! text; text = 0 }
   :: else -> break
   od
 }
@@ -398,15 +406,14 @@ look:
   :: else -> got = false
   fi;
   if
-  :: IS_IDLE -> CHECK(); UNLOCK(QUEUE); goto look
+  :: IS_IDLE -> RELEASE(true); goto look
   :: else -> looks = 0
   fi;
   MOVE();
 #if FAULT == 4
   if :: len(lent) == 2 -> lent ? _ :: else fi;
 #endif
-  CHECK();
-  UNLOCK(QUEUE);
+  RELEASE(len(lent) > 0 || (stopped && len(ring) == 0));
   goto moved;
 sleep:
 #if FAULT == 3
@@ -420,22 +427,19 @@ sleep:
   LOCK(QUEUE);
   do
   :: !IS_IDLE -> break
-  :: else -> CHECK(); WAIT(CHANGED, QUEUE)
+  :: else -> WAIT(CHANGED, QUEUE)
   od;
 #endif
   MOVE();
-  assert(len(lent) > 0 || (stopped && len(ring) == 0));
-  CHECK();
-  UNLOCK(QUEUE);
+  RELEASE(len(lent) > 0 || (stopped && len(ring) == 0));
 moved:
   if
   :: len(lent) == 0 -> goto finish
   :: else
   fi;
 give:
-  lent ? text;
   /* the wrapped sink works here, and the worker holds no lock */
-  atomic { assert(owed ? [eval(text)]); owed ? eval(text); handed++; text = 0 };
+  atomic { lent ? text; assert(owed ? [eval(text)]); owed ? eval(text); handed++; text = 0 };
   goto next;
 finish:
   assert(stopped && len(ring) == 0 && len(owed) == 0);
