@@ -154,15 +154,3 @@ pub fn queued<
     let packets = packets_of(alloc, rt, &log)?;
     Ok(taken && flushed && are_of_the_run(alloc, capacity, &packets, queue.stats())?)
 }
-
-/// Whether two threads that share a buffered sink, or a queue over one that holds nothing, make the packets of the run.
-pub fn told<R: Wait + Threads + Clone + Drop + Send + Sync + 'static>(
-    rt: &R,
-    alloc: Global,
-) -> MetricResult<String> {
-    let (log, sink) = buffered(rt, alloc)?;
-    let by_itself = shared(rt, alloc, CAPACITY, sink, log)?;
-    let (log, sink) = unbuffered(rt, alloc)?;
-    let behind = queued(rt, alloc, 0, sink, log)?;
-    Ok(format!(in alloc; "buffered Unix sink {by_itself}\nqueue over a Unix sink {behind}\n")?)
-}
