@@ -183,22 +183,22 @@ fn is_buffered_over<R: ResolverRuntime>(
 
 #[test]
 fn a_sink_that_looks_up_tells_its_handler(rt: HostRuntime) -> Result<(), Fail> {
-    let (alloc, server) = (rt.alloc(), on_loopback(&rt)?);
-    let granted: Result<Option<u64>, Fail> = each_refused(
-        alloc,
-        |heap| is_made_over(&rt, alloc, heap, &server),
-    );
+    let alloc = rt.alloc();
+    let granted: Result<Option<u64>, Fail> = each_refused(alloc, |heap| {
+        let server = on_loopback(&rt)?;
+        is_made_over(&rt, alloc, heap, &server)
+    });
     assert!(rt; granted?.is_some());
     Ok(())
 }
 
 #[test]
 fn a_buffered_sink_that_looks_up_tells_its_handler(rt: HostRuntime) -> Result<(), Fail> {
-    let (alloc, server) = (rt.alloc(), on_loopback(&rt)?);
-    let granted: Result<Option<u64>, Fail> = each_refused(
-        alloc,
-        |heap| is_buffered_over(&rt, alloc, heap, &server),
-    );
+    let alloc = rt.alloc();
+    let granted: Result<Option<u64>, Fail> = each_refused(alloc, |heap| {
+        let server = on_loopback(&rt)?;
+        is_buffered_over(&rt, alloc, heap, &server)
+    });
     assert!(rt; granted?.is_some());
     Ok(())
 }
