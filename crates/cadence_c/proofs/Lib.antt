@@ -2,4 +2,3 @@ mod AsBox
 pub mod Lines
 pub mod Lists
 pub mod Runs
-pub mod TagTexts

@@ -1,53 +1,46 @@
 -- The line of what a call means.
-use Rattle.std.proofs.Common.{◌≡◌, ℕ, List, ◌++◌, Option, Some, None, Ok, Err, refl, ap, sym, ◌∙◌}
-use Rattle.std.specs.Prelude.{OnOk}
-use Rattle.std.proofs.lemmas.List.{append-nil}
-use Rattle.std.specs.declared.result.Result.{Result}
+use Rattle.std.proofs.Common.{◌≡◌, ◌<◌, ◌+◌, ℕ, List, [], ◌∷◌, ◌++◌, Option, Some, None, Ok, Err, append_assoc, ap, ap₂, arith, get_or, length, map, refl, suc, sym, take, ◌∙◌}
+use Rattle.std.proofs.Math.Seq.{take-suc}
+use Rattle.std.proofs.lemmas.List.{map-append}
+use Rattle.std.specs.Prelude.{OnOk, Result}
+use Rattle.cadence_text.specs.Draft.{draft_of, head_text}
 use Rattle.cadence_text.specs.declared.line.MetricType.{MetricType}
-use Rattle.cadence_text.specs.Line.{line_of}
-use Rattle.cadence_text.specs.Metric.{Metric, Tag, plain_metric}
-use Rattle.cadence_text.specs.More.{with_tags}
+use Rattle.cadence_text.specs.Metric.{Metric, Tag, with_tag}
 use Rattle.cadence_value.specs.Number.{Number}
-use Rattle.cadence_schedule.specs.Call.{metric_of_call, plain_call, untagged}
+use Rattle.cadence_schedule.specs.Call.{metric_of_call, plain_call}
 use Rattle.cadence_schedule.specs.Settings.{Settings}
-use Rattle.cadence_c.specs.Calls.{IsCall, IsLine, IsRateOf, bare, kind_named, with_options}
+use Rattle.cadence_c.specs.Calls.{IsCall, IsLine, IsRateOf, bare, c_tag, kind_named, line_of_call, metric_with, with_c_tags}
 use Rattle.cadence_c.specs.declared.call.COptions.{COptions}
-use Rattle.cadence_c.specs.declared.status.Refusal.{Refusal}
+use Rattle.cadence_c.specs.declared.call.CTag.{CTag}
 
--- the metric of a call without options and tags has no rate and no time
-pub untagged_rate : (s : Settings) (k : MetricType) (key : List ℕ) (ns : List Number) (m : Metric) → m ≡ untagged (metric_of_call s (plain_call k key ns)) → m.rate ≡ None
+-- without a client nothing is added to a head
+pub bare_draft : (prefix key : List ℕ) (k : MetricType) (ns : List Number)
+    → record { head = head_text (prefix ++ key) ns k; tags = []; rate = None; container = None; time = None } ≡ draft_of (metric_of_call (bare prefix) (plain_call k key ns))
 unfolding metric_of_call
-untagged_rate s k key ns m e = ap (λ (x : Metric). x.rate) e
+bare_draft prefix key k ns = refl
 
-pub untagged_time : (s : Settings) (k : MetricType) (key : List ℕ) (ns : List Number) (m : Metric) → m ≡ untagged (metric_of_call s (plain_call k key ns)) → m.time ≡ None
+means : (s : Settings) (n : ℕ) (k : MetricType) (key : List ℕ) (ns : List Number) (o : COptions) (rate : Option Number) → kind_named n ≡ Some k → IsRateOf o rate → IsCall s n key ns o (metric_with s k key ns o rate)
 unfolding metric_of_call
-untagged_time s k key ns m e = ap (λ (x : Metric). x.time) e
+means s n k key ns o (Some rate) named rated = record { kind = named; rate = rated; metric = refl }
+means s n k key ns o None named rated = record { kind = named; rate = rated; metric = refl }
 
--- with the default tags it is whole
-pub with_default_tags : (s : Settings) (k : MetricType) (key : List ℕ) (ns : List Number) (m : Metric) → m ≡ untagged (metric_of_call s (plain_call k key ns)) → with_tags m s.tags ≡ metric_of_call s (plain_call k key ns)
-unfolding metric_of_call
-with_default_tags s k key ns m e =
-    let whole = metric_of_call s (plain_call k key ns) in
-    ap (λ (x : Metric). with_tags x s.tags) e ∙ ap (λ (tags : List Tag). record whole { tags = tags }) (sym (append-nil s.tags))
+-- the line of a tested call is the line of what the call means
+pub is_line : (s seen : Settings) (n : ℕ) (k : MetricType) (key text : List ℕ) (ns : List Number) (o : COptions) (rate : Option Number) (line : List ℕ)
+    → seen ≡ s → text ≡ key → kind_named n ≡ Some k → IsRateOf o rate → line ≡ line_of_call seen k text ns o rate → IsLine s n key ns o line
+is_line s seen n k key text ns o rate line same tested named rated shown =
+    (metric_with s k key ns o rate, means s n k key ns o rate named rated, shown ∙ ap₂ (λ (s : Settings) (t : List ℕ). line_of_call s k t ns o rate) same tested)
 
--- over settings that only print a prefix, it is the plain one
-pub bare_metric : (prefix key : List ℕ) (k : MetricType) (ns : List Number) → plain_metric (prefix ++ key) ns k ≡ metric_of_call (bare prefix) (plain_call k key ns)
-unfolding metric_of_call
-bare_metric prefix key k ns = refl
+-- the line with what is known of it
+pub with_line : {T E : Type 0} (r : Result T E) (line : List ℕ) (Is Packed : List ℕ → Type 0) → Is line → OnOk r (Packed line) → OnOk r ((x : List ℕ) × Is x × Packed x)
+with_line (Ok t) line Is Packed is packed = (line, is, packed)
+with_line (Err e) line Is Packed is packed = tt
 
-means : (s : Settings) (n : ℕ) (k : MetricType) (key : List ℕ) (ns : List Number) (o : COptions) (rate : Option Number) → kind_named n ≡ Some k → IsRateOf o rate → IsCall s n key ns o (with_options (metric_of_call s (plain_call k key ns)) o rate)
-unfolding metric_of_call
-means s n k key ns o rate named rated = record { kind = named; rate = rated; metric = refl }
-
--- a record with options has the line of the call
-pub line_of_call : (s : Settings) (n : ℕ) (k : MetricType) (key : List ℕ) (ns : List Number) (o : COptions) (m : Metric) (rate : Option Number) (line : List ℕ)
-    → kind_named n ≡ Some k → m ≡ metric_of_call s (plain_call k key ns) → IsRateOf o rate → line ≡ line_of (with_options m o rate) → IsLine s n key ns o line
-line_of_call s n k key ns o m rate line named same rated shown =
-    (with_options (metric_of_call s (plain_call k key ns)) o rate, means s n k key ns o rate named rated, shown ∙ ap (λ (x : Metric). line_of (with_options x o rate)) same)
-
--- the same of a line that was written
-pub on_line_of_call : {T : Type 0} (r : Result T Refusal) (line : List ℕ) (s : Settings) (n : ℕ) (k : MetricType) (key : List ℕ) (ns : List Number) (o : COptions) (m : Metric)
-    → kind_named n ≡ Some k → m ≡ metric_of_call s (plain_call k key ns) → OnOk r ((rate : Option Number) × IsRateOf o rate × (line ≡ line_of (with_options m o rate)))
-    → OnOk r (IsLine s n key ns o line)
-on_line_of_call (Ok done) line s n k key ns o m named same shown = line_of_call s n k key ns o m shown.0 line named same shown.1 shown.2
-on_line_of_call (Err e) line s n k key ns o m named same shown = tt
+-- one more tag of a call
+pub one_tag_more : (m : Metric) (tags : List CTag) (i : ℕ) (tag : CTag) → i < length tags → with_tag (with_c_tags m (take i tags)) (c_tag (get_or tags i tag)) ≡ with_c_tags m (take (i + 1) tags)
+one_tag_more m tags i tag inside =
+    let at = get_or tags i tag in
+    let one : suc i ≡ i + 1 = omega arith in
+    let first : List Tag = map c_tag (take i tags) in
+    let next : first ++ c_tag at ∷ [] ≡ map c_tag (take (i + 1) tags) =
+    sym (map-append c_tag (take i tags) (at ∷ [])) ∙ ap (map c_tag) (sym (take-suc tags i tag inside) ∙ ap (λ (n : ℕ). take n tags) one) in
+    ap (λ (ts : List Tag). record m { tags = ts }) (append_assoc m.tags first (c_tag at ∷ []) ∙ ap (λ (ts : List Tag). m.tags ++ ts) next)

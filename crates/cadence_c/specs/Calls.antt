@@ -1,5 +1,6 @@
 -- A call as C makes it, and the metric that it means.
 use Rattle.std.specs.Prelude.{◌≡◌, ◌⊎◌, ◌<◌, ◌≤◌, All, ℕ, ◌/◌, ◌==◌, if◌then◌else◌, ⊤, true, false, List, [], ◌∷◌, ◌++◌, map, Option, Some, None, cond, length}
+use Rattle.std.specs.Option.{option_or}
 use Rattle.std.specs.Str.{IsUtf8}
 use Rattle.cadence_text.specs.declared.line.MetricType.{MetricType}
 use Rattle.cadence_text.specs.declared.line.MetricType.TheVariants.{Counter, Timer, Gauge, Meter, Histogram, Set, Distribution}
@@ -48,23 +49,32 @@ abbrev pub IsRateOf : COptions → Option Number → Type 0
 IsRateOf o None = o.rated ≡ false
 IsRateOf o (Some rate) = (o.rated ≡ true) × IsNumberOf o.rate rate
 
--- the metric with options but their tags: their rate, container and time, where there is one
-abbrev pub with_choices : Metric → COptions → Option Number → Metric
-with_choices m o rate = record m {
-  rate = rate;
+-- the metric with tags after its own
+abbrev pub with_c_tags : Metric → List CTag → Metric
+with_c_tags m tags = record m { tags = m.tags ++ map c_tag tags }
+
+-- the metric with options: their tags after its own, and of a rate, a container and a time theirs, if there is one
+abbrev pub with_options : Metric → COptions → Option Number → Metric
+with_options m o rate = record m {
+  rate = option_or rate m.rate;
+  tags = m.tags ++ map c_tag o.tags.now;
   container = cond o.contained (Some o.container.now) m.container;
-  time = cond o.timed (Some o.time) None;
+  time = cond o.timed (Some o.time) m.time;
 }
 
--- the metric with options: also their tags, after its own
-abbrev pub with_options : Metric → COptions → Option Number → Metric
-with_options m o rate = record (with_choices m o rate) { tags = m.tags ++ map c_tag o.tags.now }
+-- the metric of a call with options
+abbrev pub metric_with : Settings → MetricType → List ℕ → List Number → COptions → Option Number → Metric
+metric_with s kind key numbers o rate = with_options (metric_of_call s (plain_call kind key numbers)) o rate
+
+-- the line of a call with options
+abbrev pub line_of_call : Settings → MetricType → List ℕ → List Number → COptions → Option Number → List ℕ
+line_of_call s kind key numbers o rate = line_of (metric_with s kind key numbers o rate)
 
 -- what a call means: the metric of the call without options, and its options
 pub record IsCall (s : Settings) (k : ℕ) (key : List ℕ) (numbers : List Number) (o : COptions) (m : Metric) : Type 0 where
   pub kind : kind_named k ≡ Some m.kind
   pub rate : IsRateOf o m.rate
-  pub metric : m ≡ with_options (metric_of_call s (plain_call m.kind key numbers)) o m.rate
+  pub metric : m ≡ metric_with s m.kind key numbers o m.rate
 
 -- the line of what a call means
 abbrev pub IsLine : Settings → ℕ → List ℕ → List Number → COptions → List ℕ → Type 0

@@ -1,13 +1,12 @@
 //! A call as C makes it.
-ghost use Rattle.std.specs.Prelude.{◌≡◌, ◌≢◌, ◌≤◌, ◌<◌, IfOk, IfErr, OnOk, IfSome, IfNone, true, cond, None, Option, Some};
+ghost use Rattle.std.specs.Prelude.{◌≡◌, ◌≢◌, ◌<◌, All, IfOk, IfErr, IfSome, IfNone, true, false};
 ghost use Rattle.std.specs.Str.{IsUtf8};
 ghost use Rattle.cadence_text.specs.Record.{tag_of as record_tag};
-ghost use Rattle.cadence_c.specs.Status.{status};
 ghost use Rattle.cadence_c.specs.declared.status.Refusal.TheVariants.{Invalid};
-ghost use Rattle.cadence_c.specs.Calls.{AreTexts, c_tag, kind_named, IsNoRate, IsNumberOf, IsRateOf, IsTextTag, with_choices};
+ghost use Rattle.cadence_c.specs.Calls.{AreTexts, c_tag, kind_named, IsNoRate, IsNumberOf, IsRateOf, IsTextTag};
 
 use crate::status::Refusal;
-use cadence_text::line::{MetricType, Record, Tag};
+use cadence_text::line::{MetricType, Tag};
 use cadence_value::decimal::Decimal;
 use std::str;
 
@@ -44,6 +43,7 @@ pub struct COptions<'a> {
 }
 
 /// The kind of a number.
+#[inline]
 pub fn kind_of(kind: u32) -> Option<MetricType>
     ensures { result ≡ kind_named kind }
 {
@@ -60,6 +60,7 @@ pub fn kind_of(kind: u32) -> Option<MetricType>
 }
 
 /// The number of a decimal.
+#[inline]
 pub fn decimal_of(decimal: CDecimal) -> Result<Decimal, Refusal>
     ensures number { IfOk result (λ d. IsNumberOf decimal d) }
     ensures invalid { IfErr result (λ e. (30 < decimal.places) × (e ≡ Invalid)) }
@@ -113,62 +114,60 @@ pub fn tag_of<'a>(tag: &CTag<'a>) -> Option<Tag<'a>>
     })
 }
 
-// Sets the container, where there is one.
-fn set_container<'a>(metric: &mut Record<'a>, options: &COptions<'a>) -> Result<(), Refusal>
-    requires { options.now.known ≡ true → AreTexts options.now }
-    ensures set { OnOk result (metric.new ≡ record metric.old {
-      container =
-          cond options.now.contained (Some options.now.container.now) metric.old.container;
-    }) }
-    ensures room { status result ≢ 3 }
-    ensures answers { status result ≤ 5 }
-    ensures text { status result ≡ 5 →
-        (options.now.contained ≡ true → IsUtf8 options.now.container.now) → ⊥ }
-    ensures invalid { status result ≢ 4 }
+/// Reads a tag whose texts are known to be UTF-8.
+#[inline]
+pub fn known_tag<'a>(tag: &CTag<'a>) -> Tag<'a>
+    requires { IsTextTag tag.now }
+    ensures { record_tag result ≡ c_tag tag.now }
 {
-    if options.contained {
-        let Some(container) = text_where(options.container, options.known) else {
-            return Err(Refusal::NotUtf8);
+    let text = unsafe { str::from_utf8_unchecked(tag.text) };
+    if !tag.keyed {
+        return Tag { key: None, text };
+    }
+    Tag {
+        key: Some(unsafe { str::from_utf8_unchecked(tag.key) }),
+        text,
+    }
+}
+
+// Tells whether the texts of the tags are UTF-8.
+#[inline]
+fn are_text_tags(tags: &[CTag<'_>]) -> bool
+    ensures yes { result ≡ true → All IsTextTag tags.now }
+    ensures no { result ≡ false → All IsTextTag tags.now → ⊥ }
+{
+    for tag in tags {
+        let Some(_tag) = tag_of(tag) else {
+            return false;
         };
-        metric.set_container(container);
     }
-    Ok(())
+    true
 }
 
-// Sets the rate, where there is one.
-fn set_rate(metric: &mut Record<'_>, options: &COptions<'_>) -> Result<(), Refusal>
-    requires { metric.old.rate ≡ None }
-    ensures rate { OnOk result (IsRateOf options.now metric.new.rate) }
-    ensures rest { metric.new ≡ record metric.old { rate = metric.new.rate } }
-    ensures room { status result ≢ 3 }
-    ensures answers { status result ≤ 5 }
-    ensures text { status result ≢ 5 }
-    ensures invalid { status result ≡ 4 → IsNoRate options.now }
+/// Tells whether the texts of the options are UTF-8. If the host knows it, they are not tested.
+#[inline]
+pub fn are_texts(options: &COptions<'_>) -> bool
+    requires { options.now.known ≡ true → AreTexts options.now }
+    ensures yes { result ≡ true → AreTexts options.now }
+    ensures no { result ≡ false → AreTexts options.now → ⊥ }
 {
-    if options.rated {
-        metric.set_rate(decimal_of(options.rate)?);
+    if options.known {
+        return true;
     }
-    Ok(())
+    if options.contained && text_of(options.container).is_none() {
+        return false;
+    }
+    are_text_tags(options.tags)
 }
 
-/// Adds the options of a call but its tags to its record, which has neither rate nor time yet.
-pub fn add_options<'a>(metric: &mut Record<'a>, options: &COptions<'a>) -> Result<(), Refusal>
-    requires rate { metric.old.rate ≡ None }
-    requires time { metric.old.time ≡ None }
-    requires texts { options.now.known ≡ true → AreTexts options.now }
-    ensures rate { OnOk result (IsRateOf options.now metric.new.rate) }
-    ensures added { OnOk result
-        (metric.new ≡ with_choices metric.old options.now metric.new.rate) }
-    ensures room { status result ≢ 3 }
-    ensures answers { status result ≤ 5 }
-    ensures text { status result ≡ 5 →
-        (options.now.contained ≡ true → IsUtf8 options.now.container.now) → ⊥ }
-    ensures invalid { status result ≡ 4 → IsNoRate options.now }
+/// Reads the rate of the options, if they have one.
+#[inline]
+pub fn rate_of(options: &COptions<'_>) -> Result<Option<Decimal>, Refusal>
+    ensures rate { IfOk result (λ rate. IsRateOf options.now rate) }
+    ensures invalid { IfErr result (λ e. IsNoRate options.now × (e ≡ Invalid)) }
 {
-    set_container(metric, options)?;
-    set_rate(metric, options)?;
-    if options.timed {
-        metric.set_time(options.time);
+    if !options.rated {
+        return Ok(None);
     }
-    Ok(())
+    Ok(Some(decimal_of(options.rate)?))
 }

@@ -5,17 +5,56 @@ ghost use Rattle.cadence_value.specs.Values.{numbers_of};
 ghost use Rattle.std.specs.Str.{IsUtf8};
 ghost use Rattle.cadence_c.specs.Status.{status};
 ghost use Rattle.cadence_c.specs.Answers.{Formats};
-ghost use Rattle.cadence_c.specs.Calls.{AreDecimals, AreNumbersOf, IsLine, IsNoCall, IsText, IsTextIfKnown, TellsLine, bare, durations_of};
+ghost use Rattle.cadence_c.specs.Calls.{AreDecimals, AreNumbersOf, AreTexts, IsLine, IsNoCall, IsText, IsTextIfKnown, TellsLine, bare, durations_of, line_of_call};
 
-use crate::call::{CDecimal, COptions, kind_of, text_where};
-use crate::line::write_with;
+use crate::call::{CDecimal, COptions, text_where};
+use crate::line::{TestedCall, line_with, tested};
 use crate::out::copy_out;
 use crate::status::Refusal;
-use crate::tags::CTags;
 use crate::value::{decimal_value, duration_value, signed_value, unsigned_value};
-use cadence_text::line::Record;
+use cadence_text::line::{DraftLine, Head};
 use cadence_value::value::MetricValue;
-use std::alloc::Global;
+use std::alloc::{AllocError, Global};
+
+// The most bytes that a rate, a time and the signs before a container take is 60, and this is a little more.
+const RATE_AND_TIME: usize = 64;
+
+// Returns how many bytes the options of a call take in its line, or some more, so that the line takes memory once. No
+// contract says so, because a line that needs more asks for it.
+fn room_of(options: &COptions<'_>) -> usize {
+    let mut room = RATE_AND_TIME;
+    if options.contained {
+        room = room.saturating_add(options.container.len());
+    }
+    for tag in options.tags {
+        let key = if tag.keyed { tag.key.len() } else { 0 };
+        room = room.saturating_add(key).saturating_add(tag.text.len());
+        room = room.saturating_add(3);
+    }
+    room
+}
+
+// Makes the line of a tested call.
+fn line_of_tested(
+    alloc: Global,
+    prefix: &str,
+    call: TestedCall<'_>,
+    value: MetricValue,
+    options: &COptions<'_>,
+) -> Result<Vec<u8>, AllocError>
+    requires { AreTexts options.now }
+    ensures { IfOk result (λ line. line.items ≡ line_of_call (bare prefix.now)
+        call.entry.kind call.entry.key.now (numbers_of value) options.now call.entry.rate) }
+{
+    let head = Head {
+        prefix,
+        key: call.key,
+        value,
+        kind: call.kind,
+    };
+    let draft = DraftLine::new(alloc, &head, "", None, room_of(options))?;
+    line_with(draft, options, call.rate)
+}
 
 // The line of a call's value.
 fn line_of(
@@ -37,15 +76,13 @@ fn line_of(
     let Some(prefix) = text_where(prefix, options.known) else {
         return Err(Refusal::NotUtf8);
     };
-    let Some(key) = text_where(key, options.known) else {
-        return Err(Refusal::NotUtf8);
+    let call = match tested(kind, key, options) {
+        Ok(call) => call,
+        Err(refusal) => return Err(refusal),
     };
-    let Some(kind) = kind_of(kind) else {
-        return Err(Refusal::Invalid);
+    let Ok(line) = line_of_tested(alloc, prefix, call, value, options) else {
+        return Err(Refusal::Memory);
     };
-    let metric = Record::new(alloc, prefix, key, kind, value);
-    let mut line = Vec::new(alloc);
-    write_with(metric, &CTags::none(), options, &mut line)?;
     Ok(line)
 }
 

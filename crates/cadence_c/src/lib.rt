@@ -11,7 +11,6 @@ mod packet;
 mod packing;
 mod parts;
 mod status;
-mod tags;
 mod value;
 
 ghost use Rattle.std.specs.Prelude.{◌≡◌, ◌≢◌, ◌⊎◌, ◌≤◌, ◌<◌, None, Some, length, map, take};
@@ -129,7 +128,8 @@ pub extern "C" fn cadence_set_container(alloc: Global, handle: &mut Handle, cont
     status
 }
 
-// Keeps the line of a call's value.
+// Keeps the line of a call's value. It stands in its callers, so that the value stays where they make it.
+#[inline(always)]
 fn keep(
     alloc: Global,
     handle: &mut Handle,

@@ -1,8 +1,8 @@
 //! What a client of C holds.
 ghost use Rattle.std.specs.Prelude.{◌≡◌};
 
-use crate::call::{COptions, kind_of, text_where};
-use crate::line::write_with;
+use crate::call::COptions;
+use crate::line::{TestedCall, line_with, tested};
 use crate::out::copy_out;
 use crate::packet::Packet;
 use crate::status::Refusal;
@@ -11,7 +11,7 @@ use cadence_flow::io::{LineBuffer, PacketWriter};
 use cadence_flow::queue::{QueueCore, QueuePolicy, Taken};
 use cadence_schedule::ClientSettings;
 use cadence_value::value::MetricValue;
-use std::alloc::Global;
+use std::alloc::{AllocError, Global};
 use std::marker::Model;
 use std::mem;
 
@@ -76,11 +76,11 @@ impl Model for Packing {
 }
 
 impl Packing {
-    ghost use Rattle.std.specs.Prelude.{[], ◌⊎◌, take, Some, ◌≡◌, ◌≢◌, ◌<◌, ◌≤◌, ◌%◌, ◌^◌, ◌+◌, ◌++◌, ℕ, List, OnOk, OnErr, IfSome, IsTrue, true, false, ◌↔◌, length, option_copied, slice_get};
+    ghost use Rattle.std.specs.Prelude.{[], ◌⊎◌, take, Some, ◌≡◌, ◌≢◌, ◌<◌, ◌≤◌, ◌%◌, ◌^◌, ◌+◌, ◌++◌, ℕ, List, IfOk, OnOk, OnErr, IfSome, IsTrue, true, false, ◌↔◌, length, option_copied, slice_get};
     ghost use Rattle.cadence_flow.specs.Frame.{held_packet};
     ghost use Rattle.cadence_schedule.specs.Settings.{with_default_tag, with_default_container};
     ghost use Rattle.cadence_value.specs.Values.{numbers_of};
-    ghost use Rattle.cadence_c.specs.Calls.{IsLine, IsNoCall, IsText, IsTextIfKnown};
+    ghost use Rattle.cadence_c.specs.Calls.{AreTexts, IsLine, IsNoCall, IsText, IsTextIfKnown, line_of_call};
     ghost use Rattle.cadence_c.specs.Status.{status};
     ghost use Rattle.cadence_c.specs.State.{new_state, flushed, alone, put, Packs, Overflows, LacksRoom, IsSent, IsCountOf};
 
@@ -171,8 +171,10 @@ impl Packing {
         Ok(())
     }
 
-    /// Keeps a line.
-    pub fn pack(&mut self, alloc: Global, line: &[u8]) -> Result<(), Refusal>
+    // Keeps a line that doesn't fit beside the held text. It is no part of its callers, because few lines are such.
+    #[inline(never)]
+    fn pack_past_held(&mut self, alloc: Global, line: &[u8]) -> Result<(), Refusal>
+        requires { self.old.capacity < length self.old.held + (length line.now + 1) }
         ensures packed { OnOk result (Packs self.old line.now self.new) }
         ensures refused { OnErr result (self.new ≡ self.old) }
         ensures full { status result ≡ 3 → Overflows self.old line.now }
@@ -180,9 +182,6 @@ impl Packing {
         ensures text { status result ≢ 5 }
         ensures answers { status result ≤ 3 }
     {
-        if self.lines.hold(line) {
-            return Ok(());
-        }
         if line.len() >= self.capacity {
             return self.pack_alone(alloc, line);
         }
@@ -194,36 +193,47 @@ impl Packing {
         Ok(())
     }
 
-    // Writes the line of the metric that a call means.
-    #[tactic(auto, using(crate::proofs::Lines::untagged_rate, crate::proofs::Lines::untagged_time))]
-    fn write_line(
-        &self,
-        alloc: Global,
-        kind: u32,
-        key: &[u8],
-        value: MetricValue,
-        options: &COptions<'_>,
-        line: &mut Vec<u8>,
-    ) -> Result<(), Refusal>
-        requires { IsTextIfKnown key.now options.now }
-        ensures line { OnOk result (IsLine self.now.settings kind key.now (numbers_of value)
-            options.now line.new.items) }
-        ensures room { status result ≢ 3 }
-        ensures text { status result ≡ 5 → IsText key.now options.now → ⊥ }
-        ensures invalid { status result ≡ 4 → IsNoCall kind options.now }
-        ensures answers { status result ≤ 5 }
+    /// Keeps a line. It stands in its callers, because most lines fit beside the held text.
+    #[inline(always)]
+    pub fn pack(&mut self, alloc: Global, line: &[u8]) -> Result<(), Refusal>
+        ensures packed { OnOk result (Packs self.old line.now self.new) }
+        ensures refused { OnErr result (self.new ≡ self.old) }
+        ensures full { status result ≡ 3 → Overflows self.old line.now }
+        ensures invalid { status result ≢ 4 }
+        ensures text { status result ≢ 5 }
+        ensures answers { status result ≤ 3 }
     {
-        let Some(key) = text_where(key, options.known) else {
-            return Err(Refusal::NotUtf8);
-        };
-        let Some(kind) = kind_of(kind) else {
-            return Err(Refusal::Invalid);
-        };
-        let metric = self.settings.untagged(alloc, key, kind, value);
-        write_with(metric, &self.settings.default_tags(), options, line)
+        if self.lines.hold(line) {
+            return Ok(());
+        }
+        self.pack_past_held(alloc, line)
     }
 
-    /// Keeps the line of the metric that a call means.
+    // Makes the line of a tested call in a kept buffer, and returns the buffer with it.
+    #[inline(always)]
+    fn line_in(
+        &self,
+        buffer: Vec<u8>,
+        call: TestedCall<'_>,
+        value: MetricValue,
+        options: &COptions<'_>,
+    ) -> Result<Vec<u8>, AllocError>
+        requires { AreTexts options.now }
+        ensures { IfOk result (λ line. line.items ≡ line_of_call self.now.settings
+            call.entry.kind call.entry.key.now (numbers_of value) options.now call.entry.rate) }
+    {
+        // A `?` would move the draft once more.
+        let Ok(draft) = self
+            .settings
+            .draft_in_buffer(buffer, call.key, call.kind, value)
+        else {
+            return Err(AllocError);
+        };
+        line_with(draft, options, call.rate)
+    }
+
+    /// Keeps the line of the metric that a call means. If memory is refused, the room for lines may be lost, which
+    /// contracts don't see; the next call asks for it anew.
     pub fn keep(
         &mut self,
         alloc: Global,
@@ -244,11 +254,15 @@ impl Packing {
         ensures invalid { status result ≡ 4 → IsNoCall kind options.now }
         ensures answers { status result ≤ 5 }
     {
-        let mut line = mem::replace(&mut self.line, Vec::new(alloc));
-        let answer = match self.write_line(alloc, kind, key, value, options, &mut line) {
-            Ok(()) => self.pack(alloc, &line),
-            Err(refusal) => Err(refusal),
+        let call = match tested(kind, key, options) {
+            Ok(call) => call,
+            Err(refusal) => return Err(refusal),
         };
+        let buffer = mem::replace(&mut self.line, Vec::new(alloc));
+        let Ok(line) = self.line_in(buffer, call, value, options) else {
+            return Err(Refusal::Memory);
+        };
+        let answer = self.pack(alloc, &line);
         self.line = line;
         answer
     }

@@ -1,15 +1,14 @@
 -- What a submit and a take do to a queue's past.
-use Rattle.std.proofs.Common.{◌≡◌, ◌+◌, ◌-◌, ◌%◌, ◌^◌, ◌≤◌, append_assoc, count_by, Bool, true, false, cond, List, [], ◌∷◌, ◌++◌, Option, Some, None, Result, Ok, Err, IsOk, IfOk, subst, length, drop, length-append, ap, sym, ◌∙◌, arith, refl}
-use Rattle.std.proofs.Math.Nat.{mod-add-mod}
+use Rattle.std.proofs.Common.{◌≡◌, ◌-◌, ◌≤◌, Bool, true, false, cond, List, [], ◌∷◌, ◌++◌, Option, Some, None, Result, Ok, Err, IsOk, IfOk, subst, length, drop, length-append, ap, sym, ◌∙◌, arith, refl}
 use Rattle.std.proofs.lemmas.List.{append-nil}
 use Rattle.std.specs.Prelude.{slice_get}
 use Rattle.std.proofs.Math.Logic.{∥∥₁_map}
 use Rattle.cadence_flow.specs.QueueState.{Queue}
 use Rattle.cadence_flow.specs.Queue.{Accepts, dropping_handle}
-use Rattle.cadence_flow.specs.QueueModel.{Exit, by_take, by_drop, is_take, IsQueueOf, IsNext, IsAccepted}
+use Rattle.cadence_flow.specs.QueueModel.{Exit, by_take, by_drop, IsQueueOf, IsNext, IsAccepted}
 use Rattle.cadence_flow.specs.declared.queue.queue_core.Taken.{Taken}
 use Rattle.cadence_flow.specs.declared.queue.queue_core.Taken.TheVariants.{Text, Empty, Ended}
-use Rattle.cadence_flow.proofs.QueueModel.{accepts_last, taken_is_next}
+use Rattle.cadence_flow.proofs.QueueModel.{accepts_last}
 use Rattle.cadence_ledger.specs.QueuePast.{IsPast, taken_by}
 use Rattle.cadence_ledger.specs.QueueTaken.{texts_of}
 

@@ -47,39 +47,27 @@ impl<W: PacketWriter, A: Allocator + Clone> LineLedger<W, A> {
 
 impl<W: PacketWriter, A: Allocator> LineLedger<W, A> {
     ghost use Rattle.std.specs.Option.{ok_or};
-    ghost use Rattle.std.specs.Prelude.{[], ◌∷◌, length, IfOk, IfSome, OnErr, IsTrue, IsFalse, None};
+    ghost use Rattle.std.specs.Prelude.{[], ◌∷◌, length, IfSome, IsTrue, IsFalse, None};
     ghost use Rattle.cadence_flow.specs.Packer.{FlushesHeld, HoldsLine, WritesLine};
     ghost use Rattle.cadence_ledger.specs.Ledger.{accepted_of, packer_of};
     ghost use Rattle.cadence_ledger.specs.Telling.{telling_history, telling_kind};
 
     /// Writes a line, as `LineBuffer::write`.
-    pub fn write(&mut self, line: &[u8]) -> Result<usize, SinkError>
-        ensures accepted { IfOk result (λ n.
-            accepted_of self.new ≡ accepted_of self.old ++ (line.now, n) ∷ []) }
-        ensures refused { OnErr result (accepted_of self.new ≡ accepted_of self.old) }
-        ensures writes { WritesLine (telling_kind W.kind) (telling_history W.history)
-            (packer_of self.old) (packer_of self.new) line.now result }
-    {
-        let mut fault = SinkError::NothingWritten;
-        self.write_noting(line, &mut fault).ok_or(fault)
-    }
-
-    /// Writes a line, as `LineBuffer::write_noting`.
-    pub fn write_noting(&mut self, line: &[u8], fault: &mut SinkError) -> Option<usize>
+    pub fn write(&mut self, line: &[u8], fault: &mut SinkError) -> Option<usize>
         ensures accepted { IfSome result (λ n.
             accepted_of self.new ≡ accepted_of self.old ++ (line.now, n) ∷ []) }
         ensures refused { result ≡ None → accepted_of self.new ≡ accepted_of self.old }
         ensures writes { WritesLine (telling_kind W.kind) (telling_history W.history)
             (packer_of self.old) (packer_of self.new) line.now (ok_or result fault.new) }
     {
-        let taken = self.lines.write_noting(line, fault);
+        let taken = self.lines.write(line, fault);
         if let Some(n) = taken {
             self.accepted.note(line, n);
         }
         taken
     }
 
-    /// Holds a line where it fits the free room, as `LineBuffer::hold`.
+    /// Holds a line if it fits the free room, as `LineBuffer::hold`.
     #[inline(always)]
     pub fn hold(&mut self, line: &[u8]) -> bool
         ensures accepted { IsTrue result →
@@ -95,22 +83,12 @@ impl<W: PacketWriter, A: Allocator> LineLedger<W, A> {
     }
 
     /// Writes what is held, as `LineBuffer::flush`.
-    pub fn flush(&mut self) -> Result<(), SinkError>
-        ensures same { accepted_of self.new ≡ accepted_of self.old }
-        ensures flushes { FlushesHeld (telling_kind W.kind) (telling_history W.history)
-            (packer_of self.old) (packer_of self.new) result }
-    {
-        let mut fault = SinkError::NothingWritten;
-        self.flush_noting(&mut fault).ok_or(fault)
-    }
-
-    /// Writes what is held, as `LineBuffer::flush_noting`.
-    pub fn flush_noting(&mut self, fault: &mut SinkError) -> Option<()>
+    pub fn flush(&mut self, fault: &mut SinkError) -> Option<()>
         ensures same { accepted_of self.new ≡ accepted_of self.old }
         ensures flushes { FlushesHeld (telling_kind W.kind) (telling_history W.history)
             (packer_of self.old) (packer_of self.new) (ok_or result fault.new) }
     {
-        self.lines.flush_noting(fault)
+        self.lines.flush(fault)
     }
 
     /// The text that waits. After the packets that the writer took, it ends the frames of the accepted lines.

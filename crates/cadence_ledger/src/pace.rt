@@ -9,15 +9,18 @@ pub const LOOKS: u32 = 8;
 /// How often a worker that looks tries a lock that is held.
 pub const TRIES: u32 = 8;
 
-/// How many turns of a spinning loop a worker waits between two looks, so that several texts come meanwhile.
-const TURNS_BETWEEN_LOOKS: u32 = 1000;
+/// How many turns of a spinning loop a worker waits between two looks for each text that it has room for, so that about
+/// as many come meanwhile as it takes at once.
+const TURNS_FOR_EACH_TEXT: u32 = 32;
 
 /// How many turns of a spinning loop a worker waits between two tries of the lock, which is fewer than a caller waits.
 const TURNS_BETWEEN_TRIES: u32 = 100;
 
-/// Lets some texts come, and other threads run.
-pub fn stand_by() {
-    spin(TURNS_BETWEEN_LOOKS);
+/// Lets some texts come to a worker that has room for so many, and other threads run.
+pub fn stand_by(room: usize) {
+    for _ in 0..room {
+        spin(TURNS_FOR_EACH_TEXT);
+    }
     thread::yield_now();
 }
 

@@ -120,8 +120,8 @@ impl<T: Drop, A: Allocator + Clone> SharedQueue<T, A> {
 
     /// Moves the oldest texts into an empty ring. It waits while no text waits, unless the queue is stopped: it looks a
     /// few times, and lets others run in between, before it sleeps. If the ring stays empty, the queue is stopped and no
-    /// text waits in it. What it moves is noted in `taken`, in proofs
-    /// alone. The texts that the taker is `done` with are kept for texts to come.
+    /// text waits in it. What it moves is noted in `taken`, in proofs alone. The texts that the taker is `done` with are
+    /// kept for texts to come.
     #[inline(never)]
     pub(super) fn take_some(
         &self,
@@ -137,7 +137,7 @@ impl<T: Drop, A: Allocator + Clone> SharedQueue<T, A> {
             if self.look(texts, taken, done) {
                 return;
             }
-            stand_by();
+            stand_by(texts.room());
         }
         let mut kept = self.changed.wait_while(
             rt,

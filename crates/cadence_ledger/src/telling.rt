@@ -54,11 +54,11 @@ impl<W: PacketWriter> PacketWriter for Telling<W> {
             packets_of self.new ≡ (W.history (writer_of self.new)).packets }
     {
         let mut fault = SinkError::NothingWritten;
-        self.write_packet_noting(packet, &mut fault).ok_or(fault)
+        self.write_packet_narrow(packet, &mut fault).ok_or(fault)
     }
 
     #[inline(always)]
-    fn write_packet_noting(&mut self, packet: &[u8], fault: &mut SinkError) -> Option<usize>
+    fn write_packet_narrow(&mut self, packet: &[u8], fault: &mut SinkError) -> Option<usize>
         ensures same_kind { telling_kind W.kind self.new ≡ telling_kind W.kind self.old }
         ensures writes { WritesPacket (telling_kind W.kind self.old)
             (telling_history W.history self.old) (telling_history W.history self.new)
@@ -69,7 +69,7 @@ impl<W: PacketWriter> PacketWriter for Telling<W> {
             packets_of self.old ≡ (W.history (writer_of self.old)).packets →
             packets_of self.new ≡ (W.history (writer_of self.new)).packets }
     {
-        let taken = self.inner.write_packet_noting(packet, fault);
+        let taken = self.inner.write_packet_narrow(packet, fault);
         if let Some(n) = taken {
             self.told.note(packet, n);
         }

@@ -40,7 +40,7 @@ impl<W: PacketWriter, A: Allocator> WholeLedger<W, A> {
     ghost use Rattle.cadence_ledger.specs.Telling.{telling_history, telling_kind};
     ghost use Rattle.cadence_ledger.specs.WholeLedgers.{TakesWhole, lines_of};
 
-    /// Writes a line, as `LineLedger::write`.
+    /// Writes a line and returns its length, or the error, as `LineLedger::write`.
     pub fn write(&mut self, line: &[u8]) -> Result<usize, SinkError>
         requires { TakesWhole W.kind self.old }
         ensures accepted { IfOk result (λ n. accepted_of (lines_of self.new)
@@ -50,16 +50,18 @@ impl<W: PacketWriter, A: Allocator> WholeLedger<W, A> {
         ensures writes { WritesLine (telling_kind W.kind) (telling_history W.history)
             (packer_of (lines_of self.old)) (packer_of (lines_of self.new)) line.now result }
     {
-        self.lines.write(line)
+        let mut fault = SinkError::NothingWritten;
+        self.lines.write(line, &mut fault).ok_or(fault)
     }
 
-    /// Writes what is held, as `LineLedger::flush`.
+    /// Writes what is held, or returns the error, as `LineLedger::flush`.
     pub fn flush(&mut self) -> Result<(), SinkError>
         requires { TakesWhole W.kind self.old }
         ensures same { accepted_of (lines_of self.new) ≡ accepted_of (lines_of self.old) }
         ensures flushes { FlushesHeld (telling_kind W.kind) (telling_history W.history)
             (packer_of (lines_of self.old)) (packer_of (lines_of self.new)) result }
     {
-        self.lines.flush()
+        let mut fault = SinkError::NothingWritten;
+        self.lines.flush(&mut fault).ok_or(fault)
     }
 }

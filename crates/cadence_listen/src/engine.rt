@@ -26,7 +26,7 @@ fn text_of<A: Allocator + Clone>(alloc: &A, metrics: &[OwnedMetric<A>]) -> Metri
 {
     let mut text = String::new(alloc.clone()?);
     for metric in metrics {
-        let line = metric.to_record()?.line(alloc.clone()?)?;
+        let line = metric.line()?;
         push_text(&mut text, "line", line.as_bytes())?;
     }
     Ok(text)

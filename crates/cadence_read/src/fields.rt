@@ -14,7 +14,7 @@ ghost use Rattle.cadence_read.specs.Reads.{ReadsOrFails};
 
 use crate::cuts::cut_piece;
 use crate::fault::ReadFault;
-use cadence_text::line::MetricType;
+use cadence_text::line::{MetricType, OwnedTag};
 use cadence_value::bytes::cut;
 use cadence_value::decimal::{Decimal, read_number, read_whole};
 use std::alloc::Allocator;
@@ -74,16 +74,7 @@ pub(crate) fn read_numbers<A: Allocator>(
 pub(crate) fn read_kind(text: &[u8]) -> Option<MetricType>
     ensures { Reads (λ _. ⊤) kind_text text.now result }
 {
-    match text {
-        b"c" => Some(MetricType::Counter),
-        b"ms" => Some(MetricType::Timer),
-        b"g" => Some(MetricType::Gauge),
-        b"m" => Some(MetricType::Meter),
-        b"h" => Some(MetricType::Histogram),
-        b"s" => Some(MetricType::Set),
-        b"d" => Some(MetricType::Distribution),
-        _ => None,
-    }
+    MetricType::from_text(text)
 }
 
 // The rate, where there is one.
@@ -102,10 +93,7 @@ pub(crate) fn read_rate(text: Option<&[u8]>) -> Result<Option<Decimal>, ReadFaul
 }
 
 // A tag: its text, or its key and its text.
-fn read_tag<A: Allocator + Clone>(
-    alloc: &A,
-    text: &[u8],
-) -> Result<(Option<String<A>>, String<A>), ReadFault>
+fn read_tag<A: Allocator + Clone>(alloc: &A, text: &[u8]) -> Result<OwnedTag<A>, ReadFault>
     ensures { ReadsOrFails IsListedTag tag_text text.now tag_of_owned result }
 {
     let Some((key, text)) = cut(text, b':') else {
@@ -122,7 +110,7 @@ fn read_tag<A: Allocator + Clone>(
 pub(crate) fn read_tags<A: Allocator + Clone>(
     alloc: &A,
     text: Option<&[u8]>,
-) -> Result<Vec<(Option<String<A>>, String<A>), A>, ReadFault>
+) -> Result<Vec<OwnedTag<A>, A>, ReadFault>
     ensures { ReadsOrFails (All IsListedTag) tags_text (option_copied text.entry)
         (λ v. map tag_of_owned v.items) result }
 {

@@ -5,7 +5,9 @@ use Rattle.std.specs.List.{filter_map, fold}
 use Rattle.cadence_text.specs.declared.line.MetricType.{MetricType}
 use Rattle.cadence_errors.specs.declared.MetricError.{MetricError}
 use Rattle.cadence_errors.specs.Errors.{IsInvalid, out_of_memory}
+use Rattle.cadence_text.specs.Draft.{Draft, draft_of}
 use Rattle.cadence_text.specs.Metric.{Metric, Tag}
+use Rattle.cadence_text.specs.Said.{IsSaid}
 use Rattle.cadence_value.specs.Number.{Number}
 use Rattle.cadence_schedule.specs.Settings.{Settings}
 
@@ -71,16 +73,16 @@ metric_of_call s c = record {
   time = last_or chosen_time None c.choices;
 }
 
--- the metric without its tags
-abbrev pub untagged : Metric → Metric
-untagged m = record m { tags = [] }
-
 -- the metric with what an option chooses
 abbrev pub chosen : Metric → Choice → Metric
 chosen m (tagged t) = record m { tags = m.tags ++ t ∷ [] }
 chosen m (contained c) = record m { container = Some c }
 chosen m (timed n) = record m { time = Some n }
 chosen m (rated r) = record m { rate = Some r }
+
+-- the draft of a metric that has its texts in UTF-8 and numbers that a `Decimal` holds
+abbrev pub IsDraftOf : Metric → Draft → Type 0
+IsDraftOf m draft = (draft ≡ draft_of m) × IsSaid m
 
 -- what the metric of a call answers: it, or want of memory; where the call's value has no numbers to give, that
 abbrev pub MakesMetric : Option Metric → Result Metric MetricError → Type 0

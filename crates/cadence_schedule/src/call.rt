@@ -2,11 +2,12 @@
 ghost use Rattle.std.specs.Prelude.{◌≡◌, OnOk, map};
 ghost use Rattle.std.specs.List.{fold};
 ghost use Rattle.cadence_value.specs.Values.{Converts};
-ghost use Rattle.cadence_schedule.specs.Call.{chosen};
+ghost use Rattle.cadence_text.specs.Metric.{Metric};
+ghost use Rattle.cadence_schedule.specs.Call.{IsDraftOf, chosen};
 ghost use Rattle.cadence_schedule.specs.Calls.{choice_of, kind_of_value, numbers_of_value};
 
 use cadence_errors::MetricResult;
-use cadence_text::line::{MetricType, Record, Tag};
+use cadence_text::line::{DraftLine, MetricType, Tag};
 use cadence_value::decimal::Decimal;
 use cadence_value::value::{MetricValue, ToHistogramValue, ToTimerValue};
 use std::alloc::{AllocError, Allocator, Global};
@@ -124,46 +125,40 @@ impl<A: Allocator + Clone> CallValue<A> {
     }
 }
 
-// Adds an option of a call to a record.
+// Sets an option of a call in the draft of its line.
 fn choose<'a, A: Allocator>(
-    metric: &mut Record<'a, A>,
+    draft: &mut DraftLine<'a, A>,
     option: &'a CallOption<A>,
 ) -> Result<(), AllocError>
-    ensures { OnOk result (metric.new ≡ chosen metric.old (choice_of option.now)) }
+    ensures { OnOk result ((m : Metric) → IsDraftOf m draft.old →
+        IsDraftOf (chosen m (choice_of option.now)) draft.new) }
 {
     match option {
-        CallOption::Tag(key, text) => metric.add_tag(Tag {
+        CallOption::Tag(key, text) => draft.add_tag(Tag {
             key: Some(key.as_str()),
             text: text.as_str(),
-        }),
-        CallOption::TagValue(text) => metric.add_tag(Tag {
+        })?,
+        CallOption::TagValue(text) => draft.add_tag(Tag {
             key: None,
             text: text.as_str(),
-        }),
-        CallOption::Container(text) => {
-            metric.set_container(text.as_str());
-            Ok(())
-        }
-        CallOption::Time(time) => {
-            metric.set_time(*time);
-            Ok(())
-        }
-        CallOption::Rate(rate) => {
-            metric.set_rate(*rate);
-            Ok(())
-        }
+        })?,
+        CallOption::Container(text) => draft.set_container(text.as_str()),
+        CallOption::Time(time) => draft.set_time(*time),
+        CallOption::Rate(rate) => draft.set_rate(*rate),
     }
+    Ok(())
 }
 
-// Adds the options of a call to a record, in their order.
+// Sets the options of a call in the draft of its line, in their order.
 pub(crate) fn choose_all<'a, A: Allocator>(
-    metric: &mut Record<'a, A>,
+    draft: &mut DraftLine<'a, A>,
     options: &'a [CallOption<A>],
 ) -> Result<(), AllocError>
-    ensures { OnOk result (metric.new ≡ fold chosen metric.old (map choice_of options.now)) }
+    ensures { OnOk result ((m : Metric) → IsDraftOf m draft.old →
+        IsDraftOf (fold chosen m (map choice_of options.now)) draft.new) }
 {
     for option in options {
-        choose(metric, option)?;
+        choose(draft, option)?;
     }
     Ok(())
 }

@@ -16,5 +16,5 @@ pub use laws::{an_option_is_chosen, packets_read_one_way, tight_is_fewest};
 pub use plan::{check_plan, plan_packets};
 pub use reports::Report;
 pub use run::{run_schedule, run_schedule_with};
-pub use settings::{ClientSettings, DefaultTags};
+pub use settings::ClientSettings;
 pub use steps::{Reply, Step};

@@ -74,7 +74,6 @@ fn start<P: PacketWriter, A: Allocator + Clone>(
 
 /// Makes the steps in order, and keeps their replies.
 fn run_steps<P: PacketWriter, A: Allocator + Clone>(
-    alloc: &A,
     settings: &ClientSettings<A>,
     steps: &[Step<A>],
     running: &mut Running<P, A>,
@@ -93,7 +92,7 @@ fn run_steps<P: PacketWriter, A: Allocator + Clone>(
     ensures same_format { running.new.packer.format ≡ running.old.packer.format }
 {
     for step in steps {
-        let reply = running.step(alloc, settings, step);
+        let reply = running.step(settings, step);
         let Ok(()) = replies.push(reply) else {
             unreachable!()
         };
@@ -144,7 +143,7 @@ pub fn run_schedule_with<W: PacketWriter, A: Allocator + Clone>(
         counting,
     ) {
         Ok((mut running, mut replies)) => {
-            run_steps(&alloc, settings, steps, &mut running, &mut replies);
+            run_steps(settings, steps, &mut running, &mut replies);
             Ok(Report::of(running, replies))
         }
         Err(counting) => Err(counting.into_inner()),

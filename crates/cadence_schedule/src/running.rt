@@ -1,13 +1,11 @@
 //! A run at one of its steps.
-ghost use Rattle.std.specs.Prelude.{◌≡◌, ◌+◌, ◌<◌, ◌≤◌, Some, IsTrue, IfOk, IfErr, IfSome, OnOk, vec_len, vec_capacity, string_bytes};
-ghost use Rattle.cadence_text.specs.Said.{IsSaid};
-ghost use Rattle.cadence_schedule.specs.Calls.{line_of_data, metric_of_data};
-ghost use Rattle.cadence_schedule.specs.Moves.{HasLast, Counted, LineFails};
+ghost use Rattle.std.specs.Prelude.{◌+◌, ◌<◌, ◌≤◌, IsTrue, vec_len, vec_capacity};
+ghost use Rattle.cadence_schedule.specs.Moves.{HasLast, Counted};
 
 use super::call::Call;
 use super::settings::ClientSettings;
 use super::steps::{Reply, Step};
-use cadence_errors::{MetricError, MetricResult, SinkError};
+use cadence_errors::{MetricError, SinkError};
 use cadence_flow::io::{LineBuffer, PacketWriter};
 use cadence_flow::queue::{QueueCore, Taken};
 use std::alloc::{Allocator, Global};
@@ -37,21 +35,6 @@ fn count_line<A: Allocator>(plan: &mut Vec<usize, A>, joins: bool)
     }
 }
 
-/// The line of a call.
-fn format_call<A: Allocator + Clone>(
-    alloc: &A,
-    settings: &ClientSettings<A>,
-    call: &Call<A>,
-) -> MetricResult<String<A>>
-    ensures line { IfOk result (λ line.
-        line_of_data settings.now call.now ≡ Some (string_bytes line)) }
-    ensures refused { IfErr result (LineFails (line_of_data settings.now call.now)) }
-    ensures said { OnOk result (IfSome (metric_of_data settings.now call.now) IsSaid) }
-{
-    let record = settings.record_of(call)?;
-    record.format(alloc.clone()?)
-}
-
 impl<P: PacketWriter, A: Allocator + Clone> Running<P, A> {
     ghost use Rattle.std.specs.Prelude.{◌≡◌, ◌<◌, All, vec_len, vec_capacity};
     ghost use Rattle.cadence_text.specs.Said.{IsSaid};
@@ -61,14 +44,14 @@ impl<P: PacketWriter, A: Allocator + Clone> Running<P, A> {
     ghost use Rattle.cadence_schedule.specs.Running.{MakesTurn};
     ghost use Rattle.cadence_schedule.specs.declared.steps.Step.TheVariants as step;
 
-    /// Formats a call and submits its line.
-    fn call(&mut self, alloc: &A, settings: &ClientSettings<A>, call: &Call<A>) -> Reply
+    /// Makes the line of a call and submits it.
+    fn call(&mut self, settings: &ClientSettings<A>, call: &Call<A>) -> Reply
         ensures turn { MakesTurn P.kind P.history (line_of_data settings.now)
             self.old (step.Call call.now, result) self.new }
         ensures said { All IsSaid (accepted_by (metric_of_data settings.now)
             (step.Call call.now, result)) }
     {
-        let line = match format_call(alloc, settings, call) {
+        let line = match settings.line_of(call) {
             Ok(line) => line,
             Err(error) => return Reply::Called(Err(error)),
         };
@@ -116,12 +99,13 @@ impl<P: PacketWriter, A: Allocator + Clone> Running<P, A> {
             return Reply::Nothing;
         };
         let joins = self.joins_held(line.as_str());
-        match self.packer.write(line.as_bytes()) {
-            Ok(count) => {
+        let mut fault = SinkError::NothingWritten;
+        match self.packer.write(line.as_bytes(), &mut fault) {
+            Some(count) => {
                 count_line(&mut self.plan, joins);
                 Reply::Handed(Ok(count))
             }
-            Err(error) => Reply::Handed(Err(error)),
+            None => Reply::Handed(Err(fault)),
         }
     }
 
@@ -130,7 +114,8 @@ impl<P: PacketWriter, A: Allocator + Clone> Running<P, A> {
         ensures { (line_of : _) →
             MakesTurn P.kind P.history line_of self.old (step.Flush, result) self.new }
     {
-        Reply::Flushed(self.packer.flush())
+        let mut fault = SinkError::NothingWritten;
+        Reply::Flushed(self.packer.flush(&mut fault).ok_or(fault))
     }
 
     /// Stops the queue.
@@ -143,14 +128,14 @@ impl<P: PacketWriter, A: Allocator + Clone> Running<P, A> {
     }
 
     /// Makes one step.
-    pub(crate) fn step(&mut self, alloc: &A, settings: &ClientSettings<A>, step: &Step<A>) -> Reply
+    pub(crate) fn step(&mut self, settings: &ClientSettings<A>, step: &Step<A>) -> Reply
         requires { vec_len self.old.plan < vec_capacity self.old.plan }
         ensures turn { MakesTurn P.kind P.history (line_of_data settings.now)
             self.old (step.now, result) self.new }
         ensures said { All IsSaid (accepted_by (metric_of_data settings.now) (step.now, result)) }
     {
         match step {
-            Step::Call(call) => self.call(alloc, settings, call),
+            Step::Call(call) => self.call(settings, call),
             Step::Take => self.take(),
             Step::Hand => self.hand(),
             Step::Flush => self.flush(),

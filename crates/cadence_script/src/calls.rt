@@ -89,15 +89,9 @@ fn form_of<A: Allocator>(alloc: A, word: &str) -> Result<Form<A>, LineError> {
 }
 
 fn kind_of(word: &str) -> Result<MetricType, LineError> {
-    match word {
-        "c" => Ok(MetricType::Counter),
-        "ms" => Ok(MetricType::Timer),
-        "g" => Ok(MetricType::Gauge),
-        "m" => Ok(MetricType::Meter),
-        "h" => Ok(MetricType::Histogram),
-        "s" => Ok(MetricType::Set),
-        "d" => Ok(MetricType::Distribution),
-        _ => Err(LineError::Unreadable),
+    match MetricType::from_text(word.as_bytes()) {
+        Some(kind) => Ok(kind),
+        None => Err(LineError::Unreadable),
     }
 }
 

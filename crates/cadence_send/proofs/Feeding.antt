@@ -1,16 +1,16 @@
 -- Input that comes piece by piece, and what a packer took of its texts.
-use Rattle.std.proofs.Common.{◌≡◌, ◌≢◌, ◌≤◌, ℕ, ◌++◌, List, [], ◌∷◌, length, take, refl, sym, ap, ap₂, ◌∙◌, subst, eqb, arith, true, false, if◌then◌else◌, Option, Some, None, Result, Ok}
+use Rattle.std.proofs.Common.{◌≡◌, ◌≢◌, ℕ, ◌++◌, List, [], ◌∷◌, length, take, refl, sym, ap, ap₂, ◌∙◌, subst, eqb, arith, true, false, if◌then◌else◌, Option, Some, None, Result, Ok}
 use Rattle.std.specs.Prelude.{All, IfSome, IfOk}
 use Rattle.std.specs.Io.KnownBytes.{Consumes}
-use Rattle.std.specs.List.{AllByRecursion, AllZip, concat}
-use Rattle.std.proofs.lemmas.Bool.{ltb-true, ne_eqb}
+use Rattle.std.specs.List.{AllByRecursion, AllZip}
+use Rattle.std.proofs.lemmas.Bool.{ne_eqb}
 use Rattle.std.proofs.lemmas.List.{append_assoc, append-nil, take_all}
 use Rattle.std.proofs.lemmas.List.Concat.{flat_map-append}
 use Rattle.std.proofs.lemmas.List.Elements.{All-append, All-nil, All-cons, recursion_from_All, filter_map-append}
 use Rattle.std.proofs.lemmas.List.Splits.{slice_split_none, slice_split_at}
 use Rattle.cadence_errors.specs.declared.SinkError.{SinkError}
-use Rattle.cadence_flow.specs.Frame.{Format, frame, frame_of, is_oversize, size_of, stream}
-use Rattle.cadence_flow.specs.Packer.{Fits, FlushesHeld, Packer, WritesLine, given_by, holding, whole_text}
+use Rattle.cadence_flow.specs.Frame.{Format, frame, frame_of, is_oversize, stream}
+use Rattle.cadence_flow.specs.Packer.{FlushesHeld, Packer, WritesLine, given_by, whole_text}
 use Rattle.cadence_flow.specs.Writer.{History, Kind}
 use Rattle.cadence_send.specs.Fed.{Feeds, IsOneText, ended}
 use Rattle.cadence_send.specs.Sent.{AreLinesOf, Gives, SendsTexts, TakesLines, TakesTexts, texts_of}

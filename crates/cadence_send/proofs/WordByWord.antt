@@ -1,10 +1,10 @@
 -- Words that are read one by one, and the word of a tag.
-use Rattle.std.proofs.Common.{◌≡◌, ◌≢◌, ℕ, zero, suc, ◌+◌, ◌<◌, ◌≤◌, ◌-◌, ◌⊎◌, Bor, drop, map, Result, Ok, Err, ◌++◌, List, [], ◌∷◌, length, take, get_or, refl, sym, ap, ◌∙◌, subst, arith, Option, Some, None, inl, inr, eqb, length-append}
+use Rattle.std.proofs.Common.{◌≡◌, ◌≢◌, ℕ, zero, suc, ◌+◌, ◌<◌, ◌≤◌, ◌-◌, ◌⊎◌, Bor, drop, map, Result, Ok, Err, ◌++◌, List, [], ◌∷◌, length, take, get_or, refl, sym, ap, ◌∙◌, subst, arith, Option, Some, None, inl, inr, eqb}
 use Rattle.std.specs.Prelude.{All, IfSome}
 use Rattle.std.specs.List.{AllZip, slice_split}
 use Rattle.std.specs.Str.{IsUtf8}
 use Rattle.std.proofs.lemmas.Bool.{ne_eqb}
-use Rattle.std.proofs.lemmas.List.{append_assoc, get_or-map, length-drop, length-map, take_all, take_more}
+use Rattle.std.proofs.lemmas.List.{append_assoc, append-nil, get_or-map, length-drop, length-map, take_all, take_more}
 use Rattle.std.proofs.lemmas.List.Elements.{recursion_from_All}
 use Rattle.std.proofs.lemmas.List.Splits.{slice_split_none}
 use Rattle.std.proofs.lemmas.Slice.Zip.{all_zipped_more, AllZip-long}
@@ -12,14 +12,15 @@ use Rattle.cadence_send.specs.Asked.{AddsTags, AreHead, IsNumberWord, IsTagWord,
 use Rattle.cadence_send.specs.Finds.{FailsAs, FindsOrFails}
 use Rattle.cadence_send.specs.declared.fault.Fault.{Fault}
 use Rattle.cadence_send.specs.declared.fault.Fault.TheVariants.{Unreadable, OutOfMemory}
-use Rattle.cadence_send.specs.Sent.{IsLineOfText, IsLineOfWords, finished}
+use Rattle.cadence_send.specs.Sent.{IsLineOfText, IsLineOfWords, asked_metric, finished}
+use Rattle.cadence_text.specs.Draft.{Draft, draft_of}
 use Rattle.cadence_text.specs.Line.{line_of}
 use Rattle.cadence_send.specs.declared.defaults.Defaults.{Defaults}
 use Rattle.cadence_schedule.specs.Call.{metric_of_call, plain_call}
 use Rattle.cadence_schedule.specs.Settings.{Settings}
 use Rattle.cadence_text.proofs.LineText.{key_text-keyed, keyed_text, plain_lacks_colon}
 use Rattle.cadence_text.specs.declared.line.MetricType.{MetricType}
-use Rattle.cadence_text.specs.Metric.{Metric, Tag}
+use Rattle.cadence_text.specs.Metric.{Metric, Tag, with_tag}
 use Rattle.cadence_text.specs.OneReading.{IsFreeText}
 use Rattle.cadence_value.proofs.Cut.{Lacks, cut_at, lacks_no}
 use Rattle.cadence_value.specs.Number.{Number}
@@ -120,14 +121,21 @@ tag_of_word (w ∷ front) rest word [] h = absurd h
 tag_of_word (w ∷ front) rest word (t ∷ tags) h = tag_of_word front rest word tags h.1
 
 -- where one of the words is no tag, they aren't
-pub tags_fail : (words : List (List ℕ)) (word : List ℕ) (old new : Metric) (r : Result (Unit {0}) Fault) (fault : Fault) → r ≡ Err fault → ((tags : List Tag) → AllZip IsTagWord words tags → (tag : Tag) × IsTagWord word tag) → FailsAs (IsTagWord word) fault → AddsTags words old new r
+pub tags_fail : (words : List (List ℕ)) (word : List ℕ) (old new : Draft) (r : Result (Unit {0}) Fault) (fault : Fault) → r ≡ Err fault → ((tags : List Tag) → AllZip IsTagWord words tags → (tag : Tag) × IsTagWord word tag) → FailsAs (IsTagWord word) fault → AddsTags words old new r
 tags_fail words word old new r (Unreadable part) is from none = rw is (λ tags h. let p = from tags h in none p.0 p.1)
 tags_fail words word old new r OutOfMemory is from none = rw is tt
 
--- a metric with some tags, and then with one more
-pub tagged_more : (old mid new : Metric) (tags : List Tag) (tag : Tag) → mid ≡ record old { tags = old.tags ++ tags } → new ≡ record mid { tags = mid.tags ++ tag ∷ [] } → new ≡ record old { tags = old.tags ++ (tags ++ tag ∷ []) }
-tagged_more old mid new tags tag was is =
-    is ∙ ap (λ (m : Metric). record m { tags = m.tags ++ tag ∷ [] }) was ∙ ap (λ ts. record old { tags = ts }) (append_assoc old.tags tags (tag ∷ []))
+-- the draft of a metric got these tags
+abbrev pub Tagged : Draft → Draft → List Tag → Type 0
+Tagged old new tags = (m : Metric) → old ≡ draft_of m → new ≡ draft_of (record m { tags = m.tags ++ tags })
+
+-- no tags, and then one more
+pub tagged_none : (draft : Draft) → Tagged draft draft []
+tagged_none draft m is = is ∙ ap (λ ts. draft_of (record m { tags = ts })) (sym (append-nil m.tags))
+
+pub tagged_more : (old mid new : Draft) (tags : List Tag) (tag : Tag) → Tagged old mid tags → ((m : Metric) → mid ≡ draft_of m → new ≡ draft_of (with_tag m tag)) → Tagged old new (tags ++ tag ∷ [])
+tagged_more old mid new tags tag was is m of =
+    is (record m { tags = m.tags ++ tags }) (was m of) ∙ ap (λ ts. draft_of (record m { tags = ts })) (append_assoc m.tags tags (tag ∷ []))
 
 module _ {Z : Type 0} (d : Defaults Z) (k n v : List ℕ) (others words : List (List ℕ)) (are : words ≡ k ∷ n ∷ v ∷ others) where
   asked : (line : List ℕ) → IsLineOfWords d words line → IsLineOfWords d (k ∷ n ∷ v ∷ others) line
@@ -143,24 +151,17 @@ module _ {Z : Type 0} (d : Defaults Z) (k n v : List ℕ) (others words : List (
   tags_asked line l = let h = asked line l in (h.0.tags, h.1.4)
 
   -- the line of the metric of these words
-  pub line_found : (kind : MetricType) (numbers : List Number) (old new : Metric) (line : List ℕ) → AreHead k n v kind numbers → old ≡ metric_of_call d.settings (plain_call kind n numbers) → AddsTags others old new (Ok tt) → line ≡ line_of (finished d new) → IsLineOfWords d words line
-  line_found kind numbers old new line head is (tags, each, added) e =
+  pub line_found : (kind : MetricType) (numbers : List Number) (old new : Draft) (line : List ℕ) → AreHead k n v kind numbers → old ≡ draft_of (finished d (metric_of_call d.settings (plain_call kind n numbers))) → AddsTags others old new (Ok tt) → ((m : Metric) → new ≡ draft_of m → line ≡ line_of m) → IsLineOfWords d words line
+  line_found kind numbers old new line head is (tags, each, added) from =
       subst (λ ws. IsLineOfWords d ws line) (sym are) (
         record { kind = kind; name = n; numbers = numbers; tags = tags },
         (head.named, refl, head.word, head.valued, each),
-        e ∙ ap (λ m. line_of (finished d m)) (added ∙ ap (λ (m : Metric). record m { tags = m.tags ++ tags }) is),
+        from (asked_metric d (record { kind = kind; name = n; numbers = numbers; tags = tags })) (added (finished d (metric_of_call d.settings (plain_call kind n numbers))) is),
       )
 
 -- fewer than three words ask for nothing
 pub no_word : {Z : Type 0} (d : Defaults Z) (words : List (List ℕ)) → words ≡ [] → (line : List ℕ) → IsLineOfWords d words line → ⊥
 no_word d words are line h = (subst (λ ws. IsLineOfWords d ws line) are h).1
-
--- the metric of a plain call has neither rate nor time, with tags too
-pub plain_start : (s : Settings) (kind : MetricType) (n : List ℕ) (numbers : List Number) (words : List (List ℕ)) (old new : Metric) → old ≡ metric_of_call s (plain_call kind n numbers) → AddsTags words old new (Ok tt) → (new.rate ≡ None) × (new.time ≡ None)
-plain_start s kind n numbers words old new is (tags, each, added) = (
-  ap (λ (m : Metric). m.rate) added ∙ ap (λ (m : Metric). m.rate) is ∙ plain_rate s kind n numbers,
-  ap (λ (m : Metric). m.time) added ∙ ap (λ (m : Metric). m.time) is ∙ plain_time s kind n numbers,
-)
 
 -- a text in UTF-8 whose words ask for a line, or for none
 pub text_read : {Z C : Type 0} (d : Defaults Z) (view : C → List ℕ) (text : List ℕ) (r : Result C Fault) → IsUtf8 text → FindsOrFails (IsLineOfWords d (words_of text)) view r → FindsOrFails (IsLineOfText d text) view r

@@ -5,8 +5,9 @@ use Rattle.std.specs.Int.RustNames.{FitsSigned}
 use Rattle.std.specs.List.{AllZip, filter, slice_split}
 use Rattle.cadence_text.specs.declared.line.MetricType.{MetricType}
 use Rattle.cadence_text.specs.declared.line.MetricType.TheVariants.{Counter, Timer, Gauge, Meter, Histogram, Set, Distribution}
+use Rattle.cadence_text.specs.Draft.{Draft, draft_of}
 use Rattle.cadence_text.specs.Line.{kind_text, tag_text}
-use Rattle.cadence_text.specs.Metric.{Metric, Tag}
+use Rattle.cadence_text.specs.Metric.{Metric, Tag, with_tag}
 use Rattle.cadence_text.specs.OneReading.{IsFreeTag, IsFreeText}
 use Rattle.cadence_send.specs.Finds.{FailsAs}
 use Rattle.cadence_send.specs.declared.fault.Fault.{Fault}
@@ -115,12 +116,13 @@ AskFor (kind ∷ name ∷ []) asked = ⊥
 AskFor (kind ∷ name ∷ value ∷ tags) asked =
     NamesKind kind asked.kind × (asked.name ≡ name) × IsWord name × IsValueWord asked.kind value asked.numbers × AllZip IsTagWord tags asked.tags
 
--- a metric gets the tag that a word is; or the word is none
-abbrev pub AddsTag : List ℕ → Metric → Metric → Result (Unit {0}) Fault → Type 0
-AddsTag word old new (Ok done) = (tag : Tag) × IsTagWord word tag × (new ≡ record old { tags = old.tags ++ tag ∷ [] })
+-- the draft of a metric gets the tag that a word is; or the word is none
+abbrev pub AddsTag : List ℕ → Draft → Draft → Result (Unit {0}) Fault → Type 0
+AddsTag word old new (Ok done) = (tag : Tag) × IsTagWord word tag × ((m : Metric) → old ≡ draft_of m → new ≡ draft_of (with_tag m tag))
 AddsTag word old new (Err fault) = FailsAs (IsTagWord word) fault
 
--- a metric gets the tags that these words are; or a word is none
-abbrev pub AddsTags : List (List ℕ) → Metric → Metric → Result (Unit {0}) Fault → Type 0
-AddsTags words old new (Ok done) = (tags : List Tag) × AllZip IsTagWord words tags × (new ≡ record old { tags = old.tags ++ tags })
+-- the draft of a metric gets the tags that these words are; or a word is none
+abbrev pub AddsTags : List (List ℕ) → Draft → Draft → Result (Unit {0}) Fault → Type 0
+AddsTags words old new (Ok done) =
+    (tags : List Tag) × AllZip IsTagWord words tags × ((m : Metric) → old ≡ draft_of m → new ≡ draft_of (record m { tags = m.tags ++ tags }))
 AddsTags words old new (Err fault) = FailsAs (AllZip IsTagWord words) fault

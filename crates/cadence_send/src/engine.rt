@@ -5,7 +5,7 @@ ghost use Rattle.cadence_send.specs.Sent.{TakesLines, TakesTexts, texts_of};
 
 use crate::defaults::Defaults;
 use crate::fault::{Fault, Part};
-use crate::line::line_of_text;
+use crate::line::write_line_of_text;
 use crate::pace::Pace;
 use cadence_errors::SinkError;
 use cadence_flow::io::{LineBuffer, PacketWriter};
@@ -94,23 +94,34 @@ fn take_line<T: PacketWriter, A: Allocator>(
     if lines.hold(line) {
         return Ok(());
     }
-    lines.write(line)?;
+    let mut fault = SinkError::NothingWritten;
+    lines.write(line, &mut fault).ok_or(fault)?;
     Ok(())
 }
 
-// Takes the line of a text, where it has one, and answers why it has none.
+// The memory that a run keeps from one text to the next.
+#[derive(Drop)]
+struct Kept<A: Allocator> {
+    // The front of the text whose end hasn't come.
+    waiting: Vec<u8, A>,
+    // Where each line is made.
+    line: Vec<u8, A>,
+}
+
+// Takes the line of a text if it has one, and else answers why it has none. The line is made in a kept buffer.
 fn take_text<T: PacketWriter, A: Allocator + Clone>(
     alloc: &A,
     defaults: &Defaults<A>,
     lines: &mut LineBuffer<T, A>,
+    buffer: &mut Vec<u8, A>,
     text: &[u8],
 ) -> Result<Option<Part>, Failure>
     ensures { OnOk result
         (TakesTexts defaults.now T.kind T.history lines.old lines.new (text.now ∷ [])) }
 {
-    match line_of_text(alloc, defaults, text) {
-        Ok(line) => {
-            take_line(lines, line.as_bytes())?;
+    match write_line_of_text(alloc, defaults, buffer, text) {
+        Ok(()) => {
+            take_line(lines, buffer)?;
             Ok(None)
         }
         Err(Fault::Unreadable(part)) => Ok(if is_blank(text) { None } else { Some(part) }),
@@ -123,19 +134,19 @@ fn take_ended<T: PacketWriter, A: Allocator + Clone>(
     alloc: &A,
     defaults: &Defaults<A>,
     lines: &mut LineBuffer<T, A>,
-    waiting: &mut Vec<u8, A>,
+    kept: &mut Kept<A>,
     end: &[u8],
 ) -> Result<Option<Part>, Failure>
     ensures taken { OnOk result (TakesTexts defaults.now T.kind T.history lines.old lines.new
-        ((waiting.old.items ++ end.now) ∷ [])) }
-    ensures none { OnOk result (waiting.new.items ≡ []) }
+        ((kept.old.waiting.items ++ end.now) ∷ [])) }
+    ensures none { OnOk result (kept.new.waiting.items ≡ []) }
 {
-    if waiting.is_empty() {
-        return take_text(alloc, defaults, lines, end);
+    if kept.waiting.is_empty() {
+        return take_text(alloc, defaults, lines, &mut kept.line, end);
     }
-    waiting.extend_from_slice(end)?;
-    let unread = take_text(alloc, defaults, lines, waiting)?;
-    waiting.clear();
+    kept.waiting.extend_from_slice(end)?;
+    let unread = take_text(alloc, defaults, lines, &mut kept.line, &kept.waiting)?;
+    kept.waiting.clear();
     Ok(unread)
 }
 
@@ -156,20 +167,20 @@ fn feed<T: PacketWriter, E: Write, A: Allocator + Clone>(
     lines: &mut LineBuffer<T, A>,
     errors: &mut E,
     counts: &mut Counts,
-    waiting: &mut Vec<u8, A>,
+    kept: &mut Kept<A>,
     bytes: &[u8],
 ) -> Result<(), Failure>
-    requires { IsOneText waiting.old.items }
+    requires { IsOneText kept.old.waiting.items }
     ensures { OnOk result (Feeds defaults.now T.kind T.history lines.old lines.new
-        waiting.old.items bytes.now waiting.new.items) }
+        kept.old.waiting.items bytes.now kept.new.waiting.items) }
 {
     let mut left = bytes;
     while let Some((front, others)) = cut_text(left) {
-        let unread = take_ended(alloc, defaults, lines, waiting, front)?;
+        let unread = take_ended(alloc, defaults, lines, kept, front)?;
         counts.note(unread, errors);
         left = others;
     }
-    waiting.extend_from_slice(left)?;
+    kept.waiting.extend_from_slice(left)?;
     Ok(())
 }
 
@@ -183,7 +194,8 @@ fn keep_pace<T: PacketWriter, P: Pace, A: Allocator>(
     if !pace.is_due() {
         return Ok(());
     }
-    lines.flush()?;
+    let mut fault = SinkError::NothingWritten;
+    lines.flush(&mut fault).ok_or(fault)?;
     Ok(())
 }
 
@@ -215,13 +227,17 @@ where
         texts: 0,
         unread: 0,
     };
-    let mut waiting = Vec::new(alloc.clone()?);
+    let mut kept = Kept {
+        waiting: Vec::new(alloc.clone()?),
+        line: Vec::new(alloc.clone()?),
+    };
     let mut buffer = [0u8; CHUNK];
     for _ in 0..u64::MAX {
         match input.read(&mut buffer) {
             Ok(0) => {
-                let unread = take_text(alloc, defaults, lines, &waiting)?;
-                if !waiting.is_empty() {
+                let is_text = !kept.waiting.is_empty();
+                let unread = take_ended(alloc, defaults, lines, &mut kept, b"")?;
+                if is_text {
                     counts.note(unread, errors);
                 }
                 return Ok(counts);
@@ -232,7 +248,7 @@ where
                 lines,
                 errors,
                 &mut counts,
-                &mut waiting,
+                &mut kept,
                 &buffer[..count],
             )?,
             Err(_) => return Err(Failure::Input),

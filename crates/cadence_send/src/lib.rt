@@ -17,7 +17,7 @@ mod words;
 pub use defaults::Defaults;
 pub use engine::{Counts, Failure, take_input};
 pub use fault::{Fault, Part};
-pub use line::{line_of_text, line_of_words};
+pub use line::{write_line_of_text, write_line_of_words};
 pub use options::{OptionFault, Options, Request, read_options, read_port};
 pub use pace::{Every, Pace, Unhurried};
 pub use packets::{Datagrams, Printed};

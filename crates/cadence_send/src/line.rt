@@ -1,20 +1,23 @@
 //! The line of a metric, made of the words that ask for it.
-ghost use Rattle.std.specs.Prelude.{◌≡◌, ◌∷◌, List, IfOk, None, map, string_bytes};
-ghost use Rattle.cadence_text.specs.Line.{line_of};
+ghost use Rattle.std.specs.Prelude.{◌≡◌, ◌∷◌, List, IfOk, None, map};
+ghost use Rattle.cadence_schedule.specs.Call.{metric_of_call, plain_call};
 ghost use Rattle.cadence_send.specs.Asked.{AddsTag, AddsTags, AreHead, head_of, words_of};
 ghost use Rattle.cadence_send.specs.Finds.{FindsOrFails};
 ghost use Rattle.cadence_send.specs.Sent.{IsLineOfText, IsLineOfWords, finished};
 ghost use Rattle.cadence_send.specs.TagWords.{words_in};
+ghost use Rattle.cadence_text.specs.Draft.{draft_of};
 ghost use Rattle.cadence_value.specs.Number.{Number};
+ghost use Rattle.cadence_value.specs.Values.{numbers_of};
 
 use crate::defaults::Defaults;
 use crate::fault::{Fault, Part};
 use crate::value::read_value;
-use crate::words::{cut_word, is_word, read_kind, read_tag};
-use cadence_text::line::{MetricType, Record};
+use crate::words::{cut_word, is_word, read_kind, read_tag, text_of};
+use cadence_text::line::{DraftLine, MetricType};
 use cadence_value::decimal::Decimal;
 use cadence_value::value::MetricValue;
 use std::alloc::{AllocError, Allocator};
+use std::mem;
 
 // The kind and the value of three words: the second is a name.
 fn read_head<A: Allocator + Clone>(
@@ -37,33 +40,33 @@ fn read_head<A: Allocator + Clone>(
 }
 
 // Adds the tag that a word is.
-fn add_tag<'a, A: Allocator>(metric: &mut Record<'a, A>, word: &'a str) -> Result<(), Fault>
-    ensures { AddsTag word.now metric.old metric.new result }
+fn add_tag<A: Allocator>(draft: &mut DraftLine<'_, A>, word: &str) -> Result<(), Fault>
+    ensures { AddsTag word.now draft.old draft.new result }
 {
     let Some(tag) = read_tag(word) else {
         return Err(Fault::Unreadable(Part::Tag));
     };
-    metric.add_tag(tag)?;
+    draft.add_tag(tag)?;
     Ok(())
 }
 
 // Adds the tags that the words are.
-fn add_tags<'a, A: Allocator>(metric: &mut Record<'a, A>, words: &[&'a str]) -> Result<(), Fault>
-    ensures { AddsTags (map (λ w. w.now) words.now) metric.old metric.new result }
+fn add_tags<A: Allocator>(draft: &mut DraftLine<'_, A>, words: &[&str]) -> Result<(), Fault>
+    ensures { AddsTags (map (λ w. w.now) words.now) draft.old draft.new result }
 {
     for word in words {
-        add_tag(metric, word)?;
+        add_tag(draft, word)?;
     }
     Ok(())
 }
 
-// The same of the words of a text.
-fn add_all<'a, A: Allocator>(metric: &mut Record<'a, A>, text: &'a str) -> Result<(), Fault>
-    ensures { AddsTags (words_of text.now) metric.old metric.new result }
+// Adds the tags that the words of a text are.
+fn add_all<A: Allocator>(draft: &mut DraftLine<'_, A>, text: &str) -> Result<(), Fault>
+    ensures { AddsTags (words_of text.now) draft.old draft.new result }
 {
     let mut left = text;
     while let Some((word, others)) = cut_word(left) {
-        add_tag(metric, word)?;
+        add_tag(draft, word)?;
         left = others;
     }
     Ok(())
@@ -78,96 +81,115 @@ enum Tags<'a> {
     Text(&'a str),
 }
 
-impl<'a> Tags<'a> {
+impl Tags<'_> {
     // Adds the tags.
     #[inline(always)]
-    fn add_to<A: Allocator>(self, metric: &mut Record<'a, A>) -> Result<(), Fault>
-        ensures { AddsTags (words_in self.entry) metric.old metric.new result }
+    fn add_to<A: Allocator>(self, draft: &mut DraftLine<'_, A>) -> Result<(), Fault>
+        ensures { AddsTags (words_in self.entry) draft.old draft.new result }
     {
         match self {
-            Tags::Words(words) => add_tags(metric, words),
-            Tags::Text(text) => add_all(metric, text),
+            Tags::Words(words) => add_tags(draft, words),
+            Tags::Text(text) => add_all(draft, text),
         }
     }
 }
 
-// Adds the rate and the time, where they are given, to a metric that has none.
-fn add_rate_and_time<A: Allocator>(
-    metric: &mut Record<'_, A>,
+// Sets the rate and the time that are given, in a draft that has neither.
+#[inline(always)]
+fn set_rate_and_time<A: Allocator>(
+    draft: &mut DraftLine<'_, A>,
     rate: Option<Decimal>,
     time: Option<u64>,
 )
-    requires { (metric.old.rate ≡ None) × (metric.old.time ≡ None) }
-    ensures { metric.new ≡ record metric.old { rate = rate; time = time } }
+    requires { (draft.old.rate ≡ None) × (draft.old.time ≡ None) }
+    ensures { draft.new ≡ record draft.old { rate = rate; time = time } }
 {
     if let Some(rate) = rate {
-        metric.set_rate(rate);
+        draft.set_rate(rate);
     }
     if let Some(time) = time {
-        metric.set_time(time);
+        draft.set_time(time);
     }
 }
 
-// The line of a metric that has neither rate nor time, with those of the command line.
-fn finish<A: Allocator + Clone>(
-    alloc: &A,
-    defaults: &Defaults<A>,
-    metric: &mut Record<'_, A>,
-) -> Result<String<A>, AllocError>
-    requires { (metric.old.rate ≡ None) × (metric.old.time ≡ None) }
-    ensures { IfOk result (λ line.
-        string_bytes line ≡ line_of (finished defaults.now metric.old)) }
+// The draft of a metric without tags of its own, with all that the command line adds. It stands in a kept buffer.
+#[inline(always)]
+fn draft_in_buffer<'a, A: Allocator + Clone>(
+    defaults: &'a Defaults<A>,
+    buffer: Vec<u8, A>,
+    name: &str,
+    kind: MetricType,
+    value: MetricValue<A>,
+) -> Result<DraftLine<'a, A>, AllocError>
+    ensures { IfOk result (λ draft. draft ≡ draft_of (finished defaults.now
+        (metric_of_call defaults.now.settings (plain_call kind name.now (numbers_of value))))) }
 {
-    add_rate_and_time(metric, defaults.rate, defaults.time);
-    metric.line(alloc.clone()?)
+    let mut draft = defaults
+        .settings
+        .draft_in_buffer(buffer, name, kind, value)?;
+    set_rate_and_time(&mut draft, defaults.rate, defaults.time);
+    Ok(draft)
 }
 
-// The line of the metric that a kind, a name, a value and tags ask for.
-fn line_of_parts<A: Allocator + Clone>(
+// Writes the line of the metric that a kind, a name, a value and tags ask for into a kept buffer.
+fn write_line<A: Allocator + Clone>(
     alloc: &A,
     defaults: &Defaults<A>,
+    buffer: &mut Vec<u8, A>,
     kind: &str,
     name: &str,
     value: &str,
     tags: Tags<'_>,
-) -> Result<String<A>, Fault>
+) -> Result<(), Fault>
     ensures { FindsOrFails (IsLineOfWords defaults.now
-        (kind.now ∷ name.now ∷ value.now ∷ words_in tags.entry)) string_bytes result }
+        (kind.now ∷ name.now ∷ value.now ∷ words_in tags.entry)) (λ _. buffer.new.items) result }
 {
     let (kind, value) = read_head(alloc, kind, name, value)?;
-    let Ok(mut metric) = defaults.settings.record(name, kind, value) else {
-        return Err(Fault::OutOfMemory);
-    };
-    tags.add_to(&mut metric)?;
-    let line = finish(alloc, defaults, &mut metric)?;
-    Ok(line)
+    let kept = mem::replace(buffer, Vec::new(alloc.clone()?));
+    let mut draft = draft_in_buffer(defaults, kept, name, kind, value)?;
+    tags.add_to(&mut draft)?;
+    *buffer = draft.into_bytes()?;
+    Ok(())
 }
 
-/// The line of the metric that the words ask for, with what the command line adds: KIND NAME VALUE and any tags.
+/// Writes the line of the metric that the words ask for, with what the command line adds, into a kept buffer, which
+/// loses its text: KIND NAME VALUE and any tags. The buffer is given back to its allocator, and an empty one takes its
+/// place, if a tag can't be read or memory is refused.
 ///
 /// # Errors
-/// `Unreadable` where the words ask for nothing, and `OutOfMemory`.
-pub fn line_of_words<A: Allocator + Clone>(
+/// `Unreadable` if the words ask for nothing, and `OutOfMemory`.
+pub fn write_line_of_words<A: Allocator + Clone>(
     alloc: &A,
     defaults: &Defaults<A>,
+    buffer: &mut Vec<u8, A>,
     words: &[&str],
-) -> Result<String<A>, Fault>
+) -> Result<(), Fault>
     ensures { FindsOrFails (IsLineOfWords defaults.now (map (λ w. w.now) words.now))
-        string_bytes result }
+        (λ _. buffer.new.items) result }
 {
     let [kind, name, value, tags @ ..] = words else {
         return Err(Fault::Unreadable(Part::Words));
     };
-    line_of_parts(alloc, defaults, kind, name, value, Tags::Words(tags))
+    write_line(
+        alloc,
+        defaults,
+        buffer,
+        kind,
+        name,
+        value,
+        Tags::Words(tags),
+    )
 }
 
-// The line of the metric that the words of a text ask for.
-fn line_of_str<A: Allocator + Clone>(
+// Writes the line of the metric that the words of a text ask for into a kept buffer.
+fn write_line_of_str<A: Allocator + Clone>(
     alloc: &A,
     defaults: &Defaults<A>,
+    buffer: &mut Vec<u8, A>,
     text: &str,
-) -> Result<String<A>, Fault>
-    ensures { FindsOrFails (IsLineOfWords defaults.now (words_of text.now)) string_bytes result }
+) -> Result<(), Fault>
+    ensures { FindsOrFails (IsLineOfWords defaults.now (words_of text.now))
+        (λ _. buffer.new.items) result }
 {
     let Some((kind, after_kind)) = cut_word(text) else {
         return Err(Fault::Unreadable(Part::Words));
@@ -178,22 +200,24 @@ fn line_of_str<A: Allocator + Clone>(
     let Some((value, tags)) = cut_word(after_name) else {
         return Err(Fault::Unreadable(Part::Words));
     };
-    line_of_parts(alloc, defaults, kind, name, value, Tags::Text(tags))
+    write_line(alloc, defaults, buffer, kind, name, value, Tags::Text(tags))
 }
 
-/// The line of the metric that a text asks for: its words stand between spaces.
+/// Writes the line of the metric that a text asks for into a kept buffer, as `write_line_of_words`: the words stand
+/// between spaces.
 ///
 /// # Errors
-/// `Unreadable` where it asks for nothing, and `OutOfMemory`.
-pub fn line_of_text<A: Allocator + Clone>(
+/// `Unreadable` if the text asks for nothing, and `OutOfMemory`.
+pub fn write_line_of_text<A: Allocator + Clone>(
     alloc: &A,
     defaults: &Defaults<A>,
+    buffer: &mut Vec<u8, A>,
     text: &[u8],
-) -> Result<String<A>, Fault>
-    ensures { FindsOrFails (IsLineOfText defaults.now text.now) string_bytes result }
+) -> Result<(), Fault>
+    ensures { FindsOrFails (IsLineOfText defaults.now text.now) (λ _. buffer.new.items) result }
 {
-    let Ok(text) = str::from_utf8(text) else {
+    let Some(text) = text_of(text) else {
         return Err(Fault::Unreadable(Part::Text));
     };
-    line_of_str(alloc, defaults, text)
+    write_line_of_str(alloc, defaults, buffer, text)
 }

@@ -8,6 +8,7 @@ use crate::defaults::Defaults;
 use crate::words::{is_word, read_tag};
 use cadence_errors::MetricError;
 use cadence_schedule::ClientSettings;
+use cadence_text::line::Tag;
 use cadence_value::decimal::Decimal;
 use std::alloc::{AllocError, AllocFailed, Allocator};
 use std::fmt;
@@ -33,8 +34,8 @@ pub struct Options<'a, A: Allocator> {
     pub to: Option<&'a str>,
     /// The prefix of each name.
     pub prefix: &'a str,
-    /// The words of the default tags, in order.
-    pub tags: Vec<&'a str, A>,
+    /// The default tags, in order.
+    pub tags: Vec<Tag<'a>, A>,
     /// The container.
     pub container: Option<&'a str>,
     /// The time, in seconds since 1970.
@@ -190,7 +191,7 @@ impl<'a, A: Allocator> Options<'a, A> {
             "--to" => self.to = Some(target(option, value)?),
             "--prefix" => self.prefix = word(option, value)?,
             "--tag" => match read_tag(value) {
-                Some(_) => self.tags.push(value)?,
+                Some(tag) => self.tags.push(tag)?,
                 None => return Err(OptionFault::Value(option, value)),
             },
             "--container" => self.container = Some(word(option, value)?),
@@ -208,11 +209,8 @@ impl<'a, A: Allocator + Clone> Options<'a, A> {
     /// What the options add to each metric. It is refused for want of memory alone.
     pub fn defaults(&self, alloc: A) -> Result<Defaults<A>, MetricError> {
         let mut settings = ClientSettings::new(alloc, self.prefix)?;
-        for word in &self.tags {
-            match read_tag(word) {
-                Some(tag) => settings.add_tag(tag.key, tag.text)?,
-                None => settings.add_tag(None, word)?,
-            }
+        for tag in &self.tags {
+            settings.add_tag(tag.key, tag.text)?;
         }
         if let Some(container) = self.container {
             settings.set_container(container)?;

@@ -1,5 +1,6 @@
 //! What packets are written to.
 ghost use Rattle.std.specs.Prelude.{◌≡◌, ◌≤◌, [], true, length, MatchResult};
+ghost use Rattle.cadence_flow.specs.Writer.{history_of};
 ghost use Rattle.cadence_send.specs.Writers.{is_of_packets, packets_kind};
 
 use crate::engine::cut_text;
@@ -30,11 +31,7 @@ impl Datagrams {
 }
 
 impl PacketWriter for Datagrams {
-    ghost history = { λ w. record {
-      packets = [];
-      refusals = w.refusals.count;
-      refused_bytes = w.refusals.bytes;
-    } };
+    ghost history = { λ w. history_of [] w.refusals };
 
     ghost kind = { λ _. packets_kind };
 
@@ -130,11 +127,7 @@ fn print_packet<O: Write, A: Allocator>(
 }
 
 impl<O: Write + Drop, A: Allocator> PacketWriter for Printed<O, A> {
-    ghost history = { λ w. record {
-      packets = [];
-      refusals = w.refusals.count;
-      refused_bytes = w.refusals.bytes;
-    } };
+    ghost history = { λ w. history_of [] w.refusals };
 
     ghost kind = { λ _. packets_kind };
 

@@ -5,8 +5,9 @@ ghost use Rattle.cadence_send.specs.Sent.{SendsTexts, SendsWords, TakesLines, te
 use crate::defaults::Defaults;
 use crate::engine::{Counts, Failure, take_input};
 use crate::fault::{Fault, Part};
-use crate::line::line_of_words;
+use crate::line::write_line_of_words;
 use crate::pace::Pace;
+use cadence_errors::SinkError;
 use cadence_flow::io::{LineBuffer, PacketWriter};
 use std::alloc::Allocator;
 use std::io::{Read, Write};
@@ -16,7 +17,8 @@ fn flush_all<T: PacketWriter, A: Allocator>(lines: &mut LineBuffer<T, A>) -> Res
     ensures same { OnOk result (TakesLines T.kind T.history lines.old lines.new []) }
     ensures empty { OnOk result (lines.new.held ≡ []) }
 {
-    lines.flush()?;
+    let mut fault = SinkError::NothingWritten;
+    lines.flush(&mut fault).ok_or(fault)?;
     Ok(())
 }
 
@@ -63,9 +65,11 @@ pub fn send_words<T: PacketWriter, A: Allocator + Clone>(
     ensures { IfOk result (SendsWords defaults.now T.kind T.history lines.old lines.new
         (map (λ w. w.now) words.now)) }
 {
-    match line_of_words(alloc, defaults, words) {
-        Ok(line) => {
-            lines.write(line.as_bytes())?;
+    let mut line = Vec::new(alloc.clone()?);
+    match write_line_of_words(alloc, defaults, &mut line, words) {
+        Ok(()) => {
+            let mut fault = SinkError::NothingWritten;
+            lines.write(&line, &mut fault).ok_or(fault)?;
             flush_all(lines)?;
             Ok(None)
         }

@@ -5,7 +5,6 @@ ghost use Rattle.cadence_errors.specs.Errors.{OnlyWantsMemory};
 ghost use Rattle.cadence_errors.specs.declared.SinkError.{SinkError};
 ghost use Rattle.cadence_sinks.specs.Sockets.{IsBufferedAnswer, IsBufferedFlush, IsSocketAnswer};
 
-use super::buffered::{hold_line, write_line};
 use cadence_errors::{MetricResult, SinkError};
 use cadence_flow::io::{PacketWriter, Refusals};
 use cadence_flow::stats::{SinkStats, SocketStats};
@@ -18,8 +17,8 @@ pub trait Datagrams: Drop {
     /// The errors that it may give.
     ghost may_give: { SinkError → Bool };
 
-    /// Sends a packet, and answers how many of its first bytes were taken. An error is left in `fault`, and then there
-    /// is no count: each function that passes on an answer as wide as an `io::Error` would copy it.
+    /// Sends a packet, and returns how many of its first bytes were taken. After an error the result is `None` and
+    /// `fault` has the error, as with `PacketWriter::write_packet_narrow`.
     fn send(&self, packet: &[u8], fault: &mut SinkError) -> Option<usize>
         ensures { IsSocketAnswer may_give packet.now (ok_or result fault.new) };
 }
@@ -42,16 +41,8 @@ impl<D: Datagrams, R: Wait + Drop, A: Allocator> CountedSocket<D, R, A> {
     }
 
     /// Sends a packet and counts the answer.
-    pub fn send(&self, packet: &[u8]) -> Result<usize, SinkError>
-        ensures { IsSocketAnswer D.may_give packet.now result }
-    {
-        let mut fault = SinkError::NothingWritten;
-        self.send_noting(packet, &mut fault).ok_or(fault)
-    }
-
-    // As `send`, with an error left in `fault`.
     #[inline(always)]
-    fn send_noting(&self, packet: &[u8], fault: &mut SinkError) -> Option<usize>
+    pub fn send(&self, packet: &[u8], fault: &mut SinkError) -> Option<usize>
         ensures { IsSocketAnswer D.may_give packet.now (ok_or result fault.new) }
     {
         let taken = self.socket.send(packet, fault);
@@ -83,12 +74,12 @@ impl<D: Datagrams, R: Wait + Drop, A: Allocator> PacketWriter for SocketWriter<D
 
     fn write_packet(&mut self, packet: &[u8]) -> Result<usize, SinkError> {
         let mut fault = SinkError::NothingWritten;
-        self.write_packet_noting(packet, &mut fault).ok_or(fault)
+        self.write_packet_narrow(packet, &mut fault).ok_or(fault)
     }
 
     #[inline(always)]
-    fn write_packet_noting(&mut self, packet: &[u8], fault: &mut SinkError) -> Option<usize> {
-        let taken = self.socket.send_noting(packet, fault);
+    fn write_packet_narrow(&mut self, packet: &[u8], fault: &mut SinkError) -> Option<usize> {
+        let taken = self.socket.send(packet, fault);
         if taken.is_none() {
             self.refusals.add(packet.len());
         }
@@ -132,24 +123,34 @@ impl<D: Datagrams, R: Wait + Clone + Drop, A: Allocator + Clone> PackedSocket<D,
 impl<D: Datagrams, R: Wait + Drop, A: Allocator> PackedSocket<D, R, A> {
     ghost use Rattle.cadence_sinks.specs.Buffers.{buffer_of};
 
-    /// Holds the line of a metric where it fits the free room, and is answered by its length then. Else nothing has
-    /// changed, and the lock is given for `write_out`.
+    /// Takes the line of a metric, under the lock. There are three cases:
+    ///
+    /// 1. The line and its newline fit the free room of the buffer. They are held, and nothing is sent.
+    /// 2. They don't, but an empty buffer has room for them. What is held is sent, and then they are held.
+    /// 3. An empty buffer has no room for them. What is held is sent, and then the line alone, without the newline.
+    ///
+    /// It returns the line's length, or in the third case how many bytes of the line the socket took. After an error it
+    /// returns `None`, and nothing of the line is kept. The error in `fault` is then the socket's, or `NothingWritten` if
+    /// the socket took 0 bytes of held text.
+    // It is forced inline, because most lines are the first case, and a call would take some 23 instructions more. A wide
+    // result would take 17 more, though it is inline: the sink's own `emit` copies it.
     #[inline(always)]
-    pub fn hold(&self, metric: &str) -> Option<SocketLines<'_, D, R, A>> {
+    pub fn emit(&self, metric: &str, fault: &mut SinkError) -> Option<usize>
+        ensures { IsBufferedAnswer D.may_give (buffer_of self.now)
+            metric.now (ok_or result fault.new) }
+    {
         let mut lines = acquire(&self.writer, &self.rt);
-        if hold_line(&mut lines, metric) {
-            return None;
+        if lines.hold(metric.as_bytes()) {
+            return Some(metric.len());
         }
-        Some(lines)
+        self.write_out(lines, metric, fault)
     }
 
-    /// Sends the held lines, and holds the line of a metric or sends it alone; then it lets the lock go. A line that an
-    /// empty buffer has room for is held after a flush, as `write` would do it, but with no wide answer to copy. It
-    /// answers the line's length, or of a line that went out alone how many bytes the socket took. An error is the
-    /// socket's, or `NothingWritten` where it took 0 bytes of held text; it is left in `fault`, and nothing of the line
-    /// is kept then.
+    // The second and the third case of `emit`, after which the lock is free. It is never inline, so that the first case
+    // is short. In the second case `write` alone would do the same in some 20 instructions more, because it asks for
+    // free room first.
     #[inline(never)]
-    pub fn write_out(
+    fn write_out(
         &self,
         mut lines: SocketLines<'_, D, R, A>,
         metric: &str,
@@ -159,12 +160,12 @@ impl<D: Datagrams, R: Wait + Drop, A: Allocator> PackedSocket<D, R, A> {
             metric.now (ok_or result fault.new) }
     {
         if metric.len() < self.capacity {
-            lines.flush_noting(fault)?;
-            if hold_line(&mut lines, metric) {
+            lines.flush(fault)?;
+            if lines.hold(metric.as_bytes()) {
                 return Some(metric.len());
             }
         }
-        let n = write_line(&mut lines, metric, fault)?;
+        let n = lines.write(metric.as_bytes(), fault)?;
         // a line for which the capacity has room is never cut, but no clause of a lock tells its packer's capacity
         Some(if metric.len() < self.capacity {
             metric.len()
@@ -173,11 +174,12 @@ impl<D: Datagrams, R: Wait + Drop, A: Allocator> PackedSocket<D, R, A> {
         })
     }
 
-    /// Sends what is held. The errors are those of `write_out`; what the socket didn't take stays held.
+    /// Sends what is held. The errors are those of `emit`; what the socket didn't take stays held.
     pub fn flush(&self) -> Result<(), SinkError>
         ensures { IsBufferedFlush D.may_give result }
     {
-        self.writer.lock(&self.rt).flush()
+        let mut fault = SinkError::NothingWritten;
+        self.writer.lock(&self.rt).flush(&mut fault).ok_or(fault)
     }
 
     /// The counts of this moment.
@@ -186,8 +188,8 @@ impl<D: Datagrams, R: Wait + Drop, A: Allocator> PackedSocket<D, R, A> {
     }
 }
 
-/// The lock of a packed socket.
-pub type SocketLines<'a, D, R, A> = MutexGuard<'a, LineLedger<SocketWriter<D, R, A>, A>>;
+// The lock of a packed socket, once it is taken.
+type SocketLines<'a, D, R, A> = MutexGuard<'a, LineLedger<SocketWriter<D, R, A>, A>>;
 
 impl<D: Datagrams, R: Wait + Drop, A: Allocator> Drop for PackedSocket<D, R, A> {
     fn drop(self) {
@@ -198,6 +200,7 @@ impl<D: Datagrams, R: Wait + Drop, A: Allocator> Drop for PackedSocket<D, R, A> 
             capacity: _,
         } = self;
         let mut lines = writer.into_inner();
-        let _ = lines.flush();
+        let mut fault = SinkError::NothingWritten;
+        let _ = lines.flush(&mut fault);
     }
 }

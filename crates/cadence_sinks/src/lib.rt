@@ -1,7 +1,6 @@
 //! The sinks that a Statsd client sends its lines to.
 #![tactic(auto)]
 
-mod buffered;
 mod datagram;
 mod metric_sink;
 mod queuing;

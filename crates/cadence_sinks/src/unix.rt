@@ -78,7 +78,8 @@ impl<P: PathSocket, R: Wait + Drop, A: Allocator> MetricSink for UnixMetricSink<
     ghost may_answer = { λ _ metric answer. IsSocketAnswer P.may_give metric answer };
 
     fn emit(&self, metric: &str) -> Result<usize, SinkError> {
-        self.socket.send(metric.as_bytes())
+        let mut fault = SinkError::NothingWritten;
+        self.socket.send(metric.as_bytes(), &mut fault).ok_or(fault)
     }
 
     fn stats(&self) -> SinkStats {
@@ -138,15 +139,8 @@ impl<P: PathSocket, R: Wait + Drop, A: Allocator> MetricSink for BufferedUnixMet
     ghost may_flush = { λ _ answer. IsBufferedFlush P.may_give answer };
 
     fn emit(&self, metric: &str) -> Result<usize, SinkError> {
-        match self.socket.hold(metric) {
-            None => Ok(metric.len()),
-            Some(lines) => {
-                let mut fault = SinkError::NothingWritten;
-                self.socket
-                    .write_out(lines, metric, &mut fault)
-                    .ok_or(fault)
-            }
-        }
+        let mut fault = SinkError::NothingWritten;
+        self.socket.emit(metric, &mut fault).ok_or(fault)
     }
 
     fn flush(&self) -> Result<(), SinkError> {

@@ -1,19 +1,20 @@
 -- Drafts: their line, one more tag, and where the head ends.
-use Rattle.std.proofs.Common.{◌≡◌, ℕ, ◌<◌, ◌≤◌, Bool, true, false, Option, Some, None, List, [], ◌∷◌, ◌++◌, length, take, drop, ap, ap₂, ◌∙◌, sym, subst, refl, append_assoc, arith, length-append, lit<}
-use Rattle.std.proofs.lemmas.List.{take_all, take-append-drop, take-append-le, drop-append-le}
-use Rattle.std.proofs.lemmas.Str.{IsUtf8-append, IsUtf8-from_ascii, IsUtf8-had}
+use Rattle.std.proofs.Common.{◌≡◌, ℕ, ◌-◌, ◌<◌, ◌≤◌, Bool, true, false, Option, Some, None, List, [], ◌∷◌, ◌++◌, length, take, drop, ap, ap₂, ◌∙◌, sym, subst, refl, append_assoc, arith, length-append, lit<}
+use Rattle.std.proofs.lemmas.Grind.{flat_map-append}
+use Rattle.std.proofs.lemmas.List.{append-nil, length-drop, take-append-drop, take-append-le, drop-append-le}
+use Rattle.std.proofs.lemmas.Str.{IsCharBoundary-from_take, IsUtf8-append, IsUtf8-drop, IsUtf8-from_ascii, IsUtf8-had}
 use Rattle.std.proofs.lemmas.Str.Ascii.{IsAscii-cons, IsAscii-nil}
-use Rattle.std.proofs.Math.ListN.{drop_of_length-le}
 use Rattle.std.proofs.Math.Logic.{∥∥₁_map}
 use Rattle.std.proofs.Math.Seq.{take-append_seam, drop-append_seam}
+use Rattle.std.specs.List.{flat_map}
 use Rattle.std.specs.Prelude.{IfSome, IsUtf8, OnErr, OnOk, Result, Ok, Err}
-use Rattle.cadence_value.specs.Number.{Number, numbers_text}
-use Rattle.cadence_text.specs.Draft.{draft_line, draft_of, has_text, head_text, lead, tag_added, with_tag_text}
+use Rattle.cadence_text.specs.DraftParts.{IsCutAt}
+use Rattle.cadence_text.specs.Sink.{turned}
+use Rattle.cadence_value.specs.Number.{numbers_text}
+use Rattle.cadence_text.specs.Draft.{Draft, draft_line, draft_of, head_text, lead, tag_added, with_tag_text}
 use Rattle.cadence_text.specs.Line.{container_field, key_text, kind_text, line_of, rate_field, tag_text, tags_field, time_field}
 use Rattle.cadence_text.specs.Metric.{Metric, Tag, with_tag}
-use Rattle.cadence_text.specs.More.{has_begun}
 use Rattle.cadence_text.specs.RecordMetric.{FitsMemory, IsRecordTag}
-use Rattle.cadence_text.proofs.MoreTags.{more_next}
 
 -- the line of a metric's draft is the metric's line
 pub line_of_draft : (m : Metric) → draft_line (draft_of m) ≡ line_of m
@@ -23,16 +24,24 @@ line_of_draft m =
     append_assoc m.name (58 ∷ (numbers_text m.numbers ++ (124 ∷ kind_text m.kind))) rest
     ∙ ap (λ t. m.name ++ (58 ∷ t)) (append_assoc (numbers_text m.numbers) (124 ∷ kind_text m.kind) rest)
 
-begun_text : (tags : List Tag) → has_text (tags_field tags) ≡ has_begun false tags
-begun_text [] = refl
-begun_text (t ∷ tags) = refl
-
--- the draft of a metric with one more tag
+-- the field of tags with one more
 pub added_tag : (tags : List Tag) (t : Tag) → tag_added (tags_field tags) t ≡ tags_field (tags ++ t ∷ [])
-added_tag tags t = ap (λ b. tags_field tags ++ (lead b ++ tag_text t)) (begun_text tags) ∙ sym (more_next false tags t)
+added_tag [] t = ap (λ rest. 124 ∷ 35 ∷ rest) (sym (append-nil (tag_text t)))
+added_tag (x ∷ tags) t =
+    let comma : Tag → List ℕ = λ tag. 44 ∷ tag_text tag in
+    let last : flat_map comma (tags ++ t ∷ []) ≡ flat_map comma tags ++ (44 ∷ tag_text t) =
+    flat_map-append comma tags (t ∷ []) ∙ ap (λ rest. flat_map comma tags ++ (44 ∷ rest)) (append-nil (tag_text t)) in
+    ap (λ rest. 124 ∷ 35 ∷ rest) (append_assoc (tag_text x) (flat_map comma tags) (44 ∷ tag_text t) ∙ ap (λ rest. tag_text x ++ rest) (sym last))
 
 pub draft_with_tag : (m : Metric) (t : Tag) → with_tag_text (draft_of m) t ≡ draft_of (with_tag m t)
 draft_with_tag m t = ap (λ tags. record { head = head_text m.name m.numbers m.kind; tags = tags; rate = m.rate; container = m.container; time = m.time }) (added_tag m.tags t)
+
+-- what a draft says of a metric that it is the draft of
+pub tag_of_metric : (old new : Draft) (t : Tag) → new ≡ with_tag_text old t → (m : Metric) → old ≡ draft_of m → new ≡ draft_of (with_tag m t)
+tag_of_metric old new t e m is = e ∙ ap (λ (d : Draft). with_tag_text d t) is ∙ draft_with_tag m t
+
+pub line_of_metric : (d : Draft) (line : List ℕ) → line ≡ draft_line d → (m : Metric) → d ≡ draft_of m → line ≡ line_of m
+line_of_metric d line e m is = e ∙ ap draft_line is ∙ line_of_draft m
 
 -- a tag, with what stands before it, is in UTF-8
 one_byte : (b : ℕ) → b < 128 → IsUtf8 (b ∷ [])
@@ -54,8 +63,6 @@ lead_short true = (lit< tt, omega arith)
 lead_short false = (lit< tt, omega arith)
 
 -- where the head ends: each side is in UTF-8
-abbrev pub IsCutAt : ℕ → List ℕ → Type 0
-IsCutAt head items = (0 < head) × (head ≤ length items) × ∥ IsUtf8 (take head items) × IsUtf8 (drop head items) ∥₁
 
 cut_same : (head : ℕ) (old new : List ℕ) → IsCutAt head old → new ≡ old → IsCutAt head new
 cut_same head old new h e = subst (IsCutAt head) (sym e) h
@@ -79,19 +86,32 @@ cut_sides head items h =
     let (some, within, sides) = h in
     (IsUtf8-had (take head items) (∥∥₁_map sides (λ s. s.0)), IsUtf8-had (drop head items) (∥∥₁_map sides (λ s. s.1)))
 
--- what comes after the tags: all but the rate, where there is none, and the rate too, where there are no tags
-pub ended_plain : (head : ℕ) (items : List ℕ) (rate : Option Number) (container : Option (List ℕ)) (time : Option ℕ) → rate ≡ None
-    → items ++ (container_field container ++ time_field time) ≡ draft_line (record { head = take head items; tags = drop head items; rate = rate; container = container; time = time })
-ended_plain head items rate container time none =
-    let last = container_field container ++ time_field time in
-    ap (λ l. l ++ last) (sym (take-append-drop head items)) ∙ append_assoc (take head items) (drop head items) last
-    ∙ ap (λ r. take head items ++ (rate_field r ++ (drop head items ++ last))) (sym none)
+-- a rate that is written after the tags, and then moves before them
+pub rate_between : (head : ℕ) (items rate : List ℕ) → IsCutAt head items → turned head (length items - head) (items ++ rate) ≡ take head items ++ (rate ++ drop head items)
+rate_between head items rate (some, within, sides) =
+    let tags = drop head items in
+    let n : length items - head ≡ length tags = omega (arith, within, length-drop head items) in
+    let front : take head (items ++ rate) ≡ take head items = take-append-le head items rate within in
+    let back : drop head (items ++ rate) ≡ tags ++ rate = drop-append-le head items rate within in
+    ap (λ f. f ++ (drop (length items - head) (drop head (items ++ rate)) ++ take (length items - head) (drop head (items ++ rate)))) front
+    ∙ ap (λ b. take head items ++ (drop (length items - head) b ++ take (length items - head) b)) back
+    ∙ ap (λ k. take head items ++ (drop k (tags ++ rate) ++ take k (tags ++ rate))) n
+    ∙ ap₂ (λ a b. take head items ++ (a ++ b)) (drop-append_seam tags rate) (take-append_seam tags rate)
 
-pub ended_bare : (head : ℕ) (items : List ℕ) (rate : Option Number) (container : Option (List ℕ)) (time : Option ℕ) → length items ≡ head
-    → items ++ (rate_field rate ++ (container_field container ++ time_field time)) ≡ draft_line (record { head = take head items; tags = drop head items; rate = rate; container = container; time = time })
-ended_bare head items rate container time whole =
-    let last = container_field container ++ time_field time in
-    ap₂ (λ a b. a ++ (rate_field rate ++ (b ++ last))) (sym (take_all head items (omega (arith, whole)))) (sym (drop_of_length-le items (omega (arith, whole))))
+-- what follows a text in UTF-8, in a text in UTF-8, is in UTF-8
+pub rest_utf8 : (first rest whole : List ℕ) → IsUtf8 first → IsUtf8 whole → whole ≡ first ++ rest → IsUtf8 rest
+rest_utf8 first rest whole hf hw e =
+    let here : IsUtf8 (first ++ rest) = subst IsUtf8 e hw in
+    let front : IsUtf8 (take (length first) (first ++ rest)) = subst IsUtf8 (sym (take-append_seam first rest)) hf in
+    subst IsUtf8 (drop-append_seam first rest) (IsUtf8-drop (first ++ rest) (length first) here (IsCharBoundary-from_take (first ++ rest) (length first) here (omega (arith, length-append first rest)) front))
+
+-- a rate between a head and tags is in UTF-8 with them
+pub rate_utf8 : (head : ℕ) (items rate : List ℕ) → IsCutAt head items → IsUtf8 (items ++ rate) → IsUtf8 (turned head (length items - head) (items ++ rate))
+rate_utf8 head items rate cut whole =
+    let (a, b) = cut_sides head items cut in
+    let both : IsUtf8 items = subst IsUtf8 (take-append-drop head items) (IsUtf8-append (take head items) (drop head items) a b) in
+    let r : IsUtf8 rate = rest_utf8 items rate (items ++ rate) both whole refl in
+    subst IsUtf8 (sym (rate_between head items rate cut)) (IsUtf8-append (take head items) (rate ++ drop head items) a (IsUtf8-append rate (drop head items) r b))
 
 -- a head and tags, one after the other
 pub cut_new : (head : ℕ) (first tags items : List ℕ) → head ≡ length first → 0 < length first → IsUtf8 first → IsUtf8 tags → items ≡ first ++ tags → IsCutAt head items

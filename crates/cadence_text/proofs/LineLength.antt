@@ -37,7 +37,7 @@ number_short a h =
     let whole : length (decimal_text (n / 10 ^ a.places)) ≤ 39 = length-decimal_text-le 39 (n / 10 ^ a.places) (lit< tt) low in
     omega (arith, sign_short a.mantissa, whole, places_short n a.places, h.places, length-append (sign a.mantissa) (unsigned_text n a.places), length-append (decimal_text (n / 10 ^ a.places)) (places_text n a.places))
 
-rate_short : (o : Option Number) → IfSome o IsDecimal → length (rate_field o) ≤ 73
+pub rate_short : (o : Option Number) → IfSome o IsDecimal → length (rate_field o) ≤ 73
 rate_short (Some r) h = omega (arith, number_short r h)
 rate_short None h = omega arith
 
@@ -141,6 +141,13 @@ line_is_short m h =
       length-append (container_field m.container) (time_field m.time),
     )
 
+said_text : (o : Option (List ℕ)) → IfSome o FitsMemory → IfSome o IsUtf8
+said_text (Some t) h = h.1
+said_text None h = tt
+
+pub said_tag : (tag : Tag) → IsRecordTag tag → IsSaidTag tag
+said_tag tag h = record { key = said_text tag.key h.key; text = h.text.1 }
+
 -- what a record means is what a record may say
 pub record_said : (m : Metric) → IsRecordMetric m → IsSaid m
 record_said m h = record {
@@ -151,13 +158,6 @@ record_said m h = record {
   container = said_text m.container h.container;
   time = h.time;
 }
-  where
-    said_text : (o : Option (List ℕ)) → IfSome o FitsMemory → IfSome o IsUtf8
-    said_text (Some t) h = h.1
-    said_text None h = tt
-
-    said_tag : (tag : Tag) → IsRecordTag tag → IsSaidTag tag
-    said_tag tag h = record { key = said_text tag.key h.key; text = h.text.1 }
 
 -- two texts in UTF-8, one after the other
 pub joined_utf8 : (prefix key : List ℕ) → IsUtf8 prefix → IsUtf8 key → IsUtf8 (prefix ++ key)

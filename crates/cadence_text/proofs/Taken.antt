@@ -37,3 +37,11 @@ utf8_more old more new h k e = ∣ subst IsUtf8 (sym e) (IsUtf8-append old more 
 
 pub utf8_byte : (byte : ℕ) → byte < 128 → IsUtf8 (byte ∷ [])
 utf8_byte byte h = IsUtf8-from_ascii (byte ∷ []) (IsAscii-cons byte [] h IsAscii-nil)
+
+-- a text that was counted first, and then written into room for just so much more
+pub counted_written : (count told before after : ℕ) (old was new text : List ℕ) → count < 2 ^ 128 → length text < 2 ^ 128
+    → replicate {A = ℕ} ((count + 0) % 2 ^ 128) 0 ≡ replicate ((0 + length (text ++ [])) % 2 ^ 128) 0
+    → told ≡ count → before ≡ length old + told → 0 < length old → was ≡ old → up_to after (new ++ []) ≡ up_to before (was ++ (text ++ [])) → new ≡ old ++ text
+counted_written count told before after old was new text fits short counted same end some is taken =
+    let whole : count ≡ length text = counted_whole count text fits short counted in
+    filled_more before after old was new text (omega (arith, some)) (omega (arith, whole, same, end)) is taken

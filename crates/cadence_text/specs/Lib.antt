@@ -4,7 +4,6 @@ pub mod Laws
 pub mod Line
 pub mod Draft
 pub mod DraftParts
-pub mod More
 pub mod RecordMetric
 pub mod OneReading
 pub mod Record

@@ -12,9 +12,9 @@ tag_of tag = record { key = option_copied tag.key; text = tag.text.now }
 -- the name is the prefix, then the key; it doesn't matter in which form the numbers stand
 abbrev pub metric_of : {Z : Type 0} → Inside Z → Metric
 metric_of r = record {
-  name = r.prefix.now ++ r.key.now;
-  numbers = numbers_of r.value;
-  kind = r.kind;
+  name = r.head.prefix.now ++ r.head.key.now;
+  numbers = numbers_of r.head.value;
+  kind = r.head.kind;
   rate = r.rate;
   tags = map tag_of r.tags.items;
   container = option_copied r.container;

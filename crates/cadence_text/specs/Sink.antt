@@ -1,6 +1,6 @@
 -- What takes the pieces of a line.
 use Rattle.std.specs.Prelude.{ℕ, ◌+◌, ◌-◌, ◌%◌, ◌^◌, nat_lt, if◌then◌else◌, List, [], ◌++◌, length, take, drop, replicate}
-use Rattle.cadence_text.specs.declared.line.counter.Counter.{Counter}
+use Rattle.cadence_text.specs.declared.line.filled.Counter.{Counter}
 use Rattle.cadence_text.specs.declared.line.filled.Filled.{Filled}
 use Rattle.cadence_text.specs.declared.line.window.Window.{Window}
 
@@ -23,3 +23,7 @@ filled_ends f rest = up_to f.end (f.bytes.items ++ rest)
 -- a counter knows no text, but how many bytes it is, modulo 2 to the 128
 abbrev pub counted_ends : Counter → List ℕ → List ℕ
 counted_ends c rest = replicate ((c.length + length rest) % 2 ^ 128) 0
+
+-- the text whose first `count` bytes after `start` stand behind those that followed them
+abbrev pub turned : ℕ → ℕ → List ℕ → List ℕ
+turned start count items = take start items ++ (drop count (drop start items) ++ take count (drop start items))

@@ -36,11 +36,16 @@ fn main(rt: HostRuntime) -> MetricResult<()> {
     Ok(())
 }
 
+// How a difference is printed, or that there is none.
+fn told(difference: Option<&'static str>) -> &'static str {
+    difference.unwrap_or("ok")
+}
+
 // Each worked row.
 fn print_rows(rt: &HostRuntime) -> MetricResult<()> {
     for name in fs::read_to_string(rt, "index")?.lines() {
         let difference = scripts::row_difference(rt, name)?;
-        println!(rt; "{name} {difference}")?;
+        println!(rt; "{name} {}", told(difference))?;
     }
     Ok(())
 }
@@ -50,7 +55,7 @@ fn print_unreadable(rt: &HostRuntime) -> MetricResult<()> {
     for line in fs::read_to_string(rt, "unreadable")?.split_terminator('\n') {
         let difference = scripts::unreadable_difference(rt.alloc(), line)?;
         let shown = scripts::shown(rt.alloc(), line)?;
-        println!(rt; "unreadable {shown} {difference}")?;
+        println!(rt; "unreadable {shown} {}", told(difference))?;
     }
     Ok(())
 }
@@ -59,7 +64,8 @@ fn print_unreadable(rt: &HostRuntime) -> MetricResult<()> {
 fn print_plans(rt: &HostRuntime) -> MetricResult<()> {
     for line in fs::read_to_string(rt, "plans")?.lines() {
         if !line.starts_with('#') {
-            println!(rt; "plan {line} {}", plans::plan_difference(rt.alloc(), line)?)?;
+            let difference = plans::plan_difference(rt.alloc(), line)?;
+            println!(rt; "plan {line} {}", told(difference))?;
         }
     }
     Ok(())

@@ -22,8 +22,8 @@ fn numbers(alloc: Global, field: &str) -> MetricResult<Vec<usize>> {
 }
 
 /// Reads `CAPACITY; SIZES; MARKS; PLAN; ANSWER` and compares the answer, `yes` or `no`, with that of `check_plan` and
-/// with whether `plan_packets` makes that plan: `ok`, or which of both differs.
-pub fn plan_difference(alloc: Global, line: &str) -> MetricResult<&'static str> {
+/// with whether `plan_packets` makes that plan. It tells which of both differs.
+pub fn plan_difference(alloc: Global, line: &str) -> MetricResult<Option<&'static str>> {
     let mut fields = line.split(';');
     let mut next = || fields.next().ok_or(malformed());
     let capacity = number(next()?)?;
@@ -32,10 +32,10 @@ pub fn plan_difference(alloc: Global, line: &str) -> MetricResult<&'static str> 
     let plan = numbers(alloc, next()?)?;
     let wanted = next()?.trim() == "yes";
     if check_plan(&sizes, capacity, &marks, &plan) != wanted {
-        return Ok("is judged otherwise");
+        return Ok(Some("is judged otherwise"));
     }
     if (plan_packets(alloc, &sizes, capacity, &marks)? == plan) != wanted {
-        return Ok("is not what is made");
+        return Ok(Some("is not what is made"));
     }
-    Ok("ok")
+    Ok(None)
 }

@@ -15,16 +15,16 @@ pub struct Outcome {
 }
 
 impl Outcome {
-    /// `ok`, or the first part that is not as the row wants it.
-    pub fn difference(&self, wanted: &Outcome) -> &'static str {
+    /// The first part that is not as the row wants it, if there is one.
+    pub fn difference(&self, wanted: &Outcome) -> Option<&'static str> {
         if self.status != wanted.status {
-            "has another status"
+            Some("has another status")
         } else if self.errors != wanted.errors {
-            "tells another error"
+            Some("tells another error")
         } else if self.output != wanted.output {
-            "prints something else"
+            Some("prints something else")
         } else {
-            "ok"
+            None
         }
     }
 }
@@ -71,8 +71,11 @@ pub fn script_of<R: Files + AllocGlobal>(rt: &R, name: &str) -> io::Result<Vec<u
     Ok(file_of(rt, name, "in")?.unwrap_or_else(|| Vec::new(rt.alloc())))
 }
 
-/// Runs the row of this name: `ok`, or what is not as its files want it.
-pub fn row_difference<R: Files + AllocGlobal>(rt: &R, name: &str) -> io::Result<&'static str> {
+/// Runs the row of this name, and tells what is not as its files want it.
+pub fn row_difference<R: Files + AllocGlobal>(
+    rt: &R,
+    name: &str,
+) -> io::Result<Option<&'static str>> {
     let none = || Vec::new(rt.alloc());
     let wanted = Outcome {
         output: file_of(rt, name, "out")?.unwrap_or_else(none),
@@ -82,8 +85,11 @@ pub fn row_difference<R: Files + AllocGlobal>(rt: &R, name: &str) -> io::Result<
     Ok(outcome_of(rt.alloc(), &script_of(rt, name)?).difference(&wanted))
 }
 
-/// Runs a script of one line that can't be read: `ok`, or what is not as it has to be then.
-pub fn unreadable_difference(alloc: Global, line: &str) -> Result<&'static str, AllocError> {
+/// Runs a script of one line that can't be read, and tells what is not as it has to be then.
+pub fn unreadable_difference(
+    alloc: Global,
+    line: &str,
+) -> Result<Option<&'static str>, AllocError> {
     let wanted = Outcome {
         output: Vec::new(alloc),
         errors: Vec::from_slice(alloc, b"statsd_schedule: line 1: cannot read\n")?,

@@ -119,10 +119,10 @@ fn refuse_memory(
             status,
         };
         if heap.left() <= granted {
-            ends.note(outcome.difference(plain) == "ok", End::Same);
+            ends.note(outcome.difference(plain).is_none(), End::Same);
             return Ok(());
         }
-        if outcome.difference(plain) == "ok" {
+        if outcome.difference(plain).is_none() {
             ends.note(true, End::Same);
         } else if status == 3 {
             let told = outcome.errors.as_slice() == b"statsd_schedule: out of memory\n".as_slice();
@@ -206,7 +206,7 @@ fn fail_reads(
             status,
         };
         if passed > script.len() as u64 {
-            ends.note(outcome.difference(plain) == "ok", End::Same);
+            ends.note(outcome.difference(plain).is_none(), End::Same);
             return Ok(());
         }
         let told = outcome.errors.as_slice() == b"statsd_schedule: input: cannot read\n".as_slice();

@@ -133,6 +133,19 @@ fn send(rt: &HostRuntime, options: &Options<'_, Global>, words: &[&str]) -> Exit
     }
 }
 
+// The pace that the options ask for, if they ask for one. A clock takes memory.
+fn asked_pace(
+    rt: &HostRuntime,
+    options: &Options<'_, Global>,
+) -> Result<Option<Every<HostRuntime>>, AllocError> {
+    let Some(period) = options.flush_every else {
+        return Ok(None);
+    };
+    let clock = rt.clone()?;
+    Ok(Some(Every::new(clock, Duration::from_millis(period))))
+}
+
+// Sends the metric of the words, or those of the input if there are no words.
 fn drive<T: PacketWriter>(
     rt: &HostRuntime,
     options: &Options<'_, Global>,
@@ -141,35 +154,34 @@ fn drive<T: PacketWriter>(
     writer: T,
 ) -> ExitCode {
     let alloc = rt.alloc();
+    let Ok(pace) = asked_pace(rt, options) else {
+        return told(rt, 3, "out of memory");
+    };
     let Ok(mut lines) = LineBuffer::new(alloc, writer, options.capacity) else {
         return told(rt, 3, "out of memory");
     };
     let (mut input, mut errors) = (rt.stdin(), rt.stderr());
-    let status = if !words.is_empty() {
-        run_words(&alloc, defaults, &mut lines, words, &mut errors)
-    } else {
-        let clock: Result<HostRuntime, AllocError> = rt.clone();
-        match (options.flush_every, clock) {
-            (Some(period), Ok(clock)) => {
-                let mut pace = Every::new(clock, Duration::from_millis(period));
-                run_input(
-                    &alloc,
-                    defaults,
-                    &mut lines,
-                    &mut input,
-                    &mut errors,
-                    &mut pace,
-                )
-            }
-            _ => run_input(
-                &alloc,
-                defaults,
-                &mut lines,
-                &mut input,
-                &mut errors,
-                &mut Unhurried,
-            ),
-        }
+    if !words.is_empty() {
+        let status = run_words(&alloc, defaults, &mut lines, words, &mut errors);
+        return ExitCode::from(status);
+    }
+    let status = match pace {
+        Some(mut pace) => run_input(
+            &alloc,
+            defaults,
+            &mut lines,
+            &mut input,
+            &mut errors,
+            &mut pace,
+        ),
+        None => run_input(
+            &alloc,
+            defaults,
+            &mut lines,
+            &mut input,
+            &mut errors,
+            &mut Unhurried,
+        ),
     };
     ExitCode::from(status)
 }

@@ -201,11 +201,13 @@ class StatsClient(Metrics):
             self._tell(self._flush(), may_raise=False)
 
     def _tell(self, faults: list[Exception], may_raise: bool = True) -> None:
-        for fault in faults if self._on_error is not None else ():
-            try:
-                self._on_error(fault)
-            except Exception:
-                _log.exception("on_error raises")
+        on_error = self._on_error
+        if on_error is not None:
+            for fault in faults:
+                try:
+                    on_error(fault)
+                except Exception:
+                    _log.exception("on_error raises")
         if self._raises and may_raise and faults:
             raise faults[0]
 

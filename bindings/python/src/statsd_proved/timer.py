@@ -5,7 +5,7 @@ import functools
 import inspect
 import time
 from collections.abc import Callable
-from typing import TYPE_CHECKING, Any, TypeVar
+from typing import TYPE_CHECKING, Any, TypeVar, cast
 
 if TYPE_CHECKING:
     from .metrics import Metrics
@@ -39,13 +39,13 @@ class Timer:
             async def timed_coroutine(*args: Any, **kwargs: Any) -> Any:
                 with Timer(self.client, self.stat, self.rate, **self._fields):
                     return await function(*args, **kwargs)
-            return timed_coroutine
+            return cast(Function, timed_coroutine)
 
         @_wraps(function)
         def timed(*args: Any, **kwargs: Any) -> Any:
             with Timer(self.client, self.stat, self.rate, **self._fields):
                 return function(*args, **kwargs)
-        return timed
+        return cast(Function, timed)
 
     def __enter__(self) -> Timer:
         return self.start()

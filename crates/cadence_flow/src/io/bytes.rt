@@ -109,8 +109,8 @@ pub(super) fn append_ending<A: Allocator>(held: &mut Vec<u8, A>, ending: &[u8])
     }
 }
 
-/// Sends bytes, what is left after a short count too, until all are taken or the writer refuses; why not all were is
-/// left in `fault`. Answers how many were taken, too.
+/// Sends bytes, what is left after a short count too, until all are taken or the writer refuses. Returns how many were
+/// taken, and whether all were; if not, `fault` has the error.
 pub(super) fn send<T: PacketWriter>(
     bytes: &[u8],
     to: &mut T,
@@ -138,7 +138,7 @@ pub(super) fn send<T: PacketWriter>(
 {
     let mut sent = 0;
     while sent < bytes.len() {
-        match to.write_packet_noting(&bytes[sent..], fault) {
+        match to.write_packet_narrow(&bytes[sent..], fault) {
             Some(0) => {
                 *fault = SinkError::NothingWritten;
                 return (sent, None);
@@ -151,7 +151,6 @@ pub(super) fn send<T: PacketWriter>(
 }
 
 /// Sends what begins at `start`, as `send`, and leaves out what was taken.
-#[inline(always)]
 pub(super) fn send_held<T: PacketWriter, A: Allocator>(
     held: &mut Vec<u8, A>,
     start: &mut usize,

@@ -6,12 +6,13 @@ use std::alloc::{Allocator, Global};
 use std::marker::Model;
 use std::mem;
 
-/// Holds lines as a `MultiLineWriter` does, over any `PacketWriter`, but its drop writes nothing: what holds it
-/// flushes, or gives the held text up.
+/// Holds lines as a `MultiLineWriter` does, over any `PacketWriter`, but its drop writes nothing: who holds it flushes,
+/// or gives the held text up. Its calls leave an error in a place of the caller's, as
+/// `PacketWriter::write_packet_narrow` does.
 #[derive(Drop)]
 pub struct LineBuffer<T, A: Allocator = Global> {
     inner: T,
-    // what is held begins at `start`; where nothing is held, no byte stands before it either
+    // what is held begins at `start`; if nothing is held, no byte stands before it either
     held: Vec<u8, A>,
     start: usize,
     capacity: usize,
@@ -50,7 +51,7 @@ impl<T: PacketWriter, A: Allocator + Clone> LineBuffer<T, A> {
     /// A packer of a capacity in bytes that holds nothing yet. It makes room for the whole capacity at once, so that
     /// `write` and `flush` take no memory.
     ///
-    /// Where there is no memory for `capacity` bytes and the ending, the writer comes back.
+    /// If there is no memory for `capacity` bytes and the ending, the writer comes back.
     pub fn with_ending(alloc: A, inner: T, capacity: usize, ending: &str) -> Result<Self, T>
         ensures { MakesPacker inner capacity ending.now result }
     {
@@ -81,26 +82,16 @@ impl<T: PacketWriter, A: Allocator> LineBuffer<T, A> {
     ghost use Rattle.cadence_flow.specs.Packer.{Fits, FlushesHeld, HoldsLine, ReplacesWriter, WritesLine, with_writer};
     ghost use Rattle.cadence_flow.specs.contracts.io.line_buffer.LineBuffer.{the_row};
 
-    /// Writes a line and answers its length.
+    /// Writes a line and returns its length.
     ///
-    /// The line and its ending are held. Where they don't fit the free room, what is held is flushed first. Where
-    /// they pass the capacity, what is held is flushed first, and then the line alone is one packet: the answer is
-    /// the writer's count, 0 included. Takes no memory. A line that with its ending fills the capacity exactly is
-    /// held, with an empty ending too (cadence then writes it at once).
+    /// The line and its ending are held. If they don't fit the free room, what is held is flushed first. If they pass
+    /// the capacity, what is held is flushed first, and then the line alone is one packet: the result is the writer's
+    /// count, 0 included. Takes no memory. A line that with its ending fills the capacity exactly is held, with an
+    /// empty ending too (cadence then writes it at once).
     ///
-    /// An error is the writer's own, or `NothingWritten` where it took 0 bytes of held text. Nothing of the line is
-    /// kept then; what the writer didn't take of the held text stays.
-    pub fn write(&mut self, line: &[u8]) -> Result<usize, SinkError>
-        ensures writes { WritesLine T.kind T.history self.old self.new line.now result }
-        ensures offers { WritesOffers self.old.format (T.offers self.old.writer)
-            (T.offers self.new.writer) self.old.held self.new.held line.now result }
-    {
-        let mut fault = SinkError::NothingWritten;
-        self.write_noting(line, &mut fault).ok_or(fault)
-    }
-
-    /// As `write`, but an error is left in `fault`, and then there is no length: an answer is narrow so.
-    pub fn write_noting(&mut self, line: &[u8], fault: &mut SinkError) -> Option<usize>
+    /// After an error the result is `None` and `fault` has the error: the writer's own, or `NothingWritten` if it took
+    /// 0 bytes of held text. Nothing of the line is kept then; what the writer didn't take of the held text stays.
+    pub fn write(&mut self, line: &[u8], fault: &mut SinkError) -> Option<usize>
         ensures writes { WritesLine T.kind T.history
             self.old self.new line.now (ok_or result fault.new) }
         ensures offers { WritesOffers self.old.format (T.offers self.old.writer)
@@ -109,11 +100,11 @@ impl<T: PacketWriter, A: Allocator> LineBuffer<T, A> {
     {
         let required = line.len() + self.ending.len();
         if required > self.capacity {
-            self.flush_any(fault)?;
-            return self.inner.write_packet_noting(line, fault);
+            self.flush(fault)?;
+            return self.inner.write_packet_narrow(line, fault);
         }
         if !self.hold(line) {
-            self.flush_noting(fault)?;
+            self.flush(fault)?;
             append(&mut self.held, line);
             append_ending(&mut self.held, self.ending.as_slice());
         }
@@ -128,8 +119,8 @@ impl<T: PacketWriter, A: Allocator> LineBuffer<T, A> {
         line.len() + self.ending.len() <= self.capacity - self.held.len() + self.start
     }
 
-    /// Holds a line and its ending where they fit the free room, and answers whether they did; else nothing changes.
-    /// It is what `write` does with most lines, without an error to answer. Takes no memory.
+    /// Holds a line and its ending if they fit the free room, and returns whether they did; else nothing changes. It is
+    /// what `write` does with most lines, and it can't fail. Takes no memory.
     #[inline(always)]
     pub fn hold(&mut self, line: &[u8]) -> bool
         ensures { HoldsLine self.old self.new line.now result }
@@ -148,19 +139,12 @@ impl<T: PacketWriter, A: Allocator> LineBuffer<T, A> {
     /// Writes what is held, what is left after a short count too, until all is taken. With nothing held it writes
     /// nothing. Takes no memory.
     ///
-    /// An error is the writer's own, or `NothingWritten` where it took 0 bytes. What it didn't take stays held, and
-    /// the free room is what the held text leaves. An interrupted write is an error like any other.
-    pub fn flush(&mut self) -> Result<(), SinkError>
-        ensures flushes { FlushesHeld T.kind T.history self.old self.new result }
-        ensures offers { FlushesOffers (T.offers self.old.writer)
-            (T.offers self.new.writer) self.old.held (is_ok result) }
-    {
-        let mut fault = SinkError::NothingWritten;
-        self.flush_noting(&mut fault).ok_or(fault)
-    }
-
-    /// As `flush`, but an error is left in `fault`: an answer is narrow so.
-    pub fn flush_noting(&mut self, fault: &mut SinkError) -> Option<()>
+    /// After an error the result is `None` and `fault` has the error: the writer's own, or `NothingWritten` if it took
+    /// 0 bytes. What it didn't take stays held, and the free room is what the held text leaves. An interrupted write is
+    /// an error like any other.
+    // Inline, so that a line that goes out alone costs no call if nothing is held.
+    #[inline(always)]
+    pub fn flush(&mut self, fault: &mut SinkError) -> Option<()>
         ensures flushes { FlushesHeld T.kind T.history self.old self.new (ok_or result fault.new) }
         ensures offers { FlushesOffers (T.offers self.old.writer)
             (T.offers self.new.writer) self.old.held (is_ok (ok_or result fault.new)) }
@@ -169,19 +153,6 @@ impl<T: PacketWriter, A: Allocator> LineBuffer<T, A> {
             return Some(());
         }
         send_held(&mut self.held, &mut self.start, &mut self.inner, fault)
-    }
-
-    // `flush_noting`, which is called only where something is held.
-    #[inline(always)]
-    fn flush_any(&mut self, fault: &mut SinkError) -> Option<()>
-        ensures flushes { FlushesHeld T.kind T.history self.old self.new (ok_or result fault.new) }
-        ensures offers { FlushesOffers (T.offers self.old.writer)
-            (T.offers self.new.writer) self.old.held (is_ok (ok_or result fault.new)) }
-    {
-        if self.held.is_empty() {
-            return Some(());
-        }
-        self.flush_noting(fault)
     }
 
     /// The text that waits, at most the capacity.
@@ -211,7 +182,7 @@ impl<T: PacketWriter, A: Allocator> LineBuffer<T, A> {
     /// Takes another writer, and gives back the old one with the text that waited for it, unflushed. Nothing is held
     /// afterwards.
     ///
-    /// Where there is no memory for the capacity, the new writer comes back, and nothing changed.
+    /// If there is no memory for the capacity, the new writer comes back, and nothing changed.
     pub fn replace_writer(&mut self, alloc: A, writer: T) -> Result<(T, Vec<u8, A>), T>
         ensures { ReplacesWriter self.old self.new writer result }
     {

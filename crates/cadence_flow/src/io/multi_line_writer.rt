@@ -48,18 +48,20 @@ impl<T: PacketWriter, A: Allocator> MultiLineWriter<T, A> {
     ghost use Rattle.cadence_flow.specs.Packer.{FlushesHeld, ReplacesWriter, WritesLine, with_writer};
     ghost use Rattle.cadence_flow.specs.contracts.io.multi_line_writer.MultiLineWriter.{the_row};
 
-    /// Writes a line and answers its length, as `LineBuffer::write`.
+    /// Writes a line and returns its length, or the error, as `LineBuffer::write`.
     pub fn write(&mut self, line: &[u8]) -> Result<usize, SinkError>
         ensures { WritesLine T.kind T.history self.old self.new line.now result }
     {
-        self.lines.write(line)
+        let mut fault = SinkError::NothingWritten;
+        self.lines.write(line, &mut fault).ok_or(fault)
     }
 
-    /// Writes what is held, as `LineBuffer::flush`.
+    /// Writes what is held, or returns the error, as `LineBuffer::flush`.
     pub fn flush(&mut self) -> Result<(), SinkError>
         ensures { FlushesHeld T.kind T.history self.old self.new result }
     {
-        self.lines.flush()
+        let mut fault = SinkError::NothingWritten;
+        self.lines.flush(&mut fault).ok_or(fault)
     }
 
     /// The text that waits, at most the capacity.

@@ -15,11 +15,11 @@ pub trait PacketWriter: Drop {
     /// The errors that it may give, whether it tells its packets and takes each whole, and the sums it began with.
     ghost kind: { Self → Kind };
 
-    /// Where the writer tells them, the packets that were offered and not refused, each with how many of its bytes were
+    /// If the writer tells them, the packets that were offered and not refused, each with how many of its bytes were
     /// taken. By default it doesn't.
     ghost offers: { Self → Option (List (List ℕ × ℕ)) } = { λ _. None };
 
-    /// Offers one packet. Answers how many of its first bytes were taken as one packet. An error is one refusal, and
+    /// Offers one packet, and returns how many of its first bytes were taken as one packet. An error is one refusal, and
     /// nothing was taken.
     fn write_packet(&mut self, packet: &[u8]) -> Result<usize, SinkError>
         ensures same_kind { kind self.new ≡ kind self.old }
@@ -27,9 +27,13 @@ pub trait PacketWriter: Drop {
             (history self.old) (history self.new) packet.now result }
         ensures offers { IsOffered (offers self.old) (offers self.new) packet.now result };
 
-    /// As `write_packet`, but an error is left in `fault`, and then there is no count. An answer is narrow so, where an
-    /// error is as wide as an `io::Error`, which each function that passes it on would copy.
-    fn write_packet_noting(&mut self, packet: &[u8], fault: &mut SinkError) -> Option<usize>
+    /// As `write_packet`, with a narrow result: after an error it is `None`, and `fault` has the error. A writer need not
+    /// define it.
+    ///
+    /// A `Result<usize, SinkError>` is 104 bytes, because a `SinkError` may be an `io::Error`, and each function that
+    /// returns one copies it. So what stands between a writer and the call at the edge, as the packer does, takes this
+    /// form, and the wide result is made at the edge alone.
+    fn write_packet_narrow(&mut self, packet: &[u8], fault: &mut SinkError) -> Option<usize>
         ensures same_kind { kind self.new ≡ kind self.old }
         ensures writes { WritesPacket (kind self.old)
             (history self.old) (history self.new) packet.now (ok_or result fault.new) }

@@ -78,15 +78,8 @@ impl<R: Wait + Drop, A: Allocator> MetricSink for BufferedUdpMetricSink<R, A> {
 
     #[inline(always)]
     fn emit(&self, metric: &str) -> Result<usize, SinkError> {
-        match self.socket.hold(metric) {
-            None => Ok(metric.len()),
-            Some(lines) => {
-                let mut fault = SinkError::NothingWritten;
-                self.socket
-                    .write_out(lines, metric, &mut fault)
-                    .ok_or(fault)
-            }
-        }
+        let mut fault = SinkError::NothingWritten;
+        self.socket.emit(metric, &mut fault).ok_or(fault)
     }
 
     fn flush(&self) -> Result<(), SinkError> {

@@ -55,7 +55,8 @@ impl<R: Wait + Drop, A: Allocator> MetricSink for UdpMetricSink<R, A> {
     ghost may_answer = { λ _ metric answer. IsSocketAnswer is_io metric answer };
 
     fn emit(&self, metric: &str) -> Result<usize, SinkError> {
-        self.socket.send(metric.as_bytes())
+        let mut fault = SinkError::NothingWritten;
+        self.socket.send(metric.as_bytes(), &mut fault).ok_or(fault)
     }
 
     fn stats(&self) -> SinkStats {

@@ -1,25 +1,28 @@
-//! The line of a metric that may still get tags and other options.
-ghost use Rattle.std.specs.Prelude.{◌≡◌, ◌+◌, ◌++◌, ◌<◌, ◌≤◌, ◌^◌, [], IfOk, IsTrue, None, OnErr, OnOk, Some, false, length};
-ghost use Rattle.std.specs.Prelude.{IfSome, IsUtf8, string_bytes};
+//! The line of a metric that is being made: every line is made here.
+ghost use Rattle.std.specs.Prelude.{◌≡◌, ◌+◌, ◌++◌, ◌<◌, ◌≤◌, [], IfOk, OnErr, OnOk, length};
+ghost use Rattle.std.specs.Prelude.{◌^◌, IfSome, IsUtf8, drop, take, string_bytes};
 ghost use Rattle.std.specs.Option.{option_copied};
-ghost use Rattle.cadence_text.specs.Draft.{draft_line, lead, tag_added, with_tag_text};
-ghost use Rattle.cadence_text.specs.DraftParts.{draft_of_parts, text_of_head};
-ghost use Rattle.cadence_text.specs.Line.{tag_text};
+ghost use Rattle.cadence_text.specs.Draft.{draft_line, draft_of, lead, tag_added, with_tag_text};
+ghost use Rattle.cadence_text.specs.DraftParts.{IsCutAt, IsSaidHead, draft_of_head, text_of_head};
+ghost use Rattle.cadence_text.specs.Line.{container_field, line_of, rate_field, tag_text, time_field};
+ghost use Rattle.cadence_text.specs.Metric.{Metric, with_tag};
 ghost use Rattle.cadence_text.specs.Record.{tag_of};
+ghost use Rattle.cadence_text.specs.RecordMetric.{AreRecordNumbers, FitsMemory};
+ghost use Rattle.cadence_text.specs.Said.{IsSaidTag};
+ghost use Rattle.cadence_value.specs.Number.{IsDecimal};
 ghost use Rattle.cadence_value.specs.Takes.{Takes};
+ghost use Rattle.cadence_value.specs.Values.{numbers_of};
 
 use crate::line::MetricType;
-use crate::line::counter::Counter;
-use crate::line::filled::Filled;
-use crate::line::pieces::{push_container, push_kind, push_tag, push_time};
+use crate::line::filled::{Counter, Filled};
+use crate::line::pieces::{push_last, push_lead, push_tag};
 use crate::line::rate::{Rate, push_kept_rate};
 use crate::line::tag::Tag;
 use cadence_value::decimal::Decimal;
-use cadence_value::text::{LineSink, push_value};
+use cadence_value::text::{LineSink, number_len, push_value};
 use cadence_value::value::MetricValue;
 use std::alloc::{AllocError, Allocator, Global};
 use std::marker::Model;
-use std::str;
 
 /// What each line begins with: the name, which is a prefix and then a key, the numbers and the kind. A type of this
 /// project's own.
@@ -33,15 +36,17 @@ pub struct Head<'a, A: Allocator = Global> {
 
 #[inline(always)]
 #[tactic(auto, using(std::proofs::lemmas::Grind::common_steps))]
-fn push_head<S: LineSink, A: Allocator>(line: &mut S, head: &Head<'_, A>)
+pub(crate) fn push_head<S: LineSink, A: Allocator>(line: &mut S, head: &Head<'_, A>)
     ensures taken { Takes S.ends_as line.old (text_of_head head.now) line.new }
-    ensures short { length (text_of_head head.now) < 2 ^ 100 }
+    ensures prefix { FitsMemory head.now.prefix.now }
+    ensures key { FitsMemory head.now.key.now }
+    ensures numbers { AreRecordNumbers (numbers_of head.now.value) }
 {
     line.take_piece(head.prefix);
     line.take_piece(head.key);
     line.take_byte(b':');
     push_value(line, &head.value);
-    push_kind(line, head.kind);
+    head.kind.push_to(line);
 }
 
 // The length of the head.
@@ -54,7 +59,7 @@ fn head_count<A: Allocator>(head: &Head<'_, A>) -> u128
     counter.length()
 }
 
-// Room for a tag and what stands before it, where that fits memory.
+// Room for a tag and what stands before it, if that fits memory.
 #[inline(always)]
 fn tag_room(tag: &Tag<'_>) -> Option<usize>
     ensures { IfSome result (λ n. length (tag_text (tag_of tag.now)) + 2 ≤ n) }
@@ -66,12 +71,13 @@ fn tag_room(tag: &Tag<'_>) -> Option<usize>
     }
 }
 
-// Writes a tag at the end of a line. Where memory is refused, the line is as it was.
+// Writes a tag at the end of a line. If memory is refused, the line is as it was.
 #[inline(always)]
 fn add_to<A: Allocator>(line: &mut Filled<A>, begun: bool, tag: &Tag<'_>) -> Result<(), AllocError>
     ensures ok { OnOk result (line.new.bytes.items ≡
         line.old.bytes.items ++ (lead begun ++ tag_text (tag_of tag.now))) }
     ensures utf8 { OnOk result (IsUtf8 (lead begun ++ tag_text (tag_of tag.now))) }
+    ensures said { OnOk result (IsSaidTag (tag_of tag.now)) }
     ensures err { OnErr result (line.new.bytes.items ≡ line.old.bytes.items) }
 {
     let Some(room) = tag_room(tag) else {
@@ -81,19 +87,6 @@ fn add_to<A: Allocator>(line: &mut Filled<A>, begun: bool, tag: &Tag<'_>) -> Res
     push_lead(line, begun);
     push_tag(line, tag);
     Ok(())
-}
-
-// What stands before a tag.
-#[inline(always)]
-fn push_lead<S: LineSink>(line: &mut S, begun: bool)
-    ensures { Takes S.ends_as line.old (lead begun) line.new }
-{
-    if begun {
-        line.take_byte(b',');
-    } else {
-        line.take_byte(b'|');
-        line.take_byte(b'#');
-    }
 }
 
 /// The field of tags, as it stands in a line. A type of this project's own. Contracts see it as its text.
@@ -120,7 +113,7 @@ impl<A: Allocator> TagsText<A> {
         }
     }
 
-    /// Adds a tag at the end. Where memory is refused, the text is as it was.
+    /// Adds a tag at the end. If memory is refused, the text is as it was.
     pub fn add(&mut self, tag: Tag<'_>) -> Result<(), AllocError>
         ensures ok { OnOk result (self.new ≡ tag_added self.old (tag_of tag.entry)) }
         ensures err { OnErr result (self.new ≡ self.old) }
@@ -140,8 +133,8 @@ impl<A: Allocator> TagsText<A> {
 
 /// The line of a metric that may still get tags and other options. A type of this project's own.
 ///
-/// Its head and its tags stand there already, in room that grows by doubling; the other options come in where it
-/// becomes a text. Contracts see it as a `Draft`.
+/// The head and the tags stand in the line already; the other options are kept beside it, and come in when the line is
+/// finished. Contracts see it as a `Draft`.
 #[derive(Drop)]
 pub struct DraftLine<'a, A: Allocator = Global> {
     line: Filled<A>,
@@ -152,16 +145,60 @@ pub struct DraftLine<'a, A: Allocator = Global> {
 }
 
 impl<'a, A: Allocator> Model for DraftLine<'a, A> {
-    ghost use Rattle.std.specs.Prelude.{◌<◌, ◌≤◌, IsUtf8, drop, length, take};
     ghost use Rattle.cadence_text.specs.Draft.{Draft};
-    ghost use Rattle.cadence_text.specs.DraftParts.{draft_seen};
+    ghost use Rattle.cadence_text.specs.DraftParts.{IsCutAt, draft_seen};
 
     ghost Value = { Draft };
 
     ghost view = { draft_seen };
 
-    ghost invariant = { λ d. (0 < d.head) × (d.head ≤ length d.line.bytes.items)
-        × ∥ IsUtf8 (take d.head d.line.bytes.items) × IsUtf8 (drop d.head d.line.bytes.items) ∥₁ };
+    ghost invariant = { λ d. IsCutAt d.head d.line.bytes.items };
+}
+
+// The draft whose head and tags are written into an empty line that has the room.
+#[inline(always)]
+fn written<'a, A: Allocator, B: Allocator>(
+    line: Filled<A>,
+    first: usize,
+    head: &Head<'_, B>,
+    tags: &str,
+    container: Option<&'a str>,
+) -> DraftLine<'a, A>
+    requires empty { line.bytes.items ≡ [] }
+    requires first { first ≡ length (text_of_head head.now) }
+    requires room { first + length tags.now ≤ line.end }
+    ensures draft { result ≡ draft_of_head head.now tags.now (option_copied container.entry) }
+    ensures said { IsSaidHead head.now }
+{
+    let mut line = line;
+    push_head(&mut line, head);
+    line.take_piece(tags);
+    DraftLine {
+        line,
+        head: first,
+        rate: None,
+        container,
+        time: None,
+    }
+}
+
+// The length of a head, and with it the room for the head, for these tags and for so many bytes more.
+#[inline(always)]
+fn room_for<B: Allocator>(
+    head: &Head<'_, B>,
+    tags: &str,
+    more: usize,
+) -> Result<(usize, usize), AllocError>
+    ensures head { IfOk result (λ r. r.0 ≡ length (text_of_head head.now)) }
+    ensures room { IfOk result (λ r. r.0 + length tags.now ≤ r.1) }
+{
+    let Ok(first) = usize::try_from(head_count(head)) else {
+        return Err(AllocError);
+    };
+    let Some(length) = first.checked_add(tags.len()) else {
+        return Err(AllocError);
+    };
+    Ok((first, length.saturating_add(more)))
 }
 
 impl<'a, A: Allocator> DraftLine<'a, A> {
@@ -173,39 +210,45 @@ impl<'a, A: Allocator> DraftLine<'a, A> {
         head: &Head<'_, B>,
         tags: &str,
         container: Option<&'a str>,
-        room: usize,
+        more: usize,
     ) -> Result<DraftLine<'a, A>, AllocError>
-        ensures { IfOk result (λ draft. draft ≡ record {
-          head = text_of_head head.now;
-          tags = tags.now;
-          rate = None;
-          container = option_copied container.entry;
-          time = None;
-        }) }
+        ensures draft { IfOk result (λ draft.
+            draft ≡ draft_of_head head.now tags.now (option_copied container.entry)) }
+        ensures said { OnOk result (IsSaidHead head.now) }
     {
-        let Ok(first) = usize::try_from(head_count(head)) else {
-            return Err(AllocError);
-        };
-        let Some(length) = first.checked_add(tags.len()) else {
-            return Err(AllocError);
-        };
-        let mut line = Filled::with_room(alloc, length.saturating_add(room))?;
-        push_head(&mut line, head);
-        line.take_piece(tags);
-        Ok(DraftLine {
-            line,
-            head: first,
-            rate: None,
-            container,
-            time: None,
-        })
+        let (first, room) = room_for(head, tags, more)?;
+        let line = Filled::with_room(alloc, room)?;
+        Ok(written(line, first, head, tags, container))
     }
 
-    /// Adds a tag, after those that are there. Takes memory where the room is used up; where that is refused, the draft
-    /// is as it was.
+    /// As `new`, in a kept buffer, which loses its text. It takes memory only if the buffer is too short. If memory is
+    /// refused, the buffer is given back to its allocator.
     #[inline(always)]
+    pub fn in_buffer<B: Allocator>(
+        buffer: Vec<u8, A>,
+        head: &Head<'_, B>,
+        tags: &str,
+        container: Option<&'a str>,
+        more: usize,
+    ) -> Result<DraftLine<'a, A>, AllocError>
+        ensures draft { IfOk result (λ draft.
+            draft ≡ draft_of_head head.now tags.now (option_copied container.entry)) }
+        ensures said { OnOk result (IsSaidHead head.now) }
+    {
+        let (first, room) = room_for(head, tags, more)?;
+        let line = Filled::in_buffer(buffer, room)?;
+        Ok(written(line, first, head, tags, container))
+    }
+
+    /// Adds a tag, after those that are there. Takes memory if the room is used up; if that is refused, the draft is as
+    /// it was.
+    #[inline(always)]
+    #[tactic(auto, using(crate::proofs::Drafts::tag_of_metric))]
     pub fn add_tag(&mut self, tag: Tag<'_>) -> Result<(), AllocError>
         ensures ok { OnOk result (self.new ≡ with_tag_text self.old (tag_of tag.entry)) }
+        ensures metric { OnOk result ((m : Metric) → self.old ≡ draft_of m →
+            self.new ≡ draft_of (with_tag m (tag_of tag.entry))) }
+        ensures said { OnOk result (IsSaidTag (tag_of tag.entry)) }
         ensures err { OnErr result (self.new ≡ self.old) }
     {
         let begun = self.line.len() > self.head;
@@ -215,7 +258,8 @@ impl<'a, A: Allocator> DraftLine<'a, A> {
     /// Sets the sampling rate, in place of an earlier one. It isn't checked to lie between 0 and 1.
     #[inline]
     pub fn set_rate(&mut self, rate: Decimal)
-        ensures { self.new ≡ record self.old { rate = Some rate } }
+        ensures rate { self.new ≡ record self.old { rate = Some rate } }
+        ensures said { IsDecimal rate }
     {
         self.rate = Some(Rate::of(rate));
     }
@@ -223,7 +267,8 @@ impl<'a, A: Allocator> DraftLine<'a, A> {
     /// Sets the id of the container (DogStatsD), in place of an earlier one.
     #[inline]
     pub fn set_container(&mut self, container: &'a str)
-        ensures { self.new ≡ record self.old { container = Some container.now } }
+        ensures container { self.new ≡ record self.old { container = Some container.now } }
+        ensures said { IsUtf8 container.now }
     {
         self.container = Some(container);
     }
@@ -231,100 +276,39 @@ impl<'a, A: Allocator> DraftLine<'a, A> {
     /// Sets the timestamp (DogStatsD, in seconds since 1970), in place of an earlier one.
     #[inline]
     pub fn set_time(&mut self, time: u64)
-        ensures { self.new ≡ record self.old { time = Some time } }
+        ensures time { self.new ≡ record self.old { time = Some time } }
+        ensures said { time < 2 ^ 64 }
     {
         self.time = Some(time);
     }
-}
 
-// The parts of a line, in order. They may be those after its head and tags.
-#[derive(Drop)]
-struct Parts<'a> {
-    head: &'a str,
-    rate: Option<Rate>,
-    tags: &'a str,
-    container: Option<&'a str>,
-    time: Option<u64>,
-}
-
-#[inline(always)]
-#[tactic(auto, using(std::proofs::lemmas::Grind::common_steps))]
-fn push_parts<S: LineSink>(line: &mut S, parts: &Parts<'_>)
-    ensures taken { Takes S.ends_as line.old (draft_line (draft_of_parts parts.now)) line.new }
-    ensures short { length (draft_line (draft_of_parts parts.now)) < 2 ^ 100 }
-{
-    line.take_piece(parts.head);
-    push_kept_rate(line, &parts.rate);
-    line.take_piece(parts.tags);
-    push_container(line, parts.container);
-    push_time(line, parts.time);
-}
-
-// The parts where a head and tags stand already.
-#[inline(always)]
-fn after_tags<'a>(rate: Option<Rate>, container: Option<&'a str>, time: Option<u64>) -> Parts<'a>
-    ensures { draft_of_parts result ≡ record {
-      head = [];
-      tags = [];
-      rate = rate;
-      container = option_copied container.entry;
-      time = time;
-    } }
-{
-    Parts {
-        head: "",
-        rate,
-        tags: "",
-        container,
-        time,
-    }
-}
-
-// The length of such parts.
-#[inline(always)]
-fn parts_count(parts: &Parts<'_>) -> u128
-    ensures { result ≡ length (draft_line (draft_of_parts parts.now)) }
-{
-    let mut counter = Counter::new();
-    push_parts(&mut counter, parts);
-    counter.length()
-}
-
-// The line with these parts after it.
-#[inline(always)]
-fn ended<A: Allocator>(line: Filled<A>, parts: &Parts<'_>) -> Result<String<A>, AllocError>
-    requires { 0 < length line.bytes.items }
-    ensures { IfOk result (λ text. string_bytes text ≡
-        line.bytes.items ++ draft_line (draft_of_parts parts.now)) }
-{
-    let mut line = line;
-    let Ok(length) = usize::try_from(parts_count(parts)) else {
-        return Err(AllocError);
-    };
-    line.reserve(length)?;
-    push_parts(&mut line, parts);
-    Ok(line.into_text())
-}
-
-// The line of these parts, in room of its length.
-fn joined<A: Allocator>(alloc: A, parts: &Parts<'_>) -> Result<String<A>, AllocError>
-    requires { 0 < length parts.now.head.now }
-    ensures { IfOk result (λ text. string_bytes text ≡ draft_line (draft_of_parts parts.now)) }
-{
-    let Ok(length) = usize::try_from(parts_count(parts)) else {
-        return Err(AllocError);
-    };
-    let mut line = Filled::with_room(alloc, length)?;
-    push_parts(&mut line, parts);
-    Ok(line.into_text())
-}
-
-impl<'a, A: Allocator + Clone> DraftLine<'a, A> {
-    /// The line. It takes memory where the room that is left is too short for what comes after the tags, or once for a
-    /// new line, where a rate has to come before tags. Its one refusal is want of memory.
+    /// The line. It takes memory if the room that is left is too short for the rate, the container and the time. The
+    /// one error is want of memory.
     #[inline(always)]
+    #[tactic(auto, using(crate::proofs::Drafts::line_of_metric))]
     pub fn into_text(self) -> Result<String<A>, AllocError>
-        ensures { IfOk result (λ text. string_bytes text ≡ draft_line self.entry) }
+        ensures text { IfOk result (λ text. string_bytes text ≡ draft_line self.entry) }
+        ensures metric { IfOk result (λ text. (m : Metric) → self.entry ≡ draft_of m →
+            string_bytes text ≡ line_of m) }
+    {
+        Ok(self.finish()?.into_text())
+    }
+
+    /// The line as bytes, as `into_text`.
+    #[inline(always)]
+    #[tactic(auto, using(crate::proofs::Drafts::line_of_metric))]
+    pub fn into_bytes(self) -> Result<Vec<u8, A>, AllocError>
+        ensures text { IfOk result (λ line. line.items ≡ draft_line self.entry) }
+        ensures metric { IfOk result (λ line. (m : Metric) → self.entry ≡ draft_of m →
+            line.items ≡ line_of m) }
+    {
+        Ok(self.finish()?.into_bytes())
+    }
+
+    // The line with its options.
+    #[inline(always)]
+    fn finish(self) -> Result<Filled<A>, AllocError>
+        ensures { IfOk result (λ line. line.bytes.items ≡ draft_line self.entry) }
     {
         let DraftLine {
             line,
@@ -333,20 +317,71 @@ impl<'a, A: Allocator + Clone> DraftLine<'a, A> {
             container,
             time,
         } = self;
-        let Some(rate) = rate else {
-            return ended(line, &after_tags(None, container, time));
-        };
-        if line.len() == head {
-            return ended(line, &after_tags(Some(rate), container, time));
+        let mut line = line;
+        if rate.is_some() {
+            insert_rate(&mut line, head, &rate)?;
         }
-        let (first, tags) = line.as_bytes().split_at(head);
-        let parts = Parts {
-            head: unsafe { str::from_utf8_unchecked(first) },
-            rate: Some(rate),
-            tags: unsafe { str::from_utf8_unchecked(tags) },
-            container,
-            time,
-        };
-        joined(line.allocator().clone()?, &parts)
+        end_with(&mut line, container, time)?;
+        Ok(line)
     }
+}
+
+// Writes a rate between the head of a line and its tags: first at the end, and then the tags move behind it.
+fn insert_rate<A: Allocator>(
+    line: &mut Filled<A>,
+    head: usize,
+    rate: &Option<Rate>,
+) -> Result<(), AllocError>
+    requires { IsCutAt head line.old.bytes.items }
+    ensures { OnOk result (line.new.bytes.items ≡ take head line.old.bytes.items
+        ++ (rate_field rate.now ++ drop head line.old.bytes.items)) }
+{
+    let tags = line.len() - head;
+    let mut counter = Counter::new();
+    push_kept_rate(&mut counter, rate);
+    let Ok(length) = usize::try_from(counter.length()) else {
+        return Err(AllocError);
+    };
+    line.reserve(length)?;
+    push_kept_rate(line, rate);
+    line.turn(head, tags);
+    Ok(())
+}
+
+// The room that a container and a time take, if that fits memory.
+#[inline(always)]
+fn last_room(container: Option<&str>, time: Option<u64>) -> Option<usize>
+    ensures { IfSome result (λ n. n ≡
+        length (container_field (option_copied container.entry) ++ time_field time)) }
+{
+    let time = match time {
+        Some(time) => number_len(time).checked_add(2)?,
+        None => 0,
+    };
+    match container {
+        Some(container) => container.len().checked_add(3)?.checked_add(time),
+        None => Some(time),
+    }
+}
+
+// Writes a container and a time at the end of a line.
+#[inline(always)]
+fn end_with<A: Allocator>(
+    line: &mut Filled<A>,
+    container: Option<&str>,
+    time: Option<u64>,
+) -> Result<(), AllocError>
+    requires { 0 < length line.old.bytes.items }
+    ensures { OnOk result (line.new.bytes.items ≡ line.old.bytes.items
+        ++ (container_field (option_copied container.entry) ++ time_field time)) }
+{
+    if container.is_none() && time.is_none() {
+        return Ok(());
+    }
+    let Some(room) = last_room(container, time) else {
+        return Err(AllocError);
+    };
+    line.reserve(room)?;
+    push_last(line, container, time);
+    Ok(())
 }

@@ -1,9 +1,69 @@
-//! A line in room of its length.
-ghost use Rattle.std.specs.Prelude.{◌≡◌, ◌≤◌, ◌+◌, [], IfOk, IsUtf8, OnOk, length, string_bytes};
+//! The length of a line, and a line in room of that length: each line is measured first and written then.
+//!
+//! A sink can't refuse, so a text that is too long for the room empties it. The functions that make the room prove that
+//! this never happens.
+ghost use Rattle.std.specs.Prelude.{◌≡◌, ◌≤◌, ◌+◌, ◌%◌, ◌^◌, [], IfOk, IsUtf8, OnOk, length, string_bytes};
 ghost use Rattle.std.specs.Vec.{vec_capacity, vec_len};
 
-use cadence_value::text::{ByteSink, LineSink, push_digits, push_wide_digits};
+use cadence_value::text::{
+    ByteSink, LineSink, number_len, push_digits, push_wide_digits, wide_len,
+};
 use std::alloc::{AllocError, Allocator};
+
+/// How many bytes came, modulo 2 to the 128.
+#[derive(Clone, Copy)]
+pub(crate) struct Counter {
+    length: u128,
+}
+
+impl Counter {
+    /// Nothing came yet.
+    #[inline(always)]
+    pub(crate) fn new() -> Counter
+        ensures { result.length ≡ 0 }
+    {
+        Counter { length: 0 }
+    }
+
+    #[inline(always)]
+    pub(crate) fn length(&self) -> u128
+        ensures { result ≡ self.now.length }
+    {
+        self.length
+    }
+
+    #[inline(always)]
+    fn add(&mut self, count: usize)
+        ensures { self.new.length ≡ (self.old.length + count) % 2 ^ 128 }
+    {
+        self.length = self.length.wrapping_add(count as u128);
+    }
+}
+
+impl LineSink for Counter {
+    ghost use Rattle.cadence_text.specs.Sink.{counted_ends};
+
+    ghost ends_as = { counted_ends };
+
+    #[inline(always)]
+    fn take_piece(&mut self, piece: &str) {
+        self.add(piece.len());
+    }
+
+    #[inline(always)]
+    fn take_byte(&mut self, _byte: u8) {
+        self.add(1);
+    }
+
+    #[inline]
+    fn take_number(&mut self, number: u64) {
+        self.add(number_len(number));
+    }
+
+    fn take_wide(&mut self, number: u128) {
+        self.add(wide_len(number));
+    }
+}
 
 /// A line, in room that was reserved once. What is longer than its end is no line of this room.
 #[derive(Drop)]
@@ -15,6 +75,8 @@ pub(crate) struct Filled<A: Allocator> {
 }
 
 impl<A: Allocator> Filled<A> {
+    ghost use Rattle.cadence_text.specs.Sink.{turned};
+
     /// Room of this length, by one request for just so much.
     #[inline]
     pub(crate) fn with_room(alloc: A, length: usize) -> Result<Filled<A>, AllocError>
@@ -26,18 +88,16 @@ impl<A: Allocator> Filled<A> {
         Ok(Filled { bytes, end: length })
     }
 
-    /// Room of this length in a kept one, which loses its text. Where it is shorter, it asks once for just the length;
-    /// where that is refused, it comes back.
+    /// Room of this length in a kept buffer, which loses its text. If the buffer is too short, it asks once for just
+    /// the length.
     #[inline]
-    pub(crate) fn in_room(room: Vec<u8, A>, length: usize) -> Result<Filled<A>, Vec<u8, A>>
+    pub(crate) fn in_buffer(buffer: Vec<u8, A>, length: usize) -> Result<Filled<A>, AllocError>
         ensures empty { IfOk result (λ f. f.bytes.items ≡ []) }
         ensures end { IfOk result (λ f. f.end ≡ length) }
     {
-        let mut bytes = room;
+        let mut bytes = buffer;
         bytes.clear();
-        if bytes.reserve_exact(length).is_err() {
-            return Err(bytes);
-        }
+        bytes.reserve_exact(length)?;
         Ok(Filled { bytes, end: length })
     }
 
@@ -69,11 +129,14 @@ impl<A: Allocator> Filled<A> {
         self.bytes.len()
     }
 
-    #[inline]
-    pub(crate) fn as_bytes(&self) -> &[u8]
-        ensures { result.now ≡ self.now.bytes.items }
+    /// Moves the first `count` bytes after `start` behind those that follow them.
+    pub(crate) fn turn(&mut self, start: usize, count: usize)
+        requires within { start + count ≤ length self.old.bytes.items }
+        requires utf8 { IsUtf8 (turned start count self.old.bytes.items) }
+        ensures bytes { self.new.bytes.items ≡ turned start count self.old.bytes.items }
+        ensures end { self.new.end ≡ self.old.end }
     {
-        self.bytes.as_slice()
+        self.bytes[start..].rotate_left(count);
     }
 
     #[inline]
@@ -81,11 +144,6 @@ impl<A: Allocator> Filled<A> {
         ensures { result.now ≡ self.now.bytes.items }
     {
         unsafe { std::str::from_utf8_unchecked(self.bytes.as_slice()) }
-    }
-
-    #[inline]
-    pub(crate) fn allocator(&self) -> &A {
-        self.bytes.allocator()
     }
 
     #[inline]

@@ -36,7 +36,8 @@ impl Model for Rate {
 impl Rate {
     #[inline(always)]
     pub(crate) fn of(rate: Decimal) -> Rate
-        ensures { result ≡ rate }
+        ensures rate { result ≡ rate }
+        ensures whole { IsDecimal rate }
     {
         let bits = rate.mantissa().cast_unsigned();
         Rate {

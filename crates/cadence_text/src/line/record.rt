@@ -1,16 +1,15 @@
 //! A metric before it is text.
-mod kept;
 mod owned;
 mod same;
 
 use crate::line::MetricType;
-use crate::line::counter::Counter;
-use crate::line::filled::Filled;
-use crate::line::pieces::{push_container, push_kind, push_rate, push_tags, push_time};
+use crate::line::draft::{Head, push_head};
+use crate::line::filled::{Counter, Filled};
+use crate::line::pieces::{push_last, push_rate, push_tags};
 use crate::line::tag::Tag;
 use cadence_errors::MetricResult;
 use cadence_value::decimal::Decimal;
-use cadence_value::text::{LineSink, push_value};
+use cadence_value::text::LineSink;
 use cadence_value::value::MetricValue;
 pub use owned::OwnedMetric;
 use std::alloc::{AllocError, Allocator, Global};
@@ -22,10 +21,7 @@ use std::marker::Model;
 /// name is the prefix followed by the key.
 #[derive(Drop)]
 pub struct Record<'a, A: Allocator = Global> {
-    prefix: &'a str,
-    key: &'a str,
-    value: MetricValue<A>,
-    kind: MetricType,
+    head: Head<'a, A>,
     rate: Option<Decimal>,
     tags: Vec<Tag<'a>, A>,
     container: Option<&'a str>,
@@ -84,10 +80,12 @@ impl<'a, A: Allocator> Record<'a, A> {
             { tags = map tag_of tags.entry.items; container = option_copied container.entry } }
     {
         Record {
-            prefix,
-            key,
-            value,
-            kind,
+            head: Head {
+                prefix,
+                key,
+                value,
+                kind,
+            },
             rate: None,
             tags,
             container,
@@ -127,20 +125,15 @@ impl<'a, A: Allocator> Record<'a, A> {
     }
 
     #[inline]
-    #[tactic(auto, using(std::proofs::lemmas::Grind::common_steps, crate::proofs::LineLength::joined_utf8), unfolding(crate::specs::Line::line_of))]
+    #[tactic(auto, using(std::proofs::lemmas::Grind::common_steps), unfolding(crate::specs::Line::line_of))]
     fn push_line<S: LineSink>(&self, line: &mut S)
         ensures taken { Takes S.ends_as line.old (line_of self.now) line.new }
         ensures sized { IsRecordMetric self.now }
     {
-        line.take_piece(self.prefix);
-        line.take_piece(self.key);
-        line.take_byte(b':');
-        push_value(line, &self.value);
-        push_kind(line, self.kind);
+        push_head(line, &self.head);
         push_rate(line, self.rate);
         push_tags(line, &self.tags);
-        push_container(line, self.container);
-        push_time(line, self.time);
+        push_last(line, self.container, self.time);
     }
 
     /// The length of the line in bytes, without making it. Takes no memory.
@@ -181,22 +174,12 @@ impl<'a, A: Allocator> Record<'a, A> {
     ///
     /// The fields stand in cadence's order: name, numbers, type text, rate, tags, container, time.
     ///
-    /// Refuses with `SinkError::OutOfMemory` alone, where that request is refused or the length passes `usize::MAX`;
-    /// the record stays as it was.
+    /// The one error is `SinkError::OutOfMemory`: the request was refused, or the length passes `usize::MAX`. The record
+    /// stays as it was.
+    #[tactic(auto, using(crate::proofs::LineText::line_is_not_empty, crate::proofs::LineLength::record_said))]
     pub fn format<B: Allocator>(&self, alloc: B) -> MetricResult<String<B>>
         ensures line { IfOk result (λ line. string_bytes line ≡ line_of self.now) }
         ensures refused { OnlyWantsMemory result }
-        ensures said { OnOk result (IsSaid self.now) }
-        ensures not_empty { 0 < length (line_of self.now) }
-    {
-        let line = self.line(alloc)?;
-        Ok(line)
-    }
-
-    /// The line as `format` makes it. Its one refusal is want of memory, as a small error.
-    #[tactic(auto, using(crate::proofs::LineText::line_is_not_empty, crate::proofs::LineLength::record_said))]
-    pub fn line<B: Allocator>(&self, alloc: B) -> Result<String<B>, AllocError>
-        ensures line { IfOk result (λ line. string_bytes line ≡ line_of self.now) }
         ensures said { OnOk result (IsSaid self.now) }
         ensures not_empty { 0 < length (line_of self.now) }
     {

@@ -216,14 +216,6 @@ fn buffer(
     }
 }
 
-// What an answer is that leaves its error in a place of its own.
-#[derive(Clone, Copy)]
-enum Noted {
-    Taken,
-    Refused,
-    Nothing,
-}
-
 // A call of a packer.
 #[derive(Clone, Copy)]
 enum Call {
@@ -231,34 +223,27 @@ enum Call {
     Hold(&'static str),
     Write(&'static str),
     Flush,
-    WriteNoting(&'static str, Noted),
-    FlushNoting(Noted),
+    // a write whose packet the writer refuses
+    WriteRefused(&'static str),
+    // a flush of which the writer takes 0 bytes
+    FlushOfNothing,
 }
 
-// Whether the answer is that, and the error that is left.
-fn is_noted(is_taken: bool, fault: &SinkError, wanted: Noted) -> bool {
-    match wanted {
-        Noted::Taken => is_taken,
-        Noted::Refused => !is_taken && matches!(fault, SinkError::PacketRefused),
-        Noted::Nothing => !is_taken && matches!(fault, SinkError::NothingWritten),
-    }
-}
-
-// Whether a call goes well, or as it is wanted.
+// Whether a call goes well, or has the error that is its name's.
 fn goes(lines: &mut LineBuffer<PacketLog>, call: Call) -> bool {
     let mut fault = SinkError::OutOfMemory;
     match call {
         Call::Fits(line) => lines.fits(line.as_bytes()),
         Call::Hold(line) => lines.hold(line.as_bytes()),
-        Call::Write(line) => is_count(lines.write(line.as_bytes()), line.len()),
-        Call::Flush => lines.flush().is_ok(),
-        Call::WriteNoting(line, wanted) => {
-            let taken = lines.write_noting(line.as_bytes(), &mut fault);
-            is_noted(taken == Some(line.len()), &fault, wanted)
+        Call::Write(line) => lines.write(line.as_bytes(), &mut fault) == Some(line.len()),
+        Call::Flush => lines.flush(&mut fault).is_some(),
+        Call::WriteRefused(line) => {
+            let taken = lines.write(line.as_bytes(), &mut fault);
+            taken.is_none() && matches!(fault, SinkError::PacketRefused)
         }
-        Call::FlushNoting(wanted) => {
-            let is_taken = lines.flush_noting(&mut fault).is_some();
-            is_noted(is_taken, &fault, wanted)
+        Call::FlushOfNothing => {
+            let flushed = lines.flush(&mut fault);
+            flushed.is_none() && matches!(fault, SinkError::NothingWritten)
         }
     }
 }
@@ -283,7 +268,7 @@ const FITTING: &[Row] = &[
     (Call::Fits("456"), false, 0, "12\n"),
 ];
 
-// A line stands behind what a short count leaves wherever both have room.
+// A line stands behind what a short count leaves if both have room.
 const JOINING: &[Row] = &[
     (Call::Write("abc"), true, 0, "abc\n"),
     (Call::Write("def"), true, 0, "abc\ndef\n"),
@@ -303,17 +288,12 @@ const LEAVING: &[Row] = &[
     (Call::Flush, false, 1, "bc\n"),
 ];
 
-// An error is left in its place, where there is one.
-const NOTING: &[Row] = &[
-    (Call::WriteNoting("abc", Noted::Taken), true, 0, "abc\n"),
-    (
-        Call::WriteNoting("123456789", Noted::Refused),
-        true,
-        0,
-        "abc\n",
-    ),
-    (Call::FlushNoting(Noted::Nothing), true, 1, "abc\n"),
-    (Call::WriteNoting("123456789", Noted::Taken), true, 3, ""),
+// An error is left in its place.
+const FAILING: &[Row] = &[
+    (Call::Write("abc"), true, 0, "abc\n"),
+    (Call::WriteRefused("123456789"), true, 0, "abc\n"),
+    (Call::FlushOfNothing, true, 1, "abc\n"),
+    (Call::Write("123456789"), true, 3, ""),
 ];
 
 const RUNS: [Run; 4] = [
@@ -334,7 +314,7 @@ const RUNS: [Run; 4] = [
         8,
         &[Answer::Refuse, Answer::Short(0)],
         &["", "abc\n", "123456789"],
-        NOTING,
+        FAILING,
     ),
 ];
 

@@ -1,9 +1,11 @@
-use Rattle.std.proofs.Common.{◌≡◌, take}
+use Rattle.std.proofs.Common.{take}
 use Rattle.std.specs.Prelude.{map}
 use Rattle.std.specs.List.{fold}
-use Rattle.cadence_schedule.specs.Call.{chosen}
+use Rattle.cadence_text.specs.Metric.{Metric}
+use Rattle.cadence_schedule.specs.Call.{IsDraftOf, chosen}
 use Rattle.cadence_schedule.specs.Calls.{choice_of}
 use Rattle.cadence_schedule.proofs.call.choose_all.Given as goal
 
+-- the draft has the first options
 abbrev pub invariant-loop-option : goal.invariant-loop-option
-invariant-loop-option g l = l.metric ≡ fold chosen l.fn.metric (map choice_of (take l.option-index l.options))
+invariant-loop-option g l = (m : Metric) → IsDraftOf m l.fn.draft → IsDraftOf (fold chosen m (map choice_of (take l.option-index l.options))) l.draft

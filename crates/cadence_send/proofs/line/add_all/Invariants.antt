@@ -4,6 +4,7 @@ use denote.Text.{Utf8}
 use Rattle.std.specs.List.{AllZip}
 use Rattle.cadence_text.specs.Metric.{Tag}
 use Rattle.cadence_send.specs.Asked.{IsTagWord, words_of}
+use Rattle.cadence_send.proofs.WordByWord.{Tagged}
 use Rattle.cadence_send.proofs.line.add_all.Given as goal
 
 abbrev pub decreases-loop-word : goal.decreases-loop-word
@@ -12,4 +13,4 @@ decreases-loop-word g l = length (words_of l.left)
 abbrev pub invariant-loop-word : goal.invariant-loop-word
 invariant-loop-word g l =
     shadow (Utf8 l.left)
-    × ((front : List (List ℕ)) × (tags : List Tag) × (words_of l.fn.text ≡ front ++ words_of l.left) × AllZip IsTagWord front tags × (l.metric ≡ record l.initial.metric { tags = l.initial.metric.tags ++ tags }))
+    × ((front : List (List ℕ)) × (tags : List Tag) × (words_of l.fn.text ≡ front ++ words_of l.left) × AllZip IsTagWord front tags × Tagged l.initial.draft l.draft tags)

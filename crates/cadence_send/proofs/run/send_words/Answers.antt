@@ -1,14 +1,15 @@
-use Rattle.std.proofs.Common.{rules, ◌≡◌, map, refl, string_bytes, subst, sym}
+use Rattle.std.proofs.Common.{rules, ◌≡◌, map, refl, subst, sym}
+use Rattle.std.specs.Option.{ok_or}
 use Rattle.cadence_send.specs.Sent.{IsLineOfWords}
 use Rattle.cadence_send.proofs.Feeding.{word_sent}
 use Rattle.cadence_send.proofs.run.send_words.Goals as goal
 
-pub returns-in_ok-flush_all-in-Ok : goal.returns-in_ok-flush_all-in-Ok
-returns-in_ok-flush_all-in-Ok g c =
-    let same : c.as_bytes.result.now ≡ string_bytes c.in-Ok.line = search rules in (
-      c.as_bytes.result.now,
+pub returns-in-Ok : goal.returns-in-Ok
+returns-in-Ok g c =
+    let same : c.deref.result.now ≡ c.write_line_of_words.new.buffer.items = search rules in (
+      c.deref.result.now,
       subst (IsLineOfWords c.args.defaults.now (map (λ w. w.now) c.args.words.now)) (sym same) c.in-Ok.ensures,
-      word_sent g.T.PacketWriter.kind g.T.PacketWriter.history c.args.lines.now c.write.new.self c.flush_all.new.lines c.as_bytes.result.now _ c.write.result c.in_ok-write-in-Ok.was c.write.ensures.writes c.in_ok-flush_all-in-Ok.ensures.same,
+      word_sent g.T.PacketWriter.kind g.T.PacketWriter.history c.args.lines.now c.write.new.self c.flush_all.new.lines c.deref.result.now c.in_ok-ok_or-in-Ok.field-0 (ok_or c.write.result c.write.new.fault) (search rules) c.write.ensures.writes c.in_ok-flush_all-in-Ok.ensures.same,
       c.in_ok-flush_all-in-Ok.ensures.empty,
     )
 

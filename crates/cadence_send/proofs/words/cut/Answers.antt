@@ -1,19 +1,31 @@
-use Rattle.std.proofs.Common.{◌≢◌, ◌<◌, ℕ, List, Option, Some, None, Bor}
-use Rattle.std.specs.Prelude.{All, IfNone, IfSome}
-use Rattle.std.proofs.lemmas.List.Elements.{All-from_get_or}
-use Rattle.std.proofs.lemmas.Str.Pattern.{IsSplitOnceResult, split_parts}
+use Rattle.std.proofs.Common.{◌≡◌, ℕ, ◌+◌, ◌<◌, ◌∙◌, List, [], ◌∷◌, ◌++◌, ap, append_assoc, arith, drop, get_or, length, length-append, refl, subst, sym, take}
+use Rattle.std.specs.Str.{IsUtf8}
+use Rattle.std.proofs.lemmas.List.{drop_at, get_or_at, take_at}
+use Rattle.std.proofs.lemmas.Str.{IsCharBoundary-after_ascii, IsCharBoundary-before_ascii, IsUtf8-drop, IsUtf8-take}
 use Rattle.cadence_send.proofs.words.cut.Goals as goal
 
-none_there : (m : ℕ) (text : List ℕ) (r : Option (Bor (List ℕ) × Bor (List ℕ))) → m < 128 → IsSplitOnceResult m text r → IfNone r (All (λ byte. byte ≢ m) text)
-none_there m text None low h = All-from_get_or (λ byte. byte ≢ m) text 0 (split_parts m text None h low)
-none_there m text (Some parts) low h = tt
+-- a text that is cut at an ASCII character: each side is in UTF-8
+module _ (text front rest : List ℕ) (mark : ℕ) (low : mark < 128) (utf8 : IsUtf8 text) (whole : text ≡ front ++ mark ∷ rest) where
+  here : length front < length text
+  here = omega (arith, ap length whole, length-append front (mark ∷ rest))
 
-none_before : (m : ℕ) (text : List ℕ) (r : Option (Bor (List ℕ) × Bor (List ℕ))) → m < 128 → IsSplitOnceResult m text r → IfSome r (λ parts. All (λ byte. byte ≢ m) parts.0.now)
-none_before m text None low h = tt
-none_before m text (Some parts) low h = All-from_get_or (λ byte. byte ≢ m) parts.0.now 0 (split_parts m text (Some parts) h low).1
+  at_mark : get_or text (length front) 0 < 128
+  at_mark = subst (λ b. b < 128) (sym (ap (λ t. get_or t (length front) 0) whole ∙ get_or_at front mark rest 0 (length front) refl)) low
 
-pub returns-clause-none : goal.returns-clause-none
-returns-clause-none c = none_there c.args.mark c.args.text.now c.split_once.result c.requires c.split_once.ensures.cases
+  front_utf8 : IsUtf8 front
+  front_utf8 =
+      subst IsUtf8 (ap (take (length front)) whole ∙ take_at front (mark ∷ rest) (length front) refl)
+      (IsUtf8-take text (length front) utf8 (IsCharBoundary-before_ascii text (length front) here at_mark))
 
-pub returns-clause-front : goal.returns-clause-front
-returns-clause-front c = none_before c.args.mark c.args.text.now c.split_once.result c.requires c.split_once.ensures.cases
+  rest_utf8 : IsUtf8 rest
+  rest_utf8 =
+      subst IsUtf8 (ap (drop (length front + 1)) (whole ∙ sym (append_assoc front (mark ∷ []) rest)) ∙ drop_at (front ++ mark ∷ []) rest (length front + 1) (length-append front (mark ∷ [])))
+      (IsUtf8-drop text (length front + 1) utf8 (IsCharBoundary-after_ascii text (length front) utf8 here at_mark))
+
+pub from_utf8_unchecked-front-requires : goal.from_utf8_unchecked-front-requires
+from_utf8_unchecked-front-requires c =
+    front_utf8 c.args.text.now c.in_ok-front.front.now c.in_ok-front.rest.now c.args.mark c.requires c.utf8.text (sym c.as_bytes.ensures.value ∙ c.in_ok-front.ensures.whole)
+
+pub from_utf8_unchecked-rest-requires : goal.from_utf8_unchecked-rest-requires
+from_utf8_unchecked-rest-requires c =
+    rest_utf8 c.args.text.now c.in_ok-front.front.now c.in_ok-front.rest.now c.args.mark c.requires c.utf8.text (sym c.as_bytes.ensures.value ∙ c.in_ok-front.ensures.whole)

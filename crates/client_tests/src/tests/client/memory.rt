@@ -102,8 +102,8 @@ fn a_line_that_grows_is_sent_or_refused(rt: HostRuntime) -> Result<(), Fail> {
     });
     assert_eq!(rt;
         granted?,
-        Some(11),
-        "eight for the client, the line, its growth, and it anew"
+        Some(10),
+        "eight for the client, the line, and its growth"
     );
     Ok(())
 }

@@ -1,4 +1,5 @@
 use Rattle.std.proofs.Common.{subst, sym}
+use Rattle.std.specs.Option.{ok_or}
 use Rattle.cadence_ledger.specs.Ledger.{packer_of, accepted_of}
 use Rattle.cadence_ledger.proofs.Wholes.{PackerWhole, whole_flushes}
 use Rattle.cadence_ledger.proofs.whole_ledger.WholeLedger.flush.Goals as goal
@@ -9,5 +10,5 @@ invariant_of-self g c =
     let new = c.flush.new.self in
     record {
       whole = subst (λ a. ∥ PackerWhole (packer_of new) a ∥₁) (sym c.flush.ensures.same)
-          (whole_flushes g.W.PacketWriter.kind g.W.PacketWriter.history (packer_of now.lines) (packer_of new) c.requires (accepted_of now.lines) c.flush.result c.flush.ensures.flushes now.whole);
+          (whole_flushes g.W.PacketWriter.kind g.W.PacketWriter.history (packer_of now.lines) (packer_of new) c.requires (accepted_of now.lines) (ok_or c.flush.result c.flush.new.fault) c.flush.ensures.flushes now.whole);
     }

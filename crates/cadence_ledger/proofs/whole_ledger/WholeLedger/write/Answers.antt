@@ -1,3 +1,5 @@
+use Rattle.std.proofs.Common.{◌≡◌, ◌∷◌, ◌++◌, [], IfOk, OnErr, rules}
+use Rattle.std.specs.Option.{ok_or}
 use Rattle.cadence_ledger.specs.Ledger.{packer_of, accepted_of}
 use Rattle.cadence_ledger.proofs.Wholes.{whole_writes}
 use Rattle.cadence_ledger.proofs.whole_ledger.WholeLedger.write.Goals as goal
@@ -6,6 +8,10 @@ pub invariant_of-self : goal.invariant_of-self
 invariant_of-self g c =
     let now = c.args.self.now in
     let wrote = c.write in
+    let line = c.args.line.now in
+    let answer = ok_or wrote.result wrote.new.fault in
+    let accepted : IfOk answer (λ n. accepted_of wrote.new.self ≡ accepted_of now.lines ++ (line, n) ∷ []) = search rules in
+    let refused : OnErr answer (accepted_of wrote.new.self ≡ accepted_of now.lines) = search rules in
     record {
-      whole = whole_writes g.W.PacketWriter.kind g.W.PacketWriter.history (packer_of now.lines) (packer_of wrote.new.self) c.requires (accepted_of now.lines) c.args.line.now (accepted_of wrote.new.self) wrote.result wrote.ensures.writes wrote.ensures.accepted wrote.ensures.refused now.whole;
+      whole = whole_writes g.W.PacketWriter.kind g.W.PacketWriter.history (packer_of now.lines) (packer_of wrote.new.self) c.requires (accepted_of now.lines) line (accepted_of wrote.new.self) answer wrote.ensures.writes accepted refused now.whole;
     }

@@ -1,20 +1,20 @@
-use Rattle.std.proofs.Common.{◌≡◌, List, [], ◌∷◌, ◌++◌, map, ap, ◌∙◌, rules}
+use Rattle.std.proofs.Common.{◌≡◌, List, Option, String, [], ◌∷◌, ◌++◌, map, ap, ◌∙◌, rules}
 use Rattle.std.proofs.lemmas.List.{map-append}
 use Rattle.std.specs.Option.{option_copied}
 use Rattle.cadence_text.specs.Metric.{Tag}
 use Rattle.cadence_text.proofs.Drafts.{added_tag}
-use Rattle.cadence_schedule.specs.declared.settings.OwnedTag.{OwnedTag}
+use Rattle.cadence_text.specs.Owned.{tag_of_owned}
 use Rattle.cadence_schedule.specs.Settings.{Settings, with_default_tag}
-use Rattle.cadence_schedule.specs.SettingsParts.{owned_tag, settings_seen}
+use Rattle.cadence_schedule.specs.SettingsParts.{settings_seen}
 use Rattle.cadence_schedule.proofs.settings.ClientSettings.add_tag.Goals as goal
 
 pub invariant_of-self-2 : goal.invariant_of-self-2
 invariant_of-self-2 g c =
     let tags = c.self.inside.tags.items in
-    let tag : OwnedTag g.row.A.Denot = record { key = c.match-key.key; text = c.in_ok-text.text } in
+    let tag : Option (String g.row.A.Denot) × String g.row.A.Denot = (c.match-key.key, c.in_ok-text.text) in
     cc (
-      added_tag (map owned_tag tags) (owned_tag tag),
-      map-append owned_tag tags (tag ∷ []),
+      added_tag (map tag_of_owned tags) (tag_of_owned tag),
+      map-append tag_of_owned tags (tag ∷ []),
       c.in_ok-add.ensures.ok,
       c.in_ok-reserve.ensures.items,
       c.push_reserved.ensures.items,
@@ -23,13 +23,13 @@ invariant_of-self-2 g c =
 pub returns-clause-ok : goal.returns-clause-ok
 returns-clause-ok g c =
     let inside = c.self.inside in
-    let tag : OwnedTag g.row.A.Denot = record { key = c.match-key.key; text = c.in_ok-text.text } in
+    let tag : Option (String g.row.A.Denot) × String g.row.A.Denot = (c.match-key.key, c.in_ok-text.text) in
     let given : Tag = record { key = option_copied c.args.key; text = c.args.text.now } in
-    let same : owned_tag tag ≡ given = search rules in
-    let before = map owned_tag inside.tags.items in
-    let tags : map owned_tag c.push_reserved.new.self.items ≡ before ++ given ∷ [] =
+    let same : tag_of_owned tag ≡ given = search rules in
+    let before = map tag_of_owned inside.tags.items in
+    let tags : map tag_of_owned c.push_reserved.new.self.items ≡ before ++ given ∷ [] =
     cc (
-      map-append owned_tag inside.tags.items (tag ∷ []),
+      map-append tag_of_owned inside.tags.items (tag ∷ []),
       c.in_ok-reserve.ensures.items,
       c.push_reserved.ensures.items,
     ) in

@@ -11,6 +11,6 @@ pub returns : goal.returns
 returns g c =
     let call = c.args.call.now in
     let made : c.in_ok-metric.metric ≡ metric_of_call c.args.self.now (plain_call (kind_of_value call.value) (string_bytes call.key) (numbers_of c.in_ok-value.value)) = search rules in
-    let all : c.choose_all.new.metric ≡ fold chosen c.in_ok-metric.metric (map choice_of call.options.items) = search rules in
+    let all : c.set_all.new.metric ≡ fold chosen c.in_ok-metric.metric (map choice_of call.options.items) = search rules in
     makes_metric-fold c.args.self.now (kind_of_value call.value) (string_bytes call.key) (map choice_of call.options.items) (numbers_of_value call.value)
-    c.in_ok-value.value c.in_ok-metric.metric c.choose_all.new.metric c.in_ok-value.ensures made all
+    c.in_ok-value.value c.in_ok-metric.metric c.set_all.new.metric c.in_ok-value.ensures made all

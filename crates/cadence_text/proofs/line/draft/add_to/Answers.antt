@@ -4,6 +4,7 @@ use Rattle.cadence_text.specs.Line.{tag_text}
 use Rattle.cadence_text.specs.Record.{tag_of}
 use Rattle.cadence_text.specs.Sink.{up_to}
 use Rattle.cadence_text.proofs.Drafts.{lead_short, tag_utf8}
+use Rattle.cadence_text.proofs.LineLength.{said_tag}
 use Rattle.cadence_text.proofs.Taken.{filled_more}
 use Rattle.cadence_text.proofs.line.draft.add_to.Goals as goal
 
@@ -21,3 +22,6 @@ returns-clause-ok g c =
 
 pub returns-clause-utf8 : goal.returns-clause-utf8
 returns-clause-utf8 g c = tag_utf8 c.args.begun (tag_of c.args.tag.now) c.push_tag.ensures.sized
+
+pub returns-clause-said : goal.returns-clause-said
+returns-clause-said g c = said_tag (tag_of c.args.tag.now) c.push_tag.ensures.sized

@@ -1,12 +1,25 @@
-use Rattle.std.proofs.Common.{rules, ◌++◌, subst}
-use Rattle.std.specs.Str.{IsUtf8}
-use Rattle.std.proofs.lemmas.Grind.{common_steps}
+use Rattle.std.proofs.Common.{◌<◌, ◌^◌, ◌++◌, List, arith, length, length-append, map, subst}
+use Rattle.cadence_text.specs.declared.line.tag.Tag.{Tag}
 use Rattle.cadence_text.specs.Metric.{Metric}
+use Rattle.cadence_text.specs.Record.{metric_of, tag_of}
+use Rattle.cadence_text.specs.RecordMetric.{AreRecordTags, IsRecordMetric}
 use Rattle.cadence_text.proofs.LineLength.{joined_utf8}
 use Rattle.cadence_text.proofs.line.record.Record.push_line.Goals as goal
 
 pub returns-clause-sized : goal.returns-clause-sized
 returns-clause-sized g c =
-    let utf8 : IsUtf8 (c.self.inside.prefix.now ++ c.self.inside.key.now) = joined_utf8 c.self.inside.prefix.now c.self.inside.key.now c.take_piece.ensures.sized.1 c.take_piece-2.ensures.sized.1 in
-    let name : IsUtf8 (c.args.self.now).name = subst (λ (m : Metric). IsUtf8 m.name) c.self.view_is utf8 in
-    search (rules, common_steps, name)
+    let inside = c.self.inside in
+    let prefix = inside.head.prefix.now in
+    let key = inside.head.key.now in
+    let said = c.push_head.ensures in
+    let short : length (prefix ++ key) < 2 ^ 64 = omega (arith, said.prefix.0, said.key.0, length-append prefix key) in
+    let whole : IsRecordMetric (metric_of inside) = record {
+      name = short;
+      utf8 = joined_utf8 prefix key said.prefix.1 said.key.1;
+      numbers = said.numbers;
+      rate = c.push_rate.ensures.sized;
+      tags = subst (λ (ts : List Tag). AreRecordTags (map tag_of ts)) c.deref.ensures.value c.push_tags.ensures.sized;
+      container = c.push_last.ensures.container;
+      time = c.push_last.ensures.time;
+    } in
+    subst (λ (m : Metric). IsRecordMetric m) c.self.view_is whole

@@ -1,4 +1,0 @@
-use Rattle.cadence_c.proofs.tags.CTags.known.Goals as goal
-
-pub invariant_of-result : goal.invariant_of-result
-invariant_of-result c = ∣ c.requires ∣₁

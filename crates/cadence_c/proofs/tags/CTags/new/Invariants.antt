@@ -1,7 +1,0 @@
-use Rattle.std.proofs.Common.{take}
-use Rattle.std.specs.List.{All}
-use Rattle.cadence_c.specs.Calls.{IsTextTag}
-use Rattle.cadence_c.proofs.tags.CTags.new.Given as goal
-
-abbrev pub invariant-loop-tag : goal.invariant-loop-tag
-invariant-loop-tag l = All IsTextTag (take l.tag-index l.tags)

@@ -1,0 +1,83 @@
+//! Records of calls, for a caller who wants a metric before it is text.
+ghost use Rattle.std.specs.Prelude.{◌≡◌, OnOk, map};
+ghost use Rattle.std.specs.List.{fold};
+ghost use Rattle.cadence_schedule.specs.Call.{chosen};
+ghost use Rattle.cadence_schedule.specs.Calls.{choice_of};
+
+use super::ClientSettings;
+use crate::call::{Call, CallOption};
+use cadence_errors::MetricResult;
+use cadence_text::line::{MetricType, Record, Tag, lend_tags};
+use cadence_value::value::MetricValue;
+use std::alloc::{AllocError, Allocator};
+
+impl<A: Allocator + Clone> ClientSettings<A> {
+    ghost use Rattle.cadence_errors.specs.Errors.{Makes};
+    ghost use Rattle.cadence_value.specs.Values.{numbers_of};
+    ghost use Rattle.cadence_schedule.specs.Call.{MakesMetric, metric_of_call, plain_call};
+    ghost use Rattle.cadence_schedule.specs.Calls.{metric_of_data};
+
+    /// The record of a call without options, with these defaults in it. The one error is `OutOfMemory`.
+    pub fn record<'a>(
+        &'a self,
+        key: &'a str,
+        kind: MetricType,
+        value: MetricValue<A>,
+    ) -> MetricResult<Record<'a, A>>
+        ensures { Makes (metric_of_call self.now (plain_call kind key.now (numbers_of value)))
+            result }
+    {
+        let tags = lend_tags(self.tags.allocator().clone()?, &self.tags)?;
+        Ok(Record::with_defaults(&self.prefix, key, kind, value, tags, self.container()))
+    }
+
+    /// The record of a call that is kept as data, with these defaults and its options in it.
+    ///
+    /// # Errors
+    /// `InvalidInput` (`u64 overflow`) if and only if a duration of the call passes `u64::MAX` in the unit of its kind,
+    /// before memory is taken; else `OutOfMemory` alone.
+    pub fn record_of<'a>(&'a self, call: &'a Call<A>) -> MetricResult<Record<'a, A>>
+        ensures { MakesMetric (metric_of_data self.now call.now) result }
+    {
+        let value = call.value.convert()?;
+        let mut metric = self.record(&call.key, call.value.kind(), value)?;
+        set_all(&mut metric, &call.options)?;
+        Ok(metric)
+    }
+}
+
+// Sets an option of a call in its record.
+fn set<'a, A: Allocator>(
+    metric: &mut Record<'a, A>,
+    option: &'a CallOption<A>,
+) -> Result<(), AllocError>
+    ensures { OnOk result (metric.new ≡ chosen metric.old (choice_of option.now)) }
+{
+    match option {
+        CallOption::Tag(key, text) => metric.add_tag(Tag {
+            key: Some(key.as_str()),
+            text: text.as_str(),
+        })?,
+        CallOption::TagValue(text) => metric.add_tag(Tag {
+            key: None,
+            text: text.as_str(),
+        })?,
+        CallOption::Container(text) => metric.set_container(text.as_str()),
+        CallOption::Time(time) => metric.set_time(*time),
+        CallOption::Rate(rate) => metric.set_rate(*rate),
+    }
+    Ok(())
+}
+
+// Sets the options of a call in its record, in their order.
+fn set_all<'a, A: Allocator>(
+    metric: &mut Record<'a, A>,
+    options: &'a [CallOption<A>],
+) -> Result<(), AllocError>
+    ensures { OnOk result (metric.new ≡ fold chosen metric.old (map choice_of options.now)) }
+{
+    for option in options {
+        set(metric, option)?;
+    }
+    Ok(())
+}
