@@ -1,8 +1,10 @@
 //! A queue that threads share.
-ghost use Rattle.std.specs.Prelude.{◌≡◌, [], ◌++◌, IfErr, IfOk, false};
-ghost use Rattle.cadence_flow.specs.Queue.{IsQueueRefusal};
+ghost use Rattle.std.specs.Prelude.{◌≡◌, ◌≢◌, [], ◌++◌, IfErr, IfOk, None, false};
+ghost use Rattle.cadence_errors.specs.declared.SinkError.TheVariants.{ChannelFull};
+ghost use Rattle.cadence_flow.specs.Queue.{IsQueueRefusal, error_of};
 ghost use Rattle.cadence_flow.specs.QueueRoom.{OnlyWantsRoom};
 ghost use Rattle.cadence_flow.specs.declared.queue.policy.QueuePolicy.TheVariants.{Refuse};
+ghost use Rattle.cadence_flow.specs.declared.queue.refusal.Refusal.TheVariants.{Full};
 ghost use Rattle.cadence_ledger.specs.SharedQueue.{bound_of, rule_of};
 ghost use Rattle.cadence_ledger.specs.Taker.{given_by, has_ended};
 
@@ -60,14 +62,19 @@ impl<T: Drop, A: Allocator + Clone> SharedQueue<T, A> {
     /// Puts a text last, and wakes those who wait for one. The result and the errors are those of `QueueCore::submit`;
     /// after an error the text comes back and the queue has not changed. It doesn't wait for room.
     pub fn submit(&self, rt: &impl Wait, text: T) -> Result<Option<T>, (SinkError, T)>
-        ensures { IfErr result (λ e. IsQueueRefusal e.0 × (e.1 ≡ text)) }
+        ensures refused { IfErr result (λ e. IsQueueRefusal e.0 × (e.1 ≡ text)) }
+        ensures unbounded { bound_of self.now ≡ None → IfErr result (λ e. e.0 ≢ ChannelFull) }
     {
         let mut kept = acquire(&self.kept, rt);
         let idle = kept.ledger.core().is_idle();
         let answer = kept.ledger.submit(text);
         drop(kept);
         self.wake(idle && answer.is_ok());
-        answer
+        match answer {
+            Ok(dropped) => Ok(dropped),
+            Err((SinkError::ChannelFull, text)) => Err((SinkError::from(self.fullness()), text)),
+            Err((error, text)) => Err((error, text)),
+        }
     }
 
     /// Puts last the text that `make` makes, and wakes those who wait for one. The errors are those of
@@ -79,7 +86,8 @@ impl<T: Drop, A: Allocator + Clone> SharedQueue<T, A> {
         make: F,
     ) -> Result<(), SinkError>
         requires { F.IsAlwaysCallable make }
-        ensures { IfErr result IsQueueRefusal }
+        ensures refused { IfErr result IsQueueRefusal }
+        ensures unbounded { bound_of self.now ≡ None → IfErr result (λ e. e ≢ ChannelFull) }
     {
         Ok(self.offer(rt, |_spare| make())?)
     }
@@ -93,6 +101,7 @@ impl<T: Drop, A: Allocator + Clone> SharedQueue<T, A> {
         make: F,
     ) -> Result<(), Refusal>
         requires { F.IsAlwaysCallable make }
+        ensures unbounded { bound_of self.now ≡ None → IfErr result (λ e. e ≢ Full) }
     {
         let mut kept = acquire(&self.kept, rt);
         let idle = kept.ledger.core().is_idle();
@@ -100,7 +109,23 @@ impl<T: Drop, A: Allocator + Clone> SharedQueue<T, A> {
         let answer = kept.ledger.offer(|| make(spare));
         drop(kept);
         self.wake(idle && answer.is_ok());
-        answer
+        match answer {
+            Err(Refusal::Full) => Err(self.fullness()),
+            answer => answer,
+        }
+    }
+
+    // What a caller is told of a queue that says it is full. One without a bound never is, but no clause of a lock says
+    // what capacity the queue under it has, so this is asked of what stands beside the lock.
+    #[inline(always)]
+    fn fullness(&self) -> Refusal
+        ensures refusal { IsQueueRefusal (error_of result) }
+        ensures unbounded { bound_of self.now ≡ None → result ≢ Full }
+    {
+        if self.capacity.is_none() {
+            return Refusal::OutOfMemory;
+        }
+        Refusal::Full
     }
 
     /// Room for a taker of this queue: for 32 texts, or for a thirty-second of what a bounded queue holds if that is

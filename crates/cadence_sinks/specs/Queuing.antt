@@ -1,9 +1,11 @@
 -- What contracts show of a queuing sink and of its builder.
-use Rattle.std.specs.Prelude.{ℕ, Option}
+use Rattle.std.specs.Prelude.{◌≡◌, ◌≢◌, ℕ, List, Option, None, Result, Err}
 use Rattle.std.specs.Arc.{arc_value}
 use Rattle.std.specs.Option.{option_map}
 use Rattle.std.specs.declared.dyn_box.DynBox.{DynBox}
-use Rattle.cadence_errors.specs.declared.SinkError.TheVariants.{Io, OutOfMemory}
+use Rattle.cadence_errors.specs.declared.SinkError.{SinkError}
+use Rattle.cadence_errors.specs.declared.SinkError.TheVariants.{ChannelFull, Io, OutOfMemory}
+use Rattle.cadence_sinks.specs.Answers.{IsQueueAnswer}
 use Rattle.cadence_errors.specs.declared.MetricError.{MetricError}
 use Rattle.cadence_errors.specs.declared.MetricError.TheVariants.{Sink}
 use Rattle.cadence_flow.specs.declared.queue.policy.QueuePolicy.{QueuePolicy}
@@ -25,6 +27,12 @@ wrapped_sink q = (arc_value q.shared).sink
 -- the most lines that its queue holds, or none
 abbrev pub queue_capacity : {S R A : Type 0} → QueuingMetricSink S R A → Option ℕ
 queue_capacity q = bound_of (arc_value q.shared).queue
+
+-- what an `emit` into a queue of this bound may answer: the length of the line, or a queue's refusal; a queue without a
+-- bound is never full
+pub record IsQueuingAnswer (bound : Option ℕ) (line : List ℕ) (answer : Result ℕ SinkError) : Type 0 where
+  pub queue : IsQueueAnswer line answer
+  pub unbounded : bound ≡ None → answer ≢ Err ChannelFull
 
 -- what its queue does with a line where it is full
 abbrev pub queue_policy : {S R A : Type 0} → QueuingMetricSink S R A → QueuePolicy

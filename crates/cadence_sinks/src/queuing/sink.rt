@@ -87,9 +87,9 @@ fn copy_of<A: Allocator + Clone>(
 impl<S: MetricSink, R: Wait + Drop, A: Allocator + Clone> MetricSink
     for QueuingMetricSink<S, R, A> {
     ghost use Rattle.std.specs.Arc.{arc_value};
-    ghost use Rattle.cadence_sinks.specs.Answers.{IsQueueAnswer};
+    ghost use Rattle.cadence_sinks.specs.Queuing.{IsQueuingAnswer, queue_capacity};
 
-    ghost may_answer = { λ _ metric answer. IsQueueAnswer metric answer };
+    ghost may_answer = { λ q metric answer. IsQueuingAnswer (queue_capacity q) metric answer };
 
     ghost may_flush = { λ q answer. S.may_flush (arc_value q.shared).sink answer };
 
