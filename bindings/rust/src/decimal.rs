@@ -1,6 +1,7 @@
 //! The decimals that floats print as.
 use crate::layout::Decimal;
 use std::fmt::{self, Write};
+use std::ops::Range;
 
 /// The most places that the library prints, and the most digits that fit 63 bits for sure or may do so.
 const PLACES: u64 = 30;
@@ -11,6 +12,12 @@ const LONGEST: usize = 33;
 
 /// How many floats need no memory to be printed.
 const FEW: usize = 8;
+
+/// The bits of a float that are its fraction.
+const FRACTION: u64 = (1 << 52) - 1;
+
+/// The exponents, as a float has them, of the floats from 2 to the power of -10 to below 2 to the power of 52.
+const EXPONENTS: Range<u64> = 1013..1075;
 
 /// The decimal that a float prints as, if its digits fit 63 bits over at most 10 to the power of 30. There is none for -0,
 /// because a decimal has no sign of zero, nor for what is not finite. It has no zeros at the end of its places.
@@ -63,8 +70,53 @@ fn lowest(mut mantissa: i64, mut places: u64) -> Decimal {
     Decimal { mantissa, places }
 }
 
-/// The decimal of the text that a float prints. It has no zeros at the end of its places, since the text has none.
+/// The decimal of a float for which a multiplication does not find it.
+#[inline(never)]
 fn shortest_decimal(number: f64) -> Option<Decimal> {
+    nearest_decimal(number).or_else(|| printed_decimal(number))
+}
+
+/// The shortest decimal that leads to a float with a fraction, in whole numbers of 128 bits. There is none for a float
+/// outside of the exponents above, nor for a power of 2.
+///
+/// The float is `significand` over 2 to the power of `shift`. A decimal leads to it if it is at most half the distance to the next float
+/// away; at just the half it does if the significand is even. If a decimal of k places leads to it, then one of k + 1 places does too, and
+/// one of 17 digits always does. So the search begins there and goes down to the fewest places. A power of 2 is left out because the
+/// next float below it is nearer than the one above it.
+fn nearest_decimal(number: f64) -> Option<Decimal> {
+    let bits = number.to_bits();
+    let (exponent, fraction) = ((bits >> 52) & 0x7ff, bits & FRACTION);
+    if fraction == 0 || !EXPONENTS.contains(&exponent) {
+        return None;
+    }
+    let (significand, shift) = (u128::from(fraction | (FRACTION + 1)), EXPONENTS.end - exponent);
+    let of_places = |places: u64| {
+        let scale = u128::from(10_u64.pow(places as u32));
+        let exact = significand * scale;
+        let mantissa = (exact + (1 << (shift - 1))) >> shift;
+        let distance = (mantissa << shift).abs_diff(exact);
+        (mantissa, 2 * distance < scale + u128::from(significand % 2 == 0))
+    };
+    // 1233 over 4096 is a little less than the logarithm of 2, so there are 17 digits at least.
+    let whole_digits = ((exponent as i64 - 1023) * 1233) >> 12;
+    let mut places = (17 - whole_digits).min(19) as u64;
+    let (mut mantissa, leads) = of_places(places);
+    if !leads {
+        return None;
+    }
+    while places > 0 {
+        let (shorter, leads) = of_places(places - 1);
+        if !leads {
+            break;
+        }
+        (mantissa, places) = (shorter, places - 1);
+    }
+    let mantissa = i64::try_from(mantissa).ok()?;
+    Some(Decimal { mantissa: if number < 0.0 { -mantissa } else { mantissa }, places })
+}
+
+/// The decimal of the text that a float prints. It has no zeros at the end of its places, since the text has none.
+fn printed_decimal(number: f64) -> Option<Decimal> {
     if !number.is_finite() {
         return None;
     }
@@ -125,7 +177,8 @@ mod tests {
     }
 
     fn agrees(number: f64) {
-        let found = [short_decimal(number, 2, 1e2), short_decimal(number, 6, 1e6), shortest_decimal(number)];
+        let found =
+            [short_decimal(number, 2, 1e2), short_decimal(number, 6, 1e6), nearest_decimal(number), printed_decimal(number)];
         for decimal in found.into_iter().flatten() {
             assert_eq!(number.to_string(), text_of(decimal), "{number:?}");
             assert!(decimal.places == 0 || decimal.mantissa % 10 != 0, "{number:?}");
@@ -144,6 +197,19 @@ mod tests {
             agrees(f64::from_bits(bits));
             agrees((bits >> 40) as f64 / [1e1, 1e2, 1e3, 1e6, 1e7][(turn % 5) as usize]);
             agrees((bits as i64 >> 12) as f64 / 1e6);
+            let of_some_exponent = f64::from_bits((bits & FRACTION) | ((EXPONENTS.start + turn % 62) << 52));
+            assert!(nearest_decimal(of_some_exponent).is_some(), "{of_some_exponent:?}");
+            agrees(of_some_exponent);
+            agrees(-of_some_exponent);
+        }
+    }
+
+    #[test]
+    fn floats_beside_a_power_of_2_have_their_decimal() {
+        for exponent in EXPONENTS.start - 1..=EXPONENTS.end {
+            for bits in [exponent << 52, (exponent << 52) + 1, (exponent << 52) + 2, (exponent << 52) - 1] {
+                agrees(f64::from_bits(bits));
+            }
         }
     }
 
