@@ -1,10 +1,10 @@
-/* The queue that threads share, as crates/cadence_ledger/src/shared_queue.rt and taker.rt have it: callers offer texts,
-   a worker takes several at once and hands them on one by one, and the queue is stopped, by a thread that then waits for
-   the worker's end, or by the drop of its last handle. Below lie the kit's Condvar, step by step, and a lock, which is plain
-   or, where KIT is 1, the kit's Mutex, step by step. README.md tells what is checked, and .ci/model checks it. Each process
-   is a thread, and each statement is a step, between which the others may do theirs; what is `atomic` is one step.
+/* A model of the queue that threads share (shared_queue.rt and taker.rt of crates/cadence_shared/src). Callers offer texts,
+   and a worker takes several at once and hands them on one by one. The queue is stopped by a thread that then waits for the
+   worker's end, or by the drop of its last handle. Beneath it are the kit's Condvar, step by step, and a lock. The lock is a
+   plain one, or, if KIT is 1, the kit's Mutex, step by step. README.md says what is checked, and .ci/model checks it. Each
+   process is a thread. Each statement is one step, and so is each `atomic` block; other threads may do steps in between.
 
-   These macros (-D) say what is checked: */
+   These macros (-D) choose what is checked: */
 
 #ifndef CAPACITY
 #define CAPACITY 1      /* the most texts that may wait; -1 is no bound */
@@ -34,18 +34,18 @@
 #define NO_MEMORY 0     /* 1: memory may be refused for any text */
 #endif
 #ifndef SPURIOUS
-#define SPURIOUS 0      /* how often in all one that sleeps on a Condvar may wake though nobody woke it */
+#define SPURIOUS 0      /* how often, in all, a thread that sleeps on a Condvar may wake though nobody woke it */
 #endif
 #ifndef KIT
 #define KIT 0           /* 1: the kit's Mutex step by step; 0: a plain lock */
 #endif
 #ifndef FAULT
-#define FAULT 0         /* which of the faults in .ci/model the model has; 0 is none */
+#define FAULT 0         /* the number of the fault in .ci/model that is put in; 0 is none */
 #endif
 
 #define TEXTS (CALLERS * EMITS)
 
-/* what an offer answers */
+/* what an offer returns */
 #define OK 1
 #define FULL 2
 #define STOPPED 3
@@ -62,13 +62,13 @@
 #define MARKED 4
 byte sleeps_at[THREADS];
 
-/* What lies under the queue's lock. */
+/* The fields of the queue, which only the holder of its lock uses. */
 chan ring = [TEXTS] of { byte };
 byte submitted, drained, dropped;
 bool stopped;
 byte handles = CALLERS;
 
-/* The texts that the worker has taken and not given yet; and its end mark, which lies under a lock of its own. */
+/* The texts that the worker has taken and not yet handed on; and its end mark, which has a lock of its own. */
 chan lent = [ROOM] of { byte };
 bool ended;
 
@@ -95,9 +95,9 @@ byte accepted, handed, under_way;
 
 #if KIT
 
-/* The kit's Mutex, each step on its word by itself. The word is 1 where the lock is free, and 4 where it is free for a
-   thread that has slept; it is 0 where the lock is held, 2 where besides a thread may sleep, and 3 where one that has slept
-   twice asks for 4. */
+/* The kit's Mutex; each of its steps on its word is a step here. The word is 1 if the lock is free, and 4 if it is free for a
+   thread that has slept. It is 0 if the lock is held, 2 if it is held and a thread may sleep for it, and 3 if a thread that has
+   slept twice asks for 4. */
 byte word[3] = 1;
 byte holders[3];
 
@@ -156,7 +156,7 @@ inline LOCK(lock) {
   }
 }
 
-/* It wakes any one of those that sleep for the lock. */
+/* Wakes any one of the threads that sleep for the lock. */
 inline UNLOCK(lock) {
   atomic { holders[lock]--; if :: word[lock] == 0 -> word[lock] = 1; got = true :: else fi };
   if
@@ -192,7 +192,7 @@ bool held[3];
 
 #define LOCALS bool got; byte noted
 
-/* It may fail at any moment, because the kit's fails too where the lock is free for a thread that has slept. */
+/* It may fail at any moment, because the kit's try fails too if the lock is free for a thread that has slept. */
 inline TRY_LOCK(lock) {
   atomic { if :: !held[lock] -> held[lock] = true; got = true :: got = false fi }
 }
@@ -235,7 +235,7 @@ inline WAIT(condvar, lock) {
     assert(!IS_NEGLECTED)
   };
 #if STOPPERS == 0 && !LAST_HANDLE
-  /* where nobody stops the queue, the worker may sleep for ever */
+  /* if nobody stops the queue, the worker may sleep for ever */
 end_asleep:
 #endif
   if
@@ -268,10 +268,10 @@ inline NOTIFY_ALL(condvar) {
 
 /* ---- The queue ---- */
 
-/* What holds at each moment at which the queue's lock is free, and what else the one who held it claims. */
+/* What has to hold whenever the queue's lock is free, and a further claim of the thread that held the lock. */
 #define CHECK(claim) assert(IS_WITHIN); assert(len(ring) == submitted - drained - dropped); assert(claim)
 
-/* Gives up the queue's lock after these checks, which see only what lies under it. */
+/* Makes these checks and gives up the queue's lock. The checks read only the fields under the lock. */
 #if KIT
 inline RELEASE(claim) {
   atomic { CHECK(claim) };
@@ -287,7 +287,7 @@ inline RELEASE(claim) {
 #define RETURN() under_way--; assert(!IS_NEGLECTED)
 
 #if FAULT == 5
-/* a queue that had room before the lock was taken isn't tested under it */
+/* a queue that had room before the lock was taken isn't tested again under the lock */
 #define LACKS_ROOM (was_full && IS_FULL && (!DROP_OLDEST || len(ring) == 0))
 #else
 #define LACKS_ROOM (IS_FULL && (!DROP_OLDEST || len(ring) == 0))
@@ -331,7 +331,7 @@ inline OFFER(text) {
   fi
 }
 
-/* Offers its texts, and then drops its handle if LAST_HANDLE is 1. */
+/* A caller, which offers its texts and then, if LAST_HANDLE is 1, drops its handle. */
 proctype Caller(byte me) {
   LOCALS; byte offers, answer, oldest; bool idle, was_full;
   do
@@ -386,7 +386,7 @@ inline MOVE() {
   od
 }
 
-/* `Taker::next` and `SharedQueue::take_some`, text by text until the end, and then `WorkerEnd::mark`. */
+/* `Taker::next` and `SharedQueue::take_some`, for each text until the end, and then `WorkerEnd::mark`. */
 proctype Worker() {
   LOCALS; byte text, looks; bool idle;
   assert(_pid == WORKER);
@@ -461,11 +461,11 @@ init {
     n = 0
   };
 #if STOPPERS == 0 && !LAST_HANDLE
-  /* no thread can go on: the worker sleeps */
+  /* wait until no thread can go on: then the worker sleeps */
   timeout;
   assert(!stopped && !ended && sleeps_at[WORKER] == CHANGED);
 #else
-  /* each of the threads has come to its end */
+  /* wait until each thread has ended */
   _nr_pr == 1;
   assert(stopped && ended);
 #endif

@@ -1,5 +1,6 @@
-/* Tests what include/cadence.h says beside the types of the calls: which status is answered where several apply, what is neither
- * read nor tested, what stays, and its own code. It prints each check that fails; the status is 1 then. It is C and C++. */
+/* Tests what include/cadence.h says besides the types of the calls: which status a call returns if several apply, what
+ * is neither read nor tested, what stays after an error, and the functions of the header itself. It prints each check
+ * that fails, and its exit status is then 1. It is valid C and C++. */
 #include <cadence.h>
 #include <stdio.h>
 #include <string.h>
@@ -25,7 +26,7 @@ static cadence_handle opened(size_t capacity, uint32_t policy) {
     return handle;
 }
 
-/* Whether the oldest packet is this text, which then no longer waits. */
+/* Returns whether the oldest packet is this text, and drops the packet. */
 static bool sends(cadence_handle *handle, const char *text) {
     uint8_t packet[256];
     size_t length = 0;

@@ -1,5 +1,6 @@
-/* Sends metrics to a socket of its own on the loopback address, and prints what the calls answer that keep no line, then the
- * datagrams that arrive. The socket refuses for a while, and one packet is longer than any datagram. */
+/* Sends metrics to a socket of its own on the loopback address. It prints the status of each call that keeps no line,
+ * and then the datagrams that arrive. For a while the socket refuses each packet, and one packet is longer than any
+ * datagram. */
 #include "cadence.h"
 #include <arpa/inet.h>
 #include <errno.h>
@@ -7,13 +8,13 @@
 #include <string.h>
 #include <sys/socket.h>
 
-enum { LONGEST = 65507 }; /* bytes of a datagram of UDP */
+enum { LONGEST = 65507 }; /* the most bytes that a UDP datagram holds */
 
 static int server, client;
 static struct sockaddr_in to;
 
-/* Sends what waits. A packet that no datagram holds is dropped, since it would stay first; one that the socket refuses
- * for now still waits. */
+/* Sends the packets that wait. A packet that is too long for a datagram is dropped, because otherwise no later packet
+ * could be sent. A packet that the socket refuses for now still waits. */
 static void send_waiting(cadence_handle *handle) {
     static uint8_t packet[LONGEST];
     size_t length;
@@ -27,7 +28,7 @@ static void send_waiting(cadence_handle *handle) {
     }
 }
 
-/* Where as many packets wait as may, they are sent, and the call is made once more. */
+/* Adds to a counter. If as many packets wait as may wait, it sends them and makes the call again. */
 static void count(cadence_handle *handle, const char *key, int64_t value, const cadence_options *options) {
     uint32_t status = cadence_count(handle, key, value, options);
     if (status == CADENCE_FULL) {
@@ -75,7 +76,7 @@ static void other_kinds(cadence_handle *handle) {
     flush(handle);
 }
 
-/* No datagram has port 0: the socket refuses each packet, until the port is there again. */
+/* Sets the port to 0 for a while. No datagram can go there, so the socket refuses each packet meanwhile. */
 static void refusals(cadence_handle *handle) {
     const in_port_t port = to.sin_port;
     to.sin_port = 0;

@@ -1,8 +1,6 @@
-/* Random calls, with a heap that refuses at random: fuzz SEQUENCES [SEED].
- *
- * What is sent is compared with the frames of the lines whose calls were answered 0, and where a call is answered
- * otherwise, the counts have to be as they were. A fault is printed, and the status is 1.
- */
+/* fuzz SEQUENCES [SEED]: makes random calls with a heap that fails at random. It compares what is sent with the frames of
+ * the lines whose calls returned CADENCE_OK. If a call returns another status, the counts must be as they were before
+ * it. It prints the first fault, and its exit status is then 1. */
 #include "cadence.h"
 #include <stdio.h>
 #include <stdlib.h>
@@ -49,7 +47,7 @@ static void fail(const char *what, uint32_t status) {
 
 enum { ROOM = 1 << 16, LONGEST = 4096 };
 
-/* A handle beside what it has to hold. */
+/* A handle, and what its client must hold. */
 typedef struct {
     cadence_handle handle;
     uint8_t stream[ROOM]; /* the frames of all lines that were kept */
@@ -58,7 +56,7 @@ typedef struct {
     bool drops;
 } host;
 
-/* The last ones are no UTF-8 where they are cut. */
+/* A cut inside the last bytes makes a text that is not UTF-8. */
 static uint8_t texts[] = "counter.of.things.that.happen.now.and.then:1|c#,\n@\x7f\xc3\xa9\xff";
 enum { PLAIN = 48 };
 
@@ -67,7 +65,7 @@ typedef struct {
     size_t length;
 } text;
 
-/* Whether each text since this was set is UTF-8 for sure. */
+/* Whether each text that was made since this was last set is certainly UTF-8. */
 static bool all_plain;
 
 static text some_text(void) {
@@ -134,7 +132,7 @@ static void opens(host *h) {
     h->capacity = capacity, h->drops = policy == CADENCE_DROP_OLDEST;
 }
 
-/* A line without a client, of any kind of value. */
+/* Writes a line without a client, with any kind of value. */
 static uint32_t formats(text key, const cadence_options *options, uint8_t *line, size_t room, size_t *length) {
     int64_t values[3] = { below(5) - 2, (int64_t)below(1u << 31) << below(33), INT64_MIN };
     uint64_t whole[3] = { below(5), UINT64_MAX, (uint64_t)below(1u << 31) << below(33) };
@@ -149,7 +147,7 @@ static uint32_t formats(text key, const cadence_options *options, uint8_t *line,
     }
 }
 
-/* A line of the host's own, and one that the formatter made. */
+/* Keeps a line that the formatter made, as a line of the host. */
 static uint32_t keeps_line(host *h) {
     static uint8_t line[LONGEST];
     all_plain = true;
@@ -164,7 +162,8 @@ static uint32_t keeps_line(host *h) {
     return status;
 }
 
-/* The call of a value: what it keeps is not known before it is fetched, so it goes to a client that drops. */
+/* Makes the call of a value. Only the packets show which line it keeps, so it uses a client that drops packets, whose
+ * packets are not compared. */
 static uint32_t keeps_value(host *h) {
     all_plain = true;
     text key = some_text();

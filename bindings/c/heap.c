@@ -1,4 +1,5 @@
-/* The heap of libcadence_c.a, over the host's. An empty block has one unit of its alignment; a refusal leads nowhere. */
+/* The heap of libcadence_c.a, which calls that of the host. An empty block takes as many bytes as its alignment. If
+ * memory runs out, the block that is returned is not given, and its pointer is one that nobody follows. */
 #include <stdint.h>
 #include <stdlib.h>
 

@@ -1,4 +1,5 @@
-// Prints the size of each struct that crosses and where its fields stand, and a line that the library made.
+// Prints the size of each struct that crosses between C and the library, the offsets of its fields, and a line that the
+// library made.
 #include <cadence.h>
 #include <cstdio>
 

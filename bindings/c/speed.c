@@ -1,5 +1,6 @@
-/* speed count|tags CALLS [THREADS [known]]: makes so many calls in each thread, a handle and a socket each, packets of
- * 1432 bytes sent to the loopback address as soon as two wait, and prints the nanoseconds of a call. */
+/* speed count|tags CALLS [THREADS [known]]: makes CALLS calls in each thread and prints how many nanoseconds a call
+ * takes. Each thread has a handle and a socket of its own. Packets of 1432 bytes are sent to the loopback address as
+ * soon as two wait. */
 #include "cadence.h"
 #include <arpa/inet.h>
 #include <pthread.h>

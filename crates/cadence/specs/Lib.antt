@@ -1,3 +1,5 @@
+pub mod Host
+pub mod Metrics
+pub mod Own
 pub mod Sending
 pub mod Shown
-pub mod Own

@@ -1,4 +1,4 @@
--- What contracts show of a client and of its builders.
+-- What contracts show of a client, of its builder and of the builder of a metric, whose fields are private.
 use Rattle.std.specs.Prelude.{◌≡◌, Option, Some, Result}
 use Rattle.std.specs.declared.dyn_box.DynBox.{DynBox}
 use Rattle.cadence_errors.specs.declared.MetricError.{MetricError}
@@ -10,46 +10,51 @@ use Rattle.cadence.specs.declared.client.client_builder.StatsdClientBuilder.{Sta
 use Rattle.cadence_schedule.specs.Settings.{Settings, Changes}
 
 module _ {T C Z : Type 0} where
-  -- what a builder of a metric holds: the draft of the metric so far, or an error
+  -- the pending draft of a metric's builder: the draft of the metric so far, or an error
   abbrev pub pending_of : MetricBuilder T C Z → Result Draft MetricError
   pending_of b = b.draft
 
-  -- the client that it sends by
+  -- the client by which a metric's builder sends
   abbrev pub backend_of : MetricBuilder T C Z → C
   backend_of b = b.client.now
 
 module _ {Z Y : Type 0} {G : Y → Type 0} {g : _} where
-  -- the box that a handler keeps
+  -- the boxed closure that a handler keeps
   abbrev pub box_of_handler : BoxedErrorHandler Z Y G g → DynBox Y Z G
   box_of_handler h = h.call
 
 module _ {Z S H : Type 0} where
+  -- the prefix and the defaults of a client
   abbrev pub settings_of_client : StatsdClient Z S H → Settings
   settings_of_client c = c.settings
 
+  -- the sink of a client
   abbrev pub sink_of_client : StatsdClient Z S H → S
   sink_of_client c = c.sink
 
+  -- the error handler of a client
   abbrev pub handler_of_client : StatsdClient Z S H → H
   handler_of_client c = c.handler
 
-  -- the settings that a client's builder has so far, or none where a growth was refused
+  -- the settings that a client's builder has so far, or none if memory ran out
   abbrev pub settings_of_builder : StatsdClientBuilder Z S H → Option Settings
   settings_of_builder b = b.settings
 
+  -- the sink of a client's builder
   abbrev pub sink_of_builder : StatsdClientBuilder Z S H → S
   sink_of_builder b = b.sink
 
+  -- the error handler of a client's builder
   abbrev pub handler_of_builder : StatsdClientBuilder Z S H → H
   handler_of_builder b = b.handler
 
-  -- the builder has a default more, unless a growth was refused, and keeps its sink and its handler
+  -- The builder changed its settings so, unless memory ran out, and kept its sink and its handler.
   pub record AddsDefault (change : Settings → Settings) (old new : StatsdClientBuilder Z S H) : Type 0 where
     pub settings : Changes (settings_of_builder old) change (settings_of_builder new)
     pub sink : sink_of_builder new ≡ sink_of_builder old
     pub handler : handler_of_builder new ≡ handler_of_builder old
 
-  -- the client has the builder's settings, sink and handler
+  -- The client has the builder's settings, sink and handler.
   pub record IsBuiltFrom (b : StatsdClientBuilder Z S H) (c : StatsdClient Z S H) : Type 0 where
     pub settings : settings_of_builder b ≡ Some (settings_of_client c)
     pub sink : sink_of_client c ≡ sink_of_builder b

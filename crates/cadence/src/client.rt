@@ -1,11 +1,12 @@
-//! The client: its builders, and the traits of its metrics.
+//! The client (`statsd_client`), its builder (`client_builder`), the traits of its metrics (`traits`, and all of them
+//! as one bound in `metric_client`), the builder of a metric (`builder`), what a metric is sent by (`backend`) and the
+//! receivers of errors (`handler`).
 
 mod backend;
 mod builder;
 mod client_builder;
 mod handler;
 mod metric_client;
-mod pending;
 mod statsd_client;
 mod traits;
 

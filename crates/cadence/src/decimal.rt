@@ -1,3 +1,3 @@
-//! Decimal numbers, exact.
+//! Exact decimal numbers.
 
 pub use cadence_value::decimal::{Decimal, MAX_PLACES, ParseDecimalError, read_number, read_whole};

@@ -1,22 +1,29 @@
-//! What the definitions imply, as laws that proofs may cite. These functions do nothing.
-ghost use Rattle.std.specs.Prelude.{Result};
+//! Facts that follow from the definitions, for proofs to cite. The functions do nothing when they run.
+ghost use Rattle.std.specs.Prelude.{◌≡◌, ◌↔◌, ℕ, List, IsTrue, Result};
 ghost use Rattle.cadence_errors.specs.declared.MetricError.{MetricError};
 ghost use Rattle.cadence_text.specs.Draft.{Draft};
 ghost use Rattle.cadence_schedule.specs.Call.{Choice};
-ghost use Rattle.cadence.specs.Sending.{Chooses, ChoosesOrHolds, StandsForMore};
+ghost use Rattle.cadence.specs.Sending.{Chooses, ChoosesOrFails, StandsForMore};
 
-pub use cadence_metrics::metrics_equal_by_text;
+use crate::types::MetricText;
 use cadence_schedule::an_option_is_chosen;
 pub use cadence_schedule::{packets_read_one_way, tight_is_fewest};
 pub use cadence_text::laws::{line_reads_one_way, no_line_is_empty, packet_reads_one_way};
 pub use cadence_value::laws::decimals_equal_by_number;
+use std::alloc::Allocator;
 
-/// A builder that stood for a call stands for it with one more option, where that was chosen or memory was missing.
+/// If a builder has the draft of a call, then after one more option it has the draft of this call with the option. An
+/// option that ran out of memory leaves an error, which stands for any call.
 pub fn choosing_stands_for_more()
     ensures chosen { (old new : Result Draft MetricError) (option : Choice) →
         Chooses old option new → StandsForMore old option new }
     ensures held { (old new : Result Draft MetricError) (option : Choice) →
-        ChoosesOrHolds old option new → StandsForMore old option new }
+        ChoosesOrFails old option new → StandsForMore old option new }
 {
     an_option_is_chosen();
 }
+
+/// Two metrics of one kind are equal if and only if their texts are equal.
+pub fn metrics_equal_by_text<K, A: Allocator>()
+    ensures { (a b : List ℕ) → IsTrue (⟦<MetricText<K, A> as PartialEq>⟧.eq a b) ↔ (a ≡ b) }
+{}

@@ -1,6 +1,11 @@
-//! A Statsd client of proved pieces: lines, packets, queues, and whole runs of them.
+//! A Statsd client: a service makes a sink, a client over it, and calls the client's metrics.
 //!
-//! `prelude` has the traits of the metrics, `StatsdClient` sends them, and a sink takes their lines.
+//! - `client`: the client, its builders and the traits of its metrics; `prelude`: these traits, to be imported whole
+//! - `sinks`: all sinks, and their builders; `ready`: clients and sinks over UDP, ready made
+//! - `types`: errors and metric types; `value`, `decimal`, `line`: numbers, and the line of a metric
+//! - `stats`: counts of what was sent; `io`: the packer; `queue`: queues; `resolve`: addresses of hosts
+//! - `ext`: what a service needs for values and metrics of its own types
+//! - `schedule`: calls as data, and the proved run of a client; `laws`: facts for proofs to cite
 #![tactic(auto)]
 
 pub mod client;
@@ -12,10 +17,11 @@ pub mod queue;
 pub mod ready;
 pub mod resolve;
 pub mod schedule;
-mod sealed;
+pub mod stats;
 pub mod types;
 
-pub use cadence_flow::{io, stats};
+pub use cadence_flow::io;
+pub use cadence_resolve::DEFAULT_PORT;
 pub use cadence_sinks as sinks;
 pub use cadence_text::line;
 pub use cadence_value::value;
@@ -33,6 +39,3 @@ pub use types::{
     Counter, Distribution, ErrorKind, Gauge, Histogram, Meter, Metric, MetricError, MetricResult,
     Set, Timer,
 };
-
-/// The port on which Statsd servers listen.
-pub const DEFAULT_PORT: u16 = 8125;

@@ -1,4 +1,4 @@
-//! The traits of the metrics, to be imported whole: `use cadence::prelude::*;`.
+//! The traits of the metrics. A service imports them all by `use cadence::prelude::*;`.
 
 pub use crate::client::{
     Counted, CountedExt, Distributed, Gauged, Histogrammed, Metered, MetricClient, Setted, Timed,

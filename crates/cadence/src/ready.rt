@@ -1,4 +1,4 @@
-//! Sinks and clients over UDP, ready made: from a runtime, an allocator and a target.
+//! Clients over UDP, ready made from a runtime, an allocator and a target. `sinks` has the sinks of these clients.
 ghost use Rattle.std.specs.Prelude.{◌≡◌, IfOk, IfErr};
 ghost use Rattle.cadence.specs.Shown.{settings_of_client, sink_of_client};
 ghost use Rattle.cadence_resolve.specs.Refusals.{IsSocketRefusal};
@@ -6,27 +6,29 @@ ghost use Rattle.cadence_schedule.specs.Settings.{settings_of};
 ghost use Rattle.cadence_sinks.specs.Buffers.{udp_buffer};
 ghost use Rattle.cadence_sinks.specs.Queuing.{queue_capacity, wrapped_sink};
 
+mod sinks;
+
 use crate::client::StatsdClient;
 use cadence_errors::MetricResult;
-pub use cadence_ready::{
+use cadence_sinks::{BufferedUdpMetricSink, Target, UdpMetricSink};
+pub use sinks::{
     QueuedUdpSink, buffered_udp_sink, host, queued_udp_sink, queued_udp_sink_with, udp_sink,
 };
-use cadence_sinks::{BufferedUdpMetricSink, Target, UdpMetricSink};
 use std::alloc::{Allocator, Global};
 use std::net::Net;
 use std::sync::Wait;
 use std::thread::Threads;
 
-/// A client over `udp_sink`.
+/// The client that `udp_client` makes.
 pub type UdpClient<R, A = Global> = StatsdClient<A, UdpMetricSink<R, A>>;
 
-/// A client over `buffered_udp_sink`.
+/// The client that `buffered_udp_client` makes.
 pub type BufferedUdpClient<R, A = Global> = StatsdClient<A, BufferedUdpMetricSink<R, A>>;
 
-/// A client over `queued_udp_sink`.
+/// The client that `queued_udp_client` makes.
 pub type QueuedUdpClient<R, A = Global> = StatsdClient<A, QueuedUdpSink<R, A>>;
 
-/// A client whose calls each send a datagram. The errors are those of `udp_sink`.
+/// Makes a client that sends each line as a datagram. The errors are those of `udp_sink`.
 pub fn udp_client<R: Net + Wait + Clone + Drop, A: Allocator + Clone>(
     rt: &R,
     alloc: A,
@@ -40,8 +42,8 @@ pub fn udp_client<R: Net + Wait + Clone + Drop, A: Allocator + Clone>(
     StatsdClient::from_sink(alloc, prefix, sink)
 }
 
-/// A client whose lines are gathered in datagrams of at most `capacity` bytes, but for a longer line, which goes out
-/// alone. The errors are those of `udp_sink`.
+/// Makes a client that packs its lines into datagrams of at most `capacity` bytes. A line that with its newline passes
+/// the capacity is sent alone. The errors are those of `udp_sink`.
 pub fn buffered_udp_client<R: Net + Wait + Clone + Drop, A: Allocator + Clone>(
     rt: &R,
     alloc: A,
@@ -57,9 +59,9 @@ pub fn buffered_udp_client<R: Net + Wait + Clone + Drop, A: Allocator + Clone>(
     StatsdClient::from_sink(alloc, prefix, sink)
 }
 
-/// A client whose lines go through a queue of at most `lines` lines, or without a bound, whose worker thread gathers
-/// them in datagrams, as `buffered_udp_client` does. At a service's end `sink().stop_and_wait()` and then `flush()`
-/// send what is queued. The errors are those of `queued_udp_sink`.
+/// Makes a client that puts its lines in a queue of at most `lines` lines, or of any number. A worker thread takes them
+/// out and packs them into datagrams of at most `capacity` bytes. Before a service ends, it should call
+/// `sink().stop_and_wait()` and then `flush()`, which send the queued lines. The errors are those of `queued_udp_sink`.
 pub fn queued_udp_client<
     R: Net + Wait + Threads + Clone + Drop + Send + Sync + 'static,
     A: Allocator + Clone + Send + Sync + 'static,

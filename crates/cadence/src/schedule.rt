@@ -1,4 +1,4 @@
-//! Runs of a client, a queue and a packer, step by step, and plans of packets.
+//! Calls as data, the proved run of a client, a queue and a packer, and plans of packets.
 
 pub use cadence_schedule::{
     Call, CallOption, CallValue, Reply, Report, Step, check_plan, packets_read_one_way,

@@ -1,5 +1,6 @@
--- When the receipts of seats stand in a history.
-use Rattle.std.proofs.Common.{◌≡◌, ℕ, ◌+◌, ◌<◌, ◌≤◌, ◌==◌, Bool, true, false, cond, List, [], ◌∷◌, ◌++◌, zero, suc, length, take, get_or, slice_get, All, Contains, Option, Some, None, not, eqb, inl, inr, subst, sym, ap, refl, arith, ◌∙◌}
+-- When the receipts of seats are among the events of a history, and when they agree with it.
+use Rattle.std.proofs.Common.{◌≡◌, ℕ, ◌+◌, ◌<◌, ◌≤◌, ◌==◌, Bool, true, false, cond, List, [], ◌∷◌, ◌++◌, zero, suc, length, take, get_or}
+use Rattle.std.proofs.Common.{slice_get, All, Contains, Option, Some, None, not, eqb, inl, inr, subst, sym, ap, refl, arith, ◌∙◌}
 use Rattle.std.proofs.lemmas.Bool.Decides.{nat_tests}
 use Rattle.std.proofs.lemmas.List.{take_all, take-take, length-append}
 use Rattle.std.proofs.lemmas.List.Sums.{sum_by-take-le, sum_by_more}
@@ -8,14 +9,14 @@ use Rattle.std.proofs.lemmas.Bool.{cases_order, cases_lt}
 use Rattle.std.proofs.lemmas.Option.{slice_get_read, slice_get_cases, get_or_from_slice_get, same_Some}
 use Rattle.std.specs.Option.{option_eq}
 use Rattle.cadence_audit.specs.declared.event.Event.{Event}
-use Rattle.cadence_audit.specs.AuditHistory.{AreCounted, events_of}
-use Rattle.cadence_audit.specs.AuditSeats.{Held, AreReceiptsOf, AreNewSeats, receipt_count}
+use Rattle.cadence_audit.specs.AuditHistory.{AreCounted, event_count}
+use Rattle.cadence_audit.specs.AuditSeats.{SeatState, AreReceiptsOf, AreNewSeats, receipt_count}
 
--- a test that answers false refutes what it would show
+-- If a test is true of a fact and returned false, the fact is false.
 pub fails : {P : Type 0} {b : Bool} → (P → b ≡ true) → b ≡ false → P → ⊥
 fails test is p = let t = test p in cc
 
--- capacities that a test doesn't tell apart are the same
+-- Two capacities are the same if the test `!=` says that they don't differ.
 pub same_capacity : (a b : Option ℕ) → false ≡ not (option_eq eqb a b) → a ≡ b
 same_capacity (Some a) (Some b) is = ap Some (grind (arith, nat_tests))
 same_capacity (Some a) None is = cc
@@ -23,59 +24,66 @@ same_capacity None (Some b) is = cc
 same_capacity None None is = refl
 
 module _ {X : Type 0} (P : X → Type 0) (xs : List X) (i : ℕ) where
-  -- one element refutes a fact of each element
+  -- A fact is not true of all elements if it is false of one.
   pub all_not : (x : X) → i < length xs → x ≡ get_or xs i x → (P x → ⊥) → All P xs → ⊥
   all_not x lt is not all = not (subst P (sym is) (all i x lt))
 
-  -- a fact of each element, one element further
+  -- A fact is true of one more element.
   pub all_more : (x : X) → i < length xs → x ≡ get_or xs i x → P x → All P (take i xs) → All P (take (i + 1) xs)
   all_more x lt is px all = All-more P xs i x lt all (subst P is px)
 
-  -- a fact of each element, as far as the list goes
+  -- A fact is true of all elements if it is true up to the end of the list.
   pub all_done : length xs ≤ i → All P (take i xs) → All P xs
   all_done le all = subst (All P) (take_all i xs le) all
 
--- a number is counted once where it is the one that is looked for, and else not
+-- A number counts as 1 if it is the one that is looked for, and as 0 if not.
 count_of_same : (a b : ℕ) → a ≡ b → ◌≡◌ {A = ℕ} (cond (a == b) 1 0) 1
 count_of_same a b is = grind (arith, nat_tests)
 
 count_of_other : (a b : ℕ) → (a ≡ b → ⊥) → ◌≡◌ {A = ℕ} (cond (a == b) 1 0) 0
 count_of_other a b other = grind (arith, nat_tests)
 
--- an element that a list contains stands at a place
+-- An element that a list contains is at some place in it.
 contains_place : {X : Type 0} (xs : List X) (x : X) → Contains xs x → (k : ℕ) × (k < length xs) × (slice_get xs k ≡ Some x)
 contains_place xs x h = (h.0, h.1, slice_get_read xs (length xs) h.0 x refl h.1 (sym h.2))
 
 module _ {Z : Type 0} (events : List (Event Z)) (s : ℕ) where
-  -- a seat has no fewer events later on
-  events_of-take-le : (a b : ℕ) → a ≤ b → events_of s (take a events) ≤ events_of s (take b events)
-  events_of-take-le a b le =
-      subst (λ l. events_of s l ≤ events_of s (take b events)) (take-take a b events le) (sum_by-take-le (λ (e : Event Z). cond (e.seat == s) 1 0) (take b events) a)
+  -- A seat has no fewer events later on.
+  event_count-take-le : (a b : ℕ) → a ≤ b → event_count s (take a events) ≤ event_count s (take b events)
+  event_count-take-le a b le =
+      subst (λ l. event_count s l ≤ event_count s (take b events)) (take-take a b events le)
+      (sum_by-take-le (λ (e : Event Z). cond (e.seat == s) 1 0) (take b events) a)
 
-  -- an event is one more of its seat's
-  pub events_of-more : (i : ℕ) (e : Event Z) → i < length events → e ≡ get_or events i e → e.seat ≡ s
-      → events_of s (take (i + 1) events) ≡ events_of s (take i events) + 1
-  events_of-more i e lt is mine =
+  -- An event of the seat is one more of its events.
+  pub event_count-more : (i : ℕ) (e : Event Z) → i < length events → e ≡ get_or events i e → e.seat ≡ s
+      → event_count s (take (i + 1) events) ≡ event_count s (take i events) + 1
+  event_count-more i e lt is mine =
       let one = count_of_same _ s (ap (λ (x : Event Z). x.seat) (sym is) ∙ mine) in
       omega (arith, one, sum_by_more (λ (x : Event Z). cond (x.seat == s) 1 0) events i e lt)
 
-  -- and none of another seat's
-  pub events_of-other : (i : ℕ) (e : Event Z) → i < length events → e ≡ get_or events i e → (e.seat ≡ s → ⊥)
-      → events_of s (take (i + 1) events) ≡ events_of s (take i events)
-  events_of-other i e lt is other =
+  -- An event of another seat adds none to its events.
+  pub event_count-other : (i : ℕ) (e : Event Z) → i < length events → e ≡ get_or events i e → (e.seat ≡ s → ⊥)
+      → event_count s (take (i + 1) events) ≡ event_count s (take i events)
+  event_count-other i e lt is other =
       let none = count_of_other _ s (λ same. other (ap (λ (x : Event Z). x.seat) is ∙ same)) in
       omega (arith, none, sum_by_more (λ (x : Event Z). cond (x.seat == s) 1 0) events i e lt)
 
-  -- a seat's event, by the number of the seat's events before it
+  -- the place of a seat's event, given by how many events the seat had before it
   abbrev IsAt : ℕ → Event Z → ℕ → Type 0
-  IsAt i e n = (i < length events) × (slice_get events i ≡ Some e) × (e.seat ≡ s) × (events_of s (take i events) ≡ n)
+  IsAt i e n = (i < length events) × (slice_get events i ≡ Some e) × (e.seat ≡ s) × (event_count s (take i events) ≡ n)
 
-  -- before a later place of the seat there is at least one event more
-  later : (i j : ℕ) (e : Event Z) (n : ℕ) → IsAt i e n → i < j → n < events_of s (take j events)
+  -- Before a later event of the seat there is at least one event more.
+  later : (i j : ℕ) (e : Event Z) (n : ℕ) → IsAt i e n → i < j → n < event_count s (take j events)
   later i j e n at lt =
-      omega (arith, events_of-more i e at.0 (sym (get_or_from_slice_get events i e e at.1)) at.2, events_of-take-le (i + 1) j (omega (arith, lt)), at.3)
+      omega (
+        arith,
+        event_count-more i e at.0 (sym (get_or_from_slice_get events i e e at.1)) at.2,
+        event_count-take-le (i + 1) j
+            (omega (arith, lt)),
+        at.3,
+      )
 
-  -- there is just one event of a seat with a count
+  -- A seat has just one event with a given count.
   same_place : (i j : ℕ) (e r : Event Z) (n : ℕ) → IsAt i e n → IsAt j r n → r ≡ e
   same_place i j e r n at there =
       elim (cases_order i j) [
@@ -85,15 +93,15 @@ module _ {Z : Type 0} (events : List (Event Z)) (s : ℕ) where
       ]
 
   module _ (counted : AreCounted events) where
-    -- a receipt among the events stands where its seat has as many events as its count
+    -- A receipt among the events is at the place before which its seat has as many events as its count says.
     receipt_place : (r : Event Z) (n : ℕ) → r.seat ≡ s → r.count ≡ n → Contains events r → (j : ℕ) × IsAt j r n
     receipt_place r n seat count h =
         let place = contains_place events r h in
-        (place.0, (place.1, place.2, seat, ap (λ k. events_of k (take place.0 events)) (sym seat) ∙ sym (counted place.0 r place.2) ∙ count))
+        (place.0, (place.1, place.2, seat, ap (λ k. event_count k (take place.0 events)) (sym seat) ∙ sym (counted place.0 r place.2) ∙ count))
 
     module _ (receipts : List (Event Z)) (own : AreReceiptsOf s receipts) where
-      -- where the seat's n-th event is not its n-th receipt, this receipt is no event
-      pub refuted : (n i : ℕ) (e r : Event Z) → n ≡ events_of s (take i events) → i < length events → e ≡ get_or events i e → e.seat ≡ s
+      -- If the seat's n-th event is not its n-th receipt, that receipt is not among the events.
+      pub refuted : (n i : ℕ) (e r : Event Z) → n ≡ event_count s (take i events) → i < length events → e ≡ get_or events i e → e.seat ≡ s
           → n < length receipts → r ≡ get_or receipts n r → (r ≡ e → ⊥) → All (Contains events) receipts → ⊥
       refuted n i e r now lt is mine in_receipts at other all =
           let got : slice_get receipts n ≡ Some r = slice_get_read receipts (length receipts) n r refl in_receipts at in
@@ -102,18 +110,24 @@ module _ {Z : Type 0} (events : List (Event Z)) (s : ℕ) where
           let here : IsAt i e n = (lt, slice_get_read events (length events) i e refl lt is, mine, sym now) in
           other (same_place i place.0 e r n here place.1)
 
-      -- where the seat has fewer events than receipts, some receipt is no event
-      pub missing : (n : ℕ) → n ≡ events_of s events → n < length receipts → All (Contains events) receipts → ⊥
+      -- If the seat has fewer events than receipts, some receipt is not among the events.
+      pub missing : (n : ℕ) → n ≡ event_count s events → n < length receipts → All (Contains events) receipts → ⊥
       missing n now lt all =
           elim (slice_get_cases receipts n).1 [
             | inl found ↦
                 let mine_is = own n found.0 found.2 in
                 let place = receipt_place found.0 n mine_is.0 mine_is.1 (subst (Contains events) found.3 (all n found.0 lt)) in
-                absurd (omega (arith, later place.0 (length events) found.0 n place.1 place.1.0, ap (events_of s) (take_all (length events) events (omega arith)), now))
+                absurd (omega (
+                  arith,
+                  later place.0 (length events) found.0 n place.1 place.1.0,
+                  ap (event_count s)
+                      (take_all (length events) events (omega arith)),
+                  now,
+                ))
             | inr past ↦ absurd (omega (arith, past.0, lt))
           ]
 
--- one more receipt is among the events, or there is none more
+-- One more receipt is among the events, or there was none more.
 module _ {X : Type 0} (events receipts : List X) (n : ℕ) where
   pub held_more : (i : ℕ) (e r : X) → i < length events → e ≡ get_or events i e → n < length receipts → r ≡ get_or receipts n r → r ≡ e
       → All (Contains events) (take n receipts) → All (Contains events) (take (n + 1) receipts)
@@ -123,7 +137,7 @@ module _ {X : Type 0} (events receipts : List X) (n : ℕ) where
   pub held_all : length receipts ≤ n → All (Contains events) (take n receipts) → All (Contains events) (take (n + 1) receipts)
   held_all le all = subst (All (Contains events)) (take_all n receipts le ∙ sym (take_all (n + 1) receipts (omega (arith, le)))) all
 
--- what stands at a place after a push
+-- The element at a place, after one more was added at the end.
 get_before_push : {X : Type 0} (xs : List X) (x : X) (k : ℕ) → k < length xs → slice_get (xs ++ x ∷ []) k ≡ slice_get xs k
 get_before_push [] x k lt = absurd (omega (arith, lt))
 get_before_push (y ∷ ys) x zero lt = refl
@@ -133,8 +147,9 @@ get_at_push : {X : Type 0} (xs : List X) (x : X) → slice_get (xs ++ x ∷ []) 
 get_at_push [] x = refl
 get_at_push (y ∷ ys) x = get_at_push ys x
 
--- one new seat more
-pub new_seats_more : {Z : Type 0} (n : ℕ) (seats : List (Held Z)) → AreNewSeats n seats → AreNewSeats (n + 1) (seats ++ record { number = n; receipts = [] } ∷ [])
+-- One more new seat.
+pub new_seats_more : {Z : Type 0} (n : ℕ) (seats : List (SeatState Z)) → AreNewSeats n seats
+    → AreNewSeats (n + 1) (seats ++ record { number = n; receipts = [] } ∷ [])
 new_seats_more n seats new = (
   omega (arith, new.0, length-append seats (record { number = n; receipts = [] } ∷ [])),
   λ k lt. elim (cases_lt k n) [
@@ -146,13 +161,13 @@ new_seats_more n seats new = (
   ],
 )
 
--- the receipts of the seats up to one of them are its own and the earlier ones, and at most all
-pub receipts_more : {Z : Type 0} (seats : List (Held Z)) (i n : ℕ) (seat : Held Z)
+-- The receipts of the seats up to one of them are its own and the earlier ones, and at most all.
+pub receipts_more : {Z : Type 0} (seats : List (SeatState Z)) (i n : ℕ) (seat : SeatState Z)
     → i < length seats → seat ≡ get_or seats i seat → n ≡ length seat.receipts
     → (receipt_count (take (i + 1) seats) ≡ receipt_count (take i seats) + n)
     × (receipt_count (take (i + 1) seats) ≤ receipt_count seats)
 receipts_more {Z} seats i n seat lt is count =
-    let count_of : Held Z → ℕ = λ s. length s.receipts in
+    let count_of : SeatState Z → ℕ = λ s. length s.receipts in
     let own : count_of (get_or seats i seat) ≡ n = ap count_of (sym is) ∙ sym count in
     let more = sum_by_more count_of seats i seat lt in
     (omega (arith, more, own), sum_by-take-le count_of seats (i + 1))

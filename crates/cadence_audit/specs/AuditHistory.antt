@@ -1,6 +1,7 @@
--- Which histories of a queue are legal. Nothing is replayed: a queue is what the events before a call say of it. Want
--- of memory is no reply.
-use Rattle.std.specs.Prelude.{◌≡◌, ℕ, ◌==◌, Bool, true, false, cond, List, [], ◌∷◌, ◌++◌, length, take, drop, slice_get, count_by, Option, Some}
+-- Which histories of a queue are legal. Nothing is replayed: the state of the queue at a call is what the events before
+-- that call say of it. A call for which memory ran out is no event.
+use Rattle.std.specs.Prelude.{◌≡◌, ℕ, ◌==◌, Bool, true, false, if◌then◌else◌, List, [], ◌∷◌, ◌++◌, length}
+use Rattle.std.specs.Prelude.{take, drop, slice_get, count_by, Option, Some}
 use Rattle.std.specs.List.{list_any, flat_map}
 use Rattle.cadence_flow.specs.Queue.{at_capacity}
 use Rattle.cadence_flow.specs.declared.queue.queue_core.Taken.{Taken}
@@ -13,42 +14,42 @@ use Rattle.cadence_audit.specs.declared.event.AuditReply.TheVariants as reply
 use Rattle.cadence_audit.specs.declared.event.SubmitReply.{SubmitReply}
 use Rattle.cadence_audit.specs.declared.event.SubmitReply.TheVariants as submit
 
--- what a take gets: the first text that waits; where none waits, the queue has ended if it is stopped, else is empty
-abbrev pub first_of : Bool → List (List ℕ) → Taken (List ℕ)
-first_of stopped [] = cond stopped taken.Ended taken.Empty
-first_of stopped (text ∷ texts) = taken.Text text
+-- the reply to a take: the oldest waiting text; if no text waits, `Ended` if the queue is stopped, and `Empty` if not
+abbrev pub take_reply : Bool → List (List ℕ) → Taken (List ℕ)
+take_reply stopped [] = if stopped then taken.Ended else taken.Empty
+take_reply stopped (text ∷ texts) = taken.Text text
 
--- how a submit is answered: the queue is stopped; else it is full; else it accepts
+-- the reply to a submit: `Stopped` if the queue is stopped, or else `Full` if it is full, or else `Accepted`
 abbrev pub submit_reply : Bool → Bool → SubmitReply
-submit_reply stopped full = cond stopped submit.Stopped (cond full submit.Full submit.Accepted)
+submit_reply stopped full = if stopped then submit.Stopped else if full then submit.Full else submit.Accepted
 
 module _ {Z : Type 0} where
-  -- the text that a call with this reply put into the queue, if it put one
-  abbrev pub put_by : AuditCall Z → AuditReply Z → List (List ℕ)
-  put_by (call.Submit text) (reply.Submit submit.Accepted) = text ∷ []
-  put_by _ _ = []
+  -- the text that a call with this reply put into the queue, as a list of one text, or of none
+  abbrev pub text_put_by : AuditCall Z → AuditReply Z → List (List ℕ)
+  text_put_by (call.Submit text) (reply.Submit submit.Accepted) = text ∷ []
+  text_put_by _ _ = []
 
-  -- the text that an event put into the queue, if it put one
-  abbrev pub texts_of : Event Z → List (List ℕ)
-  texts_of e = put_by e.call e.reply
+  -- the text that an event put into the queue, as a list of one text, or of none
+  abbrev pub accepted_text : Event Z → List (List ℕ)
+  accepted_text e = text_put_by e.call e.reply
 
-  -- the text that a reply gave, if it gave one
-  abbrev pub text_given : AuditReply Z → List (List ℕ)
-  text_given (reply.Take (taken.Text text)) = text ∷ []
-  text_given _ = []
+  -- the text that a reply gave to the caller, as a list of one text, or of none
+  abbrev pub given_text : AuditReply Z → List (List ℕ)
+  given_text (reply.Take (taken.Text text)) = text ∷ []
+  given_text _ = []
 
   -- whether a call is a stop
   abbrev pub is_stop : AuditCall Z → Bool
   is_stop call.Stop = true
   is_stop _ = false
 
-  -- the accepted texts, in order
-  abbrev pub accepted : List (Event Z) → List (List ℕ)
-  accepted events = flat_map texts_of events
+  -- the texts that the queue accepted, in order
+  abbrev pub accepted_texts : List (Event Z) → List (List ℕ)
+  accepted_texts events = flat_map accepted_text events
 
-  -- the texts that takes gave, in order
+  -- the texts that were taken, in order
   abbrev pub taken_texts : List (Event Z) → List (List ℕ)
-  taken_texts events = flat_map (λ e. text_given e.reply) events
+  taken_texts events = flat_map (λ e. given_text e.reply) events
 
   -- how many texts were taken
   abbrev pub taken_count : List (Event Z) → ℕ
@@ -58,34 +59,35 @@ module _ {Z : Type 0} where
   abbrev pub was_stopped : List (Event Z) → Bool
   was_stopped events = list_any (λ e. is_stop e.call) events
 
-  -- the texts that wait: the accepted ones without the first taken ones
-  abbrev pub waiting : List (Event Z) → List (List ℕ)
-  waiting events = drop (taken_count events) (accepted events)
+  -- the texts that wait: the accepted ones without the first of them, which were taken
+  abbrev pub waiting_texts : List (Event Z) → List (List ℕ)
+  waiting_texts events = drop (taken_count events) (accepted_texts events)
 
-  -- the accepted texts are those that were taken, then those that wait: none is lost, doubled or overtaken
+  -- The accepted texts are those that were taken, followed by those that wait. So no text is lost, doubled or
+  -- overtaken.
   abbrev pub AreInOrder : List (Event Z) → Type 0
-  AreInOrder events = accepted events ≡ taken_texts events ++ waiting events
+  AreInOrder events = accepted_texts events ≡ taken_texts events ++ waiting_texts events
 
-  -- what a queue of the capacity replies to a call after the events
+  -- the reply of a queue with this capacity to a call, after these events
   abbrev pub reply_after : Option ℕ → List (Event Z) → AuditCall Z → AuditReply Z
   reply_after capacity events (call.Submit text) =
-      reply.Submit (submit_reply (was_stopped events) (at_capacity capacity (waiting events)))
-  reply_after capacity events call.Take = reply.Take (first_of (was_stopped events) (waiting events))
+      reply.Submit (submit_reply (was_stopped events) (at_capacity capacity (waiting_texts events)))
+  reply_after capacity events call.Take = reply.Take (take_reply (was_stopped events) (waiting_texts events))
   reply_after capacity events call.Stop = reply.Stop
 
-  -- how many of the events are the seat's
-  abbrev pub events_of : ℕ → List (Event Z) → ℕ
-  events_of seat events = count_by (λ e. e.seat == seat) events
+  -- how many of the events are of this seat
+  abbrev pub event_count : ℕ → List (Event Z) → ℕ
+  event_count seat events = count_by (λ e. e.seat == seat) events
 
-  -- each seat's events carry the counts 0, 1, 2, .. in order
+  -- The events of each seat have the counts 0, 1, 2, .. in order.
   abbrev pub AreCounted : List (Event Z) → Type 0
-  AreCounted events = (i : ℕ) (e : Event Z) → slice_get events i ≡ Some e → e.count ≡ events_of e.seat (take i events)
+  AreCounted events = (i : ℕ) (e : Event Z) → slice_get events i ≡ Some e → e.count ≡ event_count e.seat (take i events)
 
-  -- the event has the reply that the queue gives after the events, and the seat's next count
+  -- The event has the reply that the queue gives after these events, and the next count of its seat.
   abbrev pub MayFollow : Option ℕ → List (Event Z) → Event Z → Type 0
-  MayFollow capacity events e = (e.reply ≡ reply_after capacity events e.call) × (e.count ≡ events_of e.seat events)
+  MayFollow capacity events e = (e.reply ≡ reply_after capacity events e.call) × (e.count ≡ event_count e.seat events)
 
-  -- each event may follow those before it
+  -- A history is legal if each event may follow those before it.
   abbrev pub IsLegal : Option ℕ → List (Event Z) → Type 0
   IsLegal capacity events =
       (i : ℕ) (e : Event Z) → slice_get events i ≡ Some e → MayFollow capacity (take i events) e

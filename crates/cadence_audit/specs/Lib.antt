@@ -1,4 +1,4 @@
-pub mod AuditDesk
+pub mod AuditedCore
 pub mod AuditHistory
 pub mod AuditSeats
 pub mod TakenText

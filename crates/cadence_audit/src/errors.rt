@@ -1,15 +1,17 @@
-//! Why an audited queue did nothing, or gives no history.
+//! Why a call of an audited queue did nothing, and why there is no history at its end.
 
 use std::alloc::AllocError;
 use thiserror::Error;
 
-/// Why an audited call did nothing. It comes before any change and is no event: queue and seat are as they were.
+/// Why a call of an audited queue did nothing. Such a call is no event of the history, and the queue and the seat have
+/// not changed.
 #[derive(Clone, Copy, Debug, PartialEq, Eq, Error)]
 pub enum AuditError {
-    /// A growth was refused.
+    /// Memory ran out.
     #[error("out of memory")]
     OutOfMemory,
-    /// The seat's number, or the number of its receipts, is not the queue's: it is a seat of another queue.
+    /// The seat is one of another queue: this queue has no seat of that number, or the seat has not as many receipts as
+    /// this queue has events of it.
     #[error("seat of another queue")]
     Stranger,
 }
@@ -25,13 +27,13 @@ impl From<AllocError> for AuditError {
     }
 }
 
-/// Why an audited queue gives no history at its end. Queue and seats are gone then.
+/// Why an audited queue returns no history at its end. The queue and the seats are gone then.
 #[derive(Clone, Copy, Debug, PartialEq, Eq, Error)]
 pub enum EndFault {
-    /// The numbers of the seats are not all of the queue's, each once.
+    /// The numbers of the seats are not those of all seats of the queue, each once.
     #[error("seats missing")]
     SeatsMissing,
-    /// The history does not agree with the receipts, or the capacity under the lock is not the queue's.
+    /// The history doesn't agree with the receipts, or the capacity under the lock isn't the one outside it.
     #[error("history and receipts differ")]
     Mismatch,
 }

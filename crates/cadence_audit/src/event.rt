@@ -1,16 +1,16 @@
-//! What happens at an audited queue: calls, each with its reply.
+//! The events of an audited queue: its calls, each with its reply.
 use super::text::Text;
 use cadence_flow::queue::Taken;
 use std::alloc::{Allocator, Global};
 
-/// What an audited queue replies to a submit.
+/// The reply of an audited queue to a submit.
 #[derive(Clone, Copy, Debug, PartialEq, Eq)]
 pub enum SubmitReply {
-    /// The text waits in the queue.
+    /// The queue accepted the text.
     Accepted,
-    /// As many texts wait as the capacity.
+    /// The queue is full: the number of waiting texts has reached its capacity.
     Full,
-    /// The queue was stopped.
+    /// The queue is stopped.
     Stopped,
 }
 
@@ -27,7 +27,7 @@ pub enum AuditCall<A: Allocator = Global> {
     Stop,
 }
 
-/// What an audited queue replies to a call.
+/// The reply of an audited queue to a call.
 #[derive(Drop)]
 #[derive_where(Clone; A)]
 #[derive_where(PartialEq, Eq)]
@@ -40,14 +40,14 @@ pub enum AuditReply<A: Allocator = Global> {
     Stop,
 }
 
-/// A call of an audited queue with its reply.
+/// A call of an audited queue, with its reply.
 #[derive(Drop)]
 #[derive_where(Clone; A)]
 #[derive_where(PartialEq, Eq)]
 pub struct Event<A: Allocator = Global> {
     /// The number of the caller's seat.
     pub seat: usize,
-    /// The number of the seat's earlier events.
+    /// How many events the seat had before.
     pub count: usize,
     /// The call.
     pub call: AuditCall<A>,

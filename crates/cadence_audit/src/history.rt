@@ -1,14 +1,14 @@
 //! The history of an audited queue, and whether receipts agree with it.
-ghost use Rattle.std.specs.Prelude.{◌≡◌, ◌↔◌, ◌+◌, ◌<◌, ◌≤◌, ◌==◌, length, All, Contains, IsTrue};
+ghost use Rattle.std.specs.Prelude.{◌≡◌, ◌↔◌, ◌+◌, ◌<◌, ◌==◌, All, Contains, IsTrue};
 ghost use Rattle.cadence_audit.specs.AuditHistory.{AreCounted};
-ghost use Rattle.cadence_audit.specs.AuditSeats.{Agrees, AreReceiptsOf, StandsIn, receipt_count};
+ghost use Rattle.cadence_audit.specs.AuditSeats.{Agrees, AreReceiptsOf, IsRecordedIn, receipt_count};
 
 use super::event::Event;
 use super::seat::Seat;
 use std::alloc::{Allocator, Global};
 use std::marker::Model;
 
-/// What happened at an audited queue: its events, the oldest first.
+/// The history of an audited queue: its events, the oldest first.
 #[derive(Drop)]
 pub struct History<A: Allocator = Global> {
     events: Vec<Event<A>, A>,
@@ -26,15 +26,20 @@ impl<A: Allocator> Model for History<A> {
     ghost invariant = { λ h. AreCounted h.events.items };
 }
 
-// Whether a receipt and an event are the same.
+// Whether a receipt and an event are equal.
 fn is_same<A: Allocator>(receipt: &Event<A>, event: &Event<A>) -> bool
     ensures { IsTrue result ↔ (receipt.now ≡ event.now) }
 {
     *receipt == *event
 }
 
-// Whether each receipt is the event of its seat that has its count. One pass over the events.
-fn holds<A: Allocator>(events: &[Event<A>], number: usize, receipts: &[Event<A>]) -> bool
+// Whether each receipt of the seat with this number is among the events. The n-th receipt has to be the seat's n-th
+// event, so one pass over the events is enough.
+fn contains_receipts<A: Allocator>(
+    events: &[Event<A>],
+    number: usize,
+    receipts: &[Event<A>],
+) -> bool
     requires counted { AreCounted events.now }
     requires own { AreReceiptsOf number receipts.now }
     ensures { IsTrue result ↔ All (Contains events.now) receipts.now }
@@ -51,21 +56,21 @@ fn holds<A: Allocator>(events: &[Event<A>], number: usize, receipts: &[Event<A>]
     found >= receipts.len()
 }
 
-// Whether each seat's receipts are among the events.
-fn hold_seats<A: Allocator>(events: &[Event<A>], seats: &[Seat<A>]) -> bool
+// Whether the receipts of all seats are among the events.
+fn contains_all_receipts<A: Allocator>(events: &[Event<A>], seats: &[Seat<A>]) -> bool
     requires { AreCounted events.now }
-    ensures { IsTrue result ↔ All (StandsIn events.now) seats.now }
+    ensures { IsTrue result ↔ All (IsRecordedIn events.now) seats.now }
 {
     for seat in seats {
-        if !holds(events, seat.number(), seat.receipts()) {
+        if !contains_receipts(events, seat.number(), seat.receipts()) {
             return false;
         }
     }
     true
 }
 
-// Whether the seats have that many receipts.
-fn has_receipts<A: Allocator>(count: usize, seats: &[Seat<A>]) -> bool
+// Whether the seats together have this number of receipts. It counts down, because a sum might overflow.
+fn has_receipt_count<A: Allocator>(count: usize, seats: &[Seat<A>]) -> bool
     ensures { IsTrue result ↔ (count ≡ receipt_count seats.now) }
 {
     let mut left = count;
@@ -80,7 +85,7 @@ fn has_receipts<A: Allocator>(count: usize, seats: &[Seat<A>]) -> bool
 }
 
 impl<A: Allocator> History<A> {
-    // The history of the events.
+    // Makes a history of these events.
     pub(super) fn of(events: Vec<Event<A>, A>) -> History<A>
         requires { AreCounted events.items }
         ensures { result ≡ events.items }
@@ -88,18 +93,19 @@ impl<A: Allocator> History<A> {
         History { events }
     }
 
-    /// The events, the oldest first.
+    /// Returns the events, the oldest first.
     pub fn events(&self) -> &[Event<A>]
         ensures { result.now ≡ self.now }
     {
         self.events.as_slice()
     }
 
-    /// Whether there are as many events as receipts, and each receipt stands among the events under its seat and count.
+    /// Returns whether the receipts of the seats agree with the history: there are as many events as receipts, and each
+    /// receipt is among the events, with its seat and its count.
     pub fn agrees(&self, seats: &[Seat<A>]) -> bool
         ensures { IsTrue result ↔ Agrees self.now seats.now }
     {
         let events = self.events.as_slice();
-        has_receipts(events.len(), seats) && hold_seats(events, seats)
+        has_receipt_count(events.len(), seats) && contains_all_receipts(events, seats)
     }
 }

@@ -1,26 +1,34 @@
-//! A queue that threads share, with a history of its calls and a receipt of each call for its caller. Where its end is
-//! answered Ok, the history is one that a single thread could have made, with the callers' calls and no others.
+//! A queue of texts that threads share, and that proves after the fact what happened in it. It keeps a history of its
+//! calls under its lock, and each caller keeps a receipt of each of its calls. At the end the two are compared. If they
+//! agree, the history is one that a single thread could have made, and it has the calls of the callers and no others.
+//!
+//! - `audited_core`: what lies under the lock, which is the queue with its history
+//! - `seat`: the place of a caller, with its receipts
+//! - `event`: a call with its reply
+//! - `history`: the history, and whether receipts agree with it
+//! - `text`: a text, as contracts see it
+//! - `errors`: why a call did nothing, and why there is no history at the end
 #![tactic(auto)]
 
 ghost use Rattle.std.specs.Prelude.{◌≡◌, ◌↔◌, length, string_bytes, All, IfOk, IfErr, OnErr, OnOk, Err};
-ghost use Rattle.cadence_errors.specs.Errors.{OnlyWantsMemory};
+ghost use Rattle.cadence_errors.specs.Errors.{MayOnlyRunOutOfMemory};
 ghost use Rattle.cadence_audit.specs.AuditHistory.{IsLegal, AreInOrder};
-ghost use Rattle.cadence_audit.specs.AuditSeats.{receiving, AreNewSeats, HasAllSeats, StandsIn, receipt_count};
+ghost use Rattle.cadence_audit.specs.AuditSeats.{with_receipt, AreNewSeats, HasAllSeats, IsRecordedIn, receipt_count};
 ghost use Rattle.cadence_audit.specs.TakenText.{taken_bytes};
 ghost use Rattle.cadence_audit.specs.declared.event.AuditCall.TheVariants as call;
 ghost use Rattle.cadence_audit.specs.declared.event.AuditReply.TheVariants as reply;
 ghost use Rattle.cadence_audit.specs.declared.errors.EndFault.TheVariants as fault;
 
-mod desk;
+mod audited_core;
 mod errors;
 mod event;
 mod history;
 mod seat;
 mod text;
 
+use audited_core::AuditedCore;
 use cadence_errors::MetricResult;
 use cadence_flow::queue::Taken;
-use desk::Desk;
 pub use errors::{AuditError, EndFault};
 pub use event::{AuditCall, AuditReply, Event, SubmitReply};
 pub use history::History;
@@ -31,25 +39,25 @@ use std::marker::Model;
 use std::sync::{Mutex, Wait};
 pub use text::Text;
 
-/// A queue that threads share by reference, each through its own seat. Each call is one step of a `QueueCore` under
-/// a lock. A call that is answered Ok is an event of the history that the lock keeps, and adds a receipt to the
-/// caller's seat.
+/// A queue of texts that threads share by reference. Each caller has a seat of its own. Each call is one step of a
+/// `QueueCore` under a lock. A call that returns `Ok` is an event of the history under the lock, and adds a receipt to
+/// the caller's seat.
 #[derive(Drop)]
 pub struct AuditedQueue<A: Allocator = Global> {
     capacity: Option<usize>,
     seats: usize,
-    desk: Mutex<Desk<A>>,
+    core: Mutex<AuditedCore<A>>,
 }
 
 impl<A: Allocator> Model for AuditedQueue<A> {
-    ghost use Rattle.cadence_audit.specs.AuditDesk.{Audited};
+    ghost use Rattle.cadence_audit.specs.AuditedCore.{AuditedQueueState};
 
-    ghost Value = { Audited };
+    ghost Value = { AuditedQueueState };
 
     ghost view = { λ q. record { capacity = q.capacity; seats = q.seats } };
 }
 
-// The answer to a take, with its text as a `String`.
+// Returns the result of a take with its text as a `String`.
 fn as_string<A: Allocator>(taken: Taken<Text<A>>) -> Taken<String<A>>
     ensures { taken_bytes result ≡ taken }
 {
@@ -61,8 +69,8 @@ fn as_string<A: Allocator>(taken: Taken<Text<A>>) -> Taken<String<A>>
 }
 
 impl<A: Allocator + Clone> AuditedQueue<A> {
-    /// An empty queue, which holds at most `capacity` texts (`None` is no bound), and its seats, numbered from 0. The
-    /// only error is `OutOfMemory`.
+    /// Makes an empty queue and its seats, which are numbered from 0. At most `capacity` texts wait in the queue;
+    /// `None` means that any number may wait. The only error is `OutOfMemory`.
     pub fn new(
         alloc: A,
         capacity: Option<usize>,
@@ -70,20 +78,20 @@ impl<A: Allocator + Clone> AuditedQueue<A> {
     ) -> MetricResult<(AuditedQueue<A>, Vec<Seat<A>, A>)>
         ensures queue { IfOk result (λ p. p.0 ≡ record { capacity = capacity; seats = seats }) }
         ensures seats { IfOk result (λ p. AreNewSeats seats p.1.items) }
-        ensures refused { OnlyWantsMemory result }
+        ensures refused { MayOnlyRunOutOfMemory result }
     {
-        let desk = Desk::new(alloc.clone()?, capacity, seats)?;
+        let core = AuditedCore::new(alloc.clone()?, capacity, seats)?;
         let places = new_seats(alloc, seats)?;
         let queue = AuditedQueue {
             capacity,
             seats,
-            desk: Mutex::new(desk),
+            core: Mutex::new(core),
         };
         Ok((queue, places))
     }
 
-    /// Puts a text last. The text of a submit that is replied `Full` or `Stopped` is dropped; the event and the receipt
-    /// keep a copy. At an `AuditError` the text comes back, and queue and seat are as they were.
+    /// Adds a text at the end. If the reply is `Full` or `Stopped`, the text is freed; the event and the receipt have a
+    /// copy of it in any case. After an `AuditError` the text comes back, and the queue and the seat have not changed.
     pub fn submit(
         &self,
         rt: &impl Wait,
@@ -91,23 +99,23 @@ impl<A: Allocator + Clone> AuditedQueue<A> {
         text: String<A>,
     ) -> Result<SubmitReply, (AuditError, String<A>)>
         ensures ok { IfOk result (λ r.
-            seat.new ≡ receiving seat.old (call.Submit (string_bytes text)) (reply.Submit r)) }
+            seat.new ≡ with_receipt seat.old (call.Submit (string_bytes text)) (reply.Submit r)) }
         ensures back { IfErr result (λ e. string_bytes e.1 ≡ string_bytes text) }
         ensures err { OnErr result (seat.new ≡ seat.old) }
     {
-        match self.desk.lock(rt).submit(seat, Text::from(text)) {
+        match self.core.lock(rt).submit(seat, Text::from(text)) {
             Ok(reply) => Ok(reply),
             Err((error, text)) => Err((error, text.into_string())),
         }
     }
 
-    /// Takes the oldest text. At an `AuditError` queue and seat are as they were.
+    /// Takes the oldest text. After an `AuditError` the queue and the seat have not changed.
     pub fn take(&self, rt: &impl Wait, seat: &mut Seat<A>) -> Result<Taken<String<A>>, AuditError>
         ensures ok { IfOk result (λ t.
-            seat.new ≡ receiving seat.old call.Take (reply.Take (taken_bytes t))) }
+            seat.new ≡ with_receipt seat.old call.Take (reply.Take (taken_bytes t))) }
         ensures err { OnErr result (seat.new ≡ seat.old) }
     {
-        match self.desk.lock(rt).take(seat) {
+        match self.core.lock(rt).take(seat) {
             Ok(taken) => Ok(as_string(taken)),
             Err(error) => Err(error),
         }
@@ -115,18 +123,20 @@ impl<A: Allocator + Clone> AuditedQueue<A> {
 }
 
 impl<A: Allocator> AuditedQueue<A> {
-    /// Sets the stop mark. Texts that wait can still be taken. At an `AuditError` queue and seat are as they were.
+    /// Stops the queue: it refuses texts from now on. Texts that wait can still be taken. After an `AuditError` the
+    /// queue and the seat have not changed.
     pub fn stop(&self, rt: &impl Wait, seat: &mut Seat<A>) -> Result<(), AuditError>
-        ensures ok { OnOk result (seat.new ≡ receiving seat.old call.Stop reply.Stop) }
+        ensures ok { OnOk result (seat.new ≡ with_receipt seat.old call.Stop reply.Stop) }
         ensures err { OnErr result (seat.new ≡ seat.old) }
     {
-        self.desk.lock(rt).stop(seat)
+        self.core.lock(rt).stop(seat)
     }
 
-    /// Ends the queue with all its seats, and gives the history. `SeatsMissing` comes where the seats' numbers are not
-    /// all of the queue's, each once; a queue of no seats is ended with the empty list. Else `Mismatch` comes where the
-    /// capacity under the lock is not the queue's, or the history does not agree with the seats. After a fault queue
-    /// and seats are gone.
+    /// Ends the queue with all its seats, and returns the history. A queue without seats is ended with the empty list.
+    ///
+    /// The errors are `SeatsMissing` if the numbers of the seats are not those of all seats of the queue, each once,
+    /// and otherwise `Mismatch` if the history doesn't agree with the receipts of the seats, or if the capacity under
+    /// the lock isn't the one outside it. After an error the queue and the seats are gone.
     pub fn end(self, seats: Vec<Seat<A>, A>) -> Result<History<A>, EndFault>
         ensures missing { (result ≡ Err fault.SeatsMissing) ↔
             (HasAllSeats self.seats seats.items → ⊥) }
@@ -134,21 +144,21 @@ impl<A: Allocator> AuditedQueue<A> {
         ensures legal { IfOk result (λ h. IsLegal self.capacity h) }
         ensures order { IfOk result (λ h. AreInOrder h) }
         ensures as_many { IfOk result (λ h. length h ≡ receipt_count seats.items) }
-        ensures each { IfOk result (λ h. All (StandsIn h) seats.items) }
+        ensures each { IfOk result (λ h. All (IsRecordedIn h) seats.items) }
     {
         let AuditedQueue {
             capacity,
             seats: count,
-            desk,
+            core,
         } = self;
-        let desk = desk.into_inner();
+        let core = core.into_inner();
         if !has_all_seats(count, seats.as_slice()) {
             return Err(EndFault::SeatsMissing);
         }
-        if desk.capacity() != capacity {
+        if core.capacity() != capacity {
             return Err(EndFault::Mismatch);
         }
-        let history = History::of(desk.into_events());
+        let history = History::of(core.into_events());
         if history.agrees(seats.as_slice()) {
             Ok(history)
         } else {

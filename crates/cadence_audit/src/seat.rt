@@ -1,4 +1,4 @@
-//! The place of a caller at an audited queue.
+//! A seat: the place of one caller at an audited queue.
 ghost use Rattle.std.specs.Prelude.{◌≡◌, ◌↔◌, ◌==◌, [], IfOk, IsTrue, count_by};
 ghost use Rattle.cadence_audit.specs.AuditSeats.{next_event, AreReceiptsOf, AreNewSeats, HasAllSeats};
 
@@ -6,7 +6,7 @@ use super::event::{AuditCall, AuditReply, Event};
 use std::alloc::{AllocError, Allocator, Global};
 use std::marker::Model;
 
-/// The place of one caller at an audited queue, with a receipt of each of its calls that is an event.
+/// The place of one caller at an audited queue. It has a receipt of each call of that caller that returned `Ok`.
 #[derive(Drop)]
 pub struct Seat<A: Allocator = Global> {
     pub(super) number: usize,
@@ -14,9 +14,9 @@ pub struct Seat<A: Allocator = Global> {
 }
 
 impl<A: Allocator> Model for Seat<A> {
-    ghost use Rattle.cadence_audit.specs.AuditSeats.{Held, AreReceiptsOf};
+    ghost use Rattle.cadence_audit.specs.AuditSeats.{SeatState, AreReceiptsOf};
 
-    ghost Value = { Held A };
+    ghost Value = { SeatState A };
 
     ghost view = { λ s. record { number = s.number; receipts = s.receipts.items } };
 
@@ -24,7 +24,7 @@ impl<A: Allocator> Model for Seat<A> {
 }
 
 impl<A: Allocator> Seat<A> {
-    // A seat without receipts.
+    // Makes a seat without receipts.
     pub(super) fn new(alloc: A, number: usize) -> Seat<A>
         ensures { result ≡ record { number = number; receipts = [] } }
     {
@@ -34,14 +34,14 @@ impl<A: Allocator> Seat<A> {
         }
     }
 
-    /// The seat's number, counted from 0 in its queue.
+    /// Returns the seat's number. The seats of a queue are numbered from 0.
     pub fn number(&self) -> usize
         ensures { result ≡ self.now.number }
     {
         self.number
     }
 
-    /// The receipts of the seat's calls, the oldest first.
+    /// Returns the receipts of the seat's calls, the oldest first.
     pub fn receipts(&self) -> &[Event<A>]
         ensures receipts { result.now ≡ self.now.receipts }
         ensures own { AreReceiptsOf self.now.number result.now }
@@ -49,7 +49,7 @@ impl<A: Allocator> Seat<A> {
         self.receipts.as_slice()
     }
 
-    // The event of the seat's next call.
+    // Makes the event of the seat's next call.
     pub(super) fn next_event(&self, call: AuditCall<A>, reply: AuditReply<A>) -> Event<A>
         ensures { result ≡ next_event self.now call reply }
     {
@@ -62,7 +62,7 @@ impl<A: Allocator> Seat<A> {
     }
 }
 
-/// The seats below `count`, in order, without receipts.
+/// Makes `count` seats without receipts, numbered from 0.
 pub(super) fn new_seats<A: Allocator + Clone>(
     alloc: A,
     count: usize,
@@ -76,14 +76,14 @@ pub(super) fn new_seats<A: Allocator + Clone>(
     Ok(seats)
 }
 
-// Whether just one of the seats has the number.
+// Whether just one of the seats has this number.
 fn is_once<A: Allocator>(number: usize, seats: &[Seat<A>]) -> bool
     ensures { IsTrue result ↔ (count_by (λ s. s.number == number) seats.now ≡ 1) }
 {
     seats.iter().filter(|s| s.number() == number).count() == 1
 }
 
-/// Whether the seats' numbers are those below `count`, each once.
+/// Returns whether the numbers of the seats are those below `count`, each once.
 pub(super) fn has_all_seats<A: Allocator>(count: usize, seats: &[Seat<A>]) -> bool
     ensures { IsTrue result ↔ HasAllSeats count seats.now }
 {

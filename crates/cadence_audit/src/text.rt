@@ -1,10 +1,10 @@
 //! A text that contracts see as its bytes.
-ghost use Rattle.std.specs.Prelude.{◌≡◌, IfOk, string_bytes};
+ghost use Rattle.std.specs.Prelude.{◌≡◌, string_bytes};
 
 use std::alloc::{AllocError, Allocator, Global};
 use std::marker::Model;
 
-/// A text, which contracts see as its bytes. It is made from a `String` and gives it back without memory.
+/// A text, which contracts see as its bytes. It wraps a `String`, and gives it back without a copy.
 #[derive(Drop)]
 #[derive_where(Clone; A)]
 pub struct Text<A: Allocator = Global> {
@@ -20,14 +20,14 @@ impl<A: Allocator> Model for Text<A> {
 }
 
 impl<A: Allocator> Text<A> {
-    /// The text, to read.
+    /// Returns the text, to read.
     pub fn as_str(&self) -> &str
         ensures { result.now ≡ self.now }
     {
         self.text.as_str()
     }
 
-    /// The text as a `String`, without a copy.
+    /// Returns the text as a `String`, without a copy.
     pub fn into_string(self) -> String<A>
         ensures { string_bytes result ≡ self }
     {

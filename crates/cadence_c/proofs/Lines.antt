@@ -1,5 +1,6 @@
--- The line of what a call means.
-use Rattle.std.proofs.Common.{◌≡◌, ◌<◌, ◌+◌, ℕ, List, [], ◌∷◌, ◌++◌, Option, Some, None, Ok, Err, append_assoc, ap, ap₂, arith, get_or, length, map, refl, suc, sym, take, ◌∙◌}
+-- The line of the metric that a call means, and the drafts from which it is made.
+use Rattle.std.proofs.Common.{◌≡◌, ◌<◌, ◌+◌, ℕ, List, [], ◌∷◌, ◌++◌, Option, Some, None, Ok, Err, append_assoc, ap, ap₂, arith, get_or}
+use Rattle.std.proofs.Common.{length, map, refl, suc, sym, take, ◌∙◌}
 use Rattle.std.proofs.Math.Seq.{take-suc}
 use Rattle.std.proofs.lemmas.List.{map-append}
 use Rattle.std.specs.Prelude.{OnOk, Result}
@@ -9,34 +10,44 @@ use Rattle.cadence_text.specs.Metric.{Metric, Tag, with_tag}
 use Rattle.cadence_value.specs.Number.{Number}
 use Rattle.cadence_schedule.specs.Call.{metric_of_call, plain_call}
 use Rattle.cadence_schedule.specs.Settings.{Settings}
-use Rattle.cadence_c.specs.Calls.{IsCall, IsLine, IsRateOf, bare, c_tag, kind_named, line_of_call, metric_with, with_c_tags}
+use Rattle.cadence_c.specs.Calls.{IsMetricOfCall, IsLineOfCall, IsRateOf, prefix_alone, c_tag, kind_named, line_of_call, metric_with, with_c_tags}
 use Rattle.cadence_c.specs.declared.call.COptions.{COptions}
 use Rattle.cadence_c.specs.declared.call.CTag.{CTag}
 
--- without a client nothing is added to a head
-pub bare_draft : (prefix key : List ℕ) (k : MetricType) (ns : List Number)
-    → record { head = head_text (prefix ++ key) ns k; tags = []; rate = None; container = None; time = None } ≡ draft_of (metric_of_call (bare prefix) (plain_call k key ns))
+-- A draft without a client has the head of the call and nothing else.
+pub draft_of_prefix_alone : (prefix key : List ℕ) (k : MetricType) (ns : List Number)
+    → record { head = head_text (prefix ++ key) ns k; tags = []; rate = None; container = None; time = None } ≡ draft_of
+    (metric_of_call (prefix_alone prefix) (plain_call k key ns))
 unfolding metric_of_call
-bare_draft prefix key k ns = refl
+draft_of_prefix_alone prefix key k ns = refl
 
-means : (s : Settings) (n : ℕ) (k : MetricType) (key : List ℕ) (ns : List Number) (o : COptions) (rate : Option Number) → kind_named n ≡ Some k → IsRateOf o rate → IsCall s n key ns o (metric_with s k key ns o rate)
+-- The metric of a call with a known kind and a valid rate is the one that the call means.
+means : (s : Settings) (n : ℕ) (k : MetricType) (key : List ℕ) (ns : List Number) (o : COptions) (rate : Option Number)
+    → kind_named n ≡ Some k → IsRateOf o rate → IsMetricOfCall s n key ns o (metric_with s k key ns o rate)
 unfolding metric_of_call
 means s n k key ns o (Some rate) named rated = record { kind = named; rate = rated; metric = refl }
 means s n k key ns o None named rated = record { kind = named; rate = rated; metric = refl }
 
--- the line of a tested call is the line of what the call means
-pub is_line : (s seen : Settings) (n : ℕ) (k : MetricType) (key text : List ℕ) (ns : List Number) (o : COptions) (rate : Option Number) (line : List ℕ)
-    → seen ≡ s → text ≡ key → kind_named n ≡ Some k → IsRateOf o rate → line ≡ line_of_call seen k text ns o rate → IsLine s n key ns o line
-is_line s seen n k key text ns o rate line same tested named rated shown =
-    (metric_with s k key ns o rate, means s n k key ns o rate named rated, shown ∙ ap₂ (λ (s : Settings) (t : List ℕ). line_of_call s k t ns o rate) same tested)
+-- The line of a call that was tested is the line of the metric that the call means.
+pub is_line : (s seen : Settings) (n : ℕ) (k : MetricType) (key text : List ℕ) (ns : List Number) (o : COptions) (rate : Option Number)
+    (line : List ℕ)
+    → seen ≡ s → text ≡ key → kind_named n ≡ Some k → IsRateOf o rate → line ≡ line_of_call seen k text ns o rate → IsLineOfCall s n key ns o line
+is_line s seen n k key text ns o rate line same tested named rated shown = (
+  metric_with s k key ns o rate,
+  means s n k key ns o rate named rated,
+  shown
+      ∙ ap₂ (λ (s : Settings) (t : List ℕ). line_of_call s k t ns o rate) same tested,
+)
 
--- the line with what is known of it
-pub with_line : {T E : Type 0} (r : Result T E) (line : List ℕ) (Is Packed : List ℕ → Type 0) → Is line → OnOk r (Packed line) → OnOk r ((x : List ℕ) × Is x × Packed x)
+-- If a fact holds of a line, and another one too if the result is Ok, both hold of some line if the result is Ok.
+pub with_line : {T E : Type 0} (r : Result T E) (line : List ℕ) (Is Packed : List ℕ → Type 0) → Is line → OnOk r (Packed line)
+    → OnOk r ((x : List ℕ) × Is x × Packed x)
 with_line (Ok t) line Is Packed is packed = (line, is, packed)
 with_line (Err e) line Is Packed is packed = tt
 
--- one more tag of a call
-pub one_tag_more : (m : Metric) (tags : List CTag) (i : ℕ) (tag : CTag) → i < length tags → with_tag (with_c_tags m (take i tags)) (c_tag (get_or tags i tag)) ≡ with_c_tags m (take (i + 1) tags)
+-- A metric with the first i tags of a call, and then with the next tag, is the metric with the first i + 1 tags.
+pub one_tag_more : (m : Metric) (tags : List CTag) (i : ℕ) (tag : CTag) → i < length tags
+    → with_tag (with_c_tags m (take i tags)) (c_tag (get_or tags i tag)) ≡ with_c_tags m (take (i + 1) tags)
 one_tag_more m tags i tag inside =
     let at = get_or tags i tag in
     let one : suc i ≡ i + 1 = omega arith in

@@ -1,5 +1,6 @@
--- A call as C makes it, and the metric that it means.
-use Rattle.std.specs.Prelude.{◌≡◌, ◌⊎◌, ◌<◌, ◌≤◌, All, ℕ, ◌/◌, ◌==◌, if◌then◌else◌, ⊤, true, false, List, [], ◌∷◌, ◌++◌, map, Option, Some, None, cond, length}
+-- The arguments of a call of C, and the metric that the call means.
+use Rattle.std.specs.Prelude.{◌≡◌, ◌⊎◌, ◌<◌, ◌≤◌, All, ℕ, ◌/◌, ◌==◌, if◌then◌else◌, ⊤, true, false, List, [], ◌∷◌, ◌++◌, map, Option, Some}
+use Rattle.std.specs.Prelude.{None, length}
 use Rattle.std.specs.Option.{option_or}
 use Rattle.std.specs.Str.{IsUtf8}
 use Rattle.cadence_text.specs.declared.line.MetricType.{MetricType}
@@ -13,108 +14,108 @@ use Rattle.cadence_c.specs.declared.call.CTag.{CTag}
 use Rattle.cadence_c.specs.declared.call.CDecimal.{CDecimal}
 use Rattle.cadence_c.specs.declared.call.COptions.{COptions}
 
--- the kind of a number
+-- the kind that has this number in C
 abbrev pub kind_named : ℕ → Option MetricType
 kind_named n =
     if n == 0 then Some Counter else if n == 1 then Some Timer else if n == 2 then Some Gauge
     else if n == 3 then Some Meter else if n == 4 then Some Histogram else if n == 5 then Some Set
     else if n == 6 then Some Distribution else None
 
--- the tag: its key where it says that it has one, and its text
+-- the tag of a struct of C: its text, and its key if the struct says that it has one
 abbrev pub c_tag : CTag → Tag
-c_tag tag = record { key = cond tag.keyed (Some tag.key.now) None; text = tag.text.now }
+c_tag tag = record { key = if tag.keyed then Some tag.key.now else None; text = tag.text.now }
 
--- the number is the lowest form of the decimal
+-- The number is the lowest form of the decimal.
 abbrev pub IsNumberOf : CDecimal → Number → Type 0
 IsNumberOf d n = IsLowestForm d.mantissa d.places n
 
--- the numbers are those of the decimals, one by one
+-- Each number is that of the decimal at its place.
 abbrev pub AreNumbersOf : List CDecimal → List Number → Type 0
 AreNumbersOf [] [] = ⊤
 AreNumbersOf [] (n ∷ ns) = ⊥
 AreNumbersOf (d ∷ ds) [] = ⊥
 AreNumbersOf (d ∷ ds) (n ∷ ns) = IsNumberOf d n × AreNumbersOf ds ns
 
--- what a duration in nanoseconds is in the unit of a timer: whole milliseconds, cut off
+-- the whole milliseconds in a number of nanoseconds; what is left is cut off
 abbrev pub millis_of : ℕ → ℕ
 millis_of nanos = nanos / 1_000_000
 
--- the numbers of durations in nanoseconds: a timer has milliseconds and a histogram nanoseconds, and no other has any
+-- the numbers of durations in nanoseconds: milliseconds for a timer, nanoseconds for a histogram, and none for other kinds
 abbrev pub durations_of : ℕ → List ℕ → Option (List Number)
 durations_of k nanos =
     if k == 1 then Some (map natural (map millis_of nanos)) else if k == 4 then Some (map natural nanos) else None
 
--- the rate of the options, where they have one
+-- This is the sampling rate of the options, or none if they have none.
 abbrev pub IsRateOf : COptions → Option Number → Type 0
 IsRateOf o None = o.rated ≡ false
 IsRateOf o (Some rate) = (o.rated ≡ true) × IsNumberOf o.rate rate
 
--- the metric with tags after its own
+-- the metric with more tags, which come after its own
 abbrev pub with_c_tags : Metric → List CTag → Metric
 with_c_tags m tags = record m { tags = m.tags ++ map c_tag tags }
 
--- the metric with options: their tags after its own, and of a rate, a container and a time theirs, if there is one
+-- the metric with options: their tags come after its own, and their rate, container and time replace its own if they have these
 abbrev pub with_options : Metric → COptions → Option Number → Metric
 with_options m o rate = record m {
   rate = option_or rate m.rate;
   tags = m.tags ++ map c_tag o.tags.now;
-  container = cond o.contained (Some o.container.now) m.container;
-  time = cond o.timed (Some o.time) m.time;
+  container = if o.contained then Some o.container.now else m.container;
+  time = if o.timed then Some o.time else m.time;
 }
 
--- the metric of a call with options
+-- the metric that a call with options sends through a client with these settings
 abbrev pub metric_with : Settings → MetricType → List ℕ → List Number → COptions → Option Number → Metric
 metric_with s kind key numbers o rate = with_options (metric_of_call s (plain_call kind key numbers)) o rate
 
--- the line of a call with options
+-- the line that a call with options sends through a client with these settings
 abbrev pub line_of_call : Settings → MetricType → List ℕ → List Number → COptions → Option Number → List ℕ
 line_of_call s kind key numbers o rate = line_of (metric_with s kind key numbers o rate)
 
--- what a call means: the metric of the call without options, and its options
-pub record IsCall (s : Settings) (k : ℕ) (key : List ℕ) (numbers : List Number) (o : COptions) (m : Metric) : Type 0 where
+-- A call with the kind of the number k means the metric m.
+pub record IsMetricOfCall (s : Settings) (k : ℕ) (key : List ℕ) (numbers : List Number) (o : COptions) (m : Metric) : Type 0 where
   pub kind : kind_named k ≡ Some m.kind
   pub rate : IsRateOf o m.rate
   pub metric : m ≡ metric_with s m.kind key numbers o m.rate
 
--- the line of what a call means
-abbrev pub IsLine : Settings → ℕ → List ℕ → List Number → COptions → List ℕ → Type 0
-IsLine s k key numbers o line = (m : Metric) × IsCall s k key numbers o m × (line ≡ line_of m)
+-- This is the line of the metric that a call means.
+abbrev pub IsLineOfCall : Settings → ℕ → List ℕ → List Number → COptions → List ℕ → Type 0
+IsLineOfCall s k key numbers o line = (m : Metric) × IsMetricOfCall s k key numbers o m × (line ≡ line_of m)
 
--- how many bytes the line of what a call means has
-abbrev pub TellsLine : ℕ → Settings → ℕ → List ℕ → List Number → COptions → Type 0
-TellsLine size s k key numbers o = (line : List ℕ) × IsLine s k key numbers o line × (size ≡ length line)
+-- The line of the metric that a call means has this many bytes.
+abbrev pub IsLineLength : ℕ → Settings → ℕ → List ℕ → List Number → COptions → Type 0
+IsLineLength size s k key numbers o = (line : List ℕ) × IsLineOfCall s k key numbers o line × (size ≡ length line)
 
--- settings that print a prefix as it stands, and add nothing else
-abbrev pub bare : List ℕ → Settings
-bare prefix = record { prefix = prefix; tags = []; container = None }
+-- settings that print a prefix as it is, without a dot after it, and add nothing else
+abbrev pub prefix_alone : List ℕ → Settings
+prefix_alone prefix = record { prefix = prefix; tags = []; container = None }
 
--- the texts of a tag are UTF-8, its key where it has one
-pub record IsTextTag (tag : CTag) : Type 0 where
+-- The text of a tag is UTF-8, and so is its key if it has one.
+pub record IsUtf8Tag (tag : CTag) : Type 0 where
   pub text : IsUtf8 tag.text.now
   pub key : tag.keyed ≡ true → IsUtf8 tag.key.now
 
--- the texts of options are UTF-8
-pub record AreTexts (o : COptions) : Type 0 where
-  pub tags : All IsTextTag o.tags.now
+-- The tags of the options are UTF-8, and so is their container if they have one.
+pub record IsUtf8Options (o : COptions) : Type 0 where
+  pub tags : All IsUtf8Tag o.tags.now
   pub container : o.contained ≡ true → IsUtf8 o.container.now
 
--- the rate of the options has too many places
-pub record IsNoRate (o : COptions) : Type 0 where
+-- The options have a rate, and it has too many decimal places.
+pub record HasInvalidRate (o : COptions) : Type 0 where
   pub rated : o.rated ≡ true
   pub many : 30 < o.rate.places
 
--- the key and the options are UTF-8
-abbrev pub IsText : List ℕ → COptions → Type 0
-IsText key o = IsUtf8 key × AreTexts o
+-- The key and the options of a call are UTF-8.
+abbrev pub IsUtf8Call : List ℕ → COptions → Type 0
+IsUtf8Call key o = IsUtf8 key × IsUtf8Options o
 
--- where the options say that the host knows their texts, they and the key are UTF-8
-abbrev pub IsTextIfKnown : List ℕ → COptions → Type 0
-IsTextIfKnown key o = o.known ≡ true → IsText key o
+-- If the options say that the texts of a call are known to be UTF-8, they are.
+abbrev pub IsUtf8IfKnown : List ℕ → COptions → Type 0
+IsUtf8IfKnown key o = o.known ≡ true → IsUtf8Call key o
 
--- there is no such kind, or the rate has too many places
-abbrev pub IsNoCall : ℕ → COptions → Type 0
-IsNoCall k o = (kind_named k ≡ None) ⊎ IsNoRate o
+-- No kind has the number k, or the rate has too many decimal places.
+abbrev pub IsInvalidCall : ℕ → COptions → Type 0
+IsInvalidCall k o = (kind_named k ≡ None) ⊎ HasInvalidRate o
 
--- each decimal has at most 30 places
-abbrev pub AreDecimals : List CDecimal → Type 0
-AreDecimals ds = All (λ (d : CDecimal). d.places ≤ 30) ds
+-- Each of the numbers has at most 30 decimal places.
+abbrev pub AreValidDecimals : List CDecimal → Type 0
+AreValidDecimals ds = All (λ (d : CDecimal). d.places ≤ 30) ds

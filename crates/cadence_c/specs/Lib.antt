@@ -1,6 +1,7 @@
 pub mod Status
 pub mod Calls
 pub mod State
-pub mod Answers
+pub mod Results
 pub mod Slot
 pub mod Run
+pub mod Handle

@@ -1,5 +1,5 @@
 -- Many calls of a client, one after the other, and what becomes of their lines.
-use Rattle.std.specs.Prelude.{◌≡◌, ℕ, ◌+◌, ◌<◌, ◌≤◌, List, [], ◌∷◌, ◌++◌, length, take, codes, cond, Option, Some, None}
+use Rattle.std.specs.Prelude.{◌≡◌, ℕ, ◌+◌, ◌<◌, ◌≤◌, List, [], ◌∷◌, ◌++◌, length, take, codes, if◌then◌else◌, Option, Some, None}
 use Rattle.std.specs.List.{concat, filter_map}
 use Rattle.cadence_flow.specs.Frame.{stream}
 use Rattle.cadence_flow.specs.Queue.{is_full}
@@ -7,65 +7,73 @@ use Rattle.cadence_flow.specs.QueueState.{Queue}
 use Rattle.cadence_flow.specs.declared.queue.policy.QueuePolicy.{QueuePolicy}
 use Rattle.cadence_flow.specs.declared.queue.policy.QueuePolicy.TheVariants.{Refuse, DropOldest}
 use Rattle.cadence_schedule.specs.Settings.{Settings}
-use Rattle.cadence_c.specs.State.{State, Packs, IsSent, closed, flushed, new_state}
+use Rattle.cadence_c.specs.State.{State, DropsSent, KeepsLine, after_flush, new_state, queue_with_held}
 
--- what a call that was answered 0 did: it kept a line, it closed the held text, it dropped this packet, since the host
--- has sent it, or it changed the defaults. A call that was answered otherwise did nothing
+-- What a call does that returns CADENCE_OK: it keeps a line, makes a packet of the held text, drops a packet because the host
+-- has sent it, or changes the settings. A call that returns another status does nothing.
 pub data Act : Type 0 where
   keeps : List ℕ → Act
   flushes : Act
   sends : List ℕ → Act
   sets : Settings → Act
 
+-- the line that an act keeps, if it keeps one
 abbrev pub line_of_act : Act → Option (List ℕ)
 line_of_act (keeps line) = Some line
 line_of_act flushes = None
 line_of_act (sends packet) = None
 line_of_act (sets settings) = None
 
+-- the packet that the host sent before an act, if the act drops one
 abbrev pub packet_of_act : Act → Option (List ℕ)
 packet_of_act (keeps line) = None
 packet_of_act flushes = None
 packet_of_act (sends packet) = Some packet
 packet_of_act (sets settings) = None
 
--- the packet that a queue drops for one more, where it does
-abbrev pub dropped_by : QueuePolicy → Queue (List ℕ) → List (List ℕ)
-dropped_by Refuse q = []
-dropped_by DropOldest q = cond (is_full q) (take 1 q.waiting) []
+-- the packets that a queue drops to make room for one more: under DropOldest a full queue drops its oldest
+abbrev pub dropped_for_packet : QueuePolicy → Queue (List ℕ) → List (List ℕ)
+dropped_for_packet Refuse q = []
+dropped_for_packet DropOldest q = if is_full q then take 1 q.waiting else []
 
--- the packet that it drops where the held text becomes one
-abbrev pub dropped_closing : Queue (List ℕ) → List ℕ → List (List ℕ)
-dropped_closing q [] = []
-dropped_closing q (byte ∷ held) = dropped_by q.policy q
+-- the packets that a queue drops to make room for the held text, if any text is held
+abbrev pub dropped_for_held : Queue (List ℕ) → List ℕ → List (List ℕ)
+dropped_for_held q [] = []
+dropped_for_held q (byte ∷ held) = dropped_for_packet q.policy q
 
--- the packets that are dropped for the packets that a line makes
+-- These packets are dropped to make room for the packets that a kept line makes.
 pub record Drops (s : State) (line : List ℕ) (dropped : List (List ℕ)) : Type 0 where
   pub fits : length s.held + (length line + 1) ≤ s.capacity → dropped ≡ []
-  pub closes : s.capacity < length s.held + (length line + 1) → length line + 1 ≤ s.capacity → dropped ≡ dropped_closing s.queue s.held
-  pub passes : s.capacity < length line + 1 → dropped ≡ dropped_closing s.queue s.held ++ dropped_by (closed s.queue s.held).policy (closed s.queue s.held)
+  pub flushes_first : s.capacity < length s.held + (length line + 1)
+      → length line + 1 ≤ s.capacity → dropped ≡ dropped_for_held s.queue s.held
+  pub oversize : s.capacity < length line + 1
+      → dropped ≡ dropped_for_held s.queue s.held
+      ++ dropped_for_packet (queue_with_held s.queue s.held).policy (queue_with_held s.queue s.held)
 
--- what an act makes of a state, and the packets that leave it
+-- The act leads from a state to the next, and these packets leave the client: they are dropped, for room or because they were
+-- sent.
 abbrev pub Does : Act → State → State → List (List ℕ) → Type 0
-Does (keeps line) s t left = Packs s line t × Drops s line left
-Does flushes s t left = (t ≡ flushed s) × (left ≡ dropped_closing s.queue s.held)
-Does (sends packet) s t left = IsSent s packet t × (left ≡ packet ∷ [])
+Does (keeps line) s t left = KeepsLine s line t × Drops s line left
+Does flushes s t left = (t ≡ after_flush s) × (left ≡ dropped_for_held s.queue s.held)
+Does (sends packet) s t left = DropsSent s packet t × (left ≡ packet ∷ [])
 Does (sets settings) s t left = (t ≡ record s { settings = settings }) × (left ≡ [])
 
--- acts lead from a state to another, and these packets leave it on the way, in this order
+-- The acts lead from one state to another, and these packets leave the client meanwhile, in this order.
 abbrev pub Leads : List Act → State → State → List (List ℕ) → Type 0
 Leads [] s t left = (t ≡ s) × (left ≡ [])
 Leads (act ∷ acts) s t left =
     (mid : State) × (first : List (List ℕ)) × (rest : List (List ℕ)) × Does act s mid first × Leads acts mid t rest × (left ≡ first ++ rest)
 
--- the packets that left, then those that wait, then the held text, are the frames of the lines that were kept, in order
+-- After any acts of a new client, the packets that left it, then the packets that wait, and then the held text are, joined, the
+-- frames of the lines that it kept, in order.
 abbrev pub NothingIsLost : Type 0
 NothingIsLost =
     (prefix : List ℕ) (capacity most : ℕ) (policy : QueuePolicy) (acts : List Act) (t : State) (left : List (List ℕ))
     → Leads acts (new_state prefix capacity most policy) t left
     → concat left ++ (concat t.queue.waiting ++ t.held) ≡ stream (record { capacity = capacity; ending = codes "\n" }) (filter_map line_of_act acts)
 
--- where the queue refuses, the packets that left are those that the host has sent
+-- After any acts of a new client whose queue refuses packets if it is full, the packets that left it are those that the host
+-- sent.
 abbrev pub NothingIsDropped : Type 0
 NothingIsDropped =
     (prefix : List ℕ) (capacity most : ℕ) (acts : List Act) (t : State) (left : List (List ℕ))

@@ -1,165 +1,137 @@
--- What a client of C holds, and what each call of it does.
-use Rattle.std.specs.Prelude.{◌≡◌, ℕ, ◌+◌, ◌%◌, ◌^◌, ◌≤◌, ◌<◌, ◌==◌, if◌then◌else◌, nat_lt, List, [], ◌∷◌, ◌++◌, length, codes, slice_get, Option, Some, None, IfSome, cond}
+-- What a client of C holds, and what each call does to it.
+use Rattle.std.specs.Prelude.{◌≡◌, ℕ, ◌+◌, ◌%◌, ◌^◌, ◌≤◌, ◌<◌, ◌==◌, if◌then◌else◌, nat_lt, List, [], ◌∷◌, ◌++◌, length, codes, slice_get}
+use Rattle.std.specs.Prelude.{Option, Some, None, IfSome}
 use Rattle.cadence_text.specs.Metric.{Tag}
 use Rattle.cadence_value.specs.Number.{Number}
 use Rattle.cadence_flow.specs.Frame.{held_packet}
-use Rattle.cadence_flow.specs.Queue.{new_queue, is_full, accepting, dropping}
+use Rattle.cadence_flow.specs.Queue.{new_queue, is_full, after_accept, after_drop}
 use Rattle.cadence_flow.specs.QueueState.{Queue}
 use Rattle.cadence_flow.specs.declared.queue.policy.QueuePolicy.{QueuePolicy}
 use Rattle.cadence_flow.specs.declared.queue.policy.QueuePolicy.TheVariants.{Refuse, DropOldest}
 use Rattle.cadence_schedule.specs.Settings.{Settings, settings_of, with_default_tag, with_default_container}
-use Rattle.cadence_c.specs.Calls.{IsLine}
+use Rattle.cadence_c.specs.Calls.{IsLineOfCall}
 use Rattle.cadence_c.specs.declared.call.COptions.{COptions}
-use Rattle.cadence_c.specs.declared.packing.CCounts.{CCounts}
+use Rattle.cadence_c.specs.declared.client.CCounts.{CCounts}
 
--- what the client adds to each call; the packets that wait for the host, as a queue; the text that waits for its
--- packet; and how much a packet holds
+-- A client's settings, which it adds to each call; the queue of finished packets, which wait for the host; the held text, which
+-- becomes the next packet; and the capacity of a packet in bytes. A handle has a state, or none if it has no client.
 pub record State : Type 0 where
   pub settings : Settings
   pub queue : Queue (List ℕ)
   pub held : List ℕ
   pub capacity : ℕ
 
--- a client without packets
+-- a new client, which holds no text and no packet; `most` is how many packets may wait
 abbrev pub new_state : List ℕ → ℕ → ℕ → QueuePolicy → State
 new_state prefix capacity most policy =
     record { settings = settings_of prefix; queue = new_queue (Some most) policy; held = []; capacity = capacity }
 
--- the policy of a number
+-- the policy that has this number in C
 abbrev pub policy_named : ℕ → Option QueuePolicy
 policy_named n = if n == 0 then Some Refuse else if n == 1 then Some DropOldest else None
 
--- a new client of a handle, of which two packets at least may wait
+-- The handle has a new client with the policy of the number n, and at least two packets may wait.
 abbrev pub IsNew : List ℕ → ℕ → ℕ → ℕ → Option State → Type 0
 IsNew prefix capacity most n client =
     (2 ≤ most) × ((policy : QueuePolicy) × (policy_named n ≡ Some policy) × (client ≡ Some (new_state prefix capacity most policy)))
 
 -- a line with its newline
-abbrev pub ended : List ℕ → List ℕ
-ended line = line ++ codes "\n"
+abbrev pub line_with_newline : List ℕ → List ℕ
+line_with_newline line = line ++ codes "\n"
 
--- the queue as it is before one packet more: a full one that drops has lost its oldest
-abbrev pub making_room : QueuePolicy → Queue (List ℕ) → Queue (List ℕ)
-making_room Refuse q = q
-making_room DropOldest q = cond (is_full q) (dropping q) q
+-- the queue as it is before one more packet comes: under DropOldest a full queue has dropped its oldest packet
+abbrev pub queue_with_room : QueuePolicy → Queue (List ℕ) → Queue (List ℕ)
+queue_with_room Refuse q = q
+queue_with_room DropOldest q = if is_full q then after_drop q else q
 
--- the queue with one packet more
-abbrev pub put : Queue (List ℕ) → List ℕ → Queue (List ℕ)
-put q packet = accepting (making_room q.policy q) packet
+-- the queue with one more packet, which is the last
+abbrev pub queue_with_packet : Queue (List ℕ) → List ℕ → Queue (List ℕ)
+queue_with_packet q packet = after_accept (queue_with_room q.policy q) packet
 
--- the queue with the held text as a packet, where there is any
-abbrev pub closed : Queue (List ℕ) → List ℕ → Queue (List ℕ)
-closed q [] = q
-closed q (byte ∷ held) = put q (byte ∷ held)
+-- the queue with the held text as its last packet, if any text is held
+abbrev pub queue_with_held : Queue (List ℕ) → List ℕ → Queue (List ℕ)
+queue_with_held q [] = q
+queue_with_held q (byte ∷ held) = queue_with_packet q (byte ∷ held)
 
--- the held text becomes a packet, where there is any
-abbrev pub flushed : State → State
-flushed s = record s { queue = closed s.queue s.held; held = [] }
+-- the state after a flush: the held text is a packet of the queue, if there was any
+abbrev pub after_flush : State → State
+after_flush s = record s { queue = queue_with_held s.queue s.held; held = [] }
 
--- the held text becomes a packet, where there is any, and then the line alone another one
-abbrev pub alone : State → List ℕ → State
-alone s line = record s { queue = put (closed s.queue s.held) line; held = [] }
+-- the state after an oversize line: the held text is a packet, if there was any, and then the line alone is another one
+abbrev pub after_oversize : State → List ℕ → State
+after_oversize s line = record s { queue = queue_with_packet (queue_with_held s.queue s.held) line; held = [] }
 
--- what keeping a line does: it is held; where it doesn't fit the free room, the held text becomes a packet first; where
--- it passes the capacity, it is a packet of its own then
-pub record Packs (old : State) (line : List ℕ) (new : State) : Type 0 where
-  pub fits : length old.held + (length line + 1) ≤ old.capacity → new ≡ record old { held = old.held ++ ended line }
-  pub closes : old.capacity < length old.held + (length line + 1) → length line + 1 ≤ old.capacity → new ≡ record (flushed old) { held = ended line }
-  pub passes : old.capacity < length line + 1 → new ≡ alone old line
+-- What a client does with a line that it keeps. If the line fits beside the held text, it is held with its newline. Otherwise
+-- the held text first becomes a packet. An oversize line then becomes a packet of its own, without its newline.
+pub record KeepsLine (old : State) (line : List ℕ) (new : State) : Type 0 where
+  pub fits : length old.held + (length line + 1) ≤ old.capacity → new ≡ record old { held = old.held ++ line_with_newline line }
+  pub flushes_first : old.capacity < length old.held + (length line + 1)
+      → length line + 1 ≤ old.capacity → new ≡ record (after_flush old) { held = line_with_newline line }
+  pub oversize : old.capacity < length line + 1 → new ≡ after_oversize old line
 
--- the queue refuses, and fewer than n packets more may wait
+-- The queue refuses packets if it is full, and it has no room for n more.
 pub record LacksRoom (q : Queue (List ℕ)) (n : ℕ) : Type 0 where
   pub refuses : q.policy ≡ Refuse
   pub few : IfSome q.capacity (λ most. most < length q.waiting + n)
 
--- the packets that a line makes which doesn't fit the free room: the held text, and itself where it passes the capacity
-abbrev pub packets_made : State → List ℕ → List (List ℕ)
-packets_made s line = held_packet s.held ++ cond (nat_lt s.capacity (length line + 1)) (line ∷ []) []
+-- the packets that are made if a line doesn't fit beside the held text: the held text, and the line too if it is oversize
+abbrev pub packets_for_line : State → List ℕ → List (List ℕ)
+packets_for_line s line = held_packet s.held ++ (if nat_lt s.capacity (length line + 1) then line ∷ [] else [])
 
--- a line doesn't fit the free room, and the queue lacks room for the packets that it makes
-pub record Overflows (s : State) (line : List ℕ) : Type 0 where
-  pub passes : s.capacity < length s.held + (length line + 1)
-  pub lacks : LacksRoom s.queue (length (packets_made s line))
+-- The line doesn't fit beside the held text, and the queue has no room for the packets that it makes.
+pub record LacksRoomForLine (s : State) (line : List ℕ) : Type 0 where
+  pub flushes_first : s.capacity < length s.held + (length line + 1)
+  pub lacks : LacksRoom s.queue (length (packets_for_line s line))
 
--- the state after the oldest packet, which was this one, was dropped, since the host has sent it
-pub record IsSent (s : State) (packet : List ℕ) (t : State) : Type 0 where
-  pub oldest : s.queue.waiting ≡ packet ∷ t.queue.waiting
-  pub rest : t ≡ record s { queue = record s.queue { waiting = t.queue.waiting; drained = (s.queue.drained + 1) % 2 ^ 64 } }
+-- The queue has no room for the held text as a packet.
+abbrev pub LacksRoomForHeld : State → Type 0
+LacksRoomForHeld s = LacksRoom s.queue (length (held_packet s.held))
 
--- the counts of a client
-pub record IsCountOf (s : State) (c : CCounts) : Type 0 where
+-- The oldest packet that waited, which is this one, is dropped, because the host has sent it.
+pub record DropsSent (old : State) (packet : List ℕ) (new : State) : Type 0 where
+  pub oldest : old.queue.waiting ≡ packet ∷ new.queue.waiting
+  pub rest : new ≡ record old { queue = record old.queue { waiting = new.queue.waiting; drained = (old.queue.drained + 1) % 2 ^ 64 } }
+
+-- These are the counts of the client.
+pub record AreCountsOf (s : State) (c : CCounts) : Type 0 where
   pub held : c.held ≡ length s.held
   pub waiting : c.waiting ≡ length s.queue.waiting
   pub made : c.made ≡ s.queue.submitted
   pub sent : c.sent ≡ s.queue.drained
   pub dropped : c.dropped ≡ s.queue.dropped
 
--- the same between two handles, of which a closed one has no client
+-- The client keeps the line of the metric that a call means.
+abbrev pub KeepsCall : ℕ → List ℕ → List Number → COptions → State → State → Type 0
+KeepsCall k key numbers o old new = (line : List ℕ) × IsLineOfCall old.settings k key numbers o line × KeepsLine old line new
 
--- a call kept this line
-abbrev pub KeptLine : List ℕ → Option State → Option State → Type 0
-KeptLine line (Some s) (Some t) = Packs s line t
-KeptLine line (Some s) None = ⊥
-KeptLine line None new = ⊥
+-- The client has no room for the line of the metric that a call means.
+abbrev pub LacksRoomForCall : ℕ → List ℕ → List Number → COptions → State → Type 0
+LacksRoomForCall k key numbers o s = (line : List ℕ) × IsLineOfCall s.settings k key numbers o line × LacksRoomForLine s line
 
--- a call kept the line of the metric that it means
-abbrev pub Kept : ℕ → List ℕ → List Number → COptions → Option State → Option State → Type 0
-Kept k key numbers o (Some s) (Some t) = (line : List ℕ) × IsLine s.settings k key numbers o line × Packs s line t
-Kept k key numbers o (Some s) None = ⊥
-Kept k key numbers o None new = ⊥
+-- The client adds a default tag.
+abbrev pub AddsDefaultTag : Tag → State → State → Type 0
+AddsDefaultTag tag old new = new ≡ record old { settings = with_default_tag old.settings tag }
 
--- the line of the metric that a call means has no room
-abbrev pub FullFor : ℕ → List ℕ → List Number → COptions → Option State → Type 0
-FullFor k key numbers o (Some s) = (line : List ℕ) × IsLine s.settings k key numbers o line × Overflows s line
-FullFor k key numbers o None = ⊥
+-- The client sets its default container.
+abbrev pub SetsDefaultContainer : List ℕ → State → State → Type 0
+SetsDefaultContainer container old new = new ≡ record old { settings = with_default_container old.settings container }
 
--- a line has no room
-abbrev pub FullForLine : List ℕ → Option State → Type 0
-FullForLine line (Some s) = Overflows s line
-FullForLine line None = ⊥
+-- The client makes a packet of its held text, if there is any.
+abbrev pub Flushes : State → State → Type 0
+Flushes old new = new ≡ after_flush old
 
--- the held text has no room
-abbrev pub FullForHeld : Option State → Type 0
-FullForHeld (Some s) = LacksRoom s.queue (length (held_packet s.held))
-FullForHeld None = ⊥
+-- The client drops the oldest packet that waits.
+abbrev pub DropsOldest : State → State → Type 0
+DropsOldest old new = (packet : List ℕ) × DropsSent old packet new
 
--- a call added a default tag
-abbrev pub Defaulted : Tag → Option State → Option State → Type 0
-Defaulted tag (Some s) new = new ≡ Some (record s { settings = with_default_tag s.settings tag })
-Defaulted tag None new = ⊥
+-- This is the oldest packet that waits.
+abbrev pub IsOldest : List ℕ → State → Type 0
+IsOldest packet s = slice_get s.queue.waiting 0 ≡ Some packet
 
--- a call set the default container
-abbrev pub Contained : List ℕ → Option State → Option State → Type 0
-Contained container (Some s) new = new ≡ Some (record s { settings = with_default_container s.settings container })
-Contained container None new = ⊥
+-- The oldest packet that waits, if one waits, has this many bytes.
+abbrev pub IsOldestLength : ℕ → State → Type 0
+IsOldestLength size s = IfSome (slice_get s.queue.waiting 0) (λ packet. size ≡ length packet)
 
--- a call made a packet of the held text, where there was any
-abbrev pub Flushed : Option State → Option State → Type 0
-Flushed (Some s) new = new ≡ Some (flushed s)
-Flushed None new = ⊥
-
--- the oldest packet that waits
-abbrev pub IsOldest : List ℕ → Option State → Type 0
-IsOldest packet (Some s) = slice_get s.queue.waiting 0 ≡ Some packet
-IsOldest packet None = ⊥
-
--- how many bytes the oldest packet that waits has
-abbrev pub TellsOldest : ℕ → Option State → Type 0
-TellsOldest size (Some s) = IfSome (slice_get s.queue.waiting 0) (λ packet. size ≡ length packet)
-TellsOldest size None = ⊥
-
--- no packet waits
-abbrev pub IsEmpty : Option State → Type 0
-IsEmpty (Some s) = s.queue.waiting ≡ []
-IsEmpty None = ⊥
-
--- a call dropped the oldest packet
-abbrev pub Sent : Option State → Option State → Type 0
-Sent (Some s) (Some t) = (packet : List ℕ) × IsSent s packet t
-Sent (Some s) None = ⊥
-Sent None new = ⊥
-
--- the counts of a handle's client
-abbrev pub Counted : CCounts → Option State → Type 0
-Counted counts (Some s) = IsCountOf s counts
-Counted counts None = ⊥
+-- No packet waits.
+abbrev pub HasNoPacket : State → Type 0
+HasNoPacket s = s.queue.waiting ≡ []

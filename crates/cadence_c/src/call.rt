@@ -1,16 +1,16 @@
-//! A call as C makes it.
-ghost use Rattle.std.specs.Prelude.{◌≡◌, ◌≢◌, ◌<◌, All, IfOk, IfErr, IfSome, IfNone, true, false};
+//! The arguments of a call of C, and their conversion to the types of the library.
+ghost use Rattle.std.specs.Prelude.{◌≡◌, ◌<◌, All, IfOk, IfErr, IfSome, IfNone, true, false};
 ghost use Rattle.std.specs.Str.{IsUtf8};
 ghost use Rattle.cadence_text.specs.Record.{tag_of as record_tag};
-ghost use Rattle.cadence_c.specs.declared.status.Refusal.TheVariants.{Invalid};
-ghost use Rattle.cadence_c.specs.Calls.{AreTexts, c_tag, kind_named, IsNoRate, IsNumberOf, IsRateOf, IsTextTag};
+ghost use Rattle.cadence_c.specs.declared.status.StatusError.TheVariants.{Invalid};
+ghost use Rattle.cadence_c.specs.Calls.{IsUtf8Options, c_tag, kind_named, HasInvalidRate, IsNumberOf, IsRateOf, IsUtf8Tag};
 
-use crate::status::Refusal;
+use crate::status::StatusError;
 use cadence_text::line::{MetricType, Tag};
 use cadence_value::decimal::Decimal;
 use std::str;
 
-/// A tag: its key, where it has one, and its text.
+/// A tag: its text, and its key if `keyed` is set.
 #[repr(C)]
 #[derive(Clone, Copy)]
 pub struct CTag<'a> {
@@ -19,7 +19,7 @@ pub struct CTag<'a> {
     pub keyed: bool,
 }
 
-/// `mantissa` over 10 to the power of `places`, which are at most 30.
+/// A decimal number: `mantissa` divided by 10 to the power of `places`. At most 30 places are valid.
 #[repr(C)]
 #[derive(Clone, Copy)]
 pub struct CDecimal {
@@ -27,8 +27,9 @@ pub struct CDecimal {
     pub places: u8,
 }
 
-/// What a call adds to its metric, beside what the client adds: tags, and where a flag says so a container, a rate and
-/// a time. Where `known` says so, the host knows that the call's texts are UTF-8, and they are not tested.
+/// What a call adds to its metric, besides what the client adds: tags, and a container, a sampling rate and a time if
+/// `contained`, `rated` and `timed` are set. If `known` is set, the host knows that the texts of the call are UTF-8,
+/// and they are not tested.
 #[repr(C)]
 #[derive(Clone, Copy)]
 pub struct COptions<'a> {
@@ -42,7 +43,7 @@ pub struct COptions<'a> {
     pub known: bool,
 }
 
-/// The kind of a number.
+/// Returns the kind that has this number in C, if one has it.
 #[inline]
 pub fn kind_of(kind: u32) -> Option<MetricType>
     ensures { result ≡ kind_named kind }
@@ -59,19 +60,19 @@ pub fn kind_of(kind: u32) -> Option<MetricType>
     }
 }
 
-/// The number of a decimal.
+/// Returns the number of a decimal. One with more than 30 places is `Invalid`.
 #[inline]
-pub fn decimal_of(decimal: CDecimal) -> Result<Decimal, Refusal>
+pub fn decimal_of(decimal: CDecimal) -> Result<Decimal, StatusError>
     ensures number { IfOk result (λ d. IsNumberOf decimal d) }
     ensures invalid { IfErr result (λ e. (30 < decimal.places) × (e ≡ Invalid)) }
 {
     match Decimal::new(i128::from(decimal.mantissa), decimal.places) {
         Ok(number) => Ok(number),
-        Err(_) => Err(Refusal::Invalid),
+        Err(_) => Err(StatusError::Invalid),
     }
 }
 
-/// The text, where the bytes are UTF-8. Most are ASCII, which takes less to see.
+/// Returns the text of bytes if they are UTF-8. Most texts are ASCII, and the test for that is faster.
 #[inline]
 pub fn text_of(bytes: &[u8]) -> Option<&str>
     ensures text { IfSome result (λ t. (t.now ≡ bytes.now) × IsUtf8 bytes.now) }
@@ -83,9 +84,9 @@ pub fn text_of(bytes: &[u8]) -> Option<&str>
     str::from_utf8(bytes).ok()
 }
 
-/// The text, where the bytes are UTF-8, which the caller may know.
+/// Returns the text of bytes if they are UTF-8. If the caller knows that they are, they are not tested.
 #[inline]
-pub fn text_where(bytes: &[u8], known: bool) -> Option<&str>
+pub fn read_text(bytes: &[u8], known: bool) -> Option<&str>
     requires { known ≡ true → IsUtf8 bytes.now }
     ensures text { IfSome result (λ t. (t.now ≡ bytes.now) × IsUtf8 bytes.now) }
     ensures none { IfNone result (IsUtf8 bytes.now → ⊥) }
@@ -96,12 +97,12 @@ pub fn text_where(bytes: &[u8], known: bool) -> Option<&str>
     text_of(bytes)
 }
 
-/// The tag, where its texts are UTF-8.
+/// Returns the tag if its texts are UTF-8.
 #[inline]
 pub fn tag_of<'a>(tag: &CTag<'a>) -> Option<Tag<'a>>
     ensures tag { IfSome result (λ t. record_tag t ≡ c_tag tag.now) }
-    ensures texts { IfSome result (λ _. IsTextTag tag.now) }
-    ensures none { IfNone result (IsTextTag tag.now → ⊥) }
+    ensures texts { IfSome result (λ _. IsUtf8Tag tag.now) }
+    ensures none { IfNone result (IsUtf8Tag tag.now → ⊥) }
 {
     let text = text_of(tag.text)?;
     if !tag.keyed {
@@ -114,10 +115,10 @@ pub fn tag_of<'a>(tag: &CTag<'a>) -> Option<Tag<'a>>
     })
 }
 
-/// Reads a tag whose texts are known to be UTF-8.
+/// Returns a tag whose texts are UTF-8, without testing them.
 #[inline]
 pub fn known_tag<'a>(tag: &CTag<'a>) -> Tag<'a>
-    requires { IsTextTag tag.now }
+    requires { IsUtf8Tag tag.now }
     ensures { record_tag result ≡ c_tag tag.now }
 {
     let text = unsafe { str::from_utf8_unchecked(tag.text) };
@@ -130,11 +131,11 @@ pub fn known_tag<'a>(tag: &CTag<'a>) -> Tag<'a>
     }
 }
 
-// Tells whether the texts of the tags are UTF-8.
+// Returns whether the texts of the tags are UTF-8.
 #[inline]
 fn are_text_tags(tags: &[CTag<'_>]) -> bool
-    ensures yes { result ≡ true → All IsTextTag tags.now }
-    ensures no { result ≡ false → All IsTextTag tags.now → ⊥ }
+    ensures yes { result ≡ true → All IsUtf8Tag tags.now }
+    ensures no { result ≡ false → All IsUtf8Tag tags.now → ⊥ }
 {
     for tag in tags {
         let Some(_tag) = tag_of(tag) else {
@@ -144,12 +145,12 @@ fn are_text_tags(tags: &[CTag<'_>]) -> bool
     true
 }
 
-/// Tells whether the texts of the options are UTF-8. If the host knows it, they are not tested.
+/// Returns whether the texts of the options are UTF-8. If the host knows that they are, they are not tested.
 #[inline]
 pub fn are_texts(options: &COptions<'_>) -> bool
-    requires { options.now.known ≡ true → AreTexts options.now }
-    ensures yes { result ≡ true → AreTexts options.now }
-    ensures no { result ≡ false → AreTexts options.now → ⊥ }
+    requires { options.now.known ≡ true → IsUtf8Options options.now }
+    ensures yes { result ≡ true → IsUtf8Options options.now }
+    ensures no { result ≡ false → IsUtf8Options options.now → ⊥ }
 {
     if options.known {
         return true;
@@ -160,11 +161,11 @@ pub fn are_texts(options: &COptions<'_>) -> bool
     are_text_tags(options.tags)
 }
 
-/// Reads the rate of the options, if they have one.
+/// Returns the sampling rate of the options, if they have one. One with more than 30 places is `Invalid`.
 #[inline]
-pub fn rate_of(options: &COptions<'_>) -> Result<Option<Decimal>, Refusal>
+pub fn rate_of(options: &COptions<'_>) -> Result<Option<Decimal>, StatusError>
     ensures rate { IfOk result (λ rate. IsRateOf options.now rate) }
-    ensures invalid { IfErr result (λ e. IsNoRate options.now × (e ≡ Invalid)) }
+    ensures invalid { IfErr result (λ e. HasInvalidRate options.now × (e ≡ Invalid)) }
 {
     if !options.rated {
         return Ok(None);

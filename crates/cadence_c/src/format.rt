@@ -1,27 +1,26 @@
-//! Lines without a client.
-ghost use Rattle.std.specs.Prelude.{◌≡◌, ◌≢◌, ◌⊎◌, ◌<◌, true, None, ◌≤◌, IfOk, Some, length, map, take};
+//! The calls of C that need no client: each writes one line into a buffer of the caller.
+ghost use Rattle.std.specs.Prelude.{◌≡◌, ◌≢◌, ◌≤◌, ◌<◌, [], ◌∷◌, true, None, IfOk, Some, length, map, take};
 ghost use Rattle.cadence_value.specs.Number.{natural, whole};
 ghost use Rattle.cadence_value.specs.Values.{numbers_of};
 ghost use Rattle.std.specs.Str.{IsUtf8};
-ghost use Rattle.cadence_c.specs.Status.{status};
-ghost use Rattle.cadence_c.specs.Answers.{Formats};
-ghost use Rattle.cadence_c.specs.Calls.{AreDecimals, AreNumbersOf, AreTexts, IsLine, IsNoCall, IsText, IsTextIfKnown, TellsLine, bare, durations_of, line_of_call};
+ghost use Rattle.cadence_c.specs.Status.{status, CADENCE_INVALID, CADENCE_NOT_UTF8, CADENCE_NO_MEMORY, CADENCE_OK, CADENCE_TOO_SMALL, IsOkOr};
+ghost use Rattle.cadence_c.specs.Results.{Formats};
+ghost use Rattle.cadence_c.specs.Calls.{AreValidDecimals, AreNumbersOf, IsUtf8Options, IsLineOfCall, IsInvalidCall, IsUtf8Call, IsUtf8IfKnown, IsLineLength, prefix_alone, durations_of, line_of_call};
 
-use crate::call::{CDecimal, COptions, text_where};
-use crate::line::{TestedCall, line_with, tested};
-use crate::out::copy_out;
-use crate::status::Refusal;
+use crate::call::{CDecimal, COptions, read_text};
+use crate::line::{TestedCall, finish_line, test_call};
+use crate::status::{StatusError, copy_out};
 use crate::value::{decimal_value, duration_value, signed_value, unsigned_value};
 use cadence_text::line::{DraftLine, Head};
 use cadence_value::value::MetricValue;
 use std::alloc::{AllocError, Global};
 
-// The most bytes that a rate, a time and the signs before a container take is 60, and this is a little more.
+// A rate, a time and the signs before a container take at most 60 bytes. This is a little more.
 const RATE_AND_TIME: usize = 64;
 
-// Returns how many bytes the options of a call take in its line, or some more, so that the line takes memory once. No
-// contract says so, because a line that needs more asks for it.
-fn room_of(options: &COptions<'_>) -> usize {
+// Returns at least as many bytes as the options of a call take in its line, so that the line asks for memory once. No
+// contract says so, because a line that needs more memory asks for it.
+fn room_for_options(options: &COptions<'_>) -> usize {
     let mut room = RATE_AND_TIME;
     if options.contained {
         room = room.saturating_add(options.container.len());
@@ -34,16 +33,16 @@ fn room_of(options: &COptions<'_>) -> usize {
     room
 }
 
-// Makes the line of a tested call.
-fn line_of_tested(
+// Returns the line of a tested call. The error is that memory ran out.
+fn draft_line(
     alloc: Global,
     prefix: &str,
     call: TestedCall<'_>,
     value: MetricValue,
     options: &COptions<'_>,
 ) -> Result<Vec<u8>, AllocError>
-    requires { AreTexts options.now }
-    ensures { IfOk result (λ line. line.items ≡ line_of_call (bare prefix.now)
+    requires { IsUtf8Options options.now }
+    ensures { IfOk result (λ line. line.items ≡ line_of_call (prefix_alone prefix.now)
         call.entry.kind call.entry.key.now (numbers_of value) options.now call.entry.rate) }
 {
     let head = Head {
@@ -52,41 +51,43 @@ fn line_of_tested(
         value,
         kind: call.kind,
     };
-    let draft = DraftLine::new(alloc, &head, "", None, room_of(options))?;
-    line_with(draft, options, call.rate)
+    let draft = DraftLine::new(alloc, &head, "", None, room_for_options(options))?;
+    finish_line(draft, options, call.rate)
 }
 
-// The line of a call's value.
-fn line_of(
+// Returns the line of a call, after testing the texts and the numbers of all but its value.
+fn make_line(
     alloc: Global,
     prefix: &[u8],
     kind: u32,
     key: &[u8],
     value: MetricValue,
     options: &COptions<'_>,
-) -> Result<Vec<u8>, Refusal>
+) -> Result<Vec<u8>, StatusError>
     requires prefix { options.now.known ≡ true → IsUtf8 prefix.now }
-    requires texts { IsTextIfKnown key.now options.now }
-    ensures line { IfOk result (λ line. IsLine (bare prefix.now) kind key.now (numbers_of value)
-        options.now line.items) }
-    ensures answers { status result ≤ 5 }
-    ensures text { status result ≡ 5 → IsUtf8 prefix.now → IsText key.now options.now → ⊥ }
-    ensures invalid { status result ≡ 4 → IsNoCall kind options.now }
+    requires texts { IsUtf8IfKnown key.now options.now }
+    ensures line { IfOk result (λ line. IsLineOfCall (prefix_alone prefix.now) kind key.now
+        (numbers_of value) options.now line.items) }
+    ensures statuses { IsOkOr (CADENCE_NO_MEMORY ∷ CADENCE_INVALID ∷ CADENCE_NOT_UTF8 ∷ [])
+        (status result) }
+    ensures text { status result ≡ CADENCE_NOT_UTF8 →
+        IsUtf8 prefix.now → IsUtf8Call key.now options.now → ⊥ }
+    ensures invalid { status result ≡ CADENCE_INVALID → IsInvalidCall kind options.now }
 {
-    let Some(prefix) = text_where(prefix, options.known) else {
-        return Err(Refusal::NotUtf8);
+    let Some(prefix) = read_text(prefix, options.known) else {
+        return Err(StatusError::NotUtf8);
     };
-    let call = match tested(kind, key, options) {
+    let call = match test_call(kind, key, options) {
         Ok(call) => call,
-        Err(refusal) => return Err(refusal),
+        Err(error) => return Err(error),
     };
-    let Ok(line) = line_of_tested(alloc, prefix, call, value, options) else {
-        return Err(Refusal::Memory);
+    let Ok(line) = draft_line(alloc, prefix, call, value, options) else {
+        return Err(StatusError::NoMemory);
     };
     Ok(line)
 }
 
-// Writes the line of a call's value into the first bytes of `out`, and tells its length.
+// Writes the line of a call into the first bytes of `out`, and its length into `size`.
 fn write_line(
     alloc: Global,
     prefix: &[u8],
@@ -98,26 +99,29 @@ fn write_line(
     size: &mut usize,
 ) -> u32
     requires prefix { options.now.known ≡ true → IsUtf8 prefix.now }
-    requires texts { IsTextIfKnown key.now options.now }
-    ensures line { result ≡ 0 → IsLine (bare prefix.now) kind key.now (numbers_of value)
-        options.now (take size.new out.new) }
-    ensures told { result ≡ 7 →
-        TellsLine size.new (bare prefix.now) kind key.now (numbers_of value) options.now }
-    ensures small { result ≡ 7 → length out.new < size.new }
-    ensures nothing { result ≢ 0 → result ≢ 7 → size.new ≡ size.old }
-    ensures within { result ≡ 0 → size.new ≤ length out.new }
-    ensures text { result ≡ 5 → IsUtf8 prefix.now → IsText key.now options.now → ⊥ }
-    ensures invalid { result ≡ 4 → IsNoCall kind options.now }
-    ensures answers { (result ≤ 5) ⊎ (result ≡ 7) }
+    requires texts { IsUtf8IfKnown key.now options.now }
+    ensures line { result ≡ CADENCE_OK → IsLineOfCall (prefix_alone prefix.now) kind key.now
+        (numbers_of value) options.now (take size.new out.new) }
+    ensures told { result ≡ CADENCE_TOO_SMALL →
+        IsLineLength size.new (prefix_alone prefix.now) kind key.now (numbers_of value)
+        options.now }
+    ensures small { result ≡ CADENCE_TOO_SMALL → length out.new < size.new }
+    ensures nothing { result ≢ CADENCE_OK → result ≢ CADENCE_TOO_SMALL → size.new ≡ size.old }
+    ensures within { result ≡ CADENCE_OK → size.new ≤ length out.new }
+    ensures text { result ≡ CADENCE_NOT_UTF8 →
+        IsUtf8 prefix.now → IsUtf8Call key.now options.now → ⊥ }
+    ensures invalid { result ≡ CADENCE_INVALID → IsInvalidCall kind options.now }
+    ensures statuses { IsOkOr
+        (CADENCE_NO_MEMORY ∷ CADENCE_INVALID ∷ CADENCE_NOT_UTF8 ∷ CADENCE_TOO_SMALL ∷ []) result }
 {
-    match line_of(alloc, prefix, kind, key, value, options) {
+    match make_line(alloc, prefix, kind, key, value, options) {
         Ok(line) => copy_out(&line, out, size),
-        Err(refusal) => refusal.code(),
+        Err(error) => error.code(),
     }
 }
 
-/// Writes the line of a metric of signed whole numbers into the first bytes of `out`, and tells its length. The prefix
-/// is printed as it stands. It keeps nothing, so threads may call it at once.
+/// Writes the line of a metric of signed whole numbers into the first bytes of `out`, and its length into `size`. The
+/// prefix is printed as it is. The call needs no client and shares nothing, so threads may make it at the same time.
 #[unsafe(no_mangle)]
 pub extern "C" fn cadence_format_signed(
     alloc: Global,
@@ -130,19 +134,20 @@ pub extern "C" fn cadence_format_signed(
     size: &mut usize,
 ) -> u32
     requires prefix { options.now.known ≡ true → IsUtf8 prefix.now }
-    requires texts { IsTextIfKnown key.now options.now }
+    requires texts { IsUtf8IfKnown key.now options.now }
     ensures { Formats result prefix.now kind key.now (λ ns. ns ≡ map whole values.now)
         ⊥ options.now out.new size.new }
 {
     *size = 0;
     match signed_value(alloc, values) {
         Ok(value) => write_line(alloc, prefix, kind, key, value, options, out, size),
-        Err(refusal) => refusal.code(),
+        Err(error) => error.code(),
     }
 }
 
-/// Writes the line of a metric of unsigned whole numbers into the first bytes of `out`, and tells its length. The
-/// prefix is printed as it stands. It keeps nothing, so threads may call it at once.
+/// Writes the line of a metric of unsigned whole numbers into the first bytes of `out`, and its length into `size`.
+/// The prefix is printed as it is. The call needs no client and shares nothing, so threads may make it at the same
+/// time.
 #[unsafe(no_mangle)]
 pub extern "C" fn cadence_format_unsigned(
     alloc: Global,
@@ -155,19 +160,19 @@ pub extern "C" fn cadence_format_unsigned(
     size: &mut usize,
 ) -> u32
     requires prefix { options.now.known ≡ true → IsUtf8 prefix.now }
-    requires texts { IsTextIfKnown key.now options.now }
+    requires texts { IsUtf8IfKnown key.now options.now }
     ensures { Formats result prefix.now kind key.now (λ ns. ns ≡ map natural values.now)
         ⊥ options.now out.new size.new }
 {
     *size = 0;
     match unsigned_value(alloc, values) {
         Ok(value) => write_line(alloc, prefix, kind, key, value, options, out, size),
-        Err(refusal) => refusal.code(),
+        Err(error) => error.code(),
     }
 }
 
-/// Writes the line of a metric of decimal numbers into the first bytes of `out`, and tells its length. The prefix is
-/// printed as it stands. It keeps nothing, so threads may call it at once.
+/// Writes the line of a metric of decimal numbers into the first bytes of `out`, and its length into `size`. The
+/// prefix is printed as it is. The call needs no client and shares nothing, so threads may make it at the same time.
 #[unsafe(no_mangle)]
 pub extern "C" fn cadence_format_decimal(
     alloc: Global,
@@ -180,19 +185,20 @@ pub extern "C" fn cadence_format_decimal(
     size: &mut usize,
 ) -> u32
     requires prefix { options.now.known ≡ true → IsUtf8 prefix.now }
-    requires texts { IsTextIfKnown key.now options.now }
+    requires texts { IsUtf8IfKnown key.now options.now }
     ensures { Formats result prefix.now kind key.now (AreNumbersOf values.now)
-        (AreDecimals values.now → ⊥) options.now out.new size.new }
+        (AreValidDecimals values.now → ⊥) options.now out.new size.new }
 {
     *size = 0;
     match decimal_value(alloc, values) {
         Ok(value) => write_line(alloc, prefix, kind, key, value, options, out, size),
-        Err(refusal) => refusal.code(),
+        Err(error) => error.code(),
     }
 }
 
-/// Writes the line of a metric of durations in nanoseconds, as `cadence_duration` into the first bytes of `out`, and
-/// tells its length. The prefix is printed as it stands. It keeps nothing, so threads may call it at once.
+/// Writes the line of a metric of durations in nanoseconds into the first bytes of `out`, and its length into `size`.
+/// The prefix is printed as it is. A timer prints whole milliseconds and a histogram nanoseconds. The call needs no
+/// client and shares nothing, so threads may make it at the same time.
 #[unsafe(no_mangle)]
 pub extern "C" fn cadence_format_duration(
     alloc: Global,
@@ -205,13 +211,13 @@ pub extern "C" fn cadence_format_duration(
     size: &mut usize,
 ) -> u32
     requires prefix { options.now.known ≡ true → IsUtf8 prefix.now }
-    requires texts { IsTextIfKnown key.now options.now }
+    requires texts { IsUtf8IfKnown key.now options.now }
     ensures { Formats result prefix.now kind key.now (λ ns. durations_of kind nanos.now ≡ Some ns)
         (durations_of kind nanos.now ≡ None) options.now out.new size.new }
 {
     *size = 0;
     match duration_value(alloc, kind, nanos) {
         Ok(value) => write_line(alloc, prefix, kind, key, value, options, out, size),
-        Err(refusal) => refusal.code(),
+        Err(error) => error.code(),
     }
 }

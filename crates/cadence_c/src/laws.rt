@@ -1,14 +1,15 @@
-//! What the definitions imply of many calls, as laws. These functions do nothing.
+//! Laws of many calls. A theorem is proved if a function's contract states it, so these functions have an empty body.
 ghost use Rattle.cadence_c.specs.Run.{NothingIsDropped, NothingIsLost};
 
-/// After any calls, the packets that left, then those that wait, then the held text, are the frames of the lines of the
-/// calls answered 0, in order.
+/// States that no line is lost. After any calls of a new client, the packets that left it, then the packets that wait,
+/// and then the held text are, joined, the frames of the lines of the calls that returned `CADENCE_OK`, in order.
 #[tactic(auto, using(crate::proofs::Runs::nothing_is_lost))]
 pub fn nothing_is_lost()
     ensures { NothingIsLost }
 {}
 
-/// The packets that left a client that refuses are those that the host has sent.
+/// States that a client drops no packet if its queue refuses packets when it is full: the packets that left such a
+/// client are those that the host has sent.
 #[tactic(auto, using(crate::proofs::Runs::nothing_is_dropped))]
 pub fn nothing_is_dropped()
     ensures { NothingIsDropped }

@@ -1,36 +1,47 @@
-//! The formatter and packer of lines for C. `include/cadence.h` declares each export.
+//! The client for C. It formats lines and packs them into packets, and C sends the packets. This module has the calls
+//! that take a handle. `include/cadence.h` declares each call and says which statuses it returns. The modules:
+//! - `call`: the arguments of a call of C, and their conversion
+//! - `value`: the values of a call
+//! - `line`: the line of a call
+//! - `format`: the calls that need no client
+//! - `status`: the statuses that calls return, and the copy of a text into a buffer of C
+//! - `packet`: a finished packet
+//! - `client`: a client, with its settings, its held text and its queue of packets
+//! - `box_parts` and `handle`: a `Box` taken apart, and the handle that C holds
+//! - `laws`: what holds after many calls
 #![tactic(auto)]
 
+mod box_parts;
 mod call;
+mod client;
 mod format;
 mod handle;
 mod laws;
 mod line;
-mod out;
 mod packet;
-mod packing;
-mod parts;
 mod status;
 mod value;
 
-ghost use Rattle.std.specs.Prelude.{◌≡◌, ◌≢◌, ◌⊎◌, ◌≤◌, ◌<◌, None, Some, length, map, take};
+ghost use Rattle.std.specs.Prelude.{◌≡◌, ◌≢◌, ◌⊎◌, ◌≤◌, ◌<◌, [], ◌∷◌, None, Some, length, map, take};
 ghost use Rattle.std.specs.Str.{IsUtf8};
 ghost use Rattle.cadence_value.specs.Number.{natural, whole};
 ghost use Rattle.cadence_value.specs.Values.{numbers_of};
-ghost use Rattle.cadence_c.specs.Answers.{Keeps, Refuses};
-ghost use Rattle.cadence_c.specs.Calls.{AreDecimals, AreNumbersOf, IsNoCall, IsText, IsTextIfKnown, IsTextTag, c_tag, durations_of};
-ghost use Rattle.cadence_c.specs.State.{TellsOldest, policy_named, Contained, Counted, Defaulted, Flushed, FullFor, FullForHeld, FullForLine, IsEmpty, IsNew, IsOldest, Kept, KeptLine, Sent};
+ghost use Rattle.cadence_c.specs.Handle.{client_of, IsOpenAnd, OnOpen};
+ghost use Rattle.cadence_c.specs.Results.{Keeps, UnchangedUnlessOk};
+ghost use Rattle.cadence_c.specs.Calls.{AreValidDecimals, AreNumbersOf, IsInvalidCall, IsUtf8Call, IsUtf8IfKnown, IsUtf8Tag, c_tag, durations_of};
+ghost use Rattle.cadence_c.specs.State.{policy_named, AddsDefaultTag, AreCountsOf, DropsOldest, Flushes, HasNoPacket, IsNew, IsOldest, IsOldestLength, KeepsCall, KeepsLine, LacksRoomForCall, LacksRoomForHeld, LacksRoomForLine, SetsDefaultContainer};
+ghost use Rattle.cadence_c.specs.Status.{CADENCE_FULL, CADENCE_INVALID, CADENCE_NOT_UTF8, CADENCE_NO_CLIENT, CADENCE_NO_MEMORY, CADENCE_NO_PACKET, CADENCE_OK, CADENCE_TOO_SMALL, IsOkOr};
 
 use cadence_flow::queue::QueuePolicy;
 use cadence_value::value::MetricValue;
 use call::{CDecimal, COptions, CTag, tag_of, text_of};
+use client::{CCounts, Client};
 use handle::Handle;
-use packing::{CCounts, Packing};
-use status::{CLOSED, OK, Refusal, status_of};
+use status::{NO_CLIENT, OK, StatusError, status_of};
 use std::alloc::Global;
 use value::{decimal_value, duration_value, signed_value, unsigned_value};
 
-// The policy of a number.
+// Returns the policy that has this number in C, if one has it.
 fn policy_of(policy: u32) -> Option<QueuePolicy>
     ensures { result ≡ policy_named policy }
 {
@@ -41,8 +52,8 @@ fn policy_of(policy: u32) -> Option<QueuePolicy>
     }
 }
 
-/// Makes a client in a handle, in the place of an earlier one: its prefix, how much a packet holds, how many packets
-/// may wait, at least two, and what it does when one more would.
+/// Makes a client in a handle, and drops an earlier one there. `capacity` is how many bytes a packet holds, `packets`
+/// is how many packets may wait, at least two, and `policy` says what the client does if one more would wait.
 #[unsafe(no_mangle)]
 pub extern "C" fn cadence_new(
     alloc: Global,
@@ -52,83 +63,83 @@ pub extern "C" fn cadence_new(
     packets: usize,
     policy: u32,
 ) -> u32
-    ensures made { result ≡ 0 →
-        IsNew prefix.now capacity packets policy handle.new.seal.client }
-    ensures refused { result ≢ 0 → handle.new.seal.client ≡ handle.old.seal.client }
-    ensures closed { result ≢ 1 }
-    ensures full { result ≢ 3 }
-    ensures text { result ≡ 5 → IsUtf8 prefix.now → ⊥ }
-    ensures invalid { result ≡ 4 → (policy_named policy ≡ None) ⊎ (packets < 2) }
-    ensures answers { result ≤ 5 }
+    ensures made { result ≡ CADENCE_OK →
+        IsNew prefix.now capacity packets policy (client_of handle.new) }
+    ensures refused { result ≢ CADENCE_OK → client_of handle.new ≡ client_of handle.old }
+    ensures text { result ≡ CADENCE_NOT_UTF8 → IsUtf8 prefix.now → ⊥ }
+    ensures invalid { result ≡ CADENCE_INVALID → (policy_named policy ≡ None) ⊎ (packets < 2) }
+    ensures statuses { IsOkOr (CADENCE_NO_MEMORY ∷ CADENCE_INVALID ∷ CADENCE_NOT_UTF8 ∷ []) result }
 {
     let Some(prefix) = text_of(prefix) else {
-        return Refusal::NotUtf8.code();
+        return StatusError::NotUtf8.code();
     };
     let Some(policy) = policy_of(policy) else {
-        return Refusal::Invalid.code();
+        return StatusError::Invalid.code();
     };
     if packets < 2 {
-        return Refusal::Invalid.code();
+        return StatusError::Invalid.code();
     }
-    let Some(client) = Packing::new(alloc, prefix, capacity, packets, policy) else {
-        return Refusal::Memory.code();
+    let Some(client) = Client::new(alloc, prefix, capacity, packets, policy) else {
+        return StatusError::NoMemory.code();
     };
     let Ok(made) = Handle::new(alloc, client) else {
-        return Refusal::Memory.code();
+        return StatusError::NoMemory.code();
     };
     *handle = made;
     OK
 }
 
-/// Drops the client of a handle, with all that it holds.
+/// Drops the client of a handle, with its held text and its packets. The handle has no client then.
 #[unsafe(no_mangle)]
 pub extern "C" fn cadence_free(alloc: Global, handle: &mut Handle)
-    ensures { handle.new.seal.client ≡ None }
+    ensures { client_of handle.new ≡ None }
 {
-    *handle = Handle::closed(alloc);
+    *handle = Handle::empty(alloc);
 }
 
-/// Adds a default tag, after the others.
+/// Adds a default tag after the others. Later calls print it.
 #[unsafe(no_mangle)]
 pub extern "C" fn cadence_add_tag(alloc: Global, handle: &mut Handle, tag: &CTag<'_>) -> u32
-    ensures added { result ≡ 0 →
-        Defaulted (c_tag tag.now) handle.old.seal.client handle.new.seal.client }
-    ensures refused { Refuses result handle.old.seal.client handle.new.seal.client }
-    ensures text { result ≡ 5 → IsTextTag tag.now → ⊥ }
-    ensures answers { (result ≤ 2) ⊎ (result ≡ 5) }
+    ensures added { result ≡ CADENCE_OK →
+        OnOpen (AddsDefaultTag (c_tag tag.now)) handle.old handle.new }
+    ensures refused { UnchangedUnlessOk result handle.old handle.new }
+    ensures text { result ≡ CADENCE_NOT_UTF8 → IsUtf8Tag tag.now → ⊥ }
+    ensures statuses { IsOkOr
+        (CADENCE_NO_CLIENT ∷ CADENCE_NO_MEMORY ∷ CADENCE_NOT_UTF8 ∷ []) result }
 {
     let Some(tag) = tag_of(tag) else {
-        return Refusal::NotUtf8.code();
+        return StatusError::NotUtf8.code();
     };
     let Some(mut client) = handle.take(alloc) else {
-        return CLOSED;
+        return NO_CLIENT;
     };
     let status = status_of(client.add_tag(tag.key, tag.text));
     handle.put(client);
     status
 }
 
-/// Sets the default container, in the place of an earlier one.
+/// Sets the default container, in place of an earlier one. Later calls print it.
 #[unsafe(no_mangle)]
 pub extern "C" fn cadence_set_container(alloc: Global, handle: &mut Handle, container: &[u8]) -> u32
-    ensures set { result ≡ 0 →
-        Contained container.now handle.old.seal.client handle.new.seal.client }
-    ensures refused { Refuses result handle.old.seal.client handle.new.seal.client }
-    ensures text { result ≡ 5 → IsUtf8 container.now → ⊥ }
-    ensures answers { (result ≤ 2) ⊎ (result ≡ 5) }
+    ensures set { result ≡ CADENCE_OK →
+        OnOpen (SetsDefaultContainer container.now) handle.old handle.new }
+    ensures refused { UnchangedUnlessOk result handle.old handle.new }
+    ensures text { result ≡ CADENCE_NOT_UTF8 → IsUtf8 container.now → ⊥ }
+    ensures statuses { IsOkOr
+        (CADENCE_NO_CLIENT ∷ CADENCE_NO_MEMORY ∷ CADENCE_NOT_UTF8 ∷ []) result }
 {
     let Some(container) = text_of(container) else {
-        return Refusal::NotUtf8.code();
+        return StatusError::NotUtf8.code();
     };
     let Some(mut client) = handle.take(alloc) else {
-        return CLOSED;
+        return NO_CLIENT;
     };
     let status = status_of(client.set_container(container));
     handle.put(client);
     status
 }
 
-// Keeps the line of a call's value. It stands in its callers, so that the value stays where they make it.
+// Keeps the line of a call's value. It is inlined so that the value, which is large, isn't copied.
 #[inline(always)]
 fn keep(
     alloc: Global,
@@ -138,18 +149,19 @@ fn keep(
     value: MetricValue,
     options: &COptions<'_>,
 ) -> u32
-    requires { IsTextIfKnown key.now options.now }
-    ensures kept { result ≡ 0 → Kept kind key.now (numbers_of value) options.now
-        handle.old.seal.client handle.new.seal.client }
-    ensures refused { Refuses result handle.old.seal.client handle.new.seal.client }
-    ensures full { result ≡ 3 → FullFor kind key.now (numbers_of value) options.now
-        handle.old.seal.client }
-    ensures text { result ≡ 5 → IsText key.now options.now → ⊥ }
-    ensures invalid { result ≡ 4 → IsNoCall kind options.now }
-    ensures answers { result ≤ 5 }
+    requires { IsUtf8IfKnown key.now options.now }
+    ensures kept { result ≡ CADENCE_OK →
+        OnOpen (KeepsCall kind key.now (numbers_of value) options.now) handle.old handle.new }
+    ensures refused { UnchangedUnlessOk result handle.old handle.new }
+    ensures full { result ≡ CADENCE_FULL →
+        IsOpenAnd handle.old (LacksRoomForCall kind key.now (numbers_of value) options.now) }
+    ensures text { result ≡ CADENCE_NOT_UTF8 → IsUtf8Call key.now options.now → ⊥ }
+    ensures invalid { result ≡ CADENCE_INVALID → IsInvalidCall kind options.now }
+    ensures statuses { IsOkOr (CADENCE_NO_CLIENT ∷ CADENCE_NO_MEMORY ∷ CADENCE_FULL
+        ∷ CADENCE_INVALID ∷ CADENCE_NOT_UTF8 ∷ []) result }
 {
     let Some(mut client) = handle.take(alloc) else {
-        return CLOSED;
+        return NO_CLIENT;
     };
     let status = status_of(client.keep(alloc, kind, key, value, options));
     handle.put(client);
@@ -166,13 +178,13 @@ pub extern "C" fn cadence_signed(
     values: &[i64],
     options: &COptions<'_>,
 ) -> u32
-    requires { IsTextIfKnown key.now options.now }
+    requires { IsUtf8IfKnown key.now options.now }
     ensures { Keeps result kind key.now (λ ns. ns ≡ map whole values.now)
-        ⊥ options.now handle.old.seal.client handle.new.seal.client }
+        ⊥ options.now handle.old handle.new }
 {
     match signed_value(alloc, values) {
         Ok(value) => keep(alloc, handle, kind, key, value, options),
-        Err(refusal) => refusal.code(),
+        Err(error) => error.code(),
     }
 }
 
@@ -186,13 +198,13 @@ pub extern "C" fn cadence_unsigned(
     values: &[u64],
     options: &COptions<'_>,
 ) -> u32
-    requires { IsTextIfKnown key.now options.now }
+    requires { IsUtf8IfKnown key.now options.now }
     ensures { Keeps result kind key.now (λ ns. ns ≡ map natural values.now)
-        ⊥ options.now handle.old.seal.client handle.new.seal.client }
+        ⊥ options.now handle.old handle.new }
 {
     match unsigned_value(alloc, values) {
         Ok(value) => keep(alloc, handle, kind, key, value, options),
-        Err(refusal) => refusal.code(),
+        Err(error) => error.code(),
     }
 }
 
@@ -206,17 +218,17 @@ pub extern "C" fn cadence_decimal(
     values: &[CDecimal],
     options: &COptions<'_>,
 ) -> u32
-    requires { IsTextIfKnown key.now options.now }
+    requires { IsUtf8IfKnown key.now options.now }
     ensures { Keeps result kind key.now (AreNumbersOf values.now)
-        (AreDecimals values.now → ⊥) options.now handle.old.seal.client handle.new.seal.client }
+        (AreValidDecimals values.now → ⊥) options.now handle.old handle.new }
 {
     match decimal_value(alloc, values) {
         Ok(value) => keep(alloc, handle, kind, key, value, options),
-        Err(refusal) => refusal.code(),
+        Err(error) => error.code(),
     }
 }
 
-/// Keeps the line of a metric of durations in nanoseconds: of a timer in milliseconds, cut off, and of a histogram in
+/// Keeps the line of a metric of durations in nanoseconds. A timer prints whole milliseconds and a histogram
 /// nanoseconds.
 #[unsafe(no_mangle)]
 pub extern "C" fn cadence_duration(
@@ -227,51 +239,51 @@ pub extern "C" fn cadence_duration(
     nanos: &[u64],
     options: &COptions<'_>,
 ) -> u32
-    requires { IsTextIfKnown key.now options.now }
+    requires { IsUtf8IfKnown key.now options.now }
     ensures { Keeps result kind key.now (λ ns. durations_of kind nanos.now ≡ Some ns)
-        (durations_of kind nanos.now ≡ None) options.now
-        handle.old.seal.client handle.new.seal.client }
+        (durations_of kind nanos.now ≡ None) options.now handle.old handle.new }
 {
     match duration_value(alloc, kind, nanos) {
         Ok(value) => keep(alloc, handle, kind, key, value, options),
-        Err(refusal) => refusal.code(),
+        Err(error) => error.code(),
     }
 }
 
-/// Keeps a line of the host's own.
+/// Keeps a line that the host has made.
 #[unsafe(no_mangle)]
 pub extern "C" fn cadence_line(alloc: Global, handle: &mut Handle, line: &[u8]) -> u32
-    ensures kept { result ≡ 0 →
-        KeptLine line.now handle.old.seal.client handle.new.seal.client }
-    ensures refused { Refuses result handle.old.seal.client handle.new.seal.client }
-    ensures full { result ≡ 3 → FullForLine line.now handle.old.seal.client }
-    ensures answers { result ≤ 3 }
+    ensures kept { result ≡ CADENCE_OK →
+        OnOpen (λ s t. KeepsLine s line.now t) handle.old handle.new }
+    ensures refused { UnchangedUnlessOk result handle.old handle.new }
+    ensures full { result ≡ CADENCE_FULL → IsOpenAnd handle.old (λ s. LacksRoomForLine s line.now) }
+    ensures statuses { IsOkOr (CADENCE_NO_CLIENT ∷ CADENCE_NO_MEMORY ∷ CADENCE_FULL ∷ []) result }
 {
     let Some(mut client) = handle.take(alloc) else {
-        return CLOSED;
+        return NO_CLIENT;
     };
     let status = status_of(client.pack(alloc, line));
     handle.put(client);
     status
 }
 
-/// Makes a packet of the text that is held, where there is any.
+/// Makes a packet of the held text, if there is any.
 #[unsafe(no_mangle)]
 pub extern "C" fn cadence_flush(alloc: Global, handle: &mut Handle) -> u32
-    ensures flushed { result ≡ 0 → Flushed handle.old.seal.client handle.new.seal.client }
-    ensures refused { Refuses result handle.old.seal.client handle.new.seal.client }
-    ensures full { result ≡ 3 → FullForHeld handle.old.seal.client }
-    ensures answers { result ≤ 3 }
+    ensures flushed { result ≡ CADENCE_OK → OnOpen Flushes handle.old handle.new }
+    ensures refused { UnchangedUnlessOk result handle.old handle.new }
+    ensures full { result ≡ CADENCE_FULL → IsOpenAnd handle.old LacksRoomForHeld }
+    ensures statuses { IsOkOr (CADENCE_NO_CLIENT ∷ CADENCE_NO_MEMORY ∷ CADENCE_FULL ∷ []) result }
 {
     let Some(mut client) = handle.take(alloc) else {
-        return CLOSED;
+        return NO_CLIENT;
     };
     let status = status_of(client.flush(alloc));
     handle.put(client);
     status
 }
 
-/// Copies the oldest packet that waits into the first bytes of `buf`, and tells its length. It still waits then.
+/// Copies the oldest packet that waits into the first bytes of `buf`, and writes its length into `size`. The packet
+/// still waits.
 #[unsafe(no_mangle)]
 pub extern "C" fn cadence_next(
     alloc: Global,
@@ -279,56 +291,57 @@ pub extern "C" fn cadence_next(
     buf: &mut [u8],
     size: &mut usize,
 ) -> u32
-    ensures copied { result ≡ 0 → IsOldest (take size.new buf.new) handle.old.seal.client }
-    ensures within { result ≡ 0 → size.new ≤ length buf.new }
-    ensures kept { handle.new.seal.client ≡ handle.old.seal.client }
-    ensures closed { result ≡ 1 → handle.old.seal.client ≡ None }
-    ensures none { result ≡ 6 → IsEmpty handle.old.seal.client }
-    ensures small { result ≡ 7 → length buf.new < size.new }
-    ensures told { result ≡ 7 → TellsOldest size.new handle.old.seal.client }
-    ensures nothing { (result ≡ 1) ⊎ (result ≡ 6) → size.new ≡ 0 }
-    ensures answers { (result ≤ 1) ⊎ (result ≡ 6) ⊎ (result ≡ 7) }
+    ensures copied { result ≡ CADENCE_OK → IsOpenAnd handle.old (IsOldest (take size.new buf.new)) }
+    ensures within { result ≡ CADENCE_OK → size.new ≤ length buf.new }
+    ensures kept { client_of handle.new ≡ client_of handle.old }
+    ensures closed { result ≡ CADENCE_NO_CLIENT → client_of handle.old ≡ None }
+    ensures none { result ≡ CADENCE_NO_PACKET → IsOpenAnd handle.old HasNoPacket }
+    ensures small { result ≡ CADENCE_TOO_SMALL → length buf.new < size.new }
+    ensures told { result ≡ CADENCE_TOO_SMALL → IsOpenAnd handle.old (IsOldestLength size.new) }
+    ensures nothing { (result ≡ CADENCE_NO_CLIENT) ⊎ (result ≡ CADENCE_NO_PACKET) → size.new ≡ 0 }
+    ensures statuses { IsOkOr
+        (CADENCE_NO_CLIENT ∷ CADENCE_NO_PACKET ∷ CADENCE_TOO_SMALL ∷ []) result }
 {
     *size = 0;
     let Some(client) = handle.take(alloc) else {
-        return CLOSED;
+        return NO_CLIENT;
     };
     let status = client.copy_oldest(buf, size);
     handle.put(client);
     status
 }
 
-/// Drops the oldest packet that waits, since the host has sent it.
+/// Drops the oldest packet that waits, because the host has sent it.
 #[unsafe(no_mangle)]
 pub extern "C" fn cadence_sent(alloc: Global, handle: &mut Handle) -> u32
-    ensures dropped { result ≡ 0 → Sent handle.old.seal.client handle.new.seal.client }
-    ensures refused { Refuses result handle.old.seal.client handle.new.seal.client }
-    ensures none { result ≡ 6 → IsEmpty handle.old.seal.client }
-    ensures answers { (result ≤ 1) ⊎ (result ≡ 6) }
+    ensures dropped { result ≡ CADENCE_OK → OnOpen DropsOldest handle.old handle.new }
+    ensures refused { UnchangedUnlessOk result handle.old handle.new }
+    ensures none { result ≡ CADENCE_NO_PACKET → IsOpenAnd handle.old HasNoPacket }
+    ensures statuses { IsOkOr (CADENCE_NO_CLIENT ∷ CADENCE_NO_PACKET ∷ []) result }
 {
     let Some(mut client) = handle.take(alloc) else {
-        return CLOSED;
+        return NO_CLIENT;
     };
     let dropped = client.drop_oldest();
     handle.put(client);
     if dropped {
         OK
     } else {
-        Refusal::NoPacket.code()
+        StatusError::NoPacket.code()
     }
 }
 
-/// Tells the counts of a client.
+/// Writes the counts of a client into `counts`.
 #[unsafe(no_mangle)]
 pub extern "C" fn cadence_counts(alloc: Global, handle: &mut Handle, counts: &mut CCounts) -> u32
-    ensures counted { result ≡ 0 → Counted counts.new handle.old.seal.client }
-    ensures kept { handle.new.seal.client ≡ handle.old.seal.client }
-    ensures closed { result ≢ 0 → handle.old.seal.client ≡ None }
-    ensures answers { result ≤ 1 }
-    ensures untouched { result ≢ 0 → counts.new ≡ counts.old }
+    ensures counted { result ≡ CADENCE_OK → IsOpenAnd handle.old (λ s. AreCountsOf s counts.new) }
+    ensures kept { client_of handle.new ≡ client_of handle.old }
+    ensures closed { result ≢ CADENCE_OK → client_of handle.old ≡ None }
+    ensures untouched { result ≢ CADENCE_OK → counts.new ≡ counts.old }
+    ensures statuses { IsOkOr (CADENCE_NO_CLIENT ∷ []) result }
 {
     let Some(client) = handle.take(alloc) else {
-        return CLOSED;
+        return NO_CLIENT;
     };
     *counts = client.counts();
     handle.put(client);

@@ -1,17 +1,18 @@
-//! What a call of C answers.
-ghost use Rattle.std.specs.Prelude.{◌≡◌};
-ghost use Rattle.cadence_c.specs.Status.{code_of, status};
+//! The statuses that calls of C return, and the copy of a text into a buffer of C.
+ghost use Rattle.std.specs.Prelude.{◌≡◌, ◌≢◌, ◌≤◌, ◌<◌, length, take};
+ghost use Rattle.cadence_c.specs.Status.{CADENCE_OK, CADENCE_TOO_SMALL, code_of, status};
 
-/// Why a call of C changed nothing.
+/// Why a call of C did nothing.
 #[derive(Clone, Copy)]
-pub enum Refusal {
-    /// A growth was refused.
-    Memory,
-    /// Fewer packets may be added than the call makes.
+pub enum StatusError {
+    /// Memory ran out.
+    NoMemory,
+    /// The queue has no room for the packets that the call makes.
     Full,
-    /// A kind, a policy or a number that there is not.
+    /// No kind or policy has the number, fewer than two packets may wait, a decimal has more than 30 places, or the
+    /// kind has no durations.
     Invalid,
-    /// A text is no UTF-8.
+    /// A text is not UTF-8.
     NotUtf8,
     /// No packet waits.
     NoPacket,
@@ -19,33 +20,50 @@ pub enum Refusal {
     TooSmall,
 }
 
-/// Done.
+/// `CADENCE_OK`: the call succeeded.
 pub const OK: u32 = 0;
-/// The handle has no client.
-pub const CLOSED: u32 = 1;
+/// `CADENCE_NO_CLIENT`: the handle has no client. It is no `StatusError`, because only calls with a handle return it.
+pub const NO_CLIENT: u32 = 1;
 
-impl Refusal {
-    /// The number that C gets.
+impl StatusError {
+    /// Returns the status of the error.
     pub fn code(self) -> u32
         ensures { result ≡ code_of self }
     {
         match self {
-            Refusal::Memory => 2,
-            Refusal::Full => 3,
-            Refusal::Invalid => 4,
-            Refusal::NotUtf8 => 5,
-            Refusal::NoPacket => 6,
-            Refusal::TooSmall => 7,
+            StatusError::NoMemory => 2,
+            StatusError::Full => 3,
+            StatusError::Invalid => 4,
+            StatusError::NotUtf8 => 5,
+            StatusError::NoPacket => 6,
+            StatusError::TooSmall => 7,
         }
     }
 }
 
-/// The status of an answer.
-pub fn status_of(answer: Result<(), Refusal>) -> u32
-    ensures { result ≡ status answer }
+/// Returns `OK`, or the status of the error.
+pub fn status_of(outcome: Result<(), StatusError>) -> u32
+    ensures { result ≡ status outcome }
 {
-    match answer {
+    match outcome {
         Ok(()) => OK,
-        Err(refusal) => refusal.code(),
+        Err(error) => error.code(),
     }
+}
+
+/// Copies a text into the first bytes of `out` and writes its length into `size`. If the text is longer than `out`, it
+/// writes the length alone and returns the status of `TooSmall`.
+pub fn copy_out(text: &[u8], out: &mut [u8], size: &mut usize) -> u32
+    ensures copied { result ≡ CADENCE_OK → take size.new out.new ≡ text.now }
+    ensures within { result ≡ CADENCE_OK → size.new ≤ length out.new }
+    ensures told { size.new ≡ length text.now }
+    ensures small { result ≢ CADENCE_OK →
+        (result ≡ CADENCE_TOO_SMALL) × (length out.new < size.new) }
+{
+    *size = text.len();
+    if out.len() < text.len() {
+        return StatusError::TooSmall.code();
+    }
+    out[..text.len()].copy_from_slice(text);
+    OK
 }

@@ -1,4 +1,7 @@
-//! Why a metric was not made or not sent.
+//! The errors of this library: why a metric was not made or not sent.
+//!
+//! A call that makes or sends a metric returns a `MetricError`. A sink, a queue or a packet writer returns a
+//! `SinkError`, and `MetricError::from` turns that into a `MetricError`.
 #![tactic(auto)]
 
 ghost use Rattle.std.specs.Prelude.{◌≡◌};
@@ -11,49 +14,48 @@ use std::fmt::InlineText;
 use std::{fmt, io};
 use thiserror::Error;
 
-/// The kind of a `MetricError`, as in cadence; `OutOfMemory` is this project's own.
+/// The kind of a `MetricError`. The Rust crate has the first two; it aborts if memory runs out.
 #[derive(Clone, Copy, Debug, PartialEq, Eq, Hash)]
 pub enum ErrorKind {
-    /// The value or another input of a call can't be used.
+    /// A value or another argument of the call can't be used, for example a duration of too many milliseconds.
     InvalidInput,
-    /// A sink, a socket, a queue or a packet writer refused.
+    /// A sink, a socket, a queue or a packet writer refused the line.
     IoError,
-    /// A growth was refused.
+    /// The allocator refused memory.
     OutOfMemory,
 }
 
-/// Why a sink, a queue or a packet writer refused a text. A type of this project's own: the sinks of cadence
-/// answer an `io::Error`.
+/// Why a sink, a queue or a packet writer refused a line. The sinks of the Rust crate return an `io::Error` instead.
 #[derive(Debug, Drop, Error)]
 pub enum SinkError {
-    /// As many texts wait in the queue as its capacity.
+    /// The queue is full: as many lines wait in it as its capacity.
     #[error("channel full")]
     ChannelFull,
-    /// The queue was stopped, or the receiver of a spy is gone.
+    /// The queue was stopped, or the receiver of a spy sink was dropped.
     #[error("channel disconnected")]
     ChannelDisconnected,
-    /// A socket, a lookup or the start of a thread failed.
+    /// A socket, the lookup of a host name or the start of a thread failed.
     #[error("{0}")]
     Io(io::Error),
-    /// A packet writer without an `io::Error` refused a packet.
+    /// A packet writer refused a packet and has no `io::Error` to say why, for example the packet log of a test.
     #[error("packet refused")]
     PacketRefused,
-    /// A writer took 0 bytes of text that was not empty.
+    /// A packet writer returned that it wrote 0 bytes, although the packet was not empty.
     #[error("nothing written")]
     NothingWritten,
-    /// A growth was refused.
+    /// The allocator refused memory.
     #[error("out of memory")]
     OutOfMemory,
-    /// A later lookup of a name gave no addresses. It goes to a handler alone.
+    /// A later lookup of a host name found no addresses. Only an error handler receives this; no call returns it.
     #[error("name gave no addresses")]
     NoAddresses,
 }
 
-/// The most bytes that a described error keeps of its text.
+/// The most bytes of text that a `Description` can store.
 pub const MAX_DESCRIPTION: usize = 72;
 
-/// The text of a described error, kept by value. Of a text longer than `MAX_DESCRIPTION` bytes it keeps the first
-/// characters, and ends in dots.
+/// The text of a `MetricError::Described`, stored without an allocation. A text longer than `MAX_DESCRIPTION` bytes is
+/// cut after its first characters and ends in dots.
 #[derive(Clone, Copy)]
 pub struct Description {
     text: InlineText<MAX_DESCRIPTION>,
@@ -67,7 +69,7 @@ impl Description {
     }
 }
 
-/// The text that was kept.
+/// Prints the stored text.
 impl fmt::Display for Description {
     ghost use Rattle.std.specs.Prelude.{Some};
     ghost use Rattle.cadence_errors.specs.Errors.{description_text};
@@ -86,13 +88,18 @@ impl fmt::Debug for Description {
     }
 }
 
-/// Why a metric was not made or not sent: a kind and a text, or the error of a sink.
+/// Why a metric was not made or not sent.
+///
+/// ```
+/// // Whether a call found the queue full, so that a later call may succeed.
+/// let is_full = matches!(error.sink_error(), Some(SinkError::ChannelFull));
+/// ```
 #[derive(Debug, Drop, Error)]
 pub enum MetricError {
-    /// A kind and a text.
+    /// An error of the call itself, with its kind and a text for people to read.
     #[error("{1}")]
     Described(ErrorKind, Description),
-    /// The error of a sink, or want of memory.
+    /// The error of the sink, or `SinkError::OutOfMemory` if memory ran out while the line was made.
     #[error(transparent)]
     Sink(SinkError),
 }
@@ -101,7 +108,8 @@ pub enum MetricError {
 pub type MetricResult<T> = Result<T, MetricError>;
 
 impl MetricError {
-    /// The kind: `OutOfMemory` for `SinkError::OutOfMemory`, `IoError` for every other `SinkError`.
+    /// Returns the kind of the error. It is `OutOfMemory` for `SinkError::OutOfMemory`, and `IoError` for every other
+    /// `SinkError`.
     pub fn kind(&self) -> ErrorKind
         ensures { result ≡ kind_of self.now }
     {
@@ -112,7 +120,7 @@ impl MetricError {
         }
     }
 
-    /// The error of the sink, where there is one.
+    /// Returns the `SinkError`, or `None` for a `Described` error.
     pub fn sink_error(&self) -> Option<&SinkError>
         ensures { option_copied result ≡ sink_error_of self.now }
     {
@@ -123,6 +131,7 @@ impl MetricError {
     }
 }
 
+/// Wraps the error of a sink.
 impl From<SinkError> for MetricError {
     ghost from_gives = { λ error e. e ≡ Sink error };
 
@@ -131,7 +140,7 @@ impl From<SinkError> for MetricError {
     }
 }
 
-/// As `SinkError::Io`.
+/// Wraps an `io::Error` as `SinkError::Io`.
 impl From<io::Error> for MetricError {
     ghost use Rattle.cadence_errors.specs.declared.SinkError.TheVariants.{Io};
 
@@ -142,9 +151,8 @@ impl From<io::Error> for MetricError {
     }
 }
 
-/// A kind with a text, as in cadence.
+/// Makes a `Described` error of a kind and a text.
 impl From<(ErrorKind, &'static str)> for MetricError {
-    ghost use Rattle.std.specs.Prelude.{ℕ};
     ghost use Rattle.cadence_errors.specs.Errors.{IsDescribed};
 
     ghost from_gives = { λ described e. IsDescribed described.0 e };
@@ -155,7 +163,7 @@ impl From<(ErrorKind, &'static str)> for MetricError {
     }
 }
 
-/// As `SinkError::OutOfMemory`.
+/// Turns a refused allocation into `SinkError::OutOfMemory`.
 impl From<AllocError> for MetricError {
     ghost from_gives = { λ _ e. e ≡ out_of_memory };
 
@@ -164,7 +172,7 @@ impl From<AllocError> for MetricError {
     }
 }
 
-/// As `SinkError::OutOfMemory`. The value that was not stored is dropped.
+/// Turns a refused allocation into `SinkError::OutOfMemory`, and drops the value that could not be stored.
 impl<T: Drop> From<AllocFailed<T>> for MetricError {
     ghost from_gives = { λ _ e. e ≡ out_of_memory };
 
@@ -173,7 +181,7 @@ impl<T: Drop> From<AllocFailed<T>> for MetricError {
     }
 }
 
-/// As `SinkError::OutOfMemory`.
+/// Turns a refused allocation into `SinkError::OutOfMemory`.
 impl From<AllocError> for SinkError {
     ghost use Rattle.cadence_errors.specs.declared.SinkError.TheVariants.{OutOfMemory};
 

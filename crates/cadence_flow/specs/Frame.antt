@@ -1,37 +1,56 @@
--- What a line is in a packet.
-use Rattle.std.specs.Prelude.{ℕ, ◌+◌, nat_lt, Bool, if◌then◌else◌, List, [], ◌∷◌, ◌++◌, length, take}
+-- What a line is in a packet: its frame.
+use Rattle.std.specs.Prelude.{◌≡◌, ℕ, ◌+◌, ◌<◌, ◌≤◌, nat_lt, Bool, true, false, if◌then◌else◌, List, [], ◌∷◌, ◌++◌, length, take}
 use Rattle.std.specs.List.{flat_map}
 
--- how much a packet holds, and what follows each line
+-- how many bytes a packet holds at most, and the ending that follows each line in it
 pub record Format : Type 0 where
   pub capacity : ℕ
   pub ending : List ℕ
 
--- the length of a line with the ending
+-- the length of a line with its ending
 abbrev pub size_of : Format → List ℕ → ℕ
 size_of format line = length line + length format.ending
 
--- a line with the ending passes the capacity
+-- whether a line is oversize: with its ending it passes the capacity
 abbrev pub is_oversize : Format → List ℕ → Bool
 is_oversize format line = nat_lt format.capacity (size_of format line)
 
--- the line alone where it is oversize, else the line and the ending
+-- a line's frame, which is what it is in a packet: an oversize line alone, any other line with its ending
 abbrev pub frame : Format → List ℕ → List ℕ
 frame format line = if is_oversize format line then line else line ++ format.ending
 
--- what is taken of a line's frame where n is answered: of an oversize line its first n bytes, else the whole frame
+-- the part of a line's frame that was accepted, if the call returned n: the first n bytes of an oversize line, and the
+-- whole frame of any other line
 abbrev pub frame_of : Format → List ℕ → ℕ → List ℕ
 frame_of format line n = if is_oversize format line then take n line else line ++ format.ending
 
--- the frames of lines, one after the other
+-- the stream of some lines: their frames, one after the other
 abbrev pub stream : Format → List (List ℕ) → List ℕ
 stream format lines = flat_map (frame format) lines
 
--- what was taken of the frames of lines, one after the other: of an oversize line as many bytes as were counted
+-- the stream of some accepted lines, each given with the number of bytes that its call returned
 abbrev pub taken_stream : Format → List (List ℕ × ℕ) → List ℕ
 taken_stream format kept = flat_map (λ k. frame_of format k.0 k.1) kept
 
--- the held text as the last packet, where there is any
+-- the held text as a list of packets: one packet, or none if nothing is held
 abbrev pub held_packet : List ℕ → List (List ℕ)
 held_packet [] = []
 held_packet (byte ∷ rest) = (byte ∷ rest) ∷ []
+
+-- The cases of a line that is written while some text is held. Just one of the first three is true of each line.
+
+-- If the line fits, then P. It fits if with its ending it fits the room that the held text leaves.
+abbrev pub WhenItFits : Format → List ℕ → List ℕ → Type 0 → Type 0
+WhenItFits format held line P = length held + size_of format line ≤ format.capacity → P
+
+-- If the held text goes first, then P. It goes first if the line doesn't fit beside it, but isn't oversize.
+abbrev pub WhenHeldGoesFirst : Format → List ℕ → List ℕ → Type 0 → Type 0
+WhenHeldGoesFirst format held line P = format.capacity < length held + size_of format line → is_oversize format line ≡ false → P
+
+-- If the line is oversize, then P.
+abbrev pub WhenOversize : Format → List ℕ → Type 0 → Type 0
+WhenOversize format line P = is_oversize format line ≡ true → P
+
+-- If the line isn't oversize, then P.
+abbrev pub WhenNotOversize : Format → List ℕ → Type 0 → Type 0
+WhenNotOversize format line P = is_oversize format line ≡ false → P

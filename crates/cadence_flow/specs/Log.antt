@@ -1,26 +1,27 @@
--- A log of packets in memory, and its script of answers.
+-- A log of packets in memory, which answers by a script.
 use Rattle.std.specs.Prelude.{◌≡◌, ℕ, min, Bool, true, false, List, [], ◌∷◌, length, drop, IfOk, IfErr, Err}
 use Rattle.std.specs.declared.result.Result.{Result}
 use Rattle.cadence_errors.specs.declared.SinkError.{SinkError}
-use Rattle.cadence_errors.specs.declared.SinkError.TheVariants.{ChannelFull, ChannelDisconnected, Io, PacketRefused, NothingWritten, OutOfMemory, NoAddresses}
+use Rattle.cadence_errors.specs.declared.SinkError.TheVariants.{ChannelFull, ChannelDisconnected, Io, PacketRefused, NothingWritten}
+use Rattle.cadence_errors.specs.declared.SinkError.TheVariants.{OutOfMemory, NoAddresses}
 use Rattle.cadence_flow.specs.Sums.{zero_sums}
-use Rattle.cadence_flow.specs.Writer.{History, Kind, history_of, no_refusals}
+use Rattle.cadence_flow.specs.Writer.{PacketHistory, WriterKind, history_of, no_refusals}
 use Rattle.cadence_flow.specs.declared.io.packet_log.Answer.{Answer}
 use Rattle.cadence_flow.specs.declared.io.refusals.Refusals.{Refusals}
 use Rattle.cadence_flow.specs.declared.io.packet_log.Answer.TheVariants.{Whole, Short, Refuse}
 
--- the packets taken, the whole script, how much of it is used, and the refusals
+-- the packets that the log took, its whole script, how many answers of the script are used up, and the refusals
 pub record LogState : Type 0 where
   pub packets : List (List ℕ)
   pub script : List Answer
   pub used : ℕ
   pub refusals : Refusals
 
--- a log that took and refused nothing yet
+-- a log that has taken and refused nothing yet
 abbrev pub new_log : List Answer → LogState
 new_log script = record { packets = []; script = script; used = 0; refusals = no_refusals }
 
--- the errors that a log may give
+-- whether a log may return this error
 abbrev pub log_may_give : SinkError → Bool
 log_may_give PacketRefused = true
 log_may_give OutOfMemory = true
@@ -30,18 +31,20 @@ log_may_give (Io e) = false
 log_may_give NothingWritten = false
 log_may_give NoAddresses = false
 
--- no answer of the script is short
+-- whether a script has no short answer
 abbrev pub has_no_short : List Answer → Bool
 has_no_short [] = true
 has_no_short (Whole ∷ rest) = has_no_short rest
 has_no_short (Short n ∷ rest) = false
 has_no_short (Refuse ∷ rest) = has_no_short rest
 
--- what a log means as a writer
-abbrev pub log_history : LogState → History
+-- the history of a log, seen as a writer
+abbrev pub log_history : LogState → PacketHistory
 log_history l = history_of l.packets l.refusals
 
-abbrev pub log_kind : LogState → Kind
+-- the kind of a log, seen as a writer: it tells its packets, and takes each packet whole if its script has no short
+-- answer
+abbrev pub log_kind : LogState → WriterKind
 log_kind l =
     record {
       may_give = log_may_give;
@@ -50,16 +53,16 @@ log_kind l =
       start = zero_sums;
     }
 
--- what is left of the script
+-- the answers of the script that are not used up yet
 abbrev pub answers_left : LogState → List Answer
 answers_left l = drop l.used l.script
 
--- the next answer; after the end of the script each packet is taken
+-- the next answer of a script: at its end each packet is taken whole
 abbrev pub next_answer : List Answer → Answer
 next_answer [] = Whole
 next_answer (answer ∷ rest) = answer
 
--- what is answered for a packet by the script, want of memory aside
+-- The result for a packet is what this answer of the script says; instead of a count it may be `OutOfMemory`.
 abbrev pub Follows : Answer → List ℕ → Result ℕ SinkError → Type 0
 Follows Whole packet result = IfOk result (λ n. n ≡ length packet) × IfErr result (λ e. e ≡ OutOfMemory)
 Follows (Short k) packet result = IfOk result (λ n. n ≡ min k (length packet)) × IfErr result (λ e. e ≡ OutOfMemory)

@@ -1,12 +1,13 @@
 -- What each call of a queue does.
-use Rattle.std.specs.Prelude.{◌≡◌, ℕ, ◌+◌, ◌-◌, ◌%◌, ◌^◌, ◌==◌, ◌||◌, ◌&&◌, not, Bool, true, false, IsTrue, is_none, cond, leb, List, [], ◌∷◌, ◌++◌, length, drop, Option, Some, None}
+use Rattle.std.specs.Prelude.{◌≡◌, ℕ, ◌+◌, ◌-◌, ◌%◌, ◌^◌, ◌==◌, ◌||◌, ◌&&◌, not, Bool, true, false, IsTrue, is_none, if◌then◌else◌, nat_le, List, []}
+use Rattle.std.specs.Prelude.{◌∷◌, ◌++◌, length, drop, Option, Some, None}
 use Rattle.cadence_errors.specs.declared.SinkError.{SinkError}
 use Rattle.cadence_errors.specs.declared.SinkError.TheVariants.{ChannelFull, ChannelDisconnected, OutOfMemory}
 use Rattle.cadence_flow.specs.QueueState.{Queue}
 use Rattle.cadence_flow.specs.declared.queue.policy.QueuePolicy.{QueuePolicy}
 use Rattle.cadence_flow.specs.declared.queue.policy.QueuePolicy.TheVariants.{Refuse, DropOldest}
-use Rattle.cadence_flow.specs.declared.queue.refusal.Refusal.{Refusal}
-use Rattle.cadence_flow.specs.declared.queue.refusal.Refusal.TheVariants as Small
+use Rattle.cadence_flow.specs.declared.queue.queue_error.QueueError.{QueueError}
+use Rattle.cadence_flow.specs.declared.queue.queue_error.QueueError.TheVariants as Small
 use Rattle.cadence_flow.specs.declared.queue.queue_core.Taken.{Taken}
 use Rattle.cadence_flow.specs.declared.queue.queue_core.Taken.TheVariants.{Text, Empty, Ended}
 
@@ -16,60 +17,64 @@ module _ {T : Type 0} where
   new_queue capacity policy =
       record { waiting = []; capacity = capacity; policy = policy; stopped = false; handles = 1; submitted = 0; drained = 0; dropped = 0 }
 
-  -- whether as many texts wait as the capacity
+  -- whether the number of texts that wait has reached the capacity; without a capacity it never has
   abbrev pub at_capacity : Option ℕ → List T → Bool
-  at_capacity (Some capacity) waiting = leb capacity (length waiting)
+  at_capacity (Some capacity) waiting = nat_le capacity (length waiting)
   at_capacity None waiting = false
 
-  -- whether the queue has no room for a text
+  -- whether the queue is full: the number of its texts has reached its capacity
   abbrev pub is_full : Queue T → Bool
   is_full q = at_capacity q.capacity q.waiting
 
-  -- the text that a full queue drops for another: under DropOldest the oldest one. At capacity 0 there is none
+  -- the text that a full queue drops to make room: the oldest one under DropOldest, and none under Refuse. A queue of
+  -- capacity 0 has no text to drop
   abbrev pub drops_for_room : QueuePolicy → List T → Option T
   drops_for_room DropOldest (oldest ∷ waiting) = Some oldest
   drops_for_room DropOldest [] = None
   drops_for_room Refuse waiting = None
 
-  -- whether the queue is full, and drops no text for another
+  -- whether the queue is full and has no text to drop for another
   abbrev pub lacks_room : Queue T → Bool
   lacks_room q = is_full q && is_none (drops_for_room q.policy q.waiting)
 
-  -- whether a text would be taken if memory allows
+  -- whether the queue accepts a text if memory allows: it is not stopped, and has room or makes it
   abbrev pub is_open : Queue T → Bool
   is_open q = not q.stopped && not (lacks_room q)
 
-  -- the queue with a text put last
-  abbrev pub accepting : Queue T → T → Queue T
-  accepting q text = record q { waiting = q.waiting ++ text ∷ []; submitted = (q.submitted + 1) % 2 ^ 64 }
+  -- the queue after it accepted a text, which waits last
+  abbrev pub after_accept : Queue T → T → Queue T
+  after_accept q text = record q { waiting = q.waiting ++ text ∷ []; submitted = (q.submitted + 1) % 2 ^ 64 }
 
-  -- the queue without its oldest text, which was dropped
-  abbrev pub dropping : Queue T → Queue T
-  dropping q = record q { waiting = drop 1 q.waiting; dropped = (q.dropped + 1) % 2 ^ 64 }
+  -- the queue after it dropped its oldest text
+  abbrev pub after_drop : Queue T → Queue T
+  after_drop q = record q { waiting = drop 1 q.waiting; dropped = (q.dropped + 1) % 2 ^ 64 }
 
-  -- the queue is as it was where it was not full, and else drops the text that it drops for another
+  -- Making room leaves a queue that isn't full as it is, and takes the text that a full queue drops out of it.
   abbrev pub MakesRoom : Queue T → Option T → Queue T → Type 0
   MakesRoom q None r = (is_full q ≡ false) × (r ≡ q)
-  MakesRoom q (Some oldest) r = (is_full q ≡ true) × (drops_for_room q.policy q.waiting ≡ Some oldest) × (r ≡ dropping q)
+  MakesRoom q (Some oldest) r = (is_full q ≡ true) × (drops_for_room q.policy q.waiting ≡ Some oldest) × (r ≡ after_drop q)
 
-  -- the queue was not stopped, and has the text put last; it was not full, or was and dropped its oldest text
+  -- The queue was not stopped, and the text waits last in it now. It was not full, or it was full and dropped its
+  -- oldest text.
   abbrev pub Accepts : Queue T → T → Option T → Queue T → Type 0
-  Accepts q text None r = (q.stopped ≡ false) × (is_full q ≡ false) × (r ≡ accepting q text)
+  Accepts q text None r = (q.stopped ≡ false) × (is_full q ≡ false) × (r ≡ after_accept q text)
   Accepts q text (Some oldest) r =
       (q.stopped ≡ false)
       × (is_full q ≡ true)
       × (drops_for_room q.policy q.waiting ≡ Some oldest)
-      × (r ≡ accepting (dropping q) text)
+      × (r ≡ after_accept (after_drop q) text)
 
-  -- why a queue refuses a text: it is stopped; else it is full and drops none; else memory ran out
+  -- the error with which a queue refuses a text: it is stopped; or else it is full and has no text to drop; or else
+  -- memory ran out
   abbrev pub refusal : Queue T → SinkError
-  refusal q = cond q.stopped ChannelDisconnected (cond (lacks_room q) ChannelFull OutOfMemory)
+  refusal q = if q.stopped then ChannelDisconnected else if lacks_room q then ChannelFull else OutOfMemory
 
-  -- a refusal of the queue
+  -- The error is the one with which this queue refuses a text.
   abbrev pub IsRefusal : Queue T → SinkError → Type 0
   IsRefusal q e = e ≡ refusal q
 
-  -- the oldest text comes out; where none waits, the queue has ended if it is stopped, and else is empty
+  -- A take returns the oldest text. If no text waits, it changes nothing and returns `Ended` if the queue is stopped,
+  -- and `Empty` if not.
   abbrev pub IsTaken : Queue T → Taken T → Queue T → Type 0
   IsTaken q (Text text) r =
       (q.waiting ≡ text ∷ r.waiting) × (r ≡ record q { waiting = r.waiting; drained = (q.drained + 1) % 2 ^ 64 })
@@ -80,32 +85,34 @@ module _ {T : Type 0} where
   abbrev pub is_idle : Queue T → Bool
   is_idle q = not q.stopped && (length q.waiting == 0)
 
-  -- the queue with its stop mark
-  abbrev pub stopping : Queue T → Queue T
-  stopping q = record q { stopped = true }
+  -- the queue after a stop: its stop mark is set
+  abbrev pub after_stop : Queue T → Queue T
+  after_stop q = record q { stopped = true }
 
-  -- one handle more; a count at the greatest number of 64 bits stays there
-  abbrev pub adding_handle : Queue T → Queue T
-  adding_handle q = record q { handles = cond (q.handles == 18446744073709551615) q.handles (q.handles + 1) }
+  -- the queue with one handle more; a count that reached 2^64 - 1 stays there
+  abbrev pub with_handle : Queue T → Queue T
+  with_handle q = record q { handles = if q.handles == 2 ^ 64 - 1 then q.handles else q.handles + 1 }
 
-  -- one handle less, and the stop mark where it was the last; a count of 0 or of the greatest number stays
-  abbrev pub dropping_handle : Queue T → Queue T
-  dropping_handle q =
-      cond (q.handles == 0 || q.handles == 18446744073709551615) q (record q { handles = q.handles - 1; stopped = cond (q.handles == 1) true q.stopped })
+  -- the queue with one handle less, stopped if that was the last one; a count of 0 or of 2^64 - 1 stays
+  abbrev pub without_handle : Queue T → Queue T
+  without_handle q =
+      if q.handles == 0 || q.handles == 2 ^ 64 - 1
+      then q
+      else record q { handles = q.handles - 1; stopped = if q.handles == 1 then true else q.stopped }
 
--- a small refusal as an error
-abbrev pub error_of : Refusal → SinkError
+-- a queue's small error as a SinkError
+abbrev pub error_of : QueueError → SinkError
 error_of Small.Stopped = ChannelDisconnected
 error_of Small.Full = ChannelFull
 error_of Small.OutOfMemory = OutOfMemory
 
--- whether an error is one that a queue may refuse with, whatever is known of it
+-- whether a queue may refuse a text with this error, whatever state it is in
 abbrev pub is_queue_refusal : SinkError → Bool
 is_queue_refusal ChannelFull = true
 is_queue_refusal ChannelDisconnected = true
 is_queue_refusal OutOfMemory = true
 is_queue_refusal _ = false
 
--- the same as a fact
+-- A queue may refuse a text with this error, whatever state it is in.
 abbrev pub IsQueueRefusal : SinkError → Type 0
 IsQueueRefusal e = IsTrue (is_queue_refusal e)

@@ -1,25 +1,27 @@
--- A queue by its past: the texts that it accepted, and for a front part of them how each left it. Nothing is ever
--- removed from it.
+-- A queue described by its past, from which nothing is ever removed: all texts that it accepted and, for those that
+-- have left it, how each left.
 use Rattle.std.specs.Prelude.{◌≡◌, ◌%◌, ◌^◌, ◌≤◌, Bool, true, false, List, [], ◌∷◌, ◌++◌, length, drop, slice_get, count_by, Option, Some, None}
 use Rattle.cadence_flow.specs.QueueState.{Queue}
 use Rattle.cadence_flow.specs.declared.queue.queue_core.Taken.{Taken}
 use Rattle.cadence_flow.specs.declared.queue.queue_core.Taken.TheVariants.{Text}
 
--- how a text left a queue: it was taken, or dropped
+-- how a text left a queue: it was taken, or it was dropped
 pub data Exit : Type 0 where
   by_take : Exit
   by_drop : Exit
 
+-- whether a text left because it was taken
 abbrev pub is_take : Exit → Bool
 is_take by_take = true
 is_take by_drop = false
 
+-- whether a text left because it was dropped
 abbrev pub is_drop : Exit → Bool
 is_drop by_take = false
 is_drop by_drop = true
 
--- the accepted texts without the front part that left wait, and the counts are the numbers of texts accepted, taken
--- and dropped, modulo 2 to the 64
+-- The queue has this past. The texts that left are the first accepted ones, and the others wait, in order. The three
+-- counts are the numbers of texts accepted, taken and dropped, modulo 2^64.
 pub record IsQueueOf {T : Type 0} (accepted : List T) (exits : List Exit) (q : Queue T) : Type 0 where
   pub waits : q.waiting ≡ drop (length exits) accepted
   pub front : length exits ≤ length accepted
@@ -28,7 +30,8 @@ pub record IsQueueOf {T : Type 0} (accepted : List T) (exits : List Exit) (q : Q
   pub dropped : q.dropped ≡ count_by is_drop exits % 2 ^ 64
 
 module _ {T : Type 0} where
-  -- whatever the past, the text is the last accepted one after it, and a text that was dropped for it was the next one
+  -- Whatever the past of the queue, the text is now the last one that it accepted. If a text was dropped for it, that
+  -- was the oldest one that waited.
   abbrev pub IsAccepted : Queue T → T → Option T → Queue T → Type 0
   IsAccepted q text None r =
       (accepted : List T) (exits : List Exit)
@@ -40,7 +43,8 @@ module _ {T : Type 0} where
       → (slice_get accepted (length exits) ≡ Some oldest)
       × IsQueueOf (accepted ++ text ∷ []) (exits ++ by_drop ∷ []) r
 
-  -- whatever the past, one more text is taken after it: the next one; or all left, and nothing changes
+  -- Whatever the past of the queue, the text that a take returns was the oldest one that waited, and is now taken. If
+  -- the take returns no text, all accepted texts had left, and the past stays as it was.
   abbrev pub IsNext : Queue T → Taken T → Queue T → Type 0
   IsNext q (Text text) r =
       (accepted : List T) (exits : List Exit)

@@ -1,4 +1,4 @@
--- What a writer of packets means.
+-- What contracts say of a writer of packets.
 use Rattle.std.specs.Prelude.{◌≡◌, ℕ, ◌+◌, ◌%◌, ◌^◌, ◌<◌, ◌≤◌, Bool, true, List, [], ◌∷◌, ◌++◌, length, take, Ok, Err, IfOk, IfErr, OnOk, All}
 use Rattle.std.specs.declared.result.Result.{Result}
 use Rattle.std.specs.List.{concat}
@@ -6,87 +6,93 @@ use Rattle.cadence_errors.specs.declared.SinkError.{SinkError}
 use Rattle.cadence_flow.specs.declared.io.refusals.Refusals.{Refusals}
 use Rattle.cadence_flow.specs.declared.stats.SinkStats.{SinkStats}
 
--- the packets that a writer took, the oldest first, and the number and total length of its refusals, both modulo 2^64
-pub record History : Type 0 where
+-- the history of a writer: the packets that it took, the oldest first, and the number and total length of the packets
+-- that it refused, both modulo 2^64
+pub record PacketHistory : Type 0 where
   pub packets : List (List ℕ)
   pub refusals : ℕ
   pub refused_bytes : ℕ
 
--- what no call changes: the errors that the writer may give, whether it tells its packets, whether it takes each
--- packet whole or refuses it, and the sums that a counting writer began with
-pub record Kind : Type 0 where
+-- the kind of a writer, which no call changes: the errors that it may return; whether it tells its packets, so that its
+-- history has them; whether it takes each packet whole or refuses it; and the sums that a counting writer began with
+pub record WriterKind : Type 0 where
   pub may_give : SinkError → Bool
   pub tells : Bool
   pub takes_whole : Bool
   pub start : SinkStats
 
--- the history with one more packet taken
-abbrev pub after_packet : History → List ℕ → History
+-- If the writer tells its packets, then P.
+abbrev pub WhenItTells : WriterKind → Type 0 → Type 0
+WhenItTells kind P = kind.tells ≡ true → P
+
+-- If the writer takes each packet whole or refuses it, then P.
+abbrev pub WhenItTakesWhole : WriterKind → Type 0 → Type 0
+WhenItTakesWhole kind P = kind.takes_whole ≡ true → P
+
+-- the history after one more packet was taken
+abbrev pub after_packet : PacketHistory → List ℕ → PacketHistory
 after_packet h packet =
     record { packets = h.packets ++ packet ∷ []; refusals = h.refusals; refused_bytes = h.refused_bytes }
 
--- the history with one more refusal, of n bytes
-abbrev pub after_refusal : History → ℕ → History
-after_refusal h n =
-    record {
-      packets = h.packets;
-      refusals = (h.refusals + 1) % 2 ^ 64;
-      refused_bytes = (h.refused_bytes + n) % 2 ^ 64;
-    }
-
--- nothing was refused
+-- no refusals
 abbrev pub no_refusals : Refusals
 no_refusals = record { count = 0; bytes = 0 }
 
--- the same after one more refusal, of a packet of this length
-abbrev pub one_more : Refusals → ℕ → Refusals
-one_more refusals len =
-    record { count = (refusals.count + 1) % 2 ^ 64; bytes = (refusals.bytes + len) % 2 ^ 64 }
+-- the refusals after one more packet was refused, of n bytes
+abbrev pub one_more_refusal : Refusals → ℕ → Refusals
+one_more_refusal refusals n = record { count = (refusals.count + 1) % 2 ^ 64; bytes = (refusals.bytes + n) % 2 ^ 64 }
 
--- the refusals after what was answered to a packet of this length
+-- the refusals after a writer returned this result for a packet of n bytes: an error is one more
 abbrev pub refusals_after : Refusals → Result ℕ SinkError → ℕ → Refusals
-refusals_after refusals (Ok n) len = refusals
-refusals_after refusals (Err e) len = one_more refusals len
+refusals_after refusals (Ok taken) n = refusals
+refusals_after refusals (Err e) n = one_more_refusal refusals n
 
 -- the history of these packets and refusals
-abbrev pub history_of : List (List ℕ) → Refusals → History
-history_of packets refusals =
-    record { packets = packets; refusals = refusals.count; refused_bytes = refusals.bytes }
+abbrev pub history_of : List (List ℕ) → Refusals → PacketHistory
+history_of packets refusals = record { packets = packets; refusals = refusals.count; refused_bytes = refusals.bytes }
 
--- nothing was refused between the two
-abbrev pub RefusedNothing : History → History → Type 0
+-- the refusals of a history
+abbrev pub refusals_of : PacketHistory → Refusals
+refusals_of h = record { count = h.refusals; bytes = h.refused_bytes }
+
+-- the history after one more packet was refused, of n bytes
+abbrev pub after_refusal : PacketHistory → ℕ → PacketHistory
+after_refusal h n = history_of h.packets (one_more_refusal (refusals_of h) n)
+
+-- Nothing was refused between the two histories.
+abbrev pub RefusedNothing : PacketHistory → PacketHistory → Type 0
 RefusedNothing old new = (new.refusals ≡ old.refusals) × (new.refused_bytes ≡ old.refused_bytes)
 
--- one packet, of n bytes, was refused between the two
-abbrev pub RefusedOne : History → History → ℕ → Type 0
+-- One packet, of n bytes, was refused between the two histories.
+abbrev pub RefusedOne : PacketHistory → PacketHistory → ℕ → Type 0
 RefusedOne old new n =
-    (new.refusals ≡ (old.refusals + 1) % 2 ^ 64) × (new.refused_bytes ≡ (old.refused_bytes + n) % 2 ^ 64)
+    (new.refusals ≡ (after_refusal old n).refusals) × (new.refused_bytes ≡ (after_refusal old n).refused_bytes)
 
--- new has taken the packets of old, and then more
-abbrev pub Extends : History → History → Type 0
+-- The packets of the new history are those of the old one, and then perhaps more.
+abbrev pub Extends : PacketHistory → PacketHistory → Type 0
 Extends old new = (more : List (List ℕ)) × (new.packets ≡ old.packets ++ more)
 
--- what a writer does with one packet that is offered to it
-pub record WritesPacket (kind : Kind) (old new : History) (packet : List ℕ) (result : Result ℕ SinkError) : Type 0 where
-  -- the count is how many of the first bytes were taken, all of them by a writer that takes whole
+-- What a writer does with one packet that is offered to it.
+pub record WritesPacket (kind : WriterKind) (old new : PacketHistory) (packet : List ℕ) (result : Result ℕ SinkError) : Type 0 where
+  -- the count is how many of the packet's first bytes were taken; a writer that takes whole takes all of them
   pub count : IfOk result (λ n. n ≤ length packet)
-  pub whole : kind.takes_whole ≡ true → IfOk result (λ n. n ≡ length packet)
-  -- a writer that tells has one more packet, of these bytes
-  pub taken : kind.tells ≡ true → IfOk result (λ n. new ≡ after_packet old (take n packet))
+  pub whole : WhenItTakesWhole kind (IfOk result (λ n. n ≡ length packet))
+  -- the history of a writer that tells has one more packet: these bytes
+  pub taken : WhenItTells kind (IfOk result (λ n. new ≡ after_packet old (take n packet)))
   pub kept : OnOk result (RefusedNothing old new)
-  -- an error is one that it may give, and counts as one refusal of the whole packet
+  -- an error is one that the writer may return, and counts as one refusal of the whole packet
   pub may_give : IfErr result (λ e. kind.may_give e ≡ true)
   pub refused : IfErr result (λ _. new ≡ after_refusal old (length packet))
 
--- between the two, the text was taken in packets of which none is empty
-pub record Sends (old new : History) (text : List ℕ) : Type 0 where
+-- Between the two histories the text was taken, in packets that are not empty.
+pub record Sends (old new : PacketHistory) (text : List ℕ) : Type 0 where
   pub more : List (List ℕ)
   pub packets : new.packets ≡ old.packets ++ more
   pub joined : concat more ≡ text
   pub none_empty : All (λ (p : List ℕ). 0 < length p) more
 
--- between the two, the text was taken so, and then one packet of which these are the bytes
-pub record SendsThen (old new : History) (text packet : List ℕ) : Type 0 where
+-- Between the two histories the text was taken, in packets that are not empty, and then this packet.
+pub record SendsThen (old new : PacketHistory) (text packet : List ℕ) : Type 0 where
   pub more : List (List ℕ)
   pub packets : new.packets ≡ old.packets ++ (more ++ packet ∷ [])
   pub joined : concat more ≡ text

@@ -1,4 +1,11 @@
-//! The packer, and what it writes packets to.
+//! The packer, which puts lines into packets, and the writers that it writes packets to.
+//!
+//! - `line_buffer`: the packer
+//! - `multi_line_writer`: the packer with the interface of the Rust crate, which flushes when it is dropped
+//! - `bytes`: what the packer does to its buffer
+//! - `writer`: the trait of a writer of packets
+//! - `packet_log`: a writer that keeps its packets in memory
+//! - `refusals`: how many packets a writer refused
 
 mod bytes;
 mod line_buffer;
@@ -12,3 +19,6 @@ pub use multi_line_writer::MultiLineWriter;
 pub use packet_log::{Answer, PacketLog};
 pub use refusals::Refusals;
 pub use writer::PacketWriter;
+
+/// The capacity of a packer in bytes if none is chosen. A packet of this size passes every network unsplit.
+pub const DEFAULT_CAPACITY: usize = 512;

@@ -1,5 +1,8 @@
-//! The packer that puts lines into packets, the writers of packets, the counts of what was sent, and the queue
-//! between the callers of a sink and its worker.
+//! What a sink is built of, for one thread: no function of this crate takes a lock.
+//!
+//! - `io`: the packer, which puts lines into packets, and the writers that it writes packets to
+//! - `queue`: the queue between the callers of a sink and its worker
+//! - `stats`: the counts of what a sink sent and dropped
 #![tactic(auto)]
 
 pub mod io;

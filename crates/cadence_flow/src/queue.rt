@@ -1,13 +1,17 @@
-//! The queue between the callers of a sink and its worker.
+//! The queue of texts between the callers of a sink and its worker, for one thread. `cadence_shared` puts it under a
+//! lock.
+//!
+//! - `queue_core`: the queue
+//! - `policy`: what a full queue does with one more text
+//! - `queue_error`: why a queue refuses a text
+//! - `text_ring`: the ring that stores the texts
 
 mod policy;
 mod queue_core;
-mod refusal;
+mod queue_error;
 mod text_ring;
-mod worker_end;
 
 pub use policy::QueuePolicy;
 pub use queue_core::{QueueCore, Taken};
-pub use refusal::Refusal;
+pub use queue_error::QueueError;
 pub use text_ring::TextRing;
-pub use worker_end::WorkerEnd;

@@ -1,21 +1,18 @@
-//! Counts of what was sent and dropped.
-
-mod socket;
+//! The counts of what a sink sent and dropped.
 
 use cadence_errors::SinkError;
-pub use socket::SocketStats;
 
-/// How many bytes and packets were sent and dropped, each modulo 2 to the 64. A packet that is refused and sent later
-/// counts in both.
+/// How many bytes and packets a sink sent and dropped, each modulo 2^64. A packet that is refused and sent again later
+/// counts as dropped and as sent.
 #[derive(Clone, Copy, Debug, Default, PartialEq, Eq)]
 pub struct SinkStats {
-    /// The bytes that were taken.
+    /// The bytes that the writer took.
     pub bytes_sent: u64,
-    /// The packets that were taken, an empty one included.
+    /// The packets that the writer took, in part or whole. An empty packet counts too.
     pub packets_sent: u64,
-    /// The bytes of the packets that were refused.
+    /// The bytes of the packets that the writer refused.
     pub bytes_dropped: u64,
-    /// The packets that were refused.
+    /// The packets that the writer refused.
     pub packets_dropped: u64,
 }
 
@@ -23,7 +20,7 @@ impl SinkStats {
     ghost use Rattle.std.specs.Prelude.{◌≡◌, ◌+◌, ◌%◌, ◌^◌};
     ghost use Rattle.cadence_flow.specs.Sums.{after_answer, after_refused, after_taken};
 
-    /// Adds one packet of which n bytes were taken.
+    /// Adds one packet sent, of which the writer took `n` bytes.
     pub fn add_taken(&mut self, n: usize)
         ensures { self.new ≡ after_taken self.old n }
     {
@@ -31,7 +28,7 @@ impl SinkStats {
         self.add_packet_sent();
     }
 
-    /// Adds one refused packet of `len` bytes.
+    /// Adds one packet dropped, of `len` bytes.
     pub fn add_refused(&mut self, len: usize)
         ensures { self.new ≡ after_refused self.old len }
     {
@@ -39,7 +36,8 @@ impl SinkStats {
         self.add_packet_dropped();
     }
 
-    /// Adds what was answered to a packet of `len` bytes.
+    /// Adds a packet of `len` bytes by the writer's result: `Ok(n)` is a packet sent, with `n` bytes, and an error is a
+    /// packet dropped, with `len` bytes.
     pub fn add_answer(&mut self, answer: &Result<usize, SinkError>, len: usize)
         ensures { self.new ≡ after_answer self.old answer.now len }
     {
@@ -49,28 +47,32 @@ impl SinkStats {
         }
     }
 
-    fn add_bytes_sent(&mut self, n: u64)
+    /// Adds `n` bytes sent.
+    pub fn add_bytes_sent(&mut self, n: u64)
         ensures { self.new ≡
             record self.old { bytes_sent = (self.old.bytes_sent + n) % 2 ^ 64 } }
     {
         self.bytes_sent = self.bytes_sent.wrapping_add(n);
     }
 
-    fn add_packet_sent(&mut self)
+    /// Adds one packet sent.
+    pub fn add_packet_sent(&mut self)
         ensures { self.new ≡
             record self.old { packets_sent = (self.old.packets_sent + 1) % 2 ^ 64 } }
     {
         self.packets_sent = self.packets_sent.wrapping_add(1);
     }
 
-    fn add_bytes_dropped(&mut self, n: u64)
+    /// Adds `n` bytes dropped.
+    pub fn add_bytes_dropped(&mut self, n: u64)
         ensures { self.new ≡
             record self.old { bytes_dropped = (self.old.bytes_dropped + n) % 2 ^ 64 } }
     {
         self.bytes_dropped = self.bytes_dropped.wrapping_add(n);
     }
 
-    fn add_packet_dropped(&mut self)
+    /// Adds one packet dropped.
+    pub fn add_packet_dropped(&mut self)
         ensures { self.new ≡
             record self.old { packets_dropped = (self.old.packets_dropped + 1) % 2 ^ 64 } }
     {

@@ -1,4 +1,4 @@
--- The packets of a run over a new log are those of its kept metrics.
+-- The packets of a run over a new log are those of the metrics of its kept calls.
 use Rattle.std.proofs.Common.{◌≡◌, ℕ, true, List, [], ◌∷◌, ◌++◌, Option, Some, None, refl, sym, ap, ◌∙◌, subst, inl}
 use Rattle.std.specs.Prelude.{All, IfSome}
 use Rattle.std.specs.List.{AllByRecursion, AllZip, flat_map}
@@ -8,7 +8,7 @@ use Rattle.std.proofs.lemmas.List.Concat.{flat_map-append}
 use Rattle.std.proofs.lemmas.List.Elements.{All-nil, All-from_recursion, recursion_from_All}
 use Rattle.cadence_text.specs.Metric.{Metric, Tag}
 use Rattle.cadence_text.specs.OneReading.{IsFreeOfSeparators, IsFreeTag, IsFreeText}
-use Rattle.cadence_text.specs.Said.{IsSaid, IsSaidTag}
+use Rattle.cadence_text.specs.Representable.{IsRepresentable, IsRepresentableTag}
 use Rattle.cadence_flow.specs.Frame.{held_packet}
 use Rattle.cadence_flow.specs.Log.{LogState, log_history, log_kind, new_log, has_no_short}
 use Rattle.cadence_schedule.specs.declared.steps.Step.{Step}
@@ -23,22 +23,25 @@ text_listed : (o : Option (List ℕ)) → IfSome o IsFreeText → IfSome o IsUtf
 text_listed (Some t) free said = (free, said)
 text_listed None free said = tt
 
-tags_listed : (tags : List Tag) → AllByRecursion IsFreeTag tags → AllByRecursion IsSaidTag tags → AllByRecursion IsListedTag tags
+tags_listed : (tags : List Tag) → AllByRecursion IsFreeTag tags → AllByRecursion IsRepresentableTag tags → AllByRecursion IsListedTag tags
 tags_listed [] free said = tt
-tags_listed (tag ∷ tags) (free, frees) (said, saids) = (record { key = text_listed tag.key free.key said.key; text = (free.text, said.text) }, tags_listed tags frees saids)
+tags_listed (tag ∷ tags) (free, frees) (said, saids) =
+    (record { key = text_listed tag.key free.key said.key; text = (free.text, said.text) }, tags_listed tags frees saids)
 
--- what a record says without separators is listed
-listed : (m : Metric) → IsFreeOfSeparators m → IsSaid m → IsListed m
+-- A metric of a record that has no separators can be read.
+listed : (m : Metric) → IsFreeOfSeparators m → IsRepresentable m → IsListed m
 listed m free said = record {
   name = (free.name, said.name);
   numbers = said.numbers;
   rate = said.rate;
-  tags = All-from_recursion IsListedTag m.tags (tags_listed m.tags (recursion_from_All IsFreeTag m.tags free.tags) (recursion_from_All IsSaidTag m.tags said.tags));
+  tags =
+      All-from_recursion IsListedTag m.tags (tags_listed m.tags (recursion_from_All IsFreeTag m.tags free.tags)
+      (recursion_from_All IsRepresentableTag m.tags said.tags));
   container = text_listed m.container free.container said.container;
   time = said.time;
 }
 
-each_listed : (ms : List Metric) → AllByRecursion IsFreeOfSeparators ms → AllByRecursion IsSaid ms → AllByRecursion IsListed ms
+each_listed : (ms : List Metric) → AllByRecursion IsFreeOfSeparators ms → AllByRecursion IsRepresentable ms → AllByRecursion IsListed ms
 each_listed [] free said = tt
 each_listed (m ∷ ms) (free, frees) (said, saids) = (listed m free said, each_listed ms frees saids)
 
@@ -46,40 +49,55 @@ split_append : {X : Type 0} (P : X → Type 0) (xs ys : List X) → AllByRecursi
 split_append P [] ys h = (tt, h)
 split_append P (x ∷ xs) ys (h, hs) = let (front, back) = split_append P xs ys hs in ((h, front), back)
 
-lists_listed : (lists : List (List Metric)) (packets : List (List ℕ)) → AllZip IsPacketOfOnly lists packets → AllByRecursion IsSaid (flat_map (λ list. list) lists) → AllZip IsListOf packets lists
+lists_listed : (lists : List (List Metric)) (packets : List (List ℕ)) → AllZip IsPacketOfOnly lists packets
+    → AllByRecursion IsRepresentable (flat_map (λ list. list) lists) → AllZip IsListOf packets lists
 lists_listed [] [] h said = tt
 lists_listed [] (p ∷ ps) h said = absurd h
 lists_listed (x ∷ xs) [] h said = absurd h
 lists_listed (x ∷ xs) (p ∷ ps) (one, rest) said =
-    let (here, later) = split_append IsSaid x (flat_map (λ list. list) xs) said in (
+    let (here, later) = split_append IsRepresentable x (flat_map (λ list. list) xs) said in (
       record { listed = All-from_recursion IsListed x (each_listed x (recursion_from_All IsFreeOfSeparators x one.free) here); whole = one.reads },
       lists_listed xs ps rest later,
     )
 
-zip_more : (packets : List (List ℕ)) (lists : List (List Metric)) (p : List ℕ) (list : List Metric) → AllZip IsListOf packets lists → IsListOf p list → AllZip IsListOf (packets ++ p ∷ []) (lists ++ list ∷ [])
+zip_more : (packets : List (List ℕ)) (lists : List (List Metric)) (p : List ℕ) (list : List Metric) → AllZip IsListOf packets lists
+    → IsListOf p list → AllZip IsListOf (packets ++ p ∷ []) (lists ++ list ∷ [])
 zip_more [] [] p list h one = (one, tt)
 zip_more [] (l ∷ ls) p list h one = absurd h
 zip_more (a ∷ ps) [] p list h one = absurd h
 zip_more (a ∷ ps) (l ∷ ls) p list (h, hs) one = (h, zip_more ps ls p list hs one)
 
--- an empty held text has the empty list
-with_held : (packets : List (List ℕ)) (held : List ℕ) (lists : List (List Metric)) → AllZip IsListOf (packets ++ held_packet held) lists → AreListed (packets ++ held ∷ []) (flat_map (λ list. list) lists)
+-- If the held text is empty, its list of metrics is empty.
+with_held : (packets : List (List ℕ)) (held : List ℕ) (lists : List (List Metric)) → AllZip IsListOf (packets ++ held_packet held) lists
+    → AreListed (packets ++ held ∷ []) (flat_map (λ list. list) lists)
 with_held packets [] lists h =
-    let none : AllZip IsListOf packets lists = subst (λ ps. AllZip IsListOf ps lists) (append-nil packets) h in
-    (lists ++ [] ∷ [], zip_more packets lists [] [] none (record { listed = All-nil IsListed; whole = inl refl }), flat_map-append (λ list. list) lists ([] ∷ []) ∙ append-nil (flat_map (λ list. list) lists))
+    let none : AllZip IsListOf packets lists = subst (λ ps. AllZip IsListOf ps lists) (append-nil packets) h in (
+      lists ++ [] ∷ [],
+      zip_more packets lists [] [] none (record { listed = All-nil IsListed; whole = inl refl }),
+      flat_map-append
+          (λ list. list) lists ([] ∷ [])
+          ∙ append-nil (flat_map (λ list. list) lists),
+    )
 with_held packets (byte ∷ rest) lists h = (lists, h, refl)
 
-reads_listed : (metrics : List Metric) (packets : List (List ℕ)) (held : List ℕ) → All IsSaid metrics → ReadsAs metrics packets held → AreListed (packets ++ held ∷ []) metrics
+reads_listed : (metrics : List Metric) (packets : List (List ℕ)) (held : List ℕ) → All IsRepresentable metrics → ReadsAs metrics packets held
+    → AreListed (packets ++ held ∷ []) metrics
 reads_listed metrics packets held said (lists, joined, zipped) =
-    let each : AllByRecursion IsSaid (flat_map (λ list. list) lists) = subst (AllByRecursion IsSaid) (sym joined) (recursion_from_All IsSaid metrics said) in
+    let each : AllByRecursion IsRepresentable (flat_map (λ list. list) lists) =
+    subst (AllByRecursion IsRepresentable) (sym joined) (recursion_from_All IsRepresentable metrics said) in
     subst (AreListed (packets ++ held ∷ [])) joined (with_held packets held lists (lists_listed lists (packets ++ held_packet held) zipped each))
 
--- the kept metrics, where they are free of separators, have the packets and the held text
-pub kept_listed : {A : Type 0} (settings : Settings) (capacity : ℕ) (queue : Option ℕ) (steps : List (Step A)) (log : LogState) (outcome : Outcome LogState A) → IsNewWhole log → IsRun (given_to settings capacity queue steps log) outcome → All IsFreeOfSeparators (kept_metrics (given_to settings capacity queue steps log) outcome) → AreListed (texts_of outcome) (kept_metrics (given_to settings capacity queue steps log) outcome)
+-- If the metrics of the kept calls have no separators, then the packets and the held text are theirs.
+pub kept_listed : {A : Type 0} (settings : Settings) (capacity : ℕ) (queue : Option ℕ) (steps : List (Step A)) (log : LogState)
+    (outcome : Outcome LogState A)
+    → IsNewWhole log → IsRun (given_to settings capacity queue steps log) outcome
+    → All IsFreeOfSeparators (kept_metrics (given_to settings capacity queue steps log) outcome)
+    → AreListed (texts_of outcome) (kept_metrics (given_to settings capacity queue steps log) outcome)
 kept_listed settings capacity queue steps log outcome (script, new, whole) run free =
     let given = given_to settings capacity queue steps log in
     let kind : TellsWhole (log_kind log) = (refl, ap (λ l. has_no_short l.script) new ∙ whole) in
-    let packets : packets_of log_history given outcome ≡ outcome.writer.packets = ap (λ (l : LogState). packets_of log_history (given_to settings capacity queue steps l) outcome) new in
+    let packets : packets_of log_history given outcome ≡ outcome.writer.packets =
+    ap (λ (l : LogState). packets_of log_history (given_to settings capacity queue steps l) outcome) new in
     let reads = run.beside.one_reading kind refl free in
     subst (λ ps. AreListed (ps ++ outcome.held ∷ []) (kept_metrics given outcome)) packets
     (reads_listed (kept_metrics given outcome) (packets_of log_history given outcome) outcome.held run.beside.said reads)

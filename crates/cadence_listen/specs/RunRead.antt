@@ -1,4 +1,4 @@
--- A run over a packet log with the newline as ending, and what is read from it.
+-- Runs over a packet log with a newline after each line, and the metrics that are read from their packets.
 use Rattle.std.specs.Prelude.{◌≡◌, ℕ, true, List, [], ◌∷◌, ◌++◌, Option, All, codes}
 use Rattle.cadence_text.specs.Metric.{Metric}
 use Rattle.cadence_text.specs.OneReading.{IsFreeOfSeparators}
@@ -6,35 +6,35 @@ use Rattle.cadence_flow.specs.Log.{LogState, has_no_short, log_history, log_kind
 use Rattle.cadence_flow.specs.declared.io.packet_log.Answer.{Answer}
 use Rattle.cadence_schedule.specs.declared.steps.Step.{Step}
 use Rattle.cadence_schedule.specs.Headline.{Given, given_of, HasHeadline, IsAccounted, turns_of}
-use Rattle.cadence_schedule.specs.History.{kept}
+use Rattle.cadence_schedule.specs.RunHistory.{kept}
 use Rattle.cadence_flow.specs.declared.queue.policy.QueuePolicy.TheVariants.{Refuse}
 use Rattle.cadence_schedule.specs.Report.{Outcome}
 use Rattle.cadence_schedule.specs.Settings.{Settings}
 use Rattle.cadence_read.specs.Listed.{AreListed}
 
--- the log took and refused nothing yet, and none of its answers is short
+-- The log has no packets and no refusals yet, and none of its answers is short.
 abbrev pub IsNewWhole : LogState → Type 0
 IsNewWhole log = (script : List Answer) × (log ≡ new_log script) × (has_no_short script ≡ true)
 
 module _ {A : Type 0} where
-  -- what the run is given
+  -- the input of the run, as the headline sees it
   abbrev pub given_to : Settings → ℕ → Option ℕ → List (Step A) → LogState → Given A
   given_to settings capacity queue steps log = given_of log_kind log_history settings capacity (codes "\n") queue Refuse steps log
 
-  -- all that is promised of a run
+  -- The run has all that is promised about runs.
   pub record IsRun (given : Given A) (outcome : Outcome LogState A) : Type 0 where
     pub headline : HasHeadline log_history given outcome
     pub beside : IsAccounted log_history given outcome
 
-  -- the packets of the log, and then the held text
+  -- the packets of the log, and last the held text
   abbrev pub texts_of : Outcome LogState A → List (List ℕ)
   texts_of outcome = outcome.writer.packets ++ outcome.held ∷ []
 
-  -- the metrics of the accepted calls whose lines were handed on and answered Ok, in order
+  -- the metrics of the kept calls, in order: the calls that were accepted, and whose lines were handed on and not refused
   abbrev pub kept_metrics : Given A → Outcome LogState A → List Metric
   kept_metrics given outcome = kept given.metric_of (turns_of log_history given outcome)
 
-  -- a run of which no metrics have the packets; over a new log without short answers some kept metric has a separator
+  -- No metrics have the packets of the run. If the log was new and none of its answers was short, then a kept metric has a separator.
   abbrev pub IsUnreadable : LogState → Given A → Type 0
   IsUnreadable log given =
       (outcome : Outcome LogState A) × IsRun given outcome

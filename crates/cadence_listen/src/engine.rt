@@ -1,28 +1,31 @@
-//! The lines of one packet, over any reader and writers.
+//! Prints the lines of one packet, over any reader and writers.
 ghost use Rattle.std.specs.Prelude.{◌≡◌, ◌≤◌, ℕ, List, IfOk, IfSome, map, string_bytes};
 ghost use Rattle.std.specs.Io.KnownBytes.{Appends};
 ghost use Rattle.cadence_text.specs.Owned.{metric_of_owned};
-ghost use Rattle.cadence_listen.specs.Lines.{IsLinesOf, lines_shown};
+ghost use Rattle.cadence_listen.specs.Lines.{IsLinesOf, listing_of};
 
-use cadence_console::{Failure, print_report, push_text, read_all};
+use cadence_cli::{ReportError, print_report, push_text, read_all};
 use cadence_errors::MetricResult;
 use cadence_read::{ReadFault, read_packet};
 use cadence_text::line::OwnedMetric;
 use std::alloc::Allocator;
 use std::io::{Read, Write};
 
-// A packet's fault, as a failure of the program.
-fn failure_of(fault: ReadFault) -> Failure<ReadFault> {
+// Turns an error of reading into one of the program.
+fn report_error(fault: ReadFault) -> ReportError<ReadFault> {
     match fault {
-        ReadFault::NotMetrics => Failure::Unusable(fault),
-        ReadFault::OutOfMemory => Failure::OutOfMemory,
+        ReadFault::NotMetrics => ReportError::Unusable(fault),
+        ReadFault::OutOfMemory => ReportError::OutOfMemory,
     }
 }
 
-// A line for each metric, with its length. It is refused for want of memory alone.
-fn text_of<A: Allocator + Clone>(alloc: &A, metrics: &[OwnedMetric<A>]) -> MetricResult<String<A>>
+// Returns a line of the report for each metric. It fails only if memory runs out.
+fn listing_of<A: Allocator + Clone>(
+    alloc: &A,
+    metrics: &[OwnedMetric<A>],
+) -> MetricResult<String<A>>
     ensures { IfOk result (λ text.
-        string_bytes text ≡ lines_shown (map metric_of_owned metrics.now)) }
+        string_bytes text ≡ listing_of (map metric_of_owned metrics.now)) }
 {
     let mut text = String::new(alloc.clone()?);
     for metric in metrics {
@@ -32,27 +35,33 @@ fn text_of<A: Allocator + Clone>(alloc: &A, metrics: &[OwnedMetric<A>]) -> Metri
     Ok(text)
 }
 
-// The lines of the metrics whose packet the input holds.
-fn lines_of<A: Allocator + Clone, I: Read>(
+// Reads the packet from the input, and returns the text that lists its metrics.
+fn read_listing<A: Allocator + Clone, I: Read>(
     alloc: A,
     input: &mut I,
-) -> Result<String<A>, Failure<ReadFault>>
+) -> Result<String<A>, ReportError<ReadFault>>
     ensures { IfOk result (λ text. IfSome (I.remaining input.old) (λ packet.
         IsLinesOf packet (string_bytes text))) }
 {
     let packet = read_all(alloc.clone()?, input)?;
-    let metrics = read_packet(alloc.clone()?, &packet).map_err(failure_of)?;
-    let Ok(text) = text_of(&alloc, &metrics) else {
-        return Err(Failure::OutOfMemory);
+    let metrics = read_packet(alloc.clone()?, &packet).map_err(report_error)?;
+    let Ok(text) = listing_of(&alloc, &metrics) else {
+        return Err(ReportError::OutOfMemory);
     };
     Ok(text)
 }
 
-/// Reads the input as one packet, and prints a line for each of its metrics: `line`, the length in bytes, and the
-/// metric's line, by the escapes of `cadence_console`. It answers the status: 0 where they were printed; 1 where the
-/// output failed, and then nothing is told to the errors; 2 where the input can't be read or is no packet of metrics; 3
-/// where memory ran out. After 2 and 3 nothing was printed, and the errors got one line. A fault of the errors changes
-/// nothing.
+/// Reads the whole input as one packet, and prints a line for each of its metrics: the word `line`, the length of the
+/// metric's line in bytes, and the metric's line with the escapes of `cadence_cli::push_bytes`.
+///
+/// Returns the exit status of the program:
+///
+/// - 0 if the lines were printed,
+/// - 1 if writing to `output` failed; nothing is written to `errors` then,
+/// - 2 if the input can't be read, or is not a packet of metrics,
+/// - 3 if memory ran out.
+///
+/// For 2 and 3 nothing is printed, and one line is written to `errors`. An error of `errors` is ignored.
 pub fn run_listen<A: Allocator + Clone, I: Read, O: Write, E: Write>(
     alloc: A,
     input: &mut I,
@@ -64,5 +73,5 @@ pub fn run_listen<A: Allocator + Clone, I: Read, O: Write, E: Write>(
         (text : List ℕ) × IsLinesOf packet text
         × Appends (O.contents output.old) (O.contents output.new) text) }
 {
-    print_report("statsd_listen", lines_of(alloc, input), output, errors)
+    print_report("statsd_listen", read_listing(alloc, input), output, errors)
 }

@@ -1,5 +1,8 @@
-//! A listener: what a client's packets say, the run of a schedule whose packets are read, and the engine of
-//! `statsd_listen`.
+//! The engine of `statsd_listen`, and runs of a schedule whose packets are read back. Its readers are those of
+//! `cadence_read`.
+//!
+//! - `engine`: prints the lines of one packet, over any reader and writers.
+//! - `run`: runs a schedule over a packet log, and reads the packets back.
 #![tactic(auto)]
 
 mod engine;

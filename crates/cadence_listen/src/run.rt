@@ -1,10 +1,8 @@
-//! A run of a schedule whose packets are read.
-ghost use Rattle.std.specs.Prelude.{◌≡◌, List, All, Err, IfOk};
-ghost use Rattle.cadence_text.specs.Metric.{Metric};
+//! Runs a schedule over a packet log, and reads the packets back.
+ghost use Rattle.std.specs.Prelude.{◌≡◌, All, Err, IfOk};
 ghost use Rattle.cadence_text.specs.OneReading.{IsFreeOfSeparators};
 ghost use Rattle.cadence_text.specs.Owned.{metrics_of};
-ghost use Rattle.cadence_schedule.specs.Report.{Outcome, outcome_of};
-ghost use Rattle.cadence_flow.specs.Log.{LogState};
+ghost use Rattle.cadence_schedule.specs.Report.{outcome_of};
 ghost use Rattle.cadence_read.specs.Listed.{AreListed};
 ghost use Rattle.cadence_read.specs.declared.fault.ReadFault.TheVariants.{NotMetrics};
 ghost use Rattle.cadence_listen.specs.RunRead.{IsNewWhole, IsRun, given_to, kept_metrics, IsUnreadable, texts_of};
@@ -15,12 +13,14 @@ use cadence_schedule::{ClientSettings, Report, Step, run_schedule};
 use cadence_text::line::OwnedMetric;
 use std::alloc::Allocator;
 
-/// Runs the steps as `run_schedule` does, over a packet log and with the newline as ending, and reads what the log and
-/// the packer then hold. Over a new log without short answers these are the kept metrics in order, where they are free
-/// of separators.
+/// Runs the steps with `run_schedule`, over a packet log and with a newline after each line. Then it reads the metrics
+/// of the log's packets and of the held text.
+///
+/// If the log is new, none of its answers is short, and the metrics of the kept calls have no separators, then exactly
+/// these metrics are read, in order. A call is kept if it was accepted, and its line was handed on and not refused.
 ///
 /// # Errors
-/// `NotMetrics` where the packets are those of no metrics, and `OutOfMemory`.
+/// `NotMetrics` if the packets are not those of metrics, and `OutOfMemory`.
 pub fn run_and_read<A: Allocator + Clone>(
     alloc: A,
     settings: &ClientSettings<A>,

@@ -1,5 +1,6 @@
--- A line's parts, and the texts of its fields in them.
-use Rattle.std.proofs.Common.{◌≡◌, ◌≢◌, ℕ, List, [], ◌∷◌, ◌++◌, length, take, drop, refl, sym, ap, ap₂, ◌∙◌, subst, arith, eqb, true, false, Option, Some, None, codes, get_or, ◌<◌, ◌≤◌, ◌⊎◌, inl, inr}
+-- The parts of a line, and the texts of its fields in them.
+use Rattle.std.proofs.Common.{◌≡◌, ◌≢◌, ℕ, List, [], ◌∷◌, ◌++◌, length, take, drop, refl, sym, ap, ap₂, ◌∙◌, subst, arith, eqb, true, false}
+use Rattle.std.proofs.Common.{Option, Some, None, codes, get_or, ◌<◌, ◌≤◌, ◌⊎◌, inl, inr}
 use Rattle.std.specs.Prelude.{All, IfSome}
 use Rattle.std.specs.List.{join_with_byte}
 use Rattle.std.specs.Option.{option_map}
@@ -15,26 +16,32 @@ use Rattle.cadence_text.specs.Line.{kind_text, tag_text, line_of}
 use Rattle.cadence_text.specs.Metric.{Metric, Tag}
 use Rattle.cadence_value.specs.Number.{Number, decimal_text, number_text, numbers_text}
 use Rattle.cadence_text.specs.OneReading.{IsFreeOfSeparators, IsFreeText, IsFreeTag, IsNoSeparator}
-use Rattle.cadence_value.proofs.Cut.{Lacks, Stops, cut_at}
-use Rattle.cadence_text.proofs.LineText.{marked, parts_of, front_of, last_of, rate_part, tags_part, container_part, time_part, separated-joined, line_of-joined, lacks_bars}
+use Rattle.cadence_value.proofs.SplitTexts.{Lacks, Stops, cut_at}
+use Rattle.cadence_text.proofs.LineText.{marked, parts_of, front_of, last_of, rate_part, tags_part, container_part, time_part}
+use Rattle.cadence_text.proofs.LineText.{joined_texts-joined, line_of-joined, lacks_bars}
 use Rattle.cadence_read.specs.LineTexts.{LineTexts, tags_text, texts_of, field_part, field_parts, parts_of_texts, pieces_left, IsMarked}
 use Rattle.cadence_read.specs.Listed.{IsListed, IsListedTag, IsText}
 use Rattle.cadence_read.proofs.Pieces.{named_front, pieces, pieces-joined}
 
--- what a stripped mark says
-pub marked_found : (first text mark : List ℕ) → pointwise eqb (take (length mark) first) mark ≡ true → text ≡ drop (length mark) first → first ≡ mark ++ text
+-- A text from which a mark was stripped begins with the mark. One from which it was not stripped doesn't begin with it.
+pub marked_found : (first text mark : List ℕ) → pointwise eqb (take (length mark) first) mark ≡ true → text ≡ drop (length mark) first
+    → first ≡ mark ++ text
 marked_found first text mark h e =
-    let same : take (length mark) first ≡ mark = (slice_eq-Decides Decides-eqb (take (length mark) first) mark (pointwise eqb (take (length mark) first) mark) refl).0 h in
+    let same : take (length mark) first ≡ mark =
+    (slice_eq-Decides Decides-eqb (take (length mark) first) mark (pointwise eqb (take (length mark) first) mark) refl).0 h in
     sym (take-append-drop (length mark) first) ∙ ap₂ (λ a b. a ++ b) same (sym e)
 
 pub marked_none : (first mark text : List ℕ) → pointwise eqb (take (length mark) first) mark ≡ false → first ≡ mark ++ text → ⊥
 marked_none first mark text h e =
     let same : take (length mark) first ≡ mark = ap (take (length mark)) e ∙ take_at mark text (length mark) refl in
-    let yes : pointwise eqb (take (length mark) first) mark ≡ true = (slice_eq-Decides Decides-eqb (take (length mark) first) mark (pointwise eqb (take (length mark) first) mark) refl).1 same in
+    let yes : pointwise eqb (take (length mark) first) mark ≡ true =
+    (slice_eq-Decides Decides-eqb (take (length mark) first) mark (pointwise eqb (take (length mark) first) mark) refl).1 same in
     let bad : true ≡ false = sym yes ∙ h in absurd cc
 
--- a field is taken off in one way, where no later part has its mark
-pub marked_once : (b : ℕ) (m : List ℕ) (parts : List (List ℕ)) (f : Option (List ℕ)) (rest : List (List ℕ)) (g : Option (List ℕ)) (more : List (List ℕ)) → IsMarked (b ∷ m) parts f rest → field_part (b ∷ m) g ++ more ≡ parts → Stops (marked b) more → (f ≡ g) × (rest ≡ more)
+-- There is one way to take a field off the parts, if no later part has the field's mark.
+pub marked_once : (b : ℕ) (m : List ℕ) (parts : List (List ℕ)) (f : Option (List ℕ)) (rest : List (List ℕ)) (g : Option (List ℕ))
+    (more : List (List ℕ))
+    → IsMarked (b ∷ m) parts f rest → field_part (b ∷ m) g ++ more ≡ parts → Stops (marked b) more → (f ≡ g) × (rest ≡ more)
 marked_once b m parts (Some x) rest (Some y) more h e stop =
     let both : ◌≡◌ {A = List (List ℕ)} ((b ∷ (m ++ y)) ∷ more) ((b ∷ (m ++ x)) ∷ rest) = e ∙ h in
     let texts : m ++ y ≡ m ++ x = cc both in
@@ -46,13 +53,14 @@ marked_once b m parts (Some x) rest None more h e stop =
 marked_once b m parts None rest (Some y) more h e stop = absurd (h.1 y more (sym e))
 marked_once b m parts None rest None more h e stop = (refl, h.0 ∙ sym e)
 
--- what is left has a part, where anything is left
+-- If no piece is left, then no text is left.
 pub none_left : (mark : ℕ) (left : Option (List ℕ)) → pieces_left mark left ≡ [] → left ≡ None
 none_left mark None e = refl
 none_left mark (Some text) e = absurd (omega (arith, ap (λ ps. length ps) e, length-slice_split (λ b. eqb b mark) text))
 
--- which marks can't stand later
-stops_rate : (tags container time : Option (List ℕ)) → Stops (marked 64) (field_part (codes "#") tags ++ (field_part (codes "c:") container ++ field_part (codes "T") time))
+-- The marks that later parts can't have.
+stops_rate : (tags container time : Option (List ℕ))
+    → Stops (marked 64) (field_part (codes "#") tags ++ (field_part (codes "c:") container ++ field_part (codes "T") time))
 stops_rate (Some _) container time = refl
 stops_rate None (Some _) time = refl
 stops_rate None None (Some _) = refl
@@ -67,7 +75,7 @@ stops_container : (time : Option (List ℕ)) → Stops (marked 99) (field_part (
 stops_container (Some _) = refl
 stops_container None = tt
 
--- the fields that were taken off one after the other are those of the texts, and no part is left
+-- The fields that were taken off are those of the texts, and no part is left.
 pub record AreTaken (t : LineTexts) (one two three four : Option (List ℕ)) (left : List (List ℕ)) : Type 0 where
   pub rate : one ≡ t.rate
   pub tags : two ≡ t.tags
@@ -75,16 +83,24 @@ pub record AreTaken (t : LineTexts) (one two three four : Option (List ℕ)) (le
   pub time : four ≡ t.time
   pub none : left ≡ []
 
-pub fields_once : (t : LineTexts) (parts r1 r2 r3 r4 : List (List ℕ)) (rate tags container time : Option (List ℕ)) → IsMarked (codes "@") parts rate r1 → IsMarked (codes "#") r1 tags r2 → IsMarked (codes "c:") r2 container r3 → IsMarked (codes "T") r3 time r4 → field_parts t ≡ parts → AreTaken t rate tags container time r4
+pub fields_once : (t : LineTexts) (parts r1 r2 r3 r4 : List (List ℕ)) (rate tags container time : Option (List ℕ))
+    → IsMarked (codes "@") parts rate r1 → IsMarked (codes "#") r1 tags r2 → IsMarked (codes "c:") r2 container r3
+    → IsMarked (codes "T") r3 time r4 → field_parts t ≡ parts → AreTaken t rate tags container time r4
 fields_once t parts r1 r2 r3 r4 rate tags container time h1 h2 h3 h4 e =
-    let (one, rest1) = marked_once 64 [] parts rate r1 t.rate (field_part (codes "#") t.tags ++ (field_part (codes "c:") t.container ++ field_part (codes "T") t.time)) h1 e (stops_rate t.tags t.container t.time) in
-    let (two, rest2) = marked_once 35 [] r1 tags r2 t.tags (field_part (codes "c:") t.container ++ field_part (codes "T") t.time) h2 (sym rest1) (stops_tags t.container t.time) in
-    let (three, rest3) = marked_once 99 (58 ∷ []) r2 container r3 t.container (field_part (codes "T") t.time) h3 (sym rest2) (stops_container t.time) in
+    let (one, rest1) =
+    marked_once 64 [] parts rate r1 t.rate (field_part (codes "#")
+    t.tags ++ (field_part (codes "c:") t.container ++ field_part (codes "T") t.time)) h1 e (stops_rate t.tags t.container t.time) in
+    let (two, rest2) =
+    marked_once 35 [] r1 tags r2 t.tags (field_part (codes "c:") t.container ++ field_part (codes "T") t.time) h2 (sym rest1)
+    (stops_tags t.container t.time) in
+    let (three, rest3) =
+    marked_once 99 (58 ∷ []) r2 container r3 t.container (field_part (codes "T") t.time) h3 (sym rest2) (stops_container t.time) in
     let (four, rest4) = marked_once 84 [] r3 time r4 t.time [] h4 (append-nil (field_part (codes "T") t.time) ∙ sym rest3) tt in
     record { rate = one; tags = two; container = three; time = four; none = rest4 }
 
--- a field that stands first is taken off
-marked_is : (b : ℕ) (m : List ℕ) (f : Option (List ℕ)) (more : List (List ℕ)) → Stops (marked b) more → IsMarked (b ∷ m) (field_part (b ∷ m) f ++ more) f more
+-- A field whose part comes first is taken off.
+marked_is : (b : ℕ) (m : List ℕ) (f : Option (List ℕ)) (more : List (List ℕ)) → Stops (marked b) more
+    → IsMarked (b ∷ m) (field_part (b ∷ m) f ++ more) f more
 marked_is b m (Some x) more stop = refl
 marked_is b m None more stop = (
   refl,
@@ -93,33 +109,46 @@ marked_is b m None more stop = (
       let bad : true ≡ false = sym (eq-eqb b b refl) ∙ has in absurd cc,
 )
 
--- parts are those of one line's texts only
+-- At most one line's texts have these parts.
 pub texts_once : (s t : LineTexts) → All (λ byte. byte ≢ 58) s.name → All (λ byte. byte ≢ 58) t.name → parts_of_texts s ≡ parts_of_texts t → s ≡ t
 texts_once s t hs ht e =
     let front : s.name ++ (58 ∷ s.numbers) ≡ t.name ++ (58 ∷ t.numbers) = cc e in
     let kinds : s.kind ≡ t.kind = cc e in
     let fields : field_parts s ≡ field_parts t = cc e in
-    let (name, rest) = cut_at 58 s.name t.name (58 ∷ s.numbers) (58 ∷ t.numbers) (recursion_from_All (λ b. b ≢ 58) s.name hs) (recursion_from_All (λ b. b ≢ 58) t.name ht) refl refl front in
+    let (name, rest) =
+    cut_at 58 s.name t.name (58 ∷ s.numbers) (58 ∷ t.numbers) (recursion_from_All (λ b. b ≢ 58) s.name hs)
+    (recursion_from_All (λ b. b ≢ 58) t.name ht) refl refl front in
     let numbers : s.numbers ≡ t.numbers = cc rest in
     let last = append-nil (field_part (codes "T") t.time) in
     let same = fields_once s (field_parts t)
-    (field_part (codes "#") t.tags ++ (field_part (codes "c:") t.container ++ field_part (codes "T") t.time)) (field_part (codes "c:") t.container ++ field_part (codes "T") t.time) (field_part (codes "T") t.time) []
+    (field_part (codes "#") t.tags ++ (field_part (codes "c:") t.container ++ field_part (codes "T") t.time))
+    (field_part (codes "c:") t.container ++ field_part (codes "T") t.time) (field_part (codes "T") t.time) []
     t.rate t.tags t.container t.time
-    (marked_is 64 [] t.rate (field_part (codes "#") t.tags ++ (field_part (codes "c:") t.container ++ field_part (codes "T") t.time)) (stops_rate t.tags t.container t.time))
+    (marked_is 64 [] t.rate (field_part (codes "#") t.tags ++ (field_part (codes "c:") t.container ++ field_part (codes "T") t.time))
+    (stops_rate t.tags t.container t.time))
     (marked_is 35 [] t.tags (field_part (codes "c:") t.container ++ field_part (codes "T") t.time) (stops_tags t.container t.time))
     (marked_is 99 (58 ∷ []) t.container (field_part (codes "T") t.time) (stops_container t.time))
     (subst (λ ps. IsMarked (codes "T") ps t.time []) last (marked_is 84 [] t.time [] tt))
     fields in
-    λ i. record { name = name i; numbers = numbers i; kind = kinds i; rate = sym same.rate i; tags = sym same.tags i; container = sym same.container i; time = sym same.time i }
+    λ i. record {
+      name = name i;
+      numbers = numbers i;
+      kind = kinds i;
+      rate = sym same.rate i;
+      tags = sym same.tags i;
+      container = sym
+          same.container i;
+      time = sym same.time i;
+    }
 
--- a metric's texts make its parts
+-- The texts of a metric make the parts of its line.
 rate_same : (o : Option Number) → field_part (codes "@") (option_map number_text o) ≡ rate_part o
 rate_same (Some r) = refl
 rate_same None = refl
 
 tags_same : (tags : List Tag) → field_part (codes "#") (tags_text tags) ≡ tags_part tags
 tags_same [] = refl
-tags_same (tag ∷ tags) = ap (λ t. (35 ∷ t) ∷ []) (separated-joined 44 tag_text (tag ∷ tags))
+tags_same (tag ∷ tags) = ap (λ t. (35 ∷ t) ∷ []) (joined_texts-joined 44 tag_text (tag ∷ tags))
 
 container_same : (o : Option (List ℕ)) → field_part (codes "c:") o ≡ container_part o
 container_same (Some c) = refl
@@ -131,12 +160,12 @@ time_same None = refl
 
 pub parts_same : (m : Metric) → parts_of_texts (texts_of m) ≡ parts_of m
 parts_same m =
-    let front : m.name ++ (58 ∷ numbers_text m.numbers) ≡ front_of m = ap (λ t. m.name ++ (58 ∷ t)) (separated-joined 58 number_text m.numbers) in
+    let front : m.name ++ (58 ∷ numbers_text m.numbers) ≡ front_of m = ap (λ t. m.name ++ (58 ∷ t)) (joined_texts-joined 58 number_text m.numbers) in
     let later = ap₂ (λ a b. a ++ b) (container_same m.container) (time_same m.time) in
     let last : field_parts (texts_of m) ≡ last_of m = ap₂ (λ a b. a ++ b) (rate_same m.rate) (ap₂ (λ a b. a ++ b) (tags_same m.tags) later) in
     ap₂ (λ a b. a ∷ kind_text m.kind ∷ b) front last
 
--- a listed metric is free of separators
+-- The texts of a metric that can be read have no separators.
 free_some : (o : Option (List ℕ)) → IfSome o IsText → IfSome o IsFreeText
 free_some (Some t) h = h.0
 free_some None h = tt
@@ -149,23 +178,25 @@ free m h = record { name = h.name.0; tags = All-weaker IsListedTag IsFreeTag fre
 
 pub line_cut : (m : Metric) (line : List ℕ) → IsListed m → line_of m ≡ line → parts_of_texts (texts_of m) ≡ pieces 124 line
 line_cut m line h e =
-    parts_same m ∙ sym (pieces-joined 124 (front_of m) (kind_text m.kind ∷ last_of m) (lacks_bars m (free m h))) ∙ ap (pieces 124) (sym (line_of-joined m) ∙ e)
+    parts_same m ∙ sym (pieces-joined 124 (front_of m) (kind_text m.kind ∷ last_of m) (lacks_bars m (free m h)))
+    ∙ ap (pieces 124) (sym (line_of-joined m) ∙ e)
 
 pub line_found : (m : Metric) (line : List ℕ) → parts_of_texts (texts_of m) ≡ pieces 124 line → line_of m ≡ line
 line_found m line e = line_of-joined m ∙ ap (join_with_byte 124) (sym (parts_same m) ∙ e) ∙ join_with_byte-slice_split 124 line
 
--- a listed name has no colon
+-- The name of a metric that can be read has no colon.
 pub name_plain : (m : Metric) → IsListed m → All (λ byte. byte ≢ 58) m.name
 name_plain m h = All-weaker IsNoSeparator (λ byte. byte ≢ 58) (λ b p. p.0) m.name h.name.0
 
--- a line and its texts say the same of a listed metric
+-- A metric that can be read has this line exactly if its fields have these texts.
 pub line_from_texts : (m : Metric) (line : List ℕ) (t : LineTexts) → parts_of_texts t ≡ pieces 124 line → texts_of m ≡ t → line_of m ≡ line
 line_from_texts m line t parts e = line_found m line (ap parts_of_texts e ∙ parts)
 
-pub texts_from_line : (m : Metric) (line : List ℕ) (t : LineTexts) → IsListed m → All (λ byte. byte ≢ 58) t.name → parts_of_texts t ≡ pieces 124 line → line_of m ≡ line → texts_of m ≡ t
+pub texts_from_line : (m : Metric) (line : List ℕ) (t : LineTexts) → IsListed m → All (λ byte. byte ≢ 58) t.name
+    → parts_of_texts t ≡ pieces 124 line → line_of m ≡ line → texts_of m ≡ t
 texts_from_line m line t h plain parts e = texts_once (texts_of m) t (name_plain m h) plain (line_cut m line h e ∙ sym parts)
 
--- a text without separators lacks the colon, the bar and the newline
+-- A text without separators has no colon, no bar and no newline.
 pub plain_colon : (name : List ℕ) → All IsNoSeparator name → All (λ byte. byte ≢ 58) name
 plain_colon name h = All-weaker IsNoSeparator (λ byte. byte ≢ 58) (λ b p. p.0) name h
 
@@ -175,8 +206,11 @@ lacks_bar name h = recursion_from_All (λ byte. byte ≢ 124) name (All-weaker I
 pub lacks_newline : (name : List ℕ) → All IsNoSeparator name → Lacks 10 name
 lacks_newline name h = recursion_from_All (λ byte. byte ≢ 10) name (All-weaker IsNoSeparator (λ byte. byte ≢ 10) (λ b p. p.3) name h)
 
--- the first separator of a text that begins with a name and a colon is that colon
-colon_by : (text name rest : List ℕ) (at : ℕ) → length name < length text → get_or text (length name) 0 ≡ 58 → ((k : ℕ) → k < at → IsNoSeparator (get_or text k 0)) → (at < length text → IsNoSeparator (get_or text at 0) → ⊥) → All IsNoSeparator name → text ≡ name ++ 58 ∷ rest → (at < length name) ⊎ (length name ≤ at) → (length name < at) ⊎ (at ≤ length name) → (at < length text) × (get_or text at 0 ≡ 58)
+-- If a text begins with a name and a colon, then that colon is its first separator.
+colon_by : (text name rest : List ℕ) (at : ℕ) → length name < length text → get_or text (length name) 0 ≡ 58
+    → ((k : ℕ) → k < at → IsNoSeparator (get_or text k 0)) → (at < length text → IsNoSeparator (get_or text at 0) → ⊥)
+    → All IsNoSeparator name → text ≡ name ++ 58 ∷ rest → (at < length name) ⊎ (length name ≤ at) → (length name < at) ⊎ (at ≤ length name)
+    → (at < length text) × (get_or text at 0 ≡ 58)
 colon_by text name rest at long colon front stops plain e (inl less) other =
     let here : get_or text at 0 ≡ get_or name at 0 = ap (λ t. get_or t at 0) e ∙ get_or_append_left name (58 ∷ rest) 0 at less in
     absurd (stops (omega arith) (subst IsNoSeparator (sym here) (plain at 0 less)))
@@ -185,24 +219,30 @@ colon_by text name rest at long colon front stops plain e (inr low) (inr high) =
     let same : at ≡ length name = omega arith in
     (omega arith, ap (λ k. get_or text k 0) same ∙ colon)
 
-pub first_is_colon : (text name rest : List ℕ) (at : ℕ) → ((k : ℕ) → k < at → IsNoSeparator (get_or text k 0)) → (at < length text → IsNoSeparator (get_or text at 0) → ⊥) → All IsNoSeparator name → text ≡ name ++ 58 ∷ rest → (at < length text) × (get_or text at 0 ≡ 58)
+pub first_is_colon : (text name rest : List ℕ) (at : ℕ) → ((k : ℕ) → k < at → IsNoSeparator (get_or text k 0))
+    → (at < length text → IsNoSeparator (get_or text at 0) → ⊥) → All IsNoSeparator name → text ≡ name ++ 58 ∷ rest
+    → (at < length text) × (get_or text at 0 ≡ 58)
 first_is_colon text name rest at front stops plain e =
     let long : length name < length text = omega (arith, ap (λ t. length t) e, length-append name (58 ∷ rest)) in
     let colon : get_or text (length name) 0 ≡ 58 = ap (λ t. get_or t (length name) 0) e ∙ get_or-append_seam name 58 rest 0 in
     colon_by text name rest at long colon front stops plain e (cases_lt at (length name)) (cases_lt (length name) at)
 
--- the fields that were taken off one after the other make the parts
+-- The fields that were taken off make the parts.
 marked_back : (mark : List ℕ) (parts rest : List (List ℕ)) (f : Option (List ℕ)) → IsMarked mark parts f rest → field_part mark f ++ rest ≡ parts
 marked_back mark parts rest (Some text) h = sym h
 marked_back mark parts rest None h = h.0
 
-pub taken_fields : (t : LineTexts) (parts r1 r2 r3 r4 : List (List ℕ)) → IsMarked (codes "@") parts t.rate r1 → IsMarked (codes "#") r1 t.tags r2 → IsMarked (codes "c:") r2 t.container r3 → IsMarked (codes "T") r3 t.time r4 → r4 ≡ [] → field_parts t ≡ parts
+pub taken_fields : (t : LineTexts) (parts r1 r2 r3 r4 : List (List ℕ)) → IsMarked (codes "@") parts t.rate r1
+    → IsMarked (codes "#") r1 t.tags r2 → IsMarked (codes "c:") r2 t.container r3 → IsMarked (codes "T") r3 t.time r4 → r4 ≡ []
+    → field_parts t ≡ parts
 taken_fields t parts r1 r2 r3 r4 h1 h2 h3 h4 none =
-    let fourth : field_part (codes "T") t.time ≡ r3 = sym (append-nil (field_part (codes "T") t.time)) ∙ ap (λ r. field_part (codes "T") t.time ++ r) (sym none) ∙ marked_back (codes "T") r3 r4 t.time h4 in
+    let fourth : field_part (codes "T") t.time ≡ r3 = sym (append-nil (field_part (codes "T") t.time))
+    ∙ ap (λ r. field_part (codes "T") t.time ++ r) (sym none) ∙ marked_back (codes "T") r3 r4 t.time h4 in
     let third = ap (λ r. field_part (codes "c:") t.container ++ r) fourth ∙ marked_back (codes "c:") r2 r3 t.container h3 in
     let second = ap (λ r. field_part (codes "#") t.tags ++ r) third ∙ marked_back (codes "#") r1 r2 t.tags h2 in
     ap (λ r. field_part (codes "@") t.rate ++ r) second ∙ marked_back (codes "@") parts r1 t.rate h1
 
--- a listed metric's line begins with its name and a colon
-pub line_named : (m : Metric) (line : List ℕ) → IsListed m → line_of m ≡ line → line ≡ m.name ++ 58 ∷ join_with_byte 124 (numbers_text m.numbers ∷ kind_text m.kind ∷ field_parts (texts_of m))
+-- The line of a metric that can be read begins with its name and a colon.
+pub line_named : (m : Metric) (line : List ℕ) → IsListed m → line_of m ≡ line
+    → line ≡ m.name ++ 58 ∷ join_with_byte 124 (numbers_text m.numbers ∷ kind_text m.kind ∷ field_parts (texts_of m))
 line_named m line h e = named_front 124 line m.name (numbers_text m.numbers) (kind_text m.kind ∷ field_parts (texts_of m)) (sym (line_cut m line h e))

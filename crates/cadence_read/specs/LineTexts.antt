@@ -4,9 +4,10 @@ use Rattle.std.specs.List.{slice_split}
 use Rattle.std.specs.Option.{option_map, option_copied}
 use Rattle.cadence_text.specs.Line.{kind_text, tag_text}
 use Rattle.cadence_text.specs.Metric.{Metric, Tag}
-use Rattle.cadence_value.specs.Number.{decimal_text, number_text, separated, numbers_text}
+use Rattle.cadence_value.specs.Number.{decimal_text, number_text, joined_texts, numbers_text}
 use Rattle.cadence_read.specs.declared.cuts.TextsOfLine.{TextsOfLine}
 
+-- the texts of a line's fields, each without the mark that begins its field
 pub record LineTexts : Type 0 where
   pub name : List ℕ
   pub numbers : List ℕ
@@ -16,10 +17,10 @@ pub record LineTexts : Type 0 where
   pub container : Option (List ℕ)
   pub time : Option (List ℕ)
 
--- the tags with a comma between each two, where there is one
+-- the text of the tags, with a comma between each two, or none if there are no tags
 abbrev pub tags_text : List Tag → Option (List ℕ)
 tags_text [] = None
-tags_text (tag ∷ tags) = Some (separated (codes ",") tag_text (tag ∷ tags))
+tags_text (tag ∷ tags) = Some (joined_texts (codes ",") tag_text (tag ∷ tags))
 
 -- the texts of a metric's fields
 abbrev pub texts_of : Metric → LineTexts
@@ -33,32 +34,34 @@ texts_of m = record {
   time = option_map decimal_text m.time;
 }
 
--- a field's part of the line, where the field is there
+-- the part of a line that an optional field makes: its mark and its text, or no part if the line doesn't have the field
 abbrev pub field_part : List ℕ → Option (List ℕ) → List (List ℕ)
 field_part mark None = []
 field_part mark (Some text) = (mark ++ text) ∷ []
 
--- the parts after the kind
+-- the parts of a line after the kind
 abbrev pub field_parts : LineTexts → List (List ℕ)
-field_parts t = field_part (codes "@") t.rate ++ (field_part (codes "#") t.tags ++ (field_part (codes "c:") t.container ++ field_part (codes "T") t.time))
+field_parts t =
+    field_part (codes "@") t.rate ++ (field_part (codes "#") t.tags ++ (field_part (codes "c:") t.container ++ field_part (codes "T") t.time))
 
--- the parts between the bars
+-- the parts of a line between its bars
 abbrev pub parts_of_texts : LineTexts → List (List ℕ)
 parts_of_texts t = (t.name ++ (codes ":" ++ t.numbers)) ∷ t.kind ∷ field_parts t
 
--- the pieces of what is left after a mark, where there was one
+-- the pieces, cut at each mark, of the text that is left, or none if no text is left
 abbrev pub pieces_left : ℕ → Option (List ℕ) → List (List ℕ)
 pieces_left mark None = []
 pieces_left mark (Some text) = slice_split (λ byte. byte == mark) text
 
--- a mark and what follows it, where the first part has that mark, and the parts after it
+-- If the first part begins with the mark, the text is the rest of that part, and the parts after it are left. Otherwise there is no text, and all
+-- parts are left.
 abbrev pub IsMarked : List ℕ → List (List ℕ) → Option (List ℕ) → List (List ℕ) → Type 0
 IsMarked mark parts (Some text) rest = parts ≡ (mark ++ text) ∷ rest
 IsMarked mark parts None rest = (rest ≡ parts) × ((text : List ℕ) (more : List (List ℕ)) → parts ≡ (mark ++ text) ∷ more → ⊥)
 
--- what was cut
-abbrev pub texts_seen : TextsOfLine → LineTexts
-texts_seen t = record {
+-- the texts that `cut_line` cut from a line
+abbrev pub line_texts : TextsOfLine → LineTexts
+line_texts t = record {
   name = t.name.now;
   numbers = t.numbers.now;
   kind = t.kind.now;
@@ -68,6 +71,6 @@ texts_seen t = record {
   time = option_copied t.time;
 }
 
--- the texts of a line without options
-abbrev pub plain_seen : List ℕ → List ℕ → List ℕ → LineTexts
-plain_seen name numbers kind = record { name = name; numbers = numbers; kind = kind; rate = None; tags = None; container = None; time = None }
+-- the texts of a line without optional fields
+abbrev pub plain_line_texts : List ℕ → List ℕ → List ℕ → LineTexts
+plain_line_texts name numbers kind = record { name = name; numbers = numbers; kind = kind; rate = None; tags = None; container = None; time = None }

@@ -1,14 +1,16 @@
--- What a reading that may want memory answers.
-use Rattle.std.specs.Prelude.{◌≡◌, ⊤, Result, Ok, Err}
+-- The results of readings that can also run out of memory.
+use Rattle.std.specs.Prelude.{⊤, Result, Ok, Err}
 use Rattle.cadence_read.specs.declared.fault.ReadFault.{ReadFault}
 use Rattle.cadence_read.specs.declared.fault.ReadFault.TheVariants.{NotMetrics, OutOfMemory}
+use Rattle.cadence_value.specs.Finds.{HasNone, PrintsAs}
 
--- no good value is shown so; or memory was refused
+-- If the error is `NotMetrics`, no good value prints as this text. If memory ran out, nothing is known about the text.
 abbrev pub FailsAs : {X Y : Type 0} → (X → Type 0) → (X → Y) → Y → ReadFault → Type 0
-FailsAs {X} Good shown y NotMetrics = (x : X) → Good x → shown x ≡ y → ⊥
+FailsAs Good shown y NotMetrics = HasNone (PrintsAs Good shown y)
 FailsAs Good shown y OutOfMemory = ⊤
 
--- the value that was read is a good one that is shown so; or why there is none
+-- If the reading returns a value, then that value, as `view` sees it, is a good one that prints as this text. If it returns an error, the error
+-- is right.
 abbrev pub ReadsOrFails : {C X Y : Type 0} → (X → Type 0) → (X → Y) → Y → (C → X) → Result C ReadFault → Type 0
-ReadsOrFails Good shown y view (Ok c) = Good (view c) × (shown (view c) ≡ y)
+ReadsOrFails Good shown y view (Ok c) = PrintsAs Good shown y (view c)
 ReadsOrFails Good shown y view (Err e) = FailsAs Good shown y e

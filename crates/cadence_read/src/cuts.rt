@@ -1,14 +1,16 @@
-//! A line, cut at its separators.
-ghost use Rattle.std.specs.Prelude.{◌≡◌, ◌≢◌, ◌==◌, ◌∷◌, ◌++◌, ◌<◌, ◌≤◌, ◌↔◌, ℕ, List, All, IfNone, IfSome, IsTrue, length, slice_index};
+//! Cuts a line at its separators.
+ghost use Rattle.std.specs.Prelude.{◌≡◌, ◌≢◌, ◌==◌, ◌∷◌, ◌++◌, ◌<◌, ℕ, List, All, IfNone, IfSome, IsTrue};
 ghost use Rattle.std.specs.List.{AllByRecursion, slice_split};
 ghost use Rattle.std.specs.Option.{option_copied, option_map};
 ghost use Rattle.cadence_text.specs.OneReading.{IsNoSeparator};
-ghost use Rattle.cadence_read.specs.LineTexts.{IsMarked, parts_of_texts, pieces_left, plain_seen, texts_seen};
-ghost use Rattle.cadence_value.specs.Reads.{Reads};
+ghost use Rattle.cadence_read.specs.LineTexts.{IsMarked, parts_of_texts, pieces_left, plain_line_texts, line_texts};
+ghost use Rattle.cadence_value.specs.Finds.{Reads};
 
+use cadence_text::line::first_separator;
 use cadence_value::bytes::cut;
 
-// The first piece of a text that is cut at each mark, and what stands after the first mark, where there is one.
+// Returns the text before the first `mark`, and the text after it. If the text has no mark, it returns the whole text
+// and `None`.
 #[inline(always)]
 pub(crate) fn cut_piece(text: &[u8], mark: u8) -> (&[u8], Option<&[u8]>)
     ensures { slice_split (λ byte. byte == mark) text.now
@@ -20,7 +22,8 @@ pub(crate) fn cut_piece(text: &[u8], mark: u8) -> (&[u8], Option<&[u8]>)
     }
 }
 
-// What follows the mark in the first part, where it has that mark, and what is left after it.
+// Takes the part before the first bar off the text that is left, if it begins with this mark. Returns the rest of that
+// part, and the text after the bar. If the part begins otherwise, it returns `None` and leaves the text as it is.
 fn take_marked<'a>(left: Option<&'a [u8]>, mark: &[u8]) -> (Option<&'a [u8]>, Option<&'a [u8]>)
     requires { AllByRecursion (λ byte. byte ≢ 124) mark.now }
     ensures { IsMarked mark.now (pieces_left 124 (option_copied left.entry))
@@ -36,45 +39,8 @@ fn take_marked<'a>(left: Option<&'a [u8]>, mark: &[u8]) -> (Option<&'a [u8]>, Op
     (Some(value), others)
 }
 
-fn is_no_separator(byte: u8) -> bool
-    ensures { IsTrue result ↔ IsNoSeparator byte }
-{
-    (59..=123).contains(&byte) || (byte != b':' && byte != b',' && byte != b'|' && byte != b'\n')
-}
-
-// A multiple of four, up to which no colon, comma, bar or newline stands.
-#[inline(always)]
-fn free_fours(text: &[u8]) -> usize
-    ensures bound { result ≤ length text.now }
-    ensures front { (k : ℕ) → k < result → IsNoSeparator (slice_index text.now k) }
-{
-    let mut at = 0;
-    while text.len() - at >= 4
-        && is_no_separator(text[at])
-        && is_no_separator(text[at + 1])
-        && is_no_separator(text[at + 2])
-        && is_no_separator(text[at + 3])
-    {
-        at += 4;
-    }
-    at
-}
-
-// Where the first colon, comma, bar or newline stands, or the length where there is none.
-#[inline(always)]
-fn first_separator(text: &[u8]) -> usize
-    ensures bound { result ≤ length text.now }
-    ensures front { (k : ℕ) → k < result → IsNoSeparator (slice_index text.now k) }
-    ensures stops { result < length text.now → IsNoSeparator (slice_index text.now result) → ⊥ }
-{
-    let mut at = free_fours(text);
-    while at < text.len() && is_no_separator(text[at]) {
-        at += 1;
-    }
-    at
-}
-
-// A name, and what stands after the colon behind it.
+// Returns the name, and the text after the colon that ends it. Returns `None` if the text has no separator, or if the
+// first one is not a colon.
 #[inline(always)]
 pub(crate) fn cut_name(text: &[u8]) -> Option<(&[u8], &[u8])>
     ensures none { IfNone result ((name rest : List ℕ) →
@@ -89,7 +55,7 @@ pub(crate) fn cut_name(text: &[u8]) -> Option<(&[u8], &[u8])>
     Some((&text[..at], &text[at + 1..]))
 }
 
-// The texts of a line's fields.
+// The texts of a line's fields. Each text is without the mark that begins its field.
 #[derive(Clone, Copy)]
 pub(crate) struct TextsOfLine<'a> {
     pub(crate) name: &'a [u8],
@@ -102,11 +68,11 @@ pub(crate) struct TextsOfLine<'a> {
 }
 
 impl TextsOfLine<'_> {
-    // Whether there are texts of a name, numbers and a kind alone.
+    // Returns whether the line has no optional fields.
     #[inline(always)]
     pub(crate) fn is_plain(&self) -> bool
-        ensures { IsTrue result → texts_seen self.now ≡
-            plain_seen self.now.name.now self.now.numbers.now self.now.kind.now }
+        ensures { IsTrue result → line_texts self.now ≡
+            plain_line_texts self.now.name.now self.now.numbers.now self.now.kind.now }
     {
         self.rate.is_none()
             && self.tags.is_none()
@@ -115,10 +81,10 @@ impl TextsOfLine<'_> {
     }
 }
 
-// The texts of a line without options.
+// Returns the texts of a line without optional fields.
 #[inline(always)]
 pub(crate) fn plain_texts<'a>(name: &'a [u8], numbers: &'a [u8], kind: &'a [u8]) -> TextsOfLine<'a>
-    ensures texts { texts_seen result ≡ plain_seen name.now numbers.now kind.now }
+    ensures texts { line_texts result ≡ plain_line_texts name.now numbers.now kind.now }
     ensures name { result.name.now ≡ name.now }
 {
     TextsOfLine {
@@ -132,14 +98,14 @@ pub(crate) fn plain_texts<'a>(name: &'a [u8], numbers: &'a [u8], kind: &'a [u8])
     }
 }
 
-// The texts of a line's fields, each cut off in the order in which they stand, with nothing left. The line is this
-// name, a colon and the rest.
+// Cuts the line that consists of the name, a colon and the rest. Returns `None` if a field is missing, out of order, or
+// not one that a line has.
 #[inline(always)]
 pub(crate) fn cut_line<'a>(name: &'a [u8], rest: &'a [u8]) -> Option<TextsOfLine<'a>>
     requires { All IsNoSeparator name.now }
     ensures texts { Reads (λ texts. All (λ byte. byte ≢ 58) texts.name) parts_of_texts
         (slice_split (λ byte. byte == 124) (name.now ++ 58 ∷ rest.now))
-        (option_map texts_seen result) }
+        (option_map line_texts result) }
     ensures name { IfSome result (λ texts. texts.name.now ≡ name.now) }
 {
     let (numbers, fields) = cut_piece(rest, b'|');

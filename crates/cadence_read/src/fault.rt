@@ -1,17 +1,17 @@
-//! Why nothing is read.
+//! Why no metrics were read.
 ghost use Rattle.std.specs.Prelude.{◌≡◌};
 ghost use Rattle.cadence_read.specs.declared.fault.ReadFault.TheVariants.{OutOfMemory};
 
 use std::alloc::{AllocError, AllocFailed};
 use thiserror::Error;
 
-/// Why no metrics are read.
+/// Why no metrics were read.
 #[derive(Clone, Copy, Debug, PartialEq, Eq, Error)]
 pub enum ReadFault {
-    /// No metrics have this text.
+    /// No metrics have this text as their packet or line.
     #[error("not a packet of metrics")]
     NotMetrics,
-    /// A growth was refused.
+    /// Memory ran out.
     #[error("out of memory")]
     OutOfMemory,
 }

@@ -1,5 +1,5 @@
-//! The fields of a line, each read from its text.
-ghost use Rattle.std.specs.Prelude.{◌≡◌, ◌↔◌, ◌<◌, ◌^◌, ⊤, All, IfSome, IsTrue, map};
+//! Reads the fields of a line, each from its text.
+ghost use Rattle.std.specs.Prelude.{◌<◌, ◌^◌, ⊤, All, IfSome, map};
 ghost use Rattle.std.specs.Option.{option_copied, option_map};
 ghost use Rattle.std.specs.String.{string_bytes};
 ghost use Rattle.cadence_text.specs.Line.{kind_text, tag_text};
@@ -9,24 +9,17 @@ ghost use Rattle.cadence_text.specs.OneReading.{IsNoSeparator};
 ghost use Rattle.cadence_text.specs.Owned.{tag_of_owned};
 ghost use Rattle.cadence_read.specs.LineTexts.{tags_text};
 ghost use Rattle.cadence_read.specs.Listed.{IsListedTag, IsText};
-ghost use Rattle.cadence_value.specs.Reads.{Reads};
+ghost use Rattle.cadence_value.specs.Finds.{Reads};
 ghost use Rattle.cadence_read.specs.Reads.{ReadsOrFails};
 
 use crate::cuts::cut_piece;
 use crate::fault::ReadFault;
-use cadence_text::line::{MetricType, OwnedTag};
+use cadence_text::line::{MetricType, OwnedTag, is_free};
 use cadence_value::bytes::cut;
 use cadence_value::decimal::{Decimal, read_number, read_whole};
 use std::alloc::Allocator;
 
-// Whether the text has no colon, comma, bar or newline.
-fn is_free(text: &[u8]) -> bool
-    ensures { IsTrue result ↔ All IsNoSeparator text.now }
-{
-    text.iter().all(|byte| *byte != b':' && *byte != b',' && *byte != b'|' && *byte != b'\n')
-}
-
-// A text that has no separator.
+// Copies a text that has no separators. It fails if the text is not UTF-8.
 pub(crate) fn read_free<A: Allocator>(alloc: A, text: &[u8]) -> Result<String<A>, ReadFault>
     requires { All IsNoSeparator text.now }
     ensures { ReadsOrFails IsText (λ t. t) text.now string_bytes result }
@@ -37,7 +30,7 @@ pub(crate) fn read_free<A: Allocator>(alloc: A, text: &[u8]) -> Result<String<A>
     Ok(String::from_str(alloc, text)?)
 }
 
-// A tag's key or text, or a container.
+// Copies a tag's key or text, or a container. It fails if the text has a separator or is not UTF-8.
 fn read_text<A: Allocator>(alloc: A, text: &[u8]) -> Result<String<A>, ReadFault>
     ensures { ReadsOrFails IsText (λ t. t) text.now string_bytes result }
 {
@@ -47,7 +40,8 @@ fn read_text<A: Allocator>(alloc: A, text: &[u8]) -> Result<String<A>, ReadFault
     read_free(alloc, text)
 }
 
-// Numbers with a colon between each two. Mostly there is one.
+// Reads the numbers between the colons. An empty text has no numbers. There is room for one, because most lines have
+// one.
 pub(crate) fn read_numbers<A: Allocator>(
     alloc: A,
     text: &[u8],
@@ -70,14 +64,14 @@ pub(crate) fn read_numbers<A: Allocator>(
     Ok(numbers)
 }
 
-// The kind with this type text.
+// Returns the kind that this text stands for.
 pub(crate) fn read_kind(text: &[u8]) -> Option<MetricType>
     ensures { Reads (λ _. ⊤) kind_text text.now result }
 {
     MetricType::from_text(text)
 }
 
-// The rate, where there is one.
+// Reads the sampling rate, if the line has one.
 #[inline(always)]
 pub(crate) fn read_rate(text: Option<&[u8]>) -> Result<Option<Decimal>, ReadFault>
     ensures { ReadsOrFails (λ rate. IfSome rate IsDecimal) (option_map number_text)
@@ -92,7 +86,7 @@ pub(crate) fn read_rate(text: Option<&[u8]>) -> Result<Option<Decimal>, ReadFaul
     }
 }
 
-// A tag: its text, or its key and its text.
+// Reads a tag: a key and a text with a colon between them, or a text alone.
 fn read_tag<A: Allocator + Clone>(alloc: &A, text: &[u8]) -> Result<OwnedTag<A>, ReadFault>
     ensures { ReadsOrFails IsListedTag tag_text text.now tag_of_owned result }
 {
@@ -105,7 +99,7 @@ fn read_tag<A: Allocator + Clone>(alloc: &A, text: &[u8]) -> Result<OwnedTag<A>,
     Ok((Some(key), text))
 }
 
-// Tags with a comma between each two, where there is one.
+// Reads the tags between the commas, if the line has tags.
 #[inline(always)]
 pub(crate) fn read_tags<A: Allocator + Clone>(
     alloc: &A,
@@ -125,7 +119,7 @@ pub(crate) fn read_tags<A: Allocator + Clone>(
     Ok(tags)
 }
 
-// The container, where there is one.
+// Reads the container, if the line has one.
 #[inline(always)]
 pub(crate) fn read_container<A: Allocator>(
     alloc: A,
@@ -141,7 +135,7 @@ pub(crate) fn read_container<A: Allocator>(
     Ok(Some(container))
 }
 
-// The time, where there is one.
+// Reads the time in seconds since 1970, if the line has one.
 #[inline(always)]
 pub(crate) fn read_time(text: Option<&[u8]>) -> Result<Option<u64>, ReadFault>
     ensures { ReadsOrFails (λ time. IfSome time (λ t. t < 2 ^ 64)) (option_map decimal_text)

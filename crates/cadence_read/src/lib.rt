@@ -1,4 +1,10 @@
-//! Metrics that are read from a client's packets, each from the one line that it has.
+//! Reads the metrics of a client's packets.
+//!
+//! - `cuts`: cuts a line at its separators.
+//! - `fault`: why no metrics were read.
+//! - `fields`: reads the fields of a line.
+//! - `line`: reads the metric of a line.
+//! - `packet`: reads the metrics of a packet, and of the packets of a run.
 #![tactic(auto)]
 
 mod cuts;

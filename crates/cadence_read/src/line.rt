@@ -1,9 +1,9 @@
-//! The metric of a line.
-ghost use Rattle.std.specs.Prelude.{◌≡◌, ◌∷◌, ◌++◌, All};
+//! Reads the metric of a line.
+ghost use Rattle.std.specs.Prelude.{◌∷◌, ◌++◌, All};
 ghost use Rattle.cadence_text.specs.Line.{line_of};
 ghost use Rattle.cadence_text.specs.OneReading.{IsNoSeparator};
 ghost use Rattle.cadence_text.specs.Owned.{metric_of_owned};
-ghost use Rattle.cadence_read.specs.LineTexts.{texts_of, texts_seen};
+ghost use Rattle.cadence_read.specs.LineTexts.{texts_of, line_texts};
 ghost use Rattle.cadence_read.specs.Listed.{IsListed};
 ghost use Rattle.cadence_read.specs.Reads.{ReadsOrFails};
 
@@ -15,14 +15,14 @@ use crate::fields::{
 use cadence_text::line::OwnedMetric;
 use std::alloc::Allocator;
 
-// The metric whose fields have these texts.
+// Reads the metric whose fields have these texts.
 #[inline(always)]
 fn read_texts<A: Allocator + Clone>(
     alloc: &A,
     texts: TextsOfLine<'_>,
 ) -> Result<OwnedMetric<A>, ReadFault>
     requires { All IsNoSeparator texts.name.now }
-    ensures { ReadsOrFails IsListed texts_of (texts_seen texts.entry) metric_of_owned result }
+    ensures { ReadsOrFails IsListed texts_of (line_texts texts.entry) metric_of_owned result }
 {
     let Some(kind) = read_kind(texts.kind) else {
         return Err(ReadFault::NotMetrics);
@@ -44,7 +44,8 @@ fn read_texts<A: Allocator + Clone>(
     })
 }
 
-// The metric whose line is this name, a colon and the rest.
+// Reads the metric whose line is the name, a colon and the rest. A line without optional fields has a call of its own,
+// in which the compiler drops the code that reads them.
 #[inline(always)]
 pub(crate) fn read_named<A: Allocator + Clone>(
     alloc: &A,
@@ -63,10 +64,10 @@ pub(crate) fn read_named<A: Allocator + Clone>(
     read_texts(alloc, texts)
 }
 
-/// The one metric whose line this is.
+/// Reads the metric of a line. There is at most one metric with this line.
 ///
 /// # Errors
-/// `NotMetrics` where no metric has this line, and `OutOfMemory`.
+/// `NotMetrics` if no metric has this line, and `OutOfMemory`.
 pub fn read_line<A: Allocator + Clone>(alloc: &A, line: &[u8]) -> Result<OwnedMetric<A>, ReadFault>
     ensures { ReadsOrFails IsListed line_of line.now metric_of_owned result }
 {

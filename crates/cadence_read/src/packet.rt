@@ -1,4 +1,4 @@
-//! The metrics of a packet, and of the packets of a run.
+//! Reads the metrics of a packet, and of the packets of a run.
 ghost use Rattle.std.specs.Prelude.{◌≡◌, ◌==◌, ◌∷◌, ◌++◌, [], List, All, Err, IfOk, map};
 ghost use Rattle.std.specs.List.{slice_split};
 ghost use Rattle.cadence_text.specs.Line.{line_of};
@@ -14,19 +14,19 @@ use crate::line::{read_line, read_named};
 use cadence_text::line::OwnedMetric;
 use std::alloc::Allocator;
 
-/// The most metrics that room is made for before the first of them is read.
+// The most metrics for which room is made before the first one is read.
 const MOST_ROOM: usize = 1024;
 
-/// The bytes of a short line.
+// The length of a short line in bytes.
 const SHORT_LINE: usize = 16;
 
-// How many metrics to make room for: as many as there are short lines, up to a limit, since a packet may have other
-// lines.
+// Returns for how many metrics to make room: for as many as there would be if all lines were short. There is a limit,
+// because most packets have longer lines, and the packet may come from anywhere.
 fn room_for(lines: &[u8]) -> usize {
     (lines.len() / SHORT_LINE).min(MOST_ROOM - 1) + 1
 }
 
-// The metrics of these lines, with a newline between each two.
+// Reads the metrics of the lines between the newlines.
 fn read_lines<A: Allocator + Clone>(
     alloc: &A,
     lines: &[u8],
@@ -48,7 +48,7 @@ fn read_lines<A: Allocator + Clone>(
     Ok(metrics)
 }
 
-// The metrics of this packet.
+// Reads the metrics of a packet: lines that each end in a newline, or one line without a newline.
 fn read_list<A: Allocator + Clone>(
     alloc: &A,
     packet: &[u8],
@@ -67,13 +67,13 @@ fn read_list<A: Allocator + Clone>(
     Ok(metrics)
 }
 
-/// The one list of metrics whose packet this is.
+/// Reads the metrics of a packet. There is at most one list of metrics with this packet.
 ///
-/// The metrics own their texts and lists in this allocator's memory. Over an arena that is emptied after each packet,
-/// reading asks the heap for nothing once the arena has room.
+/// The metrics own their texts and lists, in memory of `alloc`. With an arena that is emptied after each packet,
+/// reading takes no memory from the heap once the arena has room.
 ///
 /// # Errors
-/// `NotMetrics` where no list has this packet, and `OutOfMemory`.
+/// `NotMetrics` if no list of metrics has this packet, and `OutOfMemory`.
 pub fn read_packet<A: Allocator + Clone>(
     alloc: A,
     packet: &[u8],
@@ -87,10 +87,10 @@ pub fn read_packet<A: Allocator + Clone>(
     read_list(&alloc, packet)
 }
 
-/// The metrics of the packets and then of the held text, joined.
+/// Reads the metrics of the packets of a run, and then those of the held text, into one list.
 ///
 /// # Errors
-/// `NotMetrics` where one of them is the packet of no list, and `OutOfMemory`.
+/// `NotMetrics` if a packet or the held text is the packet of no list of metrics, and `OutOfMemory`.
 pub fn read_run<A: Allocator + Clone>(
     alloc: A,
     packets: &[Vec<u8, A>],

@@ -3,12 +3,12 @@ use Rattle.std.specs.Prelude.{◌≡◌, ℕ, ◌%◌, ◌^◌, Bool, true, fals
 use Rattle.std.specs.declared.net.socket_addr.SocketAddr.{SocketAddr}
 use Rattle.cadence_errors.specs.declared.SinkError.{SinkError}
 
--- the addresses that a lookup gave; one that failed gave none
+-- the addresses that a lookup gave; a lookup that failed gave none
 abbrev pub addresses_of : {A : Type 0} → Result (Vec SocketAddr A) SinkError → List SocketAddr
 addresses_of (Ok found) = found.items
 addresses_of (Err fault) = []
 
--- the first address of the last lookup that gave any: those after it gave none
+-- The address is the first one of the last lookup that gave any: the lookups after it gave none.
 pub record IsAddressAfter (lookups : List (List SocketAddr)) (address : SocketAddr) : Type 0 where
   pub before : List (List SocketAddr)
   pub others : List SocketAddr
@@ -16,24 +16,25 @@ pub record IsAddressAfter (lookups : List (List SocketAddr)) (address : SocketAd
   pub found : lookups ≡ before ++ (address ∷ others) ∷ after
   pub none_after : All (λ addresses. addresses ≡ []) after
 
--- whether a lookup gave any address
+-- whether a lookup gave an address
 abbrev pub gave_any : List SocketAddr → Bool
 gave_any [] = false
 gave_any (address ∷ others) = true
 
--- what contracts see of a resolver: the address, and how many later lookups gave any and none, modulo 2 to the 64
+-- a resolver as contracts see it: its address, and how many lookups after the first one gave an address and how many gave none, both modulo
+-- 2 to the 64
 pub record Resolved : Type 0 where
   pub address : SocketAddr
   pub successes : ℕ
   pub failures : ℕ
 
--- a resolver after its first lookup and the later ones
+-- After this first lookup and these later ones, the resolver has the address and the counts that it should have.
 pub record IsResolvedBy (first : List SocketAddr) (later : List (List SocketAddr)) (r : Resolved) : Type 0 where
   pub address : IsAddressAfter (first ∷ later) r.address
   pub successes : r.successes ≡ count_by (λ found. gave_any found) later % 2 ^ 64
   pub failures : r.failures ≡ count_by (λ found. not (gave_any found)) later % 2 ^ 64
 
--- whatever the lookups were, this is one more
+-- If the resolver was right after some lookups, it is right after these and one more that gave the addresses `found`.
 abbrev pub IsNotedAfter : Resolved → List SocketAddr → Resolved → Type 0
 IsNotedAfter r found s =
     (first : List SocketAddr) (later : List (List SocketAddr)) → IsResolvedBy first later r → IsResolvedBy first (later ++ found ∷ []) s

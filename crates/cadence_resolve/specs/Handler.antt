@@ -1,7 +1,7 @@
--- What contracts show of a handler of faults.
+-- What contracts show of a handler of errors.
 use Rattle.std.specs.declared.dyn_box.DynBox.{DynBox}
 use Rattle.cadence_resolve.specs.declared.handler.Handler.{Handler}
 
--- the closure that it calls
-abbrev pub call_of : {A Y : Type 0} {G : Y → Type 0} {g : _} → Handler A Y G g → DynBox Y A G
-call_of h = h.call
+-- the closure that a handler calls
+abbrev pub closure_of : {A Y : Type 0} {G : Y → Type 0} {g : _} → Handler A Y G g → DynBox Y A G
+closure_of h = h.call

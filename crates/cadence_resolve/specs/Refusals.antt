@@ -9,18 +9,18 @@ use Rattle.cadence_errors.specs.Errors.{out_of_memory}
 use Rattle.cadence_resolve.specs.declared.target.Target.{Target}
 use Rattle.cadence_resolve.specs.declared.target.Target.TheVariants.{Addr}
 
--- why a lookup fails: an io::Error, or want of memory
+-- A lookup fails with an error of the system, or because memory runs out.
 abbrev pub IsLookupFault : SinkError → Type 0
 IsLookupFault (Io e) = Unit {0}
 IsLookupFault OutOfMemory = Unit {0}
 IsLookupFault _ = ⊥
 
--- why a sink is not made: a fault of the lookup or of the start of a thread, want of memory, or no address
+-- A sink is not made because the lookup or the start of a thread failed, because memory ran out, or because the name has no address.
 abbrev pub IsSocketRefusal : MetricError → Type 0
 IsSocketRefusal (Sink e) = IsLookupFault e
 IsSocketRefusal (Described kind text) = kind ≡ InvalidInput
 
--- why a sink that looks its target up once is not made; an address is refused for want of memory alone
+-- A sink that looks its target up once is not made: for an address, because memory ran out; for a name, for any of the reasons above.
 abbrev pub IsTargetRefusal : {A : Type 0} → Target A → MetricError → Type 0
 IsTargetRefusal (Addr address) e = e ≡ out_of_memory
 IsTargetRefusal _ e = IsSocketRefusal e

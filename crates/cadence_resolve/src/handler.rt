@@ -1,12 +1,15 @@
-//! Who is told of a sink's faults.
+//! A caller's closure that receives the errors of a sink or of a resolver.
 
 use cadence_errors::SinkError;
 use std::alloc::{Allocator, Global};
 
-/// What the caller wants done with each fault of a sink or a resolver. It runs in the thread that met the fault.
+/// A caller's closure that receives the errors of a sink or of a resolver. It runs in the thread that met the error.
 pub type SinkErrorHandler<A = Global> = Box<dyn Fn(SinkError) + Send + Sync, A>;
 
-/// A caller's closure that may be called at any time.
+/// Keeps a closure that may be called at any time.
+// `BoxedErrorHandler` of the crate `cadence` is the same struct for a `MetricError`. They aren't one struct over the
+// type of the error, because the check "cannot state an item with a field whose function pointer or `dyn` type names a
+// type parameter yet".
 #[derive(Drop)]
 pub struct Handler<A: Allocator = Global> {
     call: SinkErrorHandler<A>,
@@ -15,18 +18,18 @@ pub struct Handler<A: Allocator = Global> {
 
 impl<A: Allocator> Handler<A> {
     ghost use Rattle.std.specs.Prelude.{◌≡◌};
-    ghost use Rattle.cadence_resolve.specs.Handler.{call_of};
+    ghost use Rattle.cadence_resolve.specs.Handler.{closure_of};
 
-    /// Keeps the caller's closure.
+    /// Keeps this closure.
     pub fn new(call: SinkErrorHandler<A>) -> Handler<A>
         requires { IsAlwaysCallable call }
-        ensures { call_of result ≡ call }
+        ensures { closure_of result ≡ call }
     {
         Handler { call }
     }
 
-    /// Tells of a fault.
-    pub fn tell(&self, fault: SinkError) {
-        (self.call)(fault);
+    /// Calls the closure with this error.
+    pub fn handle(&self, error: SinkError) {
+        (self.call)(error);
     }
 }

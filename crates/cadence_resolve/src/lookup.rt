@@ -1,4 +1,4 @@
-//! How a name is looked up, and how a resolver sleeps.
+//! Lookups of a name, and the sleep between two of them.
 ghost use Rattle.std.specs.Prelude.{IfErr};
 ghost use Rattle.cadence_resolve.specs.Refusals.{IsLookupFault};
 
@@ -9,22 +9,22 @@ use std::net::{Net, SocketAddr, ToSocketAddrs};
 use std::thread;
 use std::time::{Clock, Duration};
 
-/// What a lookup of a name gives: its addresses, of which there may be none, or a fault.
+/// The result of a lookup: the addresses of the name, possibly none, or the error.
 pub type Lookup<A = Global> = Result<Vec<SocketAddr, A>, SinkError>;
 
 /// Looks a name up.
 pub trait NameLookup<A: Allocator>: Drop {
-    /// The addresses of the name now, of which there may be none, or why the lookup failed.
+    /// Looks the name up, and returns the addresses that it has now, possibly none, or the error.
     fn look_up(&self) -> Lookup<A>;
 }
 
-/// Sleeps.
+/// Lets a thread sleep. A test may have one that doesn't take the time.
 pub trait Sleeper: Drop {
-    /// Sleeps for a time, and then returns.
+    /// Returns after this time.
     fn sleep(&self, time: Duration);
 }
 
-/// Sleeps by the clock.
+/// Sleeps by the clock of its runtime.
 #[derive(Drop)]
 pub struct ClockSleeper<R: Clock + Drop> {
     pub rt: R,
@@ -36,7 +36,7 @@ impl<R: Clock + Drop> Sleeper for ClockSleeper<R> {
     }
 }
 
-// The addresses of a host, which the system looks up.
+// Asks the system for the addresses of a host.
 pub(super) fn host_addresses<A: Allocator>(
     net: &impl Net,
     alloc: A,
@@ -58,7 +58,7 @@ pub(super) fn host_addresses<A: Allocator>(
     Ok(addresses)
 }
 
-/// Looks a target up; an address looks up to itself.
+/// Looks up a target. The lookup of an address gives this address.
 #[derive(Drop)]
 pub struct TargetLookup<R: Net + Drop, A: Allocator + Clone> {
     pub rt: R,
@@ -69,8 +69,8 @@ pub struct TargetLookup<R: Net + Drop, A: Allocator + Clone> {
 impl<R: Net + Drop, A: Allocator + Clone> TargetLookup<R, A> {
     ghost use Rattle.cadence_resolve.specs.Lookups.{IsLookedUp};
 
-    /// The addresses of the target now. The errors are `Io` and `OutOfMemory`, for an address the latter
-    /// alone.
+    /// Returns the addresses that the target has now. The errors are `OutOfMemory`, and for a host's name also `Io`
+    /// if the lookup fails.
     pub fn addresses(&self) -> Lookup<A>
         ensures { IsLookedUp self.now.target result }
     {

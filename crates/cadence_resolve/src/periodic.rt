@@ -1,4 +1,4 @@
-//! A resolver that looks up again and again.
+//! A resolver that looks its name up again after each period.
 use super::resolver_core::ResolverCore;
 use super::{Handler, Lookup, NameLookup, Sleeper};
 use cadence_errors::{MetricResult, SinkError};
@@ -7,7 +7,7 @@ use std::net::SocketAddr;
 use std::sync::{Mutex, Wait};
 use std::time::Duration;
 
-// What lies under the lock: the address, and whether the resolver still runs.
+// What the lock protects: the address, and whether the resolver still runs.
 #[derive(Drop)]
 struct State {
     core: ResolverCore,
@@ -25,8 +25,7 @@ impl State {
     }
 }
 
-/// A `ResolverCore` under a lock, for a thread that looks its name up again after each period, and for those that
-/// read the address.
+/// A `ResolverCore` under a lock. One thread looks the name up again after each period, while others read the address.
 #[derive(Drop)]
 pub struct PeriodicResolver<R: Wait + Drop> {
     rt: R,
@@ -40,7 +39,10 @@ impl<R: Wait + Drop> PeriodicResolver<R> {
     ghost use Rattle.cadence_resolve.specs.Address.{addresses_of};
     ghost use Rattle.cadence_resolve.specs.Lookups.{IsStartRefusal};
 
-    /// A resolver whose address is that of the first lookup. The errors are those of `ResolverCore::new`.
+    /// Makes a resolver that starts with the first address of this first lookup.
+    ///
+    /// If the lookup failed, its error is returned as `MetricError::Sink`. If it gave no address, the error has the
+    /// kind `InvalidInput`.
     pub fn new<A: Allocator>(rt: R, first: Lookup<A>, period: Duration) -> MetricResult<Self>
         ensures made { IsOk result ↔ (addresses_of first ≢ []) }
         ensures refused { IfErr result (IsStartRefusal first) }
@@ -57,8 +59,9 @@ impl<R: Wait + Drop> PeriodicResolver<R> {
         })
     }
 
-    /// Until it is stopped: sleeps a period, looks up, notes what came, and tells the handler of a fault. It looks at
-    /// the stop before each sleep, so a stop in a sleep still allows one lookup.
+    /// Runs until the resolver is stopped: sleeps for a period, looks the name up, notes the result, and gives an
+    /// error to the handler. It checks for a stop before each sleep, so after a stop during a sleep it still does one
+    /// lookup.
     pub fn run<A: Allocator, L: NameLookup<A>, S: Sleeper>(
         &self,
         lookup: &L,
@@ -73,7 +76,7 @@ impl<R: Wait + Drop> PeriodicResolver<R> {
             let found = lookup.look_up();
             let fault = self.note(found);
             if let (Some(fault), Some(handler)) = (fault, handler) {
-                handler.tell(fault);
+                handler.handle(fault);
             }
         }
     }
@@ -86,22 +89,22 @@ impl<R: Wait + Drop> PeriodicResolver<R> {
         self.state.lock(&self.rt).core.note(lookup)
     }
 
-    /// Ends the run, at the latest after one more lookup. It waits for no sleep.
+    /// Tells `run` to end, which it does after one more lookup at the latest. This call doesn't wait for it.
     pub fn stop(&self) {
         self.state.lock(&self.rt).stop();
     }
 
-    /// The address.
+    /// Returns the address.
     pub fn get_addr(&self) -> SocketAddr {
         self.state.lock(&self.rt).core.get_addr()
     }
 
-    /// The number of later lookups that gave an address, modulo 2 to the 64.
+    /// Returns the number of later lookups that gave an address, modulo 2 to the 64.
     pub fn successes(&self) -> u64 {
         self.state.lock(&self.rt).core.successes()
     }
 
-    /// The number of later lookups that gave none, modulo 2 to the 64.
+    /// Returns the number of later lookups that failed or gave no address, modulo 2 to the 64.
     pub fn failures(&self) -> u64 {
         self.state.lock(&self.rt).core.failures()
     }

@@ -1,4 +1,4 @@
-//! The resolver that a UDP sink holds.
+//! The resolver of a UDP sink, static or periodic.
 ghost use Rattle.std.specs.Prelude.{◌≡◌, IfErr, IfOk, None, is_some};
 ghost use Rattle.cadence_resolve.specs.Refusals.{IsSocketRefusal, IsTargetRefusal};
 
@@ -12,18 +12,18 @@ use std::sync::{Arc, Wait};
 use std::thread::Threads;
 use std::time::{Clock, Duration};
 
-/// The address that a sink sends to. A drop ends the lookups, and waits for none.
+/// Gives the address that a sink sends to. Its drop stops the lookups and doesn't wait for the thread.
 pub enum Resolver<R: Wait + Drop, A: Allocator> {
-    /// The target was looked up once.
+    /// The target was looked up once, when the resolver was made.
     Static(StaticResolver),
-    /// A thread looks the target up again and again.
+    /// A thread looks the target up again after each period.
     Periodic(Arc<PeriodicResolver<R>, A>),
 }
 
 impl<R: Wait + Drop, A: Allocator> Resolver<R, A> {
     ghost use Rattle.cadence_resolve.specs.Lookups.{AnswersAddress};
 
-    /// The address.
+    /// Returns the address.
     pub fn get_addr(&self) -> SocketAddr
         ensures { AnswersAddress self.now result }
     {
@@ -43,7 +43,7 @@ impl<R: Wait + Drop, A: Allocator> Drop for Resolver<R, A> {
     }
 }
 
-/// A runtime under which a resolver looks up in a thread of its own. Each type with these bounds is one.
+/// A runtime under which a resolver can have a thread of its own. Each type with these bounds is one.
 pub trait ResolverRuntime: Net<Listener = TcpListener, Stream = TcpStream>
     + Wait
     + Threads
@@ -69,8 +69,11 @@ impl<
 impl<R: ResolverRuntime, A: Allocator + Clone + Send + Sync + 'static> Resolver<R, A> {
     ghost use Rattle.cadence_resolve.specs.Lookups.{KeepsAddress, is_periodic};
 
-    /// A static resolver where there is no period, else a periodic one with its thread. The errors are those of the
-    /// first lookup; `Io` where no thread can be started; `OutOfMemory`.
+    /// Looks the target up and makes a resolver: a static one if there is no period, and otherwise a periodic one,
+    /// whose thread it starts.
+    ///
+    /// The errors are `SinkError::Io` if the lookup fails or the thread can't be started, `SinkError::OutOfMemory`, and
+    /// the kind `InvalidInput` if the name has no address.
     pub fn new(
         rt: &R,
         alloc: &A,
@@ -104,7 +107,7 @@ impl<R: ResolverRuntime, A: Allocator + Clone + Send + Sync + 'static> Resolver<
     }
 }
 
-// The lookups of a resolver.
+// What the thread of a periodic resolver needs beside the handler.
 #[derive(Drop)]
 struct Lookups<R: Net + Wait + Clock + Drop, A: Allocator + Clone> {
     resolver: Arc<PeriodicResolver<R>, A>,

@@ -1,11 +1,11 @@
-//! The address of a name, after each lookup.
+//! The address of a name after each lookup.
 use super::Lookup;
 use cadence_errors::{ErrorKind, MetricError, MetricResult, SinkError};
 use std::alloc::Allocator;
 use std::marker::Model;
 use std::net::SocketAddr;
 
-/// The first address of the last lookup that gave any, and counts of the lookups after the first one.
+/// Keeps the first address of the last lookup that gave an address, and counts the lookups after the first one.
 #[derive(Drop)]
 pub struct ResolverCore {
     address: SocketAddr,
@@ -30,10 +30,10 @@ impl ResolverCore {
     ghost use Rattle.cadence_resolve.specs.Address.{IsResolvedBy, IsNotedAfter, addresses_of};
     ghost use Rattle.cadence_resolve.specs.Lookups.{IsStart, IsNoted};
 
-    /// The first address of the first lookup, which is not counted.
+    /// Starts with the first address of this first lookup, which is not counted.
     ///
-    /// The error of the lookup, as `MetricError::Sink`; for one without addresses the kind `InvalidInput` with the
-    /// text `No socket addresses yielded`.
+    /// If the lookup failed, its error is returned as `MetricError::Sink`. If it gave no address, the error has the
+    /// kind `InvalidInput` and the text `No socket addresses yielded`.
     pub fn new<A: Allocator>(first: Lookup<A>) -> MetricResult<Self>
         ensures start { IsStart first result }
         ensures after { IfOk result (IsResolvedBy (addresses_of first) []) }
@@ -49,8 +49,8 @@ impl ResolverCore {
         })
     }
 
-    /// Notes a later lookup, and answers its fault; the fault of one without addresses is `NoAddresses`. The address
-    /// stays then. Takes no memory.
+    /// Notes a later lookup, and takes its first address. If the lookup failed, this returns its error and keeps the
+    /// address. If it gave no address, this returns `NoAddresses` and keeps the address too. It requests no memory.
     pub fn note<A: Allocator>(&mut self, lookup: Lookup<A>) -> Option<SinkError>
         ensures noted { IsNoted self.old lookup result self.new }
         ensures after { IsNotedAfter self.old (addresses_of lookup) self.new }
@@ -75,21 +75,21 @@ impl ResolverCore {
         }
     }
 
-    /// The address.
+    /// Returns the address.
     pub fn get_addr(&self) -> SocketAddr
         ensures { result ≡ self.now.address }
     {
         self.address
     }
 
-    /// The number of later lookups that gave an address, modulo 2 to the 64.
+    /// Returns the number of later lookups that gave an address, modulo 2 to the 64.
     pub fn successes(&self) -> u64
         ensures { result ≡ self.now.successes }
     {
         self.successes
     }
 
-    /// The number of later lookups that gave none, modulo 2 to the 64.
+    /// Returns the number of later lookups that failed or gave no address, modulo 2 to the 64.
     pub fn failures(&self) -> u64
         ensures { result ≡ self.now.failures }
     {

@@ -1,4 +1,4 @@
-//! An address that is looked up once.
+//! A resolver that looks its target up once.
 use super::Target;
 use super::lookup::host_addresses;
 use super::resolver_core::ResolverCore;
@@ -7,7 +7,7 @@ use std::alloc::Allocator;
 use std::marker::Model;
 use std::net::{Net, SocketAddr};
 
-/// The address that a target had when the resolver was made.
+/// Keeps the address that its target had when the resolver was made.
 #[derive(Drop)]
 pub struct StaticResolver {
     address: SocketAddr,
@@ -25,11 +25,12 @@ impl StaticResolver {
     ghost use Rattle.std.specs.Prelude.{◌≡◌};
     ghost use Rattle.cadence_resolve.specs.Lookups.{IsAddressOf};
 
-    /// An address as it is, without memory; the first address of a host's name, which is looked up.
+    /// Makes a resolver of this target. An address is kept as it is, without a request for memory. A host's name is
+    /// looked up now, and the first of its addresses is kept.
     ///
-    /// A name that can't be looked up answers `SinkError::Io`, one for whose addresses there is no memory
-    /// `SinkError::OutOfMemory`, and one without addresses the kind `InvalidInput` with the text
-    /// `No socket addresses yielded`.
+    /// For a name the errors are `SinkError::Io` if the lookup fails, `SinkError::OutOfMemory` if there is no memory
+    /// for the addresses, and the kind `InvalidInput` with the text `No socket addresses yielded` if the name has no
+    /// address.
     pub fn new<A: Allocator>(net: &impl Net, alloc: A, target: &Target<A>) -> MetricResult<Self>
         ensures { IsAddressOf target.now result }
     {
@@ -44,7 +45,7 @@ impl StaticResolver {
         }
     }
 
-    /// The address.
+    /// Returns the address.
     pub fn get_addr(&self) -> SocketAddr
         ensures { result ≡ self.now }
     {

@@ -1,16 +1,16 @@
-//! Threads that do a job.
+//! A thread that does a job.
 use std::thread::Threads;
 use std::{io, thread};
 
-/// Work for a thread of its own. A part of what it needs comes beside it: with a handler inside the job's type, the
-/// check doesn't find that a thread may own the job.
+/// Work for a thread of its own. One part of what the work needs is not in the job but comes beside it, because the
+/// check doesn't find that a thread may own a job whose type has a handler inside.
 pub trait Job<P>: Drop {
-    /// Does the work. Its end is the thread's.
+    /// Does the work. The thread ends when this returns.
     fn run(self, part: P);
 }
 
-/// Starts a thread that does the work, and doesn't wait for it. Where no thread can be started the job and the part
-/// are dropped.
+/// Starts a thread that does the work, and doesn't wait for it. If the thread can't be started, it returns the
+/// system's error and drops the job and the part.
 pub fn start<R: Threads, P: Drop + Send + 'static, J: Job<P> + Send + 'static>(
     rt: &R,
     job: J,

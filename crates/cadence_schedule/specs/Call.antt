@@ -1,4 +1,4 @@
--- The metric of a call.
+-- Calls, their options, and the metric that a call makes with the settings of a client.
 use Rattle.std.specs.Prelude.{◌≡◌, ℕ, Option, None, Some, List, [], ◌∷◌, ◌++◌, Result, Ok, Err}
 use Rattle.std.specs.Option.{option_or}
 use Rattle.std.specs.List.{filter_map, fold}
@@ -7,46 +7,50 @@ use Rattle.cadence_errors.specs.declared.MetricError.{MetricError}
 use Rattle.cadence_errors.specs.Errors.{IsInvalid, out_of_memory}
 use Rattle.cadence_text.specs.Draft.{Draft, draft_of}
 use Rattle.cadence_text.specs.Metric.{Metric, Tag}
-use Rattle.cadence_text.specs.Said.{IsSaid}
+use Rattle.cadence_text.specs.Representable.{IsRepresentable}
 use Rattle.cadence_value.specs.Number.{Number}
 use Rattle.cadence_schedule.specs.Settings.{Settings}
 
--- what one option of a call chooses
+-- what one option of a call chooses: a tag, the container, the time or the sampling rate
 pub data Choice : Type 0 where
   tagged : Tag → Choice
   contained : List ℕ → Choice
   timed : ℕ → Choice
   rated : Number → Choice
 
+-- the tag that the option adds, if it is one
 abbrev pub chosen_tag : Choice → Option Tag
 chosen_tag (tagged t) = Some t
 chosen_tag (contained c) = None
 chosen_tag (timed n) = None
 chosen_tag (rated r) = None
 
+-- the container that the option sets, if it is one
 abbrev pub chosen_container : Choice → Option (List ℕ)
 chosen_container (tagged t) = None
 chosen_container (contained c) = Some c
 chosen_container (timed n) = None
 chosen_container (rated r) = None
 
+-- the time that the option sets, if it is one
 abbrev pub chosen_time : Choice → Option ℕ
 chosen_time (tagged t) = None
 chosen_time (contained c) = None
 chosen_time (timed n) = Some n
 chosen_time (rated r) = None
 
+-- the sampling rate that the option sets, if it is one
 abbrev pub chosen_rate : Choice → Option Number
 chosen_rate (tagged t) = None
 chosen_rate (contained c) = None
 chosen_rate (timed n) = None
 chosen_rate (rated r) = Some r
 
--- the last of what they give, or else the default
+-- the last value that `gives` finds in the list, or the default if it finds none
 abbrev pub last_or : {X Y : Type 0} → (X → Option Y) → Option Y → List X → Option Y
 last_or gives default xs = fold (λ last x. option_or (gives x) last) default xs
 
--- a call: its kind, its key, the numbers of its value, and its options in their order
+-- a call: the kind of its metric, its key, the numbers of its value, and its options in their order
 pub record MetricCall : Type 0 where
   pub kind : MetricType
   pub key : List ℕ
@@ -61,7 +65,9 @@ plain_call kind key numbers = record { kind = kind; key = key; numbers = numbers
 abbrev pub with_choice : MetricCall → Choice → MetricCall
 with_choice c o = record c { choices = c.choices ++ o ∷ [] }
 
--- the default tags and then the call's own; its last container or else the default one; its last rate and time
+-- The metric of a call. Its name is the prefix and the key; its tags are the default tags and then the call's own; its
+-- container is the last one that the call sets, or the default one if there is none; its rate and its time are the last
+-- ones that the call sets.
 unfoldable pub metric_of_call : Settings → MetricCall → Metric
 metric_of_call s c = record {
   name = s.prefix ++ c.key;
@@ -73,18 +79,19 @@ metric_of_call s c = record {
   time = last_or chosen_time None c.choices;
 }
 
--- the metric with what an option chooses
+-- the metric after one option is applied to it
 abbrev pub chosen : Metric → Choice → Metric
 chosen m (tagged t) = record m { tags = m.tags ++ t ∷ [] }
 chosen m (contained c) = record m { container = Some c }
 chosen m (timed n) = record m { time = Some n }
 chosen m (rated r) = record m { rate = Some r }
 
--- the draft of a metric that has its texts in UTF-8 and numbers that a `Decimal` holds
+-- The draft is that of the metric, whose texts are in UTF-8, and whose numbers a `Decimal` can have.
 abbrev pub IsDraftOf : Metric → Draft → Type 0
-IsDraftOf m draft = (draft ≡ draft_of m) × IsSaid m
+IsDraftOf m draft = (draft ≡ draft_of m) × IsRepresentable m
 
--- what the metric of a call answers: it, or want of memory; where the call's value has no numbers to give, that
+-- A function returns the metric, or `OutOfMemory`; if there is no metric, because a duration of the call passes 64
+-- bits, it returns an error of kind `InvalidInput`.
 abbrev pub MakesMetric : Option Metric → Result Metric MetricError → Type 0
 MakesMetric (Some m) (Ok r) = r ≡ m
 MakesMetric (Some m) (Err e) = e ≡ out_of_memory

@@ -1,40 +1,41 @@
--- What is promised of a run.
+-- What is promised of a run: the headline (`HasHeadline`), and more beside it (`IsAccounted`). The contract of
+-- `run_schedule_with` cites both.
 use Rattle.std.specs.Prelude.{◌≡◌, ℕ, ◌+◌, ◌%◌, ◌^◌, List, [], ◌++◌, Option, true, All, codes, length, map, drop, string_bytes}
 use Rattle.std.specs.List.{concat, zip}
 use Rattle.std.specs.Option.{option_map}
 use Rattle.cadence_text.specs.Line.{line_of}
 use Rattle.cadence_text.specs.Metric.{Metric}
 use Rattle.cadence_text.specs.OneReading.{IsFreeOfSeparators}
-use Rattle.cadence_text.specs.Said.{IsSaid}
-use Rattle.cadence_flow.specs.Frame.{Format, size_of, stream}
-use Rattle.cadence_flow.specs.Writer.{History, Kind, Extends}
+use Rattle.cadence_text.specs.Representable.{IsRepresentable}
+use Rattle.cadence_flow.specs.Frame.{Format, size_of, stream, taken_stream}
+use Rattle.cadence_flow.specs.Writer.{PacketHistory, WriterKind, Extends}
 use Rattle.cadence_flow.specs.declared.queue.policy.QueuePolicy.{QueuePolicy}
 use Rattle.cadence_flow.specs.declared.stats.SinkStats.{SinkStats}
 use Rattle.cadence_schedule.specs.declared.call.Call.{Call}
 use Rattle.cadence_schedule.specs.declared.steps.Step.{Step}
-use Rattle.cadence_schedule.specs.Calls.{metric_of_data}
-use Rattle.cadence_schedule.specs.History.{Turn, accepted, taken, dropped, left, kept, kept_counts, in_hand, is_stopped, errors, marks, refusals}
-use Rattle.cadence_schedule.specs.Packets.{ArePacketsOf}
+use Rattle.cadence_schedule.specs.CallData.{metric_of_data}
+use Rattle.cadence_schedule.specs.RunHistory.{Turn, accepted, taken_count, dropped_count, left_count, kept, kept_counts, in_hand}
+use Rattle.cadence_schedule.specs.RunHistory.{is_stopped, error_count, marks, refusals}
+use Rattle.cadence_schedule.specs.Packets.{ArePacketsOf, ReadsAs}
 use Rattle.cadence_schedule.specs.Plan.{groups_of, IsTight, IsFewest, IsCutLate}
-use Rattle.cadence_schedule.specs.Packets.{ReadsAs}
 use Rattle.cadence_schedule.specs.Replies.{MayReplyAfter}
 use Rattle.cadence_schedule.specs.Report.{Outcome}
 use Rattle.cadence_schedule.specs.Settings.{Settings}
-use Rattle.cadence_flow.specs.Frame.{taken_stream}
 
 -- what a run is given: the metric of each call, the writer's kind and its history before the run, the packer's
 -- capacity and ending, the queue's capacity and policy, and the steps
 pub record Given (A : Type 0) : Type 0 where
   pub metric_of : Call A → Option Metric
-  pub kind : Kind
-  pub before : History
+  pub kind : WriterKind
+  pub before : PacketHistory
   pub format : Format
   pub queue : Option ℕ
   pub policy : QueuePolicy
   pub steps : List (Step A)
 
--- the same, by the client's settings and the writer
-abbrev pub given_of : {W A : Type 0} → (W → Kind) → (W → History) → Settings → ℕ → List ℕ → Option ℕ → QueuePolicy → List (Step A) → W → Given A
+-- what a run is given, from the settings of the client and the writer itself
+abbrev pub given_of : {W A : Type 0} → (W → WriterKind) → (W → PacketHistory) → Settings → ℕ → List ℕ → Option ℕ → QueuePolicy
+    → List (Step A) → W → Given A
 given_of kind history settings capacity ending queue policy steps writer =
     record {
       metric_of = metric_of_data settings;
@@ -46,101 +47,108 @@ given_of kind history settings capacity ending queue policy steps writer =
       steps = steps;
     }
 
--- the line of each call, where it has one
+-- the line of a call, or none if a duration of it passes 64 bits
 abbrev pub line_by : {A : Type 0} → Given A → Call A → Option (List ℕ)
 line_by given call = option_map line_of (given.metric_of call)
 
--- the packets that a writer took between the two
-abbrev pub packets_between : History → History → List (List ℕ)
+-- the packets that a writer took between two histories of it
+abbrev pub packets_between : PacketHistory → PacketHistory → List (List ℕ)
 packets_between before after = drop (length before.packets) after.packets
 
--- the sums of what a writer took and refused between the two, modulo 2 to the 64
-pub record AreSumsBetween (before after : History) (sums : SinkStats) : Type 0 where
+-- The sums are those of what a writer took and refused between two histories of it, modulo 2 to the 64.
+pub record AreSumsBetween (before after : PacketHistory) (sums : SinkStats) : Type 0 where
   pub bytes_sent : sums.bytes_sent ≡ length (concat (packets_between before after)) % 2 ^ 64
   pub packets_sent : sums.packets_sent ≡ length (packets_between before after) % 2 ^ 64
   pub bytes_dropped : (before.refused_bytes + sums.bytes_dropped) % 2 ^ 64 ≡ after.refused_bytes % 2 ^ 64
   pub packets_dropped : (before.refusals + sums.packets_dropped) % 2 ^ 64 ≡ after.refusals % 2 ^ 64
 
--- the writer tells its packets, and takes each packet whole or refuses it
-abbrev pub TellsWhole : Kind → Type 0
+-- The writer tells its packets, and it takes each packet whole or refuses it.
+abbrev pub TellsWhole : WriterKind → Type 0
 TellsWhole kind = (kind.tells ≡ true) × (kind.takes_whole ≡ true)
 
-module _ {W A : Type 0} (history : W → History) (given : Given A) (outcome : Outcome W A) where
+module _ {W A : Type 0} (history : W → PacketHistory) (given : Given A) (outcome : Outcome W A) where
   -- the steps, each with its reply
   abbrev pub turns_of : List (Turn A)
   turns_of = zip given.steps outcome.replies
 
   -- the writer's history after the run
-  abbrev pub after_of : History
+  abbrev pub after_of : PacketHistory
   after_of = history outcome.writer
 
   -- the packets that the writer took during the run
   abbrev pub packets_of : List (List ℕ)
   packets_of = packets_between given.before after_of
 
-  -- the kept lines, and their sizes
+  -- the kept lines: those that were handed on and answered Ok
   abbrev pub kept_of : List (List ℕ)
   kept_of = kept (line_by given) turns_of
 
+  -- the sizes of the kept lines, each with its ending
   abbrev pub sizes_of : List ℕ
   sizes_of = map (size_of given.format) kept_of
 
-  -- the places that flushes ask for a cut at
+  -- the marks: how many lines were kept before each flush that was answered Ok
   abbrev pub marks_of : List ℕ
   marks_of = marks (line_by given) turns_of
 
-  -- each reply has its stated cause, and queue and hand are left as the history says
+  -- Each reply has its stated cause, and the queue, its counts and the hand are left as the steps and replies say.
   pub record HasReplies : Type 0 where
     pub one_each : length outcome.replies ≡ length given.steps
     pub causes : MayReplyAfter (line_by given) given.kind.may_give given.kind.takes_whole given.format given.queue given.policy [] turns_of
-    pub waiting : map string_bytes outcome.queue.waiting ≡ drop (left turns_of) (accepted (line_by given) turns_of)
+    pub waiting : map string_bytes outcome.queue.waiting ≡ drop (left_count turns_of) (accepted (line_by given) turns_of)
     pub submitted : outcome.queue.submitted ≡ length (accepted (line_by given) turns_of)
-    pub drained : outcome.queue.drained ≡ taken turns_of
-    pub dropped : outcome.queue.dropped ≡ dropped turns_of
+    pub drained : outcome.queue.drained ≡ taken_count turns_of
+    pub dropped : outcome.queue.dropped ≡ dropped_count turns_of
     pub stopped : outcome.queue.stopped ≡ is_stopped turns_of
     pub in_hand : outcome.in_hand ≡ in_hand (line_by given) turns_of
 
-  -- no cut that ends at every flush has fewer groups, and none of them could have ended later
+  -- No cut of the kept lines that ends at every flush has fewer groups than the report's, and no group could have had
+  -- one line more.
   pub record HasFewest : Type 0 where
     pub tight : IsTight given.format.capacity marks_of sizes_of outcome.cut
     pub fewest : IsFewest given.format.capacity marks_of sizes_of outcome.cut
 
   -- The headline: after any list of metric calls, worker steps, flushes and stops, packets then held text are, in
-  -- acceptance order, the grammar's lines of the accepted calls handed on and taken, each with its ending, oversize ones
-  -- alone without; none is split, a refusal has its stated cause and leaves no byte, and where the writer refused
+  -- acceptance order, the grammar's lines of the accepted calls handed on and taken, each with its ending, oversize
+  -- ones alone without; none is split, a refusal has its stated cause and leaves no byte, and where the writer refused
   -- nothing, no cut that ends at every flush has fewer packets.
   pub record HasHeadline : Type 0 where
     -- Over a writer that tells its packets and takes each whole or refuses it: the packets of the run, joined, and then
     -- the held text are byte for byte the frames of the kept lines, in order. A kept line is that of an accepted call
-    -- whose hand was answered Ok; its frame is the line and the ending, or the line alone where that passes the capacity.
+    -- whose hand was answered Ok; its frame is the line and the ending, or the line alone if that passes the capacity.
     pub stream : TellsWhole given.kind → concat packets_of ++ outcome.held ≡ stream given.format kept_of
-    -- Over such a writer: packets and held text are those of the report's cut of the kept lines, whole frames in each, none
-    -- beyond the capacity but an oversize line alone, and a packet ends at each flush that was answered Ok.
-    pub cut : TellsWhole given.kind → ArePacketsOf given.format marks_of (refusals (line_by given) turns_of) kept_of outcome.cut packets_of outcome.held
-    -- Over every writer: each reply is one that the steps and replies before it allow, what waits are the accepted lines
-    -- after the first ones, which were taken or dropped, the queue's counts are the numbers accepted, taken and dropped,
-    -- and the line in hand is the one that was taken and not handed on.
+    -- Over such a writer: packets and held text are those of the report's cut of the kept lines, whole frames in each,
+    -- none beyond the capacity but an oversize line alone, and a packet ends at each flush that was answered Ok.
+    pub cut : TellsWhole given.kind
+        → ArePacketsOf given.format marks_of (refusals (line_by given) turns_of) kept_of outcome.cut packets_of outcome.held
+    -- Over every writer: each reply is one that the steps and replies before it allow, what waits are the accepted
+    -- lines after the first ones, which were taken or dropped, the queue's counts are the numbers accepted, taken and
+    -- dropped, and the line in hand is the one that was taken and not handed on.
     pub replies : HasReplies
-    -- Over a writer that takes each packet whole or refuses it: as many hands and flushes were answered by an error as the
-    -- writer refused packets in the run, modulo 2 to the 64.
-    pub errors : given.kind.takes_whole ≡ true → after_of.refusals % 2 ^ 64 ≡ (given.before.refusals + errors turns_of) % 2 ^ 64
-    -- Over a writer that tells its packets and takes each whole, where it refused nothing in the run: no cut of the kept
-    -- lines that ends at every flush has fewer packets, the held text counted as one where it is not empty.
+    -- Over a writer that takes each packet whole or refuses it: as many hands and flushes were answered by an error as
+    -- the writer refused packets in the run, modulo 2 to the 64.
+    pub errors : given.kind.takes_whole ≡ true → after_of.refusals % 2 ^ 64 ≡ (given.before.refusals + error_count turns_of) % 2 ^ 64
+    -- Over a writer that tells its packets and takes each whole, if it refused nothing in the run: no cut of the
+    -- kept lines that ends at every flush has fewer packets, the held text counted as one if it is not empty.
     pub fewest : TellsWhole given.kind → after_of.refusals ≡ given.before.refusals → HasFewest
 
-  -- what stands beside the headline
+  -- What is promised beside the headline, of refusals, short counts, sums, earlier packets, and what a listener reads.
   pub record IsAccounted : Type 0 where
-    -- Refusals included: no group but at a flush or a refused line could have ended later.
-    pub late : TellsWhole given.kind → IsCutLate given.format.capacity (marks_of ++ refusals (line_by given) turns_of) (groups_of outcome.cut sizes_of)
-    -- Over a writer that tells its packets, short counts included: the same stream, where an oversize line that was
-    -- answered Ok(n) gives its first n bytes.
+    -- Over a writer that tells its packets and takes each whole or refuses it, refusals included: no group could have
+    -- had one line more, except where a flush or a refused line came after it.
+    pub late : TellsWhole given.kind
+        → IsCutLate given.format.capacity (marks_of ++ refusals (line_by given) turns_of) (groups_of outcome.cut sizes_of)
+    -- Over a writer that tells its packets, short counts included: the packets of the run, joined, and then the held
+    -- text are the frames of the kept lines, in order; of an oversize line that was answered Ok(n), its first n bytes.
+    -- Over a writer that takes each packet whole, n is the length of the line, and this is `stream` of the headline.
     pub taken : given.kind.tells ≡ true → concat packets_of ++ outcome.held ≡ taken_stream given.format (kept_counts (line_by given) turns_of)
-    -- The sums of the report are those of the run.
+    -- The sums of the report are those of what the writer took and refused in the run.
     pub stats : given.kind.tells ≡ true → AreSumsBetween given.before after_of outcome.stats
-    -- What the writer had taken before the run comes first.
+    -- The packets that the writer had taken before the run come first in its history.
     pub earlier : given.kind.tells ≡ true → Extends given.before after_of
     -- The kept metrics have texts in UTF-8, numbers that a `Decimal` holds, and times of 64 bits.
-    pub said : All IsSaid (kept given.metric_of turns_of)
+    pub said : All IsRepresentable (kept given.metric_of turns_of)
     -- With the newline as ending, and kept metrics that are free of separators: a listener reads the kept metrics, and
     -- no others.
-    pub one_reading : TellsWhole given.kind → given.format.ending ≡ codes "\n" → All IsFreeOfSeparators (kept given.metric_of turns_of) → ReadsAs (kept given.metric_of turns_of) packets_of outcome.held
+    pub one_reading : TellsWhole given.kind → given.format.ending ≡ codes "\n" → All IsFreeOfSeparators (kept given.metric_of turns_of)
+        → ReadsAs (kept given.metric_of turns_of) packets_of outcome.held

@@ -1,4 +1,4 @@
--- What the definitions imply, as laws.
+-- Laws that follow from the definitions. src/laws.rt has a function for each, whose contract is the law.
 use Rattle.std.specs.Prelude.{◌≡◌, ℕ, List, All, codes, map}
 use Rattle.cadence_text.specs.Line.{line_of}
 use Rattle.cadence_text.specs.Metric.{Metric}
@@ -8,12 +8,12 @@ use Rattle.cadence_schedule.specs.Packets.{ArePacketsOf, ReadsAs}
 use Rattle.cadence_schedule.specs.Plan.{IsTight, IsFewest}
 use Rattle.cadence_schedule.specs.Settings.{Settings}
 
--- of all admissible plans, none has fewer groups than a tight one
+-- No admissible plan has fewer packets than a tight plan of the same sizes.
 abbrev pub LeastPackets : Type 0
 LeastPackets = (capacity : ℕ) (marks sizes plan : List ℕ) → IsTight capacity marks sizes plan → IsFewest capacity marks sizes plan
 
--- with the newline as ending, packets and held text of lines of metrics that are free of separators read as these
--- metrics, and as no others
+-- If each line ends in a newline and no text of the metrics contains a separator, then a listener reads from the
+-- packets and the held text of their lines these metrics and no others.
 abbrev pub PacketsReadOneWay : Type 0
 PacketsReadOneWay =
     (capacity : ℕ) (marks refusals plan : List ℕ) (metrics : List Metric) (packets : List (List ℕ)) (held : List ℕ)
@@ -21,7 +21,7 @@ PacketsReadOneWay =
     → ArePacketsOf (record { capacity = capacity; ending = codes "\n" }) marks refusals (map line_of metrics) plan packets held
     → ReadsAs metrics packets held
 
--- what an option chooses in the metric of a call is the metric of the call with that option
+-- Applying an option to the metric of a call gives the metric of the call with that option added.
 abbrev pub OptionsAreChosen : Type 0
 OptionsAreChosen =
     (settings : Settings) (call : MetricCall) (option : Choice)

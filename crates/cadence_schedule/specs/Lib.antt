@@ -1,13 +1,13 @@
 pub mod Call
-pub mod Calls
+pub mod CallData
 pub mod Headline
-pub mod History
+pub mod RunHistory
 pub mod Laws
 pub mod Moves
 pub mod Packets
 pub mod Plan
 pub mod Replies
-pub mod Ran
+pub mod RunOutcome
 pub mod Report
 pub mod Running
 pub mod Settings

@@ -1,4 +1,4 @@
--- The packets of a cut of lines, and what a listener reads from them.
+-- The packets that a cut of lines makes, and what a listener reads from them.
 use Rattle.std.specs.Prelude.{◌≡◌, ◌≢◌, ℕ, true, false, List, [], ◌∷◌, ◌++◌, length, map, All, Contains}
 use Rattle.std.specs.List.{AllZip, flat_map}
 use Rattle.cadence_text.specs.Metric.{Metric}
@@ -6,9 +6,11 @@ use Rattle.cadence_text.specs.OneReading.{IsFreeOfSeparators, IsPacketOf}
 use Rattle.cadence_flow.specs.Frame.{Format, size_of, is_oversize, stream, held_packet}
 use Rattle.cadence_schedule.specs.Plan.{groups_of, IsAdmissible}
 
--- The cut is admissible, and packets and held text are its groups, each the frames of its lines. The last group may
--- be held, unless it is oversize or a flush came after it; it is held where neither a flush nor a refused line did.
-pub record ArePacketsOf (format : Format) (marks refusals : List ℕ) (lines : List (List ℕ)) (plan : List ℕ) (packets : List (List ℕ)) (held : List ℕ) : Type 0 where
+-- The cut is admissible, and its groups are the packets and then the held text, each the frames of its lines. The last
+-- group is sent, and not held, if it is an oversize line or a flush came after it. It is held if it is no oversize line
+-- and neither a flush nor a refused line came after it.
+pub record ArePacketsOf (format : Format) (marks refusals : List ℕ) (lines : List (List ℕ)) (plan : List ℕ) (packets : List (List ℕ))
+    (held : List ℕ) : Type 0 where
   pub admissible : IsAdmissible format.capacity marks (map (size_of format) lines) plan
   pub groups : packets ++ held_packet held ≡ map (stream format) (groups_of plan lines)
   pub flushed : Contains marks (length lines) → held ≡ []
@@ -16,13 +18,14 @@ pub record ArePacketsOf (format : Format) (marks refusals : List ℕ) (lines : L
   pub holds : (before : List (List ℕ)) (line : List ℕ) → lines ≡ before ++ line ∷ [] → is_oversize format line ≡ false
       → ¬ Contains marks (length lines) → ¬ Contains refusals (length lines) → held ≢ []
 
--- the packet is of these metrics, which are free of separators, and of no other list of such metrics
+-- The packet has the lines of these metrics, which are free of separators, and of no other list of such metrics.
 pub record IsPacketOfOnly (metrics : List Metric) (packet : List ℕ) : Type 0 where
   pub free : All IsFreeOfSeparators metrics
   pub reads : IsPacketOf metrics packet
   pub only : (others : List Metric) → All IsFreeOfSeparators others → IsPacketOf others packet → others ≡ metrics
 
--- each packet, and the held text where there is any, reads as one list; joined, the lists are these metrics
+-- Each packet, and the held text if it is not empty, reads as just one list of metrics, and these lists, joined, are
+-- the metrics.
 abbrev pub ReadsAs : List Metric → List (List ℕ) → List ℕ → Type 0
 ReadsAs metrics packets held =
     (lists : List (List Metric)) × (flat_map (λ list. list) lists ≡ metrics) × AllZip IsPacketOfOnly lists (packets ++ held_packet held)

@@ -2,20 +2,21 @@
 use Rattle.std.specs.Prelude.{◌≡◌, ℕ, ◌==◌, if◌then◌else◌, Option, None, Some, List, [], ◌∷◌, ◌++◌, IfSome, codes}
 use Rattle.cadence_text.specs.Metric.{Tag}
 
--- the prefix as it is printed, the default tags in order, and the default container
+-- the prefix as each line begins with it, the default tags in their order, and the default container
 pub record Settings : Type 0 where
   pub prefix : List ℕ
   pub tags : List Tag
   pub container : Option (List ℕ)
 
--- a tag with a key, and one without
+-- a tag with a key
 abbrev pub keyed : List ℕ → List ℕ → Tag
 keyed key text = record { key = Some key; text = text }
 
+-- a tag without a key
 abbrev pub unkeyed : List ℕ → Tag
 unkeyed text = record { key = None; text = text }
 
--- a byte before a text that has no trailing dots
+-- the byte `c` put before a text without trailing dots, unless the text is empty and the byte is a dot (46)
 abbrev pub before_kept : ℕ → List ℕ → List ℕ
 before_kept c [] = if c == 46 then [] else c ∷ []
 before_kept c (x ∷ xs) = c ∷ x ∷ xs
@@ -25,12 +26,13 @@ abbrev pub without_dots : List ℕ → List ℕ
 without_dots [] = []
 without_dots (c ∷ cs) = before_kept c (without_dots cs)
 
--- what a client's prefix prints: an empty one nothing, another its text without its trailing dots, and one dot
+-- what each line of a client begins with: nothing if the prefix is empty; otherwise the prefix without its trailing
+-- dots, and then one dot
 abbrev pub client_prefix : List ℕ → List ℕ
 client_prefix [] = []
 client_prefix (c ∷ cs) = without_dots (c ∷ cs) ++ codes "."
 
--- settings without defaults
+-- settings with this prefix and without defaults
 abbrev pub settings_of : List ℕ → Settings
 settings_of prefix = record { prefix = client_prefix prefix; tags = []; container = None }
 
@@ -42,7 +44,8 @@ with_default_tag s tag = record s { tags = s.tags ++ tag ∷ [] }
 abbrev pub with_default_container : Settings → List ℕ → Settings
 with_default_container s container = record s { container = Some container }
 
--- settings that may be missing, since a growth was refused, after a change of them: what is missing stays so
+-- Settings that may be missing, because memory ran out for an earlier change, are changed: they are missing still, or
+-- are the changed ones, or are missing now because memory ran out.
 abbrev pub Changes : Option Settings → (Settings → Settings) → Option Settings → Type 0
 Changes None change new = new ≡ None
 Changes (Some s) change new = IfSome new (λ t. t ≡ change s)

@@ -1,10 +1,10 @@
-//! Calls that are kept as data.
+//! Calls that are kept as data: a key, a value and options, from which a client makes the metric later.
 ghost use Rattle.std.specs.Prelude.{◌≡◌, OnOk, map};
 ghost use Rattle.std.specs.List.{fold};
 ghost use Rattle.cadence_value.specs.Values.{Converts};
 ghost use Rattle.cadence_text.specs.Metric.{Metric};
 ghost use Rattle.cadence_schedule.specs.Call.{IsDraftOf, chosen};
-ghost use Rattle.cadence_schedule.specs.Calls.{choice_of, kind_of_value, numbers_of_value};
+ghost use Rattle.cadence_schedule.specs.CallData.{choice_of, kind_of_value, numbers_of_value};
 
 use cadence_errors::MetricResult;
 use cadence_text::line::{DraftLine, MetricType, Tag};
@@ -13,7 +13,10 @@ use cadence_value::value::{MetricValue, ToHistogramValue, ToTimerValue};
 use std::alloc::{AllocError, Allocator, Global};
 use std::time::Duration;
 
-/// The value of a call: a variant for each kind of metric and each type that it takes.
+/// The value of a call. Each variant names a kind of metric and a type that this kind takes: `CountI64` changes a
+/// counter by an `i64`, and `TimeVecDuration` sends a list of durations to a timer.
+///
+/// A timer sends durations in milliseconds, a histogram in nanoseconds.
 #[derive(Drop)]
 pub enum CallValue<A: Allocator = Global> {
     CountI64(i64),
@@ -40,30 +43,33 @@ pub enum CallValue<A: Allocator = Global> {
     SetI64(i64),
 }
 
-/// An option of a call. They count in their order: tags add up, and of each other kind the last one counts.
+/// An option of a call. The options of a call apply in their order: each tag is added, and of the containers, the
+/// times and the rates the last one counts.
 #[derive(Drop)]
 pub enum CallOption<A: Allocator = Global> {
     /// A tag with a key.
     Tag(String<A>, String<A>),
     /// A tag without a key.
     TagValue(String<A>),
-    /// The container, in the place of the default one.
+    /// The container, which replaces the default one.
     Container(String<A>),
-    /// The time, in the unit that the server reads (seconds in DogStatsD).
+    /// The time, in the unit that the server expects. DogStatsD expects seconds since 1970.
     Time(u64),
     /// The sampling rate.
     Rate(Decimal),
 }
 
-/// A call of a client as data.
+/// A call of a client, kept as data. The Rust crate has no such type.
 #[derive(Drop)]
 pub struct Call<A: Allocator = Global> {
+    /// The name of the metric. The prefix of the client comes before it.
     pub key: String<A>,
     pub value: CallValue<A>,
     pub options: Vec<CallOption<A>, A>,
 }
 
 impl<A: Allocator> CallValue<A> {
+    // Returns the kind of the metric.
     pub(crate) fn kind(&self) -> MetricType
         ensures { result ≡ kind_of_value self.now }
     {
@@ -94,7 +100,8 @@ impl<A: Allocator> CallValue<A> {
 }
 
 impl<A: Allocator + Clone> CallValue<A> {
-    // The value as a metric has it. A list is copied.
+    // Returns the value as a metric stores it. A list is copied. The error is of kind `InvalidInput` if a duration
+    // passes `u64::MAX` in the unit of its kind, and `SinkError::OutOfMemory` if memory for a list runs out.
     pub(crate) fn convert(&self) -> MetricResult<MetricValue<A>>
         ensures { Converts (numbers_of_value self.now) result }
     {
@@ -125,7 +132,7 @@ impl<A: Allocator + Clone> CallValue<A> {
     }
 }
 
-// Sets an option of a call in the draft of its line.
+// Applies one option of a call to the draft of its line. The only error is that memory ran out.
 fn choose<'a, A: Allocator>(
     draft: &mut DraftLine<'a, A>,
     option: &'a CallOption<A>,
@@ -149,7 +156,7 @@ fn choose<'a, A: Allocator>(
     Ok(())
 }
 
-// Sets the options of a call in the draft of its line, in their order.
+// Applies the options of a call to the draft of its line, in their order. The only error is that memory ran out.
 pub(crate) fn choose_all<'a, A: Allocator>(
     draft: &mut DraftLine<'a, A>,
     options: &'a [CallOption<A>],

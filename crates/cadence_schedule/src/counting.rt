@@ -1,9 +1,9 @@
-//! Counts a writer's answers.
+//! A writer that counts the bytes and the packets that another one took and refused.
 use cadence_errors::SinkError;
 use cadence_flow::io::PacketWriter;
 use cadence_flow::stats::SinkStats;
 
-/// A writer whose answers are counted.
+// A writer, and the sums of the bytes and the packets that it took and refused.
 #[derive(Drop)]
 pub(crate) struct CountingWriter<W: PacketWriter> {
     pub(crate) inner: W,
@@ -14,7 +14,7 @@ impl<W: PacketWriter> CountingWriter<W> {
     ghost use Rattle.std.specs.Prelude.{◌≡◌, ◌<◌, ◌^◌};
     ghost use Rattle.cadence_flow.specs.Sums.{zero_sums};
 
-    /// Counts from zero.
+    // Starts counting, with sums of zero.
     pub(crate) fn new(inner: W) -> CountingWriter<W>
         ensures { result ≡ record { inner = inner; stats = zero_sums } }
     {
@@ -29,7 +29,7 @@ impl<W: PacketWriter> CountingWriter<W> {
         }
     }
 
-    /// The writer.
+    // Returns the writer.
     pub(crate) fn into_inner(self) -> W
         ensures { result ≡ self.inner }
     {
@@ -37,7 +37,7 @@ impl<W: PacketWriter> CountingWriter<W> {
         inner
     }
 
-    /// The writer and the sums.
+    // Returns the writer and the sums.
     pub(crate) fn into_parts(self) -> (W, SinkStats)
         ensures writer { result.0 ≡ self.inner }
         ensures stats { result.1 ≡ self.stats }

@@ -1,22 +1,23 @@
-//! What the definitions imply, as laws that proofs may cite. These functions do nothing.
+//! Laws that follow from the definitions. Each function does nothing when it runs: its contract is a law, and a proof
+//! that needs the law cites the call.
 ghost use Rattle.cadence_schedule.specs.Laws.{LeastPackets, OptionsAreChosen, PacketsReadOneWay};
 
 use cadence_text::laws::packet_reads_one_way;
 
-/// The law of least packets: of all admissible plans, none has fewer groups than a tight one.
+/// States that no admissible plan of packets has fewer packets than a tight plan of the same lines.
 pub fn tight_is_fewest()
     ensures { LeastPackets }
 {}
 
-/// With the newline as ending, packets and held text of lines of metrics that are free of separators read as these
-/// metrics, and as no others.
+/// States that a listener reads back exactly the metrics that were packed, if each line ends in a newline and no text
+/// of the metrics contains a separator.
 pub fn packets_read_one_way()
     ensures { PacketsReadOneWay }
 {
     packet_reads_one_way();
 }
 
-/// What an option chooses in the metric of a call is the metric of the call with that option.
+/// States that applying an option to the metric of a call gives the metric of the call with that option added.
 pub fn an_option_is_chosen()
     ensures { OptionsAreChosen }
 {}

@@ -1,15 +1,15 @@
-//! Plans of packets: how many lines each packet has, by the lines' sizes alone.
+//! Plans that say how many lines each packet has. They need the sizes of the lines alone, and not the lines.
 //!
-//! A size is the number of bytes of a line with its ending. One that passes the capacity is oversize and stands
-//! alone. A mark asks that a packet ends after so many sizes.
-ghost use Rattle.std.specs.Prelude.{◌≡◌, ◌+◌, ◌<◌, ◌≤◌, ◌↔◌, ℕ, List, IsTrue, IfSome, IfNone, IfOk, IfErr, drop, length, sum, All, Contains};
+//! A size is the number of bytes of a line with its ending. A size above the capacity is oversize: its line is a packet
+//! of its own. A mark `p` asks that a packet ends after the first `p` lines, as a flush does.
+ghost use Rattle.std.specs.Prelude.{◌≡◌, ◌+◌, ◌<◌, ◌≤◌, ◌↔◌, IsTrue, IfSome, IfNone, IfOk, drop, length, sum, All, Contains};
 ghost use Rattle.cadence_schedule.specs.Plan.{IsFewest, IsTight, IsTightGroup};
-ghost use Rattle.cadence_errors.specs.Errors.{OnlyWantsMemory};
+ghost use Rattle.cadence_errors.specs.Errors.{MayOnlyRunOutOfMemory};
 
 use cadence_errors::MetricResult;
 use std::alloc::Allocator;
 
-/// What is left of the capacity after these sizes, where they are within it.
+// Returns how many bytes of the capacity these sizes leave, or `None` if their sum passes it.
 fn room_after(group: &[usize], capacity: usize) -> Option<usize>
     ensures room { IfSome result (λ room. room + sum group.now ≡ capacity) }
     ensures none { IfNone result (capacity < sum group.now) }
@@ -24,21 +24,21 @@ fn room_after(group: &[usize], capacity: usize) -> Option<usize>
     Some(room)
 }
 
-/// Whether no mark lies strictly between the two places.
+// Returns whether no mark lies strictly between the two places.
 fn none_between(marks: &[usize], start: usize, end: usize) -> bool
     ensures { IsTrue result ↔ All (λ mark. start < mark → end ≤ mark) marks.now }
 {
     marks.iter().all(|mark| *mark <= start || end <= *mark)
 }
 
-/// Whether there is a mark at this place.
+// Returns whether there is a mark at this place.
 fn is_mark(marks: &[usize], place: usize) -> bool
     ensures { IsTrue result ↔ Contains marks.now place }
 {
     marks.contains(&place)
 }
 
-/// Whether the next `count` sizes from `start` on may be a group that could not have been longer.
+// Returns whether the next `count` sizes from `start` on may share a packet and one more could not be in it.
 fn is_tight_group(
     sizes: &[usize],
     capacity: usize,
@@ -63,11 +63,14 @@ fn is_tight_group(
     }
 }
 
-/// Whether the plan is an admissible and tight cut of these sizes at these marks. Such a plan has the fewest groups.
+/// Returns whether the plan cuts these sizes into packets that respect the capacity and the marks, and none of which
+/// could have had one more line. A plan that passes this check has the fewest packets.
 ///
-/// A mark p asks that a group ends after the first p sizes, where p is below the number of sizes; other marks ask
-/// nothing, and their order and repeats don't matter. Sums may pass `usize::MAX`. It takes no memory. A rule of
-/// this project's own.
+/// Sizes and the capacity are in bytes. The plan lists how many sizes each packet has, in order. A mark `p` asks that a
+/// packet ends after the first `p` sizes. A mark that is not below the number of sizes asks nothing, and the order of
+/// the marks doesn't matter. The sum of the sizes may pass `usize::MAX`. The check takes no memory.
+///
+/// The Rust crate has no such function.
 pub fn check_plan(sizes: &[usize], capacity: usize, marks: &[usize], plan: &[usize]) -> bool
     ensures exact { IsTrue result ↔ IsTight capacity marks.now sizes.now plan.now }
     ensures fewest { IsTrue result → IsFewest capacity marks.now sizes.now plan.now }
@@ -82,7 +85,7 @@ pub fn check_plan(sizes: &[usize], capacity: usize, marks: &[usize], plan: &[usi
     start == sizes.len()
 }
 
-/// How many sizes from `start` on one packet takes: as many as fit, up to the next mark.
+// Returns how many sizes from `start` on go into one packet: as many as fit, up to the next mark.
 fn group_len(sizes: &[usize], capacity: usize, marks: &[usize], start: usize) -> usize
     requires { start < length sizes.now }
     ensures { IsTightGroup capacity marks.now start result (drop start sizes.now) }
@@ -101,11 +104,13 @@ fn group_len(sizes: &[usize], capacity: usize, marks: &[usize], start: usize) ->
     left.len()
 }
 
-/// A plan with the fewest groups, one that `check_plan` accepts: how many sizes each packet has, in order. A rule of
-/// this project's own.
+/// Returns a plan with the fewest packets, which `check_plan` accepts: how many sizes each packet has, in order.
+///
+/// Sizes and the capacity are in bytes. A mark `p` asks that a packet ends after the first `p` sizes. The Rust crate
+/// has no such function.
 ///
 /// # Errors
-/// `SinkError::OutOfMemory` alone, where the plan found no memory.
+/// `SinkError::OutOfMemory` if memory for the plan runs out, and no other.
 pub fn plan_packets<A: Allocator>(
     alloc: A,
     sizes: &[usize],
@@ -114,7 +119,7 @@ pub fn plan_packets<A: Allocator>(
 ) -> MetricResult<Vec<usize, A>>
     ensures tight { IfOk result (λ plan. IsTight capacity marks.now sizes.now plan.items) }
     ensures fewest { IfOk result (λ plan. IsFewest capacity marks.now sizes.now plan.items) }
-    ensures refused { OnlyWantsMemory result }
+    ensures refused { MayOnlyRunOutOfMemory result }
 {
     let mut plan = Vec::new(alloc);
     let mut start = 0;

@@ -1,4 +1,4 @@
-//! What became of a run.
+//! The report of a run: its replies, its packets, and what is left in the queue, in hand and in the packer.
 
 use super::counting::CountingWriter;
 use super::running::Running;
@@ -8,7 +8,8 @@ use cadence_flow::queue::QueueCore;
 use cadence_flow::stats::SinkStats;
 use std::alloc::{Allocator, Global};
 
-/// What became of a run. Its drop writes nothing. A rule of this project's own.
+/// The report of a run, as [`run_schedule_with`](crate::run_schedule_with) returns it. Dropping it sends nothing: the
+/// held text stays unsent. The Rust crate has no such type.
 #[derive(Drop)]
 pub struct Report<W, A: Allocator = Global> {
     pub(crate) replies: Vec<Reply, A>,
@@ -24,50 +25,50 @@ impl<W, A: Allocator> Report<W, A> {
     ghost use Rattle.std.specs.Prelude.{◌≡◌, option_copied};
     ghost use Rattle.cadence_schedule.specs.Report.{outcome_of};
 
-    /// The replies to the steps, one for each, in order.
+    /// Returns the replies, one to each step, in the order of the steps.
     pub fn replies(&self) -> &[Reply]
         ensures { result.now ≡ (outcome_of self.now).replies }
     {
         self.replies.as_slice()
     }
 
-    /// How many lines each packet taken has, in order, and then the held text where it isn't empty. Nothing is said
-    /// of it for a writer that takes a part of a packet.
+    /// Returns how many lines each packet has that the writer took, in order. If the packer still holds text, the last
+    /// number is that of the lines held. For a writer that takes a part of a packet, nothing is promised of it.
     pub fn cut(&self) -> &[usize]
         ensures { result.now ≡ (outcome_of self.now).cut }
     {
         self.cut.as_slice()
     }
 
-    /// The text that the packer still holds, at most its capacity.
+    /// Returns the text that the packer still holds. It has at most as many bytes as the capacity of the packer.
     pub fn held(&self) -> &[u8]
         ensures { result.now ≡ (outcome_of self.now).held }
     {
         self.held.as_slice()
     }
 
-    /// The queue, with the lines that still wait.
+    /// Returns the queue, with the lines that still wait in it and its counts.
     pub fn queue(&self) -> &QueueCore<String<A>, A>
         ensures { result.now ≡ (outcome_of self.now).queue }
     {
         &self.queue
     }
 
-    /// The line that was taken and not yet handed on.
+    /// Returns the line that the worker took from the queue and did not hand to the packer, if there is one.
     pub fn in_hand(&self) -> Option<&str>
         ensures { option_copied result ≡ (outcome_of self.now).in_hand }
     {
         self.in_hand.as_ref().map(|line| line.as_str())
     }
 
-    /// The bytes and packets that the writer took and refused during the run, modulo 2 to the 64.
+    /// Returns how many bytes and packets the writer took and refused during the run, each modulo 2 to the 64.
     pub fn stats(&self) -> SinkStats
         ensures { result ≡ (outcome_of self.now).stats }
     {
         self.stats
     }
 
-    /// The writer, with the packets that it took.
+    /// Returns the writer, with the packets that it took.
     pub fn writer(&self) -> &W
         ensures { result.now ≡ (outcome_of self.now).writer }
     {
@@ -77,10 +78,10 @@ impl<W, A: Allocator> Report<W, A> {
 
 impl<W: PacketWriter, A: Allocator> Report<W, A> {
     ghost use Rattle.std.specs.Prelude.{◌≡◌, ◌<◌, ◌^◌};
-    ghost use Rattle.cadence_schedule.specs.Ran.{outcome_after};
+    ghost use Rattle.cadence_schedule.specs.RunOutcome.{outcome_after};
     ghost use Rattle.cadence_schedule.specs.Report.{outcome_of};
 
-    /// What became of a run that made all its steps.
+    // Makes the report of a run after its last step.
     pub(crate) fn of(running: Running<CountingWriter<W>, A>, replies: Vec<Reply, A>) -> Report<W, A>
         ensures outcome { outcome_of result ≡ outcome_after running replies }
         ensures bytes_sent { (outcome_of result).stats.bytes_sent < 2 ^ 64 }
@@ -88,18 +89,18 @@ impl<W: PacketWriter, A: Allocator> Report<W, A> {
     {
         let Running {
             queue,
-            hand,
+            in_hand,
             packer,
-            plan,
+            cut,
         } = running;
         let (counting, held) = packer.into_parts();
         let (writer, stats) = counting.into_parts();
         Report {
             replies,
-            cut: plan,
+            cut,
             held,
             queue,
-            in_hand: hand,
+            in_hand,
             stats,
             writer,
         }

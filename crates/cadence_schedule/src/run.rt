@@ -1,11 +1,11 @@
-//! Runs of schedules.
+//! The run of a schedule. The contract of `run_schedule_with` is the headline of this project.
 ghost use Rattle.std.specs.Prelude.{◌≡◌, ◌+◌, ◌<◌, ◌≤◌, ◌^◌, [], All, length, vec_len, vec_capacity, IfOk, IfErr};
 ghost use Rattle.std.specs.List.{zip};
 ghost use Rattle.cadence_flow.specs.Queue.{new_queue};
-ghost use Rattle.cadence_text.specs.Said.{IsSaid};
-ghost use Rattle.cadence_schedule.specs.Calls.{line_of_data, metric_of_data};
+ghost use Rattle.cadence_text.specs.Representable.{IsRepresentable};
+ghost use Rattle.cadence_schedule.specs.CallData.{line_of_data, metric_of_data};
 ghost use Rattle.cadence_schedule.specs.Headline.{given_of, HasHeadline, IsAccounted};
-ghost use Rattle.cadence_schedule.specs.History.{accepted, dropped};
+ghost use Rattle.cadence_schedule.specs.RunHistory.{accepted, dropped_count};
 ghost use Rattle.cadence_schedule.specs.Moves.{Runs};
 ghost use Rattle.cadence_schedule.specs.Report.{outcome_of};
 ghost use Rattle.cadence_schedule.specs.Running.{IsAtStart, state_of};
@@ -23,7 +23,7 @@ use cadence_flow::queue::{QueueCore, QueuePolicy};
 use cadence_text::laws::no_line_is_empty;
 use std::alloc::Allocator;
 
-/// The lists of a run: room for the replies and for the cut, and a queue.
+// Makes the lists of a run of `steps` steps: room for the replies and for the cut, and the queue.
 fn own_lists<A: Allocator + Clone>(
     alloc: &A,
     steps: usize,
@@ -32,17 +32,18 @@ fn own_lists<A: Allocator + Clone>(
 ) -> MetricResult<(Vec<Reply, A>, Vec<usize, A>, QueueCore<String<A>, A>)>
     ensures replies { IfOk result (λ lists.
         (lists.0.items ≡ []) × (steps ≤ vec_capacity lists.0)) }
-    ensures plan { IfOk result (λ lists. (lists.1.items ≡ []) × (steps ≤ vec_capacity lists.1)) }
+    ensures cut { IfOk result (λ lists. (lists.1.items ≡ []) × (steps ≤ vec_capacity lists.1)) }
     ensures queue { IfOk result (λ lists. lists.2 ≡ new_queue queue policy) }
     ensures few { IfOk result (λ lists. steps < 2 ^ 64) }
 {
     let replies = Vec::with_capacity(alloc.clone()?, steps)?;
-    let plan = Vec::with_capacity(alloc.clone()?, steps)?;
+    let cut = Vec::with_capacity(alloc.clone()?, steps)?;
     let queue = QueueCore::with_policy(alloc.clone()?, queue, policy)?;
-    Ok((replies, plan, queue))
+    Ok((replies, cut, queue))
 }
 
-/// The run before its first step, with room for the replies and the cut of so many steps.
+// Returns a run before its first step, with room for the replies and the cut of `steps` steps, or the writer if memory
+// runs out.
 fn start<P: PacketWriter, A: Allocator + Clone>(
     alloc: &A,
     capacity: usize,
@@ -56,7 +57,7 @@ fn start<P: PacketWriter, A: Allocator + Clone>(
         IsAtStart capacity ending.now queue policy steps writer begun.0 begun.1) }
     ensures returned { IfErr result (λ back. back ≡ writer) }
 {
-    let Ok((replies, plan, queue)) = own_lists(alloc, steps, queue, policy) else {
+    let Ok((replies, cut, queue)) = own_lists(alloc, steps, queue, policy) else {
         return Err(writer);
     };
     let Ok(second) = alloc.clone() else {
@@ -65,27 +66,27 @@ fn start<P: PacketWriter, A: Allocator + Clone>(
     let packer = LineBuffer::with_ending(second, writer, capacity, ending)?;
     let running = Running {
         queue,
-        hand: None,
+        in_hand: None,
         packer,
-        plan,
+        cut,
     };
     Ok((running, replies))
 }
 
-/// Makes the steps in order, and keeps their replies.
+// Makes the steps in their order and stores their replies.
 fn run_steps<P: PacketWriter, A: Allocator + Clone>(
     settings: &ClientSettings<A>,
     steps: &[Step<A>],
     running: &mut Running<P, A>,
     replies: &mut Vec<Reply, A>,
 )
-    requires plan { vec_len running.old.plan + length steps.now ≤ vec_capacity running.old.plan }
+    requires cut { vec_len running.old.cut + length steps.now ≤ vec_capacity running.old.cut }
     requires replies { (replies.old.items ≡ []) × (length steps.now ≤ vec_capacity replies.old) }
     ensures runs { Runs (line_of_data settings.now) (P.kind running.old.packer.writer)
         running.old.packer.format running.old.queue.capacity running.old.queue.policy
         (state_of P.history running.old)
         (zip steps.now replies.new.items) (state_of P.history running.new) }
-    ensures said { All IsSaid (accepted (metric_of_data settings.now)
+    ensures said { All IsRepresentable (accepted (metric_of_data settings.now)
         (zip steps.now replies.new.items)) }
     ensures one_each { length replies.new.items ≡ length steps.now }
     ensures same_kind { P.kind running.new.packer.writer ≡ P.kind running.old.packer.writer }
@@ -99,20 +100,44 @@ fn run_steps<P: PacketWriter, A: Allocator + Clone>(
     }
 }
 
-/// Runs the steps, in order, over a client of these settings, a queue of this capacity in lines (`None` is no bound)
-/// and this policy, and a packer of this capacity in bytes and this ending over the writer. One worker has at most one
-/// line in hand. Whatever callers and one worker do, each in steps of its own, is such a list.
+/// Runs a schedule and returns its report.
 ///
-/// After any list of metric calls, worker steps, flushes and stops, packets then held text are, in acceptance order,
-/// the grammar's lines of the accepted calls handed on and taken, each with its ending, oversize ones alone without;
-/// none is split, a refusal has its stated cause and leaves no byte, and where the writer refused nothing, no cut that
-/// ends at every flush has fewer packets.
+/// A schedule is a list of steps: what callers, one worker and whoever flushes or stops do to one client, in the order
+/// in which they do it. Anything that several callers and one worker can do, each in steps of its own, is such a list.
+/// Between the callers and the worker is a queue of `queue` lines (`None` means no bound), and the worker hands lines
+/// to a packer, which packs them into packets of at most `capacity` bytes for `writer`.
 ///
-/// `HasHeadline` of specs/Headline.antt says it in five fields, each with its premise; `IsAccounted` says what stands
-/// beside it.
+/// - `Call` formats the line of a call with the settings and puts it into the queue. If the queue is full, `policy`
+///   says whether the call is refused or the oldest line is dropped for it.
+/// - `Take` moves the oldest line of the queue into the worker's hand, which has one line at most.
+/// - `Hand` gives the line in hand to the packer. The packer appends it and `ending` to the text that it holds. If
+///   there is no room, it sends the held text as a packet first. A line that with its ending passes the capacity is
+///   oversize: it is sent at once, as a packet of its own and without the ending.
+/// - `Flush` sends the held text as a packet.
+/// - `Stop` stops the queue: from then on calls are refused, and the lines that wait may still be taken.
+///
+/// The report has the reply to each step, the numbers of lines in the packets, the text that the packer still holds,
+/// the queue and the line in hand as they are at the end, the bytes and packets sent and refused, and the writer.
+///
+/// The contract promises the following. `HasHeadline` of specs/Headline.antt states it in five fields, and
+/// `IsAccounted` adds the sums, the packets sent before the run, and what a listener reads.
+///
+/// 1. The packets of the run, joined, and then the held text are exactly the lines that were accepted, taken, and kept
+///    by the packer, in order, each with its ending (an oversize line without).
+/// 2. No line is split between packets, no packet passes the capacity except that of an oversize line, and a packet
+///    ends at each flush that returned `Ok`.
+/// 3. Each reply is the one that the steps before it call for, and the queue, its counts and the line in hand are what
+///    these steps leave; so each refusal has one of its stated causes and leaves nothing behind.
+/// 4. As many hands and flushes were answered with an error as the writer refused packets, modulo 2 to the 64.
+/// 5. If the writer refused no packet, no way to pack the same lines that ends a packet at each flush has fewer
+///    packets.
+///
+/// Number 3 holds for every writer, number 4 for one that takes each packet whole or refuses it, and the others for one
+/// that does so and tells which packets it took. The Rust crate has no such function.
 ///
 /// # Errors
-/// The writer comes back where the run's own lists or the packer's room found no memory. No step was made then.
+/// The writer is returned if memory for the lists of the run or for the buffer of the packer runs out. No step was made
+/// then. If memory runs out in a step, the reply to that step says so.
 pub fn run_schedule_with<W: PacketWriter, A: Allocator + Clone>(
     alloc: A,
     settings: &ClientSettings<A>,
@@ -129,6 +154,7 @@ pub fn run_schedule_with<W: PacketWriter, A: Allocator + Clone>(
         × IsAccounted W.history given (outcome_of report)) }
     ensures returned { IfErr result (λ back. back ≡ writer) }
 {
+    // Laws, for the proof alone: no code comes of them.
     no_line_is_empty();
     tight_is_fewest();
     packets_read_one_way();
@@ -150,10 +176,12 @@ pub fn run_schedule_with<W: PacketWriter, A: Allocator + Clone>(
     }
 }
 
-/// `run_schedule_with` over a queue that refuses lines when it is full, so that none is dropped.
+/// Runs a schedule as [`run_schedule_with`] does, with a queue that refuses lines when it is full. So no line is
+/// dropped.
 ///
 /// # Errors
-/// Those of `run_schedule_with`.
+/// The writer is returned if memory for the lists of the run or for the buffer of the packer runs out. No step was made
+/// then.
 pub fn run_schedule<W: PacketWriter, A: Allocator + Clone>(
     alloc: A,
     settings: &ClientSettings<A>,
@@ -168,7 +196,7 @@ pub fn run_schedule<W: PacketWriter, A: Allocator + Clone>(
         IfOk result (λ report. HasHeadline W.history given (outcome_of report)
         × IsAccounted W.history given (outcome_of report)) }
     ensures none_dropped { IfOk result (λ report.
-        dropped (zip steps.now (outcome_of report).replies) ≡ 0) }
+        dropped_count (zip steps.now (outcome_of report).replies) ≡ 0) }
     ensures returned { IfErr result (λ back. back ≡ writer) }
 {
     let refuse = QueuePolicy::Refuse;

@@ -1,4 +1,4 @@
-//! A run at one of its steps.
+//! The state of a run between two steps, and what each step does to it.
 ghost use Rattle.std.specs.Prelude.{◌+◌, ◌<◌, ◌≤◌, IsTrue, vec_len, vec_capacity};
 ghost use Rattle.cadence_schedule.specs.Moves.{HasLast, Counted};
 
@@ -10,45 +10,46 @@ use cadence_flow::io::{LineBuffer, PacketWriter};
 use cadence_flow::queue::{QueueCore, Taken};
 use std::alloc::{Allocator, Global};
 
-/// The queue, the worker's hand and the packer, and how many lines each packet has, the held text as the last one.
+// The queue, the line in the worker's hand, the packer over its writer, and the cut: how many lines each packet has,
+// the held text counted as the last packet.
 #[derive(Drop)]
 pub(crate) struct Running<P: PacketWriter, A: Allocator = Global> {
     pub(crate) queue: QueueCore<String<A>, A>,
-    pub(crate) hand: Option<String<A>>,
+    pub(crate) in_hand: Option<String<A>>,
     pub(crate) packer: LineBuffer<P, A>,
-    pub(crate) plan: Vec<usize, A>,
+    pub(crate) cut: Vec<usize, A>,
 }
 
-/// Counts a line in the last group, or in a group of its own.
-fn count_line<A: Allocator>(plan: &mut Vec<usize, A>, joins: bool)
-    requires { vec_len plan.old < vec_capacity plan.old }
-    ensures counted { (IsTrue joins → HasLast plan.old.items) →
-        Counted joins plan.old.items plan.new.items }
-    ensures length { vec_len plan.new ≤ vec_len plan.old + 1 }
-    ensures room { vec_capacity plan.old ≤ vec_capacity plan.new }
+// Counts a line in the last packet of the cut if it joins the held text, and in a new packet otherwise.
+fn count_line<A: Allocator>(cut: &mut Vec<usize, A>, joins: bool)
+    requires { vec_len cut.old < vec_capacity cut.old }
+    ensures counted { (IsTrue joins → HasLast cut.old.items) →
+        Counted joins cut.old.items cut.new.items }
+    ensures length { vec_len cut.new ≤ vec_len cut.old + 1 }
+    ensures room { vec_capacity cut.old ≤ vec_capacity cut.new }
 {
-    if joins && !plan.is_empty() {
-        let last = plan.len() - 1;
-        plan[last] = plan[last].saturating_add(1);
+    if joins && !cut.is_empty() {
+        let last = cut.len() - 1;
+        cut[last] = cut[last].saturating_add(1);
     } else {
-        let Ok(()) = plan.push(1) else { unreachable!() };
+        let Ok(()) = cut.push(1) else { unreachable!() };
     }
 }
 
 impl<P: PacketWriter, A: Allocator + Clone> Running<P, A> {
     ghost use Rattle.std.specs.Prelude.{◌≡◌, ◌<◌, All, vec_len, vec_capacity};
-    ghost use Rattle.cadence_text.specs.Said.{IsSaid};
-    ghost use Rattle.cadence_schedule.specs.Calls.{line_of_data, metric_of_data};
-    ghost use Rattle.cadence_schedule.specs.History.{accepted_by};
+    ghost use Rattle.cadence_text.specs.Representable.{IsRepresentable};
+    ghost use Rattle.cadence_schedule.specs.CallData.{line_of_data, metric_of_data};
+    ghost use Rattle.cadence_schedule.specs.RunHistory.{accepted_by};
     ghost use Rattle.cadence_schedule.specs.Moves.{joins_held};
     ghost use Rattle.cadence_schedule.specs.Running.{MakesTurn};
     ghost use Rattle.cadence_schedule.specs.declared.steps.Step.TheVariants as step;
 
-    /// Makes the line of a call and submits it.
+    // Formats the line of a call and puts it into the queue.
     fn call(&mut self, settings: &ClientSettings<A>, call: &Call<A>) -> Reply
         ensures turn { MakesTurn P.kind P.history (line_of_data settings.now)
             self.old (step.Call call.now, result) self.new }
-        ensures said { All IsSaid (accepted_by (metric_of_data settings.now)
+        ensures said { All IsRepresentable (accepted_by (metric_of_data settings.now)
             (step.Call call.now, result)) }
     {
         let line = match settings.line_of(call) {
@@ -63,18 +64,18 @@ impl<P: PacketWriter, A: Allocator + Clone> Running<P, A> {
         }
     }
 
-    /// Takes the oldest line into the hand.
+    // Takes the oldest line of the queue into the hand, if the hand is empty.
     fn take(&mut self) -> Reply
         ensures { (line_of : _) →
             MakesTurn P.kind P.history line_of self.old (step.Take, result) self.new }
     {
-        if self.hand.is_some() {
+        if self.in_hand.is_some() {
             return Reply::Busy;
         }
         match self.queue.take() {
             Taken::Text(line) => {
                 let length = line.len();
-                self.hand = Some(line);
+                self.in_hand = Some(line);
                 Reply::Text(length)
             }
             Taken::Empty => Reply::Empty,
@@ -82,34 +83,34 @@ impl<P: PacketWriter, A: Allocator + Clone> Running<P, A> {
         }
     }
 
-    /// Whether a line would join the text that the packer holds.
+    // Returns whether the packer holds text that has room for this line and its ending.
     fn joins_held(&self, line: &str) -> bool
         ensures { result ≡ joins_held self.now.packer.format self.now.packer.held line.now }
     {
         !self.packer.held().is_empty() && self.packer.fits(line.as_bytes())
     }
 
-    /// Hands the line in hand to the packer, and counts it where it was kept.
+    // Hands the line in hand to the packer, and counts it if it was kept.
     fn hand(&mut self) -> Reply
-        requires { vec_len self.old.plan < vec_capacity self.old.plan }
+        requires { vec_len self.old.cut < vec_capacity self.old.cut }
         ensures { (line_of : _) →
             MakesTurn P.kind P.history line_of self.old (step.Hand, result) self.new }
     {
-        let Some(line) = self.hand.take() else {
+        let Some(line) = self.in_hand.take() else {
             return Reply::Nothing;
         };
         let joins = self.joins_held(line.as_str());
         let mut fault = SinkError::NothingWritten;
         match self.packer.write(line.as_bytes(), &mut fault) {
             Some(count) => {
-                count_line(&mut self.plan, joins);
+                count_line(&mut self.cut, joins);
                 Reply::Handed(Ok(count))
             }
             None => Reply::Handed(Err(fault)),
         }
     }
 
-    /// Has the packer send what it holds.
+    // Sends the text that the packer holds.
     fn flush(&mut self) -> Reply
         ensures { (line_of : _) →
             MakesTurn P.kind P.history line_of self.old (step.Flush, result) self.new }
@@ -118,7 +119,7 @@ impl<P: PacketWriter, A: Allocator + Clone> Running<P, A> {
         Reply::Flushed(self.packer.flush(&mut fault).ok_or(fault))
     }
 
-    /// Stops the queue.
+    // Stops the queue.
     fn stop(&mut self) -> Reply
         ensures { (line_of : _) →
             MakesTurn P.kind P.history line_of self.old (step.Stop, result) self.new }
@@ -127,12 +128,13 @@ impl<P: PacketWriter, A: Allocator + Clone> Running<P, A> {
         Reply::Stopped
     }
 
-    /// Makes one step.
+    // Makes one step and returns the reply to it.
     pub(crate) fn step(&mut self, settings: &ClientSettings<A>, step: &Step<A>) -> Reply
-        requires { vec_len self.old.plan < vec_capacity self.old.plan }
+        requires { vec_len self.old.cut < vec_capacity self.old.cut }
         ensures turn { MakesTurn P.kind P.history (line_of_data settings.now)
             self.old (step.now, result) self.new }
-        ensures said { All IsSaid (accepted_by (metric_of_data settings.now) (step.now, result)) }
+        ensures said { All IsRepresentable
+            (accepted_by (metric_of_data settings.now) (step.now, result)) }
     {
         match step {
             Step::Call(call) => self.call(settings, call),

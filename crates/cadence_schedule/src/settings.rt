@@ -1,4 +1,5 @@
-//! What a client adds to each call.
+//! The settings of a client: the prefix, the default tags and the default container that it adds to each call, and the
+//! lines and drafts of calls with them. `record` makes records of calls in place of lines.
 mod record;
 
 ghost use Rattle.std.specs.Prelude.{◌≡◌, IfOk, IfErr, IfSome, OnOk, Some, string_bytes};
@@ -6,24 +7,24 @@ ghost use Rattle.std.specs.Option.{option_copied};
 ghost use Rattle.cadence_errors.specs.Errors.{out_of_memory};
 ghost use Rattle.cadence_text.specs.Draft.{draft_of};
 ghost use Rattle.cadence_text.specs.Line.{line_of};
-ghost use Rattle.cadence_text.specs.Said.{IsSaid};
+ghost use Rattle.cadence_text.specs.Representable.{IsRepresentable};
 ghost use Rattle.cadence_value.specs.Values.{numbers_of};
 ghost use Rattle.cadence_schedule.specs.Settings.{client_prefix, without_dots, settings_of, with_default_tag, with_default_container};
 ghost use Rattle.cadence_schedule.specs.Call.{metric_of_call, plain_call};
-ghost use Rattle.cadence_schedule.specs.Calls.{line_of_data, metric_of_data};
+ghost use Rattle.cadence_schedule.specs.CallData.{line_of_data, metric_of_data};
 ghost use Rattle.cadence_schedule.specs.Moves.{LineFails};
 
 use super::call::{Call, choose_all};
 use cadence_errors::MetricResult;
-use cadence_text::line::{DraftLine, Head, MetricType, OwnedTag, TagsText, lend};
+use cadence_text::line::{DraftLine, Head, MetricType, OwnedTag, TagsText, lend_tag};
 use cadence_value::value::MetricValue;
 use std::alloc::{AllocError, Allocator, Global};
 use std::marker::Model;
 
-// The bytes for a call's own tags and other options that a draft reserves beside what it begins with.
+// How many bytes a draft reserves for the tags and other options of the call itself.
 const OWN_BYTES: usize = 96;
 
-// The text without its trailing dots.
+// Returns the text without its trailing dots.
 fn without_trailing_dots(prefix: &str) -> &str
     ensures { result.now ≡ without_dots prefix.now }
 {
@@ -34,7 +35,7 @@ fn without_trailing_dots(prefix: &str) -> &str
     kept
 }
 
-// The prefix as it is printed.
+// Returns the prefix as each line begins with it. The only error is that memory ran out.
 fn formatted_prefix<A: Allocator>(alloc: A, prefix: &str) -> Result<String<A>, AllocError>
     ensures { IfOk result (λ s. string_bytes s ≡ client_prefix prefix.now) }
 {
@@ -50,12 +51,12 @@ fn formatted_prefix<A: Allocator>(alloc: A, prefix: &str) -> Result<String<A>, A
 
 /// What a client adds to each call: its prefix, its default tags and its default container.
 ///
-/// Contracts see it as `Settings`.
+/// Contracts see the value as a `Settings` of the definitions.
 #[derive(Drop)]
 pub struct ClientSettings<A: Allocator = Global> {
     prefix: String<A>,
     tags: Vec<OwnedTag<A>, A>,
-    // the tags as they stand in a line
+    // The tags as a line has them, so that a call copies one text.
     text: TagsText<A>,
     container: Option<String<A>>,
 }
@@ -78,10 +79,13 @@ impl<A: Allocator> Model for ClientSettings<A> {
 impl<A: Allocator + Clone> ClientSettings<A> {
     ghost use Rattle.cadence_errors.specs.Errors.{Makes};
 
-    /// Settings of a prefix, without defaults.
+    /// Returns settings with this prefix, without default tags and without a default container.
     ///
-    /// An empty prefix prints nothing. Another loses all its trailing dots and gains one, as in cadence. Refuses with
-    /// kind `OutOfMemory` alone.
+    /// An empty prefix adds nothing to a name. Any other prefix loses its trailing dots, and then one dot is added. The
+    /// Rust crate does so too.
+    ///
+    /// # Errors
+    /// `SinkError::OutOfMemory`, and no other.
     pub fn new(alloc: A, prefix: &str) -> MetricResult<ClientSettings<A>>
         ensures { Makes (settings_of prefix.now) result }
     {
@@ -93,7 +97,10 @@ impl<A: Allocator + Clone> ClientSettings<A> {
         })
     }
 
-    /// Adds a default tag after the others. Refuses with kind `OutOfMemory` alone, and then changes nothing.
+    /// Adds a default tag after those that the settings have: `key:text`, or `text` alone if `key` is `None`.
+    ///
+    /// # Errors
+    /// `SinkError::OutOfMemory`, and no other. After an error the settings are unchanged.
     pub fn add_tag(&mut self, key: Option<&str>, text: &str) -> MetricResult<()>
         ensures ok { OnOk result (self.new ≡
             with_default_tag self.old (record { key = option_copied key.entry; text = text.now })) }
@@ -107,13 +114,15 @@ impl<A: Allocator + Clone> ClientSettings<A> {
         let text = String::from_str(alloc.clone()?, text)?;
         let tag = (key, text);
         self.tags.reserve(1)?;
-        self.text.add(lend(&tag))?;
+        self.text.add(lend_tag(&tag))?;
         self.tags.push_reserved(tag);
         Ok(())
     }
 
-    /// Sets the default container, in the place of an earlier one. Refuses with kind `OutOfMemory` alone, and then
-    /// changes nothing.
+    /// Sets the default container, which replaces an earlier one.
+    ///
+    /// # Errors
+    /// `SinkError::OutOfMemory`, and no other. After an error the settings are unchanged.
     pub fn set_container(&mut self, container: &str) -> MetricResult<()>
         ensures ok { OnOk result (self.new ≡ with_default_container self.old container.now) }
         ensures err { IfErr result (λ e. (e ≡ out_of_memory) × (self.new ≡ self.old)) }
@@ -123,7 +132,7 @@ impl<A: Allocator + Clone> ClientSettings<A> {
         Ok(())
     }
 
-    // The default container.
+    // Returns the default container.
     #[inline(always)]
     fn container(&self) -> Option<&str>
         ensures { option_copied result ≡ (self.now).container }
@@ -131,8 +140,10 @@ impl<A: Allocator + Clone> ClientSettings<A> {
         self.container.as_ref().map(|id| id.as_str())
     }
 
-    /// The draft of a call without options, with these defaults in it, and with room for some tags. Its one error is
-    /// want of memory.
+    /// Returns the draft of the line of a call without options. The draft begins with the prefix and has the default
+    /// tags and the default container, and room for some tags of the call itself. Its buffer is allocated at once.
+    ///
+    /// The only error is that memory ran out.
     #[inline(always)]
     pub fn draft<'a>(
         &'a self,
@@ -143,12 +154,13 @@ impl<A: Allocator + Clone> ClientSettings<A> {
         ensures draft { IfOk result (λ draft. draft ≡
             draft_of (metric_of_call self.now (plain_call kind key.now (numbers_of value)))) }
         ensures said { OnOk result
-            (IsSaid (metric_of_call self.now (plain_call kind key.now (numbers_of value)))) }
+            (IsRepresentable
+            (metric_of_call self.now (plain_call kind key.now (numbers_of value)))) }
     {
         self.draft_with(key, kind, value, OWN_BYTES)
     }
 
-    // As `draft`, with room for so many bytes beside what the line begins with.
+    // Returns what `draft` returns, with room for `room` bytes of options.
     #[inline(always)]
     fn draft_with<'a>(
         &'a self,
@@ -160,7 +172,8 @@ impl<A: Allocator + Clone> ClientSettings<A> {
         ensures draft { IfOk result (λ draft. draft ≡
             draft_of (metric_of_call self.now (plain_call kind key.now (numbers_of value)))) }
         ensures said { OnOk result
-            (IsSaid (metric_of_call self.now (plain_call kind key.now (numbers_of value)))) }
+            (IsRepresentable
+            (metric_of_call self.now (plain_call kind key.now (numbers_of value)))) }
     {
         let head = Head {
             prefix: &self.prefix,
@@ -172,7 +185,8 @@ impl<A: Allocator + Clone> ClientSettings<A> {
         DraftLine::new(alloc, &head, self.text.as_str(), self.container(), room)
     }
 
-    /// As `draft`, in a kept buffer, which loses its text. It takes memory only if the buffer is too short.
+    /// Returns what `draft` returns, but writes it into a buffer of the caller's, whose text is lost. It takes memory
+    /// only if the buffer is too short. The only error is that memory ran out, and then the buffer is freed.
     #[inline(always)]
     pub fn draft_in_buffer<'a>(
         &'a self,
@@ -199,8 +213,10 @@ impl<A: Allocator + Clone> ClientSettings<A> {
         )
     }
 
-    /// The line of a call without options, with these defaults in it. Takes memory for the line alone, by one request
-    /// for just its length. Its one error is want of memory.
+    /// Returns the line of a call without options, with the prefix and the defaults of these settings. It takes memory
+    /// by one request, of just the length of the line.
+    ///
+    /// The only error is that memory ran out.
     pub fn line(
         &self,
         key: &str,
@@ -217,17 +233,18 @@ impl<A: Allocator + Clone> ClientSettings<A> {
         self.draft_with(key, kind, value, room)?.into_text()
     }
 
-    /// The line of a call that is kept as data, with these defaults and its options in it. It is drafted as a client's
-    /// builder drafts it.
+    /// Returns the line of a call that is kept as data, with the prefix and the defaults of these settings and the
+    /// options of the call. It is made by the same drafts as the lines of a client's builder.
     ///
     /// # Errors
-    /// `InvalidInput` (`u64 overflow`) if and only if a duration of the call passes `u64::MAX` in the unit of its kind,
-    /// before memory is taken; else `OutOfMemory` alone.
+    /// An error of kind `InvalidInput` (`u64 overflow`) if and only if a duration of the call passes `u64::MAX` in the
+    /// unit of its kind, which is milliseconds for a timer and nanoseconds for a histogram; no memory is taken then.
+    /// Otherwise the only error is `SinkError::OutOfMemory`.
     pub fn line_of<'a>(&'a self, call: &'a Call<A>) -> MetricResult<String<A>>
         ensures line { IfOk result (λ line.
             line_of_data self.now call.now ≡ Some (string_bytes line)) }
         ensures refused { IfErr result (LineFails (line_of_data self.now call.now)) }
-        ensures said { OnOk result (IfSome (metric_of_data self.now call.now) IsSaid) }
+        ensures said { OnOk result (IfSome (metric_of_data self.now call.now) IsRepresentable) }
     {
         let value = call.value.convert()?;
         let mut draft = self.draft(&call.key, call.value.kind(), value)?;

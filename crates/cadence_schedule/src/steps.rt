@@ -4,43 +4,51 @@ use super::call::Call;
 use cadence_errors::{MetricResult, SinkError};
 use std::alloc::{Allocator, Global};
 
-/// One step of a schedule. A rule of this project's own.
+/// One step of a schedule. Callers make calls; one worker takes lines from the queue and hands them to the packer.
+///
+/// The Rust crate has no such type.
 #[derive(Drop)]
 pub enum Step<A: Allocator = Global> {
-    /// A caller makes a metric and submits its line to the queue.
+    /// A caller makes a call: its line is formatted and put into the queue.
     Call(Call<A>),
-    /// The worker takes the queue's oldest line into its hand.
+    /// The worker takes the oldest line from the queue into its hand.
     Take,
     /// The worker hands the line in its hand to the packer.
     Hand,
-    /// The packer sends what it holds.
+    /// The packer sends the text that it holds, as one packet.
     Flush,
-    /// The queue is stopped.
+    /// The queue is stopped: it takes no more lines, and those that wait may still be taken.
     Stop,
 }
 
-/// What a step was answered. A rule of this project's own.
+/// The reply to a step of a schedule. The Rust crate has no such type.
 #[derive(Drop)]
 pub enum Reply {
-    /// To a call: the length of its line in bytes, or why it was refused.
+    /// The reply to a call: the length of its line in bytes, or an error. Its kind is `InvalidInput` if a duration of
+    /// the call passes `u64::MAX` in its unit; otherwise it is `SinkError::ChannelDisconnected` if the queue is
+    /// stopped, `SinkError::ChannelFull` if the queue is full and drops no line, or `SinkError::OutOfMemory`. After an
+    /// error the queue is unchanged.
     Called(MetricResult<usize>),
-    /// To a call whose line found the queue full, which dropped its oldest line for it: the lengths of both in bytes,
-    /// that of the call's line first.
+    /// The reply to a call whose line was accepted by a full queue, which dropped its oldest line for it: the length of
+    /// the call's line and the length of the dropped line, in bytes.
     CallDropped(usize, usize),
-    /// To a take: the length in bytes of the line that is now in hand.
+    /// The reply to a take that found a line: its length in bytes. The line is now in hand.
     Text(usize),
-    /// To a take: no line waits, and more may come.
+    /// The reply to a take if no line waits and the queue is not stopped.
     Empty,
-    /// To a take: the queue is stopped, and no line waits.
+    /// The reply to a take if no line waits and the queue is stopped.
     Ended,
-    /// To a take: a line is in hand already, and nothing changed.
+    /// The reply to a take if a line is in hand already. Nothing changed.
     Busy,
-    /// To a hand: how many bytes of the line were kept, or why it was refused. The line left the hand.
+    /// The reply to a hand: how many bytes of the line the packer kept, or an error: the one with which the writer
+    /// refused a packet, or `NothingWritten` if it took 0 bytes of held text. The hand is empty after both. Of an
+    /// oversize line a writer may take fewer bytes than the line has.
     Handed(Result<usize, SinkError>),
-    /// To a hand: nothing is in hand.
+    /// The reply to a hand if no line is in hand. Nothing changed.
     Nothing,
-    /// To a flush: whether all that was held was sent.
+    /// The reply to a flush: `Ok` if the packer holds no more text, or an error: the one with which the writer refused
+    /// the packet, or `NothingWritten` if it took 0 bytes. After an error the packer holds the text that was not sent.
     Flushed(Result<(), SinkError>),
-    /// To a stop.
+    /// The reply to a stop.
     Stopped,
 }

@@ -1,15 +1,15 @@
-//! The calls of a script.
+//! Reads the calls of a script: a kind, a key, a value and options.
 ghost use Rattle.std.specs.Prelude.{◌≤◌};
 ghost use Rattle.cadence_script.specs.Words.{bytes_left};
 
-use crate::words::{LineError, Words, number, signed_number, text_of};
+use crate::words::{BadLine, LineError, Words, number, signed_number, text_of};
 use cadence_schedule::{Call, CallOption, CallValue};
 use cadence_text::line::MetricType;
 use cadence_value::decimal::Decimal;
 use std::alloc::Allocator;
 use std::time::Duration;
 
-/// What stands between the commas of a list.
+// An item of a list, in which commas separate the items.
 trait Item: Drop {
     fn read(item: &str) -> Result<Self, LineError>;
 }
@@ -20,35 +20,35 @@ impl Item for u64 {
     }
 }
 
-/// A number and its places, as in `-5/1`.
+// A decimal: its mantissa and its decimal places, as in `-5/1` for -0.5.
 impl Item for Decimal {
     fn read(item: &str) -> Result<Decimal, LineError> {
         let Some((mantissa, places)) = item.split_once('/') else {
-            return Err(LineError::Unreadable);
+            return Err(LineError::Unreadable(BadLine));
         };
         match Decimal::new(signed_number(mantissa)?, number(places)?) {
             Ok(decimal) => Ok(decimal),
-            Err(_) => Err(LineError::Unreadable),
+            Err(_) => Err(LineError::Unreadable(BadLine)),
         }
     }
 }
 
-/// Seconds and nanoseconds, as in `1/500000000`.
+// A duration: its seconds and its nanoseconds, as in `1/500000000` for 1.5 seconds.
 impl Item for Duration {
     fn read(item: &str) -> Result<Duration, LineError> {
         let Some((seconds, nanoseconds)) = item.split_once('/') else {
-            return Err(LineError::Unreadable);
+            return Err(LineError::Unreadable(BadLine));
         };
         let seconds: u64 = number(seconds)?;
         let nanoseconds: u32 = number(nanoseconds)?;
         if nanoseconds > 999_999_999 {
-            return Err(LineError::Unreadable);
+            return Err(LineError::Unreadable(BadLine));
         }
         Ok(Duration::new(seconds, nanoseconds))
     }
 }
 
-// The items, which are joined by commas. There may be none.
+// Returns the items between the commas. An empty text has no items.
 fn list_of<T: Item, A: Allocator>(alloc: A, items: &str) -> Result<Vec<T, A>, LineError> {
     let mut list = Vec::new(alloc);
     if items.is_empty() {
@@ -60,7 +60,7 @@ fn list_of<T: Item, A: Allocator>(alloc: A, items: &str) -> Result<Vec<T, A>, Li
     Ok(list)
 }
 
-/// A value as it is written, before its kind is looked at.
+// A value as the script writes it. Each kind of metric takes some of these forms.
 #[derive(Drop)]
 enum Form<A: Allocator> {
     Signed(i64),
@@ -74,7 +74,7 @@ enum Form<A: Allocator> {
 
 fn form_of<A: Allocator>(alloc: A, word: &str) -> Result<Form<A>, LineError> {
     let Some((letter, items)) = word.split_once(':') else {
-        return Err(LineError::Unreadable);
+        return Err(LineError::Unreadable(BadLine));
     };
     match letter {
         "i" => Ok(Form::Signed(signed_number(items)?)),
@@ -84,14 +84,14 @@ fn form_of<A: Allocator>(alloc: A, word: &str) -> Result<Form<A>, LineError> {
         "X" => Ok(Form::DecimalList(list_of(alloc, items)?)),
         "t" => Ok(Form::Duration(Item::read(items)?)),
         "T" => Ok(Form::DurationList(list_of(alloc, items)?)),
-        _ => Err(LineError::Unreadable),
+        _ => Err(LineError::Unreadable(BadLine)),
     }
 }
 
 fn kind_of(word: &str) -> Result<MetricType, LineError> {
     match MetricType::from_text(word.as_bytes()) {
         Some(kind) => Ok(kind),
-        None => Err(LineError::Unreadable),
+        None => Err(LineError::Unreadable(BadLine)),
     }
 }
 
@@ -99,7 +99,7 @@ fn count_of<A: Allocator>(form: Form<A>) -> Result<CallValue<A>, LineError> {
     match form {
         Form::Signed(n) => Ok(CallValue::CountI64(n)),
         Form::Unsigned(n) => Ok(CallValue::CountU64(n)),
-        _ => Err(LineError::Unreadable),
+        _ => Err(LineError::Unreadable(BadLine)),
     }
 }
 
@@ -109,7 +109,7 @@ fn time_of<A: Allocator>(form: Form<A>) -> Result<CallValue<A>, LineError> {
         Form::UnsignedList(ns) => Ok(CallValue::TimeVecU64(ns)),
         Form::Duration(d) => Ok(CallValue::TimeDuration(d)),
         Form::DurationList(ds) => Ok(CallValue::TimeVecDuration(ds)),
-        _ => Err(LineError::Unreadable),
+        _ => Err(LineError::Unreadable(BadLine)),
     }
 }
 
@@ -117,14 +117,14 @@ fn gauge_of<A: Allocator>(form: Form<A>) -> Result<CallValue<A>, LineError> {
     match form {
         Form::Unsigned(n) => Ok(CallValue::GaugeU64(n)),
         Form::Decimal(d) => Ok(CallValue::GaugeDecimal(d)),
-        _ => Err(LineError::Unreadable),
+        _ => Err(LineError::Unreadable(BadLine)),
     }
 }
 
 fn meter_of<A: Allocator>(form: Form<A>) -> Result<CallValue<A>, LineError> {
     match form {
         Form::Unsigned(n) => Ok(CallValue::MeterU64(n)),
-        _ => Err(LineError::Unreadable),
+        _ => Err(LineError::Unreadable(BadLine)),
     }
 }
 
@@ -136,14 +136,14 @@ fn histogram_of<A: Allocator>(form: Form<A>) -> Result<CallValue<A>, LineError> 
         Form::DecimalList(ds) => Ok(CallValue::HistogramVecDecimal(ds)),
         Form::Duration(d) => Ok(CallValue::HistogramDuration(d)),
         Form::DurationList(ds) => Ok(CallValue::HistogramVecDuration(ds)),
-        Form::Signed(_) => Err(LineError::Unreadable),
+        Form::Signed(_) => Err(LineError::Unreadable(BadLine)),
     }
 }
 
 fn set_of<A: Allocator>(form: Form<A>) -> Result<CallValue<A>, LineError> {
     match form {
         Form::Signed(n) => Ok(CallValue::SetI64(n)),
-        _ => Err(LineError::Unreadable),
+        _ => Err(LineError::Unreadable(BadLine)),
     }
 }
 
@@ -153,11 +153,11 @@ fn distribution_of<A: Allocator>(form: Form<A>) -> Result<CallValue<A>, LineErro
         Form::UnsignedList(ns) => Ok(CallValue::DistributionVecU64(ns)),
         Form::Decimal(d) => Ok(CallValue::DistributionDecimal(d)),
         Form::DecimalList(ds) => Ok(CallValue::DistributionVecDecimal(ds)),
-        _ => Err(LineError::Unreadable),
+        _ => Err(LineError::Unreadable(BadLine)),
     }
 }
 
-// The value of a kind. Each kind has some of the forms.
+// Returns the call's value. It is an error if the kind doesn't take values of this form.
 fn value_of<A: Allocator>(kind: MetricType, form: Form<A>) -> Result<CallValue<A>, LineError> {
     match kind {
         MetricType::Counter => count_of(form),
@@ -170,7 +170,7 @@ fn value_of<A: Allocator>(kind: MetricType, form: Form<A>) -> Result<CallValue<A
     }
 }
 
-// A tag with a key, of which its two words are read.
+// Reads a tag from its two words: the key and the text.
 fn tag_of<A: Allocator + Clone>(
     alloc: &A,
     words: &mut Words<'_>,
@@ -182,7 +182,7 @@ fn tag_of<A: Allocator + Clone>(
     Ok(CallOption::Tag(key, text))
 }
 
-// The option of this name.
+// Reads the words of the option with this name.
 fn option_of<A: Allocator + Clone>(
     alloc: &A,
     name: &str,
@@ -196,11 +196,14 @@ fn option_of<A: Allocator + Clone>(
         "container" => Ok(CallOption::Container(text_of(alloc.clone()?, words.word()?)?)),
         "time" => Ok(CallOption::Time(number(words.word()?)?)),
         "rate" => Ok(CallOption::Rate(Item::read(words.word()?)?)),
-        _ => Err(LineError::Unreadable),
+        _ => Err(LineError::Unreadable(BadLine)),
     }
 }
 
-/// A call, of which the first word is read: its kind, key, value and options.
+/// Reads a call from its words: the kind, the key, the value and any options.
+///
+/// # Errors
+/// `Unreadable` if the words are no call, and `OutOfMemory`.
 pub fn call_of<A: Allocator + Clone>(
     alloc: &A,
     words: &mut Words<'_>,

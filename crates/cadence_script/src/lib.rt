@@ -1,4 +1,10 @@
-//! The script of `statsd_schedule`: its lines, its calls, the run over a packet log, and the report.
+//! The engine of `statsd_schedule`: it reads a script, runs its schedule over a packet log, and prints the report.
+//!
+//! - `calls`: reads the calls of a script.
+//! - `engine`: runs a script, over any reader and writers.
+//! - `print`: prints the report of a run.
+//! - `script`: reads the settings and the steps of a script.
+//! - `words`: reads the words of a line.
 #![tactic(auto)]
 
 mod calls;

@@ -1,10 +1,10 @@
-//! The report of a run, line by line.
-use cadence_console::push_text;
+//! Prints the report of a run, line by line.
+use cadence_cli::push_text;
 use cadence_flow::io::{Answer, PacketLog};
 use cadence_schedule::{Reply, Report};
 use std::alloc::{AllocError, Allocator};
 
-// One step's reply.
+// Adds the line of one step's reply.
 fn push_reply<A: Allocator>(out: &mut String<A>, reply: &Reply) -> Result<(), AllocError> {
     match reply {
         Reply::Called(Ok(length)) => writeln!(out, "call ok {length}"),
@@ -25,7 +25,8 @@ fn push_reply<A: Allocator>(out: &mut String<A>, reply: &Reply) -> Result<(), Al
     }
 }
 
-// The numbers of lines in each packet, and then in the held text.
+// Adds the line `cut`, with the number of lines in each packet, and last in the held text. If an answer of the log was
+// short, these numbers are not known.
 fn push_cut<A: Allocator>(
     out: &mut String<A>,
     cut: &[usize],
@@ -44,7 +45,7 @@ fn push_cut<A: Allocator>(
     out.push('\n')
 }
 
-// What the queue and the hand hold.
+// Adds the lines that wait in the queue, and then the line that the worker has in hand.
 fn push_waiting<A: Allocator>(
     out: &mut String<A>,
     report: &Report<PacketLog<A>, A>,
@@ -61,8 +62,8 @@ fn push_waiting<A: Allocator>(
     }
 }
 
-/// The report as text: a line for each reply, the packets, the held text, what waits, the line in hand, the cut and the
-/// sums.
+/// Returns the text of a report: a line for each reply, the packets, the held text, the lines that wait, the line in
+/// hand, the cut, and the sums of bytes and packets that were sent and dropped.
 pub fn report_text<A: Allocator>(
     alloc: A,
     report: &Report<PacketLog<A>, A>,

@@ -1,26 +1,27 @@
-//! The script: settings first, and then steps.
+//! Reads a script: its settings, and then its steps.
 
 use crate::calls::call_of;
-use crate::words::{LineError, Words, number, text_of};
+use crate::words::{BadLine, LineError, Words, number, text_of};
+use cadence_cli::ReportError;
 use cadence_errors::MetricError;
-use cadence_flow::io::Answer;
+use cadence_flow::io::{Answer, DEFAULT_CAPACITY};
 use cadence_flow::queue::QueuePolicy;
 use cadence_schedule::{ClientSettings, Step};
 use std::alloc::{AllocError, Allocator};
+use thiserror::Error;
 
-/// The capacity of the packer where no line sets it, in bytes.
-const DEFAULT_CAPACITY: usize = 512;
-
-/// Why a script is not read.
-#[derive(Clone, Copy, Debug, PartialEq, Eq)]
+/// Why a text is not a script.
+#[derive(Clone, Copy, Debug, Error)]
 pub enum ScriptError {
-    /// The first line that can't be read, counted from 1, empty lines counted.
+    /// The line with this number can't be read. The first line has the number 1, and empty lines count.
+    #[error("line {0}: cannot read")]
     Line(usize),
-    /// A growth was refused.
-    OutOfMemory,
+    /// The text is not UTF-8.
+    #[error("input: not UTF-8")]
+    NotUtf8,
 }
 
-/// What a script asks for.
+/// The settings and the steps of a script.
 #[derive(Drop)]
 pub struct Script<A: Allocator> {
     alloc: A,
@@ -32,23 +33,25 @@ pub struct Script<A: Allocator> {
     pub container: Option<String<A>>,
     /// The packer's capacity, in bytes.
     pub capacity: usize,
-    /// What follows each line in a packet.
+    /// The text that follows each line in a packet.
     pub ending: String<A>,
-    /// The queue's capacity, in lines.
+    /// The queue's capacity, in lines. `None` is a queue without a limit.
     pub queue: Option<usize>,
-    /// What a full queue does with one line more.
+    /// What a full queue does with a new line.
     pub policy: QueuePolicy,
-    /// The answers of the packet log.
+    /// The answers of the packet log, in order.
     pub answers: Vec<Answer, A>,
     /// The steps, in order.
     pub steps: Vec<Step<A>, A>,
 }
 
+// Returns an empty list. With this function and `first_texts`, `Script::new` has few places at which memory can run
+// out, and so its check takes less time.
 fn empty<T, A: Allocator + Clone>(alloc: &A) -> Result<Vec<T, A>, AllocError> {
     Ok(Vec::new(alloc.clone()?))
 }
 
-// The prefix and the ending of a script that names none.
+// Returns the prefix and the ending of a script that doesn't set them.
 fn first_texts<A: Allocator + Clone>(alloc: &A) -> Result<(String<A>, String<A>), AllocError> {
     let prefix = String::new(alloc.clone()?);
     let ending = String::from_str(alloc.clone()?, "\n")?;
@@ -56,7 +59,7 @@ fn first_texts<A: Allocator + Clone>(alloc: &A) -> Result<(String<A>, String<A>)
 }
 
 impl<A: Allocator + Clone> Script<A> {
-    /// The script without any line.
+    /// Returns the script without any lines.
     pub fn new(alloc: A) -> Result<Script<A>, AllocError> {
         let (prefix, ending) = first_texts(&alloc)?;
         let (tags, answers, steps) = (empty(&alloc)?, empty(&alloc)?, empty(&alloc)?);
@@ -74,7 +77,10 @@ impl<A: Allocator + Clone> Script<A> {
         })
     }
 
-    /// The settings of the client. They are refused for want of memory alone.
+    /// Returns the settings of the client.
+    ///
+    /// # Errors
+    /// Only if memory runs out.
     pub fn settings(&self) -> Result<ClientSettings<A>, MetricError> {
         let mut settings = ClientSettings::new(self.alloc.clone()?, &self.prefix)?;
         for (key, text) in &self.tags {
@@ -90,12 +96,12 @@ impl<A: Allocator + Clone> Script<A> {
         Ok(settings)
     }
 
-    // The next word as a text.
+    // Reads the next word as a text.
     fn next_text(&self, words: &mut Words<'_>) -> Result<String<A>, LineError> {
         text_of(self.alloc.clone()?, words.word()?)
     }
 
-    // A default tag, with or without a key.
+    // Reads a default tag, with or without a key.
     fn read_tag(&mut self, has_key: bool, words: &mut Words<'_>) -> Result<(), LineError> {
         let key = if has_key {
             Some(self.next_text(words)?)
@@ -107,7 +113,7 @@ impl<A: Allocator + Clone> Script<A> {
         Ok(())
     }
 
-    // The answers of the packet log: at least one. They replace those of an earlier line.
+    // Reads the answers of the packet log. A line has at least one, and they replace the answers of an earlier line.
     fn read_answers(&mut self, words: &mut Words<'_>) -> Result<(), LineError> {
         let mut answers = Vec::new(self.alloc.clone()?);
         answers.push(answer_of(words.word()?)?)?;
@@ -129,12 +135,12 @@ impl<A: Allocator + Clone> Script<A> {
             "queue" => self.queue = Some(number(words.word()?)?),
             "policy" => self.policy = policy_of(words.word()?)?,
             "writer" => self.read_answers(words)?,
-            _ => return Err(LineError::Unreadable),
+            _ => return Err(LineError::Unreadable(BadLine)),
         }
         Ok(())
     }
 
-    // The step of this name, where there is one.
+    // Reads the words of the step with this name. Returns `None` if no step has this name.
     fn step_of(&self, name: &str, words: &mut Words<'_>) -> Result<Option<Step<A>>, LineError> {
         match name {
             "call" => Ok(Some(Step::Call(call_of(&self.alloc, words)?))),
@@ -146,53 +152,60 @@ impl<A: Allocator + Clone> Script<A> {
         }
     }
 
-    // A line that is not empty. A setting stands before the first step.
+    // Reads a line that is not empty. All settings come before the first step.
     fn read_line(&mut self, line: &str) -> Result<(), LineError> {
         let mut words = Words::new(line);
         let name = words.word()?;
         match self.step_of(name, &mut words)? {
             Some(step) => self.steps.push(step)?,
             None if self.steps.is_empty() => self.read_setting(name, &mut words)?,
-            None => return Err(LineError::Unreadable),
+            None => return Err(LineError::Unreadable(BadLine)),
         }
         words.end()
     }
 }
 
-// What a full queue does with one line more.
+// Returns what a full queue does with a new line.
 fn policy_of(word: &str) -> Result<QueuePolicy, LineError> {
     match word {
         "refuse" => Ok(QueuePolicy::Refuse),
         "drop" => Ok(QueuePolicy::DropOldest),
-        _ => Err(LineError::Unreadable),
+        _ => Err(LineError::Unreadable(BadLine)),
     }
 }
 
-// An answer of the packet log.
+// Returns the answer of the packet log that a word names.
 fn answer_of(word: &str) -> Result<Answer, LineError> {
     match word {
         "whole" => Ok(Answer::Whole),
         "refuse" => Ok(Answer::Refuse),
         _ => match word.strip_prefix("short:") {
             Some(count) => Ok(Answer::Short(number(count)?)),
-            None => Err(LineError::Unreadable),
+            None => Err(LineError::Unreadable(BadLine)),
         },
     }
 }
 
-/// Reads a script whole, up to the first line that can't be read.
-pub fn read_script<A: Allocator + Clone>(alloc: A, text: &str) -> Result<Script<A>, ScriptError> {
-    let Ok(mut script) = Script::new(alloc) else {
-        return Err(ScriptError::OutOfMemory);
-    };
+/// Reads a whole script.
+///
+/// # Errors
+/// `Unusable` with the first line that can't be read, and `OutOfMemory`.
+pub fn read_script<A: Allocator + Clone>(
+    alloc: A,
+    text: &str,
+) -> Result<Script<A>, ReportError<ScriptError>> {
+    let mut script = Script::new(alloc)?;
     for (index, line) in text.split('\n').enumerate() {
         if line.is_empty() {
             continue;
         }
         match script.read_line(line) {
             Ok(()) => {}
-            Err(LineError::Unreadable) => return Err(ScriptError::Line(index.saturating_add(1))),
-            Err(LineError::OutOfMemory) => return Err(ScriptError::OutOfMemory),
+            Err(LineError::Unreadable(BadLine)) => {
+                let number = index.saturating_add(1);
+                return Err(ReportError::Unusable(ScriptError::Line(number)));
+            }
+            Err(LineError::OutOfMemory) => return Err(ReportError::OutOfMemory),
         }
     }
     Ok(script)

@@ -1,44 +1,34 @@
-//! The words of a line, and the texts and numbers that they stand for.
+//! Reads the words of a line, and the texts and numbers that they stand for.
 ghost use Rattle.std.specs.Prelude.{◌<◌, ◌≤◌, IfOk, IsSome};
 ghost use Rattle.cadence_script.specs.Words.{bytes_left};
 
-use std::alloc::{AllocError, AllocFailed, Allocator};
+use cadence_cli::ReadError;
+use std::alloc::Allocator;
 use std::str::FromStr;
 
-/// Why a line is not read.
+/// A line, or a part of one, is not what a script may have there.
 #[derive(Clone, Copy, Debug, PartialEq, Eq)]
-pub enum LineError {
-    /// It is no line of a script.
-    Unreadable,
-    /// A growth was refused.
-    OutOfMemory,
-}
+pub struct BadLine;
 
-impl From<AllocError> for LineError {
-    fn from(_error: AllocError) -> LineError {
-        LineError::OutOfMemory
-    }
-}
+/// Why a line is not read.
+pub type LineError = ReadError<BadLine>;
 
-impl<T: Drop> From<AllocFailed<T>> for LineError {
-    fn from(_error: AllocFailed<T>) -> LineError {
-        LineError::OutOfMemory
-    }
-}
-
-/// The words of a line that are left, with one space between each two.
+/// The words of a line that were not read yet. One space separates two words.
 #[derive(Clone, Copy)]
 pub struct Words<'a> {
     rest: Option<&'a str>,
 }
 
 impl<'a> Words<'a> {
-    /// All words of a line.
+    /// Returns all words of a line.
     pub fn new(line: &'a str) -> Words<'a> {
         Words { rest: Some(line) }
     }
 
-    /// The next word, where there is one. An empty word makes the line unreadable.
+    /// Returns the next word, or `None` after the last one.
+    ///
+    /// # Errors
+    /// `Unreadable` if the next word is empty.
     pub fn next(&mut self) -> Result<Option<&'a str>, LineError>
         ensures fewer { IfOk result (λ word.
             IsSome word → bytes_left self.new < bytes_left self.old) }
@@ -58,31 +48,41 @@ impl<'a> Words<'a> {
             }
         };
         if word.is_empty() {
-            return Err(LineError::Unreadable);
+            return Err(LineError::Unreadable(BadLine));
         }
         Ok(Some(word))
     }
 
-    /// The next word, which has to be there.
+    /// Returns the next word.
+    ///
+    /// # Errors
+    /// `Unreadable` if there is no word left, or if the next word is empty.
     pub fn word(&mut self) -> Result<&'a str, LineError>
         ensures { bytes_left self.new ≤ bytes_left self.old }
     {
         match self.next()? {
             Some(word) => Ok(word),
-            None => Err(LineError::Unreadable),
+            None => Err(LineError::Unreadable(BadLine)),
         }
     }
 
-    /// That no word is left.
+    /// Checks that no word is left.
+    ///
+    /// # Errors
+    /// `Unreadable` if a word is left.
     pub fn end(&mut self) -> Result<(), LineError> {
         match self.next()? {
-            Some(_) => Err(LineError::Unreadable),
+            Some(_) => Err(LineError::Unreadable(BadLine)),
             None => Ok(()),
         }
     }
 }
 
-/// The text that a word stands for: `\\` is a backslash, `\n` a newline, `\s` a space and `\e` nothing.
+/// Returns the text that a word stands for: `\\` stands for a backslash, `\n` for a newline, `\s` for a space and `\e`
+/// for no text at all.
+///
+/// # Errors
+/// `Unreadable` if another character follows a backslash, or if nothing follows it, and `OutOfMemory`.
 pub fn text_of<A: Allocator>(alloc: A, word: &str) -> Result<String<A>, LineError> {
     let mut text = String::with_capacity(alloc, word.len())?;
     let mut is_escaped = false;
@@ -92,19 +92,19 @@ pub fn text_of<A: Allocator>(alloc: A, word: &str) -> Result<String<A>, LineErro
             (true, 'n') => text.push('\n')?,
             (true, 's') => text.push(' ')?,
             (true, 'e') => {}
-            (true, _) => return Err(LineError::Unreadable),
+            (true, _) => return Err(LineError::Unreadable(BadLine)),
             (false, '\\') => {}
             (false, _) => text.push(c)?,
         }
         is_escaped = !is_escaped && c == '\\';
     }
     if is_escaped {
-        return Err(LineError::Unreadable);
+        return Err(LineError::Unreadable(BadLine));
     }
     Ok(text)
 }
 
-// Whether the word is `0`, or digits that don't begin with 0.
+// Returns whether the word is `0`, or digits that don't begin with 0.
 fn is_number(word: &str) -> bool {
     let digits = word.as_bytes();
     match digits.first() {
@@ -114,28 +114,34 @@ fn is_number(word: &str) -> bool {
     }
 }
 
-/// The number that a word stands for.
+/// Returns the whole number that a word stands for. It has no sign and no needless zeros.
+///
+/// # Errors
+/// `Unreadable` if the word is no such number, or if the type `N` doesn't have it.
 pub fn number<N: FromStr<Err: Drop>>(word: &str) -> Result<N, LineError> {
     if !is_number(word) {
-        return Err(LineError::Unreadable);
+        return Err(LineError::Unreadable(BadLine));
     }
     match word.parse() {
         Ok(n) => Ok(n),
-        Err(_) => Err(LineError::Unreadable),
+        Err(_) => Err(LineError::Unreadable(BadLine)),
     }
 }
 
-/// The number that a word stands for, where one minus may stand before a number that is not 0.
+/// Returns the whole number that a word stands for. A minus may come before a number that is not 0.
+///
+/// # Errors
+/// `Unreadable` if the word is no such number, or if the type `N` doesn't have it.
 pub fn signed_number<N: FromStr<Err: Drop>>(word: &str) -> Result<N, LineError> {
     let is_signed = match word.strip_prefix('-') {
         Some(digits) => is_number(digits) && digits != "0",
         None => is_number(word),
     };
     if !is_signed {
-        return Err(LineError::Unreadable);
+        return Err(LineError::Unreadable(BadLine));
     }
     match word.parse() {
         Ok(n) => Ok(n),
-        Err(_) => Err(LineError::Unreadable),
+        Err(_) => Err(LineError::Unreadable(BadLine)),
     }
 }

@@ -1,5 +1,6 @@
--- Input that comes piece by piece, and what a packer took of its texts.
-use Rattle.std.proofs.Common.{◌≡◌, ◌≢◌, ℕ, ◌++◌, List, [], ◌∷◌, length, take, refl, sym, ap, ap₂, ◌∙◌, subst, eqb, arith, true, false, if◌then◌else◌, Option, Some, None, Result, Ok}
+-- Input that arrives piece by piece, and the lines that a packer takes of its texts.
+use Rattle.std.proofs.Common.{◌≡◌, ◌≢◌, ℕ, ◌++◌, List, [], ◌∷◌, length, take, refl, sym, ap, ap₂, ◌∙◌, subst, eqb, arith, true, false}
+use Rattle.std.proofs.Common.{if◌then◌else◌, Option, Some, None, Result, Ok}
 use Rattle.std.specs.Prelude.{All, IfSome, IfOk}
 use Rattle.std.specs.Io.KnownBytes.{Consumes}
 use Rattle.std.specs.List.{AllByRecursion, AllZip}
@@ -11,48 +12,56 @@ use Rattle.std.proofs.lemmas.List.Splits.{slice_split_none, slice_split_at}
 use Rattle.cadence_errors.specs.declared.SinkError.{SinkError}
 use Rattle.cadence_flow.specs.Frame.{Format, frame, frame_of, is_oversize, stream}
 use Rattle.cadence_flow.specs.Packer.{FlushesHeld, Packer, WritesLine, given_by, whole_text}
-use Rattle.cadence_flow.specs.Writer.{History, Kind}
-use Rattle.cadence_send.specs.Fed.{Feeds, IsOneText, ended}
+use Rattle.cadence_flow.specs.Writer.{PacketHistory, WriterKind}
+use Rattle.cadence_send.specs.Fed.{Feeds, IsOneText, with_newlines}
 use Rattle.cadence_send.specs.Sent.{AreLinesOf, Gives, SendsTexts, TakesLines, TakesTexts, texts_of}
-use Rattle.cadence_send.specs.declared.defaults.Defaults.{Defaults}
+use Rattle.cadence_send.specs.declared.options.Defaults.{Defaults}
 
--- a text without a newline is one text
+-- A text without a newline is one text.
 one_text : (text : List ℕ) → IsOneText text → texts_of text ≡ text ∷ []
 one_text text h = slice_split_none (λ b. eqb b 10) text (λ k d inside. ne_eqb _ 10 (h k d inside))
 
--- ended texts are cut off one by one
-pub texts_of-ended : (texts : List (List ℕ)) (rest : List ℕ) → All IsOneText texts → texts_of (ended texts ++ rest) ≡ texts ++ texts_of rest
-texts_of-ended texts rest h = by_text texts (recursion_from_All IsOneText texts h)
+-- Texts with a newline after each are cut at their newlines into the same texts.
+pub texts_of-with_newlines : (texts : List (List ℕ)) (rest : List ℕ) → All IsOneText texts
+    → texts_of (with_newlines texts ++ rest) ≡ texts ++ texts_of rest
+texts_of-with_newlines texts rest h = by_text texts (recursion_from_All IsOneText texts h)
   where
-    by_text : (ts : List (List ℕ)) → AllByRecursion IsOneText ts → texts_of (ended ts ++ rest) ≡ ts ++ texts_of rest
+    by_text : (ts : List (List ℕ)) → AllByRecursion IsOneText ts → texts_of (with_newlines ts ++ rest) ≡ ts ++ texts_of rest
     by_text [] h = refl
     by_text (t ∷ ts) (one, others) =
-        ap texts_of (append_assoc (t ++ 10 ∷ []) (ended ts) rest ∙ append_assoc t (10 ∷ []) (ended ts ++ rest))
-        ∙ slice_split_at (λ b. eqb b 10) t 10 (ended ts ++ rest) (λ k d inside. ne_eqb _ 10 (one k d inside)) refl
+        ap texts_of (append_assoc (t ++ 10 ∷ []) (with_newlines ts) rest ∙ append_assoc t (10 ∷ []) (with_newlines ts ++ rest))
+        ∙ slice_split_at (λ b. eqb b 10) t 10 (with_newlines ts ++ rest) (λ k d inside. ne_eqb _ 10 (one k d inside)) refl
         ∙ ap (λ ps. t ∷ ps) (by_text ts others)
 
-zip_append : {A B : Type 0} (R : A → B → Type 0) (xs : List A) (ys : List B) (us : List A) (vs : List B) → AllZip R xs ys → AllZip R us vs → AllZip R (xs ++ us) (ys ++ vs)
+zip_append : {A B : Type 0} (R : A → B → Type 0) (xs : List A) (ys : List B) (us : List A) (vs : List B) → AllZip R xs ys → AllZip R us vs
+    → AllZip R (xs ++ us) (ys ++ vs)
 zip_append R [] [] us vs h k = k
 zip_append R [] (y ∷ ys) us vs h k = absurd h
 zip_append R (x ∷ xs) [] us vs h k = absurd h
 zip_append R (x ∷ xs) (y ∷ ys) us vs (h, hs) k = (h, zip_append R xs ys us vs hs k)
 
--- the lines of more texts
-lines_more : {Z : Type 0} (d : Defaults Z) (texts more : List (List ℕ)) (lines others : List (List ℕ)) → AreLinesOf d texts lines → AreLinesOf d more others → AreLinesOf d (texts ++ more) (lines ++ others)
-lines_more d texts more lines others (given, zip, are) (given', zip', are') =
-    (given ++ given', zip_append (Gives d) texts given more given' zip zip', ap₂ (λ a b. a ++ b) are are' ∙ sym (filter_map-append (λ o. o) given given'))
+-- The lines of texts and then of more texts are the lines of all of them.
+lines_more : {Z : Type 0} (d : Defaults Z) (texts more : List (List ℕ)) (lines others : List (List ℕ)) → AreLinesOf d texts lines
+    → AreLinesOf d more others → AreLinesOf d (texts ++ more) (lines ++ others)
+lines_more d texts more lines others (given, zip, are) (given', zip', are') = (
+  given ++ given',
+  zip_append (Gives d) texts given more given' zip zip',
+  ap₂ (λ a b. a ++ b) are are'
+      ∙ sym (filter_map-append (λ o. o) given given'),
+)
 
-module _ {W : Type 0} (kind : W → Kind) (history : W → History) where
-  -- nothing, and then more
+module _ {W : Type 0} (kind : W → WriterKind) (history : W → PacketHistory) where
+  -- A packer that takes lines and then more lines takes all of them.
   pub takes_none : (p : Packer W) → TakesLines kind history p p []
   takes_none p = record { same_kind = refl; same_format = refl; text = λ tells whole. sym (append-nil (whole_text (history p.writer) p.held)) }
 
-  pub takes_more : (p q r : Packer W) (lines others : List (List ℕ)) → TakesLines kind history p q lines → TakesLines kind history q r others → TakesLines kind history p r (lines ++ others)
+  pub takes_more : (p q r : Packer W) (lines others : List (List ℕ)) → TakesLines kind history p q lines
+      → TakesLines kind history q r others → TakesLines kind history p r (lines ++ others)
   takes_more p q r lines others h k = record {
     same_kind = k.same_kind ∙ h.same_kind;
     same_format = k.same_format ∙ h.same_format;
     text = λ tells whole.
-        k.text (ap (λ (x : Kind). x.tells) h.same_kind ∙ tells) (ap (λ (x : Kind). x.takes_whole) h.same_kind ∙ whole)
+        k.text (ap (λ (x : WriterKind). x.tells) h.same_kind ∙ tells) (ap (λ (x : WriterKind). x.takes_whole) h.same_kind ∙ whole)
         ∙ ap₂ (λ t f. t ++ stream f others) (h.text tells whole) h.same_format
         ∙ append_assoc (whole_text (history p.writer) p.held) (stream p.format lines) (stream p.format others)
         ∙ ap (λ s. whole_text (history p.writer) p.held ++ s) (sym (flat_map-append (frame p.format) lines others));
@@ -65,8 +74,9 @@ module _ {W : Type 0} (kind : W → Kind) (history : W → History) where
       by_size true = take_all n line (omega (arith, e))
       by_size false = refl
 
-  -- a line that is written
-  pub write_takes : (p q : Packer W) (line : List ℕ) (n : ℕ) (r : Result ℕ SinkError) → r ≡ Ok n → WritesLine kind history p q line r → TakesLines kind history p q (line ∷ [])
+  -- A packer to which a line is written takes that line.
+  pub write_takes : (p q : Packer W) (line : List ℕ) (n : ℕ) (r : Result ℕ SinkError) → r ≡ Ok n → WritesLine kind history p q line r
+      → TakesLines kind history p q (line ∷ [])
   write_takes p q line n r e h = record {
     same_kind = h.same_kind;
     same_format = h.same_format;
@@ -76,7 +86,7 @@ module _ {W : Type 0} (kind : W → Kind) (history : W → History) where
         ∙ ap (λ t. whole_text (history p.writer) p.held ++ t) (frame_whole p.format line n count ∙ sym (append-nil (frame p.format line)));
   }
 
-  -- a flush takes no lines
+  -- A flush takes no lines.
   pub flush_takes : {A : Type 0} (p q : Packer W) (r : Result A SinkError) → FlushesHeld kind history p q r → TakesLines kind history p q []
   flush_takes p q r h = record {
     same_kind = h.same_kind;
@@ -88,24 +98,26 @@ module _ {W : Type 0} (kind : W → Kind) (history : W → History) where
     pub texts_none : (p : Packer W) → TakesTexts d kind history p p []
     texts_none p = record { lines = []; are = ([], tt, refl); takes = takes_none p }
 
-    pub texts_more : (p q r : Packer W) (texts more : List (List ℕ)) → TakesTexts d kind history p q texts → TakesTexts d kind history q r more → TakesTexts d kind history p r (texts ++ more)
+    pub texts_more : (p q r : Packer W) (texts more : List (List ℕ)) → TakesTexts d kind history p q texts
+        → TakesTexts d kind history q r more → TakesTexts d kind history p r (texts ++ more)
     texts_more p q r texts more h k = record {
       lines = h.lines ++ k.lines;
       are = lines_more d texts more h.lines k.lines h.are k.are;
       takes = takes_more p q r h.lines k.lines h.takes k.takes;
     }
 
-    -- a text with a line, which is taken, and one without
-    pub text_taken : (p q : Packer W) (text line : List ℕ) → Gives d text (Some line) → TakesLines kind history p q (line ∷ []) → TakesTexts d kind history p q (text ∷ [])
+    -- The text asks for a metric, whose line is taken; or it asks for no metric, and no line is taken.
+    pub text_taken : (p q : Packer W) (text line : List ℕ) → Gives d text (Some line) → TakesLines kind history p q (line ∷ [])
+        → TakesTexts d kind history p q (text ∷ [])
     text_taken p q text line given takes = record { lines = line ∷ []; are = (Some line ∷ [], (given, tt), refl); takes = takes }
 
     pub text_without : (p : Packer W) (text : List ℕ) → Gives d text None → TakesTexts d kind history p p (text ∷ [])
     text_without p text given = record { lines = []; are = (None ∷ [], (given, tt), refl); takes = takes_none p }
 
-    -- the texts of bytes of which some are left
+    -- Bytes waited, and more bytes arrived. Some of these are left: the texts before them were taken, or wait.
     pub record Feeding (p q : Packer W) (before bytes waiting left : List ℕ) : Type 0 where
       pub texts : List (List ℕ)
-      pub cut : before ++ bytes ≡ ended texts ++ (waiting ++ left)
+      pub cut : before ++ bytes ≡ with_newlines texts ++ (waiting ++ left)
       pub each : All IsOneText texts
       pub rest : IsOneText waiting
       pub taken : TakesTexts d kind history p q texts
@@ -113,27 +125,34 @@ module _ {W : Type 0} (kind : W → Kind) (history : W → History) where
     pub feeding_none : (p : Packer W) (before bytes : List ℕ) → IsOneText before → Feeding p p before bytes before bytes
     feeding_none p before bytes one = record { texts = []; cut = refl; each = All-nil IsOneText; rest = one; taken = texts_none p }
 
-    -- one text more
-    pub feeding_more : (p q r : Packer W) (before bytes waiting left front others : List ℕ) → Feeding p q before bytes waiting left → left ≡ front ++ 10 ∷ others → IsOneText front → TakesTexts d kind history q r ((waiting ++ front) ∷ []) → Feeding p r before bytes [] others
+    -- One more text ends and is taken.
+    pub feeding_more : (p q r : Packer W) (before bytes waiting left front others : List ℕ) → Feeding p q before bytes waiting left
+        → left ≡ front ++ 10 ∷ others → IsOneText front → TakesTexts d kind history q r ((waiting ++ front) ∷ [])
+        → Feeding p r before bytes [] others
     feeding_more p q r before bytes waiting left front others h cut one more = record {
       texts = h.texts ++ (waiting ++ front) ∷ [];
       cut = h.cut
-          ∙ ap (λ l. ended h.texts ++ (waiting ++ l)) cut
-          ∙ ap (λ l. ended h.texts ++ l) (sym (append_assoc waiting front (10 ∷ others)) ∙ sym (append_assoc (waiting ++ front) (10 ∷ []) others))
-          ∙ sym (append_assoc (ended h.texts) ((waiting ++ front) ++ 10 ∷ []) others)
-          ∙ ap (λ l. l ++ others) (ap (λ l. ended h.texts ++ l) (sym (append-nil ((waiting ++ front) ++ 10 ∷ []))) ∙ sym (flat_map-append (λ text. text ++ 10 ∷ []) h.texts ((waiting ++ front) ∷ [])));
-      each = All-append IsOneText h.texts ((waiting ++ front) ∷ []) h.each (All-cons IsOneText (waiting ++ front) [] (All-append (λ b. b ≢ 10) waiting front h.rest one) (All-nil IsOneText));
+          ∙ ap (λ l. with_newlines h.texts ++ (waiting ++ l)) cut
+          ∙ ap (λ l. with_newlines h.texts ++ l)
+          (sym (append_assoc waiting front (10 ∷ others)) ∙ sym (append_assoc (waiting ++ front) (10 ∷ []) others))
+          ∙ sym (append_assoc (with_newlines h.texts) ((waiting ++ front) ++ 10 ∷ []) others)
+          ∙ ap (λ l. l ++ others) (ap (λ l. with_newlines h.texts ++ l) (sym (append-nil ((waiting ++ front) ++ 10 ∷ [])))
+          ∙ sym (flat_map-append (λ text. text ++ 10 ∷ []) h.texts ((waiting ++ front) ∷ [])));
+      each =
+          All-append IsOneText h.texts ((waiting ++ front) ∷ []) h.each
+          (All-cons IsOneText (waiting ++ front) [] (All-append (λ b. b ≢ 10) waiting front h.rest one) (All-nil IsOneText));
       rest = All-nil (λ b. b ≢ 10);
       taken = texts_more p q r h.texts ((waiting ++ front) ∷ []) h.taken more;
     }
 
-    -- bytes after bytes
-    pub fed_more : (p q r : Packer W) (first more waiting after : List ℕ) → Feeds d kind history p q [] first waiting → Feeds d kind history q r waiting more after → Feeds d kind history p r [] (first ++ more) after
+    -- Bytes arrive, and then more bytes.
+    pub fed_more : (p q r : Packer W) (first more waiting after : List ℕ) → Feeds d kind history p q [] first waiting
+        → Feeds d kind history q r waiting more after → Feeds d kind history p r [] (first ++ more) after
     fed_more p q r first more waiting after h k = record {
       texts = h.texts ++ k.texts;
-      cut = ap (λ f. f ++ more) h.cut ∙ append_assoc (ended h.texts) waiting more
-          ∙ ap (λ l. ended h.texts ++ l) k.cut
-          ∙ sym (append_assoc (ended h.texts) (ended k.texts) after)
+      cut = ap (λ f. f ++ more) h.cut ∙ append_assoc (with_newlines h.texts) waiting more
+          ∙ ap (λ l. with_newlines h.texts ++ l) k.cut
+          ∙ sym (append_assoc (with_newlines h.texts) (with_newlines k.texts) after)
           ∙ ap (λ l. l ++ after) (sym (flat_map-append (λ text. text ++ 10 ∷ []) h.texts k.texts));
       each = All-append IsOneText h.texts k.texts h.each k.each;
       rest = k.rest;
@@ -143,8 +162,9 @@ module _ {W : Type 0} (kind : W → Kind) (history : W → History) where
     pub fed_none : (p : Packer W) → Feeds d kind history p p [] [] []
     fed_none p = record { texts = []; cut = refl; each = All-nil IsOneText; rest = All-nil (λ b. b ≢ 10); taken = texts_none p }
 
-    -- a flush after it
-    pub fed_flushed : (p q r : Packer W) (first waiting : List ℕ) → Feeds d kind history p q [] first waiting → TakesLines kind history q r [] → Feeds d kind history p r [] first waiting
+    -- Bytes arrive, and then the held text is sent.
+    pub fed_flushed : (p q r : Packer W) (first waiting : List ℕ) → Feeds d kind history p q [] first waiting
+        → TakesLines kind history q r [] → Feeds d kind history p r [] first waiting
     fed_flushed p q r first waiting h flushed = record {
       texts = h.texts;
       cut = h.cut;
@@ -157,30 +177,34 @@ module _ {W : Type 0} (kind : W → Kind) (history : W → History) where
       };
     }
 
-    -- the last text, which no newline ends
-    pub fed_whole : (p q r : Packer W) (input waiting : List ℕ) → Feeds d kind history p q [] input waiting → TakesTexts d kind history q r (waiting ∷ []) → TakesTexts d kind history p r (texts_of input)
+    -- At the end of the input, the last text is taken without a newline.
+    pub fed_whole : (p q r : Packer W) (input waiting : List ℕ) → Feeds d kind history p q [] input waiting
+        → TakesTexts d kind history q r (waiting ∷ []) → TakesTexts d kind history p r (texts_of input)
     fed_whole p q r input waiting h last =
         subst (TakesTexts d kind history p r)
-        (sym (ap texts_of h.cut ∙ texts_of-ended h.texts waiting h.each ∙ ap (λ ts. h.texts ++ ts) (one_text waiting h.rest)))
+        (sym (ap texts_of h.cut ∙ texts_of-with_newlines h.texts waiting h.each ∙ ap (λ ts. h.texts ++ ts) (one_text waiting h.rest)))
         (texts_more p q r h.texts (waiting ∷ []) h.taken last)
 
 pub consumes_none : (known : Option (List ℕ)) → Consumes known known []
 consumes_none None = tt
 consumes_none (Some xs) = refl
 
-pub consumes_more : (old mid new : Option (List ℕ)) (got more : List ℕ) → Consumes old mid got → Consumes mid new more → Consumes old new (got ++ more)
+pub consumes_more : (old mid new : Option (List ℕ)) (got more : List ℕ) → Consumes old mid got → Consumes mid new more
+    → Consumes old new (got ++ more)
 consumes_more None mid new got more h k = tt
 consumes_more (Some xs) None new got more h k = absurd h
 consumes_more (Some xs) (Some ys) None got more h k = absurd k
 consumes_more (Some xs) (Some ys) (Some zs) got more h k = h ∙ ap (λ rest. got ++ rest) k ∙ sym (append_assoc got more zs)
 
--- what was got is what was left
+-- A fact about the bytes that were read is a fact about the bytes that the reader had left, if they are known.
 pub of_known : (known : Option (List ℕ)) (got : List ℕ) (P : List ℕ → Type 0) → IfSome known (λ left. got ≡ left) → P got → IfSome known P
 of_known None got P e h = tt
 of_known (Some left) got P e h = subst P e h
 
--- and what was held is sent
-pub sent_all : {W Z : Type 0} (kind : W → Kind) (history : W → History) (d : Defaults Z) (known : Option (List ℕ)) (p q r : Packer W) → IfSome known (λ text. TakesTexts d kind history p q (texts_of text)) → TakesLines kind history q r [] → r.held ≡ [] → IfSome known (λ text. SendsTexts d kind history p r (texts_of text))
+-- After the texts were taken, the held text is sent.
+pub sent_all : {W Z : Type 0} (kind : W → WriterKind) (history : W → PacketHistory) (d : Defaults Z) (known : Option (List ℕ)) (p q r : Packer W)
+    → IfSome known (λ text. TakesTexts d kind history p q (texts_of text)) → TakesLines kind history q r [] → r.held ≡ []
+    → IfSome known (λ text. SendsTexts d kind history p r (texts_of text))
 sent_all kind history d None p q r taken flushed none = tt
 sent_all kind history d (Some text) p q r taken flushed none = record {
   taken = record {
@@ -191,5 +215,7 @@ sent_all kind history d (Some text) p q r taken flushed none = record {
   none_held = none;
 }
 
-pub word_sent : {W : Type 0} (kind : W → Kind) (history : W → History) (p q r : Packer W) (line : List ℕ) (n : ℕ) (a : Result ℕ SinkError) → a ≡ Ok n → WritesLine kind history p q line a → TakesLines kind history q r [] → TakesLines kind history p r (line ∷ [])
-word_sent kind history p q r line n a e written flushed = takes_more kind history p q r (line ∷ []) [] (write_takes kind history p q line n a e written) flushed
+pub word_sent : {W : Type 0} (kind : W → WriterKind) (history : W → PacketHistory) (p q r : Packer W) (line : List ℕ) (n : ℕ) (a : Result ℕ SinkError)
+    → a ≡ Ok n → WritesLine kind history p q line a → TakesLines kind history q r [] → TakesLines kind history p r (line ∷ [])
+word_sent kind history p q r line n a e written flushed =
+    takes_more kind history p q r (line ∷ []) [] (write_takes kind history p q line n a e written) flushed

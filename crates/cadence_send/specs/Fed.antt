@@ -1,23 +1,24 @@
--- Input that comes piece by piece: the texts that ended, and the one that waits for its newline.
+-- Input that arrives piece by piece: the texts that ended in a newline, and the text whose newline has not arrived yet.
 use Rattle.std.specs.Prelude.{◌≡◌, ◌≢◌, ℕ, List, [], ◌∷◌, ◌++◌, All}
 use Rattle.std.specs.List.{flat_map}
 use Rattle.cadence_flow.specs.Packer.{Packer}
-use Rattle.cadence_flow.specs.Writer.{History, Kind}
+use Rattle.cadence_flow.specs.Writer.{PacketHistory, WriterKind}
 use Rattle.cadence_send.specs.Sent.{TakesTexts}
-use Rattle.cadence_send.specs.declared.defaults.Defaults.{Defaults}
+use Rattle.cadence_send.specs.declared.options.Defaults.{Defaults}
 
--- no newline is in the text
+-- The text has no newline.
 abbrev pub IsOneText : List ℕ → Type 0
 IsOneText text = All (λ byte. byte ≢ 10) text
 
--- each text with its newline
-abbrev pub ended : List (List ℕ) → List ℕ
-ended texts = flat_map (λ text. text ++ 10 ∷ []) texts
+-- the texts, each with a newline after it
+abbrev pub with_newlines : List (List ℕ) → List ℕ
+with_newlines texts = flat_map (λ text. text ++ 10 ∷ []) texts
 
--- after these bytes, the texts that they ended were taken, and the rest waits
-pub record Feeds {W Z : Type 0} (d : Defaults Z) (kind : W → Kind) (history : W → History) (old new : Packer W) (before bytes after : List ℕ) : Type 0 where
+-- Bytes waited, and more bytes arrived. Each text that a newline then ended was taken, and the bytes after the last newline wait.
+pub record Feeds {W Z : Type 0} (d : Defaults Z) (kind : W → WriterKind) (history : W → PacketHistory) (old new : Packer W)
+    (before bytes after : List ℕ) : Type 0 where
   pub texts : List (List ℕ)
-  pub cut : before ++ bytes ≡ ended texts ++ after
+  pub cut : before ++ bytes ≡ with_newlines texts ++ after
   pub each : All IsOneText texts
   pub rest : IsOneText after
   pub taken : TakesTexts d kind history old new texts

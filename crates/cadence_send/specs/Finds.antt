@@ -1,19 +1,15 @@
--- What a search for something with a property answers.
-use Rattle.std.specs.Prelude.{⊤, Option, Some, None, Result, Ok, Err}
-use Rattle.cadence_send.specs.declared.fault.Fault.{Fault}
-use Rattle.cadence_send.specs.declared.fault.Fault.TheVariants.{Unreadable, OutOfMemory}
+-- The results of searches that can also run out of memory.
+use Rattle.std.specs.Prelude.{⊤, Result, Ok, Err}
+use Rattle.cadence_cli.specs.declared.read_error.ReadError.{ReadError}
+use Rattle.cadence_cli.specs.declared.read_error.ReadError.TheVariants.{Unreadable, OutOfMemory}
+use Rattle.cadence_value.specs.Finds.{HasNone}
 
--- what was found has the property; or nothing has it
-abbrev pub Finds : {X : Type 0} → (X → Type 0) → Option X → Type 0
-Finds Has (Some x) = Has x
-Finds {X} Has None = (x : X) → Has x → ⊥
-
--- nothing has the property; or memory was refused
-abbrev pub FailsAs : {X : Type 0} → (X → Type 0) → Fault → Type 0
-FailsAs {X} Has (Unreadable part) = (x : X) → Has x → ⊥
+-- If the error is `Unreadable`, no value has the property. If memory ran out, nothing is known.
+abbrev pub FailsAs : {X W : Type 0} → (X → Type 0) → ReadError W → Type 0
+FailsAs Has (Unreadable why) = HasNone Has
 FailsAs Has OutOfMemory = ⊤
 
--- what was found, as `view` sees it, has the property; or why there is nothing
-abbrev pub FindsOrFails : {C X : Type 0} → (X → Type 0) → (C → X) → Result C Fault → Type 0
+-- If the search returns a value, then that value, as `view` sees it, has the property. If it returns an error, the error is right.
+abbrev pub FindsOrFails : {C X W : Type 0} → (X → Type 0) → (C → X) → Result C (ReadError W) → Type 0
 FindsOrFails Has view (Ok c) = Has (view c)
-FindsOrFails Has view (Err fault) = FailsAs Has fault
+FindsOrFails Has view (Err error) = FailsAs Has error

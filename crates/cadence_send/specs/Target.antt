@@ -1,18 +1,18 @@
--- Where packets are sent to, as a text.
+-- The addresses to which packets are sent, as texts.
 use Rattle.std.specs.Prelude.{◌≡◌, ◌<◌, ◌^◌, ⊤, ◌∷◌, ◌++◌, ℕ, List, length, IfSome}
 use Rattle.std.specs.Str.Parse.{IsNumeral, digits_value, without_leading_plus}
 use Rattle.cadence_send.specs.declared.options.Options.{Options}
 use Rattle.cadence_send.specs.declared.options.Request.{Request}
 use Rattle.cadence_send.specs.declared.options.Request.TheVariants.{Help, Version, Send}
 
--- the port that a text is: the number that its digits write, after a plus or none
+-- The text writes this port in digits: a number from 1 to 65535. A plus may come before it.
 pub record IsPort (text : List ℕ) (port : ℕ) : Type 0 where
   pub numeral : IsNumeral 10 (without_leading_plus text)
   pub written : port ≡ digits_value 10 (without_leading_plus text)
   pub some : 0 < port
   pub fits : port < 2 ^ 16
 
--- HOST:PORT
+-- The text is a host that is not empty, a colon and a port.
 pub record IsTarget (text : List ℕ) : Type 0 where
   pub host : List ℕ
   pub rest : List ℕ
@@ -21,11 +21,11 @@ pub record IsTarget (text : List ℕ) : Type 0 where
   pub some : 0 < length host
   pub is : IsPort rest port
 
--- the options say where to by HOST:PORT, or not at all
+-- If the options have an address, it is a host and a port.
 abbrev pub SaysWhere : {Z : Type 0} → Options Z → Type 0
 SaysWhere options = IfSome options.to (λ text. IsTarget text.now)
 
--- so do those of a request
+-- If the request is to send, and its options have an address, it is a host and a port.
 abbrev pub AsksWhere : {Z : Type 0} → Request Z → Type 0
 AsksWhere Help = ⊤
 AsksWhere Version = ⊤

@@ -1,16 +1,16 @@
--- What a writer of the program is.
+-- The kind of the program's writers of packets.
 use Rattle.std.specs.Prelude.{Bool, true, false}
 use Rattle.cadence_errors.specs.declared.SinkError.{SinkError}
 use Rattle.cadence_errors.specs.declared.SinkError.TheVariants.{Io, OutOfMemory}
 use Rattle.cadence_flow.specs.Sums.{zero_sums}
-use Rattle.cadence_flow.specs.Writer.{Kind}
+use Rattle.cadence_flow.specs.Writer.{WriterKind}
 
--- an error of the system, or want of memory
-abbrev pub is_of_packets : SinkError → Bool
-is_of_packets (Io e) = true
-is_of_packets OutOfMemory = true
-is_of_packets _ = false
+-- whether the error is one of the system, or that memory ran out
+abbrev pub is_packet_error : SinkError → Bool
+is_packet_error (Io e) = true
+is_packet_error OutOfMemory = true
+is_packet_error _ = false
 
--- a writer that doesn't tell its packets
-abbrev pub packets_kind : Kind
-packets_kind = record { may_give = is_of_packets; tells = false; takes_whole = false; start = zero_sums }
+-- the kind of a writer that doesn't tell its packets
+abbrev pub packet_writer_kind : WriterKind
+packet_writer_kind = record { may_give = is_packet_error; tells = false; takes_whole = false; start = zero_sums }

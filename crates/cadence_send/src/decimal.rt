@@ -1,13 +1,14 @@
-//! Decimal numbers, as words say them.
-ghost use Rattle.cadence_send.specs.Finds.{Finds};
+//! Reads decimal numbers.
+ghost use Rattle.cadence_value.specs.Finds.{Finds};
 ghost use Rattle.cadence_value.specs.Number.{IsDecimal};
-ghost use Rattle.cadence_value.specs.Said.{Says};
+ghost use Rattle.cadence_value.specs.DenotedNumber.{Denotes};
 
 use cadence_value::decimal::{Decimal, read_number};
 
-// The decimal that a word says, also with zeros after its places. Mostly it has none, which is read faster.
+// Returns the decimal number that a word says. Zeros may follow its decimal places; most words have none, and those are
+// read faster.
 pub(crate) fn read_decimal(word: &str) -> Option<Decimal>
-    ensures { Finds (λ n. IsDecimal n × Says word.now n) result }
+    ensures { Finds (λ n. IsDecimal n × Denotes word.now n) result }
 {
     if let Some(number) = read_number(word.as_bytes()) {
         return Some(number);
@@ -18,9 +19,9 @@ pub(crate) fn read_decimal(word: &str) -> Option<Decimal>
     Some(number)
 }
 
-// The same of bytes that may be no text.
+// Returns the decimal number that bytes say. Bytes that are not UTF-8 say none.
 pub(crate) fn read_bytes(word: &[u8]) -> Option<Decimal>
-    ensures { Finds (λ n. IsDecimal n × Says word.now n) result }
+    ensures { Finds (λ n. IsDecimal n × Denotes word.now n) result }
 {
     let Ok(text) = str::from_utf8(word) else {
         return None;

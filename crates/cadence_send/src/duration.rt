@@ -1,7 +1,7 @@
-//! Durations, read from a number and a unit.
+//! Reads durations: a number and a unit, as in `1.25s`.
 ghost use Rattle.std.specs.Prelude.{◌≡◌, ◌≤◌, ◌<◌, ◌^◌, ◌++◌, All, IfNone, IfSome, SomeIff, slice_index};
-ghost use Rattle.cadence_send.specs.Duration.{Counts, IsDurationWord, IsNanos, IsTimeWord, unit_tens, unit_text};
-ghost use Rattle.cadence_send.specs.Finds.{Finds};
+ghost use Rattle.cadence_send.specs.Duration.{CountsNanos, IsDurationWord, IsNanos, IsTimeWord, unit_tens, unit_text};
+ghost use Rattle.cadence_value.specs.Finds.{Finds};
 ghost use Rattle.cadence_value.specs.Number.{natural};
 
 use crate::decimal::read_bytes;
@@ -18,7 +18,7 @@ pub(crate) enum Unit {
 }
 
 impl Unit {
-    // How many nanoseconds it has, as a power of ten.
+    // Returns for which power of ten the unit is that many nanoseconds.
     fn tens(self) -> u8
         ensures value { result ≡ unit_tens self }
         ensures most { result ≤ 9 }
@@ -32,7 +32,7 @@ impl Unit {
     }
 }
 
-// The unit that is written so.
+// Returns the unit that a word names.
 fn read_unit(word: &[u8]) -> Option<Unit>
     ensures { Finds (λ unit. unit_text unit ≡ word.now) result }
 {
@@ -45,7 +45,7 @@ fn read_unit(word: &[u8]) -> Option<Unit>
     }
 }
 
-// What stands before the first byte above the digits, and the rest with it.
+// Cuts a word before the first byte that comes after the digits in ASCII, as all letters do.
 fn cut_unit(word: &[u8]) -> Option<(&[u8], &[u8])>
     ensures none { IfNone result (All (λ byte. byte ≤ 57) word.now) }
     ensures front { IfSome result (λ parts. All (λ byte. byte ≤ 57) parts.0.now) }
@@ -56,7 +56,8 @@ fn cut_unit(word: &[u8]) -> Option<(&[u8], &[u8])>
     Some((&word[..at], &word[at..]))
 }
 
-// The nanoseconds of so many of a unit, where they are whole ones.
+// Returns how many nanoseconds a number of units is. Returns `None` for a negative number, or if the number of
+// nanoseconds is not whole or doesn't fit 128 bits.
 fn nanos_of(number: Decimal, unit: Unit) -> Option<u128>
     ensures { Finds (λ nanos. IsNanos number unit nanos × (nanos < 2 ^ 128)) result }
 {
@@ -68,7 +69,7 @@ fn nanos_of(number: Decimal, unit: Unit) -> Option<u128>
     size.checked_mul(power_of_ten(tens - places))
 }
 
-// The nanoseconds that are written so.
+// Returns how many nanoseconds a word says.
 fn read_nanos(word: &[u8]) -> Option<u128>
     ensures { Finds (λ nanos. IsTimeWord word.now nanos × (nanos < 2 ^ 128)) result }
 {
@@ -78,9 +79,10 @@ fn read_nanos(word: &[u8]) -> Option<u128>
     nanos_of(number, unit)
 }
 
-// What a kind counts of so many nanoseconds.
+// Returns the value of a duration for this kind of metric: whole milliseconds for a timer, nanoseconds for a histogram.
+// The other kinds don't take durations.
 fn count_of(kind: MetricType, nanos: u128) -> Option<u128>
-    ensures { Finds (Counts kind nanos) result }
+    ensures { Finds (CountsNanos kind nanos) result }
 {
     match kind {
         MetricType::Timer => Some(nanos / 1_000_000),
@@ -89,26 +91,26 @@ fn count_of(kind: MetricType, nanos: u128) -> Option<u128>
     }
 }
 
-// The same, where 64 bits hold it.
+// Returns the value if it fits 64 bits.
 fn in_64_bits(count: u128) -> Option<u64>
     ensures { SomeIff result (count < 2 ^ 64) count }
 {
     u64::try_from(count).ok()
 }
 
-// A whole number.
-fn whole(count: u64) -> Option<Decimal>
+// Returns a whole number as a decimal.
+fn whole_decimal(count: u64) -> Option<Decimal>
     ensures { Finds (λ n. n ≡ natural count) result }
 {
     Decimal::new(i128::from(count), 0).ok()
 }
 
-// The count of the duration that is written so.
+// Returns the value, for this kind of metric, of the duration that a word says.
 pub(crate) fn read_duration(kind: MetricType, word: &[u8]) -> Option<Decimal>
     ensures { Finds (IsDurationWord kind word.now) result }
 {
     let nanos = read_nanos(word)?;
     let count = count_of(kind, nanos)?;
     let fits = in_64_bits(count)?;
-    whole(fits)
+    whole_decimal(fits)
 }

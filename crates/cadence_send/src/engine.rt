@@ -1,12 +1,12 @@
-//! The run of `statsd_send` over a text, with any reader, writer of packets and writer of faults.
+//! Takes the lines of an input as it arrives, with any reader, any writer of packets and any writer of errors.
 ghost use Rattle.std.specs.Prelude.{◌≡◌, ◌⊎◌, ◌∷◌, ◌++◌, [], IfNone, IfSome, OnOk};
 ghost use Rattle.cadence_send.specs.Fed.{Feeds, IsOneText};
 ghost use Rattle.cadence_send.specs.Sent.{TakesLines, TakesTexts, texts_of};
 
-use crate::defaults::Defaults;
-use crate::fault::{Fault, Part};
 use crate::line::write_line_of_text;
+use crate::options::Defaults;
 use crate::pace::Pace;
+use crate::word_error::{Part, WordError};
 use cadence_errors::SinkError;
 use cadence_flow::io::{LineBuffer, PacketWriter};
 use memchr::memchr;
@@ -14,62 +14,63 @@ use std::alloc::{AllocError, Allocator};
 use std::io::{Read, Write};
 use thiserror::Error;
 
-/// How many bytes are read at once.
+// The most bytes that are read at once.
 const CHUNK: usize = 16384;
 
 /// Why a run ended early.
 #[derive(Debug, Drop, Error)]
-pub enum Failure {
+pub enum RunError {
     /// The input can't be read.
     #[error("input: cannot read")]
     Input,
-    /// The writer of packets refused, and not for want of memory.
+    /// The writer of packets refused a packet.
     #[error("cannot send: {0}")]
     Writer(SinkError),
-    /// A growth was refused.
+    /// Memory ran out.
     #[error("out of memory")]
     OutOfMemory,
 }
 
-impl From<AllocError> for Failure {
-    fn from(_error: AllocError) -> Failure {
-        Failure::OutOfMemory
+impl From<AllocError> for RunError {
+    fn from(_error: AllocError) -> RunError {
+        RunError::OutOfMemory
     }
 }
 
-impl From<SinkError> for Failure {
-    fn from(error: SinkError) -> Failure {
+impl From<SinkError> for RunError {
+    fn from(error: SinkError) -> RunError {
         match error {
-            SinkError::OutOfMemory => Failure::OutOfMemory,
-            refusal => Failure::Writer(refusal),
+            SinkError::OutOfMemory => RunError::OutOfMemory,
+            refusal => RunError::Writer(refusal),
         }
     }
 }
 
-impl Failure {
-    /// The status: 1 for the input and for a writer, 3 for memory.
+impl RunError {
+    /// Returns the exit status of a program that ends with this error: 3 if memory ran out, and 1 for every other
+    /// error.
     pub fn status(&self) -> u8
         ensures { (result ≡ 1) ⊎ (result ≡ 3) }
     {
         match self {
-            Failure::Input | Failure::Writer(_) => 1,
-            Failure::OutOfMemory => 3,
+            RunError::Input | RunError::Writer(_) => 1,
+            RunError::OutOfMemory => 3,
         }
     }
 }
 
-/// How many texts were taken, and how many of them can't be read.
+/// How many lines of the input were taken, and how many of them can't be read.
 #[derive(Clone, Copy, Debug, PartialEq, Eq)]
-pub struct Counts {
-    /// All texts, but for an empty last one.
+pub struct TextCounts {
+    /// All lines of the input. An empty text after the last newline is not a line.
     pub texts: u64,
-    /// Those that ask for nothing, but for those without words.
+    /// The lines that have words, but ask for no metric.
     pub unread: u64,
 }
 
-impl Counts {
-    // One more text. One that can't be read is told to the errors, with its number.
-    fn note<E: Write>(&mut self, unread: Option<Part>, errors: &mut E) {
+impl TextCounts {
+    // Counts one more line of the input. If it can't be read, its number and the reason are written to `errors`.
+    fn count_text<E: Write>(&mut self, unread: Option<Part>, errors: &mut E) {
         self.texts = self.texts.saturating_add(1);
         if let Some(part) = unread {
             self.unread = self.unread.saturating_add(1);
@@ -79,16 +80,16 @@ impl Counts {
     }
 }
 
-// Whether there is no word in the text.
+// Returns whether the text has no words.
 fn is_blank(text: &[u8]) -> bool {
     text.iter().all(|byte| *byte == b' ')
 }
 
-// Takes a line. Mostly it fits, and then there is no error to answer.
+// Gives a line to the packer. Most lines fit the packet, and `hold` then takes them with less work than `write`.
 fn take_line<T: PacketWriter, A: Allocator>(
     lines: &mut LineBuffer<T, A>,
     line: &[u8],
-) -> Result<(), Failure>
+) -> Result<(), RunError>
     ensures { OnOk result (TakesLines T.kind T.history lines.old lines.new (line.now ∷ [])) }
 {
     if lines.hold(line) {
@@ -99,23 +100,24 @@ fn take_line<T: PacketWriter, A: Allocator>(
     Ok(())
 }
 
-// The memory that a run keeps from one text to the next.
+// Buffers that are used again for each line of the input.
 #[derive(Drop)]
-struct Kept<A: Allocator> {
-    // The front of the text whose end hasn't come.
+struct Buffers<A: Allocator> {
+    // The beginning of a line whose end was not read yet.
     waiting: Vec<u8, A>,
-    // Where each line is made.
+    // The metric's line.
     line: Vec<u8, A>,
 }
 
-// Takes the line of a text if it has one, and else answers why it has none. The line is made in a kept buffer.
+// Gives the metric's line of a text to the packer. If the text has words and asks for no metric, it returns the part
+// that can't be read. The line is written into the buffer.
 fn take_text<T: PacketWriter, A: Allocator + Clone>(
     alloc: &A,
     defaults: &Defaults<A>,
     lines: &mut LineBuffer<T, A>,
     buffer: &mut Vec<u8, A>,
     text: &[u8],
-) -> Result<Option<Part>, Failure>
+) -> Result<Option<Part>, RunError>
     ensures { OnOk result
         (TakesTexts defaults.now T.kind T.history lines.old lines.new (text.now ∷ [])) }
 {
@@ -124,34 +126,35 @@ fn take_text<T: PacketWriter, A: Allocator + Clone>(
             take_line(lines, buffer)?;
             Ok(None)
         }
-        Err(Fault::Unreadable(part)) => Ok(if is_blank(text) { None } else { Some(part) }),
-        Err(Fault::OutOfMemory) => Err(Failure::OutOfMemory),
+        Err(WordError::Unreadable(part)) => Ok(if is_blank(text) { None } else { Some(part) }),
+        Err(WordError::OutOfMemory) => Err(RunError::OutOfMemory),
     }
 }
 
-// Takes the text whose front waits and whose end is this. Nothing waits then.
-fn take_ended<T: PacketWriter, A: Allocator + Clone>(
+// Takes the text that begins with the waiting bytes and ends with these. Afterwards no bytes wait.
+fn take_text_end<T: PacketWriter, A: Allocator + Clone>(
     alloc: &A,
     defaults: &Defaults<A>,
     lines: &mut LineBuffer<T, A>,
-    kept: &mut Kept<A>,
+    buffers: &mut Buffers<A>,
     end: &[u8],
-) -> Result<Option<Part>, Failure>
+) -> Result<Option<Part>, RunError>
     ensures taken { OnOk result (TakesTexts defaults.now T.kind T.history lines.old lines.new
-        ((kept.old.waiting.items ++ end.now) ∷ [])) }
-    ensures none { OnOk result (kept.new.waiting.items ≡ []) }
+        ((buffers.old.waiting.items ++ end.now) ∷ [])) }
+    ensures none { OnOk result (buffers.new.waiting.items ≡ []) }
 {
-    if kept.waiting.is_empty() {
-        return take_text(alloc, defaults, lines, &mut kept.line, end);
+    if buffers.waiting.is_empty() {
+        return take_text(alloc, defaults, lines, &mut buffers.line, end);
     }
-    kept.waiting.extend_from_slice(end)?;
-    let unread = take_text(alloc, defaults, lines, &mut kept.line, &kept.waiting)?;
-    kept.waiting.clear();
+    buffers.waiting.extend_from_slice(end)?;
+    let unread = take_text(alloc, defaults, lines, &mut buffers.line, &buffers.waiting)?;
+    buffers.waiting.clear();
     Ok(unread)
 }
 
-/// What stands before the first newline, and what stands after it.
-pub(crate) fn cut_text(bytes: &[u8]) -> Option<(&[u8], &[u8])>
+// Returns the bytes before the first newline, and those after it. This is `cadence_value::bytes::cut` with `memchr`,
+// which is faster for long texts.
+pub(crate) fn cut_line(bytes: &[u8]) -> Option<(&[u8], &[u8])>
     ensures none { IfNone result (IsOneText bytes.now) }
     ensures front { IfSome result (λ parts. IsOneText parts.0.now) }
     ensures whole { IfSome result (λ parts. bytes.now ≡ parts.0.now ++ 10 ∷ parts.1.now) }
@@ -160,35 +163,35 @@ pub(crate) fn cut_text(bytes: &[u8]) -> Option<(&[u8], &[u8])>
     Some((&bytes[..at], &bytes[at + 1..]))
 }
 
-// Takes the texts that the bytes end. The rest of them waits.
+// Takes each text that a newline of these bytes ends. The bytes after the last newline wait.
 fn feed<T: PacketWriter, E: Write, A: Allocator + Clone>(
     alloc: &A,
     defaults: &Defaults<A>,
     lines: &mut LineBuffer<T, A>,
     errors: &mut E,
-    counts: &mut Counts,
-    kept: &mut Kept<A>,
+    counts: &mut TextCounts,
+    buffers: &mut Buffers<A>,
     bytes: &[u8],
-) -> Result<(), Failure>
-    requires { IsOneText kept.old.waiting.items }
+) -> Result<(), RunError>
+    requires { IsOneText buffers.old.waiting.items }
     ensures { OnOk result (Feeds defaults.now T.kind T.history lines.old lines.new
-        kept.old.waiting.items bytes.now kept.new.waiting.items) }
+        buffers.old.waiting.items bytes.now buffers.new.waiting.items) }
 {
     let mut left = bytes;
-    while let Some((front, others)) = cut_text(left) {
-        let unread = take_ended(alloc, defaults, lines, kept, front)?;
-        counts.note(unread, errors);
+    while let Some((front, others)) = cut_line(left) {
+        let unread = take_text_end(alloc, defaults, lines, buffers, front)?;
+        counts.count_text(unread, errors);
         left = others;
     }
-    kept.waiting.extend_from_slice(left)?;
+    buffers.waiting.extend_from_slice(left)?;
     Ok(())
 }
 
-// Sends what is held, where it is time.
+// Sends the held text if it is time.
 fn keep_pace<T: PacketWriter, P: Pace, A: Allocator>(
     lines: &mut LineBuffer<T, A>,
     pace: &mut P,
-) -> Result<(), Failure>
+) -> Result<(), RunError>
     ensures { OnOk result (TakesLines T.kind T.history lines.old lines.new []) }
 {
     if !pace.is_due() {
@@ -199,12 +202,12 @@ fn keep_pace<T: PacketWriter, P: Pace, A: Allocator>(
     Ok(())
 }
 
-/// Reads texts with a newline between each two, and takes the line of each that has one. What is held when the input
-/// ends stays held. A text that can't be read is told to the errors, with its number; a fault of the errors changes
-/// nothing. Where it is time before more is read, what is held is flushed.
+/// Reads the lines of the input, and gives the metric's line of each to the packer. For a line that can't be read, its
+/// number and the reason are written to `errors`. An error of `errors` is ignored. After each piece of input, the held
+/// text is sent if it is time. At the end of the input, the held text stays held.
 ///
 /// # Errors
-/// `Input` where the reader fails, `Writer` where a packet is refused, and `OutOfMemory`. The texts before it were
+/// `Input` if the reader fails, `Writer` if a packet is refused, and `OutOfMemory`. The lines before the error were
 /// taken.
 pub fn take_input<T, I, E, P, A>(
     alloc: &A,
@@ -213,7 +216,7 @@ pub fn take_input<T, I, E, P, A>(
     input: &mut I,
     errors: &mut E,
     pace: &mut P,
-) -> Result<Counts, Failure>
+) -> Result<TextCounts, RunError>
 where
     T: PacketWriter,
     I: Read,
@@ -223,11 +226,11 @@ where
     ensures { OnOk result (IfSome (I.remaining input.old) (λ text.
         TakesTexts defaults.now T.kind T.history lines.old lines.new (texts_of text))) }
 {
-    let mut counts = Counts {
+    let mut counts = TextCounts {
         texts: 0,
         unread: 0,
     };
-    let mut kept = Kept {
+    let mut buffers = Buffers {
         waiting: Vec::new(alloc.clone()?),
         line: Vec::new(alloc.clone()?),
     };
@@ -235,10 +238,10 @@ where
     for _ in 0..u64::MAX {
         match input.read(&mut buffer) {
             Ok(0) => {
-                let is_text = !kept.waiting.is_empty();
-                let unread = take_ended(alloc, defaults, lines, &mut kept, b"")?;
+                let is_text = !buffers.waiting.is_empty();
+                let unread = take_text_end(alloc, defaults, lines, &mut buffers, b"")?;
                 if is_text {
-                    counts.note(unread, errors);
+                    counts.count_text(unread, errors);
                 }
                 return Ok(counts);
             }
@@ -248,12 +251,12 @@ where
                 lines,
                 errors,
                 &mut counts,
-                &mut kept,
+                &mut buffers,
                 &buffer[..count],
             )?,
-            Err(_) => return Err(Failure::Input),
+            Err(_) => return Err(RunError::Input),
         }
         keep_pace(lines, pace)?;
     }
-    Err(Failure::Input)
+    Err(RunError::Input)
 }

@@ -1,81 +1,76 @@
-//! The words of the command line.
-ghost use Rattle.std.specs.Prelude.{◌≡◌, ◌⊎◌, IfOk, None, OnOk};
-ghost use Rattle.cadence_send.specs.Finds.{Finds};
+//! Reads the options of the command line.
+ghost use Rattle.std.specs.Prelude.{◌≡◌, IfOk, IfSome, None, OnOk};
+ghost use Rattle.cadence_value.specs.Finds.{Finds};
 ghost use Rattle.cadence_send.specs.Target.{AsksWhere, IsPort, IsTarget, SaysWhere};
 
 use crate::decimal::read_decimal;
-use crate::defaults::Defaults;
 use crate::words::{is_word, read_tag};
+use cadence_cli::ReadError;
 use cadence_errors::MetricError;
+use cadence_flow::io::DEFAULT_CAPACITY;
 use cadence_schedule::ClientSettings;
 use cadence_text::line::Tag;
 use cadence_value::decimal::Decimal;
-use std::alloc::{AllocError, AllocFailed, Allocator};
+use std::alloc::{Allocator, Global};
 use std::fmt;
 
-/// How much a packet holds where nothing else is said, in bytes.
-const DEFAULT_CAPACITY: usize = 512;
-
-/// What the words of the command line ask for.
+/// The request that the words of the command line make.
 #[derive(Drop)]
 pub enum Request<'a, A: Allocator> {
-    /// To say how it is called.
+    /// Print how the program is called.
     Help,
-    /// To say which version it is.
+    /// Print the version.
     Version,
-    /// To send what the words after the options ask for, or what the input does where there are none.
+    /// Send the metric of the words after the options. If there are no words, send the metrics of the input.
     Send(Options<'a, A>, &'a [&'a str]),
 }
 
-/// What the options say.
+/// The options of the command line.
 #[derive(Drop)]
 pub struct Options<'a, A: Allocator> {
-    /// Where packets are sent, as HOST:PORT.
+    /// The host and the port to which packets are sent, as HOST:PORT.
     pub to: Option<&'a str>,
-    /// The prefix of each name.
+    /// The prefix of all names.
     pub prefix: &'a str,
     /// The default tags, in order.
     pub tags: Vec<Tag<'a>, A>,
     /// The container.
     pub container: Option<&'a str>,
-    /// The time, in seconds since 1970.
+    /// The time in seconds since 1970.
     pub time: Option<u64>,
     /// The sampling rate.
     pub rate: Option<Decimal>,
-    /// How much a packet holds, in bytes.
+    /// The capacity of a packet in bytes.
     pub capacity: usize,
-    /// After how many milliseconds what is held is sent before more is read.
+    /// The milliseconds after which buffered lines are sent before more input is read.
     pub flush_every: Option<u64>,
-    /// Whether packets are printed in place of being sent.
+    /// Whether packets are printed instead of sent.
     pub is_printing: bool,
 }
 
-/// Why the options are not read.
+/// The option that can't be read. Its text says what is wrong with it, and how it is used.
 #[derive(Clone, Copy, Debug, PartialEq, Eq)]
-pub enum OptionFault<'a> {
-    /// There is no such option.
+pub enum OptionError<'a> {
+    /// There is no option of this name.
     Unknown(&'a str),
-    /// The option stands last, and wants a value.
+    /// The option is the last word, and wants a value.
     NoValue(&'a str),
     /// The option can't have this value.
     Value(&'a str, &'a str),
-    /// A growth was refused.
-    OutOfMemory,
 }
 
-impl From<AllocError> for OptionFault<'_> {
-    fn from(_error: AllocError) -> Self {
-        OptionFault::OutOfMemory
-    }
+/// What the command line adds to each metric.
+#[derive(Drop)]
+pub struct Defaults<A: Allocator = Global> {
+    /// The prefix, the default tags and the container.
+    pub settings: ClientSettings<A>,
+    /// The sampling rate.
+    pub rate: Option<Decimal>,
+    /// The time in seconds since 1970.
+    pub time: Option<u64>,
 }
 
-impl<T: Drop> From<AllocFailed<T>> for OptionFault<'_> {
-    fn from(_error: AllocFailed<T>) -> Self {
-        OptionFault::OutOfMemory
-    }
-}
-
-// What an option's value could be.
+// Returns what the value of an option has to be, with an example.
 fn example(option: &str) -> &'static str {
     match option {
         "--to" => "HOST:PORT, as in --to 127.0.0.1:8125",
@@ -90,57 +85,35 @@ fn example(option: &str) -> &'static str {
     }
 }
 
-/// What can't be read, and what could be.
-impl fmt::Display for OptionFault<'_> {
+/// What is wrong with the option, and how it is used.
+impl fmt::Display for OptionError<'_> {
     fn fmt<W: fmt::Write>(&self, f: &mut fmt::Formatter<W>) -> fmt::Result {
         match self {
-            OptionFault::Unknown(option) => write!(f, "{option}: no such option, see --help"),
-            OptionFault::NoValue(option) => write!(f, "{option} wants {}", example(option)),
-            OptionFault::Value(option, value) => {
+            OptionError::Unknown(option) => write!(f, "{option}: no such option, see --help"),
+            OptionError::NoValue(option) => write!(f, "{option} wants {}", example(option)),
+            OptionError::Value(option, value) => {
                 write!(f, "{option} {value}: wants {}", example(option))
             }
-            OptionFault::OutOfMemory => f.write_str("out of memory"),
         }
     }
 }
 
-impl OptionFault<'_> {
-    /// The status: 3 for want of memory, else 2.
-    pub fn status(&self) -> u8
-        ensures { (result ≡ 2) ⊎ (result ≡ 3) }
-    {
-        match self {
-            OptionFault::OutOfMemory => 3,
-            _ => 2,
-        }
-    }
+// Reads a whole number.
+fn read_whole(value: &str) -> Option<u64> {
+    value.parse().ok()
 }
 
-// A whole number.
-fn whole<'a>(option: &'a str, value: &'a str) -> Result<u64, OptionFault<'a>> {
-    match value.parse() {
-        Ok(number) => Ok(number),
-        Err(_) => Err(OptionFault::Value(option, value)),
-    }
+// Reads a number above 0.
+fn read_positive(value: &str) -> Option<Decimal> {
+    read_decimal(value).filter(|number| number.mantissa() > 0)
 }
 
-// A number above 0.
-fn positive<'a>(option: &'a str, value: &'a str) -> Result<Decimal, OptionFault<'a>> {
-    match read_decimal(value) {
-        Some(number) if number.mantissa() > 0 => Ok(number),
-        _ => Err(OptionFault::Value(option, value)),
-    }
+// Reads a name, or an id.
+fn read_word(value: &str) -> Option<&str> {
+    if is_word(value) { Some(value) } else { None }
 }
 
-// A name, or an id.
-fn word<'a>(option: &'a str, value: &'a str) -> Result<&'a str, OptionFault<'a>> {
-    if !is_word(value) {
-        return Err(OptionFault::Value(option, value));
-    }
-    Ok(value)
-}
-
-/// The port that a text is: a number from 1 to 65535.
+/// Reads a port: a number from 1 to 65535. A plus may come before it.
 pub fn read_port(text: &str) -> Option<u16>
     ensures { Finds (IsPort text.now) result }
 {
@@ -153,16 +126,16 @@ pub fn read_port(text: &str) -> Option<u16>
     Some(port)
 }
 
-// HOST:PORT.
-fn target<'a>(option: &'a str, value: &'a str) -> Result<&'a str, OptionFault<'a>>
-    ensures { IfOk result (λ text. IsTarget text.now) }
+// Reads HOST:PORT.
+fn read_target(value: &str) -> Option<&str>
+    ensures { IfSome result (λ text. IsTarget text.now) }
 {
     if let Some((host, port)) = value.rsplit_once(':') {
         if !host.is_empty() && read_port(port).is_some() {
-            return Ok(value);
+            return Some(value);
         }
     }
-    Err(OptionFault::Value(option, value))
+    None
 }
 
 impl<'a, A: Allocator> Options<'a, A> {
@@ -182,31 +155,35 @@ impl<'a, A: Allocator> Options<'a, A> {
         }
     }
 
-    // Takes an option with its value.
-    fn set(&mut self, option: &'a str, value: &'a str) -> Result<(), OptionFault<'a>>
+    // Sets an option to its value.
+    fn set(&mut self, option: &'a str, value: &'a str) -> Result<(), ReadError<OptionError<'a>>>
         requires { SaysWhere self.old }
         ensures { OnOk result (SaysWhere self.new) }
     {
+        let refused = ReadError::Unreadable(OptionError::Value(option, value));
         match option {
-            "--to" => self.to = Some(target(option, value)?),
-            "--prefix" => self.prefix = word(option, value)?,
-            "--tag" => match read_tag(value) {
-                Some(tag) => self.tags.push(tag)?,
-                None => return Err(OptionFault::Value(option, value)),
+            "--to" => match read_target(value) {
+                Some(target) => self.to = Some(target),
+                None => return Err(refused),
             },
-            "--container" => self.container = Some(word(option, value)?),
-            "--time" => self.time = Some(whole(option, value)?),
-            "--rate" => self.rate = Some(positive(option, value)?),
-            "--capacity" => self.capacity = whole(option, value)? as usize,
-            "--flush-every" => self.flush_every = Some(whole(option, value)?),
-            _ => return Err(OptionFault::Unknown(option)),
+            "--prefix" => self.prefix = read_word(value).ok_or(refused)?,
+            "--tag" => self.tags.push(read_tag(value).ok_or(refused)?)?,
+            "--container" => self.container = Some(read_word(value).ok_or(refused)?),
+            "--time" => self.time = Some(read_whole(value).ok_or(refused)?),
+            "--rate" => self.rate = Some(read_positive(value).ok_or(refused)?),
+            "--capacity" => self.capacity = read_whole(value).ok_or(refused)? as usize,
+            "--flush-every" => self.flush_every = Some(read_whole(value).ok_or(refused)?),
+            _ => return Err(ReadError::Unreadable(OptionError::Unknown(option))),
         }
         Ok(())
     }
 }
 
 impl<'a, A: Allocator + Clone> Options<'a, A> {
-    /// What the options add to each metric. It is refused for want of memory alone.
+    /// Returns what the options add to each metric.
+    ///
+    /// # Errors
+    /// Only if memory runs out.
     pub fn defaults(&self, alloc: A) -> Result<Defaults<A>, MetricError> {
         let mut settings = ClientSettings::new(alloc, self.prefix)?;
         for tag in &self.tags {
@@ -226,11 +203,11 @@ impl<'a, A: Allocator + Clone> Options<'a, A> {
 /// Reads the options, up to the first word that doesn't begin with two dashes.
 ///
 /// # Errors
-/// The first option that can't be read, and `OutOfMemory`.
+/// `Unreadable` with the first option that can't be read, and `OutOfMemory`.
 pub fn read_options<'a, A: Allocator>(
     alloc: A,
     words: &'a [&'a str],
-) -> Result<Request<'a, A>, OptionFault<'a>>
+) -> Result<Request<'a, A>, ReadError<OptionError<'a>>>
     ensures { IfOk result AsksWhere }
 {
     let mut options = Options::new(alloc);
@@ -248,7 +225,7 @@ pub fn read_options<'a, A: Allocator>(
                     break;
                 }
                 let [value, rest @ ..] = others else {
-                    return Err(OptionFault::NoValue(option));
+                    return Err(ReadError::Unreadable(OptionError::NoValue(option)));
                 };
                 options.set(option, value)?;
                 left = rest;

@@ -1,28 +1,28 @@
-//! What packets are written to.
+//! Sends packets as datagrams, or prints them.
 ghost use Rattle.std.specs.Prelude.{◌≡◌, ◌≤◌, [], true, length, MatchResult};
 ghost use Rattle.cadence_flow.specs.Writer.{history_of};
-ghost use Rattle.cadence_send.specs.Writers.{is_of_packets, packets_kind};
+ghost use Rattle.cadence_send.specs.Writers.{is_packet_error, packet_writer_kind};
 
-use crate::engine::cut_text;
-use cadence_console::push_bytes;
+use crate::engine::cut_line;
+use cadence_cli::push_bytes;
 use cadence_errors::SinkError;
 use cadence_flow::io::{PacketWriter, Refusals};
 use std::alloc::{AllocError, Allocator, Global};
 use std::io::Write;
 use std::net::{SocketAddr, UdpSocket};
 
-/// Sends each packet as a datagram.
+/// A writer that sends each packet as a datagram.
 #[derive(Drop)]
-pub struct Datagrams {
+pub struct DatagramWriter {
     socket: UdpSocket,
     target: SocketAddr,
     refusals: Refusals,
 }
 
-impl Datagrams {
-    /// Sends to the target.
-    pub fn new(socket: UdpSocket, target: SocketAddr) -> Datagrams {
-        Datagrams {
+impl DatagramWriter {
+    /// Returns a writer that sends to this address.
+    pub fn new(socket: UdpSocket, target: SocketAddr) -> DatagramWriter {
+        DatagramWriter {
             socket,
             target,
             refusals: Refusals::none(),
@@ -30,34 +30,37 @@ impl Datagrams {
     }
 }
 
-impl PacketWriter for Datagrams {
+impl PacketWriter for DatagramWriter {
     ghost history = { λ w. history_of [] w.refusals };
 
-    ghost kind = { λ _. packets_kind };
+    ghost kind = { λ _. packet_writer_kind };
 
     fn write_packet(&mut self, packet: &[u8]) -> Result<usize, SinkError> {
         let answer = match self.socket.send_to(packet, self.target) {
             Ok(n) => Ok(n),
-            Err(fault) => Err(SinkError::Io(fault)),
+            Err(error) => Err(SinkError::Io(error)),
         };
         self.refusals.note(&answer, packet.len());
         answer
     }
 }
 
-/// Prints each packet as a line: `packet`, the length in bytes, and the bytes by the escapes of `cadence_console`.
+/// A writer that prints each packet as a line: the word `packet`, the length in bytes, and the bytes with the escapes
+/// of `cadence_cli::push_bytes`.
 #[derive(Drop)]
-pub struct Printed<O, A: Allocator = Global> {
+pub struct PacketPrinter<O, A: Allocator = Global> {
     output: O,
+    // The line that is printed.
     text: Vec<u8, A>,
+    // A part of the line that is printed.
     piece: String<A>,
     refusals: Refusals,
 }
 
-impl<O: Write + Drop, A: Allocator + Clone> Printed<O, A> {
-    /// Prints to the output.
-    pub fn new(alloc: A, output: O) -> Result<Printed<O, A>, AllocError> {
-        Ok(Printed {
+impl<O: Write + Drop, A: Allocator + Clone> PacketPrinter<O, A> {
+    /// Returns a writer that prints to this output.
+    pub fn new(alloc: A, output: O) -> Result<PacketPrinter<O, A>, AllocError> {
+        Ok(PacketPrinter {
             output,
             text: Vec::new(alloc.clone()?),
             piece: String::new(alloc),
@@ -66,20 +69,21 @@ impl<O: Write + Drop, A: Allocator + Clone> Printed<O, A> {
     }
 }
 
-// Whether all bytes are newlines or shown as they stand. It looks at each, since that goes many at a time.
+// Returns whether all bytes are newlines, or printable without an escape. The loop doesn't stop early, so that the
+// compiler tests many bytes at a time.
 fn are_plain(bytes: &[u8]) -> bool {
     let mut all = true;
     for byte in bytes {
-        let is_shown = *byte >= b' ' && *byte <= b'~' && *byte != b'\\';
-        all = all & (is_shown || *byte == b'\n');
+        let is_printable = *byte >= b' ' && *byte <= b'~' && *byte != b'\\';
+        all = all & (is_printable || *byte == b'\n');
     }
     all
 }
 
-// Adds lines, whose bytes are shown as they stand, with an escape for each newline.
+// Adds lines without other escapes than those of their newlines.
 fn push_lines<A: Allocator>(text: &mut Vec<u8, A>, bytes: &[u8]) -> Result<(), AllocError> {
     let mut left = bytes;
-    while let Some((line, others)) = cut_text(left) {
+    while let Some((line, others)) = cut_line(left) {
         text.extend_from_slice(line)?;
         text.extend_from_slice(b"\\n")?;
         left = others;
@@ -87,8 +91,8 @@ fn push_lines<A: Allocator>(text: &mut Vec<u8, A>, bytes: &[u8]) -> Result<(), A
     text.extend_from_slice(left)
 }
 
-// Adds the bytes as they are shown, line by line where they can be. A piece is made anew where they can't.
-fn push_shown<A: Allocator>(
+// Adds the bytes with their escapes. Most packets have only newlines to escape, and those are added line by line.
+fn push_escaped<A: Allocator>(
     text: &mut Vec<u8, A>,
     piece: &mut String<A>,
     bytes: &[u8],
@@ -101,14 +105,14 @@ fn push_shown<A: Allocator>(
     text.extend_from_slice(piece.as_bytes())
 }
 
-// Prints a packet, by a text that is made anew. It answers the length of the packet.
+// Prints a packet and returns its length in bytes. The buffers lose their texts.
 fn print_packet<O: Write, A: Allocator>(
     output: &mut O,
     text: &mut Vec<u8, A>,
     piece: &mut String<A>,
     packet: &[u8],
 ) -> Result<usize, SinkError>
-    ensures { MatchResult result (λ n. n ≤ length packet.now) (λ e. is_of_packets e ≡ true) }
+    ensures { MatchResult result (λ n. n ≤ length packet.now) (λ e. is_packet_error e ≡ true) }
 {
     let length = packet.len();
     piece.clear();
@@ -118,18 +122,18 @@ fn print_packet<O: Write, A: Allocator>(
     if length > 0 {
         text.extend_from_slice(b" ")?;
     }
-    push_shown(text, piece, packet)?;
+    push_escaped(text, piece, packet)?;
     text.extend_from_slice(b"\n")?;
     match output.write_all(text) {
         Ok(()) => Ok(length),
-        Err(fault) => Err(SinkError::Io(fault)),
+        Err(error) => Err(SinkError::Io(error)),
     }
 }
 
-impl<O: Write + Drop, A: Allocator> PacketWriter for Printed<O, A> {
+impl<O: Write + Drop, A: Allocator> PacketWriter for PacketPrinter<O, A> {
     ghost history = { λ w. history_of [] w.refusals };
 
-    ghost kind = { λ _. packets_kind };
+    ghost kind = { λ _. packet_writer_kind };
 
     fn write_packet(&mut self, packet: &[u8]) -> Result<usize, SinkError> {
         let answer = print_packet(&mut self.output, &mut self.text, &mut self.piece, packet);

@@ -1,19 +1,19 @@
-//! One run of `statsd_send`: a metric of words, or the metrics of a text.
+//! Sends one metric, or those of an input, and returns the exit status.
 ghost use Rattle.std.specs.Prelude.{◌≡◌, ◌≤◌, ◌⊎◌, [], IfSome, OnOk, IfOk, map};
 ghost use Rattle.cadence_send.specs.Sent.{SendsTexts, SendsWords, TakesLines, texts_of};
 
-use crate::defaults::Defaults;
-use crate::engine::{Counts, Failure, take_input};
-use crate::fault::{Fault, Part};
+use crate::engine::{RunError, TextCounts, take_input};
 use crate::line::write_line_of_words;
+use crate::options::Defaults;
 use crate::pace::Pace;
+use crate::word_error::{Part, WordError};
 use cadence_errors::SinkError;
 use cadence_flow::io::{LineBuffer, PacketWriter};
 use std::alloc::Allocator;
 use std::io::{Read, Write};
 
-// Sends all that is held.
-fn flush_all<T: PacketWriter, A: Allocator>(lines: &mut LineBuffer<T, A>) -> Result<(), Failure>
+// Sends the held text.
+fn flush_all<T: PacketWriter, A: Allocator>(lines: &mut LineBuffer<T, A>) -> Result<(), RunError>
     ensures same { OnOk result (TakesLines T.kind T.history lines.old lines.new []) }
     ensures empty { OnOk result (lines.new.held ≡ []) }
 {
@@ -22,11 +22,11 @@ fn flush_all<T: PacketWriter, A: Allocator>(lines: &mut LineBuffer<T, A>) -> Res
     Ok(())
 }
 
-/// Sends the line of each text that the input holds, as `take_input`, and then what is held. It is sent too where the
-/// input fails or memory is refused.
+/// Sends the metrics of the input's lines. It calls `take_input`, and then sends the held text, also after an error of
+/// `take_input`.
 ///
 /// # Errors
-/// Those of `take_input`.
+/// `Input` if the reader fails, `Writer` if a packet is refused, and `OutOfMemory`.
 pub fn send_input<T, I, E, P, A>(
     alloc: &A,
     defaults: &Defaults<A>,
@@ -34,7 +34,7 @@ pub fn send_input<T, I, E, P, A>(
     input: &mut I,
     errors: &mut E,
     pace: &mut P,
-) -> Result<Counts, Failure>
+) -> Result<TextCounts, RunError>
 where
     T: PacketWriter,
     I: Read,
@@ -51,17 +51,17 @@ where
     Ok(counts)
 }
 
-/// Sends the line of the metric that the words ask for, and then what is held. Where the words ask for nothing, it
-/// answers why, and nothing is sent.
+/// Sends the metric of the words, and the text that was held before it. If the words ask for no metric, it sends
+/// nothing and returns the part that can't be read.
 ///
 /// # Errors
-/// `Writer` where a packet is refused, and `OutOfMemory`.
+/// `Writer` if a packet is refused, and `OutOfMemory`.
 pub fn send_words<T: PacketWriter, A: Allocator + Clone>(
     alloc: &A,
     defaults: &Defaults<A>,
     lines: &mut LineBuffer<T, A>,
     words: &[&str],
-) -> Result<Option<Part>, Failure>
+) -> Result<Option<Part>, RunError>
     ensures { IfOk result (SendsWords defaults.now T.kind T.history lines.old lines.new
         (map (λ w. w.now) words.now)) }
 {
@@ -73,21 +73,22 @@ pub fn send_words<T: PacketWriter, A: Allocator + Clone>(
             flush_all(lines)?;
             Ok(None)
         }
-        Err(Fault::Unreadable(part)) => Ok(Some(part)),
-        Err(Fault::OutOfMemory) => Err(Failure::OutOfMemory),
+        Err(WordError::Unreadable(part)) => Ok(Some(part)),
+        Err(WordError::OutOfMemory) => Err(RunError::OutOfMemory),
     }
 }
 
-// Tells a failure, and answers its status.
-fn status_of<E: Write>(failure: Failure, errors: &mut E) -> u8
+// Writes the error to `errors`, and returns its exit status.
+fn report_error<E: Write>(error: RunError, errors: &mut E) -> u8
     ensures { (result ≡ 1) ⊎ (result ≡ 3) }
 {
-    let _ = writeln!(errors, "statsd_send: {failure}");
-    failure.status()
+    let _ = writeln!(errors, "statsd_send: {error}");
+    error.status()
 }
 
-/// As `send_words`, with a status: 0 where the metric was sent, 1 where the writer refused, 2 where the words ask for
-/// nothing, 3 where memory was refused. Each but 0 is told to the errors by a line; a fault of these changes nothing.
+/// Sends the metric of the words with `send_words`, and returns the exit status of the program: 0 if the metric was
+/// sent, 1 if a packet was refused, 2 if the words ask for no metric, and 3 if memory ran out. For every status but 0,
+/// one line is written to `errors`. An error of `errors` is ignored.
 pub fn run_words<T: PacketWriter, E: Write, A: Allocator + Clone>(
     alloc: &A,
     defaults: &Defaults<A>,
@@ -103,13 +104,14 @@ pub fn run_words<T: PacketWriter, E: Write, A: Allocator + Clone>(
             let _ = writeln!(errors, "statsd_send: {part}");
             2
         }
-        Err(failure) => status_of(failure, errors),
+        Err(error) => report_error(error, errors),
     }
 }
 
-/// As `send_input`, with a status: 0 where the line of each text was sent, 1 where the input or the writer failed, 2
-/// where some texts can't be read and the lines of the others were sent, 3 where memory was refused. Each but 0 is told
-/// to the errors; a fault of these changes nothing.
+/// Sends the metrics of the input's lines with `send_input`, and returns the exit status of the program: 0 if the
+/// metrics of all lines were sent, 1 if the reader failed or a packet was refused, 2 if some lines can't be read and
+/// the metrics of the others were sent, and 3 if memory ran out. For every status but 0, the reason is written to
+/// `errors`. An error of `errors` is ignored.
 pub fn run_input<T, I, E, P, A>(
     alloc: &A,
     defaults: &Defaults<A>,
@@ -141,6 +143,6 @@ where
             );
             2
         }
-        Err(failure) => status_of(failure, errors),
+        Err(error) => report_error(error, errors),
     }
 }

@@ -1,22 +1,23 @@
-//! The value of a metric, read from its word.
+//! Reads the value of a metric.
 ghost use Rattle.std.specs.Prelude.{◌≡◌, ◌↔◌, ◌≢◌, ◌∷◌, [], All, IsTrue, map};
 ghost use Rattle.std.specs.List.{AllZip};
-ghost use Rattle.cadence_send.specs.Asked.{IsNumberWord, IsPlainWord, IsValueWord, Packs, Takes};
-ghost use Rattle.cadence_send.specs.Finds.{Finds, FindsOrFails};
+ghost use Rattle.cadence_send.specs.Asked.{AllowsNumber, AllowsSeveral, IsNumberWord, IsPlainWord, IsValueWord};
+ghost use Rattle.cadence_send.specs.Finds.{FindsOrFails};
+ghost use Rattle.cadence_value.specs.Finds.{Finds};
 ghost use Rattle.cadence_value.specs.Values.{numbers_of};
 
 use crate::decimal::read_decimal;
 use crate::duration::read_duration;
-use crate::fault::{Fault, Part};
+use crate::word_error::{Part, WordError};
 use crate::words::cut_items;
 use cadence_text::line::MetricType;
 use cadence_value::decimal::Decimal;
 use cadence_value::value::MetricValue;
 use std::alloc::Allocator;
 
-// Whether a kind has this number.
-fn takes(kind: MetricType, number: Decimal) -> bool
-    ensures { IsTrue result ↔ Takes kind number }
+// Returns whether a metric of this kind can have this number as its value.
+fn allows_number(kind: MetricType, number: Decimal) -> bool
+    ensures { IsTrue result ↔ AllowsNumber kind number }
 {
     let is_whole = number.places() == 0;
     let is_signed = is_whole && i64::try_from(number.mantissa()).is_ok();
@@ -29,9 +30,9 @@ fn takes(kind: MetricType, number: Decimal) -> bool
     }
 }
 
-// Whether several values of a kind go into one line.
-fn packs(kind: MetricType) -> bool
-    ensures { IsTrue result ↔ Packs kind }
+// Returns whether a metric of this kind can have several values in one line.
+fn allows_several(kind: MetricType) -> bool
+    ensures { IsTrue result ↔ AllowsSeveral kind }
 {
     match kind {
         MetricType::Timer | MetricType::Histogram | MetricType::Distribution => true,
@@ -39,18 +40,18 @@ fn packs(kind: MetricType) -> bool
     }
 }
 
-// The number of a kind that a word says.
+// Returns the number that a word says, if this kind of metric allows it.
 fn read_plain(kind: MetricType, word: &str) -> Option<Decimal>
     ensures { Finds (IsPlainWord kind word.now) result }
 {
     let number = read_decimal(word)?;
-    if !takes(kind, number) {
+    if !allows_number(kind, number) {
         return None;
     }
     Some(number)
 }
 
-// The number of a kind that a word is.
+// Returns the number that a word says, or the value of the duration that it says, for this kind of metric.
 fn read_item(kind: MetricType, word: &str) -> Option<Decimal>
     ensures { Finds (IsNumberWord kind word.now) result }
 {
@@ -60,34 +61,34 @@ fn read_item(kind: MetricType, word: &str) -> Option<Decimal>
     }
 }
 
-// The numbers that the words are.
+// Reads each of the words as a number or a duration.
 fn read_items<A: Allocator>(
     alloc: A,
     kind: MetricType,
     words: &[&str],
-) -> Result<Vec<Decimal, A>, Fault>
+) -> Result<Vec<Decimal, A>, WordError>
     ensures { FindsOrFails (AllZip (IsNumberWord kind) (map (λ w. w.now) words.now))
         (λ numbers. numbers.items) result }
 {
     let mut numbers = Vec::with_capacity(alloc, words.len())?;
     for word in words {
         let Some(number) = read_item(kind, word) else {
-            return Err(Fault::Unreadable(Part::Value));
+            return Err(WordError::Unreadable(Part::Value));
         };
         numbers.push(number)?;
     }
     Ok(numbers)
 }
 
-// Whether the word has no comma.
+// Returns whether the word has no comma.
 fn is_single(word: &str) -> bool
     ensures { IsTrue result ↔ All (λ byte. byte ≢ 44) word.now }
 {
     word.as_bytes().iter().all(|byte| *byte != b',')
 }
 
-// The value of one number, in the form whose digits are fastest to print.
-fn single<A: Allocator>(number: Decimal) -> MetricValue<A>
+// Returns a value of one number. A whole number that fits 64 bits is signed, because those print fastest.
+fn single_value<A: Allocator>(number: Decimal) -> MetricValue<A>
     ensures { numbers_of result ≡ number ∷ [] }
 {
     if number.places() > 0 {
@@ -99,23 +100,23 @@ fn single<A: Allocator>(number: Decimal) -> MetricValue<A>
     }
 }
 
-// The value of a kind that a word is.
+// Reads the value of a metric of this kind: one number or duration, or several with a comma between each two.
 pub(crate) fn read_value<A: Allocator + Clone>(
     alloc: &A,
     kind: MetricType,
     word: &str,
-) -> Result<MetricValue<A>, Fault>
+) -> Result<MetricValue<A>, WordError>
     ensures { FindsOrFails (IsValueWord kind word.now) numbers_of result }
 {
     if is_single(word) {
         return match read_item(kind, word) {
-            Some(number) => Ok(single(number)),
-            None => Err(Fault::Unreadable(Part::Value)),
+            Some(number) => Ok(single_value(number)),
+            None => Err(WordError::Unreadable(Part::Value)),
         };
     }
     let items = cut_items(alloc.clone()?, word)?;
-    if items.len() != 1 && !packs(kind) {
-        return Err(Fault::Unreadable(Part::Value));
+    if items.len() != 1 && !allows_several(kind) {
+        return Err(WordError::Unreadable(Part::Value));
     }
     let numbers = read_items(alloc.clone()?, kind, &items)?;
     Ok(MetricValue::PackedDecimal(numbers))

@@ -1,41 +1,25 @@
-//! The words of a line, each read by itself.
+//! Cuts a line into words, and reads single words.
 ghost use Rattle.std.specs.Prelude.{◌≡◌, ◌≢◌, ◌↔◌, ◌==◌, ◌<◌, ◌∷◌, ◌++◌, [], All, IfNone, IfOk, IfSome, IsTrue, map};
 ghost use Rattle.std.specs.List.{slice_split};
 ghost use Rattle.std.specs.Option.{option_map};
 ghost use Rattle.std.specs.Str.{IsUtf8};
 ghost use Rattle.cadence_send.specs.Asked.{IsTagWord, IsWord, NamesKind, words_of};
-ghost use Rattle.cadence_send.specs.Finds.{Finds};
-ghost use Rattle.cadence_text.specs.OneReading.{IsFreeText};
+ghost use Rattle.cadence_value.specs.Finds.{Finds};
 ghost use Rattle.cadence_text.specs.Record.{tag_of};
 
-use cadence_text::line::{MetricType, Tag};
+use cadence_text::line::{MetricType, Tag, is_free};
 use cadence_value::bytes;
 use std::alloc::{AllocError, Allocator};
 use std::str;
 
-// Whether a byte is no colon, comma or newline. These are low bytes, and letters are high ones.
-#[inline(always)]
-fn is_low_free(byte: u8) -> bool
-    ensures { IsTrue result ↔ (byte ≢ 58) × (byte ≢ 44) × (byte ≢ 10) }
-{
-    byte != b':' && byte != b',' && byte != b'\n'
-}
-
-// Whether the text has no colon, comma, bar or newline.
-fn is_free(text: &str) -> bool
-    ensures { IsTrue result ↔ IsFreeText text.now }
-{
-    text.as_bytes().iter().all(|byte| *byte != b'|' && (*byte > b':' || is_low_free(*byte)))
-}
-
-// Whether the text is some word.
+// Returns whether a text is not empty and has no separator.
 pub(crate) fn is_word(text: &str) -> bool
     ensures { IsTrue result ↔ IsWord text.now }
 {
-    !text.is_empty() && is_free(text)
+    !text.is_empty() && is_free(text.as_bytes())
 }
 
-// The kind that a word names: by its type text or by its name.
+// Returns the kind of metric that a word names: by its type text, as `c`, or by its name, as `count`.
 pub(crate) fn read_kind(word: &str) -> Option<MetricType>
     ensures { Finds (NamesKind word.now) result }
 {
@@ -54,9 +38,9 @@ pub(crate) fn read_kind(word: &str) -> Option<MetricType>
     }
 }
 
-// The text, if the bytes are UTF-8. Most are ASCII, which takes less to see.
+// Returns the bytes as a text if they are UTF-8. Most bytes are ASCII, and the test for ASCII is faster.
 #[inline(always)]
-pub(crate) fn text_of(bytes: &[u8]) -> Option<&str>
+pub(crate) fn utf8_text(bytes: &[u8]) -> Option<&str>
     ensures text { IfSome result (λ t. (t.now ≡ bytes.now) × IsUtf8 bytes.now) }
     ensures none { IfNone result (IsUtf8 bytes.now → ⊥) }
 {
@@ -66,8 +50,9 @@ pub(crate) fn text_of(bytes: &[u8]) -> Option<&str>
     str::from_utf8(bytes).ok()
 }
 
-// What stands before the first such character, which is ASCII, and what stands after it.
-fn cut(text: &str, mark: u8) -> Option<(&str, &str)>
+// Returns the text before the first `mark`, which is an ASCII character, and the text after it. This is
+// `cadence_value::bytes::cut` for texts in UTF-8.
+fn cut_text(text: &str, mark: u8) -> Option<(&str, &str)>
     requires { mark < 128 }
     ensures none { IfNone result (All (λ byte. byte ≢ mark) text.now) }
     ensures front { IfSome result (λ parts. All (λ byte. byte ≢ mark) parts.0.now) }
@@ -79,15 +64,15 @@ fn cut(text: &str, mark: u8) -> Option<(&str, &str)>
     Some((front, rest))
 }
 
-// The tag that a word is: its text, or its key and its text.
+// Returns the tag that a word is: a key and a text with a colon between them, or a text alone.
 pub(crate) fn read_tag(word: &str) -> Option<Tag<'_>>
     ensures { Finds (IsTagWord word.now) (option_map tag_of result) }
 {
     if word.is_empty() {
         return None;
     }
-    let Some((key, text)) = cut(word, b':') else {
-        if !is_free(word) {
+    let Some((key, text)) = cut_text(word, b':') else {
+        if !is_free(word.as_bytes()) {
             return None;
         }
         return Some(Tag {
@@ -95,10 +80,10 @@ pub(crate) fn read_tag(word: &str) -> Option<Tag<'_>>
             text: word,
         });
     };
-    if !is_free(key) {
+    if !is_free(key.as_bytes()) {
         return None;
     }
-    if !is_free(text) {
+    if !is_free(text.as_bytes()) {
         return None;
     }
     Some(Tag {
@@ -107,14 +92,14 @@ pub(crate) fn read_tag(word: &str) -> Option<Tag<'_>>
     })
 }
 
-// The first word of a text, and what stands after it.
+// Returns the first word of a text, and the text after it.
 pub(crate) fn cut_word(text: &str) -> Option<(&str, &str)>
     ensures none { IfNone result (words_of text.now ≡ []) }
     ensures some { IfSome result
         (λ parts. words_of text.now ≡ parts.0.now ∷ words_of parts.1.now) }
 {
     let mut left = text;
-    while let Some((word, others)) = cut(left, b' ') {
+    while let Some((word, others)) = cut_text(left, b' ') {
         if !word.is_empty() {
             return Some((word, others));
         }
@@ -126,7 +111,7 @@ pub(crate) fn cut_word(text: &str) -> Option<(&str, &str)>
     Some((left, ""))
 }
 
-// The items of a text between its commas.
+// Returns the items between the commas of a text.
 pub(crate) fn cut_items<A: Allocator>(alloc: A, text: &str) -> Result<Vec<&str, A>, AllocError>
     ensures { IfOk result (λ items.
         map (λ w. w.now) items.items ≡ slice_split (λ b. b == 44) text.now) }

@@ -1,18 +1,18 @@
--- What sinks may answer.
+-- What sinks over a queue may return.
 use Rattle.std.specs.Prelude.{◌≡◌, ℕ, true, false, List, length, Result, MatchResult}
 use Rattle.cadence_errors.specs.declared.SinkError.{SinkError}
 use Rattle.cadence_flow.specs.Queue.{IsQueueRefusal, is_queue_refusal}
 use Rattle.cadence_flow.specs.Sums.{zero_sums}
-use Rattle.cadence_flow.specs.Writer.{Kind}
+use Rattle.cadence_flow.specs.Writer.{WriterKind}
 
--- the length of the text, or a queue's refusal
+-- The result is the length of the text, or an error of a queue.
 abbrev pub IsQueueAnswer : List ℕ → Result ℕ SinkError → Type 0
 IsQueueAnswer text answer = MatchResult answer (λ n. n ≡ length text) IsQueueRefusal
 
--- nothing to tell, or a queue's refusal
+-- A flush succeeds, or has an error of a queue.
 abbrev pub IsQueueFlush : Result (Unit {0}) SinkError → Type 0
 IsQueueFlush answer = MatchResult answer (λ _. Unit {0}) IsQueueRefusal
 
--- a writer into a queue: it gives a queue's refusals, takes each packet whole, and doesn't tell its packets
-abbrev pub queue_kind : Kind
+-- a queue as a writer of packets: it has the errors of a queue, takes each packet whole, and contracts don't see its packets
+abbrev pub queue_kind : WriterKind
 queue_kind = record { may_give = is_queue_refusal; tells = false; takes_whole = true; start = zero_sums }

@@ -1,41 +1,41 @@
--- What contracts show of UDP sinks and of their builders.
+-- What contracts show of UDP sinks and of their builders, whose fields are private.
 use Rattle.std.specs.Prelude.{ℕ, Bool, Option}
 use Rattle.std.specs.Option.{option_map}
 use Rattle.std.specs.declared.dyn_box.DynBox.{DynBox}
 use Rattle.std.specs.declared.alloc.Global.{Global}
 use Rattle.std.specs.declared.time.Duration.{Duration}
-use Rattle.cadence_resolve.specs.Handler.{call_of}
+use Rattle.cadence_resolve.specs.Handler.{closure_of}
 use Rattle.cadence_resolve.specs.Lookups.{KeepsAddress, is_periodic}
 use Rattle.cadence_resolve.specs.declared.target.Target.{Target}
 use Rattle.cadence_sinks.specs.declared.udp.buffered.BufferedUdpMetricSinkBuilder.{BufferedUdpMetricSinkBuilder}
 use Rattle.cadence_sinks.specs.declared.udp.unbuffered.UdpMetricSinkBuilder.{UdpMetricSinkBuilder}
 use Rattle.cadence_sinks.specs.declared.udp.unbuffered.UdpMetricSink.{UdpMetricSink}
 
--- whether a thread looks the sink's target up again and again
+-- whether a thread looks the sink's target up again after each period
 abbrev pub looks_up_again : {R A : Type 0} → UdpMetricSink R A → Bool
 looks_up_again s = is_periodic s.socket.socket.resolver
 
--- a sink whose target is looked up once sends to the target's address
+-- A sink whose target is looked up once sends to the target's address. (Of a sink with a period this says nothing.)
 abbrev pub SendsTo : {R A B : Type 0} → UdpMetricSink R A → Target B → Type 0
 SendsTo s target = KeepsAddress s.socket.socket.resolver target
 
 module _ {Y : Type 0} {G : Y → Type 0} {g : _} where
-  -- the time between two lookups, or none
+  -- the time between two lookups that a builder has, or none
   abbrev pub period_of : UdpMetricSinkBuilder Y G g → Option Duration
-  period_of b = b.resolving.period
+  period_of b = b.period
 
-  -- who is told of a failed lookup, where there is one
+  -- the closure that receives the errors of lookups, if a builder has one
   abbrev pub handler_of : UdpMetricSinkBuilder Y G g → Option (DynBox Y Global G)
-  handler_of b = option_map call_of b.resolving.handler
+  handler_of b = option_map closure_of b.handler
 
-  -- the bytes of the buffer, where they are given
+  -- the capacity of the buffer in bytes, if a builder has one
   abbrev pub buffered_capacity_of : BufferedUdpMetricSinkBuilder Y G g → Option ℕ
   buffered_capacity_of b = b.capacity
 
-  -- the time between two lookups of a buffered sink's target, or none
+  -- the time between two lookups that the builder of a buffered sink has, or none
   abbrev pub buffered_period_of : BufferedUdpMetricSinkBuilder Y G g → Option Duration
-  buffered_period_of b = b.resolving.period
+  buffered_period_of b = b.period
 
-  -- who is told of a failed lookup of a buffered sink's target, where there is one
+  -- the closure that receives the errors of lookups, if the builder of a buffered sink has one
   abbrev pub buffered_handler_of : BufferedUdpMetricSinkBuilder Y G g → Option (DynBox Y Global G)
-  buffered_handler_of b = option_map call_of b.resolving.handler
+  buffered_handler_of b = option_map closure_of b.handler

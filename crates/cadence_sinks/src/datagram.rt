@@ -1,46 +1,49 @@
-//! What sinks over sockets have in common.
+//! What the sinks over UDP and over Unix sockets share: the counts of a socket, and a buffer with its lock over one.
 ghost use Rattle.std.specs.Option.{ok_or};
-ghost use Rattle.std.specs.Prelude.{◌≡◌, Bool, IfOk};
-ghost use Rattle.cadence_errors.specs.Errors.{OnlyWantsMemory};
+ghost use Rattle.std.specs.Prelude.{◌≡◌, [], Bool, IfOk};
+ghost use Rattle.cadence_errors.specs.Errors.{MayOnlyRunOutOfMemory};
 ghost use Rattle.cadence_errors.specs.declared.SinkError.{SinkError};
-ghost use Rattle.cadence_sinks.specs.Sockets.{IsBufferedAnswer, IsBufferedFlush, IsSocketAnswer};
+ghost use Rattle.cadence_flow.specs.Writer.{history_of};
+ghost use Rattle.cadence_sinks.specs.Buffers.{buffer_of};
+ghost use Rattle.cadence_sinks.specs.Sockets.{IsBufferedAnswer, IsBufferedFlush, IsSocketAnswer, socket_kind};
 
 use cadence_errors::{MetricResult, SinkError};
 use cadence_flow::io::{PacketWriter, Refusals};
-use cadence_flow::stats::{SinkStats, SocketStats};
-use cadence_ledger::{LineLedger, acquire};
+use cadence_flow::stats::SinkStats;
+use cadence_shared::{RecordedPacker, SocketStats, acquire};
 use std::alloc::Allocator;
 use std::sync::{Mutex, MutexGuard, Wait};
 
-/// A socket with the place that it sends to.
-pub trait Datagrams: Drop {
-    /// The errors that it may give.
+/// A datagram socket together with the place that it sends to.
+pub trait DatagramSocket: Drop {
+    /// The errors that the socket may return.
     ghost may_give: { SinkError → Bool };
 
-    /// Sends a packet, and returns how many of its first bytes were taken. After an error the result is `None` and
-    /// `fault` has the error, as with `PacketWriter::write_packet_narrow`.
+    /// Sends a packet, and returns how many of its first bytes were taken. After an error the result is `None`, and the
+    /// error is in `fault`. A `Result` in its place would be as wide as the widest error, and each function that passes
+    /// one on copies all of it.
     fn send(&self, packet: &[u8], fault: &mut SinkError) -> Option<usize>
         ensures { IsSocketAnswer may_give packet.now (ok_or result fault.new) };
 }
 
-/// A socket each answer of which is counted.
+/// A socket whose results are counted: the bytes and packets that were sent, and those that were dropped.
 #[derive(Drop)]
-pub struct CountedSocket<D: Datagrams, R: Wait + Drop, A: Allocator> {
+pub struct CountedSocket<D: DatagramSocket, R: Wait + Drop, A: Allocator> {
     socket: D,
     stats: SocketStats<R, A>,
 }
 
-impl<D: Datagrams, R: Wait + Drop, A: Allocator> CountedSocket<D, R, A> {
-    /// Nothing is counted yet. The only error is `OutOfMemory`.
+impl<D: DatagramSocket, R: Wait + Drop, A: Allocator> CountedSocket<D, R, A> {
+    /// Starts with all counts at 0. The only error is `OutOfMemory`.
     pub fn new(rt: R, alloc: A, socket: D) -> MetricResult<Self>
         ensures socket { IfOk result (λ c. c.socket ≡ socket) }
-        ensures refused { OnlyWantsMemory result }
+        ensures refused { MayOnlyRunOutOfMemory result }
     {
         let stats = SocketStats::new(rt, alloc)?;
         Ok(CountedSocket { socket, stats })
     }
 
-    /// Sends a packet and counts the answer.
+    /// Sends a packet, and counts the result.
     #[inline(always)]
     pub fn send(&self, packet: &[u8], fault: &mut SinkError) -> Option<usize>
         ensures { IsSocketAnswer D.may_give packet.now (ok_or result fault.new) }
@@ -50,24 +53,20 @@ impl<D: Datagrams, R: Wait + Drop, A: Allocator> CountedSocket<D, R, A> {
         taken
     }
 
-    /// The counts of this moment.
+    /// Returns the counts of this moment.
     pub fn stats(&self) -> SinkStats {
         SinkStats::from(&self.stats)
     }
 }
 
-/// Writes packets to a socket. It doesn't tell its packets; the ledger round it does.
+/// Writes packets to a socket. Contracts don't see its packets; the packer around it records them.
 #[derive(Drop)]
-pub struct SocketWriter<D: Datagrams, R: Wait + Drop, A: Allocator> {
+pub struct SocketWriter<D: DatagramSocket, R: Wait + Drop, A: Allocator> {
     socket: CountedSocket<D, R, A>,
     refusals: Refusals,
 }
 
-impl<D: Datagrams, R: Wait + Drop, A: Allocator> PacketWriter for SocketWriter<D, R, A> {
-    ghost use Rattle.std.specs.Prelude.{[]};
-    ghost use Rattle.cadence_flow.specs.Writer.{history_of};
-    ghost use Rattle.cadence_sinks.specs.Sockets.{socket_kind};
-
+impl<D: DatagramSocket, R: Wait + Drop, A: Allocator> PacketWriter for SocketWriter<D, R, A> {
     ghost history = { λ w. history_of [] w.refusals };
 
     ghost kind = { λ _. socket_kind D.may_give };
@@ -87,22 +86,20 @@ impl<D: Datagrams, R: Wait + Drop, A: Allocator> PacketWriter for SocketWriter<D
     }
 }
 
-/// A packer with the newline as its ending and with a ledger, under a lock, over a socket each answer of which is
-/// counted. Its drop tries one flush.
-pub struct PackedSocket<D: Datagrams, R: Wait + Drop, A: Allocator> {
+/// Packs lines, each followed by a newline, into the packets of a counted socket. The packer and its record, which only
+/// proofs read, are under a lock. The drop tries one flush.
+pub struct PackedSocket<D: DatagramSocket, R: Wait + Drop, A: Allocator> {
     rt: R,
-    writer: Mutex<LineLedger<SocketWriter<D, R, A>, A>>,
+    writer: Mutex<RecordedPacker<SocketWriter<D, R, A>, A>>,
     stats: SocketStats<R, A>,
     capacity: usize,
 }
 
-impl<D: Datagrams, R: Wait + Clone + Drop, A: Allocator + Clone> PackedSocket<D, R, A> {
-    ghost use Rattle.cadence_sinks.specs.Buffers.{buffer_of};
-
-    /// A buffer of `capacity` bytes, in which nothing is held yet. The only error is `OutOfMemory`.
+impl<D: DatagramSocket, R: Wait + Clone + Drop, A: Allocator + Clone> PackedSocket<D, R, A> {
+    /// Starts with an empty buffer of `capacity` bytes. The only error is `OutOfMemory`.
     pub fn new(rt: R, alloc: A, socket: D, capacity: usize) -> MetricResult<Self>
         ensures buffer { IfOk result (λ s. buffer_of s ≡ capacity) }
-        ensures refused { OnlyWantsMemory result }
+        ensures refused { MayOnlyRunOutOfMemory result }
     {
         let socket = CountedSocket::new(rt.clone()?, alloc.clone()?, socket)?;
         let stats = socket.stats.clone()?;
@@ -110,7 +107,7 @@ impl<D: Datagrams, R: Wait + Clone + Drop, A: Allocator + Clone> PackedSocket<D,
             socket,
             refusals: Refusals::none(),
         };
-        let lines = LineLedger::new(alloc, writer, capacity)?;
+        let lines = RecordedPacker::new(alloc, writer, capacity)?;
         Ok(PackedSocket {
             rt,
             writer: Mutex::new(lines),
@@ -120,20 +117,18 @@ impl<D: Datagrams, R: Wait + Clone + Drop, A: Allocator + Clone> PackedSocket<D,
     }
 }
 
-impl<D: Datagrams, R: Wait + Drop, A: Allocator> PackedSocket<D, R, A> {
-    ghost use Rattle.cadence_sinks.specs.Buffers.{buffer_of};
-
+impl<D: DatagramSocket, R: Wait + Drop, A: Allocator> PackedSocket<D, R, A> {
     /// Takes the line of a metric, under the lock. There are three cases:
     ///
-    /// 1. The line and its newline fit the free room of the buffer. They are held, and nothing is sent.
-    /// 2. They don't, but an empty buffer has room for them. What is held is sent, and then they are held.
-    /// 3. An empty buffer has no room for them. What is held is sent, and then the line alone, without the newline.
+    /// 1. The line and its newline fit into the free room of the buffer. They are held, and nothing is sent.
+    /// 2. They don't, but they fit into an empty buffer. The held text is sent, and then they are held.
+    /// 3. They don't fit into an empty buffer. The held text is sent, and then the line alone, without the newline.
     ///
-    /// It returns the line's length, or in the third case how many bytes of the line the socket took. After an error it
-    /// returns `None`, and nothing of the line is kept. The error in `fault` is then the socket's, or `NothingWritten` if
-    /// the socket took 0 bytes of held text.
-    // It is forced inline, because most lines are the first case, and a call would take some 23 instructions more. A wide
-    // result would take 17 more, though it is inline: the sink's own `emit` copies it.
+    /// Returns the line's length, or in the third case how many bytes of the line the socket took. After an error the
+    /// result is `None`, and nothing of the line is held. The error in `fault` is the socket's, or `NothingWritten` if
+    /// the socket took 0 bytes of the held text.
+    // It is forced inline, because most lines are the first case, and a call would take some 23 instructions more. A
+    // wide result would take 17 more, although this is inline, because the sink's own `emit` copies it.
     #[inline(always)]
     pub fn emit(&self, metric: &str, fault: &mut SinkError) -> Option<usize>
         ensures { IsBufferedAnswer D.may_give (buffer_of self.now)
@@ -146,9 +141,13 @@ impl<D: Datagrams, R: Wait + Drop, A: Allocator> PackedSocket<D, R, A> {
         self.write_out(lines, metric, fault)
     }
 
-    // The second and the third case of `emit`, after which the lock is free. It is never inline, so that the first case
-    // is short. In the second case `write` alone would do the same in some 20 instructions more, because it asks for
-    // free room first.
+    // Takes a line that doesn't fit into the free room of the buffer, and then frees the lock. There are three cases:
+    // - The line and its newline fit into an empty buffer, and after the flush they are held. `write` alone would do
+    //   the same with some 20 instructions more, because it asks for free room first.
+    // - They fit into an empty buffer, but `hold` still refuses them. This never happens, but no contract excludes it,
+    //   because a clause of a lock can't name the capacity of the packer under it. Then `write` takes the line.
+    // - They don't fit into an empty buffer. Then `write` flushes, and sends the line alone.
+    // It is never inline, so that the first case of `emit` is short.
     #[inline(never)]
     fn write_out(
         &self,
@@ -166,7 +165,7 @@ impl<D: Datagrams, R: Wait + Drop, A: Allocator> PackedSocket<D, R, A> {
             }
         }
         let n = lines.write(metric.as_bytes(), fault)?;
-        // a line for which the capacity has room is never cut, but no clause of a lock tells its packer's capacity
+        // a line that fits into an empty buffer is never cut: `n` is its length, but no contract says so
         Some(if metric.len() < self.capacity {
             metric.len()
         } else {
@@ -174,7 +173,8 @@ impl<D: Datagrams, R: Wait + Drop, A: Allocator> PackedSocket<D, R, A> {
         })
     }
 
-    /// Sends what is held. The errors are those of `emit`; what the socket didn't take stays held.
+    /// Sends the held text. The error is the socket's, or `NothingWritten` if the socket took 0 bytes. What the socket
+    /// didn't take stays held.
     pub fn flush(&self) -> Result<(), SinkError>
         ensures { IsBufferedFlush D.may_give result }
     {
@@ -182,16 +182,16 @@ impl<D: Datagrams, R: Wait + Drop, A: Allocator> PackedSocket<D, R, A> {
         self.writer.lock(&self.rt).flush(&mut fault).ok_or(fault)
     }
 
-    /// The counts of this moment.
+    /// Returns the counts of this moment.
     pub fn stats(&self) -> SinkStats {
         SinkStats::from(&self.stats)
     }
 }
 
-// The lock of a packed socket, once it is taken.
-type SocketLines<'a, D, R, A> = MutexGuard<'a, LineLedger<SocketWriter<D, R, A>, A>>;
+// The packer of a packed socket while its lock is taken.
+type SocketLines<'a, D, R, A> = MutexGuard<'a, RecordedPacker<SocketWriter<D, R, A>, A>>;
 
-impl<D: Datagrams, R: Wait + Drop, A: Allocator> Drop for PackedSocket<D, R, A> {
+impl<D: DatagramSocket, R: Wait + Drop, A: Allocator> Drop for PackedSocket<D, R, A> {
     fn drop(self) {
         let PackedSocket {
             rt: _rt,

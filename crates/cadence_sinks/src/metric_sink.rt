@@ -1,4 +1,4 @@
-//! The interface of a sink, and the sink that drops everything.
+//! The trait of all sinks, and the sink that drops each line.
 ghost use Rattle.std.specs.Prelude.{◌≡◌, List, ℕ, Result, Ok, IfErr};
 ghost use Rattle.cadence_errors.specs.declared.SinkError.{SinkError};
 
@@ -6,36 +6,45 @@ use cadence_errors::SinkError;
 use cadence_flow::stats::SinkStats;
 use std::alloc::Allocator;
 
-/// Takes lines and sends them somewhere. A line has no newline at its end. An impl states which
-/// answers a line may get, and which a flush may get; a flush may always succeed.
+/// Takes lines and sends them somewhere. A line has no newline at its end.
+///
+/// An impl states which results a line may get and which results a flush may get. A flush always may succeed.
+///
+/// ```text
+/// impl MetricSink for MySink {
+///     ghost may_answer = { λ _ line answer. answer ≡ Ok (length line) };
+///     fn emit(&self, metric: &str) -> Result<usize, SinkError> { Ok(metric.len()) }
+///     ghost flush_may_succeed = { λ _. tt };
+/// }
+/// ```
 pub trait MetricSink: Drop {
-    /// The answers that a line may get.
+    /// The results that a line may get.
     ghost may_answer: { Self → List ℕ → Result ℕ SinkError → Type 0 };
 
-    /// The answers that a flush may get; by default it can't fail.
+    /// The results that a flush may get. By default a flush can't fail.
     ghost may_flush: { Self → Result (Unit {0}) SinkError → Type 0 } = { λ _ r. IfErr r (λ _. ⊥) };
 
     /// A flush may always succeed.
     ghost flush_may_succeed: { (s : Self) → may_flush s (Ok tt) };
 
-    /// Takes a line, and answers how many of its bytes, or why it refused it.
+    /// Takes a line, and returns how many of its bytes it took, or why it refused the line.
     fn emit(&self, metric: &str) -> Result<usize, SinkError>
         ensures { may_answer self.now metric.now result };
 
-    /// Sends what is held. A sink that holds nothing has nothing to do.
+    /// Sends the held text. A sink that holds no text has nothing to do.
     fn flush(&self) -> Result<(), SinkError>
         ensures { may_flush self.now result }
     {
         Ok(())
     }
 
-    /// How many bytes and packets were sent and dropped; all four are 0 for a sink that keeps no counts.
+    /// Returns how many bytes and packets were sent and dropped. All four are 0 if the sink keeps no counts.
     fn stats(&self) -> SinkStats {
         SinkStats::default()
     }
 }
 
-/// A box is the sink in it.
+/// A box is a sink that passes each call on to the sink in it.
 impl<A: Allocator> MetricSink for Box<dyn MetricSink + Send + Sync, A> {
     ghost may_answer = { λ b. (MetricSink-box b).may_answer b.value };
 
@@ -56,7 +65,11 @@ impl<A: Allocator> MetricSink for Box<dyn MetricSink + Send + Sync, A> {
     }
 }
 
-/// A sink that drops each line and answers 0.
+/// A sink that drops each line. `emit` returns 0.
+///
+/// ```text
+/// let client = StatsdClient::from_sink(alloc, "my.service", NopMetricSink)?;
+/// ```
 #[derive(Clone, Debug, Drop)]
 pub struct NopMetricSink;
 

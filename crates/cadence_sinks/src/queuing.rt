@@ -1,4 +1,4 @@
-//! The sink whose wrapped sink is called by a worker thread.
+//! A sink that queues its lines for a worker thread, which hands them to another sink.
 
 mod builder;
 mod sink;

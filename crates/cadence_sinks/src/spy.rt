@@ -1,4 +1,4 @@
-//! Sinks whose lines a test reads back.
+//! Sinks for tests, whose lines or packets a receiver reads back as messages.
 
 mod buffered;
 mod channel;

@@ -1,23 +1,25 @@
-//! Sinks over sockets that send to paths.
-ghost use Rattle.std.specs.Prelude.{◌≡◌, Bool, true, IfOk, string_bytes};
-ghost use Rattle.cadence_errors.specs.Errors.{OnlyWantsMemory};
+//! Sinks over a datagram socket that sends to a path: one sends each line alone, the other packs lines.
+ghost use Rattle.std.specs.Prelude.{◌≡◌, Bool, true, IfOk};
+ghost use Rattle.cadence_errors.specs.Errors.{MayOnlyRunOutOfMemory};
 ghost use Rattle.cadence_errors.specs.declared.SinkError.{SinkError};
-ghost use Rattle.cadence_sinks.specs.Sockets.{IsSocketAnswer};
+ghost use Rattle.cadence_sinks.specs.Buffers.{unix_buffer};
+ghost use Rattle.cadence_sinks.specs.Sockets.{IsBufferedAnswer, IsBufferedFlush, IsSocketAnswer};
 ghost use Rattle.cadence_sinks.specs.Unix.{unix_path};
 
-use super::datagram::{CountedSocket, Datagrams, PackedSocket};
-use super::{DEFAULT_BUFFER_SIZE, MetricSink};
+use super::MetricSink;
+use super::datagram::{CountedSocket, DatagramSocket, PackedSocket};
 use cadence_errors::{MetricResult, SinkError};
+use cadence_flow::io::DEFAULT_CAPACITY;
 use cadence_flow::stats::SinkStats;
 use std::alloc::{Allocator, Global};
 use std::sync::Wait;
 
-/// A datagram socket whose peers are paths. An impl may state which errors it gives.
+/// A datagram socket that sends to paths, as a Unix datagram socket does. An impl may state which errors it returns.
 pub trait PathSocket: Drop {
-    /// The errors that it may give.
+    /// The errors that the socket may return.
     ghost may_give: { SinkError → Bool } = { λ _. true };
 
-    /// Sends a packet to a path, and answers how many of its first bytes were taken.
+    /// Sends a packet to a path, and returns how many of its first bytes were taken.
     fn send_to(&self, packet: &[u8], path: &str) -> Result<usize, SinkError>
         ensures { IsSocketAnswer may_give packet.now result };
 }
@@ -29,18 +31,7 @@ struct PathPeer<P: PathSocket, A: Allocator> {
     path: String<A>,
 }
 
-impl<P: PathSocket, A: Allocator> PathPeer<P, A> {
-    // The only error is `OutOfMemory`.
-    fn new(alloc: A, path: &str, socket: P) -> MetricResult<Self>
-        ensures path { IfOk result (λ p. string_bytes p.path ≡ path.now) }
-        ensures refused { OnlyWantsMemory result }
-    {
-        let path = String::from_str(alloc, path)?;
-        Ok(PathPeer { socket, path })
-    }
-}
-
-impl<P: PathSocket, A: Allocator> Datagrams for PathPeer<P, A> {
+impl<P: PathSocket, A: Allocator> DatagramSocket for PathPeer<P, A> {
     ghost may_give = { P.may_give };
 
     fn send(&self, packet: &[u8], fault: &mut SinkError) -> Option<usize> {
@@ -54,22 +45,27 @@ impl<P: PathSocket, A: Allocator> Datagrams for PathPeer<P, A> {
     }
 }
 
-/// Sends each line as a datagram to a path, in the thread of the caller. It answers how many bytes
-/// the socket took, or the socket's error, and counts each answer. It keeps the runtime `R`, whose locks it takes.
+/// A sink that sends each line as a datagram to a path, in the thread of the caller.
+///
+/// `emit` returns how many bytes of the line the socket took, or the socket's error. The counts include each call of
+/// the socket. The sink keeps the runtime `R`, whose locks it takes.
+///
+/// ```text
+/// let sink = UnixMetricSink::from(rt.clone()?, alloc, "/run/statsd.sock", socket)?;
+/// ```
 #[derive(Drop)]
 pub struct UnixMetricSink<P: PathSocket, R: Wait + Drop, A: Allocator = Global> {
     socket: CountedSocket<PathPeer<P, A>, R, A>,
 }
 
 impl<P: PathSocket, R: Wait + Drop, A: Allocator + Clone> UnixMetricSink<P, R, A> {
-    /// Over a socket that the caller made, which is dropped where the sink is refused. The only error is
-    /// `OutOfMemory`.
+    /// Makes a sink over a socket that the caller made. The only error is `OutOfMemory`; the socket is dropped then.
     pub fn from(rt: R, alloc: A, path: &str, socket: P) -> MetricResult<Self>
         ensures path { IfOk result (λ s. unix_path s ≡ path.now) }
-        ensures refused { OnlyWantsMemory result }
+        ensures refused { MayOnlyRunOutOfMemory result }
     {
-        let peer = PathPeer::new(alloc.clone()?, path, socket)?;
-        let socket = CountedSocket::new(rt, alloc, peer)?;
+        let path = String::from_str(alloc.clone()?, path)?;
+        let socket = CountedSocket::new(rt, alloc, PathPeer { socket, path })?;
         Ok(UnixMetricSink { socket })
     }
 }
@@ -89,30 +85,34 @@ impl<P: PathSocket, R: Wait + Drop, A: Allocator> MetricSink for UnixMetricSink<
     ghost flush_may_succeed = { λ _. tt };
 }
 
-/// Holds lines, each followed by a newline, until no more of them fit its buffer, and then sends them to a path as
-/// one datagram; at a flush and where it is dropped, too. A line that passes the buffer goes out alone, without the
-/// newline. It answers the line's length, or of a line that went out alone how many bytes the socket
-/// took; an error is the socket's, or `NothingWritten` where it took 0 bytes of held text, which stays held. Each
-/// answer of the socket is counted. It keeps the runtime `R`, whose locks it takes.
+/// A sink that buffers lines, each followed by a newline, and sends them packed into datagrams to a path.
+///
+/// It sends the held text as one datagram when the next line doesn't fit, at a flush, and when it is dropped. A line
+/// that with its newline passes the capacity is sent alone, without the newline. `emit` returns the line's length, or
+/// for a line that was sent alone how many bytes the socket took. The errors are the socket's, and `NothingWritten` if
+/// the socket took 0 bytes of the held text; what the socket didn't take stays held. The counts include each call of
+/// the socket. The sink keeps the runtime `R`, whose locks it takes.
+///
+/// ```text
+/// let sink = BufferedUnixMetricSink::from(rt.clone()?, alloc, "/run/statsd.sock", socket)?;
+/// ```
 #[derive(Drop)]
 pub struct BufferedUnixMetricSink<P: PathSocket, R: Wait + Drop, A: Allocator = Global> {
     socket: PackedSocket<PathPeer<P, A>, R, A>,
 }
 
 impl<P: PathSocket, R: Wait + Clone + Drop, A: Allocator + Clone> BufferedUnixMetricSink<P, R, A> {
-    ghost use Rattle.cadence_sinks.specs.Buffers.{unix_buffer};
-
-    /// With a buffer of 512 bytes, over a socket that the caller made, which is dropped where the sink is refused.
-    /// The only error is `OutOfMemory`.
+    /// Makes a sink with a buffer of 512 bytes over a socket that the caller made. The only error is `OutOfMemory`; the
+    /// socket is dropped then.
     pub fn from(rt: R, alloc: A, path: &str, socket: P) -> MetricResult<Self>
         ensures buffer { IfOk result (λ s. unix_buffer s ≡ 512) }
-        ensures refused { OnlyWantsMemory result }
+        ensures refused { MayOnlyRunOutOfMemory result }
     {
-        Self::with_capacity(rt, alloc, path, socket, DEFAULT_BUFFER_SIZE)
+        Self::with_capacity(rt, alloc, path, socket, DEFAULT_CAPACITY)
     }
 
-    /// With a buffer of `capacity` bytes, over a socket that the caller made, which is dropped where the sink is
-    /// refused. The only error is `OutOfMemory`.
+    /// Makes a sink with a buffer of `capacity` bytes over a socket that the caller made. The only error is
+    /// `OutOfMemory`; the socket is dropped then.
     pub fn with_capacity(
         rt: R,
         alloc: A,
@@ -121,18 +121,15 @@ impl<P: PathSocket, R: Wait + Clone + Drop, A: Allocator + Clone> BufferedUnixMe
         capacity: usize,
     ) -> MetricResult<Self>
         ensures buffer { IfOk result (λ s. unix_buffer s ≡ capacity) }
-        ensures refused { OnlyWantsMemory result }
+        ensures refused { MayOnlyRunOutOfMemory result }
     {
-        let peer = PathPeer::new(alloc.clone()?, path, socket)?;
-        let socket = PackedSocket::new(rt, alloc, peer, capacity)?;
+        let path = String::from_str(alloc.clone()?, path)?;
+        let socket = PackedSocket::new(rt, alloc, PathPeer { socket, path }, capacity)?;
         Ok(BufferedUnixMetricSink { socket })
     }
 }
 
 impl<P: PathSocket, R: Wait + Drop, A: Allocator> MetricSink for BufferedUnixMetricSink<P, R, A> {
-    ghost use Rattle.cadence_sinks.specs.Buffers.{unix_buffer};
-    ghost use Rattle.cadence_sinks.specs.Sockets.{IsBufferedAnswer, IsBufferedFlush};
-
     ghost may_answer = { λ s metric answer.
         IsBufferedAnswer P.may_give (unix_buffer s) metric answer };
 

@@ -1,28 +1,30 @@
-//! What a worker goes through, text by text.
+//! The loop of a queuing sink's worker: it gets a text, hands it on, and gets the next one.
 ghost use Rattle.std.specs.Prelude.{◌≡◌, List, [], ◌∷◌, ◌++◌, Bool, true, IfSome, IfNone};
 
 use std::sync::Wait;
 
-/// Texts to hand on, one after the other, until the end. An impl states the texts that it gave, those that were handed on,
-/// whether it told the end, and whether it tells all this, which no call changes. One that doesn't tell owes nothing. The
-/// list of a queuing sink's worker tells.
+/// A list of texts that `work` hands on, one after the other, until its end.
+///
+/// An impl states which texts it gave, which were handed on, and whether it has ended. It also states, by `tells`,
+/// whether it promises anything about these three: an impl with `tells` false promises nothing. No call changes
+/// `tells`. The list of a queuing sink's worker promises all of it.
 pub trait Worklist {
-    /// A text, as a `String`. It needn't be `Clone`, so `work` can't have one twice.
+    /// The type of a text, as `String`. It needn't be `Clone`, so `work` can't hand a copy on.
     type Text: Drop;
 
-    /// The texts given, in order.
+    /// The texts that `next` gave, in order.
     ghost given: { Self → List Self.Text };
 
-    /// The texts handed on, in order.
+    /// The texts that `hand` handed on, in order.
     ghost handed: { Self → List Self.Text };
 
-    /// Whether the end was told.
+    /// Whether `next` has returned `None`.
     ghost ended: { Self → Bool };
 
-    /// Whether it tells all this.
+    /// Whether the impl promises anything about `given`, `handed` and `ended`.
     ghost tells: { Self → Bool };
 
-    /// Gives the next text, or `None` at the end. It may wait for one.
+    /// Returns the next text, or `None` at the end. It may wait for a text.
     fn next(&mut self) -> Option<Self::Text>
         requires { tells self.old ≡ true → given self.old ≡ handed self.old }
         ensures tells { tells self.new ≡ tells self.old }
@@ -32,7 +34,7 @@ pub trait Worklist {
         ensures end { IfNone result (tells self.old ≡ true →
             (given self.new ≡ given self.old) × (ended self.new ≡ true)) };
 
-    /// Hands on the text that was given last.
+    /// Hands on the text that `next` returned last.
     fn hand(&mut self, text: Self::Text)
         requires { tells self.old ≡ true → given self.old ≡ handed self.old ++ text ∷ [] }
         ensures tells { tells self.new ≡ tells self.old }
@@ -41,8 +43,7 @@ pub trait Worklist {
         ensures ended { tells self.old ≡ true → ended self.new ≡ ended self.old };
 }
 
-/// Hands on each text, before the next one is asked for, until the end is told. It is the life of a queuing sink's
-/// worker.
+/// Runs a queuing sink's worker: gets each text and hands it on before it asks for the next one, until the list ends.
 pub fn work<R: Wait, W: Worklist>(rt: &R, list: &mut W)
     requires { W.tells list.old ≡ true → W.given list.old ≡ W.handed list.old }
     ensures tells { W.tells list.new ≡ W.tells list.old }

@@ -1,5 +1,6 @@
--- A line is of one metric only.
-use Rattle.std.proofs.Common.{◌≡◌, ◌≢◌, ℕ, ◌<◌, List, [], ◌∷◌, ◌++◌, length, Option, Some, None, Bool, refl, sym, ap, ◌∙◌, ap₂, subst, arith, eqb, map, lit<, get_or, inl, inr}
+-- The grammar of lines: different metrics that are free of separators have different lines, and so have lists of them.
+use Rattle.std.proofs.Common.{◌≡◌, ◌≢◌, ℕ, ◌<◌, List, [], ◌∷◌, ◌++◌, length, Option, Some, None, Bool, refl, sym, ap, ◌∙◌, ap₂, subst}
+use Rattle.std.proofs.Common.{arith, eqb, map, lit<, get_or, inl, inr}
 use Rattle.std.specs.Prelude.{All, IfSome}
 use Rattle.std.specs.List.{AllByRecursion, join_with_byte, flat_map}
 use Rattle.std.proofs.lemmas.List.{append-nil, append_assoc, length-append}
@@ -7,21 +8,22 @@ use Rattle.std.proofs.lemmas.List.Concat.{flat_map-append}
 use Rattle.std.proofs.lemmas.List.Elements.{recursion_from_All, All-head}
 use Rattle.cadence_text.specs.declared.line.MetricType.{MetricType}
 use Rattle.cadence_text.specs.declared.line.MetricType.TheVariants.{Counter, Timer, Gauge, Meter, Histogram, Set, Distribution}
-use Rattle.cadence_value.specs.Number.{Number, decimal_text, number_text, separated, numbers_text}
+use Rattle.cadence_value.specs.Number.{Number, decimal_text, number_text, joined_texts, numbers_text}
 use Rattle.cadence_text.specs.Metric.{Metric, Tag}
 use Rattle.cadence_text.specs.Line.{kind_text, rate_field, key_text, tag_text, tags_field, container_field, time_field, line_of}
 use Rattle.cadence_text.specs.OneReading.{IsNoSeparator, IsFreeText, IsFreeTag, IsFreeOfSeparators, lines_of, IsPacketOf}
-use Rattle.cadence_value.proofs.Cut.{Lacks, lacks_no, cut_at, join_once, map_once, each_weaker, each_mapped, each_image, each_append, each_joined, cut_once, Stops, Passes}
+use Rattle.cadence_value.proofs.SplitTexts.{Lacks, lacks_no, cut_at, join_once, map_once, each_weaker, each_mapped, each_image, each_append}
+use Rattle.cadence_value.proofs.SplitTexts.{each_joined, cut_once, Stops, Passes}
 use Rattle.cadence_value.proofs.Digits.{decimal_text_once}
 use Rattle.cadence_value.proofs.NumberText.{number_once, number_bytes, IsNumberByte, number_some, decimal_bytes}
 
--- texts with a byte between each two are the texts joined by it
-pub separated-joined : {X : Type 0} (c : ℕ) (text : X → List ℕ) (xs : List X) → separated (c ∷ []) text xs ≡ join_with_byte c (map text xs)
-separated-joined c text [] = refl
-separated-joined c text (x ∷ []) = append-nil (text x)
-separated-joined c text (x ∷ y ∷ xs) = ap (λ t. text x ++ (c ∷ t)) (separated-joined c text (y ∷ xs))
+-- Texts with a byte between each two are the texts joined by that byte.
+pub joined_texts-joined : {X : Type 0} (c : ℕ) (text : X → List ℕ) (xs : List X) → joined_texts (c ∷ []) text xs ≡ join_with_byte c (map text xs)
+joined_texts-joined c text [] = refl
+joined_texts-joined c text (x ∷ []) = append-nil (text x)
+joined_texts-joined c text (x ∷ y ∷ xs) = ap (λ t. text x ++ (c ∷ t)) (joined_texts-joined c text (y ∷ xs))
 
--- the fields between the bars
+-- The fields of a line, which bars separate.
 abbrev pub rate_part : Option Number → List (List ℕ)
 rate_part (Some rate) = (64 ∷ number_text rate) ∷ []
 rate_part None = []
@@ -47,7 +49,7 @@ last_of m = rate_part m.rate ++ (tags_part m.tags ++ (container_part m.container
 abbrev pub parts_of : Metric → List (List ℕ)
 parts_of m = front_of m ∷ kind_text m.kind ∷ last_of m
 
--- each part after a bar
+-- Each field after a bar.
 abbrev barred : List (List ℕ) → List ℕ
 barred parts = flat_map (λ part. 124 ∷ part) parts
 
@@ -61,7 +63,8 @@ barred-rate None = refl
 
 barred-tags : (tags : List Tag) → barred (tags_part tags) ≡ tags_field tags
 barred-tags [] = refl
-barred-tags (tag ∷ tags) = append-nil (124 ∷ 35 ∷ join_with_byte 44 (map tag_text (tag ∷ tags))) ∙ ap (λ t. 124 ∷ 35 ∷ t) (sym (separated-joined 44 tag_text (tag ∷ tags)))
+barred-tags (tag ∷ tags) = append-nil (124 ∷ 35 ∷ join_with_byte 44 (map tag_text (tag ∷ tags)))
+    ∙ ap (λ t. 124 ∷ 35 ∷ t) (sym (joined_texts-joined 44 tag_text (tag ∷ tags)))
 
 barred-container : (o : Option (List ℕ)) → barred (container_part o) ≡ container_field o
 barred-container (Some c) = append-nil (124 ∷ 99 ∷ 58 ∷ c)
@@ -79,16 +82,16 @@ barred-last m =
     ∙ ap₂ (λ s t. s ++ t) (barred-tags m.tags) (flat_map-append bar (container_part m.container) (time_part m.time)
     ∙ ap₂ (λ s t. s ++ t) (barred-container m.container) (barred-time m.time)))
 
--- a line is its fields with bars between them
+-- A line is its fields joined by bars.
 pub line_of-joined : (m : Metric) → line_of m ≡ join_with_byte 124 (parts_of m)
 unfolding line_of
 line_of-joined m =
-    let numbers : numbers_text m.numbers ≡ join_with_byte 58 (map number_text m.numbers) = separated-joined 58 number_text m.numbers in
+    let numbers : numbers_text m.numbers ≡ join_with_byte 58 (map number_text m.numbers) = joined_texts-joined 58 number_text m.numbers in
     ap₂ (λ s t. m.name ++ (58 ∷ (s ++ (124 ∷ (kind_text m.kind ++ t))))) numbers (sym (barred-last m))
     ∙ sym (append_assoc m.name (58 ∷ join_with_byte 58 (map number_text m.numbers)) (124 ∷ (kind_text m.kind ++ barred (last_of m))))
     ∙ sym (joined-barred (front_of m) (kind_text m.kind ∷ last_of m))
 
--- a byte that may stand between bars
+-- A byte that can be in a field: no bar and no newline.
 abbrev PartByte : ℕ → Type 0
 PartByte b = (b ≢ 124) × (b ≢ 10)
 
@@ -102,9 +105,16 @@ plain_part : (text : List ℕ) → IsFreeText text → AllByRecursion PartByte t
 plain_part text h = each_weaker IsNoSeparator PartByte (λ b p. (p.2, p.3)) text (plain text h)
 
 number_plain : (a : Number) → AllByRecursion IsNoSeparator (number_text a)
-number_plain a = each_weaker IsNumberByte IsNoSeparator (λ b p. let (low, high) = p in (λ e. absurd (omega arith), λ e. absurd (omega arith), λ e. absurd (omega arith), λ e. absurd (omega arith))) (number_text a) (number_bytes a)
+number_plain a =
+    each_weaker IsNumberByte IsNoSeparator (λ b p. let (low, high) = p in (
+      λ e. absurd (omega arith),
+      λ e. absurd (omega arith),
+      λ e. absurd
+          (omega arith),
+      λ e. absurd (omega arith),
+    )) (number_text a) (number_bytes a)
 
--- `key:text`, or the text alone
+-- The text of a tag: `key:text`, or the text alone.
 abbrev pub keyed_text : Option (List ℕ) → List ℕ → List ℕ
 keyed_text (Some key) text = key ++ 58 ∷ text
 keyed_text None text = text
@@ -113,8 +123,9 @@ pub key_text-keyed : (k : Option (List ℕ)) (s : List ℕ) → key_text k ++ s 
 key_text-keyed (Some k) s = append_assoc k (58 ∷ []) s
 key_text-keyed None s = refl
 
--- a tag's text is of one tag
-keyed_once : (k l : Option (List ℕ)) (s t : List ℕ) → IfSome k IsFreeText → IfSome l IsFreeText → IsFreeText s → IsFreeText t → keyed_text k s ≡ keyed_text l t → (k ≡ l) × (s ≡ t)
+-- Two tags without separators that have the same text are the same tag.
+keyed_once : (k l : Option (List ℕ)) (s t : List ℕ) → IfSome k IsFreeText → IfSome l IsFreeText → IsFreeText s → IsFreeText t
+    → keyed_text k s ≡ keyed_text l t → (k ≡ l) × (s ≡ t)
 keyed_once (Some k) (Some l) s t hk hl hs ht e =
     let (same, rest) = cut_at 58 k l (58 ∷ s) (58 ∷ t) (plain_lacks_colon k hk) (plain_lacks_colon l hl) refl refl e in (ap Some same, cc)
 keyed_once (Some k) None s t hk hl hs ht e =
@@ -125,10 +136,11 @@ keyed_once None None s t hk hl hs ht e = (refl, e)
 
 tag_once : (a b : Tag) → IsFreeTag a → IsFreeTag b → tag_text a ≡ tag_text b → a ≡ b
 tag_once a b ha hb e =
-    let (key, text) = keyed_once a.key b.key a.text b.text ha.key hb.key ha.text hb.text (sym (key_text-keyed a.key a.text) ∙ e ∙ key_text-keyed b.key b.text) in
+    let (key, text) = keyed_once a.key b.key a.text b.text ha.key hb.key ha.text hb.text (sym (key_text-keyed a.key a.text) ∙ e
+    ∙ key_text-keyed b.key b.text) in
     λ i. record { key = key i; text = text i }
 
--- a tag's text has no comma, bar or newline
+-- A tag's text has no comma, bar or newline.
 abbrev TagByte : ℕ → Type 0
 TagByte b = (b ≢ 44) × (b ≢ 124) × (b ≢ 10)
 
@@ -136,7 +148,16 @@ plain_tag_bytes : (text : List ℕ) → IsFreeText text → AllByRecursion TagBy
 plain_tag_bytes text h = each_weaker IsNoSeparator TagByte (λ b p. (p.1, p.2, p.3)) text (plain text h)
 
 keyed_bytes : (k : Option (List ℕ)) (s : List ℕ) → IfSome k IsFreeText → IsFreeText s → AllByRecursion TagByte (keyed_text k s)
-keyed_bytes (Some k) s hk hs = each_append TagByte k (58 ∷ s) (plain_tag_bytes k hk) ((λ e. absurd (omega arith), λ e. absurd (omega arith), λ e. absurd (omega arith)), plain_tag_bytes s hs)
+keyed_bytes (Some k) s hk hs =
+    each_append TagByte k (58 ∷ s) (plain_tag_bytes k hk) (
+      (
+        λ e. absurd (omega arith),
+        λ e. absurd (omega arith),
+        λ e. absurd
+            (omega arith),
+      ),
+      plain_tag_bytes s hs,
+    )
 keyed_bytes None s hk hs = plain_tag_bytes s hs
 
 tag_bytes : (a : Tag) → IsFreeTag a → AllByRecursion TagByte (tag_text a)
@@ -152,12 +173,12 @@ kind_once Set Set e = refl
 kind_once Distribution Distribution e = refl
 kind_once a b e = absurd (omega (arith, ap (λ t. get_or t 0 0) e, ap (λ t. length t) e))
 
--- where a first piece is some text, so is what is joined
+-- If the first piece is not empty, neither are the joined pieces.
 joined_some : (c : ℕ) (x : List ℕ) (xs : List (List ℕ)) → 0 < length x → join_with_byte c (x ∷ xs) ≡ [] → ⊥
 joined_some c x [] some e = absurd (omega (arith, ap (λ t. length t) e))
 joined_some c x (y ∷ xs) some e = absurd (omega (arith, ap (λ t. length t) e, length-append x (c ∷ join_with_byte c (y ∷ xs))))
 
--- numbers joined by colons
+-- Numbers joined by colons.
 pub number_lacks : (a : Number) → Lacks 58 (number_text a)
 number_lacks a = each_weaker IsNoSeparator (λ b. b ≢ 58) (λ b p. p.0) (number_text a) (number_plain a)
 
@@ -181,7 +202,7 @@ numbers_once (x ∷ xs) (y ∷ ys) e =
     (join_once 58 (number_text x) (number_text y) (map number_text xs) (map number_text ys)
     (each_image number_text (Lacks 58) number_lacks (x ∷ xs)) (each_image number_text (Lacks 58) number_lacks (y ∷ ys)) e)
 
--- the parts that may be missing, each known by its first byte
+-- The optional fields, each of which its first byte identifies.
 abbrev pub marked : ℕ → List ℕ → Bool
 marked m part = eqb (get_or part 0 0) m
 
@@ -243,7 +264,7 @@ time_once (Some a) None e = absurd cc
 time_once None (Some b) e = absurd cc
 time_once None None e = refl
 
--- no part has a bar or a newline
+-- No field has a bar or a newline.
 letter : (b : ℕ) → 10 < b → b < 124 → PartByte b
 letter b low high = (λ e. omega arith, λ e. omega arith)
 
@@ -271,89 +292,150 @@ rate_bytes None = tt
 
 tags_bytes : (tags : List Tag) → AllByRecursion IsFreeTag tags → PlainParts (tags_part tags)
 tags_bytes [] h = tt
-tags_bytes (tag ∷ tags) h = ((letter 35 (lit< tt) (lit< tt), each_joined PartByte 44 (letter 44 (lit< tt) (lit< tt)) (map tag_text (tag ∷ tags)) (each_mapped tag_text IsFreeTag (AllByRecursion PartByte) tag_part (tag ∷ tags) h)), tt)
+tags_bytes (tag ∷ tags) h = (
+  (
+    letter 35 (lit< tt) (lit< tt),
+    each_joined PartByte 44 (letter 44 (lit< tt) (lit< tt)) (map tag_text (tag ∷ tags))
+        (each_mapped tag_text IsFreeTag (AllByRecursion PartByte) tag_part (tag ∷ tags) h),
+  ),
+  tt,
+)
 
 container_bytes : (o : Option (List ℕ)) → IfSome o IsFreeText → PlainParts (container_part o)
 container_bytes (Some c) h = ((letter 99 (lit< tt) (lit< tt), (letter 58 (lit< tt) (lit< tt), plain_part c h)), tt)
 container_bytes None h = tt
 
 time_bytes : (o : Option ℕ) → PlainParts (time_part o)
-time_bytes (Some t) = ((letter 84 (lit< tt) (lit< tt), each_weaker IsNumberByte PartByte (λ b p. let (low, high) = p in letter b (omega arith) (omega arith)) (decimal_text t) (decimal_bytes t)), tt)
+time_bytes (Some t) = (
+  (
+    letter 84 (lit< tt) (lit< tt),
+    each_weaker IsNumberByte PartByte (λ b p. let (low, high) = p in letter b (omega arith) (omega arith))
+        (decimal_text t) (decimal_bytes t),
+  ),
+  tt,
+)
 time_bytes None = tt
 
 front_bytes : (m : Metric) → IsFreeOfSeparators m → AllByRecursion PartByte (front_of m)
 front_bytes m h =
-    each_append PartByte m.name (58 ∷ join_with_byte 58 (map number_text m.numbers)) (plain_part m.name h.name)
-    (letter 58 (lit< tt) (lit< tt), each_joined PartByte 58 (letter 58 (lit< tt) (lit< tt)) (map number_text m.numbers) (each_image number_text (AllByRecursion PartByte) number_part m.numbers))
+    each_append PartByte m.name (58 ∷ join_with_byte 58 (map number_text m.numbers)) (plain_part m.name h.name) (
+      letter 58 (lit< tt) (lit< tt),
+      each_joined PartByte 58 (letter 58 (lit< tt) (lit< tt)) (map number_text m.numbers)
+          (each_image number_text (AllByRecursion PartByte) number_part m.numbers),
+    )
 
 parts_bytes : (m : Metric) → IsFreeOfSeparators m → PlainParts (parts_of m)
 parts_bytes m h = (
   front_bytes m h,
   (
     kind_part m.kind,
-    each_append (AllByRecursion PartByte) (rate_part m.rate) (tags_part m.tags ++ (container_part m.container ++ time_part m.time)) (rate_bytes m.rate)
-        (each_append (AllByRecursion PartByte) (tags_part m.tags) (container_part m.container ++ time_part m.time) (tags_bytes m.tags (recursion_from_All IsFreeTag m.tags h.tags))
-        (each_append (AllByRecursion PartByte) (container_part m.container) (time_part m.time) (container_bytes m.container h.container) (time_bytes m.time))),
+    each_append (AllByRecursion PartByte) (rate_part m.rate) (tags_part m.tags ++ (container_part m.container ++ time_part m.time))
+        (rate_bytes m.rate)
+        (each_append (AllByRecursion PartByte) (tags_part m.tags) (container_part m.container ++ time_part m.time)
+        (tags_bytes m.tags (recursion_from_All IsFreeTag m.tags h.tags))
+        (each_append (AllByRecursion PartByte) (container_part m.container) (time_part m.time) (container_bytes m.container h.container)
+        (time_bytes m.time))),
   ),
 )
 
 pub lacks_bars : (m : Metric) → IsFreeOfSeparators m → AllByRecursion (Lacks 124) (parts_of m)
-lacks_bars m h = each_weaker (AllByRecursion PartByte) (Lacks 124) (λ part p. each_weaker PartByte (λ b. b ≢ 124) (λ b q. q.0) part p) (parts_of m) (parts_bytes m h)
+lacks_bars m h =
+    each_weaker (AllByRecursion PartByte) (Lacks 124) (λ part p. each_weaker PartByte (λ b. b ≢ 124) (λ b q. q.0) part p) (parts_of m)
+    (parts_bytes m h)
 
 pub line_once : (a b : Metric) → IsFreeOfSeparators a → IsFreeOfSeparators b → line_of a ≡ line_of b → a ≡ b
 line_once a b ha hb e =
     let joined : join_with_byte 124 (parts_of a) ≡ join_with_byte 124 (parts_of b) = sym (line_of-joined a) ∙ e ∙ line_of-joined b in
-    let parts : parts_of a ≡ parts_of b = join_once 124 (front_of a) (front_of b) (kind_text a.kind ∷ last_of a) (kind_text b.kind ∷ last_of b) (lacks_bars a ha) (lacks_bars b hb) joined in
+    let parts : parts_of a ≡ parts_of b =
+    join_once 124 (front_of a) (front_of b) (kind_text a.kind ∷ last_of a) (kind_text b.kind ∷ last_of b) (lacks_bars a ha)
+    (lacks_bars b hb) joined in
     let front : front_of a ≡ front_of b = cc parts in
     let kinds : kind_text a.kind ≡ kind_text b.kind = cc parts in
     let tail : last_of a ≡ last_of b = cc parts in
-    let (name, values) = cut_at 58 a.name b.name (58 ∷ join_with_byte 58 (map number_text a.numbers)) (58 ∷ join_with_byte 58 (map number_text b.numbers)) (plain_lacks_colon a.name ha.name) (plain_lacks_colon b.name hb.name) refl refl front in
+    let (name, values) =
+    cut_at 58 a.name b.name (58 ∷ join_with_byte 58 (map number_text a.numbers))
+    (58 ∷ join_with_byte 58 (map number_text b.numbers)) (plain_lacks_colon a.name ha.name) (plain_lacks_colon b.name hb.name)
+    refl refl front in
     let texts : join_with_byte 58 (map number_text a.numbers) ≡ join_with_byte 58 (map number_text b.numbers) = cc values in
     let numbers : a.numbers ≡ b.numbers = numbers_once a.numbers b.numbers texts in
     let kind : a.kind ≡ b.kind = kind_once a.kind b.kind kinds in
-    let (rates, after_rate) = cut_once (marked 64) (rate_part a.rate) (rate_part b.rate) (tags_part a.tags ++ (container_part a.container ++ time_part a.time)) (tags_part b.tags ++ (container_part b.container ++ time_part b.time)) (passes_rate a.rate) (passes_rate b.rate) (stops_rate a.tags a.container a.time) (stops_rate b.tags b.container b.time) tail in
-    let (tags, after_tags) = cut_once (marked 35) (tags_part a.tags) (tags_part b.tags) (container_part a.container ++ time_part a.time) (container_part b.container ++ time_part b.time) (passes_tags a.tags) (passes_tags b.tags) (stops_tags a.container a.time) (stops_tags b.container b.time) after_rate in
-    let (containers, times) = cut_once (marked 99) (container_part a.container) (container_part b.container) (time_part a.time) (time_part b.time) (passes_container a.container) (passes_container b.container) (stops_container a.time) (stops_container b.time) after_tags in
+    let (rates, after_rate) =
+    cut_once (marked 64) (rate_part a.rate) (rate_part b.rate)
+    (tags_part a.tags ++ (container_part a.container ++ time_part a.time))
+    (tags_part b.tags ++ (container_part b.container ++ time_part b.time)) (passes_rate a.rate) (passes_rate b.rate)
+    (stops_rate a.tags a.container a.time) (stops_rate b.tags b.container b.time) tail in
+    let (tags, after_tags) =
+    cut_once (marked 35) (tags_part a.tags) (tags_part b.tags) (container_part a.container ++ time_part a.time)
+    (container_part b.container ++ time_part b.time) (passes_tags a.tags) (passes_tags b.tags) (stops_tags a.container a.time)
+    (stops_tags b.container b.time) after_rate in
+    let (containers, times) =
+    cut_once (marked 99) (container_part a.container) (container_part b.container) (time_part a.time) (time_part b.time)
+    (passes_container a.container) (passes_container b.container) (stops_container a.time) (stops_container b.time) after_tags in
     let rate : a.rate ≡ b.rate = rate_once a.rate b.rate rates in
-    let tag : a.tags ≡ b.tags = tags_once a.tags b.tags (recursion_from_All IsFreeTag a.tags ha.tags) (recursion_from_All IsFreeTag b.tags hb.tags) tags in
+    let tag : a.tags ≡ b.tags =
+    tags_once a.tags b.tags (recursion_from_All IsFreeTag a.tags ha.tags) (recursion_from_All IsFreeTag b.tags hb.tags) tags in
     let container : a.container ≡ b.container = container_once a.container b.container containers in
     let time : a.time ≡ b.time = time_once a.time b.time times in
     λ i. record { name = name i; numbers = numbers i; kind = kind i; rate = rate i; tags = tag i; container = container i; time = time i }
 
--- a line isn't empty
+-- No line is empty.
 pub line_is_not_empty : (m : Metric) → 0 < length (line_of m)
 line_is_not_empty m =
-    omega (arith, ap (λ t. length t) (line_of-joined m), ap (λ t. length t) (joined-barred (front_of m) (kind_text m.kind ∷ last_of m)), length-append (front_of m) (barred (kind_text m.kind ∷ last_of m)), length-append m.name (58 ∷ join_with_byte 58 (map number_text m.numbers)))
+    omega (
+      arith,
+      ap (λ t. length t) (line_of-joined m),
+      ap (λ t. length t) (joined-barred (front_of m) (kind_text m.kind ∷ last_of m)),
+      length-append (front_of m) (barred (kind_text m.kind ∷ last_of m)),
+      length-append m.name (58 ∷ join_with_byte 58 (map number_text m.numbers)),
+    )
 
 line_some : (m : Metric) → line_of m ≡ [] → ⊥
 line_some m e = absurd (omega (arith, ap (λ t. length t) e, line_is_not_empty m))
 
--- a line has no newline
+-- A line has no newline.
 pub line_lacks : (m : Metric) → IsFreeOfSeparators m → Lacks 10 (line_of m)
 line_lacks m h =
-    subst (λ t. Lacks 10 t) (sym (line_of-joined m)) (each_joined (λ b. b ≢ 10) 124 (λ e. absurd (omega arith)) (parts_of m) (each_weaker (AllByRecursion PartByte) (Lacks 10) (λ part p. each_weaker PartByte (λ b. b ≢ 10) (λ b q. q.1) part p) (parts_of m) (parts_bytes m h)))
+    subst (λ t. Lacks 10 t) (sym (line_of-joined m)) (each_joined (λ b. b ≢ 10) 124 (λ e. absurd (omega arith)) (parts_of m)
+    (each_weaker (AllByRecursion PartByte) (Lacks 10) (λ part p. each_weaker PartByte (λ b. b ≢ 10) (λ b q. q.1) part p) (parts_of m)
+    (parts_bytes m h)))
 
--- lines with their newlines are of one list
+-- Two lists of metrics whose lines with their newlines are the same text are the same list.
 lines_once : (xs ys : List Metric) → AllByRecursion IsFreeOfSeparators xs → AllByRecursion IsFreeOfSeparators ys → lines_of xs ≡ lines_of ys → xs ≡ ys
 lines_once [] [] hx hy e = refl
-lines_once [] (y ∷ ys) hx hy e = absurd (omega (arith, ap (λ t. length t) e, length-append (line_of y ++ 10 ∷ []) (lines_of ys), length-append (line_of y) (10 ∷ [])))
-lines_once (x ∷ xs) [] hx hy e = absurd (omega (arith, ap (λ t. length t) e, length-append (line_of x ++ 10 ∷ []) (lines_of xs), length-append (line_of x) (10 ∷ [])))
+lines_once [] (y ∷ ys) hx hy e =
+    absurd (omega (arith, ap (λ t. length t) e, length-append (line_of y ++ 10 ∷ []) (lines_of ys), length-append (line_of y) (10 ∷ [])))
+lines_once (x ∷ xs) [] hx hy e =
+    absurd (omega (arith, ap (λ t. length t) e, length-append (line_of x ++ 10 ∷ []) (lines_of xs), length-append (line_of x) (10 ∷ [])))
 lines_once (x ∷ xs) (y ∷ ys) (hx, hxs) (hy, hys) e =
-    let (line, rest) = cut_at 10 (line_of x) (line_of y) (10 ∷ lines_of xs) (10 ∷ lines_of ys) (line_lacks x hx) (line_lacks y hy) refl refl (sym (append_assoc (line_of x) (10 ∷ []) (lines_of xs)) ∙ e ∙ append_assoc (line_of y) (10 ∷ []) (lines_of ys)) in
+    let (line, rest) =
+    cut_at 10 (line_of x) (line_of y) (10 ∷ lines_of xs) (10 ∷ lines_of ys) (line_lacks x hx) (line_lacks y hy) refl refl
+    (sym (append_assoc (line_of x) (10 ∷ []) (lines_of xs))
+    ∙ e ∙ append_assoc (line_of y) (10 ∷ []) (lines_of ys)) in
     let tail : lines_of xs ≡ lines_of ys = cc rest in
     let head : x ≡ y = line_once x y hx hy line in
     let same : xs ≡ ys = lines_once xs ys hxs hys tail in
     λ i. head i ∷ same i
 
--- a line alone has no newline, so it is no list of lines with theirs
+-- A single line has no newline, so it is not a list of lines with their newlines.
 not_alone : (xs : List Metric) (y : Metric) → IsFreeOfSeparators y → lines_of xs ≡ line_of y → ⊥
 not_alone [] y hy e = line_some y (sym e)
-not_alone (x ∷ xs) y hy e = lacks_no 10 (line_of x) (lines_of xs) (subst (λ t. Lacks 10 t) (sym e ∙ append_assoc (line_of x) (10 ∷ []) (lines_of xs)) (line_lacks y hy))
+not_alone (x ∷ xs) y hy e = lacks_no 10 (line_of x) (lines_of xs) (subst (λ t. Lacks 10 t) (sym e
+    ∙ append_assoc (line_of x) (10 ∷ []) (lines_of xs)) (line_lacks y hy))
 
-pub packet_once : (xs ys : List Metric) (packet : List ℕ) → All IsFreeOfSeparators xs → All IsFreeOfSeparators ys → IsPacketOf xs packet → IsPacketOf ys packet → xs ≡ ys
-packet_once xs ys packet hx hy (inl e) (inl f) = lines_once xs ys (recursion_from_All IsFreeOfSeparators xs hx) (recursion_from_All IsFreeOfSeparators ys hy) (sym e ∙ f)
-packet_once xs ys packet hx hy (inl e) (inr (y, only, f)) = absurd (not_alone xs y (All-head IsFreeOfSeparators y [] (subst (λ l. All IsFreeOfSeparators l) only hy)) (sym e ∙ f))
-packet_once xs ys packet hx hy (inr (x, only, e)) (inl f) = absurd (not_alone ys x (All-head IsFreeOfSeparators x [] (subst (λ l. All IsFreeOfSeparators l) only hx)) (sym f ∙ e))
+pub packet_once : (xs ys : List Metric) (packet : List ℕ) → All IsFreeOfSeparators xs → All IsFreeOfSeparators ys → IsPacketOf xs packet
+    → IsPacketOf ys packet → xs ≡ ys
+packet_once xs ys packet hx hy (inl e) (inl f) =
+    lines_once xs ys (recursion_from_All IsFreeOfSeparators xs hx) (recursion_from_All IsFreeOfSeparators ys hy) (sym e
+    ∙ f)
+packet_once xs ys packet hx hy (inl e) (inr (y, only, f)) =
+    absurd (not_alone xs y (All-head IsFreeOfSeparators y [] (subst (λ l. All IsFreeOfSeparators l) only hy)) (sym e
+    ∙ f))
+packet_once xs ys packet hx hy (inr (x, only, e)) (inl f) =
+    absurd (not_alone ys x (All-head IsFreeOfSeparators x [] (subst (λ l. All IsFreeOfSeparators l) only hx)) (sym f
+    ∙ e))
 packet_once xs ys packet hx hy (inr (x, onlyx, e)) (inr (y, onlyy, f)) =
-    let same : x ≡ y = line_once x y (All-head IsFreeOfSeparators x [] (subst (λ l. All IsFreeOfSeparators l) onlyx hx)) (All-head IsFreeOfSeparators y [] (subst (λ l. All IsFreeOfSeparators l) onlyy hy)) (sym e ∙ f) in
+    let same : x ≡ y =
+    line_once x y (All-head IsFreeOfSeparators x [] (subst (λ l. All IsFreeOfSeparators l) onlyx hx))
+    (All-head IsFreeOfSeparators y [] (subst (λ l. All IsFreeOfSeparators l) onlyy hy)) (sym e
+    ∙ f) in
     onlyx ∙ ap (λ m. m ∷ []) same ∙ sym onlyy

@@ -1,11 +1,11 @@
--- The texts of a metric's line whose tags may still grow.
+-- A draft: the parts of a metric's line while tags and other options can still be added.
 use Rattle.std.specs.Prelude.{ℕ, Bool, true, false, Option, List, [], ◌∷◌, ◌++◌, codes}
 use Rattle.cadence_text.specs.declared.line.MetricType.{MetricType}
 use Rattle.cadence_value.specs.Number.{Number, numbers_text}
 use Rattle.cadence_text.specs.Line.{kind_text, rate_field, tag_text, tags_field, container_field, time_field}
 use Rattle.cadence_text.specs.Metric.{Metric, Tag}
 
--- the head and the tags' field as they stand in the line, and the other options
+-- the text of the head, the text of the tags' field, and the other options, which are not text yet
 pub record Draft : Type 0 where
   pub head : List ℕ
   pub tags : List ℕ
@@ -13,7 +13,7 @@ pub record Draft : Type 0 where
   pub container : Option (List ℕ)
   pub time : Option ℕ
 
--- what each line begins with: the name, the numbers and the kind
+-- the head, with which each line begins: the name, the numbers and the kind
 abbrev pub head_text : List ℕ → List Number → MetricType → List ℕ
 head_text name numbers kind = name ++ (codes ":" ++ (numbers_text numbers ++ (codes "|" ++ kind_text kind)))
 
@@ -21,24 +21,24 @@ head_text name numbers kind = name ++ (codes ":" ++ (numbers_text numbers ++ (co
 abbrev pub draft_of : Metric → Draft
 draft_of m = record { head = head_text m.name m.numbers m.kind; tags = tags_field m.tags; rate = m.rate; container = m.container; time = m.time }
 
--- the line of a draft: the rate comes between the head and the tags
+-- the line of a draft, in which the rate comes between the head and the tags
 abbrev pub draft_line : Draft → List ℕ
 draft_line d = d.head ++ (rate_field d.rate ++ (d.tags ++ (container_field d.container ++ time_field d.time)))
 
--- whether tags stand there
+-- whether the text of the tags' field has any tag
 abbrev pub has_text : List ℕ → Bool
 has_text [] = false
 has_text (c ∷ cs) = true
 
--- what stands before a tag: where others stand before it, and where none does
+-- the text before a tag: a comma if other tags come before it (`true`), and `|#` if it is the first (`false`)
 abbrev pub lead : Bool → List ℕ
 lead true = codes ","
 lead false = codes "|#"
 
--- the text of tags with one more
-abbrev pub tag_added : List ℕ → Tag → List ℕ
-tag_added tags tag = tags ++ (lead (has_text tags) ++ tag_text tag)
+-- the text of a tags' field with one more tag at its end
+abbrev pub tags_text_with : List ℕ → Tag → List ℕ
+tags_text_with tags tag = tags ++ (lead (has_text tags) ++ tag_text tag)
 
--- the draft with one more tag
+-- the draft with one more tag at the end of its tags
 abbrev pub with_tag_text : Draft → Tag → Draft
-with_tag_text d tag = record d { tags = tag_added d.tags tag }
+with_tag_text d tag = record d { tags = tags_text_with d.tags tag }

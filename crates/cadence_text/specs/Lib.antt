@@ -4,10 +4,10 @@ pub mod Laws
 pub mod Line
 pub mod Draft
 pub mod DraftParts
-pub mod RecordMetric
+pub mod MetricInMemory
 pub mod OneReading
 pub mod Record
 pub mod Sink
 pub mod Owned
 pub mod Rate
-pub mod Said
+pub mod Representable

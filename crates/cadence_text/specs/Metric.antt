@@ -1,13 +1,14 @@
--- A metric.
+-- A metric, as data.
 use Rattle.std.specs.Prelude.{ℕ, Option, None, List, [], ◌∷◌, ◌++◌}
 use Rattle.cadence_text.specs.declared.line.MetricType.{MetricType}
 use Rattle.cadence_value.specs.Number.{Number}
 
--- a tag: its key, where it has one, and its text
+-- a tag: its key, if it has one, and its text
 pub record Tag : Type 0 where
   pub key : Option (List ℕ)
   pub text : List ℕ
 
+-- a metric: the name with its prefix, the numbers, the kind, and the optional fields of a line
 pub record Metric : Type 0 where
   pub name : List ℕ
   pub numbers : List Number
@@ -17,10 +18,10 @@ pub record Metric : Type 0 where
   pub container : Option (List ℕ)
   pub time : Option ℕ
 
--- a metric without rate, tags, container and time
+-- the metric with this name, these numbers and this kind, and without a rate, tags, a container id and a time
 abbrev pub plain_metric : List ℕ → List Number → MetricType → Metric
 plain_metric name numbers kind = record { name = name; numbers = numbers; kind = kind; rate = None; tags = []; container = None; time = None }
 
--- the metric with one more tag, at the end
+-- the metric with one more tag at the end of its tags
 abbrev pub with_tag : Metric → Tag → Metric
 with_tag m tag = record m { tags = m.tags ++ tag ∷ [] }

@@ -1,30 +1,32 @@
--- Metrics that a line, or a packet of lines, says in one way only.
+-- Metrics whose lines can be read in one way only, because no text in them has a separator.
 use Rattle.std.specs.Prelude.{◌≡◌, ◌≢◌, ℕ, ◌⊎◌, List, [], ◌∷◌, ◌++◌, All, IfSome, codes}
 use Rattle.std.specs.List.{flat_map}
 use Rattle.cadence_text.specs.Metric.{Metric, Tag}
 use Rattle.cadence_text.specs.Line.{line_of}
 
--- a byte that is no colon, comma, bar or newline
+-- The byte is none of the separators `:`, `,`, `|` and newline.
 abbrev pub IsNoSeparator : ℕ → Type 0
 IsNoSeparator byte = (byte ≢ 58) × (byte ≢ 44) × (byte ≢ 124) × (byte ≢ 10)
 
+-- The text has no separator.
 abbrev pub IsFreeText : List ℕ → Type 0
 IsFreeText text = All IsNoSeparator text
 
+-- The key of the tag, if it has one, and its text have no separator.
 pub record IsFreeTag (tag : Tag) : Type 0 where
   pub key : IfSome tag.key IsFreeText
   pub text : IsFreeText tag.text
 
--- no separator in the name, the tags' keys and texts, and the container
+-- No text of the metric has a separator: neither the name nor the tags nor the container id.
 pub record IsFreeOfSeparators (metric : Metric) : Type 0 where
   pub name : IsFreeText metric.name
   pub tags : All IsFreeTag metric.tags
   pub container : IfSome metric.container IsFreeText
 
--- each metric's line, with a newline
+-- the lines of the metrics, each with a newline after it
 abbrev pub lines_of : List Metric → List ℕ
 lines_of metrics = flat_map (λ metric. line_of metric ++ codes "\n") metrics
 
--- the lines of these metrics, each with a newline, or the line alone of a single one
+-- The packet is the metrics' lines, each with a newline after it, or the line of a single metric without a newline.
 abbrev pub IsPacketOf : List Metric → List ℕ → Type 0
 IsPacketOf metrics packet = (packet ≡ lines_of metrics) ⊎ ((metric : Metric) × (metrics ≡ metric ∷ []) × (packet ≡ line_of metric))

@@ -1,4 +1,4 @@
--- The metric that a record means, and what each call makes of it.
+-- The metric that a `Record` is.
 use Rattle.std.specs.Prelude.{◌++◌, map}
 use Rattle.std.specs.Option.{option_copied}
 use Rattle.cadence_text.specs.declared.line.tag.Tag.{Tag as TagParts}
@@ -6,10 +6,11 @@ use Rattle.cadence_text.specs.declared.line.record.Record.TheInside.{Inside}
 use Rattle.cadence_text.specs.Metric.{Metric, Tag}
 use Rattle.cadence_value.specs.Values.{numbers_of}
 
+-- the tag that a borrowed `Tag` is
 abbrev pub tag_of : TagParts → Tag
 tag_of tag = record { key = option_copied tag.key; text = tag.text.now }
 
--- the name is the prefix, then the key; it doesn't matter in which form the numbers stand
+-- the metric that a `Record` is: the name is the prefix followed by the key, and the Rust type of the numbers makes no difference
 abbrev pub metric_of : {Z : Type 0} → Inside Z → Metric
 metric_of r = record {
   name = r.head.prefix.now ++ r.head.key.now;

@@ -1,17 +1,21 @@
-//! What the definitions imply, as laws that proofs of other crates may cite. These functions do nothing.
+//! Laws of the grammar of lines, each as the contract of a function that does nothing. Proofs in other crates cite
+//! them.
+//!
+//! A metric is free of separators if its name, tags and container id have no colon, comma, bar or newline.
 ghost use Rattle.cadence_text.specs.Laws.{LineReadsOneWay, NoLineIsEmpty, PacketReadsOneWay};
 
-/// Two metrics that are free of separators have the same line only where they are the same.
+/// States that two different metrics that are free of separators have different lines. Does nothing when it is called.
 pub fn line_reads_one_way()
     ensures { LineReadsOneWay }
 {}
 
-/// A packet of lines, each with its newline, is of one list of such metrics at the most.
+/// States that a packet is the packet of at most one list of metrics that are free of separators. A packet is the
+/// metrics' lines, each with its newline, or a single line without one. Does nothing when it is called.
 pub fn packet_reads_one_way()
     ensures { PacketReadsOneWay }
 {}
 
-/// No line is empty.
+/// States that no line is empty. Does nothing when it is called.
 #[tactic(auto, using(crate::proofs::LineText::line_is_not_empty))]
 pub fn no_line_is_empty()
     ensures { NoLineIsEmpty }

@@ -1,35 +1,50 @@
-//! The kinds of metrics and the line of a record.
+//! The kinds of metrics, metrics before they are text, and the lines that are made of them.
+//!
+//! A client makes its lines with a `DraftLine`, to which tags and other options can be added until it is finished. A
+//! `Record` is a metric as data: it can be compared and formatted more than once. An `OwnedMetric` is what is read back
+//! from a line.
 
 mod draft;
-mod filled;
+mod line_buf;
 mod pieces;
 mod rate;
 mod record;
+mod separators;
 mod tag;
+mod tags_text;
 mod window;
 
 use cadence_value::text::LineSink;
-pub use draft::{DraftLine, Head, TagsText};
+pub use draft::{DraftLine, Head};
 pub use record::{OwnedMetric, Record};
+pub use separators::{first_separator, is_free};
 use std::fmt;
-pub use tag::{OwnedTag, Tag, lend, lend_tags};
+pub use tag::{OwnedTag, Tag, lend_tag, lend_tags};
+pub use tags_text::TagsText;
 
-/// The kind of a metric. It prints its type text.
+/// The kind of a metric: what the server does with its numbers. It prints as its type text.
+///
+/// The client sends every kind in the same way. Only servers treat them differently, and a server may not know all of
+/// them.
 #[derive(Clone, Copy, Debug, PartialEq, Eq, Hash)]
 pub enum MetricType {
-    /// A count of events, `c`.
+    /// `c`: the server adds the number to a sum, for example 1 for each request. A number below zero subtracts.
     Counter,
-    /// A time in milliseconds, `ms`.
+    /// `ms`: how long something took, in milliseconds, for example a database query. The server computes statistics of
+    /// the times, such as their mean and percentiles.
     Timer,
-    /// A value as it stands, `g`.
+    /// `g`: the current value of something, for example the number of open connections. The server keeps the value
+    /// until the next one comes.
     Gauge,
-    /// A rate of events that the server counts, `m`.
+    /// `m`: a number of events. The server computes the rate at which they occur. A meter can only go up.
     Meter,
-    /// A value whose spread one server counts, `h`.
+    /// `h`: one value of many, for example the size of a response. The server computes statistics of the values, as for
+    /// a timer, and each server does so for the values that it received.
     Histogram,
-    /// A value of which the different ones are counted, `s`.
+    /// `s`: a member of a set, for example the number of a user. The server counts how many different ones it received.
     Set,
-    /// A value whose spread is counted over all servers (DogStatsD), `d`.
+    /// `d`: one value of many, as in a histogram, but the statistics are computed over the values of all servers
+    /// together. This kind is DogStatsD's.
     Distribution,
 }
 
@@ -38,7 +53,7 @@ impl MetricType {
     ghost use Rattle.cadence_text.specs.Line.{kind_text};
     ghost use Rattle.cadence_value.specs.Takes.{Takes};
 
-    /// The kind's type text, as it stands in a line.
+    /// Returns the type text of the kind, which a line has after the numbers.
     #[inline(always)]
     pub fn text(self) -> &'static str
         ensures { result.now ≡ kind_text self }
@@ -54,8 +69,8 @@ impl MetricType {
         }
     }
 
-    // Writes the bar and the type text: byte by byte, because a piece is copied by a call of the C library, which takes
-    // some 30 instructions for so short a text.
+    // Writes a bar and the type text. It does so byte by byte, because `take_piece` calls the C library to copy a text,
+    // and that call takes some 30 instructions even for one or two bytes.
     #[inline(always)]
     fn push_to<S: LineSink>(self, line: &mut S)
         ensures { Takes S.ends_as line.old (codes "|" ++ kind_text self) line.new }
@@ -68,7 +83,7 @@ impl MetricType {
         }
     }
 
-    /// The kind that has this type text, if one has it.
+    /// Returns the kind that has this type text, or `None` if no kind has it.
     #[inline]
     pub fn from_text(text: &[u8]) -> Option<MetricType>
         ensures found { IfSome result (λ kind. kind_text kind ≡ text.now) }

@@ -1,5 +1,6 @@
--- The digits of a whole number, however many they are.
-use Rattle.std.proofs.Common.{◌≡◌, ℕ, zero, suc, ◌+◌, ◌/◌, ◌%◌, ◌^◌, ◌<◌, ◌≤◌, List, [], ◌∷◌, ◌++◌, length, map, refl, sym, ap, ap₂, ◌∙◌, subst, arith, eqb, false, lit<, ⊎_elim}
+-- The digits of a whole number: how they are built up digit by digit, their value, and how many they are.
+use Rattle.std.proofs.Common.{◌≡◌, ℕ, zero, suc, ◌+◌, ◌/◌, ◌%◌, ◌^◌, ◌<◌, ◌≤◌, List, [], ◌∷◌, ◌++◌, length, map, refl, sym, ap, ap₂, ◌∙◌}
+use Rattle.std.proofs.Common.{subst, arith, eqb, false, lit<, ⊎_elim}
 use Rattle.std.specs.Fmt.{decimal}
 use Rattle.std.specs.Char.{digit_value}
 use Rattle.std.specs.Int.Digits.{digits_of}
@@ -18,11 +19,11 @@ text_some : (n : ℕ) → 0 < n → decimal_text n ≡ glyphs (digits_of 10 n)
 unfolding decimal_text
 text_some n some = let other : eqb n 0 ≡ false = ne_eqb n 0 (λ e. omega arith) in rw other refl
 
--- the digits of a number are those of its tenth, and the last one
+-- The digits of a number of two digits or more are the digits of a tenth of it, and then its last digit.
 digits_step : (n : ℕ) → 0 < n → glyphs (digits_of 10 n) ≡ glyphs (digits_of 10 (n / 10)) ++ ((48 + n % 10) ∷ [])
 digits_step n some = ap glyphs (digits_of_step 10 n (lit< tt) some) ∙ map-append (λ d. 48 + d) (digits_of 10 (n / 10)) (n % 10 ∷ [])
 
--- a number below 10 is one digit
+-- A number below 10 has one digit.
 pub text_digit : (n : ℕ) → n < 10 → decimal_text n ≡ (48 + n) ∷ []
 unfolding decimal_text
 text_digit zero small = refl
@@ -35,8 +36,9 @@ pub text_step : (n : ℕ) → 10 ≤ n → decimal_text n ≡ decimal_text (n / 
 text_step n big =
     text_some n (omega arith) ∙ digits_step n (omega arith) ∙ ap (λ t. t ++ ((48 + n % 10) ∷ [])) (sym (text_some (n / 10) (omega arith)))
 
--- what holds of one digit, and of one more, holds of the digits of each number
-module _ (P : ℕ → List ℕ → Type 0) (one : (n : ℕ) → n < 10 → P n ((48 + n) ∷ [])) (more : (n : ℕ) (ds : List ℕ) → 10 ≤ n → P (n / 10) ds → P n (ds ++ ((48 + n % 10) ∷ []))) where
+-- Induction over digits: what is true of one digit, and stays true with one more digit, is true of the digits of every number.
+module _ (P : ℕ → List ℕ → Type 0) (one : (n : ℕ) → n < 10 → P n ((48 + n) ∷ []))
+    (more : (n : ℕ) (ds : List ℕ) → 10 ≤ n → P (n / 10) ds → P n (ds ++ ((48 + n % 10) ∷ []))) where
   within : (turns n : ℕ) → n ≤ turns → P n (decimal_text n)
   within zero n h = subst (P n) (sym (text_digit n (omega arith))) (one n (omega arith))
   within (suc turns) n h =
@@ -48,7 +50,7 @@ module _ (P : ℕ → List ℕ → Type 0) (one : (n : ℕ) → n < 10 → P n (
   pub text_by_steps : (n : ℕ) → P n (decimal_text n)
   text_by_steps n = within n n (omega arith)
 
--- below 10 to the power 64 it is what `{}` prints
+-- The digits of a number below 10 ^ 64 are what `{}` prints.
 pub decimal_text_is : (n : ℕ) → n < 10 ^ 64 → decimal n ≡ decimal_text n
 decimal_text_is n h =
     text_by_steps (λ n ds. n < 10 ^ 64 → decimal n ≡ ds) (λ n small _. decimal_digit n small)
@@ -57,7 +59,7 @@ decimal_text_is n h =
 glyph_value : (d : ℕ) → d < 10 → digit_value (48 + d) ≡ d
 glyph_value d h = omega (arith, digit_value_digit (48 + d) (omega arith, omega arith))
 
--- it is a numeral, and its value is the number
+-- The digits of a number are a numeral, and the numeral's value is the number.
 pub text_numeral : (n : ℕ) → IsNumeral 10 (decimal_text n) × (digits_value 10 (decimal_text n) ≡ n)
 text_numeral n =
     text_by_steps (λ n ds. IsNumeral 10 ds × (digits_value 10 ds ≡ n))
@@ -68,24 +70,30 @@ text_numeral n =
       digits_value_push 10 ds (48 + n % 10) ∙ omega (arith, value, last),
     )) n
 
--- a text of digits is of one number
+-- Two numbers with the same digits are the same number.
 pub decimal_text_once : (m n : ℕ) → decimal_text m ≡ decimal_text n → m ≡ n
 decimal_text_once m n e = sym (text_numeral m).1 ∙ ap (digits_value 10) e ∙ (text_numeral n).1
 
--- a number below 10 to the power k has k digits at the most
+-- A number below 10 ^ k has at most k digits.
 pub length-decimal_text-le : (k n : ℕ) → 0 < k → n < 10 ^ k → length (decimal_text n) ≤ k
 length-decimal_text-le k zero some h = omega (arith, ap (λ t. length t) (text_digit 0 (lit< tt)))
 length-decimal_text-le k (suc n) some h =
-    omega (arith, ap (λ t. length t) (text_some (suc n) (omega arith)), length-map (digits_of 10 (suc n)) (λ d. 48 + d), length-digits_of-le 10 k (suc n) (lit< tt) h)
+    omega (
+      arith,
+      ap (λ t. length t) (text_some (suc n) (omega arith)),
+      length-map (digits_of 10 (suc n)) (λ d. 48 + d),
+      length-digits_of-le
+          10 k (suc n) (lit< tt) h,
+    )
 
--- two digits, the first of which may be 0
+-- The two digits of a number below 100, also if the first one is 0.
 abbrev pair : ℕ → List ℕ
 pair p = (48 + p / 10) ∷ (48 + p % 10) ∷ []
 
 pub text_two : (n : ℕ) → 10 ≤ n → n < 100 → decimal_text n ≡ (48 + n / 10) ∷ (48 + n % 10) ∷ []
 text_two n low high = text_step n low ∙ ap (λ t. t ++ ((48 + n % 10) ∷ [])) (text_digit (n / 10) (omega arith))
 
--- the last two digits, and the last four
+-- Splitting off the last two digits of a number, or the last four.
 pub text_pair : (n : ℕ) → 100 ≤ n → decimal_text n ≡ decimal_text (n / 100) ++ ((48 + n % 100 / 10) ∷ (48 + n % 100 % 10) ∷ [])
 text_pair n h =
     let front : n / 10 / 10 ≡ n / 100 = omega arith in
@@ -99,7 +107,7 @@ text_four n h =
     let second : n / 100 % 100 ≡ n % 10000 / 100 = omega arith in
     rw (text_pair n (omega arith), text_pair (n / 100) (omega arith), append_assoc, front, second)
 
--- and how many digits they leave
+-- How many digits are left after the last four are split off.
 pub length_digit : (n : ℕ) → n < 10 → length (decimal_text n) ≡ 1
 length_digit n h = ap (λ t. length t) (text_digit n h)
 

@@ -1,5 +1,6 @@
--- A number's text is read in one way: its sign, its whole part, and the digits after the dot.
-use Rattle.std.proofs.Common.{◌≡◌, ◌≢◌, ℕ, zero, suc, ◌+◌, ◌-◌, ◌*◌, ◌/◌, ◌%◌, ◌^◌, ◌<◌, ◌≤◌, ℤ, pos, negsuc, List, [], ◌∷◌, ◌++◌, length, refl, sym, ap, ◌∙◌, ap₂, subst, arith, get_or, unsigned_abs, Option, Some, None, Bool, true, false}
+-- Reading a number's text: the sign, the whole part and the digits after the dot are determined by the text.
+use Rattle.std.proofs.Common.{◌≡◌, ◌≢◌, ℕ, zero, suc, ◌+◌, ◌-◌, ◌*◌, ◌/◌, ◌%◌, ◌^◌, ◌<◌, ◌≤◌, ℤ, pos, negsuc, List, [], ◌∷◌, ◌++◌, length}
+use Rattle.std.proofs.Common.{refl, sym, ap, ◌∙◌, ap₂, subst, arith, get_or, unsigned_abs, Option, Some, None, Bool, true, false}
 use Rattle.std.specs.Prelude.{All, FitsSigned, SomeIff, codes, if◌then◌else◌}
 use Rattle.std.specs.Int.{is_negative}
 use Rattle.std.specs.Str.Parse.{digits_value, AllDigits, IsNumeral}
@@ -10,11 +11,12 @@ use Rattle.std.proofs.lemmas.List.{append-nil}
 use Rattle.std.proofs.lemmas.List.Elements.{recursion_from_All}
 use Rattle.std.proofs.lemmas.Nat.{div-mul-add, mod-mul-add, div-add-mod'}
 use Rattle.std.proofs.lemmas.Str.Parse.{digit_from_value}
-use Rattle.cadence_value.specs.Number.{Number, number, decimal_text, number_text, places_text, filled_to, is_lowest, IsDecimal}
-use Rattle.cadence_value.proofs.Cut.{Lacks, lacks_no, cut_at}
+use Rattle.cadence_value.specs.Number.{Number, number, decimal_text, number_text, places_text, padded_digits, is_lowest, IsDecimal}
+use Rattle.cadence_value.proofs.SplitTexts.{Lacks, lacks_no, cut_at}
 use Rattle.cadence_value.proofs.Digits.{decimal_text_once}
-use Rattle.cadence_value.proofs.NumberText.{numeral, places_of, places_text-suc, length-places_of, places_value, digits_zeros, sign, sign-pos, no_minus, unsigned_once}
-use Rattle.cadence_value.specs.Reads.{Reads}
+use Rattle.cadence_value.proofs.NumberText.{numeral, places_of, places_text-suc, length-places_of, places_value, digits_zeros, sign}
+use Rattle.cadence_value.proofs.NumberText.{sign-pos, no_minus, unsigned_once}
+use Rattle.cadence_value.specs.Finds.{HasNone, PrintsAs, Reads}
 use Rattle.cadence_value.specs.Magnitude.{magnitude_text, IsMagnitude}
 use Rattle.cadence_value.proofs.DigitsRead.{filled_digits}
 
@@ -22,11 +24,11 @@ digits_lack_dot : (ds : List ℕ) → AllDigits 10 ds → Lacks 46 ds
 digits_lack_dot [] h = tt
 digits_lack_dot (d ∷ ds) (h, hs) = ((λ e. absurd (omega (arith, (digit_from_value d h).0))), digits_lack_dot ds hs)
 
--- a number without places
+-- The text of a number without places.
 pub plain_text : (n : ℕ) → magnitude_text n 0 ≡ decimal_text n
 plain_text n = let one : n / 10 ^ 0 ≡ n = omega arith in append-nil (decimal_text (n / 10 ^ 0)) ∙ ap decimal_text one
 
--- what a text with a dot says of its number
+-- What a text with a dot implies about its number.
 pub record HasDot (n p : ℕ) (w f : List ℕ) : Type 0 where
   pub some : 0 < p
   pub count : length f ≡ p
@@ -40,11 +42,16 @@ has_dot n zero w f plain e =
 has_dot n (suc q) w f plain e =
     let p = suc q in
     let front : AllDigits 10 (decimal_text (n / 10 ^ p)) = (numeral (n / 10 ^ p)).1 in
-    let text : decimal_text (n / 10 ^ p) ++ (46 ∷ places_of n p) ≡ w ++ (46 ∷ f) = ap (λ t. decimal_text (n / 10 ^ p) ++ t) (sym (places_text-suc n q)) ∙ e in
-    let (whole, rest) = cut_at 46 (decimal_text (n / 10 ^ p)) w (46 ∷ places_of n p) (46 ∷ f) (digits_lack_dot (decimal_text (n / 10 ^ p)) front) (recursion_from_All (λ b. b ≢ 46) w plain) refl refl text in
+    let text : decimal_text (n / 10 ^ p) ++ (46 ∷ places_of n p) ≡ w ++ (46 ∷ f) =
+    ap (λ t. decimal_text (n / 10 ^ p) ++ t) (sym (places_text-suc n q))
+    ∙ e in
+    let (whole, rest) =
+    cut_at 46 (decimal_text (n / 10 ^ p)) w (46 ∷ places_of n p) (46 ∷ f) (digits_lack_dot (decimal_text (n / 10 ^ p)) front)
+    (recursion_from_All (λ b. b ≢ 46) w plain) refl refl text in
     let places : places_of n p ≡ f = cc rest in
     let count : length f ≡ p = ap (λ t. length t) (sym places) ∙ length-places_of n q in
-    let digits : AllDigits 10 (places_of n p) = digits_zeros (p - length (decimal_text (n % 10 ^ p))) (decimal_text (n % 10 ^ p)) (numeral (n % 10 ^ p)).1 in
+    let digits : AllDigits 10 (places_of n p) =
+    digits_zeros (p - length (decimal_text (n % 10 ^ p))) (decimal_text (n % 10 ^ p)) (numeral (n % 10 ^ p)).1 in
     record {
       some = omega arith;
       count = count;
@@ -53,13 +60,14 @@ has_dot n (suc q) w f plain e =
       value = ap (digits_value 10) (sym places) ∙ places_value n p;
     }
 
--- the two parts add up to the number
+-- The whole part and the digits after the dot add up to the number.
 pub dot_sum : (n p a : ℕ) (w f : List ℕ) → HasDot n p w f → decimal_text a ≡ w → a * 10 ^ length f + digits_value 10 f ≡ n
 dot_sum n p a w f parts e =
     let same : a ≡ n / 10 ^ p = decimal_text_once a (n / 10 ^ p) (e ∙ sym parts.whole) in
     ap₂ (λ x k. x * 10 ^ k + digits_value 10 f) same parts.count ∙ ap (λ x. n / 10 ^ p * 10 ^ p + x) parts.value ∙ div-add-mod' n (10 ^ p)
 
-pub dotted_text : (a : ℕ) (w f : List ℕ) → decimal_text a ≡ w → IsNumeral 10 f → magnitude_text (a * 10 ^ length f + digits_value 10 f) (length f) ≡ w ++ 46 ∷ f
+pub dotted_text : (a : ℕ) (w f : List ℕ) → decimal_text a ≡ w → IsNumeral 10 f
+    → magnitude_text (a * 10 ^ length f + digits_value 10 f) (length f) ≡ w ++ 46 ∷ f
 dotted_text a w [] e (some, digits) = absurd (omega arith)
 dotted_text a w (d ∷ ds) e (some, digits) =
     let p = length (d ∷ ds) in
@@ -68,14 +76,17 @@ dotted_text a w (d ∷ ds) e (some, digits) =
     let small : v < 10 ^ p = digits_value-lt 10 (d ∷ ds) digits in
     let whole : n / 10 ^ p ≡ a = div-mul-add a (10 ^ p) v small in
     let rest : n % 10 ^ p ≡ v = mod-mul-add a (10 ^ p) v small in
-    ap₂ (λ x t. decimal_text x ++ t) whole (places_text-suc n (length ds) ∙ ap (λ x. 46 ∷ filled_to (length (d ∷ ds)) (decimal_text x)) rest ∙ ap (λ t. 46 ∷ t) (filled_digits (d ∷ ds) digits some))
+    ap₂ (λ x t. decimal_text x ++ t) whole (places_text-suc n (length ds) ∙ ap (λ x. 46 ∷ padded_digits (length (d ∷ ds)) (decimal_text x)) rest
+    ∙ ap (λ t. 46 ∷ t) (filled_digits (d ∷ ds) digits some))
     ∙ ap (λ t. t ++ (46 ∷ d ∷ ds)) e
 
--- a text without a dot is of a whole number
-pub has_no_dot : (text : List ℕ) → All (λ b. b ≢ 46) text → ((n : ℕ) → n < 2 ^ 128 → decimal_text n ≡ text → ⊥) → (m : ℕ × ℕ) → IsMagnitude m → magnitude_text m.0 m.1 ≡ text → ⊥
-has_no_dot text plain none (n, zero) (small, few) e = none n small (sym (plain_text n) ∙ e)
-has_no_dot text plain none (n, suc q) (small, few) e =
-    lacks_no 46 (decimal_text (n / 10 ^ suc q)) (places_of n (suc q)) (subst (Lacks 46) (sym e ∙ ap (λ t. decimal_text (n / 10 ^ suc q) ++ t) (places_text-suc n q)) (recursion_from_All (λ b. b ≢ 46) text plain))
+-- A text without a dot is the text of a whole number.
+pub has_no_dot : (text : List ℕ) → All (λ b. b ≢ 46) text → HasNone (PrintsAs (λ n. n < 2 ^ 128) decimal_text text)
+    → HasNone (PrintsAs IsMagnitude (λ m. magnitude_text m.0 m.1) text)
+has_no_dot text plain none (n, zero) ((small, few), e) = none n (small, sym (plain_text n) ∙ e)
+has_no_dot text plain none (n, suc q) ((small, few), e) =
+    lacks_no 46 (decimal_text (n / 10 ^ suc q)) (places_of n (suc q)) (subst (Lacks 46) (sym e
+    ∙ ap (λ t. decimal_text (n / 10 ^ suc q) ++ t) (places_text-suc n q)) (recursion_from_All (λ b. b ≢ 46) text plain))
 
 pub fits_size : (z : ℤ) → FitsSigned w128 z → unsigned_abs z ≤ 2 ^ 127
 fits_size (pos n) h = omega (arith, h.sfits)
@@ -84,10 +95,13 @@ fits_size (negsuc n) h = omega (arith, h.sfits)
 pub not_below : (n : ℕ) → is_negative (pos n) ≡ false
 not_below n = grind (arith, common_steps)
 
--- a minus, and what is written after it
-pub has_sign : (below : Bool) (digits text : List ℕ) (z : ℤ) (p : ℕ) → text ≡ (if below then codes "-" else []) ++ digits → (below ≡ false → get_or text 0 0 ≢ 45) → sign z ++ magnitude_text (unsigned_abs z) p ≡ text → (is_negative z ≡ below) × (magnitude_text (unsigned_abs z) p ≡ digits)
+-- A number's text is a minus or nothing, and then the text of its magnitude.
+pub has_sign : (below : Bool) (digits text : List ℕ) (z : ℤ) (p : ℕ) → text ≡ (if below then codes "-" else []) ++ digits
+    → (below ≡ false → get_or text 0 0 ≢ 45) → sign z ++ magnitude_text (unsigned_abs z) p ≡ text
+    → (is_negative z ≡ below) × (magnitude_text (unsigned_abs z) p ≡ digits)
 has_sign true digits text (pos n) p whole first e =
-    absurd (no_minus (decimal_text (n / 10 ^ p)) (places_text n p) digits (numeral (n / 10 ^ p)) (ap (λ t. t ++ magnitude_text n p) (sym (sign-pos n)) ∙ e ∙ whole))
+    absurd (no_minus (decimal_text (n / 10 ^ p)) (places_text n p) digits (numeral (n / 10 ^ p)) (ap (λ t. t ++ magnitude_text n p) (sym (sign-pos n))
+    ∙ e ∙ whole))
 has_sign true digits text (negsuc n) p whole first e =
     let rest : magnitude_text (suc n) p ≡ digits = cc in
     (refl, rest)
@@ -96,8 +110,10 @@ has_sign false digits text (pos n) p whole first e =
 has_sign false digits text (negsuc n) p whole first e =
     absurd (first refl (ap (λ t. get_or t 0 0) (sym e)))
 
--- a number of this text has these parts
-pub has_parts : (n : Number) (below : Bool) (digits text : List ℕ) (size places : ℕ) → text ≡ (if below then codes "-" else []) ++ digits → (below ≡ false → get_or text 0 0 ≢ 45) → magnitude_text size places ≡ digits → number_text n ≡ text → (is_negative n.mantissa ≡ below) × (unsigned_abs n.mantissa ≡ size) × (n.places ≡ places)
+-- A number with this text has this sign, this magnitude and these places.
+pub has_parts : (n : Number) (below : Bool) (digits text : List ℕ) (size places : ℕ) → text ≡ (if below then codes "-" else []) ++ digits
+    → (below ≡ false → get_or text 0 0 ≢ 45) → magnitude_text size places ≡ digits → number_text n ≡ text
+    → (is_negative n.mantissa ≡ below) × (unsigned_abs n.mantissa ≡ size) × (n.places ≡ places)
 has_parts n below digits text size places whole first same e =
     let (side, rest) = has_sign below digits text n.mantissa n.places whole first e in
     let (sizes, count) = unsigned_once (unsigned_abs n.mantissa) size n.places places (rest ∙ sym same) in
@@ -109,13 +125,17 @@ same_signed (pos m) (negsuc n) side size = let bad : false ≡ true = sym (not_b
 same_signed (negsuc m) (pos n) side size = let bad : false ≡ true = sym (not_below n) ∙ sym side in absurd cc
 same_signed (negsuc m) (negsuc n) side size = ap negsuc (omega arith)
 
--- a sign, a size and its places are read as the one number in lowest form that has them
-pub number_read : (below : Bool) (digits text : List ℕ) (size p : ℕ) (m : ℤ) (o : Option Number) → text ≡ (if below then codes "-" else []) ++ digits → (below ≡ false → get_or text 0 0 ≢ 45) → magnitude_text size p ≡ digits → p ≤ 30 → FitsSigned w128 m → is_negative m ≡ below → unsigned_abs m ≡ size → SomeIff o (is_lowest m p ≡ true) (number m p) → Reads IsDecimal number_text text o
+-- A sign, a magnitude and places are read as the only number in lowest form that has them.
+pub number_read : (below : Bool) (digits text : List ℕ) (size p : ℕ) (m : ℤ) (o : Option Number)
+    → text ≡ (if below then codes "-" else []) ++ digits → (below ≡ false → get_or text 0 0 ≢ 45) → magnitude_text size p ≡ digits → p ≤ 30
+    → FitsSigned w128 m → is_negative m ≡ below → unsigned_abs m ≡ size → SomeIff o (is_lowest m p ≡ true) (number m p)
+    → Reads IsDecimal number_text text o
 number_read below digits text size p m (Some x) whole first shown few fits side abs (lowest, same) = (
   subst IsDecimal (sym same) (record { mantissa = fits; places = few; lowest = lowest }),
-  ap number_text same ∙ ap₂ (λ b n. (if b then codes "-" else []) ++ magnitude_text n p) side abs ∙ ap (λ d. (if below then codes "-" else []) ++ d) shown ∙ sym whole,
+  ap number_text same ∙ ap₂ (λ b n. (if b then codes "-" else []) ++ magnitude_text n p) side abs
+      ∙ ap (λ d. (if below then codes "-" else []) ++ d) shown ∙ sym whole,
 )
-number_read below digits text size p m None whole first shown few fits side abs none = λ n good e.
-    let (other, sizes, places) = has_parts n below digits text size p whole first shown e in
+number_read below digits text size p m None whole first shown few fits side abs none = λ n is.
+    let (other, sizes, places) = has_parts n below digits text size p whole first shown is.1 in
     let mantissa : n.mantissa ≡ m = same_signed n.mantissa m (other ∙ sym side) (sizes ∙ sym abs) in
-    none (ap₂ is_lowest (sym mantissa) (sym places) ∙ good.lowest)
+    none (ap₂ is_lowest (sym mantissa) (sym places) ∙ is.0.lowest)

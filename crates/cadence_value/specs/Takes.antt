@@ -1,17 +1,22 @@
--- What takes the pieces of a text.
+-- What it means that a sink takes a piece of a text. Here a sink is whatever a line is written to, piece by piece.
 use Rattle.std.specs.Prelude.{◌≡◌, ℕ, ◌<◌, ◌^◌, List, All, ◌++◌, length}
 use Rattle.std.specs.Str.{IsUtf8}
 use Rattle.cadence_value.specs.Number.{Number, IsDecimal}
 
--- the sink took the text: whatever else comes, it ends as it would have with the text and the rest still to come
+-- The sink took the text. `ends_as sink rest` is the text that the sink ends with if `rest` still comes. Whatever comes later, the new
+-- sink ends as the old one would have ended with the text and then the rest: after `ab` was taken, ends_as new "c" = ends_as old "abc".
 abbrev pub Takes : {S : Type 0} → (S → List ℕ → List ℕ) → S → List ℕ → S → Type 0
 Takes ends_as old text new = (rest : List ℕ) → ends_as new rest ≡ ends_as old (text ++ rest)
 
--- no text in memory is longer, and each is in UTF-8
-abbrev pub FitsMemory : List ℕ → Type 0
-FitsMemory text = (length text < 2 ^ 63) × IsUtf8 text
+-- the number of bytes that no text in memory reaches, because Rust allows `isize::MAX` bytes at most
+abbrev pub memory_limit : ℕ
+memory_limit = 2 ^ 63
 
--- the numbers of a value, which are in memory
-pub record AreRecordNumbers (numbers : List Number) : Type 0 where
+-- The text is in UTF-8 and could be a `&str`: it is shorter than the limit of memory.
+abbrev pub IsTextInMemory : List ℕ → Type 0
+IsTextInMemory text = (length text < memory_limit) × IsUtf8 text
+
+-- The numbers could be those of a `MetricValue`: each could be a `Decimal`, and a list in memory has fewer than 2 ^ 64 elements.
+pub record AreNumbersInMemory (numbers : List Number) : Type 0 where
   pub each : All IsDecimal numbers
   pub few : length numbers < 2 ^ 64

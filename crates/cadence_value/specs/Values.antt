@@ -1,4 +1,4 @@
--- The numbers of a value, and what a conversion to a value answers.
+-- The numbers of a value, and what a conversion to a value returns.
 use Rattle.std.specs.Prelude.{◌≡◌, ℕ, ◌/◌, ◌^◌, nat_lt, if◌then◌else◌, Option, None, Some, List, [], ◌∷◌, map, Result, Ok, Err}
 use Rattle.std.specs.List.{list_all}
 use Rattle.std.specs.Duration.{as_nanos}
@@ -11,7 +11,7 @@ use Rattle.cadence_value.specs.declared.value.MetricValue.TheVariants.{Signed, P
 use Rattle.cadence_errors.specs.Errors.{IsInvalid, out_of_memory}
 use Rattle.cadence_value.specs.Number.{Number, whole, natural}
 
--- the numbers of a value, in whichever form they stand
+-- the numbers of a value, whatever their Rust type is
 abbrev pub numbers_of : {Z : Type 0} → MetricValue Z → List Number
 numbers_of (Signed n) = whole n ∷ []
 numbers_of (PackedSigned ns) = map whole ns.items
@@ -20,7 +20,7 @@ numbers_of (PackedUnsigned ns) = map natural ns.items
 numbers_of (Decimal d) = d ∷ []
 numbers_of (PackedDecimal ds) = ds.items
 
--- the whole milliseconds of a duration, cut off
+-- the whole milliseconds of a duration; what is less than one is cut off
 abbrev pub millis_of : Duration → ℕ
 millis_of d = as_nanos d / 1_000_000
 
@@ -28,23 +28,25 @@ millis_of d = as_nanos d / 1_000_000
 abbrev pub nanos_of : Duration → ℕ
 nanos_of d = as_nanos d
 
--- the whole units of a duration, cut off
+-- the whole milliseconds or nanoseconds of a duration; what is less than one is cut off
 abbrev pub count_in : TimeUnit → Duration → ℕ
 count_in Millisecond d = millis_of d
 count_in Nanosecond d = nanos_of d
 
--- these numbers, or none where one of them passes `u64::MAX`
+-- these numbers, or `None` if one of them does not fit 64 bits
 abbrev pub numbers_in_u64 : List ℕ → Option (List Number)
 numbers_in_u64 ns = if list_all (λ n. nat_lt n (2 ^ 64)) ns then Some (map natural ns) else None
 
--- the answer for a value of these numbers, or of none: exactly these, or want of memory; an invalid input for none
+-- What a conversion may return, given the numbers that the value has, or `None` for a value that is refused. If it has numbers, the
+-- result has exactly these, or memory ran out. If it is refused, the result is an error of kind `InvalidInput`.
 abbrev pub Converts : {Z : Type 0} → Option (List Number) → Result (MetricValue Z) MetricError → Type 0
 Converts (Some numbers) (Ok v) = numbers_of v ≡ numbers
 Converts (Some numbers) (Err e) = e ≡ out_of_memory
 Converts None (Ok v) = ⊥
 Converts None (Err e) = IsInvalid e
 
--- the answer of a conversion that takes no memory: exactly these numbers, or an invalid input for none
+-- What a conversion that takes no memory may return, given the numbers that the value has, or `None` for a value that is refused. If it
+-- has numbers, the result has exactly these. If it is refused, the result is an error of kind `InvalidInput`.
 abbrev pub ConvertsInPlace : {Z : Type 0} → Option (List Number) → Result (MetricValue Z) MetricError → Type 0
 ConvertsInPlace (Some numbers) (Ok v) = numbers_of v ≡ numbers
 ConvertsInPlace (Some numbers) (Err e) = ⊥

@@ -1,8 +1,8 @@
-//! Decimal numbers, exact.
+//! Exact decimal numbers, for values and sampling rates with digits after the dot.
 ghost use Rattle.std.specs.Prelude.{◌≡◌, ◌^◌, ◌≤◌, ◌↔◌, ◌<◌, ◌++◌, Some, true, IsOk, IfOk, IfErr, codes};
 ghost use Rattle.std.specs.Fmt.{DisplaysOnOk};
 ghost use Rattle.cadence_errors.specs.Errors.{IsInvalid};
-ghost use Rattle.cadence_value.specs.Number.{IsLowestForm, Number, decimal_text, filled_to, is_lowest, number, number_text, IsDecimal};
+ghost use Rattle.cadence_value.specs.Number.{IsLowestForm, Number, decimal_text, padded_digits, is_lowest, number, number_text, IsDecimal};
 
 use cadence_errors::{ErrorKind, MetricError, MetricResult};
 use std::fmt;
@@ -12,14 +12,20 @@ mod read;
 
 pub use read::{ParseDecimalError, read_number, read_whole};
 
-/// The most digits that a `Decimal` has after the dot. A limit of this project's own.
+/// The most digits that a `Decimal` can have after the dot.
 pub const MAX_PLACES: u8 = 30;
 
-/// A signed whole number over 10 to the power of 0 to `MAX_PLACES`. It stands in the place of the crate's `f64`, and
-/// what it prints is exact.
+/// An exact decimal number: a signed whole number of 128 bits, the mantissa, divided by a power of ten from 10 to the 0
+/// to 10 to the `MAX_PLACES`. It takes the place of the Rust crate's `f64`, and prints exactly.
 ///
-/// It is kept in lowest form: it has no digit after the dot, or the last of them is not 0. Two of them are equal
-/// exactly where their lowest forms are.
+/// ```
+/// let rate = Decimal::new(25, 2)?; // 0.25
+/// let half = Decimal::new(50, 2)?; // prints as 0.5
+/// let read: Decimal = "-12.40".parse()?; // prints as -12.4
+/// ```
+///
+/// A `Decimal` is stored in lowest form: it has no digits after the dot, or the last of them is not 0. Two decimals are
+/// equal exactly if they are the same number.
 #[derive(Clone, Copy, Debug, PartialEq, Eq, Hash)]
 pub struct Decimal {
     mantissa: i128,
@@ -37,9 +43,10 @@ impl Model for Decimal {
 }
 
 impl Decimal {
-    /// `mantissa` over 10 to the power of `places`, in lowest form. Takes no memory.
+    /// Returns `mantissa` divided by 10 to the power of `places`, in lowest form. Takes no memory.
     ///
-    /// Refuses with kind `InvalidInput` and the text `too many decimal places` where `places` pass `MAX_PLACES`.
+    /// Returns an error of kind `InvalidInput` with the text `too many decimal places` if `places` is above
+    /// `MAX_PLACES`.
     pub fn new(mantissa: i128, places: u8) -> MetricResult<Decimal>
         ensures ok { IsOk result ↔ (places ≤ 30) }
         ensures value { IfOk result (IsLowestForm mantissa places) }
@@ -56,7 +63,7 @@ impl Decimal {
         Ok(Decimal { mantissa, places })
     }
 
-    /// The whole number of the lowest form.
+    /// Returns the mantissa of the lowest form: 5 for 0.5, even if the number was made as 50 with two places.
     #[inline]
     pub fn mantissa(&self) -> i128
         ensures value { result ≡ self.now.mantissa }
@@ -65,7 +72,7 @@ impl Decimal {
         self.mantissa
     }
 
-    /// The digits after the dot in the lowest form.
+    /// Returns how many digits the lowest form has after the dot: 1 for 0.5. It is at most `MAX_PLACES`.
     #[inline]
     pub fn places(&self) -> u8
         ensures value { result ≡ self.now.places }
@@ -75,7 +82,7 @@ impl Decimal {
     }
 }
 
-// What is a number, and which one.
+// A type whose values are numbers. The ghost member says which number a value is.
 pub(crate) trait AsDecimal {
     ghost number: { Self → Number };
 
@@ -117,7 +124,7 @@ impl AsDecimal for Decimal {
     }
 }
 
-/// Ten to the power of `places`.
+/// Returns ten to the power of `places`.
 #[inline]
 pub fn power_of_ten(places: u8) -> u128
     requires { places ≤ 30 }
@@ -127,25 +134,25 @@ pub fn power_of_ten(places: u8) -> u128
     10u128.pow(u32::from(places))
 }
 
-// The digits without leading zeros.
+// Writes the digits of a whole number, without leading zeros.
 fn write_whole<W: fmt::Write>(f: &mut fmt::Formatter<W>, whole: u128) -> fmt::Result
     ensures { DisplaysOnOk W.write_str_gives f.old result (Some (decimal_text whole)) f.new }
 {
     write!(f, "{whole}")
 }
 
-// A dot, and `fraction` with zeros before it up to `places` digits.
+// Writes a dot and then `fraction`, filled with zeros in front up to `places` digits.
 fn write_places<W: fmt::Write>(f: &mut fmt::Formatter<W>, fraction: u128, places: u8) -> fmt::Result
     requires { 0 < places }
     ensures { DisplaysOnOk W.write_str_gives f.old result
-        (Some (codes "." ++ filled_to places (decimal_text fraction))) f.new }
+        (Some (codes "." ++ padded_digits places (decimal_text fraction))) f.new }
 {
     let width = usize::from(places);
     write!(f, ".{fraction:0width$}")
 }
 
-/// An optional minus, the digits of the whole part without leading zeros, and, where places are above 0, a dot and
-/// exactly that many digits. There is no minus before zero.
+/// Prints a minus if the number is below zero, then the digits of the whole part without leading zeros, and, if
+/// `places` is above 0, a dot and exactly that many digits.
 impl fmt::Display for Decimal {
     ghost output = { λ n. Some (number_text n) };
 

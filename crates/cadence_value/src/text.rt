@@ -1,4 +1,5 @@
-//! The texts of numbers and of values, written piece by piece.
+//! Writes the texts of numbers and of values, piece by piece: `sink` has the traits of what takes the pieces, `digits`
+//! writes and counts digits, and `numbers` writes decimals and whole values.
 
 mod digits;
 mod numbers;

@@ -1,5 +1,7 @@
-//! Values of metrics.
-ghost use Rattle.std.specs.Prelude.{◌≡◌, Some, map};
+//! The values of metrics. Each submodule has the trait of the types that a kind of metric accepts: `timers`,
+//! `histograms`, `distributions`, and `plain` for counters, gauges, meters and sets. `durations` converts durations to
+//! milliseconds or nanoseconds.
+ghost use Rattle.std.specs.Prelude.{Some, map};
 ghost use Rattle.std.specs.Fmt.{DisplaysOnOk};
 ghost use Rattle.cadence_value.specs.Number.{numbers_text};
 ghost use Rattle.cadence_value.specs.Values.{numbers_of};
@@ -18,29 +20,30 @@ use std::alloc::{Allocator, Global};
 use std::fmt;
 pub use timers::ToTimerValue;
 
-/// The value of a metric, in the form that a caller has it in: one number, or a list of them. The form says nothing of
-/// the line, only the numbers do.
+/// The value of a metric: one number or a list of numbers, in the type that the caller has them in.
 ///
-/// A clone takes memory for a list alone, and answers want of it.
+/// A line shows only the numbers, not their type: `Signed(5)`, `Unsigned(5)` and a `Decimal` of 5 all print as `5`.
+///
+/// Cloning a list takes memory and returns an error if memory runs out. Cloning a single number always succeeds.
 #[derive(Drop)]
 #[derive_where(Clone; A)]
 #[derive_where(Debug)]
 pub enum MetricValue<A: Allocator = Global> {
     /// A signed whole number.
     Signed(i64),
-    /// Signed whole numbers. No type of this crate is converted to it.
+    /// Signed whole numbers. None of this crate's conversions makes this variant.
     PackedSigned(Vec<i64, A>),
     /// An unsigned whole number.
     Unsigned(u64),
     /// Unsigned whole numbers.
     PackedUnsigned(Vec<u64, A>),
-    /// A decimal number, of this project's own.
+    /// A decimal number. It takes the place of the Rust crate's `Float(f64)`.
     Decimal(Decimal),
     /// Decimal numbers.
     PackedDecimal(Vec<Decimal, A>),
 }
 
-// The texts of the numbers, with a colon between each two.
+// Writes the texts of the numbers, with a colon between each two.
 fn write_list<W: fmt::Write, T: AsDecimal>(f: &mut fmt::Formatter<W>, numbers: &[T]) -> fmt::Result
     ensures { DisplaysOnOk W.write_str_gives f.old result
         (Some (numbers_text (map T.number numbers.now))) f.new }
@@ -55,7 +58,7 @@ fn write_list<W: fmt::Write, T: AsDecimal>(f: &mut fmt::Formatter<W>, numbers: &
     Ok(())
 }
 
-/// Its numbers, with a colon between each two. An empty list prints nothing.
+/// Prints the numbers with a colon between each two, as a line shows them. An empty list prints nothing.
 impl<A: Allocator> fmt::Display for MetricValue<A> {
     ghost use Rattle.std.specs.Prelude.{Some};
     ghost use Rattle.cadence_value.specs.Number.{numbers_text};

@@ -1,75 +1,75 @@
-//! Where packets are sent to: where the option says, or the environment, or to this machine.
+//! Finds the address to which packets are sent: that of the option, or of the environment, or of this machine.
+use cadence_resolve::DEFAULT_PORT;
 use cadence_send::read_port;
 use std::env::VarError;
 use std::io::ErrorKind;
 use std::net::{Ipv4Addr, SocketAddr, ToSocketAddrs};
 use std::{env, fmt, io};
 
-/// The port where nothing else is said.
-const PORT: u16 = 8125;
-
-/// Why it is not known where to.
+/// Why there is no address to send to.
 #[derive(Drop)]
-pub enum TargetFault {
-    /// The port of the environment is none.
+pub enum TargetError {
+    /// `STATSD_PORT` is not a port.
     Port,
-    /// The host of the environment is empty, or not UTF-8.
+    /// `STATSD_HOST` is empty or not UTF-8.
     Host,
     /// The host can't be looked up.
     Lookup(io::Error),
     /// The host has no address.
     NoAddress,
-    /// A growth was refused.
+    /// Memory ran out.
     OutOfMemory,
 }
 
-impl From<io::Error> for TargetFault {
-    fn from(fault: io::Error) -> TargetFault {
-        if fault.kind() == ErrorKind::OutOfMemory {
-            return TargetFault::OutOfMemory;
+impl From<io::Error> for TargetError {
+    fn from(error: io::Error) -> TargetError {
+        if error.kind() == ErrorKind::OutOfMemory {
+            return TargetError::OutOfMemory;
         }
-        TargetFault::Lookup(fault)
+        TargetError::Lookup(error)
     }
 }
 
-impl fmt::Display for TargetFault {
+impl fmt::Display for TargetError {
     fn fmt<W: fmt::Write>(&self, f: &mut fmt::Formatter<W>) -> fmt::Result {
         match self {
-            TargetFault::Port => f.write_str(
+            TargetError::Port => f.write_str(
                 "STATSD_PORT of the environment wants a port, as in STATSD_PORT=8125",
             ),
-            TargetFault::Host => f.write_str(
+            TargetError::Host => f.write_str(
                 "STATSD_HOST of the environment wants a host, as in STATSD_HOST=127.0.0.1",
             ),
-            TargetFault::Lookup(fault) => write!(f, "where to: {fault}"),
-            TargetFault::NoAddress => f.write_str("the host has no address"),
-            TargetFault::OutOfMemory => f.write_str("out of memory"),
+            TargetError::Lookup(error) => write!(f, "where to: {error}"),
+            TargetError::NoAddress => f.write_str("the host has no address"),
+            TargetError::OutOfMemory => f.write_str("out of memory"),
         }
     }
 }
 
-impl TargetFault {
-    /// The status: 2 for what the environment says, 3 for want of memory, else 1.
+impl TargetError {
+    /// Returns the exit status of a program that ends with this error: 2 for `Port` and `Host`, 3 if memory ran out,
+    /// and 1 for `Lookup` and `NoAddress`.
     pub fn status(&self) -> u8 {
         match self {
-            TargetFault::Port | TargetFault::Host => 2,
-            TargetFault::OutOfMemory => 3,
-            TargetFault::Lookup(_) | TargetFault::NoAddress => 1,
+            TargetError::Port | TargetError::Host => 2,
+            TargetError::OutOfMemory => 3,
+            TargetError::Lookup(_) | TargetError::NoAddress => 1,
         }
     }
 }
 
-// What the environment has under a name. A text that is empty or not UTF-8 can't be read.
-fn variable(
+// Returns the value of a variable of the environment, if there is one. For a value that is empty or not UTF-8 it
+// returns the error `unread`.
+fn read_variable(
     rt: &HostRuntime,
     name: &str,
-    unread: TargetFault,
-) -> Result<Option<String>, TargetFault> {
+    unread: TargetError,
+) -> Result<Option<String>, TargetError> {
     let text = match env::var(rt, name) {
         Ok(text) => text,
         Err(VarError::NotPresent) => return Ok(None),
         Err(VarError::NotUnicode) => return Err(unread),
-        Err(VarError::OutOfMemory) => return Err(TargetFault::OutOfMemory),
+        Err(VarError::OutOfMemory) => return Err(TargetError::OutOfMemory),
     };
     if text.is_empty() {
         return Err(unread);
@@ -77,37 +77,38 @@ fn variable(
     Ok(Some(text))
 }
 
-// The port of the environment, or the one where nothing else is said.
-fn port(rt: &HostRuntime) -> Result<u16, TargetFault> {
-    let Some(text) = variable(rt, "STATSD_PORT", TargetFault::Port)? else {
-        return Ok(PORT);
+// Returns the port of the environment, or the usual one.
+fn read_port_variable(rt: &HostRuntime) -> Result<u16, TargetError> {
+    let Some(text) = read_variable(rt, "STATSD_PORT", TargetError::Port)? else {
+        return Ok(DEFAULT_PORT);
     };
     match read_port(&text) {
         Some(port) => Ok(port),
-        None => Err(TargetFault::Port),
+        None => Err(TargetError::Port),
     }
 }
 
-// Where to, as the environment says.
-fn usual(rt: &HostRuntime) -> Result<Option<SocketAddr>, TargetFault> {
-    let port = port(rt)?;
-    match variable(rt, "STATSD_HOST", TargetFault::Host)? {
+// Returns the address of the environment, or that of this machine.
+fn default_address(rt: &HostRuntime) -> Result<Option<SocketAddr>, TargetError> {
+    let port = read_port_variable(rt)?;
+    match read_variable(rt, "STATSD_HOST", TargetError::Host)? {
         Some(host) => Ok((host.as_str(), port).to_socket_addrs(rt)?.next()),
         None => Ok(Some(SocketAddr::from((Ipv4Addr::LOCALHOST, port)))),
     }
 }
 
-/// Where to: where the option says, or the environment, or to this machine.
+/// Returns the address to send to: that of the option, or of the environment, or of this machine.
 ///
 /// # Errors
-/// `Port` and `Host` where the environment can't be read, `Lookup` and `NoAddress` of a host, and `OutOfMemory`.
-pub fn target(rt: &HostRuntime, to: Option<&str>) -> Result<SocketAddr, TargetFault> {
+/// `Port` and `Host` if a variable of the environment can't be read, `Lookup` if the host can't be looked up,
+/// `NoAddress` if it has no address, and `OutOfMemory`.
+pub fn find_address(rt: &HostRuntime, to: Option<&str>) -> Result<SocketAddr, TargetError> {
     let found = match to {
         Some(to) => to.to_socket_addrs(rt)?.next(),
-        None => usual(rt)?,
+        None => default_address(rt)?,
     };
     match found {
         Some(target) => Ok(target),
-        None => Err(TargetFault::NoAddress),
+        None => Err(TargetError::NoAddress),
     }
 }

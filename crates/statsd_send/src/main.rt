@@ -1,20 +1,25 @@
-//! `statsd_send`: sends a metric of its words, or the metrics of its standard input.
+//! `statsd_send`: sends the metric of its words, or the metrics of its standard input.
+//!
+//! - `environment`: finds the address to which packets are sent.
+//! - `pace`: a pace that follows the clock.
 #![tactic(auto)]
 
 mod environment;
+mod pace;
 
-use crate::environment::target;
+use crate::environment::find_address;
+use crate::pace::Every;
 use cadence_flow::io::{LineBuffer, PacketWriter};
+use cadence_resolve::bind_socket;
 use cadence_send::{
-    Datagrams, Defaults, Every, Failure, Options, Printed, Request, Unhurried, read_options,
+    DatagramWriter, Defaults, Options, PacketPrinter, Request, RunError, Unhurried, read_options,
     run_input, run_words,
 };
 use std::alloc::{AllocError, Global};
 use std::io::{ErrorKind, Read};
-use std::net::{Ipv4Addr, Ipv6Addr, SocketAddr, UdpSocket};
 use std::process::ExitCode;
 use std::time::Duration;
-use std::{env, fmt, io};
+use std::{env, fmt};
 
 const HELP: &str = "statsd_send [OPTIONS] KIND NAME VALUE [TAG ..]   sends one metric
 statsd_send [OPTIONS]   reads one metric a line, and packs them
@@ -41,99 +46,90 @@ fn main(rt: HostRuntime) -> ExitCode {
     let mut words = Vec::new(rt.alloc());
     let arguments = match env::args(&rt) {
         Ok(arguments) => arguments,
-        Err(fault) => return no_words(&rt, fault.kind()),
+        Err(error) => return exit_without_words(&rt, error.kind()),
     };
     for word in arguments.skip(1) {
         if words.push(word).is_err() {
-            return told(&rt, 3, "out of memory");
+            return exit_with_error(&rt, 3, "out of memory");
         }
     }
     let mut lent = Vec::new(rt.alloc());
     for word in &words {
         if lent.push(word.as_str()).is_err() {
-            return told(&rt, 3, "out of memory");
+            return exit_with_error(&rt, 3, "out of memory");
         }
     }
     match read_options(rt.alloc(), &lent) {
-        Ok(Request::Help) => printed(&rt, HELP),
-        Ok(Request::Version) => printed(&rt, VERSION),
+        Ok(Request::Help) => print_text(&rt, HELP),
+        Ok(Request::Version) => print_text(&rt, VERSION),
         Ok(Request::Send(options, words)) => send(&rt, &options, words),
-        Err(fault) => told(&rt, fault.status(), fault),
+        Err(error) => exit_with_error(&rt, error.status(), error),
     }
 }
 
-// Tells why the words of the command line can't be had.
-fn no_words(rt: &HostRuntime, kind: ErrorKind) -> ExitCode {
+// Prints to the standard error why the words of the command line can't be read, and returns the exit status.
+fn exit_without_words(rt: &HostRuntime, kind: ErrorKind) -> ExitCode {
     if kind == ErrorKind::OutOfMemory {
-        return told(rt, 3, "out of memory");
+        return exit_with_error(rt, 3, "out of memory");
     }
-    told(
+    exit_with_error(
         rt,
         2,
         "a word of the command line is not UTF-8: wants text, as in `c visits 1 page:home`",
     )
 }
 
-// Tells why nothing is sent.
-fn told<T: fmt::Display + Drop>(rt: &HostRuntime, status: u8, why: T) -> ExitCode {
+// Prints to the standard error why nothing is sent, and returns the exit status.
+fn exit_with_error<T: fmt::Display + Drop>(rt: &HostRuntime, status: u8, why: T) -> ExitCode {
     let _ = eprintln!(rt; "statsd_send: {why}");
     ExitCode::from(status)
 }
 
-fn printed(rt: &HostRuntime, text: &str) -> ExitCode {
+// Prints a text to the standard output, and returns the exit status.
+fn print_text(rt: &HostRuntime, text: &str) -> ExitCode {
     match print!(rt; "{text}") {
         Ok(()) => ExitCode::from(0),
-        Err(fault) => {
-            let _ = eprintln!(rt; "statsd_send: cannot print: {fault}");
+        Err(error) => {
+            let _ = eprintln!(rt; "statsd_send: cannot print: {error}");
             ExitCode::from(1)
         }
     }
 }
 
-// A socket that can send to the target.
-fn socket(rt: &HostRuntime, target: SocketAddr) -> io::Result<UdpSocket> {
-    let any = if target.is_ipv4() {
-        SocketAddr::from((Ipv4Addr::UNSPECIFIED, 0))
-    } else {
-        SocketAddr::from((Ipv6Addr::UNSPECIFIED, 0))
-    };
-    UdpSocket::bind(rt, any)
-}
-
+// Sends the metric of the words, or those of the input if there are no words. Returns the exit status.
 fn send(rt: &HostRuntime, options: &Options<'_, Global>, words: &[&str]) -> ExitCode {
     let Ok(defaults) = options.defaults(rt.alloc()) else {
-        return told(rt, 3, "out of memory");
+        return exit_with_error(rt, 3, "out of memory");
     };
     if options.is_printing {
-        return match Printed::new(rt.alloc(), rt.stdout()) {
-            Ok(writer) => drive(rt, options, words, &defaults, writer),
-            Err(_) => told(rt, 3, "out of memory"),
+        return match PacketPrinter::new(rt.alloc(), rt.stdout()) {
+            Ok(writer) => send_with(rt, options, words, &defaults, writer),
+            Err(_) => exit_with_error(rt, 3, "out of memory"),
         };
     }
-    // A socket takes the place of an input that is closed, and would be read in its stead.
+    // If the standard input is closed, the system gives its number, file descriptor 0, to the next file that is opened.
+    // That would be our socket, and the program would wait for input from it. Reading 0 bytes now finds out, since it
+    // fails if file descriptor 0 is closed.
     if words.is_empty() && rt.stdin().read(&mut [0u8; 0]).is_err() {
-        return told(rt, 1, Failure::Input);
+        return exit_with_error(rt, 1, RunError::Input);
     }
-    let target = match target(rt, options.to) {
-        Ok(target) => target,
-        Err(fault) => return told(rt, fault.status(), fault),
+    let address = match find_address(rt, options.to) {
+        Ok(address) => address,
+        Err(error) => return exit_with_error(rt, error.status(), error),
     };
-    match socket(rt, target) {
-        Ok(socket) => drive(
-            rt,
-            options,
-            words,
-            &defaults,
-            Datagrams::new(socket, target),
-        ),
-        Err(fault) => {
-            let _ = eprintln!(rt; "statsd_send: socket: {fault}");
+    match bind_socket(rt, address) {
+        Ok(socket) => {
+            let writer = DatagramWriter::new(socket, address);
+            send_with(rt, options, words, &defaults, writer)
+        }
+        Err(error) => {
+            let _ = eprintln!(rt; "statsd_send: socket: {error}");
             ExitCode::from(1)
         }
     }
 }
 
-// The pace that the options ask for, if they ask for one. A clock takes memory.
+// Returns the pace of the option `--flush-every`, if it is set. A clock takes memory.
 fn asked_pace(
     rt: &HostRuntime,
     options: &Options<'_, Global>,
@@ -145,8 +141,9 @@ fn asked_pace(
     Ok(Some(Every::new(clock, Duration::from_millis(period))))
 }
 
-// Sends the metric of the words, or those of the input if there are no words.
-fn drive<T: PacketWriter>(
+// Sends the metric of the words, or those of the input if there are no words, with this writer of packets. Returns the
+// exit status.
+fn send_with<T: PacketWriter>(
     rt: &HostRuntime,
     options: &Options<'_, Global>,
     words: &[&str],
@@ -155,10 +152,10 @@ fn drive<T: PacketWriter>(
 ) -> ExitCode {
     let alloc = rt.alloc();
     let Ok(pace) = asked_pace(rt, options) else {
-        return told(rt, 3, "out of memory");
+        return exit_with_error(rt, 3, "out of memory");
     };
     let Ok(mut lines) = LineBuffer::new(alloc, writer, options.capacity) else {
-        return told(rt, 3, "out of memory");
+        return exit_with_error(rt, 3, "out of memory");
     };
     let (mut input, mut errors) = (rt.stdin(), rt.stderr());
     if !words.is_empty() {

@@ -1,31 +1,83 @@
-//! What metrics are sent by.
+//! What a metric is sent by.
+ghost use Rattle.cadence_value.specs.Values.{Converts};
+ghost use Rattle.cadence.specs.Sending.{SendsPlain, StartsPlain};
 
-use crate::sealed::Sealed;
-use cadence_errors::{MetricError, MetricResult};
-use cadence_metrics::Metric;
+use crate::types::{Metric, MetricKind, MetricText};
+use cadence_errors::{MetricError, MetricResult, SinkError};
+use cadence_schedule::ClientSettings;
+use cadence_text::line::{DraftLine, MetricType};
+use cadence_value::value::MetricValue;
 use std::alloc::Allocator;
 
-/// What metrics are sent by, as in cadence: a way to send a metric of your own through a client. No other crate
-/// implements it.
+/// No other crate can name this trait, so that no other crate can implement the traits above it.
+pub trait Sealed {}
+
+/// What a metric is sent by. `StatsdClient` has it, and no other crate can implement it. A service calls `send_metric`
+/// to send a metric of its own type through a client.
 pub trait MetricBackend: Sealed {
     ghost use Rattle.std.specs.Prelude.{ℕ, List, Result};
     ghost use Rattle.cadence_errors.specs.declared.SinkError.{SinkError};
-    ghost use Rattle.cadence.specs.Sending.{Handed};
+    ghost use Rattle.cadence.specs.Sending.{SendsText};
     ghost use Rattle.cadence_schedule.specs.Settings.{Settings};
 
-    /// Where its metrics take memory.
+    /// The allocator of its metrics.
     type Memory: Allocator + Clone;
 
-    /// What it adds to each call.
+    /// The prefix and the defaults that it adds to each call.
     ghost settings: { Self → Settings };
 
-    /// The answers that its sink may give to a line.
+    /// The results of its sink that a line may get.
     ghost line_may_get: { Self → List ℕ → Result ℕ SinkError → Type 0 };
 
-    /// Hands the text of a metric to the sink as it stands. A refusal of the sink is answered as a `MetricError`.
+    /// Sends the text of a metric to the sink, without a prefix or defaults. The error is the sink's, as
+    /// `MetricError::Sink`.
     fn send_metric<M: Metric>(&self, metric: &M) -> MetricResult<()>
-        ensures { Handed (line_may_get self.now) (M.metric_text metric.now) result };
+        ensures { SendsText (line_may_get self.now) (M.metric_text metric.now) result };
 
-    /// Gives an error to the handler once, or drops it where there is no handler.
+    /// Gives an error to the handler, or drops it if the client has no handler.
     fn consume_error(&self, err: MetricError);
+}
+
+/// What the calls of a client need. These are no methods of `MetricBackend`, so that no other crate can call them. They
+/// don't name the allocator except behind a reference, because the checker can't state an `impl` whose methods do.
+pub trait CallBackend: MetricBackend {
+    ghost use Rattle.std.specs.Prelude.{◌≡◌};
+
+    /// Returns the prefix and the defaults.
+    fn client_settings(&self) -> &ClientSettings<Self::Memory>
+        ensures { result.now ≡ Self.settings self.now };
+
+    /// Gives a line to the sink, and returns the sink's result.
+    fn emit_line(&self, line: &str) -> Result<usize, SinkError>
+        ensures { Self.line_may_get self.now line.now result };
+}
+
+// Sends the line of a call without options, and returns the metric. It makes no builder, and it is one function, because
+// each function between would copy the wide result once more.
+#[inline]
+pub(crate) fn send_plain<K: MetricKind, C: CallBackend>(
+    client: &C,
+    key: &str,
+    value: MetricResult<MetricValue<C::Memory>>,
+) -> MetricResult<MetricText<K, C::Memory>>
+    ensures { (numbers : _) → Converts numbers value → SendsPlain (C.settings client.now)
+        (C.line_may_get client.now) K.TYPE key.now numbers result }
+{
+    let text = client.client_settings().line(key, K::TYPE, value?)?;
+    client.emit_line(&text)?;
+    Ok(MetricText::from(text))
+}
+
+// Drafts the line of a call without options, or returns the error of its value.
+#[inline(always)]
+pub(crate) fn draft<'a, C: CallBackend>(
+    client: &'a C,
+    key: &str,
+    kind: MetricType,
+    value: MetricResult<MetricValue<C::Memory>>,
+) -> MetricResult<DraftLine<'a, C::Memory>>
+    ensures { (numbers : _) → Converts numbers value →
+        StartsPlain (C.settings client.now) kind key.now numbers result }
+{
+    Ok(client.client_settings().draft(key, kind, value?)?)
 }

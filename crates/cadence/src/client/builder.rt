@@ -1,26 +1,23 @@
 //! A metric that is being built.
+ghost use Rattle.std.specs.Option.{option_copied};
 ghost use Rattle.std.specs.Prelude.{◌≡◌};
 ghost use Rattle.cadence_text.specs.Draft.{draft_line};
 ghost use Rattle.cadence_schedule.specs.Call.{tagged, contained, timed, rated};
 ghost use Rattle.cadence_schedule.specs.Settings.{keyed, unkeyed};
-ghost use Rattle.cadence.specs.Sending.{HasChosen, HasChosenOrHolds, StandsForMore};
-ghost use Rattle.cadence.specs.Sending.{HasAnswered, HasLine, MadeFrom, Sent};
+ghost use Rattle.cadence.specs.Sending.{ChoosesOrFails, HasChosen, HasChosenOrFailed, StandsForMore};
+ghost use Rattle.cadence.specs.Sending.{HasLineOfCall, HasSentPending, IsMadeFrom, SendsLine};
 
 use crate::client::backend::MetricBackend;
-use crate::client::handler::ErrorHandler;
-use crate::client::pending;
 use crate::client::statsd_client::StatsdClient;
 use crate::laws::choosing_stands_for_more;
-use cadence_errors::MetricResult;
-use cadence_metrics::{Kind, Metric, MetricText};
-use cadence_sinks::MetricSink;
+use crate::types::Metric;
+use cadence_errors::{MetricError, MetricResult};
 use cadence_text::line::{DraftLine, Tag};
 use cadence_value::decimal::Decimal;
-use cadence_value::value::MetricValue;
-use std::alloc::Allocator;
+use std::alloc::AllocError;
 use std::marker::PhantomData;
 
-// A line as a metric.
+// A line, as a metric that can be sent.
 #[derive(Clone, Copy)]
 struct Line<'a> {
     text: &'a str,
@@ -34,13 +31,13 @@ impl Metric for Line<'_> {
     }
 }
 
-// Sends the line of a draft, and answers what is made of it.
+// Sends the line of a draft, and returns what is made from its text.
 #[inline(always)]
 fn send_line<C: MetricBackend, T: From<String<C::Memory>>>(
     client: &C,
     draft: DraftLine<'_, C::Memory>,
 ) -> MetricResult<T>
-    ensures { Sent (C.line_may_get client.now) (MadeFrom T.from_gives)
+    ensures { SendsLine (C.line_may_get client.now) (IsMadeFrom T.from_gives)
         (draft_line draft.entry) result }
 {
     let text = draft.into_text()?;
@@ -48,8 +45,16 @@ fn send_line<C: MetricBackend, T: From<String<C::Memory>>>(
     Ok(T::from(text))
 }
 
-/// A metric that is being built, as in cadence. It holds the metric's line so far, or the first error of the call; a held
-/// error stays, and later calls change nothing. It has to be sent: one that is let go doesn't compile.
+/// A metric that is being built. It keeps the metric's line so far, or the first error of the call; after an error the
+/// options change nothing. A builder has to be sent: code that drops one doesn't compile.
+///
+/// ```text
+/// client
+///     .count_with_tags("visits", 1)
+///     .with_tag("page", "home")
+///     .with_sampling_rate(Decimal::new(1, 1)?)
+///     .try_send()?;
+/// ```
 pub struct MetricBuilder<
     'm,
     'c,
@@ -61,6 +66,7 @@ pub struct MetricBuilder<
     of: PhantomData<T>,
 }
 
+// Each option calls `choosing_stands_for_more`, a law for the proof alone: no code comes of it.
 impl<'m, 'c, T: Metric + From<String<C::Memory>>, C: MetricBackend> MetricBuilder<'m, 'c, T, C> {
     ghost use Rattle.cadence.specs.Shown.{pending_of, backend_of};
 
@@ -76,44 +82,53 @@ impl<'m, 'c, T: Metric + From<String<C::Memory>>, C: MetricBackend> MetricBuilde
         }
     }
 
-    /// Adds a tag with a key, after the default tags and the earlier ones. Holds want of memory where the line can't
-    /// grow.
+    // Adds a tag to the draft. If memory runs out, the builder keeps this error in place of the draft.
+    #[inline(always)]
+    fn add_tag(&mut self, key: Option<&'m str>, text: &'m str)
+        ensures pending { ChoosesOrFails (pending_of self.old)
+            (tagged (record { key = option_copied key.entry; text = text.now }))
+            (pending_of self.new) }
+        ensures client { backend_of self.new ≡ backend_of self.old }
+    {
+        let Ok(draft) = &mut self.draft else {
+            return;
+        };
+        if draft.add_tag(Tag { key, text }).is_err() {
+            self.draft = Err(MetricError::from(AllocError));
+        }
+    }
+
+    /// Adds a tag with a key, after the default tags and the earlier ones. If memory runs out, `try_send` returns the
+    /// error.
     #[inline(always)]
     pub fn with_tag(mut self, key: &'m str, value: &'m str) -> Self
-        ensures pending { HasChosenOrHolds (pending_of self.entry)
+        ensures pending { HasChosenOrFailed (pending_of self.entry)
             (tagged (keyed key.now value.now)) (pending_of result) }
         ensures call { StandsForMore (pending_of self.entry)
             (tagged (keyed key.now value.now)) (pending_of result) }
         ensures client { backend_of result ≡ backend_of self.entry }
     {
-        let tag = Tag {
-            key: Some(key),
-            text: value,
-        };
         choosing_stands_for_more();
-        pending::add_tag(&mut self.draft, tag);
+        self.add_tag(Some(key), value);
         self
     }
 
-    /// Adds a tag without a key, as `with_tag`.
+    /// Adds a tag without a key, after the default tags and the earlier ones. If memory runs out, `try_send` returns
+    /// the error.
     #[inline(always)]
     pub fn with_tag_value(mut self, value: &'m str) -> Self
-        ensures pending { HasChosenOrHolds (pending_of self.entry)
+        ensures pending { HasChosenOrFailed (pending_of self.entry)
             (tagged (unkeyed value.now)) (pending_of result) }
         ensures call { StandsForMore (pending_of self.entry)
             (tagged (unkeyed value.now)) (pending_of result) }
         ensures client { backend_of result ≡ backend_of self.entry }
     {
-        let tag = Tag {
-            key: None,
-            text: value,
-        };
         choosing_stands_for_more();
-        pending::add_tag(&mut self.draft, tag);
+        self.add_tag(None, value);
         self
     }
 
-    /// Sets the container, in the place of the default one or an earlier one.
+    /// Sets the container, in place of the default one or an earlier one.
     #[inline(always)]
     pub fn with_container_id(mut self, container_id: &'m str) -> Self
         ensures pending { HasChosen (pending_of self.entry)
@@ -123,11 +138,13 @@ impl<'m, 'c, T: Metric + From<String<C::Memory>>, C: MetricBackend> MetricBuilde
         ensures client { backend_of result ≡ backend_of self.entry }
     {
         choosing_stands_for_more();
-        pending::set_container(&mut self.draft, container_id);
+        if let Ok(draft) = &mut self.draft {
+            draft.set_container(container_id);
+        }
         self
     }
 
-    /// Sets the time, in the place of an earlier one. DogStatsD reads it as seconds.
+    /// Sets the time, in place of an earlier one. DogStatsD reads it as seconds since 1970.
     #[inline(always)]
     pub fn with_timestamp(mut self, timestamp: u64) -> Self
         ensures pending { HasChosen (pending_of self.entry) (timed timestamp) (pending_of result) }
@@ -135,12 +152,14 @@ impl<'m, 'c, T: Metric + From<String<C::Memory>>, C: MetricBackend> MetricBuilde
         ensures client { backend_of result ≡ backend_of self.entry }
     {
         choosing_stands_for_more();
-        pending::set_time(&mut self.draft, timestamp);
+        if let Ok(draft) = &mut self.draft {
+            draft.set_time(timestamp);
+        }
         self
     }
 
-    /// Sets the sampling rate, in the place of an earlier one. It isn't checked to lie between 0 and 1, and nothing is
-    /// sampled here.
+    /// Sets the sampling rate, in place of an earlier one. It only tells the server that the caller samples: the client
+    /// sends each call, and doesn't check that the rate is between 0 and 1.
     #[inline(always)]
     pub fn with_sampling_rate(mut self, rate: Decimal) -> Self
         ensures pending { HasChosen (pending_of self.entry) (rated rate) (pending_of result) }
@@ -148,19 +167,21 @@ impl<'m, 'c, T: Metric + From<String<C::Memory>>, C: MetricBackend> MetricBuilde
         ensures client { backend_of result ≡ backend_of self.entry }
     {
         choosing_stands_for_more();
-        pending::set_rate(&mut self.draft, rate);
+        if let Ok(draft) = &mut self.draft {
+            draft.set_rate(rate);
+        }
         self
     }
 
-    /// Sends the metric's line, and answers a metric with just this text.
+    /// Sends the metric's line, and returns a metric with this text.
     ///
-    /// A held error is answered without a call of the sink: kind `InvalidInput` where the call's value has no numbers,
-    /// kind `OutOfMemory` where a growth was refused. Else refuses with kind `OutOfMemory` where there is no room for
-    /// the line, or with what the sink refuses the line with.
+    /// If the builder keeps an error, it returns this error and doesn't call the sink: the kind is `InvalidInput` if
+    /// the value had no numbers, and `OutOfMemory` if memory ran out. Otherwise the error is the sink's, as
+    /// `MetricError::Sink`, or has the kind `OutOfMemory`.
     pub fn try_send(self) -> MetricResult<T>
-        ensures answers { HasAnswered (C.line_may_get (backend_of self.entry))
-            (MadeFrom T.from_gives) (pending_of self.entry) result }
-        ensures line { HasLine (MadeFrom T.from_gives) (pending_of self.entry) result }
+        ensures answers { HasSentPending (C.line_may_get (backend_of self.entry))
+            (IsMadeFrom T.from_gives) (pending_of self.entry) result }
+        ensures line { HasLineOfCall (IsMadeFrom T.from_gives) (pending_of self.entry) result }
     {
         let MetricBuilder {
             draft,
@@ -173,8 +194,8 @@ impl<'m, 'c, T: Metric + From<String<C::Memory>>, C: MetricBackend> MetricBuilde
         }
     }
 
-    /// Sends the metric's line as `try_send` does, and gives an error to the client's handler once. Without a handler
-    /// the error is dropped.
+    /// Sends the metric's line, and gives an error to the client's handler. The errors are those of `try_send`. If the
+    /// client has no handler, the error is dropped.
     pub fn send(self) {
         let MetricBuilder {
             draft,
@@ -188,34 +209,5 @@ impl<'m, 'c, T: Metric + From<String<C::Memory>>, C: MetricBackend> MetricBuilde
         if let Err(e) = sent {
             client.consume_error(e);
         }
-    }
-}
-
-impl<'a, K: Kind, A: Allocator + Clone, S: MetricSink, H: ErrorHandler> MetricBuilder<
-    'a,
-    'a,
-    MetricText<K, A>,
-    StatsdClient<A, S, H>,
-> {
-    ghost use Rattle.cadence_value.specs.Values.{Converts};
-    ghost use Rattle.cadence.specs.Sending.{StartsPlain};
-    ghost use Rattle.cadence.specs.Shown.{backend_of, pending_of, settings_of_client};
-
-    // The builder of a call without options, whose value was converted.
-    #[inline(always)]
-    pub(crate) fn start(
-        client: &'a StatsdClient<A, S, H>,
-        key: &str,
-        value: MetricResult<MetricValue<A>>,
-    ) -> Self
-        ensures pending { (numbers : _) → Converts numbers value →
-            StartsPlain (settings_of_client client.now) K.TYPE key.now numbers
-            (pending_of result) }
-        ensures client { backend_of result ≡ client.now }
-    {
-        MetricBuilder::new(
-            client,
-            pending::start(&client.settings, key, K::TYPE, value),
-        )
     }
 }

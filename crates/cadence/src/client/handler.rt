@@ -1,15 +1,16 @@
-//! What a client tells its errors to.
+//! Receivers of the errors that a client can't return.
 
 use cadence_errors::MetricError;
 use std::alloc::{Allocator, Global};
 
-/// Is told the errors that `send` and `consume_error` meet. One of a type of your own takes no box.
+/// Receives the errors of `MetricBuilder::send` and of `MetricBackend::consume_error`. Implement it on a type of your
+/// own to avoid a box.
 pub trait ErrorHandler: Drop {
-    /// Is told an error.
+    /// Receives one error.
     fn handle(&self, error: MetricError);
 }
 
-/// Drops each error: what a client has until it is given a handler.
+/// Drops each error. A client has it if no handler is set.
 #[derive(Drop)]
 pub struct NopErrorHandler;
 
@@ -17,10 +18,11 @@ impl ErrorHandler for NopErrorHandler {
     fn handle(&self, _error: MetricError) {}
 }
 
-/// A handler of errors that the caller made.
+/// A caller's closure that receives errors, in a box.
 pub type BoxedHandler<A = Global> = Box<dyn Fn(MetricError) + Send + Sync, A>;
 
-/// A boxed handler that may always be called: what a client keeps of `with_error_handler`.
+/// Keeps a closure that may be called at any time. `StatsdClientBuilder::with_error_handler` makes one.
+// `Handler` of `cadence_resolve` is the same struct for a `SinkError`, and a comment there says why they are two.
 #[derive(Drop)]
 pub struct BoxedErrorHandler<A: Allocator = Global> {
     call: BoxedHandler<A>,
@@ -31,7 +33,7 @@ impl<A: Allocator> BoxedErrorHandler<A> {
     ghost use Rattle.std.specs.Prelude.{◌≡◌};
     ghost use Rattle.cadence.specs.Shown.{box_of_handler};
 
-    /// Keeps a boxed handler.
+    /// Keeps this closure.
     pub fn new(call: BoxedHandler<A>) -> BoxedErrorHandler<A>
         requires { IsAlwaysCallable call }
         ensures { box_of_handler result ≡ call }

@@ -1,13 +1,23 @@
-//! All metrics as one bound.
+//! The traits of all metrics as one bound.
 
-use crate::client::backend::MetricBackend;
+use crate::client::backend::{CallBackend, MetricBackend};
 use crate::client::traits::{
     Counted, CountedExt, Distributed, Gauged, Histogrammed, Metered, Setted, Timed,
 };
 use cadence_value::decimal::Decimal;
 use std::time::Duration;
 
-/// Sends metrics of every kind and of every type of values: the bound of code that is generic over its client.
+/// Sends metrics of each kind with values of each type: the bound of code that is generic over its client.
+///
+/// ```text
+/// client.count("visits", 1)?;
+/// client.time("startup", Duration::from_millis(1250))?;
+/// client.gauge("temperature", Decimal::new(215, 1)?)?;
+/// client.meter("requests", 5)?;
+/// client.histogram("latency", Duration::from_micros(83))?;
+/// client.distribution("payload", 1500)?;
+/// client.set("users", 4711)?;
+/// ```
 pub trait MetricClient: MetricBackend
     + Counted<i64>
     + Counted<i32>
@@ -33,30 +43,16 @@ pub trait MetricClient: MetricBackend
     + Distributed<Vec<Decimal, <Self as MetricBackend>::Memory>>
     + Setted<i64> {}
 
+// The bounds with a list are repeated here. Without them the check "cannot state an item with such a type in a
+// bound yet"; for the others it finds the impls of the traits.
 impl<C> MetricClient for C
 where
-    C: MetricBackend
-        + Counted<i64>
-        + Counted<i32>
-        + Counted<u64>
-        + Counted<u32>
-        + CountedExt
-        + Timed<u64>
-        + Timed<Duration>
+    C: CallBackend
         + Timed<Vec<u64, <C as MetricBackend>::Memory>>
         + Timed<Vec<Duration, <C as MetricBackend>::Memory>>
-        + Gauged<u64>
-        + Gauged<Decimal>
-        + Metered<u64>
-        + Histogrammed<u64>
-        + Histogrammed<Decimal>
-        + Histogrammed<Duration>
         + Histogrammed<Vec<u64, <C as MetricBackend>::Memory>>
         + Histogrammed<Vec<Decimal, <C as MetricBackend>::Memory>>
         + Histogrammed<Vec<Duration, <C as MetricBackend>::Memory>>
-        + Distributed<u64>
-        + Distributed<Decimal>
         + Distributed<Vec<u64, <C as MetricBackend>::Memory>>
-        + Distributed<Vec<Decimal, <C as MetricBackend>::Memory>>
-        + Setted<i64>,
+        + Distributed<Vec<Decimal, <C as MetricBackend>::Memory>>,
 {}

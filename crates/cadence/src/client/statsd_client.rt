@@ -1,24 +1,30 @@
 //! The client.
 ghost use Rattle.std.specs.Prelude.{◌≡◌};
 ghost use Rattle.cadence_value.specs.Values.{Converts};
-ghost use Rattle.cadence.specs.Sending.{Flushed, SendsPlain};
+ghost use Rattle.cadence.specs.Sending.{Flushes, SendsPlain, StartsPlain};
+ghost use Rattle.cadence.specs.Shown.{settings_of_client, sink_of_client};
 
-use crate::client::backend::MetricBackend;
+use crate::client::backend::{CallBackend, MetricBackend, Sealed};
 use crate::client::handler::{ErrorHandler, NopErrorHandler};
-use crate::sealed::Sealed;
-use cadence_errors::{MetricError, MetricResult};
-use cadence_metrics::{Kind, Metric, MetricText};
+use crate::types::Metric;
+use cadence_errors::{MetricError, MetricResult, SinkError};
 use cadence_schedule::ClientSettings;
 use cadence_sinks::MetricSink;
-use cadence_value::value::MetricValue;
 use std::alloc::{Allocator, Global};
 
-/// A sink that the caller made.
+/// A sink that the caller made, in a box.
 pub type BoxedSink<A = Global> = Box<dyn MetricSink + Send + Sync, A>;
 
-/// A client of a Statsd server, as in cadence. Threads may share it by reference.
-/// It keeps its sink and its handler as they are, so any function can make a client and hand it out. `StatsdClient`
-/// alone is a client of a boxed sink, without a handler.
+/// A client of a Statsd server. Each call formats the line of one metric and gives it to the sink. Threads may share a
+/// client by reference. `StatsdClient` without parameters is a client of a boxed sink, without a handler.
+///
+/// ```text
+/// let client = StatsdClient::from_sink(alloc, "my.service", sink)?;
+/// client.count("visits", 1)?;
+/// client.flush()?;
+/// ```
+// It keeps its sink and its handler without a box, because a function may hand out a client only if its type has no
+// `dyn`.
 #[derive(Drop)]
 pub struct StatsdClient<
     A: Allocator = Global,
@@ -31,38 +37,19 @@ pub struct StatsdClient<
 }
 
 impl<A: Allocator + Clone, S: MetricSink, H: ErrorHandler> StatsdClient<A, S, H> {
-    ghost use Rattle.cadence.specs.Shown.{settings_of_client, sink_of_client};
-
-    /// The sink.
+    /// Returns the sink.
     pub fn sink(&self) -> &S
         ensures { result.now ≡ sink_of_client self.now }
     {
         &self.sink
     }
 
-    /// Flushes the sink: sends what it holds. A refusal of the sink is answered as a `MetricError`.
+    /// Flushes the sink, which then sends its held text. The error is the sink's, as `MetricError::Sink`.
     pub fn flush(&self) -> MetricResult<()>
-        ensures { Flushed (S.may_flush (sink_of_client self.now)) result }
+        ensures { Flushes (S.may_flush (sink_of_client self.now)) result }
     {
         self.sink.flush()?;
         Ok(())
-    }
-
-    // Sends the line of a call without options, whose value was converted. No builder is made for it. It is one
-    // function, since each one more would copy the wide answer once more.
-    #[inline]
-    pub(crate) fn send_plain<K: Kind>(
-        &self,
-        key: &str,
-        value: MetricResult<MetricValue<A>>,
-    ) -> MetricResult<MetricText<K, A>>
-        ensures { (numbers : _) → Converts numbers value →
-            SendsPlain (settings_of_client self.now) (S.may_answer (sink_of_client self.now))
-            K.TYPE key.now numbers result }
-    {
-        let text = self.settings.line(key, K::TYPE, value?)?;
-        self.sink.emit(&text)?;
-        Ok(MetricText::from(text))
     }
 }
 
@@ -82,5 +69,17 @@ impl<A: Allocator + Clone, S: MetricSink, H: ErrorHandler> MetricBackend for Sta
 
     fn consume_error(&self, err: MetricError) {
         self.handler.handle(err);
+    }
+}
+
+impl<A: Allocator + Clone, S: MetricSink, H: ErrorHandler> CallBackend for StatsdClient<A, S, H> {
+    #[inline(always)]
+    fn client_settings(&self) -> &ClientSettings<A> {
+        &self.settings
+    }
+
+    #[inline(always)]
+    fn emit_line(&self, line: &str) -> Result<usize, SinkError> {
+        self.sink.emit(line)
     }
 }

@@ -1,34 +1,37 @@
-//! The metrics that a client sends, a trait for each kind.
+//! The metrics that a client sends: a trait for each kind. `MetricType` in `cadence_text` explains the kinds.
+//!
+//! Each trait has two calls. One sends a metric at once, and the other returns its builder. Both convert the value
+//! first. If that fails, nothing is sent, and the error has the kind `InvalidInput`, or the kind `OutOfMemory` if
+//! memory runs out. Otherwise the error is the sink's, as `MetricError::Sink`. The first call returns the metric with
+//! the text that was sent; the errors of the second call come from the builder, when it is sent.
+ghost use Rattle.std.specs.Prelude.{◌≡◌, Some, ◌∷◌, [], pos, negsuc};
+ghost use Rattle.cadence_value.specs.Number.{whole};
+ghost use Rattle.cadence.specs.Sending.{SendsPlain, StartsPlain};
+ghost use Rattle.cadence.specs.Shown.{backend_of, pending_of};
 
-use crate::client::backend::MetricBackend;
+use crate::client::backend::{CallBackend, draft, send_plain};
 use crate::client::builder::MetricBuilder;
-use crate::client::handler::ErrorHandler;
-use crate::client::statsd_client::StatsdClient;
+use crate::types::{Counter, Distribution, Gauge, Histogram, Meter, Set, Timer};
 use cadence_errors::MetricResult;
-use cadence_metrics::{Counter, Distribution, Gauge, Histogram, Meter, Set, Timer};
-use cadence_sinks::MetricSink;
 use cadence_text::line::MetricType;
 use cadence_value::value::{
     ToCounterValue, ToDistributionValue, ToGaugeValue, ToHistogramValue, ToMeterValue, ToSetValue,
     ToTimerValue,
 };
-use std::alloc::Allocator;
 
-/// Counts things that happened. A server adds the counts up.
-pub trait Counted<T: ToCounterValue<Self::Memory>>: MetricBackend {
-    ghost use Rattle.std.specs.Prelude.{◌≡◌};
-    ghost use Rattle.cadence.specs.Sending.{SendsPlain, StartsPlain};
-    ghost use Rattle.cadence.specs.Shown.{backend_of, pending_of};
-
-    /// Adds to a counter: `count_with_tags` and then `try_send`.
+/// Sends counts of events, which the server adds up. No value of a built-in type is refused.
+pub trait Counted<T: ToCounterValue<Self::Memory>>: CallBackend {
+    /// Sends a count, and returns the counter that was sent.
+    #[inline]
     fn count(&self, key: &str, value: T) -> MetricResult<Counter<Self::Memory>>
         ensures { SendsPlain (Self.settings self.now) (Self.line_may_get self.now)
             MetricType.Counter key.now (T.numbers value) result }
     {
-        self.count_with_tags(key, value).try_send()
+        send_plain(self, key, value.try_to_value())
     }
 
-    /// The same, to be sent with tags and other options of its own.
+    /// Returns the builder of a count, to which tags and other options can be added before it is sent.
+    #[inline]
     fn count_with_tags<'a>(
         &'a self,
         key: &'a str,
@@ -36,34 +39,20 @@ pub trait Counted<T: ToCounterValue<Self::Memory>>: MetricBackend {
     ) -> MetricBuilder<'a, 'a, Counter<Self::Memory>, Self>
         ensures pending { StartsPlain (Self.settings self.now)
             MetricType.Counter key.now (T.numbers value) (pending_of result) }
-        ensures client { backend_of result ≡ self.now };
-}
-
-impl<A: Allocator + Clone, S: MetricSink, H: ErrorHandler, T: ToCounterValue<A>> Counted<T>
-    for StatsdClient<A, S, H> {
-    #[inline]
-    fn count(&self, key: &str, value: T) -> MetricResult<Counter<A>> {
-        self.send_plain(key, value.try_to_value())
-    }
-
-    #[inline]
-    fn count_with_tags<'a>(
-        &'a self,
-        key: &'a str,
-        value: T,
-    ) -> MetricBuilder<'a, 'a, Counter<A>, StatsdClient<A, S, H>> {
-        MetricBuilder::start(self, key, value.try_to_value())
+        ensures client { backend_of result ≡ self.now }
+    {
+        MetricBuilder::new(
+            self,
+            draft(self, key, MetricType::Counter, value.try_to_value()),
+        )
     }
 }
 
-/// Counts one up or down.
+impl<T: ToCounterValue<C::Memory>, C: CallBackend> Counted<T> for C {}
+
+/// Sends a count of 1 or -1. The errors are those of `Counted`, except that the value itself is never refused.
 pub trait CountedExt: Counted<i64> {
-    ghost use Rattle.std.specs.Prelude.{◌≡◌, Some, ◌∷◌, [], pos, negsuc};
-    ghost use Rattle.cadence_value.specs.Number.{whole};
-    ghost use Rattle.cadence.specs.Sending.{SendsPlain, StartsPlain};
-    ghost use Rattle.cadence.specs.Shown.{backend_of, pending_of};
-
-    /// Adds 1 to a counter: `incr_with_tags` and then `try_send`.
+    /// Sends a count of 1, and returns the counter that was sent.
     fn incr(&self, key: &str) -> MetricResult<Counter<Self::Memory>>
         ensures { SendsPlain (Self.settings self.now) (Self.line_may_get self.now)
             MetricType.Counter key.now (Some (whole (pos 1) ∷ [])) result }
@@ -71,7 +60,7 @@ pub trait CountedExt: Counted<i64> {
         self.count(key, 1)
     }
 
-    /// The same, to be sent with tags and other options of its own.
+    /// Returns the builder of a count of 1, to which tags and other options can be added before it is sent.
     fn incr_with_tags<'a>(
         &'a self,
         key: &'a str,
@@ -83,7 +72,7 @@ pub trait CountedExt: Counted<i64> {
         self.count_with_tags(key, 1)
     }
 
-    /// Adds -1 to a counter: `decr_with_tags` and then `try_send`.
+    /// Sends a count of -1, and returns the counter that was sent.
     fn decr(&self, key: &str) -> MetricResult<Counter<Self::Memory>>
         ensures { SendsPlain (Self.settings self.now) (Self.line_may_get self.now)
             MetricType.Counter key.now (Some (whole (negsuc 0) ∷ [])) result }
@@ -91,7 +80,7 @@ pub trait CountedExt: Counted<i64> {
         self.count(key, -1)
     }
 
-    /// The same, to be sent with tags and other options of its own.
+    /// Returns the builder of a count of -1, to which tags and other options can be added before it is sent.
     fn decr_with_tags<'a>(
         &'a self,
         key: &'a str,
@@ -104,23 +93,22 @@ pub trait CountedExt: Counted<i64> {
     }
 }
 
-impl<A: Allocator + Clone, S: MetricSink, H: ErrorHandler> CountedExt for StatsdClient<A, S, H> {}
+impl<C: CallBackend> CountedExt for C {}
 
-/// Tells how long things took, in milliseconds. A `Duration` is cut off to whole milliseconds.
-pub trait Timed<T: ToTimerValue<Self::Memory>>: MetricBackend {
-    ghost use Rattle.std.specs.Prelude.{◌≡◌};
-    ghost use Rattle.cadence.specs.Sending.{SendsPlain, StartsPlain};
-    ghost use Rattle.cadence.specs.Shown.{backend_of, pending_of};
-
-    /// Tells a time, in milliseconds: `time_with_tags` and then `try_send`.
+/// Sends times in milliseconds. A `Duration` is cut off to whole milliseconds, and refused with the kind `InvalidInput`
+/// if they pass `u64::MAX`.
+pub trait Timed<T: ToTimerValue<Self::Memory>>: CallBackend {
+    /// Sends a time, and returns the timer that was sent.
+    #[inline]
     fn time(&self, key: &str, value: T) -> MetricResult<Timer<Self::Memory>>
         ensures { SendsPlain (Self.settings self.now) (Self.line_may_get self.now)
             MetricType.Timer key.now (T.numbers value) result }
     {
-        self.time_with_tags(key, value).try_send()
+        send_plain(self, key, value.try_to_value())
     }
 
-    /// The same, to be sent with tags and other options of its own.
+    /// Returns the builder of a time, to which tags and other options can be added before it is sent.
+    #[inline]
     fn time_with_tags<'a>(
         &'a self,
         key: &'a str,
@@ -128,41 +116,30 @@ pub trait Timed<T: ToTimerValue<Self::Memory>>: MetricBackend {
     ) -> MetricBuilder<'a, 'a, Timer<Self::Memory>, Self>
         ensures pending { StartsPlain (Self.settings self.now)
             MetricType.Timer key.now (T.numbers value) (pending_of result) }
-        ensures client { backend_of result ≡ self.now };
-}
-
-impl<A: Allocator + Clone, S: MetricSink, H: ErrorHandler, T: ToTimerValue<A>> Timed<T>
-    for StatsdClient<A, S, H> {
-    #[inline]
-    fn time(&self, key: &str, value: T) -> MetricResult<Timer<A>> {
-        self.send_plain(key, value.try_to_value())
-    }
-
-    #[inline]
-    fn time_with_tags<'a>(
-        &'a self,
-        key: &'a str,
-        value: T,
-    ) -> MetricBuilder<'a, 'a, Timer<A>, StatsdClient<A, S, H>> {
-        MetricBuilder::start(self, key, value.try_to_value())
+        ensures client { backend_of result ≡ self.now }
+    {
+        MetricBuilder::new(
+            self,
+            draft(self, key, MetricType::Timer, value.try_to_value()),
+        )
     }
 }
 
-/// Tells values that stand until they are told again.
-pub trait Gauged<T: ToGaugeValue<Self::Memory>>: MetricBackend {
-    ghost use Rattle.std.specs.Prelude.{◌≡◌};
-    ghost use Rattle.cadence.specs.Sending.{SendsPlain, StartsPlain};
-    ghost use Rattle.cadence.specs.Shown.{backend_of, pending_of};
+impl<T: ToTimerValue<C::Memory>, C: CallBackend> Timed<T> for C {}
 
-    /// Tells the value of a gauge: `gauge_with_tags` and then `try_send`.
+/// Sends values of a gauge. The server keeps the last one. No value of a built-in type is refused.
+pub trait Gauged<T: ToGaugeValue<Self::Memory>>: CallBackend {
+    /// Sends a value of a gauge, and returns the gauge that was sent.
+    #[inline]
     fn gauge(&self, key: &str, value: T) -> MetricResult<Gauge<Self::Memory>>
         ensures { SendsPlain (Self.settings self.now) (Self.line_may_get self.now)
             MetricType.Gauge key.now (T.numbers value) result }
     {
-        self.gauge_with_tags(key, value).try_send()
+        send_plain(self, key, value.try_to_value())
     }
 
-    /// The same, to be sent with tags and other options of its own.
+    /// Returns the builder of a value of a gauge, to which tags and other options can be added before it is sent.
+    #[inline]
     fn gauge_with_tags<'a>(
         &'a self,
         key: &'a str,
@@ -170,41 +147,30 @@ pub trait Gauged<T: ToGaugeValue<Self::Memory>>: MetricBackend {
     ) -> MetricBuilder<'a, 'a, Gauge<Self::Memory>, Self>
         ensures pending { StartsPlain (Self.settings self.now)
             MetricType.Gauge key.now (T.numbers value) (pending_of result) }
-        ensures client { backend_of result ≡ self.now };
-}
-
-impl<A: Allocator + Clone, S: MetricSink, H: ErrorHandler, T: ToGaugeValue<A>> Gauged<T>
-    for StatsdClient<A, S, H> {
-    #[inline]
-    fn gauge(&self, key: &str, value: T) -> MetricResult<Gauge<A>> {
-        self.send_plain(key, value.try_to_value())
-    }
-
-    #[inline]
-    fn gauge_with_tags<'a>(
-        &'a self,
-        key: &'a str,
-        value: T,
-    ) -> MetricBuilder<'a, 'a, Gauge<A>, StatsdClient<A, S, H>> {
-        MetricBuilder::start(self, key, value.try_to_value())
+        ensures client { backend_of result ≡ self.now }
+    {
+        MetricBuilder::new(
+            self,
+            draft(self, key, MetricType::Gauge, value.try_to_value()),
+        )
     }
 }
 
-/// Tells how often things happen. A server makes a rate of it.
-pub trait Metered<T: ToMeterValue<Self::Memory>>: MetricBackend {
-    ghost use Rattle.std.specs.Prelude.{◌≡◌};
-    ghost use Rattle.cadence.specs.Sending.{SendsPlain, StartsPlain};
-    ghost use Rattle.cadence.specs.Shown.{backend_of, pending_of};
+impl<T: ToGaugeValue<C::Memory>, C: CallBackend> Gauged<T> for C {}
 
-    /// Adds to a meter: `meter_with_tags` and then `try_send`.
+/// Sends counts of events, from which the server computes a rate. No value of a built-in type is refused.
+pub trait Metered<T: ToMeterValue<Self::Memory>>: CallBackend {
+    /// Sends a count for a meter, and returns the meter that was sent.
+    #[inline]
     fn meter(&self, key: &str, value: T) -> MetricResult<Meter<Self::Memory>>
         ensures { SendsPlain (Self.settings self.now) (Self.line_may_get self.now)
             MetricType.Meter key.now (T.numbers value) result }
     {
-        self.meter_with_tags(key, value).try_send()
+        send_plain(self, key, value.try_to_value())
     }
 
-    /// The same, to be sent with tags and other options of its own.
+    /// Returns the builder of a count for a meter, to which tags and other options can be added before it is sent.
+    #[inline]
     fn meter_with_tags<'a>(
         &'a self,
         key: &'a str,
@@ -212,41 +178,31 @@ pub trait Metered<T: ToMeterValue<Self::Memory>>: MetricBackend {
     ) -> MetricBuilder<'a, 'a, Meter<Self::Memory>, Self>
         ensures pending { StartsPlain (Self.settings self.now)
             MetricType.Meter key.now (T.numbers value) (pending_of result) }
-        ensures client { backend_of result ≡ self.now };
-}
-
-impl<A: Allocator + Clone, S: MetricSink, H: ErrorHandler, T: ToMeterValue<A>> Metered<T>
-    for StatsdClient<A, S, H> {
-    #[inline]
-    fn meter(&self, key: &str, value: T) -> MetricResult<Meter<A>> {
-        self.send_plain(key, value.try_to_value())
-    }
-
-    #[inline]
-    fn meter_with_tags<'a>(
-        &'a self,
-        key: &'a str,
-        value: T,
-    ) -> MetricBuilder<'a, 'a, Meter<A>, StatsdClient<A, S, H>> {
-        MetricBuilder::start(self, key, value.try_to_value())
+        ensures client { backend_of result ≡ self.now }
+    {
+        MetricBuilder::new(
+            self,
+            draft(self, key, MetricType::Meter, value.try_to_value()),
+        )
     }
 }
 
-/// Tells values whose distribution a server reckons. A `Duration` is cut off to whole nanoseconds.
-pub trait Histogrammed<T: ToHistogramValue<Self::Memory>>: MetricBackend {
-    ghost use Rattle.std.specs.Prelude.{◌≡◌};
-    ghost use Rattle.cadence.specs.Sending.{SendsPlain, StartsPlain};
-    ghost use Rattle.cadence.specs.Shown.{backend_of, pending_of};
+impl<T: ToMeterValue<C::Memory>, C: CallBackend> Metered<T> for C {}
 
-    /// Tells a value of a histogram: `histogram_with_tags` and then `try_send`.
+/// Sends values whose distribution each server computes. A `Duration` is cut off to whole nanoseconds, and refused with
+/// the kind `InvalidInput` if they pass `u64::MAX`.
+pub trait Histogrammed<T: ToHistogramValue<Self::Memory>>: CallBackend {
+    /// Sends a value for a histogram, and returns the histogram that was sent.
+    #[inline]
     fn histogram(&self, key: &str, value: T) -> MetricResult<Histogram<Self::Memory>>
         ensures { SendsPlain (Self.settings self.now) (Self.line_may_get self.now)
             MetricType.Histogram key.now (T.numbers value) result }
     {
-        self.histogram_with_tags(key, value).try_send()
+        send_plain(self, key, value.try_to_value())
     }
 
-    /// The same, to be sent with tags and other options of its own.
+    /// Returns the builder of a value for a histogram, to which tags and other options can be added before it is sent.
+    #[inline]
     fn histogram_with_tags<'a>(
         &'a self,
         key: &'a str,
@@ -254,41 +210,31 @@ pub trait Histogrammed<T: ToHistogramValue<Self::Memory>>: MetricBackend {
     ) -> MetricBuilder<'a, 'a, Histogram<Self::Memory>, Self>
         ensures pending { StartsPlain (Self.settings self.now)
             MetricType.Histogram key.now (T.numbers value) (pending_of result) }
-        ensures client { backend_of result ≡ self.now };
-}
-
-impl<A: Allocator + Clone, S: MetricSink, H: ErrorHandler, T: ToHistogramValue<A>> Histogrammed<T>
-    for StatsdClient<A, S, H> {
-    #[inline]
-    fn histogram(&self, key: &str, value: T) -> MetricResult<Histogram<A>> {
-        self.send_plain(key, value.try_to_value())
-    }
-
-    #[inline]
-    fn histogram_with_tags<'a>(
-        &'a self,
-        key: &'a str,
-        value: T,
-    ) -> MetricBuilder<'a, 'a, Histogram<A>, StatsdClient<A, S, H>> {
-        MetricBuilder::start(self, key, value.try_to_value())
+        ensures client { backend_of result ≡ self.now }
+    {
+        MetricBuilder::new(
+            self,
+            draft(self, key, MetricType::Histogram, value.try_to_value()),
+        )
     }
 }
 
-/// Tells values whose distribution a server reckons over all its clients.
-pub trait Distributed<T: ToDistributionValue<Self::Memory>>: MetricBackend {
-    ghost use Rattle.std.specs.Prelude.{◌≡◌};
-    ghost use Rattle.cadence.specs.Sending.{SendsPlain, StartsPlain};
-    ghost use Rattle.cadence.specs.Shown.{backend_of, pending_of};
+impl<T: ToHistogramValue<C::Memory>, C: CallBackend> Histogrammed<T> for C {}
 
-    /// Tells a value of a distribution: `distribution_with_tags` and then `try_send`.
+/// Sends values whose distribution over all servers is computed. No value of a built-in type is refused.
+pub trait Distributed<T: ToDistributionValue<Self::Memory>>: CallBackend {
+    /// Sends a value for a distribution, and returns the distribution that was sent.
+    #[inline]
     fn distribution(&self, key: &str, value: T) -> MetricResult<Distribution<Self::Memory>>
         ensures { SendsPlain (Self.settings self.now) (Self.line_may_get self.now)
             MetricType.Distribution key.now (T.numbers value) result }
     {
-        self.distribution_with_tags(key, value).try_send()
+        send_plain(self, key, value.try_to_value())
     }
 
-    /// The same, to be sent with tags and other options of its own.
+    /// Returns the builder of a value for a distribution, to which tags and other options can be added before it is
+    /// sent.
+    #[inline]
     fn distribution_with_tags<'a>(
         &'a self,
         key: &'a str,
@@ -296,41 +242,30 @@ pub trait Distributed<T: ToDistributionValue<Self::Memory>>: MetricBackend {
     ) -> MetricBuilder<'a, 'a, Distribution<Self::Memory>, Self>
         ensures pending { StartsPlain (Self.settings self.now)
             MetricType.Distribution key.now (T.numbers value) (pending_of result) }
-        ensures client { backend_of result ≡ self.now };
-}
-
-impl<A: Allocator + Clone, S: MetricSink, H: ErrorHandler, T: ToDistributionValue<A>> Distributed<T>
-    for StatsdClient<A, S, H> {
-    #[inline]
-    fn distribution(&self, key: &str, value: T) -> MetricResult<Distribution<A>> {
-        self.send_plain(key, value.try_to_value())
-    }
-
-    #[inline]
-    fn distribution_with_tags<'a>(
-        &'a self,
-        key: &'a str,
-        value: T,
-    ) -> MetricBuilder<'a, 'a, Distribution<A>, StatsdClient<A, S, H>> {
-        MetricBuilder::start(self, key, value.try_to_value())
+        ensures client { backend_of result ≡ self.now }
+    {
+        MetricBuilder::new(
+            self,
+            draft(self, key, MetricType::Distribution, value.try_to_value()),
+        )
     }
 }
 
-/// Tells members of a set. A server counts the different ones.
-pub trait Setted<T: ToSetValue<Self::Memory>>: MetricBackend {
-    ghost use Rattle.std.specs.Prelude.{◌≡◌};
-    ghost use Rattle.cadence.specs.Sending.{SendsPlain, StartsPlain};
-    ghost use Rattle.cadence.specs.Shown.{backend_of, pending_of};
+impl<T: ToDistributionValue<C::Memory>, C: CallBackend> Distributed<T> for C {}
 
-    /// Tells a member of a set: `set_with_tags` and then `try_send`.
+/// Sends members of a set. The server counts the distinct ones. No value of a built-in type is refused.
+pub trait Setted<T: ToSetValue<Self::Memory>>: CallBackend {
+    /// Sends a member of a set, and returns the set that was sent.
+    #[inline]
     fn set(&self, key: &str, value: T) -> MetricResult<Set<Self::Memory>>
         ensures { SendsPlain (Self.settings self.now) (Self.line_may_get self.now)
             MetricType.Set key.now (T.numbers value) result }
     {
-        self.set_with_tags(key, value).try_send()
+        send_plain(self, key, value.try_to_value())
     }
 
-    /// The same, to be sent with tags and other options of its own.
+    /// Returns the builder of a member of a set, to which tags and other options can be added before it is sent.
+    #[inline]
     fn set_with_tags<'a>(
         &'a self,
         key: &'a str,
@@ -338,22 +273,13 @@ pub trait Setted<T: ToSetValue<Self::Memory>>: MetricBackend {
     ) -> MetricBuilder<'a, 'a, Set<Self::Memory>, Self>
         ensures pending { StartsPlain (Self.settings self.now)
             MetricType.Set key.now (T.numbers value) (pending_of result) }
-        ensures client { backend_of result ≡ self.now };
-}
-
-impl<A: Allocator + Clone, S: MetricSink, H: ErrorHandler, T: ToSetValue<A>> Setted<T>
-    for StatsdClient<A, S, H> {
-    #[inline]
-    fn set(&self, key: &str, value: T) -> MetricResult<Set<A>> {
-        self.send_plain(key, value.try_to_value())
-    }
-
-    #[inline]
-    fn set_with_tags<'a>(
-        &'a self,
-        key: &'a str,
-        value: T,
-    ) -> MetricBuilder<'a, 'a, Set<A>, StatsdClient<A, S, H>> {
-        MetricBuilder::start(self, key, value.try_to_value())
+        ensures client { backend_of result ≡ self.now }
+    {
+        MetricBuilder::new(
+            self,
+            draft(self, key, MetricType::Set, value.try_to_value()),
+        )
     }
 }
+
+impl<T: ToSetValue<C::Memory>, C: CallBackend> Setted<T> for C {}

@@ -1,4 +1,5 @@
-//! Plain work on bytes.
+//! What the packer does to its buffer. The held text begins at `start` in the buffer: what stands before it was written
+//! already. So a short count moves no byte.
 ghost use Rattle.std.specs.Prelude.{◌≡◌, ◌+◌, ◌-◌, ◌<◌, ◌≤◌, ◌∷◌, ◌++◌, [], length, take, drop, true, is_ok, vec_len, vec_capacity, ◌↔◌, OnOk, OnErr, IfErr, IsTrue};
 ghost use Rattle.std.specs.Option.{ok_or};
 ghost use Rattle.cadence_flow.specs.Offers.{FlushesOffers, SendsOffers};
@@ -9,7 +10,7 @@ use super::PacketWriter;
 use cadence_errors::SinkError;
 use std::alloc::Allocator;
 
-/// Leaves out the first n bytes of what begins at `start`. Where nothing is left, the room is empty.
+/// Removes the first `n` bytes of the held text by moving `start`. If no held text is left, empties the buffer.
 pub(super) fn skip_front<A: Allocator>(bytes: &mut Vec<u8, A>, start: &mut usize, n: usize)
     requires { start.old + n ≤ vec_len bytes.old }
     ensures rest { drop start.new bytes.new.items ≡ drop n (drop start.old bytes.old.items) }
@@ -24,7 +25,7 @@ pub(super) fn skip_front<A: Allocator>(bytes: &mut Vec<u8, A>, start: &mut usize
     }
 }
 
-/// Copies what begins at `start` to the front.
+/// Copies the held text to the front of the buffer.
 #[cold]
 #[inline(never)]
 fn copy_to_front(bytes: &mut [u8], start: usize)
@@ -38,8 +39,8 @@ fn copy_to_front(bytes: &mut [u8], start: usize)
     }
 }
 
-/// Moves what begins at `start` to the front. Nobody is given the place of the bytes' owner, so that its fields may
-/// stay in registers.
+/// Moves the held text to the front of the buffer. It takes the parts of the packer and not a reference to the packer,
+/// so that the packer's fields can stay in registers.
 #[inline(always)]
 pub(super) fn move_to_front<A: Allocator>(bytes: &mut Vec<u8, A>, start: &mut usize)
     requires { start.old ≤ vec_len bytes.old }
@@ -53,8 +54,8 @@ pub(super) fn move_to_front<A: Allocator>(bytes: &mut Vec<u8, A>, start: &mut us
     *start = 0;
 }
 
-/// Moves what begins at `start` to the front where n bytes then have room behind it, and answers whether they have.
-/// It is called where they have none now.
+/// Moves the held text to the front of the buffer if `n` more bytes fit behind it there, and returns whether they do.
+/// It is called if they don't fit where the held text is now.
 #[inline(always)]
 pub(super) fn make_room<A: Allocator>(
     bytes: &mut Vec<u8, A>,
@@ -79,14 +80,14 @@ pub(super) fn make_room<A: Allocator>(
     true
 }
 
-/// Appends bytes where there is room for them.
+/// Appends bytes to the buffer, which has room for them.
 #[inline(always)]
 pub(super) fn append<A: Allocator>(held: &mut Vec<u8, A>, bytes: &[u8])
     requires { vec_len held.old + length bytes.now ≤ vec_capacity held.old }
     ensures items { held.new.items ≡ held.old.items ++ bytes.now }
     ensures capacity { vec_capacity held.old ≤ vec_capacity held.new }
 {
-    // so the compiler leaves the growth out
+    // never true: it lets the compiler leave out the code that grows the buffer
     if bytes.len() > held.capacity() - held.len() {
         unreachable!()
     }
@@ -95,7 +96,8 @@ pub(super) fn append<A: Allocator>(held: &mut Vec<u8, A>, bytes: &[u8])
     };
 }
 
-/// Appends a line's ending where there is room for it. Most endings are one byte, which costs less alone.
+/// Appends a line's ending to the buffer, which has room for it. Most endings are one byte, and pushing one byte is
+/// faster than copying a slice.
 #[inline(always)]
 pub(super) fn append_ending<A: Allocator>(held: &mut Vec<u8, A>, ending: &[u8])
     requires { vec_len held.old + length ending.now ≤ vec_capacity held.old }
@@ -109,8 +111,9 @@ pub(super) fn append_ending<A: Allocator>(held: &mut Vec<u8, A>, ending: &[u8])
     }
 }
 
-/// Sends bytes, what is left after a short count too, until all are taken or the writer refuses. Returns how many were
-/// taken, and whether all were; if not, `fault` has the error.
+/// Sends bytes until the writer has taken all of them or refuses: after a short count it sends the rest as one more
+/// packet. Returns how many bytes the writer took, and `Some` if it took all. Otherwise `fault` has the error: the
+/// writer's own, or `NothingWritten` if it took 0 bytes.
 pub(super) fn send<T: PacketWriter>(
     bytes: &[u8],
     to: &mut T,
@@ -150,7 +153,7 @@ pub(super) fn send<T: PacketWriter>(
     (sent, Some(()))
 }
 
-/// Sends what begins at `start`, as `send`, and leaves out what was taken.
+/// Sends the held text as `send` does, and removes what the writer took from it.
 pub(super) fn send_held<T: PacketWriter, A: Allocator>(
     held: &mut Vec<u8, A>,
     start: &mut usize,

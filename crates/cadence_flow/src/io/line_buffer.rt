@@ -1,4 +1,4 @@
-//! Lines that wait for their packet.
+//! The packer: a buffer of lines that wait to be written as one packet.
 use super::PacketWriter;
 use super::bytes::{append, append_ending, make_room, move_to_front, send_held};
 use cadence_errors::SinkError;
@@ -6,13 +6,16 @@ use std::alloc::{Allocator, Global};
 use std::marker::Model;
 use std::mem;
 
-/// Holds lines as a `MultiLineWriter` does, over any `PacketWriter`, but its drop writes nothing: who holds it flushes,
-/// or gives the held text up. Its calls leave an error in a place of the caller's, as
-/// `PacketWriter::write_packet_narrow` does.
+/// A packer: it holds lines, each followed by an ending, until one doesn't fit a packet of the capacity any more, and
+/// then writes them as one packet. It works over any `PacketWriter`.
+///
+/// Dropping it writes nothing. Its owner flushes it before, or loses the held text.
+///
+/// Its calls return `None` after an error and leave the error in `fault`, as `PacketWriter::write_packet_narrow` does.
 #[derive(Drop)]
 pub struct LineBuffer<T, A: Allocator = Global> {
     inner: T,
-    // what is held begins at `start`; if nothing is held, no byte stands before it either
+    // the held text is what begins at `start`; if nothing is held, the buffer is empty and `start` is 0
     held: Vec<u8, A>,
     start: usize,
     capacity: usize,
@@ -41,15 +44,17 @@ impl<T: PacketWriter, A: Allocator + Clone> LineBuffer<T, A> {
     ghost use Rattle.std.specs.Prelude.{codes};
     ghost use Rattle.cadence_flow.specs.Packer.{MakesPacker};
 
-    /// As `with_ending`, with the newline.
+    /// Makes a packer with a capacity in bytes that holds nothing yet, and whose ending is the newline.
+    ///
+    /// If there is no memory, the writer comes back.
     pub fn new(alloc: A, inner: T, capacity: usize) -> Result<Self, T>
         ensures { MakesPacker inner capacity (codes "\n") result }
     {
         LineBuffer::with_ending(alloc, inner, capacity, "\n")
     }
 
-    /// A packer of a capacity in bytes that holds nothing yet. It makes room for the whole capacity at once, so that
-    /// `write` and `flush` take no memory.
+    /// Makes a packer with a capacity in bytes that holds nothing yet, and with this ending. It takes the memory for
+    /// the whole capacity now, so `write` and `flush` take none.
     ///
     /// If there is no memory for `capacity` bytes and the ending, the writer comes back.
     pub fn with_ending(alloc: A, inner: T, capacity: usize, ending: &str) -> Result<Self, T>
@@ -82,15 +87,16 @@ impl<T: PacketWriter, A: Allocator> LineBuffer<T, A> {
     ghost use Rattle.cadence_flow.specs.Packer.{Fits, FlushesHeld, HoldsLine, ReplacesWriter, WritesLine, with_writer};
     ghost use Rattle.cadence_flow.specs.contracts.io.line_buffer.LineBuffer.{the_row};
 
-    /// Writes a line and returns its length.
+    /// Writes a line and returns its length. It takes no memory. There are three cases:
     ///
-    /// The line and its ending are held. If they don't fit the free room, what is held is flushed first. If they pass
-    /// the capacity, what is held is flushed first, and then the line alone is one packet: the result is the writer's
-    /// count, 0 included. Takes no memory. A line that with its ending fills the capacity exactly is held, with an
-    /// empty ending too (cadence then writes it at once).
+    /// - The line and its ending fit beside the held text: they are held, and nothing is written. This is so too if
+    ///   they fill the capacity exactly. (With an empty ending, the Rust crate writes such a line at once.)
+    /// - They fit a packet, but not beside the held text: the held text is flushed, and then the line is held.
+    /// - They pass the capacity, so the line is oversize: the held text is flushed, and then the line alone is written
+    ///   as one packet, without its ending. The result is how many bytes the writer took, which may be 0.
     ///
     /// After an error the result is `None` and `fault` has the error: the writer's own, or `NothingWritten` if it took
-    /// 0 bytes of held text. Nothing of the line is kept then; what the writer didn't take of the held text stays.
+    /// 0 bytes of held text. Nothing of the line is held then. What the writer didn't take of the held text stays held.
     pub fn write(&mut self, line: &[u8], fault: &mut SinkError) -> Option<usize>
         ensures writes { WritesLine T.kind T.history
             self.old self.new line.now (ok_or result fault.new) }
@@ -111,7 +117,7 @@ impl<T: PacketWriter, A: Allocator> LineBuffer<T, A> {
         Some(line.len())
     }
 
-    /// Whether a line and its ending fit the free room.
+    /// Returns whether a line and its ending fit the capacity beside the held text.
     #[inline(always)]
     pub fn fits(&self, line: &[u8]) -> bool
         ensures { IsTrue result ↔ Fits self.now line.now }
@@ -119,8 +125,8 @@ impl<T: PacketWriter, A: Allocator> LineBuffer<T, A> {
         line.len() + self.ending.len() <= self.capacity - self.held.len() + self.start
     }
 
-    /// Holds a line and its ending if they fit the free room, and returns whether they did; else nothing changes. It is
-    /// what `write` does with most lines, and it can't fail. Takes no memory.
+    /// Holds a line and its ending if they fit beside the held text, and returns whether they did. Otherwise nothing
+    /// changes. It is what `write` does with most lines. It takes no memory, and can't fail.
     #[inline(always)]
     pub fn hold(&mut self, line: &[u8]) -> bool
         ensures { HoldsLine self.old self.new line.now result }
@@ -136,13 +142,12 @@ impl<T: PacketWriter, A: Allocator> LineBuffer<T, A> {
         true
     }
 
-    /// Writes what is held, what is left after a short count too, until all is taken. With nothing held it writes
-    /// nothing. Takes no memory.
+    /// Writes the held text as one packet. If the writer takes only a part of it, the rest is written as one more
+    /// packet, and so on. If nothing is held, it writes nothing. It takes no memory.
     ///
     /// After an error the result is `None` and `fault` has the error: the writer's own, or `NothingWritten` if it took
-    /// 0 bytes. What it didn't take stays held, and the free room is what the held text leaves. An interrupted write is
-    /// an error like any other.
-    // Inline, so that a line that goes out alone costs no call if nothing is held.
+    /// 0 bytes. What the writer didn't take stays held. An interrupted write is an error like any other.
+    // Inlined, so that an oversize line costs no call if nothing is held.
     #[inline(always)]
     pub fn flush(&mut self, fault: &mut SinkError) -> Option<()>
         ensures flushes { FlushesHeld T.kind T.history self.old self.new (ok_or result fault.new) }
@@ -155,7 +160,7 @@ impl<T: PacketWriter, A: Allocator> LineBuffer<T, A> {
         send_held(&mut self.held, &mut self.start, &mut self.inner, fault)
     }
 
-    /// The text that waits, at most the capacity.
+    /// Returns the held text, which waits to be written. It is at most `capacity` bytes long.
     pub fn held(&self) -> &[u8]
         ensures text { result.now ≡ self.now.held }
         ensures bound { length self.now.held ≤ self.now.format.capacity }
@@ -163,14 +168,14 @@ impl<T: PacketWriter, A: Allocator> LineBuffer<T, A> {
         &self.held[self.start..]
     }
 
-    /// The writer.
+    /// Returns the writer.
     pub fn get_ref(&self) -> &T
         ensures { result.now ≡ self.now.writer }
     {
         &self.inner
     }
 
-    /// The writer. A change through it changes the writer alone.
+    /// Returns the writer, to change it. The held text and the capacity stay as they are.
     pub fn get_mut(&mut self) -> &mut T
         ensures value { result.now ≡ self.old.writer }
         ensures* writes_back { sem 𝓛 (Lends (the_row T.row A.row A.Allocator) T.row
@@ -179,10 +184,10 @@ impl<T: PacketWriter, A: Allocator> LineBuffer<T, A> {
         &mut self.inner
     }
 
-    /// Takes another writer, and gives back the old one with the text that waited for it, unflushed. Nothing is held
+    /// Replaces the writer, and returns the old one with the held text, which is not written. Nothing is held
     /// afterwards.
     ///
-    /// If there is no memory for the capacity, the new writer comes back, and nothing changed.
+    /// If there is no memory for `capacity` bytes, the new writer comes back, and nothing has changed.
     pub fn replace_writer(&mut self, alloc: A, writer: T) -> Result<(T, Vec<u8, A>), T>
         ensures { ReplacesWriter self.old self.new writer result }
     {
@@ -195,7 +200,7 @@ impl<T: PacketWriter, A: Allocator> LineBuffer<T, A> {
         Ok((inner, held))
     }
 
-    /// The writer and the text that waited for it. Nothing is written.
+    /// Returns the writer and the held text. Nothing is written.
     pub fn into_parts(self) -> (T, Vec<u8, A>)
         ensures writer { result.0 ≡ self.writer }
         ensures text { result.1.items ≡ self.held }

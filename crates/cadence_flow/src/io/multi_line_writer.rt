@@ -1,13 +1,15 @@
-//! Lines in packets.
+//! The packer with the interface of the Rust crate.
 use super::{LineBuffer, PacketWriter};
 use cadence_errors::SinkError;
 use std::alloc::{Allocator, Global};
 use std::marker::Model;
 
-/// Holds lines, each followed by an ending, until no more of them fit a packet of the capacity (in bytes), and then
-/// writes them as one packet. What is held is never more than the capacity. A line that with its ending passes the
-/// capacity goes out alone, without the ending. It is a `LineBuffer` but for its drop, which tries one flush and
-/// tells nobody how it went.
+/// A packer: it holds lines, each followed by an ending, until one doesn't fit a packet of the capacity (in bytes) any
+/// more, and then writes them as one packet. It never holds more than the capacity. A line that with its ending passes
+/// the capacity is written alone, without the ending.
+///
+/// It does what a `LineBuffer` does, with two differences: its calls return an error as a `Result`, and dropping it
+/// flushes once. An error of that flush is lost.
 pub struct MultiLineWriter<T: PacketWriter, A: Allocator = Global> {
     lines: LineBuffer<T, A>,
 }
@@ -26,14 +28,19 @@ impl<T: PacketWriter, A: Allocator + Clone> MultiLineWriter<T, A> {
     ghost use Rattle.std.specs.Prelude.{codes};
     ghost use Rattle.cadence_flow.specs.Packer.{MakesPacker};
 
-    /// As `with_ending`, with the newline.
+    /// Makes a packer with a capacity in bytes that holds nothing yet, and whose ending is the newline.
+    ///
+    /// If there is no memory, the writer comes back.
     pub fn new(alloc: A, inner: T, capacity: usize) -> Result<Self, T>
         ensures { MakesPacker inner capacity (codes "\n") result }
     {
         MultiLineWriter::with_ending(alloc, inner, capacity, "\n")
     }
 
-    /// A packer that holds nothing yet, as `LineBuffer::with_ending`.
+    /// Makes a packer with a capacity in bytes that holds nothing yet, and with this ending. It takes the memory for
+    /// the whole capacity now, so `write` and `flush` take none.
+    ///
+    /// If there is no memory for `capacity` bytes and the ending, the writer comes back.
     pub fn with_ending(alloc: A, inner: T, capacity: usize, ending: &str) -> Result<Self, T>
         ensures { MakesPacker inner capacity ending.now result }
     {
@@ -48,7 +55,11 @@ impl<T: PacketWriter, A: Allocator> MultiLineWriter<T, A> {
     ghost use Rattle.cadence_flow.specs.Packer.{FlushesHeld, ReplacesWriter, WritesLine, with_writer};
     ghost use Rattle.cadence_flow.specs.contracts.io.multi_line_writer.MultiLineWriter.{the_row};
 
-    /// Writes a line and returns its length, or the error, as `LineBuffer::write`.
+    /// Writes a line and returns its length, or of an oversize line how many bytes the writer took. What it does is
+    /// what `LineBuffer::write` does.
+    ///
+    /// The errors are the writer's own, and `NothingWritten` if it took 0 bytes of held text. Nothing of the line is
+    /// held after an error. What the writer didn't take of the held text stays held.
     pub fn write(&mut self, line: &[u8]) -> Result<usize, SinkError>
         ensures { WritesLine T.kind T.history self.old self.new line.now result }
     {
@@ -56,7 +67,10 @@ impl<T: PacketWriter, A: Allocator> MultiLineWriter<T, A> {
         self.lines.write(line, &mut fault).ok_or(fault)
     }
 
-    /// Writes what is held, or returns the error, as `LineBuffer::flush`.
+    /// Writes the held text. What it does is what `LineBuffer::flush` does.
+    ///
+    /// The errors are the writer's own, and `NothingWritten` if it took 0 bytes. What the writer didn't take stays
+    /// held.
     pub fn flush(&mut self) -> Result<(), SinkError>
         ensures { FlushesHeld T.kind T.history self.old self.new result }
     {
@@ -64,7 +78,7 @@ impl<T: PacketWriter, A: Allocator> MultiLineWriter<T, A> {
         self.lines.flush(&mut fault).ok_or(fault)
     }
 
-    /// The text that waits, at most the capacity.
+    /// Returns the held text, which waits to be written. It is at most `capacity` bytes long.
     pub fn held(&self) -> &[u8]
         ensures text { result.now ≡ self.now.held }
         ensures bound { length self.now.held ≤ self.now.format.capacity }
@@ -72,14 +86,14 @@ impl<T: PacketWriter, A: Allocator> MultiLineWriter<T, A> {
         self.lines.held()
     }
 
-    /// The writer.
+    /// Returns the writer.
     pub fn get_ref(&self) -> &T
         ensures { result.now ≡ self.now.writer }
     {
         self.lines.get_ref()
     }
 
-    /// The writer. A change through it changes the writer alone.
+    /// Returns the writer, to change it. The held text and the capacity stay as they are.
     pub fn get_mut(&mut self) -> &mut T
         ensures value { result.now ≡ self.old.writer }
         ensures* writes_back { sem 𝓛 (Lends (the_row T.row A.row T.PacketWriter A.Allocator) T.row
@@ -88,14 +102,17 @@ impl<T: PacketWriter, A: Allocator> MultiLineWriter<T, A> {
         self.lines.get_mut()
     }
 
-    /// Takes another writer, as `LineBuffer::replace_writer`.
+    /// Replaces the writer, and returns the old one with the held text, which is not written. Nothing is held
+    /// afterwards.
+    ///
+    /// If there is no memory for `capacity` bytes, the new writer comes back, and nothing has changed.
     pub fn replace_writer(&mut self, alloc: A, writer: T) -> Result<(T, Vec<u8, A>), T>
         ensures { ReplacesWriter self.old self.new writer result }
     {
         self.lines.replace_writer(alloc, writer)
     }
 
-    /// The writer and the text that waited for it. Nothing is written.
+    /// Returns the writer and the held text. Nothing is written.
     pub fn into_parts(self) -> (T, Vec<u8, A>)
         ensures writer { result.0 ≡ self.writer }
         ensures text { result.1.items ≡ self.held }

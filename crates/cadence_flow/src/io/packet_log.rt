@@ -1,4 +1,4 @@
-//! A writer in memory, for tests and for schedules.
+//! A writer that keeps its packets in memory, for tests and for schedules.
 use super::{PacketWriter, Refusals};
 use cadence_errors::SinkError;
 use std::alloc::{AllocError, Allocator, Global};
@@ -7,17 +7,17 @@ use std::marker::Model;
 /// What a `PacketLog` does with one packet.
 #[derive(Clone, Copy, Debug, PartialEq, Eq)]
 pub enum Answer {
-    /// It takes the whole packet.
+    /// The log takes the whole packet.
     Whole,
-    /// It takes this many of the first bytes, or the whole packet where it is shorter.
+    /// The log takes only this many of the packet's first bytes, or the whole packet if it is no longer than that.
     Short(usize),
-    /// It refuses the packet with `SinkError::PacketRefused`.
+    /// The log refuses the packet with `SinkError::PacketRefused`.
     Refuse,
 }
 
-/// A writer that keeps the packets that it takes, and answers by a script; after the script's end it takes each
-/// packet whole. A packet for which there is no memory is refused with `SinkError::OutOfMemory`, and the script's
-/// answer is used up.
+/// A writer that keeps the packets that it takes in memory. A script says what it does with each packet; after the
+/// script's end it takes each packet whole. If there is no memory for a packet, the log refuses it with
+/// `SinkError::OutOfMemory`, and that answer of the script is used up.
 #[derive(Drop)]
 pub struct PacketLog<A: Allocator = Global> {
     packets: Vec<Vec<u8, A>, A>,
@@ -46,7 +46,7 @@ impl<A: Allocator> PacketLog<A> {
     ghost use Rattle.std.specs.Prelude.{◌≡◌, map};
     ghost use Rattle.cadence_flow.specs.Log.{new_log};
 
-    /// A log without packets that answers by the script.
+    /// Makes a log without packets, with this script.
     pub fn new(alloc: A, script: Vec<Answer, A>) -> PacketLog<A>
         ensures { result ≡ new_log script.items }
     {
@@ -58,7 +58,8 @@ impl<A: Allocator> PacketLog<A> {
         }
     }
 
-    /// The packets taken, the oldest first.
+    /// Returns the packets that the log took, the oldest first. Of a packet that it took in part, this has only that
+    /// part.
     pub fn packets(&self) -> &[Vec<u8, A>]
         ensures { map (λ p. p.items) result.now ≡ self.now.packets }
     {
@@ -71,6 +72,7 @@ impl<A: Allocator + Clone> PacketLog<A> {
     ghost use Rattle.cadence_flow.specs.Log.{next_answer, answers_left};
     ghost use Rattle.cadence_flow.specs.Writer.{refusals_after};
 
+    // Returns the next answer of the script, and marks it as used up.
     fn take_answer(&mut self) -> Answer
         ensures answer { result ≡ next_answer (answers_left self.old) }
         ensures left { answers_left self.new ≡ drop 1 (answers_left self.old) }
@@ -85,6 +87,7 @@ impl<A: Allocator + Clone> PacketLog<A> {
         }
     }
 
+    // Adds a copy of a packet to the packets of the log.
     fn keep(&mut self, packet: &[u8]) -> Result<(), AllocError>
         ensures ok { OnOk result (self.new ≡
             record self.old { packets = self.old.packets ++ packet.now ∷ [] }) }
@@ -96,7 +99,7 @@ impl<A: Allocator + Clone> PacketLog<A> {
         Ok(())
     }
 
-    // Refuses a packet of `len` bytes.
+    // Counts a refusal of a packet of `len` bytes, and returns this error.
     fn refuse(&mut self, error: SinkError, len: usize) -> Result<usize, SinkError>
         ensures answer { result ≡ Err error }
         ensures noted { self.new ≡

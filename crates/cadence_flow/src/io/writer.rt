@@ -1,38 +1,42 @@
-//! What takes packets.
-ghost use Rattle.std.specs.Prelude.{◌≡◌, ℕ, List, Option, None};
+//! The trait of a writer of packets.
+//!
+//! Why results are narrow in this library: a `Result<usize, SinkError>` is 104 bytes, because a `SinkError` may be an
+//! `io::Error`, and each function that returns one copies all of it, even on success. So the functions between a socket
+//! and the call of a service return an `Option<usize>` and put the error in a `&mut SinkError`, which is called
+//! `fault`. Only the outermost call makes a `Result` of the two.
+ghost use Rattle.std.specs.Prelude.{◌≡◌, None};
 ghost use Rattle.std.specs.Option.{ok_or};
-ghost use Rattle.cadence_flow.specs.Offers.{IsOffered};
-ghost use Rattle.cadence_flow.specs.Writer.{History, Kind, WritesPacket};
+ghost use Rattle.cadence_flow.specs.Offers.{IsOffered, Offers};
+ghost use Rattle.cadence_flow.specs.Writer.{PacketHistory, WriterKind, WritesPacket};
 
 use cadence_errors::SinkError;
 
-/// A writer that takes packets one by one, as a socket does, in place of `std::io::Write`. An impl states which packets
-/// it took and how often it refused (`history`), and what no call changes (`kind`).
+/// A writer that takes packets one by one, as a socket does. It stands in for `std::io::Write`, which takes bytes and
+/// knows no packets. An impl says in proofs which packets it took and how many it refused (`history`), and what no call
+/// changes (`kind`).
 pub trait PacketWriter: Drop {
-    /// The packets taken, and the number and total length of the refusals.
-    ghost history: { Self → History };
+    /// The packets that the writer took, and the number and total length of those that it refused.
+    ghost history: { Self → PacketHistory };
 
-    /// The errors that it may give, whether it tells its packets and takes each whole, and the sums it began with.
-    ghost kind: { Self → Kind };
+    /// What no call changes: the errors that the writer may return; whether it tells its packets, that is, whether
+    /// `history` has them; whether it takes each packet whole or refuses it; and the sums that a counting writer began
+    /// with.
+    ghost kind: { Self → WriterKind };
 
-    /// If the writer tells them, the packets that were offered and not refused, each with how many of its bytes were
-    /// taken. By default it doesn't.
-    ghost offers: { Self → Option (List (List ℕ × ℕ)) } = { λ _. None };
+    /// The packets that the writer was offered and didn't refuse, each with the number of its bytes that it took.
+    /// `None`, the default, is for a writer that doesn't tell them.
+    ghost offers: { Self → Offers } = { λ _. None };
 
-    /// Offers one packet, and returns how many of its first bytes were taken as one packet. An error is one refusal, and
-    /// nothing was taken.
+    /// Offers one packet to the writer. Returns how many of its first bytes the writer took, as one packet. After an
+    /// error the writer took nothing, and the packet counts as refused.
     fn write_packet(&mut self, packet: &[u8]) -> Result<usize, SinkError>
         ensures same_kind { kind self.new ≡ kind self.old }
         ensures writes { WritesPacket (kind self.old)
             (history self.old) (history self.new) packet.now result }
         ensures offers { IsOffered (offers self.old) (offers self.new) packet.now result };
 
-    /// As `write_packet`, with a narrow result: after an error it is `None`, and `fault` has the error. A writer need not
-    /// define it.
-    ///
-    /// A `Result<usize, SinkError>` is 104 bytes, because a `SinkError` may be an `io::Error`, and each function that
-    /// returns one copies it. So what stands between a writer and the call at the edge, as the packer does, takes this
-    /// form, and the wide result is made at the edge alone.
+    /// Offers one packet to the writer as `write_packet` does, with a narrow result: after an error it returns `None`,
+    /// and `fault` has the error. A writer need not define it.
     fn write_packet_narrow(&mut self, packet: &[u8], fault: &mut SinkError) -> Option<usize>
         ensures same_kind { kind self.new ≡ kind self.old }
         ensures writes { WritesPacket (kind self.old)

@@ -1,31 +1,32 @@
-//! A queue of texts with a stop mark, a capacity and a count of handles, which one thread works with.
+//! A queue of texts for one thread. It has a stop mark, a capacity or none, a count of handles, and counts of the texts
+//! that it accepted, that were taken, and that it dropped.
 ghost use Rattle.std.specs.Prelude.{◌≡◌, [], length, slice_get, option_copied, IfOk, IfErr, OnOk, OnErr, IsOk, IsTrue, Option, Ok, Err, Some, None, true, false};
 ghost use Rattle.std.specs.declared.alloc.AllocError.{AllocError};
 ghost use Rattle.cadence_flow.specs.QueueRoom.{IsBounded, OnlyWantsRoom};
 ghost use Rattle.cadence_flow.specs.QueueState.{IsWithin, IsCounted, HasDropped};
-ghost use Rattle.cadence_flow.specs.Queue.{Accepts, IsRefusal, error_of, is_open, lacks_room, MakesRoom, IsTaken, accepting, stopping, adding_handle, dropping_handle, new_queue, is_full, is_idle};
+ghost use Rattle.cadence_flow.specs.Queue.{Accepts, IsRefusal, error_of, is_open, lacks_room, MakesRoom, IsTaken, after_accept, after_stop, with_handle, without_handle, new_queue, is_full, is_idle};
 ghost use Rattle.cadence_flow.specs.QueueModel.{IsQueueOf, IsAccepted, IsNext};
 ghost use Rattle.cadence_flow.specs.declared.queue.policy.QueuePolicy.TheVariants.{Refuse};
 
 use super::policy::QueuePolicy;
-use super::refusal::Refusal;
+use super::queue_error::QueueError;
 use super::text_ring::TextRing;
 use cadence_errors::{MetricResult, SinkError};
 use std::alloc::{AllocError, Allocator, Global};
 use std::marker::Model;
 
-/// What a queue answers to a request for its oldest text.
+/// What a take from a queue returns.
 #[derive(Clone, Drop, PartialEq, Eq)]
 pub enum Taken<T> {
     /// The oldest text.
     Text(T),
-    /// No text waits, and more may come.
+    /// No text waits, but more may come.
     Empty,
-    /// The queue is stopped, and no text waits.
+    /// No text waits, and the queue is stopped.
     Ended,
 }
 
-/// A queue of texts: a submit puts one last, a take gets the oldest.
+/// A queue of texts. A submit adds a text at the end, and a take returns the oldest one.
 #[derive(Drop)]
 pub struct QueueCore<T, A: Allocator = Global> {
     texts: TextRing<T, A>,
@@ -64,8 +65,9 @@ impl<T, A: Allocator> Model for QueueCore<T, A> {
 }
 
 impl<T: Drop, A: Allocator + Clone> QueueCore<T, A> {
-    /// An empty queue with one handle, which holds at most `capacity` texts and refuses more; `None` is no bound. A
-    /// bounded queue makes room for all its texts at once. The only error is `OutOfMemory`.
+    /// Makes an empty queue with one handle. At most `capacity` texts wait in it, and a full queue refuses more; `None`
+    /// means that any number may wait. A queue with a capacity takes the memory for all its texts now. The only error
+    /// is `OutOfMemory`.
     pub fn new(alloc: A, capacity: Option<usize>) -> MetricResult<Self>
         ensures made { IfOk result (λ q. q ≡ new_queue capacity Refuse) }
         ensures past { IfOk result (IsQueueOf [] []) }
@@ -74,7 +76,7 @@ impl<T: Drop, A: Allocator + Clone> QueueCore<T, A> {
         QueueCore::with_policy(alloc, capacity, QueuePolicy::Refuse)
     }
 
-    /// As `new`, with what the queue does with one more text when it is full.
+    /// Makes an empty queue with one handle, as `new` does, and with this policy for a full queue.
     pub fn with_policy(alloc: A, capacity: Option<usize>, policy: QueuePolicy) -> MetricResult<Self>
         ensures made { IfOk result (λ q. q ≡ new_queue capacity policy) }
         ensures past { IfOk result (IsQueueOf [] []) }
@@ -93,11 +95,11 @@ impl<T: Drop, A: Allocator + Clone> QueueCore<T, A> {
         })
     }
 
-    // Puts a text last in a queue that isn't full, or gives it back where memory ran out.
+    // Adds a text at the end of a queue that isn't full, or gives it back if memory ran out.
     #[inline(always)]
     fn put_last(&mut self, text: T) -> Result<(), T>
         requires { is_full self.old ≡ false }
-        ensures pushed { OnOk result (self.new ≡ accepting self.old text) }
+        ensures pushed { OnOk result (self.new ≡ after_accept self.old text) }
         ensures refused { IfErr result (λ back. (back ≡ text) × (self.new ≡ self.old)) }
         ensures bounded { IsBounded self.old.capacity → IsOk result }
     {
@@ -106,8 +108,8 @@ impl<T: Drop, A: Allocator + Clone> QueueCore<T, A> {
         Ok(())
     }
 
-    // Puts a text last in an open queue, or gives it back where memory ran out. A full queue drops its oldest text,
-    // and answers it.
+    // Adds a text at the end of an open queue, or gives it back if memory ran out. A full queue drops its oldest text,
+    // and returns that one.
     fn push(&mut self, text: T) -> Result<Option<T>, T>
         requires { IsTrue (is_open self.old) }
         ensures pushed { IfOk result (λ dropped. Accepts self.old text dropped self.new) }
@@ -121,8 +123,9 @@ impl<T: Drop, A: Allocator + Clone> QueueCore<T, A> {
         }
     }
 
-    // Puts a text last in a full queue that drops its oldest text for it, which is let go. It is apart, since a
-    // function clears its locals at its start.
+    // Adds a text at the end of a full queue, which drops and frees its oldest text for it. It is a function of its own
+    // and never inlined, because a function clears all its locals when it starts: `offer` is faster without those of
+    // this case.
     #[inline(never)]
     fn replace_oldest(&mut self, text: T)
         requires full { is_full self.old ≡ true }
@@ -134,9 +137,11 @@ impl<T: Drop, A: Allocator + Clone> QueueCore<T, A> {
         };
     }
 
-    /// Puts a text last. A stopped queue answers `ChannelDisconnected`, else a full one that refuses, or holds none,
-    /// `ChannelFull`, else one for which memory ran out `OutOfMemory`; the text comes back and nothing has changed
-    /// then. Where a full queue dropped its oldest text, that one is answered. A bounded queue takes no memory.
+    /// Adds a text at the end. Returns the text that a full queue dropped for it, if it dropped one. A queue with a
+    /// capacity takes no memory here.
+    ///
+    /// The errors are `ChannelDisconnected` if the queue is stopped, `ChannelFull` if it is full and has no text to
+    /// drop, and `OutOfMemory`. After an error the text comes back, and the queue has not changed.
     pub fn submit(&mut self, text: T) -> Result<Option<T>, (SinkError, T)>
         ensures accepted { IfOk result (λ dropped. Accepts self.old text dropped self.new) }
         ensures refused { IfErr result (λ e.
@@ -153,9 +158,11 @@ impl<T: Drop, A: Allocator + Clone> QueueCore<T, A> {
         }
     }
 
-    /// Puts last the text that `make` makes. It is called only where the queue would take it, so the refusals of a
-    /// stopped and of a full queue take no memory. A text that was dropped for it is let go. The errors are those of
-    /// `submit`, `OutOfMemory` also where `make` was refused; nothing has changed after an error.
+    /// Adds the text that `make` makes at the end. `make` is called only if the queue would accept a text, so a queue
+    /// that is stopped or full refuses without taking memory. A text that a full queue drops for the new one is freed.
+    ///
+    /// The errors are `ChannelDisconnected` if the queue is stopped, `ChannelFull` if it is full and has no text to
+    /// drop, and `OutOfMemory` if memory ran out for `make` or for the queue. The queue has not changed after an error.
     pub fn submit_with<F: FnOnce() -> Result<T, AllocError>>(
         &mut self,
         make: F,
@@ -170,9 +177,9 @@ impl<T: Drop, A: Allocator + Clone> QueueCore<T, A> {
         Ok(self.offer(make)?)
     }
 
-    /// As `submit_with`, with a small error.
+    /// Adds the text that `make` makes at the end, as `submit_with` does, but returns a small error.
     #[inline(always)]
-    pub fn offer<F: FnOnce() -> Result<T, AllocError>>(&mut self, make: F) -> Result<(), Refusal>
+    pub fn offer<F: FnOnce() -> Result<T, AllocError>>(&mut self, make: F) -> Result<(), QueueError>
         requires { F.IsAlwaysCallable make }
         ensures accepted { OnOk result ((text : T) × (dropped : Option T)
             × F.post make (Ok text) × Accepts self.old text dropped self.new) }
@@ -185,7 +192,7 @@ impl<T: Drop, A: Allocator + Clone> QueueCore<T, A> {
             return Err(self.why_closed());
         }
         let Ok(text) = make() else {
-            return Err(Refusal::OutOfMemory);
+            return Err(QueueError::OutOfMemory);
         };
         if self.is_full() {
             self.replace_oldest(text);
@@ -193,13 +200,13 @@ impl<T: Drop, A: Allocator + Clone> QueueCore<T, A> {
         }
         match self.put_last(text) {
             Ok(()) => Ok(()),
-            Err(_) => Err(Refusal::OutOfMemory),
+            Err(_) => Err(QueueError::OutOfMemory),
         }
     }
 }
 
 impl<T: Drop, A: Allocator> QueueCore<T, A> {
-    /// Whether as many texts wait as the capacity.
+    /// Returns whether the queue is full: the number of waiting texts has reached the capacity.
     pub fn is_full(&self) -> bool
         ensures { result ≡ is_full self.now }
     {
@@ -209,21 +216,21 @@ impl<T: Drop, A: Allocator> QueueCore<T, A> {
         }
     }
 
-    // Whether the queue is full, and drops no text for another.
+    // Whether the queue is full and has no text to drop for another.
     fn lacks_room(&self) -> bool
         ensures { result ≡ lacks_room self.now }
     {
         self.is_full() && (self.policy == QueuePolicy::Refuse || self.texts.len() == 0)
     }
 
-    // Whether a text would be taken if memory allows.
+    // Whether the queue accepts a text if memory allows.
     fn is_open(&self) -> bool
         ensures { result ≡ is_open self.now }
     {
         !self.stopped && !self.lacks_room()
     }
 
-    // Drops the oldest text where the queue is full.
+    // Takes the oldest text out of a full queue, as dropped, and returns it. Does nothing to a queue that isn't full.
     fn make_room(&mut self) -> Option<T>
         requires { IsTrue (is_open self.old) }
         ensures made { MakesRoom self.old result self.new }
@@ -236,19 +243,19 @@ impl<T: Drop, A: Allocator> QueueCore<T, A> {
         self.texts.pop_front()
     }
 
-    // Why a queue that isn't open refuses a text.
-    fn why_closed(&self) -> Refusal
+    // Returns why a queue that isn't open refuses a text.
+    fn why_closed(&self) -> QueueError
         requires { is_open self.now ≡ false }
         ensures { IsRefusal self.now (error_of result) }
     {
         if self.stopped {
-            Refusal::Stopped
+            QueueError::Stopped
         } else {
-            Refusal::Full
+            QueueError::Full
         }
     }
 
-    /// Takes the oldest text, without memory.
+    /// Takes the oldest text. It takes no memory.
     pub fn take(&mut self) -> Taken<T>
         ensures taken { IsTaken self.old result self.new }
         ensures past { IsNext self.old result self.new }
@@ -263,23 +270,25 @@ impl<T: Drop, A: Allocator> QueueCore<T, A> {
         }
     }
 
-    /// Sets the stop mark. Texts that wait can still be taken. A second stop changes nothing.
+    /// Stops the queue: it refuses texts from now on. Texts that wait can still be taken. A second stop changes
+    /// nothing.
     pub fn stop(&mut self)
-        ensures { self.new ≡ stopping self.old }
+        ensures { self.new ≡ after_stop self.old }
     {
         self.stopped = true;
     }
 
-    /// Counts one more handle. A count that reached `u64::MAX` stays there for good.
+    /// Counts one more handle. A count that reached `u64::MAX` stays there, so such a queue is never stopped by its
+    /// handles.
     pub fn add_handle(&mut self)
-        ensures { self.new ≡ adding_handle self.old }
+        ensures { self.new ≡ with_handle self.old }
     {
         self.handles = self.handles.saturating_add(1);
     }
 
-    /// Counts one handle less. The last one stops the queue; without a handle nothing happens.
+    /// Counts one handle less. If it was the last one, stops the queue. A queue without handles doesn't change.
     pub fn drop_handle(&mut self)
-        ensures { self.new ≡ dropping_handle self.old }
+        ensures { self.new ≡ without_handle self.old }
     {
         if self.handles == 0 || self.handles == u64::MAX {
             return;
@@ -290,22 +299,22 @@ impl<T: Drop, A: Allocator> QueueCore<T, A> {
         }
     }
 
-    /// Whether the stop mark is set.
+    /// Returns whether the queue is stopped.
     pub fn is_stopped(&self) -> bool
         ensures { result ≡ self.now.stopped }
     {
         self.stopped
     }
 
-    /// Whether no text waits and more may come.
+    /// Returns whether no text waits, but more may come.
     pub fn is_idle(&self) -> bool
         ensures { result ≡ is_idle self.now }
     {
         !self.stopped && self.texts.len() == 0
     }
 
-    /// The number of texts that wait. It is within the capacity, and the texts submitted less those drained and those
-    /// dropped, modulo 2 to the 64.
+    /// Returns how many texts wait. That is at most the capacity, and it is the number of accepted texts minus those
+    /// that were taken or dropped, modulo 2^64.
     pub fn waiting(&self) -> usize
         ensures waiting { result ≡ length self.now.waiting }
         ensures within { IsWithin self.now.capacity self.now.waiting }
@@ -315,28 +324,29 @@ impl<T: Drop, A: Allocator> QueueCore<T, A> {
         self.texts.len()
     }
 
-    /// The text at a place, counted from the oldest.
+    /// Returns the text at this place, counted from 0, the oldest.
     pub fn get(&self, index: usize) -> Option<&T>
         ensures { option_copied result ≡ slice_get self.now.waiting index }
     {
         self.texts.get(index)
     }
 
-    /// The number of texts accepted, modulo 2 to the 64.
+    /// Returns how many texts the queue has accepted so far, modulo 2^64.
     pub fn submitted(&self) -> u64
         ensures { result ≡ self.now.submitted }
     {
         self.submitted
     }
 
-    /// The number of texts taken, modulo 2 to the 64.
+    /// Returns how many texts were taken so far, modulo 2^64.
     pub fn drained(&self) -> u64
         ensures { result ≡ self.now.drained }
     {
         self.drained
     }
 
-    /// The number of texts dropped to make room, modulo 2 to the 64: 0 where the queue refuses, or has no bound.
+    /// Returns how many texts a full queue has dropped so far to make room, modulo 2^64. It is 0 for a queue that
+    /// refuses, or that has no capacity.
     pub fn dropped(&self) -> u64
         ensures dropped { result ≡ self.now.dropped }
         ensures none { HasDropped self.now.policy self.now.capacity result }

@@ -1,4 +1,4 @@
-//! The ring that keeps a queue's texts.
+//! The ring that stores a queue's texts.
 ghost use Rattle.std.specs.Prelude.{◌≡◌, ◌<◌, [], ◌∷◌, ◌++◌, length, drop, slice_get, option_copied, IfOk, IfErr, OnOk, OnErr, IsOk};
 ghost use Rattle.circular_buffer.specs.Buffer.{buffer};
 
@@ -6,10 +6,10 @@ use circular_buffer::HeapCircularBuffer;
 use std::alloc::{AllocError, Allocator};
 use std::marker::Model;
 
-/// The room of the first block of a ring that grows.
+/// For how many texts a growing ring has room at first.
 const LEAST_ROOM: usize = 8;
 
-/// Texts in a ring. One without room has no block of memory.
+/// Texts in a ring buffer. A ring without room has no block of memory.
 #[derive(Drop)]
 pub struct TextRing<T, A: Allocator> {
     alloc: A,
@@ -28,7 +28,7 @@ impl<T, A: Allocator> Model for TextRing<T, A> {
 }
 
 impl<T: Drop, A: Allocator + Clone> TextRing<T, A> {
-    /// An empty ring with this room. One without room takes no memory.
+    /// Makes an empty ring with room for `room` texts. With a room of 0 it takes no memory.
     pub fn with_room(alloc: A, room: usize) -> Result<Self, AllocError>
         ensures made { IfOk result (λ r. r ≡ buffer [] room) }
         ensures none { room ≡ 0 → IsOk result }
@@ -43,7 +43,8 @@ impl<T: Drop, A: Allocator + Clone> TextRing<T, A> {
         })
     }
 
-    // Makes the room twice as large. It is apart, so that a text that finds room is put inline.
+    // Doubles the room. It is a function of its own and never inlined, so that `push_back` is short enough to be
+    // inlined.
     #[inline(never)]
     fn grow(&mut self) -> Result<(), AllocError>
         ensures items { self.new.items ≡ self.old.items }
@@ -63,8 +64,8 @@ impl<T: Drop, A: Allocator + Clone> TextRing<T, A> {
         }
     }
 
-    /// Puts a text last. A ring that is full grows to twice its room; where memory ran out the text comes back, and
-    /// nothing has changed. One with room left takes no memory.
+    /// Adds a text at the end. A ring with room left takes no memory. A full ring doubles its room first; if memory
+    /// runs out, the text comes back, and the ring has not changed.
     #[inline(always)]
     pub fn push_back(&mut self, text: T) -> Result<(), T>
         ensures pushed { OnOk result (self.new.items ≡ self.old.items ++ text ∷ []) }
@@ -80,7 +81,7 @@ impl<T: Drop, A: Allocator + Clone> TextRing<T, A> {
 }
 
 impl<T: Drop, A: Allocator> TextRing<T, A> {
-    /// The number of texts.
+    /// Returns how many texts the ring has.
     pub fn len(&self) -> usize
         ensures { result ≡ length self.now.items }
     {
@@ -90,7 +91,7 @@ impl<T: Drop, A: Allocator> TextRing<T, A> {
         }
     }
 
-    /// The number of texts that it holds without growing.
+    /// Returns how many texts the ring can have before it grows.
     pub fn room(&self) -> usize
         ensures { result ≡ self.now.capacity }
     {
@@ -100,7 +101,7 @@ impl<T: Drop, A: Allocator> TextRing<T, A> {
         }
     }
 
-    /// The text at a place, counted from the front.
+    /// Returns the text at this place, counted from 0 at the front.
     pub fn get(&self, index: usize) -> Option<&T>
         ensures { option_copied result ≡ slice_get self.now.items index }
     {
@@ -110,7 +111,7 @@ impl<T: Drop, A: Allocator> TextRing<T, A> {
         }
     }
 
-    /// Takes the front text.
+    /// Removes the first text and returns it.
     pub fn pop_front(&mut self) -> Option<T>
         ensures value { result ≡ slice_get self.old.items 0 }
         ensures items { self.new ≡ buffer (drop 1 self.old.items) self.old.capacity }
@@ -121,7 +122,7 @@ impl<T: Drop, A: Allocator> TextRing<T, A> {
         }
     }
 
-    // Puts a text last, or gives it back where there is no room.
+    // Adds a text at the end, or gives it back if there is no room.
     #[inline(always)]
     fn put(&mut self, text: T) -> Result<(), T>
         ensures pushed { OnOk result

@@ -1,8 +1,8 @@
-//! Records of calls, for a caller who wants a metric before it is text.
+//! Records of calls, for a caller who wants the fields of a metric and not its line.
 ghost use Rattle.std.specs.Prelude.{◌≡◌, OnOk, map};
 ghost use Rattle.std.specs.List.{fold};
 ghost use Rattle.cadence_schedule.specs.Call.{chosen};
-ghost use Rattle.cadence_schedule.specs.Calls.{choice_of};
+ghost use Rattle.cadence_schedule.specs.CallData.{choice_of};
 
 use super::ClientSettings;
 use crate::call::{Call, CallOption};
@@ -15,9 +15,12 @@ impl<A: Allocator + Clone> ClientSettings<A> {
     ghost use Rattle.cadence_errors.specs.Errors.{Makes};
     ghost use Rattle.cadence_value.specs.Values.{numbers_of};
     ghost use Rattle.cadence_schedule.specs.Call.{MakesMetric, metric_of_call, plain_call};
-    ghost use Rattle.cadence_schedule.specs.Calls.{metric_of_data};
+    ghost use Rattle.cadence_schedule.specs.CallData.{metric_of_data};
 
-    /// The record of a call without options, with these defaults in it. The one error is `OutOfMemory`.
+    /// Returns the record of a call without options, to which the prefix and the defaults of these settings are added.
+    ///
+    /// # Errors
+    /// `SinkError::OutOfMemory`, and no other.
     pub fn record<'a>(
         &'a self,
         key: &'a str,
@@ -31,11 +34,13 @@ impl<A: Allocator + Clone> ClientSettings<A> {
         Ok(Record::with_defaults(&self.prefix, key, kind, value, tags, self.container()))
     }
 
-    /// The record of a call that is kept as data, with these defaults and its options in it.
+    /// Returns the record of a call that is kept as data, to which the prefix and the defaults of these settings and
+    /// the options of the call are added.
     ///
     /// # Errors
-    /// `InvalidInput` (`u64 overflow`) if and only if a duration of the call passes `u64::MAX` in the unit of its kind,
-    /// before memory is taken; else `OutOfMemory` alone.
+    /// An error of kind `InvalidInput` (`u64 overflow`) if and only if a duration of the call passes `u64::MAX` in the
+    /// unit of its kind, which is milliseconds for a timer and nanoseconds for a histogram; no memory is taken then.
+    /// Otherwise the only error is `SinkError::OutOfMemory`.
     pub fn record_of<'a>(&'a self, call: &'a Call<A>) -> MetricResult<Record<'a, A>>
         ensures { MakesMetric (metric_of_data self.now call.now) result }
     {
@@ -46,7 +51,7 @@ impl<A: Allocator + Clone> ClientSettings<A> {
     }
 }
 
-// Sets an option of a call in its record.
+// Applies one option of a call to its record. The only error is that memory ran out.
 fn set<'a, A: Allocator>(
     metric: &mut Record<'a, A>,
     option: &'a CallOption<A>,
@@ -69,7 +74,7 @@ fn set<'a, A: Allocator>(
     Ok(())
 }
 
-// Sets the options of a call in its record, in their order.
+// Applies the options of a call to its record, in their order. The only error is that memory ran out.
 fn set_all<'a, A: Allocator>(
     metric: &mut Record<'a, A>,
     options: &'a [CallOption<A>],

@@ -1,4 +1,4 @@
-//! The settings of a queuing sink.
+//! The builder of a queuing sink, which starts its worker.
 ghost use Rattle.std.specs.Prelude.{◌≡◌, IfOk, IfErr, Some, None};
 ghost use Rattle.cadence_sinks.specs.Queuing.{IsQueuingRefusal, wrapped_sink, queue_capacity, queue_policy, capacity_of, policy_of, handler_of};
 ghost use Rattle.cadence_flow.specs.declared.queue.policy.QueuePolicy.TheVariants.{Refuse};
@@ -7,15 +7,22 @@ use super::QueuingMetricSink;
 use super::worker::{Shared, Worker};
 use crate::{Handler, MetricSink, SinkErrorHandler};
 use cadence_errors::MetricResult;
-use cadence_flow::queue::{QueuePolicy, WorkerEnd};
-use cadence_ledger::SharedQueue;
+use cadence_flow::queue::QueuePolicy;
 use cadence_resolve::thread::start;
+use cadence_shared::{SharedQueue, WorkerEnd};
 use std::alloc::{Allocator, Global};
 use std::sync::{Arc, Wait};
 use std::thread::Threads;
 
-/// Makes a `QueuingMetricSink`. Without a capacity its queue is unbounded, without a policy a full one refuses lines,
-/// and without a handler the faults of the wrapped sink are dropped.
+/// Makes a `QueuingMetricSink`. Without a capacity its queue has no bound. Without a policy a full queue refuses lines.
+/// Without a handler the errors of the wrapped sink are dropped.
+///
+/// ```text
+/// let builder = QueuingMetricSinkBuilder::new()
+///     .with_capacity(1000)
+///     .with_policy(QueuePolicy::DropOldest);
+/// let sink = builder.build(rt.clone()?, alloc, inner)?;
+/// ```
 #[derive(Drop)]
 pub struct QueuingMetricSinkBuilder<A: Allocator = Global> {
     capacity: Option<usize>,
@@ -24,7 +31,7 @@ pub struct QueuingMetricSinkBuilder<A: Allocator = Global> {
 }
 
 impl<A: Allocator> QueuingMetricSinkBuilder<A> {
-    /// A builder without any setting.
+    /// Returns a builder without any setting.
     pub fn new() -> Self
         ensures capacity { capacity_of result ≡ None }
         ensures policy { policy_of result ≡ Refuse }
@@ -37,7 +44,7 @@ impl<A: Allocator> QueuingMetricSinkBuilder<A> {
         }
     }
 
-    /// The queue holds at most `capacity` lines.
+    /// Sets the capacity of the queue, in lines.
     pub fn with_capacity(mut self, capacity: usize) -> Self
         ensures capacity { capacity_of result ≡ Some capacity }
         ensures policy { policy_of result ≡ policy_of self }
@@ -47,8 +54,8 @@ impl<A: Allocator> QueuingMetricSinkBuilder<A> {
         self
     }
 
-    /// What the queue does with a line where it is full: it refuses the line, or drops its oldest one, whose `emit`
-    /// has been answered long before. Nobody is told of a dropped line but `QueuingMetricSink::dropped`.
+    /// Sets what a full queue does with a new line: it refuses the new line, or drops its oldest one, whose `emit` has
+    /// long returned `Ok`. A dropped line is only counted, by `QueuingMetricSink::dropped`.
     pub fn with_policy(mut self, policy: QueuePolicy) -> Self
         ensures capacity { capacity_of result ≡ capacity_of self }
         ensures policy { policy_of result ≡ policy }
@@ -58,9 +65,9 @@ impl<A: Allocator> QueuingMetricSinkBuilder<A> {
         self
     }
 
-    /// The handler is told of each line that the wrapped sink refuses, with what it refused it with. It runs in the
-    /// worker thread, without any lock held, and may itself `emit` into the same queue. A handler that owns a handle of
-    /// its own queue keeps that queue and its worker alive until somebody stops it.
+    /// Sets the handler, which receives the error of each line that the wrapped sink refuses. It runs in the worker
+    /// thread while no lock is held, so it may `emit` into the same queue. A handler that owns a handle of this queue
+    /// keeps the queue and its worker alive until somebody stops the queue.
     pub fn with_error_handler(mut self, handler: SinkErrorHandler<A>) -> Self
         requires { IsAlwaysCallable handler }
         ensures capacity { capacity_of result ≡ capacity_of self }
@@ -73,8 +80,8 @@ impl<A: Allocator> QueuingMetricSinkBuilder<A> {
 }
 
 impl<A: Allocator + Clone + Send + Sync + 'static> QueuingMetricSinkBuilder<A> {
-    /// The sink, with its worker thread. The errors are `OutOfMemory`, and `Io` where no thread can be started; the
-    /// wrapped sink is dropped then.
+    /// Makes the sink and starts its worker thread. The errors are `OutOfMemory`, and `Io` if the thread can't be
+    /// started. The wrapped sink is dropped then.
     pub fn build<
         S: MetricSink + Send + Sync + 'static,
         R: Wait + Threads + Clone + Drop + Send + Sync + 'static,
@@ -103,8 +110,8 @@ impl<
     R: Wait + Threads + Clone + Drop + Send + Sync + 'static,
     A: Allocator + Clone + Send + Sync + 'static,
 > QueuingMetricSink<S, R, A> {
-    /// Over an unbounded queue, with its worker thread. The errors are `OutOfMemory`, and `Io` where no thread can be
-    /// started; the wrapped sink is dropped then.
+    /// Makes a sink with an unbounded queue, and starts its worker thread. The errors are `OutOfMemory`, and `Io` if
+    /// the thread can't be started. The wrapped sink is dropped then.
     pub fn from(rt: R, alloc: A, sink: S) -> MetricResult<Self>
         ensures wrapped { IfOk result (λ q. wrapped_sink q ≡ sink) }
         ensures capacity { IfOk result (λ q. queue_capacity q ≡ None) }
@@ -114,7 +121,8 @@ impl<
         QueuingMetricSinkBuilder::new().build(rt, alloc, sink)
     }
 
-    /// Over a queue that holds at most `capacity` lines, as `from`.
+    /// Makes a sink with a queue of at most `capacity` lines, and starts its worker thread. The errors are
+    /// `OutOfMemory`, and `Io` if the thread can't be started. The wrapped sink is dropped then.
     pub fn with_capacity(rt: R, alloc: A, sink: S, capacity: usize) -> MetricResult<Self>
         ensures wrapped { IfOk result (λ q. wrapped_sink q ≡ sink) }
         ensures capacity { IfOk result (λ q. queue_capacity q ≡ Some capacity) }
@@ -127,7 +135,7 @@ impl<
 }
 
 impl<S: MetricSink, R: Wait + Drop, A: Allocator> QueuingMetricSink<S, R, A> {
-    /// A builder without any setting.
+    /// Returns a builder without any setting.
     pub fn builder() -> QueuingMetricSinkBuilder<A>
         ensures capacity { capacity_of result ≡ None }
         ensures policy { policy_of result ≡ Refuse }

@@ -1,19 +1,18 @@
-//! The thread that calls the wrapped sink.
+//! The worker thread, which takes lines out of the queue and hands them to the wrapped sink.
 ghost use Rattle.std.specs.Prelude.{◌≡◌, true};
-ghost use Rattle.cadence_ledger.specs.Taker.{given_by, has_ended};
+ghost use Rattle.cadence_shared.specs.Taker.{given_by, has_ended};
 
 use crate::worklist::{Worklist, work};
 use crate::{Handler, MetricSink};
-use cadence_flow::queue::WorkerEnd;
-use cadence_ledger::{ItemLog, SharedQueue, Taker, TakerRoom};
 use cadence_resolve::thread::Job;
+use cadence_shared::{GhostList, SharedQueue, Taker, TakerRoom, WorkerEnd};
 use std::alloc::Allocator;
 use std::sync::{Arc, Wait};
 
-/// The most bytes of a line's memory that a line to come may be made in.
+/// The largest capacity in bytes of a line whose memory goes back to the queue, for a later line to be copied into.
 const WIDEST_KEPT: usize = 512;
 
-/// What the handles and the worker share. The queue's lock is never held while the sink works.
+/// What the handles and the worker share. The lock of the queue is free while the sink works.
 #[derive(Drop)]
 pub struct Shared<S: MetricSink, A: Allocator> {
     pub sink: S,
@@ -21,20 +20,20 @@ pub struct Shared<S: MetricSink, A: Allocator> {
     pub end: WorkerEnd,
 }
 
-// The lines that a worker took and those that it handed on, in proofs alone.
+// The lines that a worker took and those that it handed on. Both lists exist only in proofs.
 #[derive(Drop)]
 struct Passed<A: Allocator> {
-    taken: ItemLog<String<A>>,
-    handed: ItemLog<String<A>>,
+    taken: GhostList<String<A>>,
+    handed: GhostList<String<A>>,
 }
 
-// The worker's list: it takes from the queue, and hands on to the wrapped sink. At the end it has no line left.
+// The list that `work` goes through: its texts are the lines of the queue, and `hand` emits a line into the sink.
 struct QueueWorklist<'a, S: MetricSink, R: Wait + Drop, A: Allocator> {
     rt: &'a R,
     sink: &'a S,
     handler: &'a Option<Handler<A>>,
     taker: Taker<'a, String<A>, A>,
-    handed: ItemLog<String<A>>,
+    handed: GhostList<String<A>>,
 }
 
 impl<'a, S: MetricSink, R: Wait + Drop, A: Allocator + Clone> Worklist
@@ -56,7 +55,7 @@ impl<'a, S: MetricSink, R: Wait + Drop, A: Allocator + Clone> Worklist
     fn hand(&mut self, text: String<A>) {
         if let Err(fault) = self.sink.emit(text.as_str()) {
             if let Some(handler) = self.handler {
-                handler.tell(fault);
+                handler.handle(fault);
             }
         }
         self.handed = self.handed.and(&text);
@@ -66,7 +65,7 @@ impl<'a, S: MetricSink, R: Wait + Drop, A: Allocator + Clone> Worklist
     }
 }
 
-// Goes through the queue to its end. Each line that was taken from it is handed on, in order.
+// Goes through the queue to its end. It hands on each line that it takes, in order.
 fn pass_on<S: MetricSink, R: Wait + Drop, A: Allocator + Clone>(
     rt: &R,
     shared: &Shared<S, A>,
@@ -80,7 +79,7 @@ fn pass_on<S: MetricSink, R: Wait + Drop, A: Allocator + Clone>(
         sink: &shared.sink,
         handler,
         taker: shared.queue.taker(rt, room),
-        handed: ItemLog::new(),
+        handed: GhostList::new(),
     };
     work(rt, &mut list);
     let QueueWorklist {
@@ -96,7 +95,7 @@ fn pass_on<S: MetricSink, R: Wait + Drop, A: Allocator + Clone>(
     }
 }
 
-/// What the worker needs beside the handler.
+/// What the worker thread needs beside the handler.
 #[derive(Drop)]
 pub struct Worker<S: MetricSink, R: Wait + Drop, A: Allocator> {
     pub rt: R,

@@ -1,18 +1,20 @@
-//! A spy whose every packet is a message.
-ghost use Rattle.std.specs.Prelude.{◌≡◌, IfOk, unwrap_or};
-ghost use Rattle.cadence_errors.specs.Errors.{OnlyWantsMemory};
+//! A sink for tests that packs lines, and makes each packet a message of its receiver.
+ghost use Rattle.std.specs.Prelude.{◌≡◌, [], IfOk, unwrap_or};
+ghost use Rattle.cadence_errors.specs.Errors.{MayOnlyRunOutOfMemory};
+ghost use Rattle.cadence_flow.specs.Writer.{history_of};
+ghost use Rattle.cadence_sinks.specs.Answers.{IsQueueAnswer, IsQueueFlush, queue_kind};
 ghost use Rattle.cadence_sinks.specs.Buffers.{spy_buffer};
 
 use super::channel::{Sender, SpyReceiver, new_channel};
-use crate::{DEFAULT_BUFFER_SIZE, MetricSink};
+use crate::MetricSink;
 use cadence_errors::{MetricResult, SinkError};
-use cadence_flow::io::{PacketWriter, Refusals};
-use cadence_ledger::WholeLedger;
+use cadence_flow::io::{DEFAULT_CAPACITY, PacketWriter, Refusals};
+use cadence_shared::WholePacker;
 use std::alloc::{Allocator, Global};
 use std::sync::{Mutex, Wait};
 
-// Makes each packet a message. It takes a packet whole or refuses it. It doesn't tell its packets; the ledger round
-// it does.
+// Makes each packet a message. It takes a packet whole or refuses it. Contracts don't see its packets; the packer
+// around it records them.
 #[derive(Drop)]
 struct MessageWriter<R: Wait + Drop, A: Allocator> {
     sender: Sender<R, A>,
@@ -20,10 +22,6 @@ struct MessageWriter<R: Wait + Drop, A: Allocator> {
 }
 
 impl<R: Wait + Drop, A: Allocator + Clone> PacketWriter for MessageWriter<R, A> {
-    ghost use Rattle.std.specs.Prelude.{[]};
-    ghost use Rattle.cadence_flow.specs.Writer.{history_of};
-    ghost use Rattle.cadence_sinks.specs.Answers.{queue_kind};
-
     ghost history = { λ w. history_of [] w.refusals };
 
     ghost kind = { λ _. queue_kind };
@@ -35,29 +33,35 @@ impl<R: Wait + Drop, A: Allocator + Clone> PacketWriter for MessageWriter<R, A> 
     }
 }
 
-/// A sink that holds lines, each followed by a newline, until no more of them fit its buffer, and makes them one
-/// message of its receiver then, at a flush, and where it is dropped; a line that passes the buffer is a message
-/// alone. It answers the line's length, or what refused a message: `ChannelDisconnected` once the
-/// receiver is dropped, else `ChannelFull` where as many messages wait as the queue's capacity, else `OutOfMemory`.
-/// The held text stays then. It keeps no counts, and holds the runtime `R`, whose locks it takes.
+/// A sink for tests that buffers lines, each followed by a newline, and makes the held text a message of its receiver
+/// when the next line doesn't fit, at a flush, and when it is dropped.
+///
+/// A line that with its newline passes the capacity is a message of its own, without the newline. `emit` returns the
+/// line's length. If a message is refused, the errors are `ChannelDisconnected` if the receiver was dropped,
+/// `ChannelFull` if the queue has no room for one more message, and `OutOfMemory`, in this order; the held text stays
+/// held. The sink keeps no counts. It keeps the runtime `R`, whose locks it takes.
+///
+/// ```text
+/// let (receiver, sink) = BufferedSpyMetricSink::new(rt.clone()?, alloc)?;
+/// ```
 pub struct BufferedSpyMetricSink<R: Wait + Drop, A: Allocator + Clone = Global> {
     rt: R,
-    writer: Mutex<WholeLedger<MessageWriter<R, A>, A>>,
+    writer: Mutex<WholePacker<MessageWriter<R, A>, A>>,
     capacity: usize,
 }
 
 impl<R: Wait + Clone + Drop, A: Allocator + Clone> BufferedSpyMetricSink<R, A> {
-    /// A spy with a buffer of 512 bytes for any number of messages, and its receiver. The only error is
-    /// `OutOfMemory`.
+    /// Makes a spy and its receiver, with a buffer of 512 bytes and a queue for any number of messages. The only error
+    /// is `OutOfMemory`.
     pub fn new(rt: R, alloc: A) -> MetricResult<(SpyReceiver<R, A>, Self)>
         ensures buffer { IfOk result (λ p. spy_buffer p.1 ≡ 512) }
-        ensures refused { OnlyWantsMemory result }
+        ensures refused { MayOnlyRunOutOfMemory result }
     {
         Self::with_capacity(rt, alloc, None, None)
     }
 
-    /// A spy whose queue holds at most `queue` messages (`None` is no bound) and whose buffer has `buffer` bytes
-    /// (`None` is 512), and its receiver. The only error is `OutOfMemory`.
+    /// Makes a spy and its receiver, with a queue for at most `queue` messages, or for any number, and with a buffer of
+    /// `buffer` bytes, or of 512. The only error is `OutOfMemory`.
     pub fn with_capacity(
         rt: R,
         alloc: A,
@@ -65,15 +69,15 @@ impl<R: Wait + Clone + Drop, A: Allocator + Clone> BufferedSpyMetricSink<R, A> {
         buffer: Option<usize>,
     ) -> MetricResult<(SpyReceiver<R, A>, Self)>
         ensures buffer { IfOk result (λ p. spy_buffer p.1 ≡ unwrap_or buffer 512) }
-        ensures refused { OnlyWantsMemory result }
+        ensures refused { MayOnlyRunOutOfMemory result }
     {
         let (receiver, sender) = new_channel(rt.clone()?, alloc.clone()?, queue)?;
         let inner = MessageWriter {
             sender,
             refusals: Refusals::none(),
         };
-        let capacity = buffer.unwrap_or(DEFAULT_BUFFER_SIZE);
-        let lines = WholeLedger::new(alloc, inner, capacity)?;
+        let capacity = buffer.unwrap_or(DEFAULT_CAPACITY);
+        let lines = WholePacker::new(alloc, inner, capacity)?;
         let sink = BufferedSpyMetricSink {
             rt,
             writer: Mutex::new(lines),
@@ -84,8 +88,6 @@ impl<R: Wait + Clone + Drop, A: Allocator + Clone> BufferedSpyMetricSink<R, A> {
 }
 
 impl<R: Wait + Drop, A: Allocator + Clone> MetricSink for BufferedSpyMetricSink<R, A> {
-    ghost use Rattle.cadence_sinks.specs.Answers.{IsQueueAnswer, IsQueueFlush};
-
     ghost may_answer = { λ _ metric answer. IsQueueAnswer metric answer };
 
     ghost may_flush = { λ _ answer. IsQueueFlush answer };
@@ -101,7 +103,7 @@ impl<R: Wait + Drop, A: Allocator + Clone> MetricSink for BufferedSpyMetricSink<
     ghost flush_may_succeed = { λ _. tt };
 }
 
-// What is held goes out first, and then the queue's one handle is dropped with the writer.
+// The held text goes out first. Then the writer is dropped, and with it the one handle of the queue.
 impl<R: Wait + Drop, A: Allocator + Clone> Drop for BufferedSpyMetricSink<R, A> {
     fn drop(self) {
         let BufferedSpyMetricSink {

@@ -1,38 +1,36 @@
-//! The queue between a spy and its receiver.
-ghost use Rattle.cadence_errors.specs.Errors.{OnlyWantsMemory};
+//! The queue between a spy and its receiver, and its two ends.
+ghost use Rattle.cadence_errors.specs.Errors.{MayOnlyRunOutOfMemory};
 ghost use Rattle.cadence_sinks.specs.Answers.{IsQueueAnswer};
 
 use cadence_errors::{MetricResult, SinkError};
 use cadence_flow::queue::Taken;
-use cadence_ledger::SharedQueue;
+use cadence_shared::SharedQueue;
 use std::alloc::{Allocator, Global};
 use std::sync::{Arc, Wait};
 
 type Messages<A> = Arc<SharedQueue<Vec<u8, A>, A>, A>;
 
-/// Gives the messages that a spy was sent, the oldest first. Once it is dropped its spy answers
-/// `ChannelDisconnected`.
+/// Returns the messages of a spy, the oldest first. After its drop the spy refuses lines with `ChannelDisconnected`.
 pub struct SpyReceiver<R: Wait + Drop, A: Allocator = Global> {
     rt: R,
     messages: Messages<A>,
 }
 
 impl<R: Wait + Drop, A: Allocator> SpyReceiver<R, A> {
-    /// Waits for a message. `None` once the sink is gone and nothing is left.
+    /// Waits for a message and returns it. Returns `None` if no message is left and the spy was dropped.
     pub fn recv(&self) -> Option<Vec<u8, A>> {
         self.messages.take_wait(&self.rt)
     }
 
-    /// The oldest message, if there is one.
+    /// Returns the oldest message, if there is one. It doesn't wait.
     pub fn try_recv(&self) -> Option<Vec<u8, A>> {
         match self.messages.try_take(&self.rt) {
             Taken::Text(message) => Some(message),
-            Taken::Empty => None,
-            Taken::Ended => None,
+            Taken::Empty | Taken::Ended => None,
         }
     }
 
-    /// Whether no message waits.
+    /// Returns whether no message waits.
     pub fn is_empty(&self) -> bool {
         self.messages.waiting(&self.rt) == 0
     }
@@ -45,20 +43,20 @@ impl<R: Wait + Drop, A: Allocator> Drop for SpyReceiver<R, A> {
     }
 }
 
-/// Puts messages into a queue of which it is the one handle.
+/// Puts messages into the queue of a receiver. Its drop stops the queue, because the queue has no other handle.
 pub struct Sender<R: Wait + Drop, A: Allocator = Global> {
     rt: R,
     alloc: A,
     messages: Messages<A>,
 }
 
-/// Both ends of a queue of at most `capacity` messages; `None` is no bound. The only error is `OutOfMemory`.
+/// Makes both ends of a queue for at most `capacity` messages, or for any number. The only error is `OutOfMemory`.
 pub fn new_channel<R: Wait + Clone + Drop, A: Allocator + Clone>(
     rt: R,
     alloc: A,
     capacity: Option<usize>,
 ) -> MetricResult<(SpyReceiver<R, A>, Sender<R, A>)>
-    ensures { OnlyWantsMemory result }
+    ensures { MayOnlyRunOutOfMemory result }
 {
     let queue = SharedQueue::new(alloc.clone()?, capacity)?;
     let messages = Arc::new(alloc.clone()?, queue)?;
@@ -75,8 +73,9 @@ pub fn new_channel<R: Wait + Clone + Drop, A: Allocator + Clone>(
 }
 
 impl<R: Wait + Drop, A: Allocator + Clone> Sender<R, A> {
-    /// Puts a copy of the bytes last, and returns their number. It is refused with `ChannelDisconnected` after a stop, else
-    /// with `ChannelFull` if as many messages wait as the capacity, which takes no memory, else with `OutOfMemory`.
+    /// Puts a copy of the bytes last in the queue, and returns their number. The errors are `ChannelDisconnected` after
+    /// a stop, `ChannelFull` if as many messages wait as the capacity, and `OutOfMemory`, in this order. The first two
+    /// request no memory.
     pub fn send(&self, bytes: &[u8]) -> Result<usize, SinkError>
         ensures { IsQueueAnswer bytes.now result }
     {

@@ -1,5 +1,6 @@
-//! A spy whose every line is a message.
-ghost use Rattle.cadence_errors.specs.Errors.{OnlyWantsMemory};
+//! A sink for tests that makes each line a message of its receiver.
+ghost use Rattle.cadence_errors.specs.Errors.{MayOnlyRunOutOfMemory};
+ghost use Rattle.cadence_sinks.specs.Answers.{IsQueueAnswer};
 
 use super::channel::{Sender, SpyReceiver, new_channel};
 use crate::MetricSink;
@@ -7,41 +8,41 @@ use cadence_errors::{MetricResult, SinkError};
 use std::alloc::{Allocator, Global};
 use std::sync::Wait;
 
-/// A sink that makes each line one message of its receiver. It answers the line's length;
-/// `ChannelDisconnected` once the receiver is dropped, else `ChannelFull` where as many messages wait as the
-/// queue's capacity, else `OutOfMemory` where there is no memory for the message. It keeps no counts, and holds the
+/// A sink for tests that makes each line a message of its receiver.
+///
+/// `emit` returns the line's length. The errors are `ChannelDisconnected` if the receiver was dropped, `ChannelFull` if
+/// the queue has no room for one more message, and `OutOfMemory`, in this order. The sink keeps no counts. It keeps the
 /// runtime `R`, whose locks it takes.
+///
+/// ```text
+/// let (receiver, sink) = SpyMetricSink::new(rt.clone()?, alloc)?;
+/// StatsdClient::from_sink(alloc, "p", sink)?.incr("visits")?;
+/// let message = receiver.try_recv(); // p.visits:1|c
+/// ```
 #[derive(Drop)]
 pub struct SpyMetricSink<R: Wait + Drop, A: Allocator = Global> {
     sender: Sender<R, A>,
 }
 
 impl<R: Wait + Clone + Drop, A: Allocator + Clone> SpyMetricSink<R, A> {
-    /// A spy for any number of messages, and its receiver. The only error is `OutOfMemory`.
+    /// Makes a spy and its receiver, with a queue for any number of messages. The only error is `OutOfMemory`.
     pub fn new(rt: R, alloc: A) -> MetricResult<(SpyReceiver<R, A>, Self)>
-        ensures { OnlyWantsMemory result }
+        ensures { MayOnlyRunOutOfMemory result }
     {
-        Self::with_queue(rt, alloc, None)
+        let (receiver, sender) = new_channel(rt, alloc, None)?;
+        Ok((receiver, SpyMetricSink { sender }))
     }
 
-    /// A spy whose queue holds at most `queue` messages, and its receiver. The only error is `OutOfMemory`.
+    /// Makes a spy and its receiver, with a queue for at most `queue` messages. The only error is `OutOfMemory`.
     pub fn with_capacity(rt: R, alloc: A, queue: usize) -> MetricResult<(SpyReceiver<R, A>, Self)>
-        ensures { OnlyWantsMemory result }
+        ensures { MayOnlyRunOutOfMemory result }
     {
-        Self::with_queue(rt, alloc, Some(queue))
-    }
-
-    fn with_queue(rt: R, alloc: A, queue: Option<usize>) -> MetricResult<(SpyReceiver<R, A>, Self)>
-        ensures { OnlyWantsMemory result }
-    {
-        let (receiver, sender) = new_channel(rt, alloc, queue)?;
+        let (receiver, sender) = new_channel(rt, alloc, Some(queue))?;
         Ok((receiver, SpyMetricSink { sender }))
     }
 }
 
 impl<R: Wait + Drop, A: Allocator + Clone> MetricSink for SpyMetricSink<R, A> {
-    ghost use Rattle.cadence_sinks.specs.Answers.{IsQueueAnswer};
-
     ghost may_answer = { λ _ metric answer. IsQueueAnswer metric answer };
 
     fn emit(&self, metric: &str) -> Result<usize, SinkError> {

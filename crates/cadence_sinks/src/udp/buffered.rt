@@ -1,47 +1,52 @@
-//! A sink that gathers lines in datagrams.
+//! A sink that packs lines into UDP datagrams, and its builder.
 ghost use Rattle.std.specs.Prelude.{◌≡◌, IfOk, IfErr, Some, None, unwrap_or};
 ghost use Rattle.cadence_resolve.specs.Refusals.{IsSocketRefusal, IsTargetRefusal};
 ghost use Rattle.cadence_sinks.specs.Buffers.{udp_buffer};
-ghost use Rattle.cadence_sinks.specs.Sockets.{is_io};
+ghost use Rattle.cadence_sinks.specs.Sockets.{IsBufferedAnswer, IsBufferedFlush, is_io};
 ghost use Rattle.cadence_sinks.specs.Udp.{buffered_capacity_of, buffered_period_of, buffered_handler_of};
 
-use super::peer::UdpPeer;
-use super::resolving::Resolving;
+use super::UdpPeer;
 use crate::datagram::PackedSocket;
-use crate::{DEFAULT_BUFFER_SIZE, Handler, MetricSink, SinkErrorHandler, Target};
+use crate::{Handler, MetricSink, SinkErrorHandler, Target};
 use cadence_errors::{MetricResult, SinkError};
+use cadence_flow::io::DEFAULT_CAPACITY;
 use cadence_flow::stats::SinkStats;
-use cadence_resolve::ResolverRuntime;
+use cadence_resolve::{Resolver, ResolverRuntime, StaticResolver};
 use std::alloc::{Allocator, Global};
 use std::net::{Net, UdpSocket};
 use std::sync::Wait;
 use std::time::Duration;
 
-/// Holds lines, each followed by a newline, until no more of them fit its buffer, and then sends them as one UDP
-/// datagram; at a flush and where it is dropped, too. A line that passes the buffer goes out alone, without the
-/// newline. It answers the line's length, or of a line that went out alone how many bytes the socket
-/// took; an error is `Io`, or `NothingWritten` where the socket took 0 bytes of held text, which stays held. Each
-/// answer of the socket is counted. It keeps the runtime `R`, whose locks it takes; its drop ends its lookups and
-/// waits for none.
+/// A sink that buffers lines, each followed by a newline, and sends them packed into UDP datagrams.
+///
+/// It sends the held text as one datagram when the next line doesn't fit, at a flush, and when it is dropped. A line
+/// that with its newline passes the capacity is sent alone, without the newline. `emit` returns the line's length, or
+/// for a line that was sent alone how many bytes the socket took. The errors are `Io`, and `NothingWritten` if the
+/// socket took 0 bytes of the held text; what the socket didn't take stays held. The counts include each call of the
+/// socket. The sink keeps the runtime `R`, whose locks it takes. Its drop stops the lookups, and doesn't wait for them.
+///
+/// ```text
+/// let sink = BufferedUdpMetricSink::with_capacity(rt.clone()?, alloc, target, socket, 1432)?;
+/// ```
 #[derive(Drop)]
 pub struct BufferedUdpMetricSink<R: Wait + Drop, A: Allocator = Global> {
     socket: PackedSocket<UdpPeer<R, A>, R, A>,
 }
 
 impl<R: Net + Wait + Clone + Drop, A: Allocator + Clone> BufferedUdpMetricSink<R, A> {
-    /// As `with_capacity`, with a buffer of 512 bytes.
+    /// Makes a sink with a buffer of 512 bytes. Otherwise it does what `with_capacity` does, with the same errors.
     pub fn from(rt: R, alloc: A, target: Target<A>, socket: UdpSocket) -> MetricResult<Self>
         ensures buffer { IfOk result (λ s. udp_buffer s ≡ 512) }
         ensures refused { IfErr result (λ e. IsTargetRefusal target e) }
     {
-        Self::with_capacity(rt, alloc, target, socket, DEFAULT_BUFFER_SIZE)
+        Self::with_capacity(rt, alloc, target, socket, DEFAULT_CAPACITY)
     }
 
-    /// With a buffer of `capacity` bytes, over a socket that the caller bound, to the first address of the target,
-    /// which is looked up once. A refused sink drops the socket.
+    /// Makes a sink with a buffer of `capacity` bytes over a socket that the caller bound. The target is looked up
+    /// once, now, and the sink sends to its first address.
     ///
-    /// For a name that can't be looked up the error is `SinkError::Io`; for one without addresses the kind
-    /// `InvalidInput`; else `SinkError::OutOfMemory`.
+    /// The errors are `SinkError::Io` if the lookup fails, the kind `InvalidInput` if the name has no address, and
+    /// `SinkError::OutOfMemory`. After an error the socket is dropped.
     pub fn with_capacity(
         rt: R,
         alloc: A,
@@ -52,14 +57,14 @@ impl<R: Net + Wait + Clone + Drop, A: Allocator + Clone> BufferedUdpMetricSink<R
         ensures buffer { IfOk result (λ s. udp_buffer s ≡ capacity) }
         ensures refused { IfErr result (λ e. IsTargetRefusal target e) }
     {
-        let peer = UdpPeer::new(&rt, alloc.clone()?, &target, socket)?;
-        let socket = PackedSocket::new(rt, alloc, peer, capacity)?;
+        let resolver = Resolver::Static(StaticResolver::new(&rt, alloc.clone()?, &target)?);
+        let socket = PackedSocket::new(rt, alloc, UdpPeer { socket, resolver }, capacity)?;
         Ok(BufferedUdpMetricSink { socket })
     }
 }
 
 impl<R: Wait + Drop, A: Allocator> BufferedUdpMetricSink<R, A> {
-    /// A builder without any setting.
+    /// Returns a builder without any setting.
     pub fn builder() -> BufferedUdpMetricSinkBuilder
         ensures capacity { buffered_capacity_of result ≡ None }
         ensures period { buffered_period_of result ≡ None }
@@ -70,8 +75,6 @@ impl<R: Wait + Drop, A: Allocator> BufferedUdpMetricSink<R, A> {
 }
 
 impl<R: Wait + Drop, A: Allocator> MetricSink for BufferedUdpMetricSink<R, A> {
-    ghost use Rattle.cadence_sinks.specs.Sockets.{IsBufferedAnswer, IsBufferedFlush};
-
     ghost may_answer = { λ s metric answer. IsBufferedAnswer is_io (udp_buffer s) metric answer };
 
     ghost may_flush = { λ _ answer. IsBufferedFlush is_io answer };
@@ -93,16 +96,18 @@ impl<R: Wait + Drop, A: Allocator> MetricSink for BufferedUdpMetricSink<R, A> {
     ghost flush_may_succeed = { λ _. tt };
 }
 
-/// Makes a `BufferedUdpMetricSink`. Without a capacity its buffer has 512 bytes; without a period its
-/// target is looked up once.
+/// Makes a `BufferedUdpMetricSink`. Without a capacity the buffer has 512 bytes. Without a period the target is looked
+/// up once.
+// It has each method of `UdpMetricSinkBuilder` again: both are types of the Rust crate, and types can't share methods.
 #[derive(Drop)]
 pub struct BufferedUdpMetricSinkBuilder {
     capacity: Option<usize>,
-    resolving: Resolving,
+    period: Option<Duration>,
+    handler: Option<Handler>,
 }
 
 impl BufferedUdpMetricSinkBuilder {
-    /// A builder without any setting.
+    /// Returns a builder without any setting.
     pub fn new() -> Self
         ensures capacity { buffered_capacity_of result ≡ None }
         ensures period { buffered_period_of result ≡ None }
@@ -110,11 +115,12 @@ impl BufferedUdpMetricSinkBuilder {
     {
         BufferedUdpMetricSinkBuilder {
             capacity: None,
-            resolving: Resolving::once(),
+            period: None,
+            handler: None,
         }
     }
 
-    /// The buffer has `capacity` bytes.
+    /// Sets the capacity of the buffer, in bytes.
     pub fn with_capacity(mut self, capacity: usize) -> Self
         ensures capacity { buffered_capacity_of result ≡ Some capacity }
         ensures period { buffered_period_of result ≡ buffered_period_of self }
@@ -124,32 +130,32 @@ impl BufferedUdpMetricSinkBuilder {
         self
     }
 
-    /// The target is looked up again after each period, by a thread that sleeps in between.
+    /// Lets a thread look the target up again after each period. It sleeps in between.
     pub fn with_resolver_period(mut self, period: Duration) -> Self
         ensures capacity { buffered_capacity_of result ≡ buffered_capacity_of self }
         ensures period { buffered_period_of result ≡ Some period }
         ensures handler { buffered_handler_of result ≡ buffered_handler_of self }
     {
-        self.resolving.period = Some(period);
+        self.period = Some(period);
         self
     }
 
-    /// The handler is told of each lookup after the first one that fails or gives no address. It runs in the thread
-    /// that looks up. Without a period it isn't used.
+    /// Sets the handler of lookups after the first one. It receives the error of each lookup that fails, and
+    /// `NoAddresses` if one gives no address. It runs in the thread that looks up. Without a period it is never called.
     pub fn with_resolver_error_handler(mut self, handler: SinkErrorHandler) -> Self
         requires { IsAlwaysCallable handler }
         ensures capacity { buffered_capacity_of result ≡ buffered_capacity_of self }
         ensures period { buffered_period_of result ≡ buffered_period_of self }
         ensures handler { buffered_handler_of result ≡ Some handler }
     {
-        self.resolving.handler = Some(Handler::new(handler));
+        self.handler = Some(Handler::new(handler));
         self
     }
 
-    /// The sink, over a socket that the caller bound, with the thread of its resolver where there is a period. A
-    /// refused sink drops the socket.
+    /// Makes the sink over a socket that the caller bound, and starts the thread of its resolver if there is a period.
     ///
-    /// The errors are those of `BufferedUdpMetricSink::from`, and `SinkError::Io` where the thread can't be started.
+    /// The errors are `SinkError::Io` if the first lookup fails or the thread can't be started, the kind `InvalidInput`
+    /// if the name has no address, and `SinkError::OutOfMemory`. After an error the socket is dropped.
     pub fn build<R: ResolverRuntime, A: Allocator + Clone + Send + Sync + 'static>(
         self,
         rt: R,
@@ -163,9 +169,9 @@ impl BufferedUdpMetricSinkBuilder {
         ensures once { buffered_period_of self ≡ None →
             IfErr result (λ e. IsTargetRefusal target e) }
     {
-        let capacity = self.capacity.unwrap_or(DEFAULT_BUFFER_SIZE);
-        let peer = self.resolving.peer(&rt, &alloc, target, socket)?;
-        let socket = PackedSocket::new(rt, alloc, peer, capacity)?;
+        let capacity = self.capacity.unwrap_or(DEFAULT_CAPACITY);
+        let resolver = Resolver::new(&rt, &alloc, target, self.period, self.handler)?;
+        let socket = PackedSocket::new(rt, alloc, UdpPeer { socket, resolver }, capacity)?;
         Ok(BufferedUdpMetricSink { socket })
     }
 }

@@ -1,36 +1,43 @@
-//! The line of a metric that is being made: every line is made here.
+//! The draft of a line: the line of a metric while tags and options are added to it.
+//!
+//! Every line that the library makes is made by a draft: the line of a plain call, of a builder, of a call in a schedule,
+//! of a C call and of the words of a command line.
 ghost use Rattle.std.specs.Prelude.{◌≡◌, ◌+◌, ◌++◌, ◌<◌, ◌≤◌, [], IfOk, OnErr, OnOk, length};
 ghost use Rattle.std.specs.Prelude.{◌^◌, IfSome, IsUtf8, drop, take, string_bytes};
 ghost use Rattle.std.specs.Option.{option_copied};
-ghost use Rattle.cadence_text.specs.Draft.{draft_line, draft_of, lead, tag_added, with_tag_text};
-ghost use Rattle.cadence_text.specs.DraftParts.{IsCutAt, IsSaidHead, draft_of_head, text_of_head};
-ghost use Rattle.cadence_text.specs.Line.{container_field, line_of, rate_field, tag_text, time_field};
+ghost use Rattle.cadence_text.specs.Draft.{draft_line, draft_of, with_tag_text};
+ghost use Rattle.cadence_text.specs.DraftParts.{IsCutAt, IsRepresentableHead, draft_of_head, text_of_head};
+ghost use Rattle.cadence_text.specs.Line.{container_field, line_of, rate_field, time_field};
 ghost use Rattle.cadence_text.specs.Metric.{Metric, with_tag};
 ghost use Rattle.cadence_text.specs.Record.{tag_of};
-ghost use Rattle.cadence_text.specs.RecordMetric.{AreRecordNumbers, FitsMemory};
-ghost use Rattle.cadence_text.specs.Said.{IsSaidTag};
+ghost use Rattle.cadence_text.specs.MetricInMemory.{AreNumbersInMemory, IsTextInMemory};
+ghost use Rattle.cadence_text.specs.Representable.{IsRepresentableTag};
 ghost use Rattle.cadence_value.specs.Number.{IsDecimal};
 ghost use Rattle.cadence_value.specs.Takes.{Takes};
 ghost use Rattle.cadence_value.specs.Values.{numbers_of};
 
 use crate::line::MetricType;
-use crate::line::filled::{Counter, Filled};
-use crate::line::pieces::{push_last, push_lead, push_tag};
+use crate::line::line_buf::{LengthCounter, LineBuf};
+use crate::line::pieces::push_last;
 use crate::line::rate::{Rate, push_kept_rate};
 use crate::line::tag::Tag;
+use crate::line::tags_text::add_to;
 use cadence_value::decimal::Decimal;
 use cadence_value::text::{LineSink, number_len, push_value};
 use cadence_value::value::MetricValue;
 use std::alloc::{AllocError, Allocator, Global};
 use std::marker::Model;
 
-/// What each line begins with: the name, which is a prefix and then a key, the numbers and the kind. A type of this
-/// project's own.
+/// The head of a line: the name, the numbers and the kind. The Rust crate has no such type.
 #[derive(Drop)]
 pub struct Head<'a, A: Allocator = Global> {
+    /// The first part of the name. It is written as it is, with its dot if it has one.
     pub prefix: &'a str,
+    /// The second part of the name.
     pub key: &'a str,
+    /// The numbers.
     pub value: MetricValue<A>,
+    /// The kind, whose type text ends the head.
     pub kind: MetricType,
 }
 
@@ -38,9 +45,9 @@ pub struct Head<'a, A: Allocator = Global> {
 #[tactic(auto, using(std::proofs::lemmas::Grind::common_steps))]
 pub(crate) fn push_head<S: LineSink, A: Allocator>(line: &mut S, head: &Head<'_, A>)
     ensures taken { Takes S.ends_as line.old (text_of_head head.now) line.new }
-    ensures prefix { FitsMemory head.now.prefix.now }
-    ensures key { FitsMemory head.now.key.now }
-    ensures numbers { AreRecordNumbers (numbers_of head.now.value) }
+    ensures prefix { IsTextInMemory head.now.prefix.now }
+    ensures key { IsTextInMemory head.now.key.now }
+    ensures numbers { AreNumbersInMemory (numbers_of head.now.value) }
 {
     line.take_piece(head.prefix);
     line.take_piece(head.key);
@@ -49,95 +56,24 @@ pub(crate) fn push_head<S: LineSink, A: Allocator>(line: &mut S, head: &Head<'_,
     head.kind.push_to(line);
 }
 
-// The length of the head.
+// Returns the length of a head in bytes.
 #[inline(always)]
 fn head_count<A: Allocator>(head: &Head<'_, A>) -> u128
     ensures { result ≡ length (text_of_head head.now) }
 {
-    let mut counter = Counter::new();
+    let mut counter = LengthCounter::new();
     push_head(&mut counter, head);
     counter.length()
 }
 
-// Room for a tag and what stands before it, if that fits memory.
-#[inline(always)]
-fn tag_room(tag: &Tag<'_>) -> Option<usize>
-    ensures { IfSome result (λ n. length (tag_text (tag_of tag.now)) + 2 ≤ n) }
-{
-    let room = tag.text.len() + 3;
-    match tag.key {
-        Some(key) => key.len().checked_add(room),
-        None => Some(room),
-    }
-}
-
-// Writes a tag at the end of a line. If memory is refused, the line is as it was.
-#[inline(always)]
-fn add_to<A: Allocator>(line: &mut Filled<A>, begun: bool, tag: &Tag<'_>) -> Result<(), AllocError>
-    ensures ok { OnOk result (line.new.bytes.items ≡
-        line.old.bytes.items ++ (lead begun ++ tag_text (tag_of tag.now))) }
-    ensures utf8 { OnOk result (IsUtf8 (lead begun ++ tag_text (tag_of tag.now))) }
-    ensures said { OnOk result (IsSaidTag (tag_of tag.now)) }
-    ensures err { OnErr result (line.new.bytes.items ≡ line.old.bytes.items) }
-{
-    let Some(room) = tag_room(tag) else {
-        return Err(AllocError);
-    };
-    line.reserve(room)?;
-    push_lead(line, begun);
-    push_tag(line, tag);
-    Ok(())
-}
-
-/// The field of tags, as it stands in a line. A type of this project's own. Contracts see it as its text.
-#[derive(Drop)]
-pub struct TagsText<A: Allocator = Global> {
-    line: Filled<A>,
-}
-
-impl<A: Allocator> Model for TagsText<A> {
-    ghost use Rattle.std.specs.Prelude.{ℕ, List};
-
-    ghost Value = { List ℕ };
-
-    ghost view = { λ t. t.line.bytes.items };
-}
-
-impl<A: Allocator> TagsText<A> {
-    /// No tags. Takes no memory.
-    pub fn new(alloc: A) -> TagsText<A>
-        ensures { result ≡ [] }
-    {
-        TagsText {
-            line: Filled::empty(alloc),
-        }
-    }
-
-    /// Adds a tag at the end. If memory is refused, the text is as it was.
-    pub fn add(&mut self, tag: Tag<'_>) -> Result<(), AllocError>
-        ensures ok { OnOk result (self.new ≡ tag_added self.old (tag_of tag.entry)) }
-        ensures err { OnErr result (self.new ≡ self.old) }
-    {
-        let begun = self.line.len() > 0;
-        add_to(&mut self.line, begun, &tag)
-    }
-
-    /// The text.
-    #[inline]
-    pub fn as_str(&self) -> &str
-        ensures { result.now ≡ self.now }
-    {
-        self.line.as_text()
-    }
-}
-
-/// The line of a metric that may still get tags and other options. A type of this project's own.
+/// The draft of a line, to which tags and options can be added until the line is finished. The Rust crate has no such
+/// type.
 ///
-/// The head and the tags stand in the line already; the other options are kept beside it, and come in when the line is
-/// finished. Contracts see it as a `Draft`.
+/// The buffer has the head and the tags. The rate, the container and the time are fields of the draft until `into_text`
+/// or `into_bytes` writes them. Contracts see the value as a `Draft` of the definitions.
 #[derive(Drop)]
 pub struct DraftLine<'a, A: Allocator = Global> {
-    line: Filled<A>,
+    line: LineBuf<A>,
     head: usize,
     container: Option<&'a str>,
     time: Option<u64>,
@@ -146,19 +82,19 @@ pub struct DraftLine<'a, A: Allocator = Global> {
 
 impl<'a, A: Allocator> Model for DraftLine<'a, A> {
     ghost use Rattle.cadence_text.specs.Draft.{Draft};
-    ghost use Rattle.cadence_text.specs.DraftParts.{IsCutAt, draft_seen};
+    ghost use Rattle.cadence_text.specs.DraftParts.{IsCutAt, draft_of_inside};
 
     ghost Value = { Draft };
 
-    ghost view = { draft_seen };
+    ghost view = { draft_of_inside };
 
     ghost invariant = { λ d. IsCutAt d.head d.line.bytes.items };
 }
 
-// The draft whose head and tags are written into an empty line that has the room.
+// Writes a head and the text of tags into an empty buffer, and returns the draft of them.
 #[inline(always)]
 fn written<'a, A: Allocator, B: Allocator>(
-    line: Filled<A>,
+    line: LineBuf<A>,
     first: usize,
     head: &Head<'_, B>,
     tags: &str,
@@ -168,7 +104,7 @@ fn written<'a, A: Allocator, B: Allocator>(
     requires first { first ≡ length (text_of_head head.now) }
     requires room { first + length tags.now ≤ line.end }
     ensures draft { result ≡ draft_of_head head.now tags.now (option_copied container.entry) }
-    ensures said { IsSaidHead head.now }
+    ensures said { IsRepresentableHead head.now }
 {
     let mut line = line;
     push_head(&mut line, head);
@@ -182,7 +118,7 @@ fn written<'a, A: Allocator, B: Allocator>(
     }
 }
 
-// The length of a head, and with it the room for the head, for these tags and for so many bytes more.
+// Returns the length of a head, and the length of the head with the text of tags and `more` bytes.
 #[inline(always)]
 fn room_for<B: Allocator>(
     head: &Head<'_, B>,
@@ -202,8 +138,10 @@ fn room_for<B: Allocator>(
 }
 
 impl<'a, A: Allocator> DraftLine<'a, A> {
-    /// A draft of this head, with a text of tags that is taken as it stands, a container, and neither rate nor time.
-    /// Takes memory once, for its text and so many bytes more.
+    /// Returns the draft of a head, of tags that are text already and of a container, without a rate and a time. It
+    /// takes memory once, for the text and for `more` bytes, so that tags of that length take none.
+    ///
+    /// The only error is that memory ran out or that the length passes `usize::MAX`.
     #[inline(always)]
     pub fn new<B: Allocator>(
         alloc: A,
@@ -214,15 +152,15 @@ impl<'a, A: Allocator> DraftLine<'a, A> {
     ) -> Result<DraftLine<'a, A>, AllocError>
         ensures draft { IfOk result (λ draft.
             draft ≡ draft_of_head head.now tags.now (option_copied container.entry)) }
-        ensures said { OnOk result (IsSaidHead head.now) }
+        ensures said { OnOk result (IsRepresentableHead head.now) }
     {
         let (first, room) = room_for(head, tags, more)?;
-        let line = Filled::with_room(alloc, room)?;
+        let line = LineBuf::with_room(alloc, room)?;
         Ok(written(line, first, head, tags, container))
     }
 
-    /// As `new`, in a kept buffer, which loses its text. It takes memory only if the buffer is too short. If memory is
-    /// refused, the buffer is given back to its allocator.
+    /// Returns the draft that `new` returns, but writes it into a buffer of the caller's, whose text is lost. It takes
+    /// memory only if the buffer is too short. After an error the buffer is freed.
     #[inline(always)]
     pub fn in_buffer<B: Allocator>(
         buffer: Vec<u8, A>,
@@ -233,29 +171,29 @@ impl<'a, A: Allocator> DraftLine<'a, A> {
     ) -> Result<DraftLine<'a, A>, AllocError>
         ensures draft { IfOk result (λ draft.
             draft ≡ draft_of_head head.now tags.now (option_copied container.entry)) }
-        ensures said { OnOk result (IsSaidHead head.now) }
+        ensures said { OnOk result (IsRepresentableHead head.now) }
     {
         let (first, room) = room_for(head, tags, more)?;
-        let line = Filled::in_buffer(buffer, room)?;
+        let line = LineBuf::in_buffer(buffer, room)?;
         Ok(written(line, first, head, tags, container))
     }
 
-    /// Adds a tag, after those that are there. Takes memory if the room is used up; if that is refused, the draft is as
-    /// it was.
+    /// Adds a tag after the tags that the draft has. It takes memory if the buffer has no room left. After an error,
+    /// which says that memory ran out, the draft is unchanged.
     #[inline(always)]
-    #[tactic(auto, using(crate::proofs::Drafts::tag_of_metric))]
+    #[tactic(auto, using(crate::proofs::DraftText::tag_of_metric))]
     pub fn add_tag(&mut self, tag: Tag<'_>) -> Result<(), AllocError>
         ensures ok { OnOk result (self.new ≡ with_tag_text self.old (tag_of tag.entry)) }
         ensures metric { OnOk result ((m : Metric) → self.old ≡ draft_of m →
             self.new ≡ draft_of (with_tag m (tag_of tag.entry))) }
-        ensures said { OnOk result (IsSaidTag (tag_of tag.entry)) }
+        ensures said { OnOk result (IsRepresentableTag (tag_of tag.entry)) }
         ensures err { OnErr result (self.new ≡ self.old) }
     {
         let begun = self.line.len() > self.head;
         add_to(&mut self.line, begun, &tag)
     }
 
-    /// Sets the sampling rate, in place of an earlier one. It isn't checked to lie between 0 and 1.
+    /// Sets the sampling rate, in place of an earlier one. The rate isn't checked to be between 0 and 1.
     #[inline]
     pub fn set_rate(&mut self, rate: Decimal)
         ensures rate { self.new ≡ record self.old { rate = Some rate } }
@@ -282,10 +220,10 @@ impl<'a, A: Allocator> DraftLine<'a, A> {
         self.time = Some(time);
     }
 
-    /// The line. It takes memory if the room that is left is too short for the rate, the container and the time. The
-    /// one error is want of memory.
+    /// Returns the finished line. It takes memory if the buffer has too little room for the rate, the container and the
+    /// time. The only error is that memory ran out; the draft is lost then.
     #[inline(always)]
-    #[tactic(auto, using(crate::proofs::Drafts::line_of_metric))]
+    #[tactic(auto, using(crate::proofs::DraftText::line_of_metric))]
     pub fn into_text(self) -> Result<String<A>, AllocError>
         ensures text { IfOk result (λ text. string_bytes text ≡ draft_line self.entry) }
         ensures metric { IfOk result (λ text. (m : Metric) → self.entry ≡ draft_of m →
@@ -294,9 +232,10 @@ impl<'a, A: Allocator> DraftLine<'a, A> {
         Ok(self.finish()?.into_text())
     }
 
-    /// The line as bytes, as `into_text`.
+    /// Returns the finished line as bytes, so that a caller can use their buffer for the next line. The error is the one
+    /// of `into_text`.
     #[inline(always)]
-    #[tactic(auto, using(crate::proofs::Drafts::line_of_metric))]
+    #[tactic(auto, using(crate::proofs::DraftText::line_of_metric))]
     pub fn into_bytes(self) -> Result<Vec<u8, A>, AllocError>
         ensures text { IfOk result (λ line. line.items ≡ draft_line self.entry) }
         ensures metric { IfOk result (λ line. (m : Metric) → self.entry ≡ draft_of m →
@@ -305,9 +244,9 @@ impl<'a, A: Allocator> DraftLine<'a, A> {
         Ok(self.finish()?.into_bytes())
     }
 
-    // The line with its options.
+    // Writes the options, and returns the finished line.
     #[inline(always)]
-    fn finish(self) -> Result<Filled<A>, AllocError>
+    fn finish(self) -> Result<LineBuf<A>, AllocError>
         ensures { IfOk result (λ line. line.bytes.items ≡ draft_line self.entry) }
     {
         let DraftLine {
@@ -326,9 +265,25 @@ impl<'a, A: Allocator> DraftLine<'a, A> {
     }
 }
 
-// Writes a rate between the head of a line and its tags: first at the end, and then the tags move behind it.
+// Writes a rate at the end of a line.
+fn add_rate<A: Allocator>(line: &mut LineBuf<A>, rate: &Option<Rate>) -> Result<(), AllocError>
+    requires { 0 < length line.old.bytes.items }
+    ensures { OnOk result (line.new.bytes.items ≡ line.old.bytes.items ++ rate_field rate.now) }
+{
+    let mut counter = LengthCounter::new();
+    push_kept_rate(&mut counter, rate);
+    let Ok(length) = usize::try_from(counter.length()) else {
+        return Err(AllocError);
+    };
+    line.reserve(length)?;
+    push_kept_rate(line, rate);
+    Ok(())
+}
+
+// Writes a rate between the head of a line and its tags. A rate may be set after tags were added, so it is written at
+// the end first, and then the tags are moved behind it.
 fn insert_rate<A: Allocator>(
-    line: &mut Filled<A>,
+    line: &mut LineBuf<A>,
     head: usize,
     rate: &Option<Rate>,
 ) -> Result<(), AllocError>
@@ -337,18 +292,12 @@ fn insert_rate<A: Allocator>(
         ++ (rate_field rate.now ++ drop head line.old.bytes.items)) }
 {
     let tags = line.len() - head;
-    let mut counter = Counter::new();
-    push_kept_rate(&mut counter, rate);
-    let Ok(length) = usize::try_from(counter.length()) else {
-        return Err(AllocError);
-    };
-    line.reserve(length)?;
-    push_kept_rate(line, rate);
+    add_rate(line, rate)?;
     line.turn(head, tags);
     Ok(())
 }
 
-// The room that a container and a time take, if that fits memory.
+// Returns the length of the fields of a container and a time in bytes, or `None` if it passes `usize::MAX`.
 #[inline(always)]
 fn last_room(container: Option<&str>, time: Option<u64>) -> Option<usize>
     ensures { IfSome result (λ n. n ≡
@@ -364,10 +313,10 @@ fn last_room(container: Option<&str>, time: Option<u64>) -> Option<usize>
     }
 }
 
-// Writes a container and a time at the end of a line.
+// Writes the fields of a container and a time at the end of a line.
 #[inline(always)]
 fn end_with<A: Allocator>(
-    line: &mut Filled<A>,
+    line: &mut LineBuf<A>,
     container: Option<&str>,
     time: Option<u64>,
 ) -> Result<(), AllocError>

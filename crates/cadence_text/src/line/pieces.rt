@@ -1,19 +1,19 @@
-//! The pieces of a line, in order.
-ghost use Rattle.std.specs.Prelude.{◌++◌, ◌^◌, ◌<◌, ◌≤◌, IfSome, Some, codes, length, map};
+//! The functions that write the pieces of a line, in the order in which they are written.
+ghost use Rattle.std.specs.Prelude.{◌++◌, ◌^◌, ◌<◌, ◌≤◌, IfSome, Some, length, map};
 ghost use Rattle.std.specs.Option.{option_copied};
 ghost use Rattle.cadence_text.specs.Draft.{lead};
 ghost use Rattle.cadence_text.specs.Line.{container_field, rate_field, tag_text, tags_field, time_field};
 ghost use Rattle.cadence_value.specs.Number.{IsDecimal, number};
-ghost use Rattle.cadence_value.specs.Takes.{FitsMemory, Takes};
+ghost use Rattle.cadence_value.specs.Takes.{IsTextInMemory, Takes};
 ghost use Rattle.cadence_text.specs.Record.{tag_of};
-ghost use Rattle.cadence_text.specs.RecordMetric.{AreRecordTags, IsRecordTag, IsRecordTime};
+ghost use Rattle.cadence_text.specs.MetricInMemory.{AreTagsInMemory, IsTagInMemory, IsTimestamp};
 
 use crate::line::tag::Tag;
 use cadence_value::decimal::Decimal;
 use cadence_value::text::{LineSink, push_number};
 use core::mem;
 
-// What stands before a tag: a comma if another tag stands before it, and else the beginning of the tags.
+// Writes what comes before a tag: a comma after another tag, and `|#` before the first one.
 #[inline(always)]
 pub(crate) fn push_lead<S: LineSink>(line: &mut S, begun: bool)
     ensures { Takes S.ends_as line.old (lead begun) line.new }
@@ -29,7 +29,7 @@ pub(crate) fn push_lead<S: LineSink>(line: &mut S, begun: bool)
 #[inline(always)]
 pub(crate) fn push_tag<S: LineSink>(line: &mut S, tag: &Tag<'_>)
     ensures taken { Takes S.ends_as line.old (tag_text (tag_of tag.now)) line.new }
-    ensures sized { IsRecordTag (tag_of tag.now) }
+    ensures sized { IsTagInMemory (tag_of tag.now) }
 {
     if let Some(key) = tag.key {
         line.take_piece(key);
@@ -38,11 +38,32 @@ pub(crate) fn push_tag<S: LineSink>(line: &mut S, tag: &Tag<'_>)
     line.take_piece(tag.text);
 }
 
-// Returns the line with tags after it. `mem::replace_with` takes the line out of its place meanwhile, so that the
-// compiler keeps its end in a register; it wants a pair, hence the unit.
+#[inline(always)]
+fn line_with_tag<S: LineSink>(line: S, next: (bool, &Tag<'_>)) -> (S, ())
+    ensures taken { Takes S.ends_as line
+        (lead next.entry.0 ++ tag_text (tag_of next.entry.1.now)) result.0 }
+    ensures sized { IsTagInMemory (tag_of next.entry.1.now) }
+{
+    let mut line = line;
+    push_lead(&mut line, next.0);
+    push_tag(&mut line, next.1);
+    (line, ())
+}
+
+// Writes one tag and what stands before it. `mem::replace_with` moves the line into a local variable and back, so that
+// the compiler keeps the line's length in a register. It takes a function that returns a pair, hence the unit.
+#[inline(always)]
+pub(crate) fn push_next_tag<S: LineSink>(line: &mut S, begun: bool, tag: &Tag<'_>)
+    ensures taken { Takes S.ends_as line.old (lead begun ++ tag_text (tag_of tag.now)) line.new }
+    ensures sized { IsTagInMemory (tag_of tag.now) }
+{
+    mem::replace_with(line, (begun, tag), line_with_tag);
+}
+
+// Returns the line with tags at its end, for `mem::replace_with`, as `line_with_tag` does for one tag.
 fn line_with_tags<S: LineSink>(line: S, tags: &[Tag<'_>]) -> (S, ())
     ensures taken { Takes S.ends_as line (tags_field (map tag_of tags.now)) result.0 }
-    ensures sized { AreRecordTags (map tag_of tags.now) }
+    ensures sized { AreTagsInMemory (map tag_of tags.now) }
     ensures few { length (map tag_of tags.now) < 2 ^ 58 }
 {
     let Some((first, others)) = tags.split_first() else {
@@ -61,7 +82,7 @@ fn line_with_tags<S: LineSink>(line: S, tags: &[Tag<'_>]) -> (S, ())
 #[inline]
 pub(crate) fn push_tags<S: LineSink>(line: &mut S, tags: &[Tag<'_>])
     ensures taken { Takes S.ends_as line.old (tags_field (map tag_of tags.now)) line.new }
-    ensures sized { AreRecordTags (map tag_of tags.now) }
+    ensures sized { AreTagsInMemory (map tag_of tags.now) }
     ensures few { length (map tag_of tags.now) < 2 ^ 58 }
 {
     if !tags.is_empty() {
@@ -69,13 +90,13 @@ pub(crate) fn push_tags<S: LineSink>(line: &mut S, tags: &[Tag<'_>])
     }
 }
 
-// The container and the time, which end a line.
+// Writes the fields of a container and a time, which end a line.
 #[inline(always)]
 pub(crate) fn push_last<S: LineSink>(line: &mut S, container: Option<&str>, time: Option<u64>)
     ensures taken { Takes S.ends_as line.old
         (container_field (option_copied container.entry) ++ time_field time) line.new }
-    ensures container { IfSome (option_copied container.entry) FitsMemory }
-    ensures time { IsRecordTime time }
+    ensures container { IfSome (option_copied container.entry) IsTextInMemory }
+    ensures time { IsTimestamp time }
 {
     if let Some(container) = container {
         line.take_byte(b'|');
@@ -100,7 +121,7 @@ pub(crate) fn push_rate<S: LineSink>(line: &mut S, rate: Option<Decimal>)
     }
 }
 
-// A rate of `mantissa` over 10 to the power of `places`.
+// Writes the field of the rate `mantissa` over 10 to the power of `places`.
 #[inline]
 pub(crate) fn push_rate_of<S: LineSink>(line: &mut S, mantissa: i128, places: u8)
     requires { places ≤ 30 }

@@ -1,4 +1,4 @@
-//! A sampling rate, as a draft keeps it.
+//! A sampling rate, as a draft of a line stores it.
 ghost use Rattle.std.specs.Prelude.{◌≡◌, ◌≤◌, IfSome};
 ghost use Rattle.cadence_value.specs.Number.{IsDecimal};
 ghost use Rattle.cadence_text.specs.Line.{rate_field};
@@ -9,10 +9,11 @@ use cadence_value::decimal::Decimal;
 use cadence_value::text::LineSink;
 use std::marker::Model;
 
-const HALF: u128 = 18_446_744_073_709_551_616;
+// Two to the power of 64.
+const TWO_64: u128 = 1 << 64;
 
-/// A sampling rate, its mantissa in two halves of 64 bits: nothing of it lies at a multiple of 16 bytes, which keeps a
-/// draft short.
+/// A sampling rate. Its mantissa is stored in two halves of 64 bits, because an `i128` would have to lie at a multiple
+/// of 16 bytes, which makes a draft longer and slower to move.
 #[derive(Drop)]
 pub(crate) struct Rate {
     high: u64,
@@ -41,8 +42,8 @@ impl Rate {
     {
         let bits = rate.mantissa().cast_unsigned();
         Rate {
-            high: (bits / HALF) as u64,
-            low: (bits % HALF) as u64,
+            high: (bits / TWO_64) as u64,
+            low: (bits % TWO_64) as u64,
             places: rate.places(),
         }
     }
@@ -51,7 +52,7 @@ impl Rate {
     fn mantissa(&self) -> i128
         ensures { result ≡ self.now.mantissa }
     {
-        (u128::from(self.high) * HALF + u128::from(self.low)).cast_signed()
+        (u128::from(self.high) * TWO_64 + u128::from(self.low)).cast_signed()
     }
 
     #[inline]
@@ -63,7 +64,7 @@ impl Rate {
     }
 }
 
-/// Pushes a kept rate, as it stands in a line.
+/// Writes the field of a stored rate, or nothing if there is none.
 #[inline]
 pub(crate) fn push_kept_rate<S: LineSink>(line: &mut S, rate: &Option<Rate>)
     ensures taken { Takes S.ends_as line.old (rate_field rate.now) line.new }

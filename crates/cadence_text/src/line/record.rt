@@ -1,10 +1,11 @@
-//! A metric before it is text.
+//! A metric as data: what its line is made of.
+
 mod owned;
 mod same;
 
 use crate::line::MetricType;
 use crate::line::draft::{Head, push_head};
-use crate::line::filled::{Counter, Filled};
+use crate::line::line_buf::{LengthCounter, LineBuf};
 use crate::line::pieces::{push_last, push_rate, push_tags};
 use crate::line::tag::Tag;
 use cadence_errors::MetricResult;
@@ -15,10 +16,14 @@ pub use owned::OwnedMetric;
 use std::alloc::{AllocError, Allocator, Global};
 use std::marker::Model;
 
-/// A metric before it is text. A type of this project's own.
+/// A metric as data. It borrows its texts and has its numbers in the form in which they were given. Contracts see it as
+/// its metric, whose name is the prefix and then the key. The Rust crate has no such type.
 ///
-/// It borrows its texts and keeps its numbers in the form that they came in. Contracts see it as its metric: the
-/// name is the prefix followed by the key.
+/// ```
+/// let mut record = Record::new(alloc, "app.", "visits", MetricType::Counter, MetricValue::Signed(1));
+/// record.add_tag(Tag { key: Some("page"), text: "home" })?;
+/// let line = record.format(alloc)?; // app.visits:1|c|#page:home
+/// ```
 #[derive(Drop)]
 pub struct Record<'a, A: Allocator = Global> {
     head: Head<'a, A>,
@@ -39,21 +44,21 @@ impl<'a, A: Allocator> Model for Record<'a, A> {
 }
 
 impl<'a, A: Allocator> Record<'a, A> {
-    ghost use Rattle.std.specs.Prelude.{◌≡◌, ◌++◌, ◌<◌, ◌^◌, [], Some, SomeIff, OnOk, OnErr, IfOk, IfErr, length, map};
+    ghost use Rattle.std.specs.Prelude.{◌≡◌, ◌++◌, ◌<◌, ◌^◌, [], Some, SomeIff, OnOk, OnErr, IfOk, length, map};
     ghost use Rattle.std.specs.Option.{option_copied};
     ghost use Rattle.std.specs.String.{string_bytes};
     ghost use Rattle.std.specs.Vec.{vec_capacity};
-    ghost use Rattle.cadence_errors.specs.Errors.{OnlyWantsMemory};
+    ghost use Rattle.cadence_errors.specs.Errors.{MayOnlyRunOutOfMemory};
     ghost use Rattle.cadence_text.specs.Line.{line_of};
     ghost use Rattle.cadence_text.specs.Metric.{Metric, plain_metric, with_tag};
     ghost use Rattle.cadence_text.specs.Record.{tag_of};
-    ghost use Rattle.cadence_text.specs.RecordMetric.{IsRecordMetric};
-    ghost use Rattle.cadence_text.specs.Said.{IsSaid};
+    ghost use Rattle.cadence_text.specs.MetricInMemory.{IsMetricInMemory};
+    ghost use Rattle.cadence_text.specs.Representable.{IsRepresentable};
     ghost use Rattle.cadence_value.specs.Takes.{Takes};
     ghost use Rattle.cadence_value.specs.Values.{numbers_of};
 
-    /// A record without rate, tags, container and time. The name is the prefix as it stands, followed by the key.
-    /// Takes no memory; `alloc` is for tags.
+    /// Returns a record without a rate, tags, a container and a time. The prefix is used as it is: no dot is added. It
+    /// takes no memory; `alloc` is for tags that are added later.
     pub fn new(
         alloc: A,
         prefix: &'a str,
@@ -66,7 +71,7 @@ impl<'a, A: Allocator> Record<'a, A> {
         Record::with_defaults(prefix, key, kind, value, Vec::new(alloc), None)
     }
 
-    /// A record with these tags and this container, and without rate and time, as `new` else. Takes no memory.
+    /// Returns a record with tags and a container, without a rate and a time. It takes no memory.
     #[inline]
     pub fn with_defaults(
         prefix: &'a str,
@@ -93,7 +98,8 @@ impl<'a, A: Allocator> Record<'a, A> {
         }
     }
 
-    /// Adds a tag, after those that are there. Where memory is refused, the record is as it was.
+    /// Adds a tag after the tags that the record has. After an error, which says that memory ran out, the record is
+    /// unchanged.
     #[inline]
     pub fn add_tag(&mut self, tag: Tag<'a>) -> Result<(), AllocError>
         ensures ok { OnOk result (self.new ≡ with_tag self.old (tag_of tag.entry)) }
@@ -103,7 +109,7 @@ impl<'a, A: Allocator> Record<'a, A> {
         Ok(())
     }
 
-    /// Sets the sampling rate, in place of an earlier one. It isn't checked to lie between 0 and 1.
+    /// Sets the sampling rate, in place of an earlier one. The rate isn't checked to be between 0 and 1.
     pub fn set_rate(&mut self, rate: Decimal)
         ensures { self.new ≡ record self.old { rate = Some rate } }
     {
@@ -128,7 +134,7 @@ impl<'a, A: Allocator> Record<'a, A> {
     #[tactic(auto, using(std::proofs::lemmas::Grind::common_steps), unfolding(crate::specs::Line::line_of))]
     fn push_line<S: LineSink>(&self, line: &mut S)
         ensures taken { Takes S.ends_as line.old (line_of self.now) line.new }
-        ensures sized { IsRecordMetric self.now }
+        ensures sized { IsMetricInMemory self.now }
     {
         push_head(line, &self.head);
         push_rate(line, self.rate);
@@ -136,9 +142,8 @@ impl<'a, A: Allocator> Record<'a, A> {
         push_last(line, self.container, self.time);
     }
 
-    /// The length of the line in bytes, without making it. Takes no memory.
-    ///
-    /// It is `None` exactly where the length passes `usize::MAX`.
+    /// Returns the length of the line in bytes, without making the line. It returns `None` just if the length passes
+    /// `usize::MAX`. It takes no memory.
     #[inline(always)]
     pub fn line_len(&self) -> Option<usize>
         ensures { SomeIff result (length (line_of self.now) < 2 ^ 64) (length (line_of self.now)) }
@@ -146,19 +151,19 @@ impl<'a, A: Allocator> Record<'a, A> {
         usize::try_from(self.counted()).ok()
     }
 
-    // The length of the line, which no line of a record passes.
+    // Returns the length of the line in bytes. The line of every record is shorter than 2 to the 128.
     #[inline(always)]
     fn counted(&self) -> u128
         ensures { result ≡ length (line_of self.now) }
     {
-        let mut counter = Counter::new();
+        let mut counter = LengthCounter::new();
         self.push_line(&mut counter);
         counter.length()
     }
 
-    // Room for the line, by one request for just its length.
+    // Returns a buffer of just the length of the line.
     #[inline(always)]
-    fn reserved<B: Allocator>(&self, alloc: B) -> Result<Filled<B>, AllocError>
+    fn reserved<B: Allocator>(&self, alloc: B) -> Result<LineBuf<B>, AllocError>
         ensures empty { IfOk result (λ f. f.bytes.items ≡ []) }
         ensures end { IfOk result (λ f. f.end ≡ length (line_of self.now)) }
         ensures exact { IfOk result (λ f. vec_capacity f.bytes ≡ length (line_of self.now)) }
@@ -166,21 +171,18 @@ impl<'a, A: Allocator> Record<'a, A> {
         let Some(length) = self.line_len() else {
             return Err(AllocError);
         };
-        Filled::with_room(alloc, length)
+        LineBuf::with_room(alloc, length)
     }
 
-    /// The line of the record's metric, which is never empty. Takes memory for the line alone, by one request for just
-    /// its length (`line_len`).
+    /// Returns the line of the record's metric, which is never empty. Its fields have this order: name, numbers, type
+    /// text, rate, tags, container, time. It takes memory once, just the length of the line (`line_len`).
     ///
-    /// The fields stand in cadence's order: name, numbers, type text, rate, tags, container, time.
-    ///
-    /// The one error is `SinkError::OutOfMemory`: the request was refused, or the length passes `usize::MAX`. The record
-    /// stays as it was.
+    /// The only error is `SinkError::OutOfMemory`: memory ran out, or the length passes `usize::MAX`.
     #[tactic(auto, using(crate::proofs::LineText::line_is_not_empty, crate::proofs::LineLength::record_said))]
     pub fn format<B: Allocator>(&self, alloc: B) -> MetricResult<String<B>>
         ensures line { IfOk result (λ line. string_bytes line ≡ line_of self.now) }
-        ensures refused { OnlyWantsMemory result }
-        ensures said { OnOk result (IsSaid self.now) }
+        ensures refused { MayOnlyRunOutOfMemory result }
+        ensures said { OnOk result (IsRepresentable self.now) }
         ensures not_empty { 0 < length (line_of self.now) }
     {
         let mut line = self.reserved(alloc)?;

@@ -1,24 +1,28 @@
-//! Tags.
+//! Tags, borrowed and owned.
 ghost use Rattle.std.specs.Prelude.{◌≡◌, IfOk, map};
 ghost use Rattle.cadence_text.specs.Owned.{tag_of_owned};
 ghost use Rattle.cadence_text.specs.Record.{tag_of};
 
 use std::alloc::{AllocError, Allocator, Global};
 
-/// A tag, as in DogStatsD: its key, if it has one, and its text. It prints as `key:text`, or as its text alone. Neither
-/// is escaped or checked.
+/// A tag: a label of a metric, such as `route:home`, by which a server can group and filter. Tags are DogStatsD's.
+///
+/// A line shows it as `key:text`, or as the text alone if it has no key. Neither is escaped or checked: with a comma, a
+/// bar or a newline in it, a server reads the line differently.
 #[derive(Clone, Copy, Debug)]
 pub struct Tag<'a> {
+    /// The key, if the tag has one.
     pub key: Option<&'a str>,
+    /// The text after the key, or the whole tag if it has no key.
     pub text: &'a str,
 }
 
-/// A tag that owns its texts: its key, if it has one, and its text.
+/// A tag that owns its texts: the key, if it has one, and the text. `Tag` explains them.
 pub type OwnedTag<A = Global> = (Option<String<A>>, String<A>);
 
-/// The tag, lent by the one that owns it.
+/// Returns the tag that borrows the texts of an owned tag.
 #[inline]
-pub fn lend<A: Allocator>(tag: &OwnedTag<A>) -> Tag<'_>
+pub fn lend_tag<A: Allocator>(tag: &OwnedTag<A>) -> Tag<'_>
     ensures { tag_of result ≡ tag_of_owned tag.now }
 {
     Tag {
@@ -27,7 +31,8 @@ pub fn lend<A: Allocator>(tag: &OwnedTag<A>) -> Tag<'_>
     }
 }
 
-/// The tags, lent. Their list takes memory once.
+/// Returns the tags that borrow the texts of owned tags. Allocates one list, and returns `AllocError` if memory runs
+/// out.
 pub fn lend_tags<A: Allocator>(
     alloc: A,
     tags: &[OwnedTag<A>],
@@ -36,7 +41,7 @@ pub fn lend_tags<A: Allocator>(
 {
     let mut lent = Vec::with_capacity(alloc, tags.len())?;
     for tag in tags {
-        lent.push(lend(tag))?;
+        lent.push(lend_tag(tag))?;
     }
     Ok(lent)
 }

@@ -1,12 +1,14 @@
-//! A part of a line, made without memory.
+//! A window on a part of a line. The line is written to it without being stored as a whole, so it takes no memory.
 ghost use Rattle.std.specs.Prelude.{◌≡◌, ◌≤◌, []};
 
 use cadence_value::text::{ByteSink, LineSink, push_digits, push_wide_digits};
 
-/// The most bytes that a window shows.
+/// The most bytes that a window stores.
 pub(crate) const WINDOW: usize = 512;
 
-/// The bytes of a line after those that it skips, up to `WINDOW` of them.
+/// A part of a line: up to `WINDOW` bytes of it, after the bytes that the window skips.
+///
+/// `skip` is how many of the bytes that come next are still to be skipped.
 #[derive(Clone, Copy)]
 pub(crate) struct Window {
     bytes: [u8; WINDOW],
@@ -19,6 +21,7 @@ impl Window {
     ghost use Rattle.cadence_value.specs.Takes.{Takes};
     ghost use Rattle.cadence_text.specs.Sink.{window_ends, window_text};
 
+    // Returns an empty window that skips this many bytes.
     pub(crate) fn after(skip: u128) -> Window
         ensures shown { window_text result ≡ [] }
         ensures skip { result.skip ≡ skip }
@@ -31,13 +34,14 @@ impl Window {
         }
     }
 
+    // Returns the bytes that the window has stored.
     pub(crate) fn shown(&self) -> &[u8]
         ensures { result.now ≡ window_text self.now }
     {
         &self.bytes[..self.length]
     }
 
-    // Shows these bytes too, as far as there is room.
+    // Stores these bytes, as far as there is room. No more bytes are to be skipped.
     fn show(&mut self, text: &[u8])
         requires { self.old.skip ≡ 0 }
         ensures { Takes window_ends self.old text.now self.new }
@@ -48,6 +52,7 @@ impl Window {
         self.length = end;
     }
 
+    // Takes the next bytes of the line: skips those that are still to be skipped, and stores the others.
     fn pass(&mut self, text: &[u8])
         ensures { Takes window_ends self.old text.now self.new }
     {

@@ -1,14 +1,15 @@
-//! Decimals from their texts.
-ghost use Rattle.std.specs.Prelude.{Bool, true, false, if◌then◌else◌, codes, [], slice_index, ℕ, ◌≡◌, ◌≢◌, ◌∷◌, ◌++◌, ◌-◌, ◌<◌, ◌≤◌, ◌^◌, ◌↔◌, All, IfNone, IfSome, IsTrue, SomeIff, length, replicate, unsigned_abs, FitsSigned};
+//! Reads decimals from texts. `read_number` reads only the text that a decimal prints, and `FromStr` also reads zeros
+//! at the end of the places.
+ghost use Rattle.std.specs.Prelude.{Bool, true, false, if◌then◌else◌, codes, [], slice_index, ℕ, ◌≡◌, ◌≢◌, ◌∷◌, ◌++◌, ◌-◌, ◌<◌, ◌≤◌, ◌^◌, ◌↔◌, All, IsTrue, SomeIff, length, replicate, unsigned_abs, FitsSigned};
 ghost use mir.Syntax.{w128};
 ghost use Rattle.std.specs.Int.{is_negative};
 ghost use Rattle.std.specs.Str.Parse.{AllDigits, IsNumeral, digits_value};
 ghost use Rattle.cadence_errors.specs.Errors.{IsInvalid};
-ghost use Rattle.cadence_value.specs.Digits.{ArePlain, EndsPlain, ReadsDigits, size_of};
+ghost use Rattle.cadence_value.specs.Digits.{ArePlain, EndsPlain, ReadsDigits, joined_digits};
 ghost use Rattle.cadence_value.specs.Magnitude.{IsMagnitude, magnitude_text};
 ghost use Rattle.cadence_value.specs.Number.{decimal_text, is_lowest, number, number_text, IsDecimal};
-ghost use Rattle.cadence_value.specs.Reads.{Reads};
-ghost use Rattle.cadence_value.specs.Said.{ReadsDecimal};
+ghost use Rattle.cadence_value.specs.Finds.{Reads};
+ghost use Rattle.cadence_value.specs.DenotedNumber.{ReadsDecimal};
 
 use super::{Decimal, MAX_PLACES, power_of_ten};
 use crate::bytes::cut;
@@ -17,15 +18,15 @@ use std::error::Error;
 use std::fmt;
 use std::str::FromStr;
 
-/// Why a text is read as no decimal.
+/// Why a text can't be read as a `Decimal`.
 #[derive(Clone, Copy, Debug, PartialEq, Eq)]
 pub enum ParseDecimalError {
-    /// It is no number's text: an optional minus, digits without a needless zero before them, and, where there is a
-    /// dot, digits after it. There is no minus before zero.
+    /// The text is not a number. A number is an optional minus, digits without needless zeros in front, and optionally
+    /// a dot with at least one digit after it. Zero has no minus.
     NotANumber,
-    /// The number's lowest form has more than `MAX_PLACES` places.
+    /// The text is a number, but its lowest form has more than `MAX_PLACES` digits after the dot.
     TooManyPlaces,
-    /// The whole number of the lowest form passes 128 bits.
+    /// The text is a number, but the mantissa of its lowest form does not fit an `i128`.
     TooLarge,
 }
 
@@ -47,7 +48,7 @@ impl fmt::Display for ParseDecimalError {
 
 impl Error for ParseDecimalError {}
 
-/// Of kind `InvalidInput`, with the error's text.
+/// Makes an error of kind `InvalidInput` with the text of this error.
 impl From<ParseDecimalError> for MetricError {
     ghost from_gives = { λ _ e. IsInvalid e };
 
@@ -56,7 +57,8 @@ impl From<ParseDecimalError> for MetricError {
     }
 }
 
-// The number that digits say, also with zeros before them.
+// Returns the number that digits denote, also with zeros in front. `None` if the text is not digits or the number does
+// not fit 128 bits.
 #[tactic(auto, using(crate::proofs::DigitsRead::numeral_utf8))]
 fn read_long(text: &[u8]) -> Option<u128>
     ensures { SomeIff result (IsNumeral 10 text.now × (digits_value 10 text.now < 2 ^ 128))
@@ -69,10 +71,10 @@ fn read_long(text: &[u8]) -> Option<u128>
     digits.parse().ok()
 }
 
-/// The most digits whose number is read in 64 bits.
+// The most digits that are read in 64 bits: 18 digits always fit.
 const SHORT: usize = 18;
 
-// The number that up to 18 digits say.
+// Returns the number that up to 18 digits denote.
 fn read_short(text: &[u8]) -> Option<u64>
     requires { length text.now ≤ 18 }
     ensures { SomeIff result (AllDigits 10 text.now) (digits_value 10 text.now) }
@@ -87,7 +89,7 @@ fn read_short(text: &[u8]) -> Option<u64>
     Some(value)
 }
 
-// The number that digits say, also with zeros before them. Mostly there are few.
+// Does the same as `read_long`, and reads short texts, which are the most frequent, faster.
 fn read_digits(text: &[u8]) -> Option<u128>
     ensures { SomeIff result (IsNumeral 10 text.now × (digits_value 10 text.now < 2 ^ 128))
         (digits_value 10 text.now) }
@@ -102,8 +104,8 @@ fn read_digits(text: &[u8]) -> Option<u128>
     Some(u128::from(value))
 }
 
-/// The whole number that is printed as this text: digits without a sign, and with no zero before other digits. Takes no
-/// memory. `None` where none is that 128 bits hold.
+/// Returns the whole number that prints as this text: digits without a sign, and without a zero before other digits.
+/// Returns `None` if the text is none of these, or if the number does not fit 128 bits. Takes no memory.
 pub fn read_whole(text: &[u8]) -> Option<u128>
     ensures { Reads (λ n. n < 2 ^ 128) decimal_text text.now result }
 {
@@ -113,7 +115,7 @@ pub fn read_whole(text: &[u8]) -> Option<u128>
     read_digits(text)
 }
 
-// A size and its places, which are printed as these two texts with a dot between them.
+// Returns the magnitude and the places of the number that prints as these two texts with a dot between them.
 fn read_dotted(whole: &[u8], fraction: &[u8]) -> Option<(u128, u8)>
     requires { All (λ byte. byte ≢ 46) whole.now }
     ensures { Reads IsMagnitude (λ m. magnitude_text m.0 m.1)
@@ -131,7 +133,7 @@ fn read_dotted(whole: &[u8], fraction: &[u8]) -> Option<(u128, u8)>
     Some((size, places))
 }
 
-// The size and the places of a number that is printed so, but for its sign.
+// Returns the magnitude and the places of the number that prints as this text without a sign.
 fn read_magnitude(text: &[u8]) -> Option<(u128, u8)>
     ensures { Reads IsMagnitude (λ m. magnitude_text m.0 m.1) text.now result }
 {
@@ -142,8 +144,8 @@ fn read_magnitude(text: &[u8]) -> Option<(u128, u8)>
     read_dotted(whole, fraction)
 }
 
-// The number of this size, below zero or not. Zero isn't below zero.
-fn signed(is_below: bool, size: u128) -> Option<i128>
+// Returns the signed number of this magnitude. `None` for a negative zero, or if the number does not fit 128 bits.
+fn signed_number(is_below: bool, size: u128) -> Option<i128>
     ensures { Reads {Y = Bool × ℕ} (FitsSigned w128) (λ z. (is_negative z, unsigned_abs z))
         (is_below, size) result }
 {
@@ -156,7 +158,7 @@ fn signed(is_below: bool, size: u128) -> Option<i128>
     0i128.checked_sub_unsigned(size)
 }
 
-// Whether a minus stands first, and what stands after it.
+// Returns whether the text begins with a minus, and the text without that minus.
 fn cut_sign(text: &[u8]) -> (bool, &[u8])
     ensures whole { text.now ≡ (if result.0 then codes "-" else []) ++ result.1.now }
     ensures first { result.0 ≡ false → slice_index text.now 0 ≢ 45 }
@@ -167,8 +169,8 @@ fn cut_sign(text: &[u8]) -> (bool, &[u8])
     }
 }
 
-// This number over 10 to the power of `places`, where it is in lowest form.
-fn in_lowest_form(mantissa: i128, places: u8) -> Option<Decimal>
+// Returns the decimal with this mantissa and these places, or `None` if they are not in lowest form.
+fn decimal_in_lowest_form(mantissa: i128, places: u8) -> Option<Decimal>
     requires { places ≤ 30 }
     ensures { SomeIff result (is_lowest mantissa places ≡ true) (number mantissa places) }
 {
@@ -181,18 +183,20 @@ fn in_lowest_form(mantissa: i128, places: u8) -> Option<Decimal>
     Some(Decimal { mantissa, places })
 }
 
-/// The decimal that prints as this text. Takes no memory. `None` where none does: each decimal has one text, so with
-/// needless zeros, a plus, a minus before zero, or nothing on a side of the dot there is none.
+/// Returns the decimal that prints as exactly this text. Takes no memory.
+///
+/// Returns `None` if no decimal prints so. Each decimal has one text, so a text with needless zeros, a plus, a minus
+/// before zero, or without digits on one side of the dot is not read. `FromStr` reads needless zeros at the end too.
 pub fn read_number(text: &[u8]) -> Option<Decimal>
     ensures { Reads IsDecimal number_text text.now result }
 {
     let (is_below, unsigned) = cut_sign(text);
     let (size, places) = read_magnitude(unsigned)?;
-    let mantissa = signed(is_below, size)?;
-    in_lowest_form(mantissa, places)
+    let mantissa = signed_number(is_below, size)?;
+    decimal_in_lowest_form(mantissa, places)
 }
 
-// Whether each byte is a digit.
+// Returns whether each byte is a digit.
 fn are_digits(text: &[u8]) -> bool
     ensures { IsTrue result ↔ AllDigits 10 text.now }
 {
@@ -204,7 +208,7 @@ fn are_digits(text: &[u8]) -> bool
     true
 }
 
-// Whether these are digits before a dot, without a needless zero, and digits after it.
+// Returns whether these are digits for both sides of a dot, without needless zeros in front.
 fn are_plain(whole: &[u8], fraction: &[u8]) -> bool
     ensures { IsTrue result ↔ ArePlain whole.now fraction.now }
 {
@@ -214,12 +218,12 @@ fn are_plain(whole: &[u8], fraction: &[u8]) -> bool
     are_digits(whole) && are_digits(fraction)
 }
 
-// The digits on both sides of a dot as one whole number.
+// Returns the digits on both sides of the dot as one whole number: 1250 for 12.50. `None` if it does not fit 128 bits.
 fn whole_of(whole: &[u8], fraction: &[u8]) -> Option<u128>
     requires plain { ArePlain whole.now fraction.now }
     requires places { length fraction.now ≤ 30 }
-    ensures { SomeIff result (size_of whole.now fraction.now < 2 ^ 128)
-        (size_of whole.now fraction.now) }
+    ensures { SomeIff result (joined_digits whole.now fraction.now < 2 ^ 128)
+        (joined_digits whole.now fraction.now) }
 {
     let size = read_digits(whole)?;
     if fraction.is_empty() {
@@ -230,8 +234,8 @@ fn whole_of(whole: &[u8], fraction: &[u8]) -> Option<u128>
         .checked_add(rest)
 }
 
-// The digits without the zeros at their end.
-fn without_zeros(digits: &[u8]) -> &[u8]
+// Returns the digits without the zeros at their end.
+fn trim_end_zeros(digits: &[u8]) -> &[u8]
     ensures zeros { digits.now ≡ result.now
         ++ replicate (length digits.now - length result.now) 48 }
     ensures plain { EndsPlain result.now }
@@ -243,7 +247,7 @@ fn without_zeros(digits: &[u8]) -> &[u8]
     &digits[..count]
 }
 
-// The decimal of a sign and of the digits on each side of a dot, the last of which is no zero.
+// Returns the decimal with this sign and these digits on each side of the dot. The last digit after the dot is not 0.
 fn number_of(is_below: bool, whole: &[u8], fraction: &[u8]) -> Result<Decimal, ParseDecimalError>
     requires { EndsPlain fraction.now }
     ensures { ReadsDigits is_below whole.now fraction.now result }
@@ -261,13 +265,13 @@ fn number_of(is_below: bool, whole: &[u8], fraction: &[u8]) -> Result<Decimal, P
     if is_below && size == 0 {
         return Err(ParseDecimalError::NotANumber);
     }
-    match signed(is_below, size) {
+    match signed_number(is_below, size) {
         Some(mantissa) => Ok(Decimal { mantissa, places }),
         None => Err(ParseDecimalError::TooLarge),
     }
 }
 
-// The decimal that a text says.
+// Returns the decimal that a text denotes, also if there are zeros at the end of its places.
 fn read(text: &[u8]) -> Result<Decimal, ParseDecimalError>
     ensures { ReadsDecimal text.now result }
 {
@@ -278,11 +282,12 @@ fn read(text: &[u8]) -> Result<Decimal, ParseDecimalError>
     if digits.is_empty() {
         return Err(ParseDecimalError::NotANumber);
     }
-    number_of(is_below, whole, without_zeros(digits))
+    number_of(is_below, whole, trim_end_zeros(digits))
 }
 
-/// The number whose text it is, exact, in lowest form: zeros at the end of the places are read. Takes no memory. Each
-/// other text is refused, by the first of the variants that fits.
+/// Reads the number exactly. Zeros at the end of the places are accepted: `"1.50"` is read as 1.5. Takes no memory.
+///
+/// If the text can't be read, the error is the first variant of `ParseDecimalError` that is true of it.
 impl FromStr for Decimal {
     type Err = ParseDecimalError;
 

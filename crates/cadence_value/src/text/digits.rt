@@ -1,11 +1,11 @@
-//! The digits of whole numbers, two at a time, and how many they are.
+//! Writes the digits of whole numbers, two at a time, and counts how many digits a number has.
 ghost use Rattle.std.specs.Prelude.{◌≡◌, ◌+◌, ◌/◌, ◌%◌, ◌<◌, ◌∷◌, [], length};
 ghost use Rattle.cadence_value.specs.Number.{decimal_text};
 ghost use Rattle.cadence_value.specs.Takes.{Takes};
 
 use crate::text::sink::ByteSink;
 
-// One digit.
+// Writes one digit.
 #[inline(always)]
 fn push_digit<S: ByteSink>(line: &mut S, digit: u64)
     requires { digit < 10 }
@@ -14,7 +14,7 @@ fn push_digit<S: ByteSink>(line: &mut S, digit: u64)
     line.put_byte(b'0' + digit as u8);
 }
 
-// Two digits, the first of which may be 0.
+// Writes two digits, also if the first one is 0.
 #[inline(always)]
 fn push_pair<S: ByteSink>(line: &mut S, pair: u64)
     requires { pair < 100 }
@@ -24,7 +24,7 @@ fn push_pair<S: ByteSink>(line: &mut S, pair: u64)
     push_digit(line, pair % 10);
 }
 
-// One digit or two.
+// Writes the one or two digits of a number below 100.
 #[inline(always)]
 fn push_first<S: ByteSink>(line: &mut S, number: u64)
     requires { number < 100 }
@@ -36,7 +36,7 @@ fn push_first<S: ByteSink>(line: &mut S, number: u64)
     push_pair(line, number);
 }
 
-// Up to four digits.
+// Writes the one to four digits of a number below 10,000.
 #[inline(always)]
 fn push_short<S: ByteSink>(line: &mut S, number: u64)
     requires { number < 10000 }
@@ -49,7 +49,7 @@ fn push_short<S: ByteSink>(line: &mut S, number: u64)
     push_pair(line, number % 100);
 }
 
-// Any number of digits.
+// Writes the digits of any number.
 #[inline(never)]
 fn push_long<S: ByteSink>(line: &mut S, number: u64)
     ensures { Takes S.ends_as line.old (decimal_text number) line.new }
@@ -62,7 +62,7 @@ fn push_long<S: ByteSink>(line: &mut S, number: u64)
     push_pair(line, number % 100);
 }
 
-/// The digits of a number, without leading zeros.
+/// Writes the digits of a number, without leading zeros.
 #[inline]
 pub fn push_digits<S: ByteSink>(line: &mut S, number: u64)
     ensures { Takes S.ends_as line.old (decimal_text number) line.new }
@@ -73,7 +73,7 @@ pub fn push_digits<S: ByteSink>(line: &mut S, number: u64)
     push_long(line, number);
 }
 
-/// The same of 128 bits.
+/// Writes the digits of a number of 128 bits, without leading zeros.
 pub fn push_wide_digits<S: ByteSink>(line: &mut S, number: u128)
     ensures { Takes S.ends_as line.old (decimal_text number) line.new }
 {
@@ -84,7 +84,7 @@ pub fn push_wide_digits<S: ByteSink>(line: &mut S, number: u128)
     push_pair(line, (number % 100) as u64);
 }
 
-/// How many digits a number has.
+/// Returns how many digits a number has. 0 has one digit.
 #[inline]
 pub fn number_len(number: u64) -> usize
     ensures { result ≡ length (decimal_text number) }
@@ -97,6 +97,7 @@ pub fn number_len(number: u64) -> usize
     count + short_len(left)
 }
 
+// Returns how many digits a number below 10,000 has.
 #[inline(always)]
 fn short_len(number: u64) -> usize
     requires { number < 10000 }
@@ -113,7 +114,7 @@ fn short_len(number: u64) -> usize
     }
 }
 
-/// The same of 128 bits.
+/// Returns how many digits a number of 128 bits has. 0 has one digit.
 pub fn wide_len(number: u128) -> usize
     ensures { result ≡ length (decimal_text number) }
 {

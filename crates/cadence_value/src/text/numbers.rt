@@ -1,7 +1,7 @@
-//! The text of a value: of its numbers, one after the other.
+//! Writes the text of a value: the texts of its numbers, with colons between them.
 ghost use Rattle.std.specs.Prelude.{◌≡◌, ◌++◌, ◌/◌, ◌%◌, ◌^◌, ◌<◌, ◌≤◌, ◌-◌, codes, map, replicate};
 ghost use Rattle.cadence_value.specs.Number.{IsDecimal, Number, decimal_text, number, number_text, numbers_text, places_text};
-ghost use Rattle.cadence_value.specs.Takes.{AreRecordNumbers, Takes};
+ghost use Rattle.cadence_value.specs.Takes.{AreNumbersInMemory, Takes};
 ghost use Rattle.cadence_value.specs.Values.{numbers_of};
 
 use crate::decimal;
@@ -11,8 +11,8 @@ use crate::text::sink::LineSink;
 use crate::value::MetricValue;
 use std::alloc::Allocator;
 
-// A number that has a text.
-trait Printed {
+// A number that can be written into a line. The ghost member says which number a value is.
+trait PushNumber {
     ghost number: { Self → Number };
 
     fn push_to<S: LineSink>(&self, line: &mut S)
@@ -20,13 +20,13 @@ trait Printed {
         ensures sized { IsDecimal (number self.now) };
 }
 
-impl Printed for i64 {
+impl PushNumber for i64 {
     ghost use Rattle.cadence_value.specs.Number.{whole};
 
     ghost number = { whole };
 
     #[inline]
-    #[tactic(auto, using(crate::proofs::WholeText::whole_text))]
+    #[tactic(auto, using(crate::proofs::WholeNumberText::whole_text))]
     fn push_to<S: LineSink>(&self, line: &mut S) {
         if *self < 0 {
             line.take_byte(b'-');
@@ -35,19 +35,19 @@ impl Printed for i64 {
     }
 }
 
-impl Printed for u64 {
+impl PushNumber for u64 {
     ghost use Rattle.cadence_value.specs.Number.{natural};
 
     ghost number = { natural };
 
     #[inline]
-    #[tactic(auto, using(crate::proofs::WholeText::whole_text))]
+    #[tactic(auto, using(crate::proofs::WholeNumberText::whole_text))]
     fn push_to<S: LineSink>(&self, line: &mut S) {
         line.take_number(*self);
     }
 }
 
-impl Printed for Decimal {
+impl PushNumber for Decimal {
     ghost number = { λ n. n };
 
     fn push_to<S: LineSink>(&self, line: &mut S) {
@@ -55,7 +55,7 @@ impl Printed for Decimal {
     }
 }
 
-/// Writes a whole number over 10 to the power of `places`.
+/// Writes the number `mantissa` divided by 10 to the power of `places`, with exactly `places` digits after the dot.
 pub fn push_number<S: LineSink>(line: &mut S, mantissa: i128, places: u8)
     requires { places ≤ 30 }
     ensures { Takes S.ends_as line.old (number_text (number mantissa places)) line.new }
@@ -74,7 +74,7 @@ fn power_of_ten(places: u8) -> u64
     10u64.pow(u32::from(places))
 }
 
-// A magnitude over 10 to the power of `places`. Most of them fit 64 bits, which are faster.
+// Writes `magnitude` divided by 10 to the power of `places`. Most magnitudes fit 64 bits, in which dividing is faster.
 fn push_magnitude<S: LineSink>(line: &mut S, magnitude: u128, places: u8)
     requires { places ≤ 30 }
     ensures { Takes S.ends_as line.old
@@ -94,7 +94,7 @@ fn push_magnitude<S: LineSink>(line: &mut S, magnitude: u128, places: u8)
     }
 }
 
-// The same of 64 bits.
+// Writes `magnitude` divided by 10 to the power of `places`, for a magnitude of 64 bits.
 fn push_small<S: LineSink>(line: &mut S, magnitude: u64, places: u8)
     requires { places ≤ 19 }
     ensures { Takes S.ends_as line.old
@@ -109,7 +109,7 @@ fn push_small<S: LineSink>(line: &mut S, magnitude: u64, places: u8)
     }
 }
 
-// A dot, and as many zeros as this many digits lack to so many places.
+// Writes a dot, and then the zeros that fill a fraction of `digits` digits up to `places` digits.
 fn push_dot<S: LineSink>(line: &mut S, places: u8, digits: usize)
     ensures { Takes S.ends_as line.old (codes "." ++ replicate (places - digits) 48) line.new }
 {
@@ -119,9 +119,10 @@ fn push_dot<S: LineSink>(line: &mut S, places: u8, digits: usize)
     }
 }
 
-fn push_list<S: LineSink, T: Printed>(line: &mut S, numbers: &[T])
+// Writes the numbers of a list, with a colon between each two.
+fn push_list<S: LineSink, T: PushNumber>(line: &mut S, numbers: &[T])
     ensures taken { Takes S.ends_as line.old (numbers_text (map T.number numbers.now)) line.new }
-    ensures sized { AreRecordNumbers (map T.number numbers.now) }
+    ensures sized { AreNumbersInMemory (map T.number numbers.now) }
 {
     let Some((first, others)) = numbers.split_first() else {
         return;
@@ -133,11 +134,11 @@ fn push_list<S: LineSink, T: Printed>(line: &mut S, numbers: &[T])
     }
 }
 
-/// Writes the numbers of a value, with a colon between each two.
+/// Writes the numbers of a value, with a colon between each two. An empty list writes nothing.
 #[inline]
 pub fn push_value<S: LineSink, A: Allocator>(line: &mut S, value: &MetricValue<A>)
     ensures taken { Takes S.ends_as line.old (numbers_text (numbers_of value.now)) line.new }
-    ensures sized { AreRecordNumbers (numbers_of value.now) }
+    ensures sized { AreNumbersInMemory (numbers_of value.now) }
 {
     match value {
         MetricValue::Signed(n) => n.push_to(line),

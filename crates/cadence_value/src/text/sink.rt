@@ -1,11 +1,12 @@
-//! What takes the pieces of a line.
+//! The traits of what a line is written to, piece by piece: a buffer, a counter of bytes, or a window on a part of the
+//! line. A sink here has nothing to do with the sinks that send metrics.
 ghost use Rattle.std.specs.Prelude.{◌<◌, List, ℕ, ◌∷◌, []};
 ghost use Rattle.cadence_value.specs.Number.{decimal_text};
-ghost use Rattle.cadence_value.specs.Takes.{FitsMemory, Takes};
+ghost use Rattle.cadence_value.specs.Takes.{IsTextInMemory, Takes};
 
-/// Takes ASCII bytes, one after the other: what digits are written to.
+/// Takes ASCII bytes, one after the other. Digits are written to it.
 pub trait ByteSink {
-    // what it ends with, where this text still comes
+    // The text that the sink ends with if this text still comes.
     ghost ends_as: { Self → List ℕ → List ℕ };
 
     /// Takes one byte.
@@ -16,24 +17,24 @@ pub trait ByteSink {
 
 /// Takes the pieces of a line, one after the other.
 pub trait LineSink {
-    // what it ends with, where this text still comes
+    // The text that the sink ends with if this text still comes.
     ghost ends_as: { Self → List ℕ → List ℕ };
 
     /// Takes a text.
     fn take_piece(&mut self, piece: &str)
         ensures taken { Takes ends_as self.old piece.now self.new }
-        ensures sized { FitsMemory piece.now };
+        ensures sized { IsTextInMemory piece.now };
 
     /// Takes an ASCII byte.
     fn take_byte(&mut self, byte: u8)
         requires { byte < 128 }
         ensures { Takes ends_as self.old (byte ∷ []) self.new };
 
-    /// Takes the digits of a number.
+    /// Takes the digits of a number, without leading zeros.
     fn take_number(&mut self, number: u64)
         ensures { Takes ends_as self.old (decimal_text number) self.new };
 
-    /// The same of 128 bits.
+    /// Takes the digits of a number of 128 bits.
     fn take_wide(&mut self, number: u128)
         ensures { Takes ends_as self.old (decimal_text number) self.new };
 }

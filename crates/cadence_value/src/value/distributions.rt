@@ -1,4 +1,4 @@
-//! What a distribution takes as its value.
+//! The values that a distribution accepts.
 ghost use Rattle.std.specs.Prelude.{[], ◌∷◌, List, map, Option, Some};
 ghost use Rattle.cadence_value.specs.Number.{Number, natural};
 ghost use Rattle.cadence_value.specs.Values.{Converts, ConvertsInPlace};
@@ -8,15 +8,18 @@ use crate::value::MetricValue;
 use cadence_errors::MetricResult;
 use std::alloc::Allocator;
 
-/// A value that a distribution takes. A caller's own type may have it: its implementation states a value's numbers, or
-/// none for a value that it refuses.
+/// A type whose values a distribution accepts: `u64`, `Decimal`, and lists of these.
+///
+/// You can implement it for a type of your own. The ghost member `numbers` states which numbers a value has, or that
+/// the value is refused. `MetricType` in `cadence_text` explains what a distribution is.
 pub trait ToDistributionValue<A: Allocator> {
-    // The numbers of a value, or none where it is refused.
+    // The numbers of a value, or `None` if the value is refused.
     ghost numbers: { Self → Option (List Number) };
 
-    /// The value with exactly its numbers.
+    /// Converts this into a value with exactly its numbers.
     ///
-    /// Refuses with kind `InvalidInput` exactly where a value has none to give, and else with want of memory alone.
+    /// Returns an error of kind `InvalidInput` if and only if the value is refused, and `SinkError::OutOfMemory` if
+    /// memory runs out.
     fn try_to_value(self) -> MetricResult<MetricValue<A>>
         ensures converts { Converts (numbers self) result };
 }

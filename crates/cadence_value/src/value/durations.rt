@@ -1,4 +1,4 @@
-//! Durations as numbers of whole units, cut off.
+//! Converts durations to whole milliseconds or nanoseconds. What is less than one unit is cut off.
 ghost use Rattle.std.specs.Prelude.{◌≡◌, ◌<◌, ◌^◌, ◌↔◌, [], ◌∷◌, map, IfOk, IsTrue, All};
 ghost use Rattle.cadence_errors.specs.Errors.{IsInvalid};
 ghost use Rattle.cadence_value.specs.Values.{Converts, ConvertsInPlace, count_in, numbers_in_u64};
@@ -8,7 +8,7 @@ use cadence_errors::{ErrorKind, MetricError, MetricResult};
 use std::alloc::{AllocError, Allocator};
 use std::time::Duration;
 
-// What durations are counted in.
+// The unit in which durations are counted.
 #[derive(Clone, Copy)]
 pub(crate) enum TimeUnit {
     Millisecond,
@@ -34,7 +34,7 @@ fn overflow() -> MetricError
     MetricError::from((ErrorKind::InvalidInput, "u64 overflow"))
 }
 
-// The count of one duration.
+// Returns one duration as a value in this unit, or an `InvalidInput` error if it does not fit 64 bits.
 #[inline]
 pub(crate) fn number_in<A: Allocator>(
     unit: TimeUnit,
@@ -56,7 +56,7 @@ fn all_fit(unit: TimeUnit, durations: &[Duration]) -> bool
         .all(|duration| unit.count(*duration) <= u128::from(u64::MAX))
 }
 
-// The counts of the durations, in room that is reserved once.
+// Returns the durations as numbers in this unit. The list allocates once, for all of them.
 fn counts<A: Allocator + Clone>(
     unit: TimeUnit,
     durations: &Vec<Duration, A>,
@@ -72,7 +72,8 @@ fn counts<A: Allocator + Clone>(
     Ok(numbers)
 }
 
-// The counts of a list of durations. That one of them passes `u64::MAX` is told before want of memory.
+// Returns a list of durations as a value in this unit. If one of them does not fit 64 bits, the error is
+// `InvalidInput`, because that is tested before any memory is asked for.
 pub(crate) fn numbers_in<A: Allocator + Clone>(
     unit: TimeUnit,
     durations: &Vec<Duration, A>,

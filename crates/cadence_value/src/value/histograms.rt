@@ -1,6 +1,6 @@
-//! What a histogram takes as its value.
+//! The values that a histogram accepts.
 ghost use Rattle.std.specs.Prelude.{[], ◌∷◌, List, map, Option, Some};
-ghost use Rattle.cadence_value.specs.Number.{Number, natural, whole};
+ghost use Rattle.cadence_value.specs.Number.{Number, natural};
 ghost use Rattle.cadence_value.specs.Values.{Converts, ConvertsInPlace, nanos_of, numbers_in_u64};
 
 use super::durations::{TimeUnit, number_in, numbers_in};
@@ -10,15 +10,18 @@ use cadence_errors::MetricResult;
 use std::alloc::Allocator;
 use std::time::Duration;
 
-/// A value that a histogram takes. A caller's own type may have it: its implementation states a value's numbers, or
-/// none for a value that it refuses.
+/// A type whose values a histogram accepts: `u64`, `Decimal`, `Duration`, and lists of these.
+///
+/// You can implement it for a type of your own. The ghost member `numbers` states which numbers a value has, or that
+/// the value is refused. `MetricType` in `cadence_text` explains what a histogram is.
 pub trait ToHistogramValue<A: Allocator> {
-    // The numbers of a value, or none where it is refused.
+    // The numbers of a value, or `None` if the value is refused.
     ghost numbers: { Self → Option (List Number) };
 
-    /// The value with exactly its numbers.
+    /// Converts this into a value with exactly its numbers.
     ///
-    /// Refuses with kind `InvalidInput` exactly where a value has none to give, and else with want of memory alone.
+    /// Returns an error of kind `InvalidInput` if and only if the value is refused, and `SinkError::OutOfMemory` if
+    /// memory runs out.
     fn try_to_value(self) -> MetricResult<MetricValue<A>>
         ensures converts { Converts (numbers self) result };
 }
@@ -67,7 +70,9 @@ impl<A: Allocator> ToHistogramValue<A> for Vec<Decimal, A> {
     }
 }
 
-/// The whole nanoseconds, cut off. Refused with the text `u64 overflow` exactly where they pass `u64::MAX`.
+/// Counts the whole nanoseconds and cuts off what is less than one. Takes no memory.
+///
+/// Returns an error of kind `InvalidInput` with the text `u64 overflow` if the count is more than `u64::MAX`.
 impl<A: Allocator> ToHistogramValue<A> for Duration {
     ghost numbers = { λ d. numbers_in_u64 (nanos_of d ∷ []) };
 
@@ -79,8 +84,10 @@ impl<A: Allocator> ToHistogramValue<A> for Duration {
     }
 }
 
-/// The whole nanoseconds, cut off. Refused with the text `u64 overflow` exactly where one of them passes `u64::MAX`,
-/// and else answers want of memory where the list's one growth is refused.
+/// Counts the whole nanoseconds of each duration and cuts off what is less than one. Allocates one list.
+///
+/// Returns an error of kind `InvalidInput` with the text `u64 overflow` if one of the counts is more than `u64::MAX`.
+/// Otherwise it returns `SinkError::OutOfMemory` if memory runs out.
 impl<A: Allocator + Clone> ToHistogramValue<A> for Vec<Duration, A> {
     ghost numbers = { λ v. numbers_in_u64 (map nanos_of v.items) };
 
@@ -89,7 +96,7 @@ impl<A: Allocator + Clone> ToHistogramValue<A> for Vec<Duration, A> {
     }
 }
 
-/// As a list that is handed over. The list is lent, so it is converted without a copy.
+/// Converts a borrowed list in the same way as an owned one, without a copy of the durations.
 impl<A: Allocator + Clone> ToHistogramValue<A> for &Vec<Duration, A> {
     ghost numbers = { λ v. numbers_in_u64 (map nanos_of v.now.items) };
 

@@ -1,4 +1,4 @@
-//! What counters, gauges, meters and sets take as their values.
+//! The values that counters, gauges, meters and sets accept.
 ghost use Rattle.std.specs.Prelude.{◌≡◌, [], ◌∷◌, List, Option, Some};
 ghost use Rattle.cadence_value.specs.Number.{Number, natural, whole};
 ghost use Rattle.cadence_value.specs.Values.{Converts, ConvertsInPlace, numbers_of};
@@ -8,31 +8,35 @@ use crate::value::MetricValue;
 use cadence_errors::MetricResult;
 use std::alloc::Allocator;
 
-/// A value that a counter takes. A caller's own type may have it: its implementation states a value's numbers, or none
-/// for a value that it refuses.
+/// A type whose values a counter accepts: `i64`, `i32`, `u64` and `u32`.
+///
+/// You can implement it for a type of your own. The ghost member `numbers` states which numbers a value has, or that
+/// the value is refused. `MetricType` in `cadence_text` explains what a counter is.
 pub trait ToCounterValue<A: Allocator> {
-    // The numbers of a value, or none where it is refused.
+    // The numbers of a value, or `None` if the value is refused.
     ghost numbers: { Self → Option (List Number) };
 
-    /// The value with exactly its numbers.
+    /// Converts this into a value with exactly its numbers.
     ///
-    /// Refuses with kind `InvalidInput` exactly where a value has none to give, and else with want of memory alone.
+    /// Returns an error of kind `InvalidInput` if and only if the value is refused, and `SinkError::OutOfMemory` if
+    /// memory runs out.
     fn try_to_value(self) -> MetricResult<MetricValue<A>>
         ensures converts { Converts (numbers self) result };
 }
 
-/// A whole number that a counter takes as it is, of no allocator's making, so that a number without a type, as in
-/// `client.count("key", 3)`, has its usual type.
+/// A whole number type that a counter accepts: `i64`, `i32`, `u64` and `u32`.
+///
+/// It does not name an allocator, so that the literal in `client.count("key", 3)` has Rust's default type, `i32`.
 pub trait WholeNumber {
-    // The number.
+    // The number that a value is.
     ghost number: { Self → Number };
 
-    /// The value of this number alone.
+    /// Returns the value that has this one number.
     fn to_value<A: Allocator>(self) -> MetricValue<A>
         ensures { numbers_of result ≡ number self ∷ [] };
 }
 
-/// `i64`, `i32`, `u64` and `u32`. Always succeeds.
+/// Converts `i64`, `i32`, `u64` and `u32`. It always succeeds.
 impl<A: Allocator, T: WholeNumber> ToCounterValue<A> for T {
     ghost numbers = { λ n. Some (T.number n ∷ []) };
 
@@ -80,15 +84,18 @@ impl WholeNumber for u32 {
     }
 }
 
-/// A value that a gauge takes. A caller's own type may have it: its implementation states a value's numbers, or none
-/// for a value that it refuses.
+/// A type whose values a gauge accepts: `u64` and `Decimal`.
+///
+/// You can implement it for a type of your own. The ghost member `numbers` states which numbers a value has, or that
+/// the value is refused. `MetricType` in `cadence_text` explains what a gauge is.
 pub trait ToGaugeValue<A: Allocator> {
-    // The numbers of a value, or none where it is refused.
+    // The numbers of a value, or `None` if the value is refused.
     ghost numbers: { Self → Option (List Number) };
 
-    /// The value with exactly its numbers.
+    /// Converts this into a value with exactly its numbers.
     ///
-    /// Refuses with kind `InvalidInput` exactly where a value has none to give, and else with want of memory alone.
+    /// Returns an error of kind `InvalidInput` if and only if the value is refused, and `SinkError::OutOfMemory` if
+    /// memory runs out.
     fn try_to_value(self) -> MetricResult<MetricValue<A>>
         ensures converts { Converts (numbers self) result };
 }
@@ -115,15 +122,18 @@ impl<A: Allocator> ToGaugeValue<A> for Decimal {
     }
 }
 
-/// A value that a meter takes. A caller's own type may have it: its implementation states a value's numbers, or none
-/// for a value that it refuses.
+/// A type whose values a meter accepts: `u64`.
+///
+/// You can implement it for a type of your own. The ghost member `numbers` states which numbers a value has, or that
+/// the value is refused. `MetricType` in `cadence_text` explains what a meter is.
 pub trait ToMeterValue<A: Allocator> {
-    // The numbers of a value, or none where it is refused.
+    // The numbers of a value, or `None` if the value is refused.
     ghost numbers: { Self → Option (List Number) };
 
-    /// The value with exactly its numbers.
+    /// Converts this into a value with exactly its numbers.
     ///
-    /// Refuses with kind `InvalidInput` exactly where a value has none to give, and else with want of memory alone.
+    /// Returns an error of kind `InvalidInput` if and only if the value is refused, and `SinkError::OutOfMemory` if
+    /// memory runs out.
     fn try_to_value(self) -> MetricResult<MetricValue<A>>
         ensures converts { Converts (numbers self) result };
 }
@@ -139,15 +149,18 @@ impl<A: Allocator> ToMeterValue<A> for u64 {
     }
 }
 
-/// A value that a set takes. A caller's own type may have it: its implementation states a value's numbers, or none for
-/// a value that it refuses.
+/// A type whose values a set accepts: `i64`.
+///
+/// You can implement it for a type of your own. The ghost member `numbers` states which numbers a value has, or that
+/// the value is refused. `MetricType` in `cadence_text` explains what a set is.
 pub trait ToSetValue<A: Allocator> {
-    // The numbers of a value, or none where it is refused.
+    // The numbers of a value, or `None` if the value is refused.
     ghost numbers: { Self → Option (List Number) };
 
-    /// The value with exactly its numbers.
+    /// Converts this into a value with exactly its numbers.
     ///
-    /// Refuses with kind `InvalidInput` exactly where a value has none to give, and else with want of memory alone.
+    /// Returns an error of kind `InvalidInput` if and only if the value is refused, and `SinkError::OutOfMemory` if
+    /// memory runs out.
     fn try_to_value(self) -> MetricResult<MetricValue<A>>
         ensures converts { Converts (numbers self) result };
 }

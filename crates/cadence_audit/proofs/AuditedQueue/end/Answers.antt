@@ -30,7 +30,9 @@ pub returns-then-agrees-clause-legal : goal.returns-then-agrees-clause-legal
 returns-then-agrees-clause-legal g c =
     let mine : c.self.inside.capacity ≡ c.args.self.capacity = ap (λ p. p.capacity) c.self.view_is in
     let same : c.capacity.result ≡ c.self.inside.capacity = same_capacity c.capacity.result c.self.inside.capacity c.if-ne.ensures in
-    subst (λ es. IsLegal c.args.self.capacity es) (sym c.of-history.ensures) (subst (λ k. IsLegal k c.into_events.result.items) (sym c.capacity.ensures ∙ same ∙ mine) c.into_events.ensures.legal)
+    subst (λ es. IsLegal c.args.self.capacity es) (sym c.of-history.ensures)
+    (subst (λ k. IsLegal k c.into_events.result.items) (sym c.capacity.ensures
+    ∙ same ∙ mine) c.into_events.ensures.legal)
 
 pub returns-then-agrees-clause-order : goal.returns-then-agrees-clause-order
 returns-then-agrees-clause-order g c = rw c.of-history.ensures c.into_events.ensures.order

@@ -2,12 +2,13 @@ use Rattle.std.proofs.Common.{List, subst}
 use Rattle.std.proofs.lemmas.List.{take_all}
 use Rattle.std.proofs.lemmas.List.Elements.{All-more}
 use Rattle.std.specs.List.{All}
-use Rattle.cadence_c.specs.Calls.{IsTextTag}
+use Rattle.cadence_c.specs.Calls.{IsUtf8Tag}
 use Rattle.cadence_c.specs.declared.call.CTag.{CTag}
 use Rattle.cadence_c.proofs.call.are_text_tags.Goals as goal
 
 pub loop-tag-preserved : goal.loop-tag-preserved
-loop-tag-preserved c = All-more IsTextTag c.args.tags.now c.loop-tag.tag-index _ c.loop-tag-test.true c.loop-tag.invariant c.in-Some.ensures.texts
+loop-tag-preserved c = All-more IsUtf8Tag c.args.tags.now c.loop-tag.tag-index _ c.loop-tag-test.true c.loop-tag.invariant c.in-Some.ensures.texts
 
 pub returns-clause-yes : goal.returns-clause-yes
-returns-clause-yes c is = subst (λ (tags : List CTag). All IsTextTag tags) (take_all c.loop-tag.tag-index c.args.tags.now c.loop-tag-test.false) c.loop-tag.invariant
+returns-clause-yes c is =
+    subst (λ (tags : List CTag). All IsUtf8Tag tags) (take_all c.loop-tag.tag-index c.args.tags.now c.loop-tag-test.false) c.loop-tag.invariant

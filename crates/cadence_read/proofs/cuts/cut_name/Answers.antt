@@ -9,7 +9,11 @@ pub returns-then-at-text-clause-none : goal.returns-then-at-text-clause-none
 returns-then-at-text-clause-none c = λ name rest plain e.
     let at = c.first_separator-at in
     let (inside, colon) = first_is_colon c.args.text.now name rest at.result at.ensures.front at.ensures.stops plain e in
-    elim c.then-at-text.branch [ then-at-text-via-then-at-text w ↦ absurd (omega (arith, w, inside)) | then-at-text-via-else-at-text+then-text-at-ne58 w ↦ w.if-text-at-ne58.true colon ]
+    elim c.then-at-text.branch [
+      | then-at-text-via-then-at-text w ↦ absurd
+          (omega (arith, w, inside))
+      | then-at-text-via-else-at-text+then-text-at-ne58 w ↦ w.if-text-at-ne58.true colon
+    ]
 
 pub returns-clause-name : goal.returns-clause-name
 returns-clause-name c = λ k d within.

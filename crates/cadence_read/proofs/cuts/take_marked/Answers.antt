@@ -13,7 +13,8 @@ returns-in_default-strip_prefix c =
       refl,
       λ text more e.
           let cut : pieces 124 line ≡ (c.args.mark.now ++ text) ∷ more = sym (ap (pieces_left 124) some) ∙ e in
-          marked_none line c.args.mark.now (join_with_byte 124 (text ∷ more)) c.in_default-strip_prefix.ensures.cases (marked_front 124 line c.args.mark.now text more cut),
+          marked_none line c.args.mark.now (join_with_byte 124 (text ∷ more)) c.in_default-strip_prefix.ensures.cases
+          (marked_front 124 line c.args.mark.now text more cut),
     )
 
 pub returns : goal.returns
@@ -23,4 +24,5 @@ returns c =
     let some : option_copied c.args.left ≡ Some line = search rules in
     let (same, text, count) = c.in-Some-strip_prefix.ensures.cases in
     ap (pieces_left 124) some ∙ ap (pieces 124) (marked_found line marked c.args.mark.now same text)
-    ∙ pieces-marked 124 c.args.mark.now marked c.cut_piece.result.0.now (pieces_left 124 (option_copied c.cut_piece.result.1)) c.requires c.cut_piece.ensures
+    ∙ pieces-marked 124 c.args.mark.now marked c.cut_piece.result.0.now (pieces_left 124 (option_copied c.cut_piece.result.1)) c.requires
+    c.cut_piece.ensures

@@ -11,7 +11,8 @@ returns-in_err-key g c =
     let is : c.from_residual-in_err-key.result ≡ Err c.in_err-key.field-0.0 = search rules in
     hands_on IsListedTag tag_text c.args.text.now tag_of_owned _ c.in_err-key.field-0.0 is
     (fails_on c.in_err-key.field-0.0 IsText (λ t. t) c.in-Some.key.now IsListedTag tag_text c.args.text.now
-    (λ tag good e. let (key, text) = tag_cut tag c.in-Some.key.now c.in-Some.text.now c.args.text.now good c.in-Some.ensures.front c.in-Some.ensures.whole e in
+    (λ tag good e. let (key, text) = tag_cut tag c.in-Some.key.now c.in-Some.text.now c.args.text.now good c.in-Some.ensures.front
+    c.in-Some.ensures.whole e in
     (c.in-Some.key.now, subst (λ k. IfSome k IsText) key good.key, refl))
     c.in_err-key.ensures)
 
@@ -20,6 +21,7 @@ returns-in_err-text-2 g c =
     let is : c.from_residual-in_err-text-2.result ≡ Err c.in_err-text-2.field-0.0 = search rules in
     hands_on IsListedTag tag_text c.args.text.now tag_of_owned _ c.in_err-text-2.field-0.0 is
     (fails_on c.in_err-text-2.field-0.0 IsText (λ t. t) c.in-Some.text.now IsListedTag tag_text c.args.text.now
-    (λ tag good e. let (key, text) = tag_cut tag c.in-Some.key.now c.in-Some.text.now c.args.text.now good c.in-Some.ensures.front c.in-Some.ensures.whole e in
+    (λ tag good e. let (key, text) = tag_cut tag c.in-Some.key.now c.in-Some.text.now c.args.text.now good c.in-Some.ensures.front
+    c.in-Some.ensures.whole e in
     (tag.text, good.text, text))
     c.in_err-text-2.ensures)

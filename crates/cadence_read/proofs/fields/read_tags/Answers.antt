@@ -16,14 +16,18 @@ returns-in_err-tag g c =
     let some : option_copied c.loop-left.left ≡ Some c.in-Some.text.now = search rules in
     let is : c.from_residual-in_err-tag.result ≡ Err c.in_err-tag.field-0.0 = search rules in
     hands_on (All IsListedTag) tags_text text _ _ c.in_err-tag.field-0.0 is
-    (fails_at c.in_err-tag.field-0.0 IsListedTag tag_text (map tag_text (map tag_of_owned c.loop-left.tags.items)) (pieces_left 44 left) (pieces_left 44 (option_copied c.cut_piece.result.1)) (pieces_left 44 text) c.cut_piece.result.0.now tags_text text
+    (fails_at c.in_err-tag.field-0.0 IsListedTag tag_text (map tag_text (map tag_of_owned c.loop-left.tags.items)) (pieces_left 44 left)
+    (pieces_left 44 (option_copied c.cut_piece.result.1)) (pieces_left 44 text) c.cut_piece.result.0.now tags_text text
     c.loop-left.invariant.read (ap (pieces_left 44) some ∙ c.cut_piece.ensures) (λ tags good e. tags_pieces tags text good e) c.in_err-tag.ensures)
 
 pub loop-left-preserved : goal.loop-left-preserved
 loop-left-preserved g c =
     let some : option_copied c.loop-left.left ≡ Some c.in-Some.text.now = search rules in
     let more : c.push.new.self.items ≡ c.loop-left.tags.items ++ c.in_ok-tag.tag ∷ [] = search rules in
-    let (read, good) = read_more IsListedTag tag_text tag_of_owned c.loop-left.tags.items c.push.new.self.items c.in_ok-tag.tag c.cut_piece.result.0.now (pieces_left 44 (option_copied c.cut_piece.result.1)) (pieces_left 44 (option_copied c.args.text)) (pieces_left 44 (option_copied c.loop-left.left))
+    let (read, good) =
+    read_more IsListedTag tag_text tag_of_owned c.loop-left.tags.items c.push.new.self.items c.in_ok-tag.tag
+    c.cut_piece.result.0.now (pieces_left 44 (option_copied c.cut_piece.result.1)) (pieces_left 44 (option_copied c.args.text))
+    (pieces_left 44 (option_copied c.loop-left.left))
     more c.loop-left.invariant.read (ap (pieces_left 44) some ∙ c.cut_piece.ensures) c.loop-left.invariant.good c.in_ok-tag.ensures in
     record { read = read; good = good }
 
@@ -36,5 +40,8 @@ pub returns : goal.returns
 returns g c =
     let none : option_copied c.loop-left.left ≡ None = search rules in
     let tags = map tag_of_owned c.loop-left.tags.items in
-    let text = option_copied c.args.text in
-    (c.loop-left.invariant.good, tags_found tags text (read_all (map tag_text tags) (pieces_left 44 text) 44 (option_copied c.loop-left.left) none c.loop-left.invariant.read))
+    let text = option_copied c.args.text in (
+      c.loop-left.invariant.good,
+      tags_found tags text (read_all (map tag_text tags) (pieces_left 44 text) 44
+          (option_copied c.loop-left.left) none c.loop-left.invariant.read),
+    )

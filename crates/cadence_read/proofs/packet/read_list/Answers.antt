@@ -11,7 +11,8 @@ pub returns-in_err-metric : goal.returns-in_err-metric
 returns-in_err-metric g c =
     let some : 0 < length c.args.packet.now = grind arith in
     let is : c.from_residual-in_err-metric.result ≡ Err c.in_err-metric.field-0.0 = search rules in
-    alone_fails c.args.packet.now c.from_residual-in_err-metric.result c.in_err-metric.field-0.0 is some (suffix_none c.args.packet.now (10 ∷ []) c.in_default.ensures.cases) c.in_err-metric.ensures
+    alone_fails c.args.packet.now c.from_residual-in_err-metric.result c.in_err-metric.field-0.0 is some
+    (suffix_none c.args.packet.now (10 ∷ []) c.in_default.ensures.cases) c.in_err-metric.ensures
 
 pub returns-then-is_empty : goal.returns-then-is_empty
 returns-then-is_empty g c =

@@ -1,15 +1,16 @@
 use Rattle.std.proofs.Common.{List, subst, sym}
 use Rattle.cadence_schedule.specs.declared.call.CallOption.{CallOption}
 use Rattle.cadence_schedule.specs.Call.{IsDraftOf, chosen, contained}
-use Rattle.cadence_schedule.specs.Calls.{choice_of}
-use Rattle.cadence_schedule.proofs.CallLemmas.{contained_draft, rated_draft, timed_draft}
+use Rattle.cadence_schedule.specs.CallData.{choice_of}
+use Rattle.cadence_schedule.proofs.calls.CallOptions.{contained_draft, rated_draft, timed_draft}
 use Rattle.cadence_schedule.proofs.call.choose.Goals as goal
 
 pub returns-in-Container : goal.returns-in-Container
 returns-in-Container g c = λ m is.
     let text = c.as_str-in-Container.result.now in
     let new = c.set_container.new.self in
-    let here : IsDraftOf (chosen m (contained text)) new = contained_draft m c.args.draft.now new text c.set_container.ensures.container c.set_container.ensures.said is in
+    let here : IsDraftOf (chosen m (contained text)) new =
+    contained_draft m c.args.draft.now new text c.set_container.ensures.container c.set_container.ensures.said is in
     subst (λ (o : CallOption _). IsDraftOf (chosen m (choice_of o)) new) (sym c.in-Container.is)
     (subst (λ (t : List _). IsDraftOf (chosen m (contained t)) new) c.as_str-in-Container.ensures.value here)
 

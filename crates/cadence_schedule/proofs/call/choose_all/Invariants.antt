@@ -3,7 +3,7 @@ use Rattle.std.specs.Prelude.{map}
 use Rattle.std.specs.List.{fold}
 use Rattle.cadence_text.specs.Metric.{Metric}
 use Rattle.cadence_schedule.specs.Call.{IsDraftOf, chosen}
-use Rattle.cadence_schedule.specs.Calls.{choice_of}
+use Rattle.cadence_schedule.specs.CallData.{choice_of}
 use Rattle.cadence_schedule.proofs.call.choose_all.Given as goal
 
 -- the draft has the first options

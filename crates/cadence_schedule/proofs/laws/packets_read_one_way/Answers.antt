@@ -1,4 +1,4 @@
-use Rattle.cadence_schedule.proofs.Reading.{reads_as}
+use Rattle.cadence_schedule.proofs.packets.PacketMetrics.{reads_as}
 use Rattle.cadence_schedule.proofs.laws.packets_read_one_way.Goals as goal
 
 pub returns : goal.returns

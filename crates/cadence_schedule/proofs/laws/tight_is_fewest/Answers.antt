@@ -1,4 +1,4 @@
-use Rattle.cadence_schedule.proofs.PlanAhead.{fewest}
+use Rattle.cadence_schedule.proofs.plans.TightPlans.{fewest}
 use Rattle.cadence_schedule.proofs.laws.tight_is_fewest.Goals as goal
 
 pub returns : goal.returns

@@ -5,7 +5,8 @@ use Rattle.std.proofs.lemmas.List.Elements.{Contains-get_or}
 use Rattle.cadence_schedule.proofs.plan.group_len.Goals as goal
 
 -- no mark up to here, and none here
-free_more : (marks : List ℕ) (start count : ℕ) → All (λ mark. start < mark → start + count ≤ mark) marks → ¬ Contains marks (start + count) → All (λ mark. start < mark → start + (count + 1) ≤ mark) marks
+free_more : (marks : List ℕ) (start count : ℕ) → All (λ mark. start < mark → start + count ≤ mark) marks → ¬ Contains marks (start + count)
+    → All (λ mark. start < mark → start + (count + 1) ≤ mark) marks
 free_more marks start count free none = λ k d in_list after.
     let other : get_or marks k d ≢ start + count = λ e. none (subst (λ p. Contains marks p) e (Contains-get_or marks k d in_list)) in
     let far : start + count ≤ get_or marks k d = free k d in_list after in
@@ -17,5 +18,7 @@ loop-count-preserved c =
     let count = c.loop-count.count in
     record {
       room = omega (arith, sum_by_more (λ y. y) left count 0 c.loop-count-test.true, c.loop-count.invariant.room);
-      free = free_more c.args.marks.now c.args.start count c.loop-count.invariant.free (λ has. let h : false ≡ true = c.if-is_mark.ensures.1 has in absurd (cc));
+      free =
+          free_more c.args.marks.now c.args.start count c.loop-count.invariant.free
+          (λ has. let h : false ≡ true = c.if-is_mark.ensures.1 has in absurd (cc));
     }

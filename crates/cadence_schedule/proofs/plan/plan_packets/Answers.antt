@@ -1,8 +1,8 @@
 use Rattle.std.proofs.Common.{◌≡◌, ◌+◌, ◌∷◌, ◌++◌, [], drop, arith, sym, ap, refl, subst, ◌∙◌}
 use Rattle.std.proofs.lemmas.List.{drop-drop, length-drop, append_assoc, append-nil}
-use Rattle.cadence_schedule.proofs.PlanSteps.{tight_out, TightGroups}
-use Rattle.cadence_schedule.proofs.PlanAhead.{fewest}
-use Rattle.cadence_schedule.proofs.PlanChecks.{tight_step}
+use Rattle.cadence_schedule.proofs.plans.PlanGroups.{tight_out, TightGroups}
+use Rattle.cadence_schedule.proofs.plans.TightPlans.{fewest}
+use Rattle.cadence_schedule.proofs.plans.PlanTests.{tight_step}
 use Rattle.cadence_schedule.proofs.plan.plan_packets.Goals as goal
 
 pub loop-start-preserved : goal.loop-start-preserved
@@ -15,9 +15,11 @@ loop-start-preserved g c =
       completes = λ tail t.
           let longer : TightGroups c.args.capacity c.args.marks.now 0 (c.loop-start.plan.items ++ (count ∷ tail)) sizes =
           c.loop-start.invariant.completes (count ∷ tail)
-          ((tight_step c.args.capacity c.args.marks.now start count (drop start sizes) (count ∷ tail) tail (drop (start + count) sizes) refl (sym (drop-drop count start sizes)) (c.group_len-count.ensures.0, c.group_len-count.ensures.1)).1 t) in
+          ((tight_step c.args.capacity c.args.marks.now start count (drop start sizes) (count ∷ tail) tail (drop (start + count) sizes) refl
+          (sym (drop-drop count start sizes)) (c.group_len-count.ensures.0, c.group_len-count.ensures.1)).1 t) in
           let items : c.push.new.self.items ≡ c.loop-start.plan.items ++ count ∷ [] = c.in_ok-push.ensures.items in
-          subst (λ p. TightGroups c.args.capacity c.args.marks.now 0 p sizes) (sym (append_assoc c.loop-start.plan.items (count ∷ []) tail) ∙ ap (λ p. p ++ tail) (sym items)) longer;
+          subst (λ p. TightGroups c.args.capacity c.args.marks.now 0 p sizes) (sym (append_assoc c.loop-start.plan.items (count ∷ []) tail)
+          ∙ ap (λ p. p ++ tail) (sym items)) longer;
     }
 
 pub returns-clause-tight : goal.returns-clause-tight

@@ -1,5 +1,5 @@
 use Rattle.std.proofs.Common.{[]}
-use Rattle.cadence_schedule.proofs.Refusing.{on_ok, none_dropped}
+use Rattle.cadence_schedule.proofs.history.NoneDropped.{on_ok, none_dropped}
 use Rattle.cadence_schedule.proofs.run.run_schedule.Goals as goal
 
 pub returns-clause-none_dropped : goal.returns-clause-none_dropped

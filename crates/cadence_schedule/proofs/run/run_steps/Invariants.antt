@@ -1,8 +1,8 @@
 use Rattle.std.proofs.Common.{◌≡◌, ◌+◌, ◌≤◌, All, length, take, vec_len, vec_capacity}
 use Rattle.std.specs.List.{zip}
-use Rattle.cadence_text.specs.Said.{IsSaid}
-use Rattle.cadence_schedule.specs.Calls.{line_of_data, metric_of_data}
-use Rattle.cadence_schedule.specs.History.{accepted}
+use Rattle.cadence_text.specs.Representable.{IsRepresentable}
+use Rattle.cadence_schedule.specs.CallData.{line_of_data, metric_of_data}
+use Rattle.cadence_schedule.specs.RunHistory.{accepted}
 use Rattle.cadence_schedule.specs.Moves.{Runs}
 use Rattle.cadence_schedule.specs.Running.{state_of}
 use Rattle.cadence_schedule.proofs.run.run_steps.Given as goal
@@ -13,12 +13,14 @@ invariant-loop-step g l =
     record {
       count : length l.replies.items ≡ l.step-index;
       replies_room : length l.steps ≤ vec_capacity l.replies;
-      plan_length : vec_len l.running.plan ≤ vec_len first.plan + l.step-index;
-      plan_room : vec_capacity first.plan ≤ vec_capacity l.running.plan;
+      cut_length : vec_len l.running.cut ≤ vec_len first.cut + l.step-index;
+      cut_room : vec_capacity first.cut ≤ vec_capacity l.running.cut;
       same_kind : g.P.PacketWriter.kind l.running.packer.writer ≡ g.P.PacketWriter.kind first.packer.writer;
       same_format : l.running.packer.format ≡ first.packer.format;
       same_queue : l.running.queue.capacity ≡ first.queue.capacity;
       same_policy : l.running.queue.policy ≡ first.queue.policy;
-      runs : Runs (line_of_data l.settings) (g.P.PacketWriter.kind first.packer.writer) first.packer.format first.queue.capacity first.queue.policy (state_of g.P.PacketWriter.history first) (zip (take l.step-index l.steps) l.replies.items) (state_of g.P.PacketWriter.history l.running);
-      said : All IsSaid (accepted (metric_of_data l.settings) (zip (take l.step-index l.steps) l.replies.items));
+      runs : Runs (line_of_data l.settings) (g.P.PacketWriter.kind first.packer.writer) first.packer.format first.queue.capacity
+          first.queue.policy (state_of g.P.PacketWriter.history first) (zip (take l.step-index l.steps) l.replies.items)
+          (state_of g.P.PacketWriter.history l.running);
+      said : All IsRepresentable (accepted (metric_of_data l.settings) (zip (take l.step-index l.steps) l.replies.items));
     }

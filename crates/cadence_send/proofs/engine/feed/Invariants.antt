@@ -6,4 +6,6 @@ abbrev pub decreases-loop-front : goal.decreases-loop-front
 decreases-loop-front g l = length l.left
 
 abbrev pub invariant-loop-front : goal.invariant-loop-front
-invariant-loop-front g l = Feeding g.T.PacketWriter.kind g.T.PacketWriter.history l.defaults l.initial.lines l.lines l.initial.kept.waiting.items l.fn.bytes l.kept.waiting.items l.left
+invariant-loop-front g l =
+    Feeding g.T.PacketWriter.kind g.T.PacketWriter.history l.defaults l.initial.lines l.lines l.initial.buffers.waiting.items l.fn.bytes
+    l.buffers.waiting.items l.left

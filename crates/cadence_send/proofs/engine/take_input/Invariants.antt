@@ -6,4 +6,4 @@ use Rattle.cadence_send.proofs.engine.take_input.Given as goal
 abbrev pub invariant-loop : goal.invariant-loop
 invariant-loop g l =
     (got : List ℕ) × Consumes (g.I.Read.remaining l.initial.input) (g.I.Read.remaining l.input) got
-    × Feeds l.defaults g.T.PacketWriter.kind g.T.PacketWriter.history l.initial.lines l.lines [] got l.kept.waiting.items
+    × Feeds l.defaults g.T.PacketWriter.kind g.T.PacketWriter.history l.initial.lines l.lines [] got l.buffers.waiting.items

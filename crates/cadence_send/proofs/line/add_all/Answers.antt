@@ -10,7 +10,8 @@ returns-in_err-add_tag g c =
     let (front, tags, cut, each, is) = c.loop-word.invariant.1 in
     let was : c.from_residual.result ≡ Err c.in_err-add_tag.field-0.0 = search rules in
     tags_fail (words_of c.args.text.now) c.in-Some.word.now c.args.draft.now _ _ _ was
-    (λ ts h. tag_of_word front (words_of c.in-Some.others.now) c.in-Some.word.now ts (subst (λ ws. AllZip IsTagWord ws ts) (cut ∙ ap (λ ws. front ++ ws) c.in-Some.ensures.some) h))
+    (λ ts h. tag_of_word front (words_of c.in-Some.others.now) c.in-Some.word.now ts (subst (λ ws. AllZip IsTagWord ws ts) (cut
+    ∙ ap (λ ws. front ++ ws) c.in-Some.ensures.some) h))
     c.in_err-add_tag.ensures
 
 pub loop-word-init : goal.loop-word-init

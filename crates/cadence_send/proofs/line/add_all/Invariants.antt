@@ -13,4 +13,5 @@ decreases-loop-word g l = length (words_of l.left)
 abbrev pub invariant-loop-word : goal.invariant-loop-word
 invariant-loop-word g l =
     shadow (Utf8 l.left)
-    × ((front : List (List ℕ)) × (tags : List Tag) × (words_of l.fn.text ≡ front ++ words_of l.left) × AllZip IsTagWord front tags × Tagged l.initial.draft l.draft tags)
+    × ((front : List (List ℕ)) × (tags : List Tag) × (words_of l.fn.text ≡ front ++ words_of l.left) × AllZip IsTagWord front tags
+    × Tagged l.initial.draft l.draft tags)

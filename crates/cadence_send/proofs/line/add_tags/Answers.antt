@@ -6,7 +6,8 @@ use Rattle.cadence_send.proofs.line.add_tags.Goals as goal
 pub returns-in_err-add_tag : goal.returns-in_err-add_tag
 returns-in_err-add_tag g c =
     let is : c.from_residual.result ≡ Err c.in_err-add_tag.field-0.0 = search rules in
-    tags_fail (texts c.args.words.now) _ c.args.draft.now _ _ _ is (λ tags h. word_at IsTagWord c.args.words.now tags c.loop-word.word-index _ c.loop-word-test.true h) c.in_err-add_tag.ensures
+    tags_fail (texts c.args.words.now) _ c.args.draft.now _ _ _ is (λ tags h. word_at IsTagWord c.args.words.now tags c.loop-word.word-index
+    _ c.loop-word-test.true h) c.in_err-add_tag.ensures
 
 pub loop-word-preserved : goal.loop-word-preserved
 loop-word-preserved g c =

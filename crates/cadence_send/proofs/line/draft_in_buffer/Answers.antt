@@ -11,4 +11,5 @@ set_rate_and_time-requires g c = (
 
 pub returns : goal.returns
 returns g c =
-    c.set_rate_and_time.ensures ∙ ap (λ (d : Draft). record d { rate = c.args.defaults.now.rate; time = c.args.defaults.now.time }) c.in_ok-draft.ensures
+    c.set_rate_and_time.ensures
+    ∙ ap (λ (d : Draft). record d { rate = c.args.defaults.now.rate; time = c.args.defaults.now.time }) c.in_ok-draft.ensures

@@ -10,5 +10,8 @@ returns-in_default g c = no_word c.args.defaults.now (words_of c.args.text.now) 
 
 pub returns : goal.returns
 returns g c =
-    let are = c.in-Some.ensures.some ∙ ap (λ ws. c.in-Some.kind.now ∷ ws) (c.in-Some-cut_word.ensures.some ∙ ap (λ ws. c.in-Some-cut_word.name.now ∷ ws) c.in-Some-cut_word-2.ensures.some) in
-    subst (λ ws. FindsOrFails (IsLineOfWords c.args.defaults.now ws) (λ _. c.write_line.new.buffer.items) c.write_line.result) (sym are) c.write_line.ensures
+    let are = c.in-Some.ensures.some
+    ∙ ap (λ ws. c.in-Some.kind.now ∷ ws) (c.in-Some-cut_word.ensures.some
+    ∙ ap (λ ws. c.in-Some-cut_word.name.now ∷ ws) c.in-Some-cut_word-2.ensures.some) in
+    subst (λ ws. FindsOrFails (IsLineOfWords c.args.defaults.now ws) (λ _. c.write_line.new.buffer.items) c.write_line.result) (sym are)
+    c.write_line.ensures

@@ -9,7 +9,9 @@ returns-in-Ok g c =
     let same : c.deref.result.now ≡ c.write_line_of_words.new.buffer.items = search rules in (
       c.deref.result.now,
       subst (IsLineOfWords c.args.defaults.now (map (λ w. w.now) c.args.words.now)) (sym same) c.in-Ok.ensures,
-      word_sent g.T.PacketWriter.kind g.T.PacketWriter.history c.args.lines.now c.write.new.self c.flush_all.new.lines c.deref.result.now c.in_ok-ok_or-in-Ok.field-0 (ok_or c.write.result c.write.new.fault) (search rules) c.write.ensures.writes c.in_ok-flush_all-in-Ok.ensures.same,
+      word_sent g.T.PacketWriter.kind g.T.PacketWriter.history c.args.lines.now c.write.new.self c.flush_all.new.lines c.deref.result.now
+          c.in_ok-ok_or-in-Ok.field-0 (ok_or c.write.result c.write.new.fault) (search rules) c.write.ensures.writes
+          c.in_ok-flush_all-in-Ok.ensures.same,
       c.in_ok-flush_all-in-Ok.ensures.empty,
     )
 

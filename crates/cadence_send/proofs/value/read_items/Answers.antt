@@ -9,4 +9,5 @@ returns-in_default g c ns h =
 
 pub loop-word-preserved : goal.loop-word-preserved
 loop-word-preserved g c =
-    rw c.in_ok-push.ensures.items (word_more (IsNumberWord c.args.kind) c.args.words.now c.loop-word.numbers.items c.loop-word.word-index _ c.in-Some.number c.loop-word-test.true c.loop-word.invariant c.in-Some.ensures)
+    rw c.in_ok-push.ensures.items (word_more (IsNumberWord c.args.kind) c.args.words.now c.loop-word.numbers.items c.loop-word.word-index _
+    c.in-Some.number c.loop-word-test.true c.loop-word.invariant c.in-Some.ensures)

@@ -1,11 +1,12 @@
 use Rattle.std.proofs.Common.{rules, subst}
-use Rattle.cadence_send.specs.Asked.{Takes}
+use Rattle.cadence_send.specs.Asked.{AllowsNumber}
 use Rattle.cadence_send.proofs.Lowest.{says_once}
 use Rattle.cadence_send.proofs.value.read_plain.Goals as goal
 
-pub returns-then-not-takes : goal.returns-then-not-takes
-returns-then-not-takes c n h =
-    let takes : Takes c.args.kind c.in_ok-number.number = subst (Takes c.args.kind) (says_once c.args.word.now n c.in_ok-number.number h.says c.in_ok-number.ensures.1) h.takes in
+pub returns-then-not-allows_number : goal.returns-then-not-allows_number
+returns-then-not-allows_number c n h =
+    let takes : AllowsNumber c.args.kind c.in_ok-number.number =
+    subst (AllowsNumber c.args.kind) (says_once c.args.word.now n c.in_ok-number.number h.says c.in_ok-number.ensures.1) h.takes in
     absurd (search (rules, takes))
 
 pub returns-in_err-number : goal.returns-in_err-number

@@ -1,7 +1,7 @@
 use Rattle.std.proofs.Common.{◌≡◌, ◌∙◌, List, [], ◌∷◌, ◌++◌, ap, append_assoc, sym}
 use Rattle.cadence_sinks.proofs.worklist.work.Goals as goal
 
--- what was given and handed on, with one more text
+-- If all texts that were given have been handed on, this is still so after one more text.
 one_more : {T : Type 0} {g h g1 h1 g2 h2 : List T} (g0 h0 : List T) (text : T)
     → (g ≡ h) × ((texts : List T) × (g ≡ g0 ++ texts) × (h ≡ h0 ++ texts))
     → g1 ≡ g ++ text ∷ [] → h1 ≡ h → g2 ≡ g1 → h2 ≡ h1 ++ text ∷ []

@@ -8,4 +8,5 @@ invariant-loop g l =
     × (g.W.Worklist.tells l.list ≡ g.W.Worklist.tells l.fn.list)
     × (g.W.Worklist.tells l.fn.list ≡ true
     → (g.W.Worklist.given l.list ≡ g.W.Worklist.handed l.list)
-    × ((texts : List _) × (g.W.Worklist.given l.list ≡ g.W.Worklist.given l.fn.list ++ texts) × (g.W.Worklist.handed l.list ≡ g.W.Worklist.handed l.fn.list ++ texts)))
+    × ((texts : List _) × (g.W.Worklist.given l.list ≡ g.W.Worklist.given l.fn.list ++ texts)
+    × (g.W.Worklist.handed l.list ≡ g.W.Worklist.handed l.fn.list ++ texts)))

@@ -1,34 +1,33 @@
 //! A metric that owns its texts.
 ghost use Rattle.std.specs.Prelude.{◌≡◌, IfOk, map};
-ghost use Rattle.cadence_text.specs.Owned.{tag_of_owned};
-ghost use Rattle.cadence_text.specs.Record.{tag_of};
 
-use crate::line::{DraftLine, Head, MetricType, OwnedTag, Record, lend, lend_tags};
+use crate::line::{DraftLine, Head, MetricType, OwnedTag, Record, lend_tag, lend_tags};
 use cadence_errors::MetricResult;
 use cadence_value::decimal::Decimal;
 use cadence_value::value::MetricValue;
 use std::alloc::{AllocError, Allocator, Global};
 
-// The bytes for tags and other options that a line reserves.
+// The bytes that a draft reserves for tags and other options.
 const OPTIONS: usize = 96;
 
-/// A metric that owns its texts, as one that was read from a line. A type of this project's own.
+/// A metric that owns its texts, for example one that was read from a line.
 #[derive(Drop)]
 #[derive_where(Debug, PartialEq, Eq)]
 pub struct OwnedMetric<A: Allocator = Global> {
-    /// The name, with its prefix.
+    /// The whole name: a client's prefix and key.
     pub name: String<A>,
-    /// The numbers, in their order.
+    /// The numbers, in the order of the line.
     pub numbers: Vec<Decimal, A>,
-    /// The kind, which says nothing of the numbers.
+    /// The kind. Any kind can have any numbers.
     pub kind: MetricType,
-    /// The sampling rate.
+    /// The sampling rate, if the line has one: the share of events that are sent, between 0 and 1. At 0.1 a server
+    /// counts each received number of a counter ten times.
     pub rate: Option<Decimal>,
-    /// The tags, in order.
+    /// The tags, in the order of the line.
     pub tags: Vec<OwnedTag<A>, A>,
-    /// The id of the container.
+    /// The id of the container in which the sender runs, if the line has one (DogStatsD).
     pub container: Option<String<A>>,
-    /// The timestamp.
+    /// The time of the metric in seconds since 1970, if the line has one (DogStatsD).
     pub time: Option<u64>,
 }
 
@@ -39,10 +38,10 @@ impl<A: Allocator + Clone> OwnedMetric<A> {
     ghost use Rattle.cadence_text.specs.Line.{line_of};
     ghost use Rattle.cadence_text.specs.Owned.{metric_of_owned};
 
-    /// The metric as a record whose prefix is empty. The record lends the texts and has a copy of the numbers; its copy
-    /// and the list of its tags take memory from the allocator of the metric's tags.
+    /// Returns the metric as a record whose prefix is empty. The record borrows the texts and has a copy of the
+    /// numbers. The copy and the list of tags are allocated from the allocator of the metric's tags.
     ///
-    /// Refuses with `SinkError::OutOfMemory` alone.
+    /// Returns `SinkError::OutOfMemory` if memory runs out, and no other error.
     pub fn to_record(&self) -> MetricResult<Record<'_, A>>
         ensures { Makes (metric_of_owned self.now) result }
     {
@@ -63,7 +62,7 @@ impl<A: Allocator + Clone> OwnedMetric<A> {
         })
     }
 
-    // The draft of the metric without its tags.
+    // Returns the draft of the metric without its tags.
     fn untagged(&self) -> Result<DraftLine<'_, A>, AllocError>
         ensures { IfOk result (λ draft.
             draft ≡ draft_of (record (metric_of_owned self.now) { tags = [] })) }
@@ -87,19 +86,19 @@ impl<A: Allocator + Clone> OwnedMetric<A> {
         Ok(draft)
     }
 
-    // The draft of the metric.
+    // Returns the draft of the metric.
     fn draft(&self) -> Result<DraftLine<'_, A>, AllocError>
         ensures { IfOk result (λ draft. draft ≡ draft_of (metric_of_owned self.now)) }
     {
         let mut draft = self.untagged()?;
         for tag in &self.tags {
-            draft.add_tag(lend(tag))?;
+            draft.add_tag(lend_tag(tag))?;
         }
         Ok(draft)
     }
 
-    /// The line of the metric, made as a client makes it. The copy of the numbers and the line take memory from the
-    /// allocator of the metric's tags. The one error is want of memory.
+    /// Returns the line of the metric, made in the same way as a client makes it. The line and a copy of the numbers
+    /// are allocated from the allocator of the metric's tags. Returns `AllocError` if memory runs out.
     pub fn line(&self) -> Result<String<A>, AllocError>
         ensures { IfOk result (λ line. string_bytes line ≡ line_of (metric_of_owned self.now)) }
     {

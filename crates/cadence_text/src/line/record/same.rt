@@ -1,18 +1,18 @@
-//! Whether two records have the same line.
+//! Compares the lines of two records without storing them.
 ghost use Rattle.std.specs.Prelude.{◌≡◌, ◌↔◌, IsTrue, drop, take};
 ghost use Rattle.cadence_text.specs.Line.{line_of};
 ghost use Rattle.cadence_text.specs.OneReading.{IsFreeOfSeparators};
-ghost use Rattle.cadence_text.specs.RecordMetric.{IsRecordMetric};
+ghost use Rattle.cadence_text.specs.MetricInMemory.{IsMetricInMemory};
 ghost use Rattle.cadence_text.specs.Sink.{window_text};
 
 use super::Record;
 use crate::line::window::{WINDOW, Window};
 use std::alloc::Allocator;
 
-// What a window shows of a record's line.
+// Returns the window on a record's line that skips this many bytes.
 fn window_of<A: Allocator>(metric: &Record<'_, A>, skip: u128) -> Window
     ensures shown { window_text result ≡ take 512 (drop skip (line_of metric.now)) }
-    ensures sized { IsRecordMetric metric.now }
+    ensures sized { IsMetricInMemory metric.now }
 {
     let mut window = Window::after(skip);
     metric.push_line(&mut window);
@@ -20,10 +20,10 @@ fn window_of<A: Allocator>(metric: &Record<'_, A>, skip: u128) -> Window
 }
 
 impl<'a, A: Allocator> Record<'a, A> {
-    /// Whether the lines of both are the same. Takes no memory.
+    /// Returns whether both records have the same line. Takes no memory.
     ///
-    /// Lines of up to 511 bytes are made once each, piece by piece, and longer ones once more for each further 512
-    /// bytes.
+    /// It writes both lines into windows of 512 bytes. Lines of up to 511 bytes are written once, and longer ones once
+    /// more for every further 512 bytes.
     pub fn same_line<B: Allocator>(&self, other: &Record<'_, B>) -> bool
         ensures lines { IsTrue result ↔ (line_of self.now ≡ line_of other.now) }
         ensures metrics { IsFreeOfSeparators self.now → IsFreeOfSeparators other.now →

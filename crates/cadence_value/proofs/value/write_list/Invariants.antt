@@ -7,4 +7,5 @@ use Rattle.cadence_value.proofs.value.write_list.Given as goal
 abbrev pub invariant-loop-number : goal.invariant-loop-number
 invariant-loop-number g l =
     IsPlainFormatter l.initial.f
-    → HasWritten g.W.Write.write_str_gives l.initial.f (flat_map (λ n. codes ":" ++ number_text n) (map g.T.AsDecimal.number (take l.number-index l.others))) l.f
+    → HasWritten g.W.Write.write_str_gives l.initial.f (flat_map (λ n. codes ":" ++ number_text n)
+    (map g.T.AsDecimal.number (take l.number-index l.others))) l.f

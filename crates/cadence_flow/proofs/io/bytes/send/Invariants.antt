@@ -1,6 +1,6 @@
 use Rattle.std.proofs.Common.{◌≡◌, ◌-◌, length}
-use Rattle.cadence_flow.proofs.Offering.{OfferedSoFar}
-use Rattle.cadence_flow.proofs.Sending.{SentSoFar}
+use Rattle.cadence_flow.proofs.OfferedText.{OfferedSoFar}
+use Rattle.cadence_flow.proofs.SentText.{SentSoFar}
 use Rattle.cadence_flow.proofs.io.bytes.send.Given as goal
 
 abbrev pub invariant-loop-sent : goal.invariant-loop-sent

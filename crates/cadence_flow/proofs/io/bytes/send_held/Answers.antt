@@ -2,8 +2,8 @@ use Rattle.std.proofs.Common.{◌≡◌, subst, sym, ap, ◌∙◌, ◌<◌, ◌
 use Rattle.std.specs.Option.{ok_or}
 use Rattle.cadence_flow.specs.Offers.{FlushesOffers}
 use Rattle.cadence_flow.specs.Packer.{Flushes}
-use Rattle.cadence_flow.proofs.Flushing.{Flushes-sent}
-use Rattle.cadence_flow.proofs.Offering.{offered_held}
+use Rattle.cadence_flow.proofs.FlushOutcome.{Flushes-sent}
+use Rattle.cadence_flow.proofs.OfferedText.{offered_held}
 use Rattle.cadence_flow.proofs.io.bytes.send_held.Goals as goal
 
 pub returns : goal.returns
@@ -17,7 +17,8 @@ returns g c =
     let whole = c.deref.result.now in
     let offered_now : List ℕ = take (length whole - begun) (drop begun whole) in
     let text = drop begun c.args.held.now.items in
-    let same : offered_now ≡ text = take_all (length whole - begun) (drop begun whole) (omega (arith, length-drop begun whole)) ∙ ap (drop begun) c.deref.ensures.value in
+    let same : offered_now ≡ text = take_all (length whole - begun) (drop begun whole) (omega (arith, length-drop begun whole))
+    ∙ ap (drop begun) c.deref.ensures.value in
     let old = history writer in
     let new = history c.send-sent.new.to in
     let r = ok_or c.send-sent.result.1 c.send-sent.new.fault in
@@ -31,7 +32,9 @@ returns g c =
     let offered = offered_held (offers writer) after offered_now (is_ok r) some (s.offers some) in
     record {
       same_kind = search rules;
-      flushes = subst (λ (l : List ℕ). Flushes (kind writer) old new text l r) {x = untaken} {y = rest} (sym {A = List ℕ} {a = rest} {b = untaken} c.skip_front.ensures.rest) named;
+      flushes =
+          subst (λ (l : List ℕ). Flushes (kind writer) old new text l r) {x = untaken} {y = rest}
+          (sym {A = List ℕ} {a = rest} {b = untaken} c.skip_front.ensures.rest) named;
       offers = subst (λ (l : List ℕ). FlushesOffers (offers writer) after l (is_ok r)) same offered;
       start = search rules;
       len = search rules;

@@ -1,4 +1,4 @@
-use Rattle.cadence_schedule.proofs.Sums.{counted_answer}
+use Rattle.cadence_schedule.proofs.headline.WriterSums.{counted_answer}
 use Rattle.cadence_schedule.proofs.counting.CountingWriterPacketWriter.write_packet.Goals as goal
 
 pub returns-clause-same_kind : goal.returns-clause-same_kind

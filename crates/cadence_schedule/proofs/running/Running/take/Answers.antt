@@ -7,19 +7,35 @@ use Rattle.cadence_schedule.proofs.running.Running.take.Goals as goal
 
 pub returns-in-Text : goal.returns-in-Text
 returns-in-Text g c = λ line_of.
-    let none : c.args.self.now.hand ≡ None = grind (arith, common_steps) in
+    let none : c.args.self.now.in_hand ≡ None = grind (arith, common_steps) in
     let q = c.args.self.now.queue in
     let r = c.take.new.self in
     let queues = c.in-Text.ensures.taken in
     record {
       moves = (
         ap (option_map string_bytes) none,
-        (string_bytes c.in-Text.line, map string_bytes c.take.new.self.waiting, ap (map string_bytes) queues.0, omega arith, (λ i. record (state_of g.P.PacketWriter.history c.args.self.now) { waiting = map string_bytes c.take.new.self.waiting; drained = (queues.1 i).drained; stopped = (queues.1 i).stopped; submitted = (queues.1 i).submitted; dropped = (queues.1 i).dropped; hand = Some (string_bytes c.in-Text.line) })),
+        (
+          string_bytes c.in-Text.line,
+          map string_bytes c.take.new.self.waiting,
+          ap (map string_bytes) queues.0,
+          omega arith,
+          (λ i. record (state_of g.P.PacketWriter.history c.args.self.now) {
+            waiting = map string_bytes c.take.new.self.waiting;
+            drained =
+                (queues.1 i).drained;
+            stopped =
+                (queues.1 i).stopped;
+            submitted =
+                (queues.1 i).submitted;
+            dropped = (queues.1 i).dropped;
+            in_hand = Some (string_bytes c.in-Text.line);
+          }),
+        ),
       );
       same_kind = refl;
       same_format = refl;
       same_queue = ap (λ k. k.capacity) queues.1;
       same_policy = ap (λ k. k.policy) queues.1;
-      plan_length = omega arith;
-      plan_room = omega arith;
+      cut_length = omega arith;
+      cut_room = omega arith;
     }

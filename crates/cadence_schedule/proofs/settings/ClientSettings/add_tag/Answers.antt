@@ -2,7 +2,7 @@ use Rattle.std.proofs.Common.{◌≡◌, List, Option, String, [], ◌∷◌, �
 use Rattle.std.proofs.lemmas.List.{map-append}
 use Rattle.std.specs.Option.{option_copied}
 use Rattle.cadence_text.specs.Metric.{Tag}
-use Rattle.cadence_text.proofs.Drafts.{added_tag}
+use Rattle.cadence_text.proofs.DraftText.{added_tag}
 use Rattle.cadence_text.specs.Owned.{tag_of_owned}
 use Rattle.cadence_schedule.specs.Settings.{Settings, with_default_tag}
 use Rattle.cadence_schedule.specs.SettingsParts.{settings_seen}

@@ -6,7 +6,7 @@ use Rattle.cadence_value.specs.Values.{numbers_of}
 use Rattle.cadence_schedule.specs.Call.{metric_of_call, plain_call}
 use Rattle.cadence_schedule.specs.Settings.{Settings}
 use Rattle.cadence_schedule.specs.SettingsParts.{settings_seen}
-use Rattle.cadence_schedule.proofs.CallLemmas.{metric_of_plain}
+use Rattle.cadence_schedule.proofs.calls.CallOptions.{metric_of_plain}
 use Rattle.cadence_schedule.proofs.settings.ClientSettings.record.Goals as goal
 
 pub returns : goal.returns
@@ -15,9 +15,27 @@ returns g c =
     let key = c.args.key.now in
     let numbers = numbers_of c.args.value in
     let prefix : c.deref-2.result.now ≡ string_bytes inside.prefix = search rules in
-    let tags : map tag_of c.in_ok-tags.tags.items ≡ map tag_of_owned inside.tags.items = c.in_ok-tags.ensures ∙ ap (map tag_of_owned) c.deref.ensures.value in
+    let tags : map tag_of c.in_ok-tags.tags.items ≡ map tag_of_owned inside.tags.items = c.in_ok-tags.ensures
+    ∙ ap (map tag_of_owned) c.deref.ensures.value in
     let container : option_copied c.container.result ≡ option_map string_bytes inside.container = search rules in
-    let parts : c.with_defaults.result ≡ record { name = string_bytes inside.prefix ++ key; numbers = numbers; kind = c.args.kind; rate = None; tags = map tag_of_owned inside.tags.items; container = option_map string_bytes inside.container; time = None } =
-    c.with_defaults.ensures ∙ λ i. record { name = prefix i ++ key; numbers = numbers; kind = c.args.kind; rate = None; tags = tags i; container = container i; time = None } in
+    let parts : c.with_defaults.result ≡ record {
+      name = string_bytes inside.prefix ++ key;
+      numbers = numbers;
+      kind = c.args.kind;
+      rate = None;
+      tags = map tag_of_owned inside.tags.items;
+      container = option_map string_bytes inside.container;
+      time = None;
+    } =
+    c.with_defaults.ensures
+    ∙ λ i. record {
+      name = prefix i ++ key;
+      numbers = numbers;
+      kind = c.args.kind;
+      rate = None;
+      tags = tags i;
+      container = container i;
+      time = None;
+    } in
     subst (λ (s : Settings). c.with_defaults.result ≡ metric_of_call s (plain_call c.args.kind key numbers)) c.self.view_is
     (parts ∙ metric_of_plain (settings_seen inside) c.args.kind key numbers)

@@ -2,7 +2,7 @@ use Rattle.std.proofs.Common.{◌≡◌, take}
 use Rattle.std.specs.Prelude.{map}
 use Rattle.std.specs.List.{fold}
 use Rattle.cadence_schedule.specs.Call.{chosen}
-use Rattle.cadence_schedule.specs.Calls.{choice_of}
+use Rattle.cadence_schedule.specs.CallData.{choice_of}
 use Rattle.cadence_schedule.proofs.settings.record.set_all.Given as goal
 
 abbrev pub invariant-loop-option : goal.invariant-loop-option

@@ -1,7 +1,7 @@
 use Rattle.std.proofs.Common.{◌≡◌, ◌+◌, [], ◌++◌, arith, length, rules}
 use Rattle.std.specs.Option.{option_copied}
 use Rattle.cadence_text.specs.Line.{container_field, time_field}
-use Rattle.cadence_text.proofs.Taken.{filled_more}
+use Rattle.cadence_text.proofs.SinkEnds.{filled_more}
 use Rattle.cadence_text.proofs.line.draft.end_with.Goals as goal
 
 pub returns : goal.returns
@@ -12,4 +12,5 @@ returns g c =
     let text = container_field (option_copied c.args.container) ++ time_field c.args.time in
     let room : c.in-Some.room ≡ length text = search rules in
     let end : begun.end ≡ length old + c.in-Some.room = search rules in
-    filled_more begun.end last.end old begun.bytes.items last.bytes.items text (omega (arith, c.requires)) (omega (arith, room, end)) c.reserve.ensures.text (c.push_last.ensures.taken [])
+    filled_more begun.end last.end old begun.bytes.items last.bytes.items text (omega (arith, c.requires)) (omega (arith, room, end))
+    c.reserve.ensures.text (c.push_last.ensures.taken [])

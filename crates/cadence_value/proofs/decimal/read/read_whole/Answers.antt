@@ -7,4 +7,9 @@ pub returns-then-text-eq48 : goal.returns-then-text-eq48
 returns-then-text-eq48 c = zero_refused c.args.text.now (omega arith) (search rules)
 
 pub returns : goal.returns
-returns c = whole_read c.args.text.now c.read_digits.result (elim c.else-text-gt1.branch [ else-text-gt1-via-then-text-gt1+else-text-eq48 w ↦ λ long e. absurd (omega (arith, w)) | else-text-gt1-via-else-text-gt1 w ↦ λ long e. absurd (omega (arith, w)) ]) c.read_digits.ensures
+returns c =
+    whole_read c.args.text.now c.read_digits.result (elim c.else-text-gt1.branch [
+      | else-text-gt1-via-then-text-gt1+else-text-eq48 w ↦ λ long e. absurd (omega (arith, w))
+      | else-text-gt1-via-else-text-gt1
+          w ↦ λ long e. absurd (omega (arith, w))
+    ]) c.read_digits.ensures

@@ -1,5 +1,5 @@
 use Rattle.std.proofs.Common.{rules, arith, ◌≡◌, None}
-use Rattle.cadence_value.proofs.TextRead.{whole_le}
+use Rattle.cadence_value.proofs.SignedDigits.{whole_le}
 use Rattle.cadence_value.proofs.decimal.read.whole_of.Goals as goal
 
 pub returns-in_err-size : goal.returns-in_err-size

@@ -3,10 +3,10 @@ use Rattle.std.specs.Option.{ok_or}
 use Rattle.cadence_flow.specs.Frame.{is_oversize, size_of}
 use Rattle.cadence_flow.specs.Offers.{FlushesOffers}
 use Rattle.cadence_flow.specs.Packer.{Flushes, Writes}
-use Rattle.cadence_flow.specs.Writer.{Kind, WritesPacket}
+use Rattle.cadence_flow.specs.Writer.{WriterKind, WritesPacket}
 use Rattle.std.proofs.lemmas.Bool.{false≢true}
-use Rattle.cadence_flow.proofs.Offering.{alone_offers, refused_offers}
-use Rattle.cadence_flow.proofs.Oversize.{Writes-alone}
+use Rattle.cadence_flow.proofs.OfferedText.{alone_offers, refused_offers}
+use Rattle.cadence_flow.proofs.OversizeLine.{Writes-alone}
 use Rattle.cadence_flow.proofs.io.line_buffer.LineBuffer.write.Goals as goal
 
 pub returns-then-required-self : goal.returns-then-required-self
@@ -18,9 +18,11 @@ returns-then-required-self g c =
     let opened = c.self-then-required-self.view_is in
     let flushed = c.in_ok-flush.ensures.flushes.flushes in
     let writer = ap (λ p. p.writer) opened in
-    let emptied : drop c.self-then-required-self.inside.start c.self-then-required-self.inside.held.items ≡ [] = ap (λ p. p.held) opened ∙ flushed.empties in
+    let emptied : drop c.self-then-required-self.inside.start c.self-then-required-self.inside.held.items ≡ [] = ap (λ p. p.held) opened
+    ∙ flushed.empties in
     let same_kind : kind c.self-then-required-self.inside.inner ≡ kind was.writer = ap kind writer ∙ c.in_ok-flush.ensures.flushes.same_kind in
-    let passes : was.format.capacity < size_of was.format line = omega (arith, ap (λ p. p.format.capacity) c.self.view_is, ap (λ p. length p.format.ending) c.self.view_is) in
+    let passes : was.format.capacity < size_of was.format line =
+    omega (arith, ap (λ p. p.format.capacity) c.self.view_is, ap (λ p. length p.format.ending) c.self.view_is) in
     let over : is_oversize was.format line ≡ true = search rules in
     let old = history was.writer in
     let mid = history c.self-then-required-self.inside.inner in
@@ -39,13 +41,16 @@ returns-then-required-self g c =
         writes =
             subst (λ (rest : List ℕ). Writes (kind was.writer) was.format old new was.held rest line answer) (sym emptied)
             (Writes-alone (kind was.writer) old mid new was.held was.format line ok answer
-            (subst (λ w. Flushes (kind was.writer) old (history w) was.held [] (Ok ok)) (sym writer) (subst (λ (rest : List ℕ). Flushes (kind was.writer) old (history c.flush.new.self.writer) was.held rest (Ok ok)) flushed.empties flushed))
+            (subst (λ w. Flushes (kind was.writer) old (history w) was.held [] (Ok ok)) (sym writer)
+            (subst (λ (rest : List ℕ). Flushes (kind was.writer) old (history c.flush.new.self.writer) was.held rest (Ok ok))
+            flushed.empties flushed))
             over passes
-            (subst (λ (k : Kind). WritesPacket k mid new line answer) same_kind c.write_packet_narrow.ensures.writes));
+            (subst (λ (k : WriterKind). WritesPacket k mid new line answer) same_kind c.write_packet_narrow.ensures.writes));
       };
       offers = record {
         closes = λ more no. absurd (false≢true (sym no ∙ over));
         alone = λ _. alone_offers (offers was.writer) between after was.held line answer flushed_offers c.write_packet_narrow.ensures.offers;
-        refused = λ _. refused_offers (offers was.writer) between after was.held _ line answer flushed_offers c.write_packet_narrow.ensures.offers emptied;
+        refused =
+            λ _. refused_offers (offers was.writer) between after was.held _ line answer flushed_offers c.write_packet_narrow.ensures.offers emptied;
       };
     }

@@ -2,7 +2,7 @@ use Rattle.std.proofs.Common.{◌<◌, ◌^◌, ◌++◌, List, arith, length, l
 use Rattle.cadence_text.specs.declared.line.tag.Tag.{Tag}
 use Rattle.cadence_text.specs.Metric.{Metric}
 use Rattle.cadence_text.specs.Record.{metric_of, tag_of}
-use Rattle.cadence_text.specs.RecordMetric.{AreRecordTags, IsRecordMetric}
+use Rattle.cadence_text.specs.MetricInMemory.{AreTagsInMemory, IsMetricInMemory}
 use Rattle.cadence_text.proofs.LineLength.{joined_utf8}
 use Rattle.cadence_text.proofs.line.record.Record.push_line.Goals as goal
 
@@ -13,13 +13,13 @@ returns-clause-sized g c =
     let key = inside.head.key.now in
     let said = c.push_head.ensures in
     let short : length (prefix ++ key) < 2 ^ 64 = omega (arith, said.prefix.0, said.key.0, length-append prefix key) in
-    let whole : IsRecordMetric (metric_of inside) = record {
+    let whole : IsMetricInMemory (metric_of inside) = record {
       name = short;
       utf8 = joined_utf8 prefix key said.prefix.1 said.key.1;
       numbers = said.numbers;
       rate = c.push_rate.ensures.sized;
-      tags = subst (λ (ts : List Tag). AreRecordTags (map tag_of ts)) c.deref.ensures.value c.push_tags.ensures.sized;
+      tags = subst (λ (ts : List Tag). AreTagsInMemory (map tag_of ts)) c.deref.ensures.value c.push_tags.ensures.sized;
       container = c.push_last.ensures.container;
       time = c.push_last.ensures.time;
     } in
-    subst (λ (m : Metric). IsRecordMetric m) c.self.view_is whole
+    subst (λ (m : Metric). IsMetricInMemory m) c.self.view_is whole

@@ -3,7 +3,7 @@ use Rattle.std.proofs.lemmas.List.{length-take, length-drop}
 use Rattle.cadence_text.specs.Line.{line_of}
 use Rattle.cadence_text.proofs.LineLength.{line_is_short}
 use Rattle.cadence_text.proofs.LineText.{line_once}
-use Rattle.cadence_text.proofs.Windows.{alike_further, alike_whole, windows_alike}
+use Rattle.cadence_text.proofs.WindowText.{alike_further, alike_whole, windows_alike}
 use Rattle.cadence_text.proofs.line.record.Record.same_line.Goals as goal
 
 pub returns-then-shown-lt-WINDOW-clause-lines : goal.returns-then-shown-lt-WINDOW-clause-lines
@@ -12,8 +12,15 @@ returns-then-shown-lt-WINDOW-clause-lines g c =
     let theirs = line_of c.args.other.now in
     let skip = c.loop-ours.skip in
     let same : c.shown.result.now ≡ c.shown-in-loop-ours.result.now = search rules in
-    let here : take 512 (drop skip ours) ≡ take 512 (drop skip theirs) = windows_alike ours theirs _ _ c.shown.result.now c.shown-in-loop-ours.result.now skip c.window_of-ours.ensures.shown c.window_of-theirs.ensures.shown c.shown.ensures c.shown-in-loop-ours.ensures same in
-    let short : length (take 512 (drop skip ours)) < 512 = omega (arith, c.if-shown-lt-WINDOW.true, ap length (c.shown-in-loop-ours-2.ensures ∙ c.window_of-ours.ensures.shown)) in
+    let here : take 512 (drop skip ours) ≡ take 512 (drop skip theirs) =
+    windows_alike ours theirs _ _ c.shown.result.now c.shown-in-loop-ours.result.now skip c.window_of-ours.ensures.shown
+    c.window_of-theirs.ensures.shown c.shown.ensures c.shown-in-loop-ours.ensures same in
+    let short : length (take 512 (drop skip ours)) < 512 = omega (
+      arith,
+      c.if-shown-lt-WINDOW.true,
+      ap length (c.shown-in-loop-ours-2.ensures
+          ∙ c.window_of-ours.ensures.shown),
+    ) in
     (λ _. alike_whole ours theirs skip 512 c.loop-ours.invariant.alike here short, λ _. search rules)
 
 pub returns-then-shown-lt-WINDOW-clause-metrics : goal.returns-then-shown-lt-WINDOW-clause-metrics
@@ -27,8 +34,15 @@ loop-ours-preserved g c =
     let theirs = line_of c.args.other.now in
     let skip = c.loop-ours.skip in
     let same : c.shown.result.now ≡ c.shown-in-loop-ours.result.now = search rules in
-    let here : take 512 (drop skip ours) ≡ take 512 (drop skip theirs) = windows_alike ours theirs _ _ c.shown.result.now c.shown-in-loop-ours.result.now skip c.window_of-ours.ensures.shown c.window_of-theirs.ensures.shown c.shown.ensures c.shown-in-loop-ours.ensures same in
-    let full : 512 ≤ length (take 512 (drop skip ours)) = omega (arith, c.if-shown-lt-WINDOW.false, ap length (c.shown-in-loop-ours-2.ensures ∙ c.window_of-ours.ensures.shown)) in
+    let here : take 512 (drop skip ours) ≡ take 512 (drop skip theirs) =
+    windows_alike ours theirs _ _ c.shown.result.now c.shown-in-loop-ours.result.now skip c.window_of-ours.ensures.shown
+    c.window_of-theirs.ensures.shown c.shown.ensures c.shown-in-loop-ours.ensures same in
+    let full : 512 ≤ length (take 512 (drop skip ours)) = omega (
+      arith,
+      c.if-shown-lt-WINDOW.false,
+      ap length (c.shown-in-loop-ours-2.ensures
+          ∙ c.window_of-ours.ensures.shown),
+    ) in
     record {
       alike = alike_further ours theirs skip 512 c.loop-ours.invariant.alike here;
       within = omega (arith, full, length-take 512 (drop skip ours), length-drop skip ours, c.loop-ours.invariant.within);

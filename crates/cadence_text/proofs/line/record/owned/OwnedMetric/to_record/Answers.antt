@@ -9,6 +9,15 @@ pub returns : goal.returns
 returns g c =
     let owned = c.args.self.now in
     let numbers : c.in_ok-numbers.numbers.items ≡ owned.numbers.items = c.in_ok-numbers.ensures.items ∙ c.deref.ensures.value in
-    let tags : map tag_of c.in_ok-tags.tags.items ≡ map tag_of_owned owned.tags.items = c.in_ok-tags.ensures ∙ ap (map tag_of_owned) c.deref-2.ensures.value in
+    let tags : map tag_of c.in_ok-tags.tags.items ≡ map tag_of_owned owned.tags.items = c.in_ok-tags.ensures
+    ∙ ap (map tag_of_owned) c.deref-2.ensures.value in
     let container : option_copied c.map.result ≡ option_map string_bytes owned.container = search rules in
-    λ i. record { name = c.deref-3.ensures i; numbers = numbers i; kind = owned.kind; rate = owned.rate; tags = tags i; container = container i; time = owned.time }
+    λ i. record {
+      name = c.deref-3.ensures i;
+      numbers = numbers i;
+      kind = owned.kind;
+      rate = owned.rate;
+      tags = tags i;
+      container = container i;
+      time = owned.time;
+    }

@@ -1,0 +1,70 @@
+//! Calls of a client, each of one size.
+
+use crate::done::{BlackBox, Done, Note};
+use cadence::prelude::*;
+use cadence::{Metric, MetricResult, StatsdClient};
+use std::time::Instant;
+
+/// Sends counters without tags.
+pub fn count(rt: &HostRuntime, client: &StatsdClient, calls: u64) -> MetricResult<Done> {
+    let hidden = BlackBox::new();
+    let mut check = 0u64;
+    let start = Instant::now(rt)?;
+    for i in 0..calls {
+        let metric = client.count(
+            hidden.text("some.counter"),
+            hidden.hide((i % 1000) as i64, 0),
+        )?;
+        check = check.wrapping_add(metric.as_metric_str().len() as u64);
+    }
+    Ok(Done {
+        time: start.elapsed(rt)?,
+        check,
+        note: Note::Nothing,
+    })
+}
+
+/// Sends counters with three tags of their own, two of them with a key.
+pub fn count_tags(rt: &HostRuntime, client: &StatsdClient, calls: u64) -> MetricResult<Done> {
+    let hidden = BlackBox::new();
+    let mut check = 0u64;
+    let start = Instant::now(rt)?;
+    for i in 0..calls {
+        let metric = client
+            .count_with_tags(
+                hidden.text("some.counter"),
+                hidden.hide((i % 1000) as i64, 0),
+            )
+            .with_tag(hidden.text("host"), hidden.text("web03.example.com"))
+            .with_tag(hidden.text("region"), hidden.text("us-east-2"))
+            .with_tag_value(hidden.text("beta"))
+            .try_send()?;
+        check = check.wrapping_add(metric.as_metric_str().len() as u64);
+    }
+    Ok(Done {
+        time: start.elapsed(rt)?,
+        check,
+        note: Note::Nothing,
+    })
+}
+
+/// Sends histograms of four values.
+pub fn histogram4(rt: &HostRuntime, client: &StatsdClient, calls: u64) -> MetricResult<Done> {
+    let hidden = BlackBox::new();
+    let mut check = 0u64;
+    let start = Instant::now(rt)?;
+    for i in 0..calls {
+        let v = hidden.hide(i % 1000, 0);
+        let values = Vec::from_slice(
+            rt.alloc(),
+            &[v, v.wrapping_add(1), v.wrapping_add(2), v.wrapping_add(3)],
+        )?;
+        let metric = client.histogram(hidden.text("some.histogram"), values)?;
+        check = check.wrapping_add(metric.as_metric_str().len() as u64);
+    }
+    Ok(Done {
+        time: start.elapsed(rt)?,
+        check,
+        note: Note::Nothing,
+    })
+}

@@ -1,0 +1,122 @@
+//! Lines into sinks and queues, from one thread.
+
+use crate::arguments::Arguments;
+use crate::done::{BlackBox, Done, Note};
+use crate::packets::make_line;
+use cadence::sinks::Target;
+use cadence::{BufferedUdpMetricSink, MetricResult, MetricSink, NopMetricSink, QueuingMetricSink};
+use std::alloc::Global;
+use std::net::{Ipv4Addr, Net, SocketAddr, UdpSocket};
+use std::sync::Wait;
+use std::thread::{self, Threads};
+use std::time::{Clock, Duration, Instant};
+
+// Binds a socket at the loopback address, with a port of its own.
+fn bind_to_loopback(rt: &impl Net) -> MetricResult<UdpSocket> {
+    Ok(UdpSocket::bind(rt, SocketAddr::from((Ipv4Addr::LOCALHOST, 0)))?)
+}
+
+/// Makes a buffered UDP sink, and the socket of this process that it sends to, which nobody reads.
+pub fn make_buffered_sink<R: Net + Wait + Clone + Drop>(
+    rt: &R,
+    alloc: Global,
+    capacity: usize,
+) -> MetricResult<(UdpSocket, BufferedUdpMetricSink<R>)> {
+    let server = bind_to_loopback(rt)?;
+    let target = Target::Addr(server.local_addr()?);
+    let socket = bind_to_loopback(rt)?;
+    let sink = BufferedUdpMetricSink::with_capacity(rt.clone()?, alloc, target, socket, capacity)?;
+    Ok((server, sink))
+}
+
+/// Returns what a buffered sink sent in this time.
+pub fn done_by<S: MetricSink>(time: Duration, sink: &S) -> Done {
+    let stats = sink.stats();
+    let bytes = stats.bytes_sent.wrapping_mul(1_000_003);
+    Done {
+        time,
+        check: bytes.wrapping_add(stats.packets_sent),
+        note: Note::Packets(stats.packets_sent),
+    }
+}
+
+// Emits the line `calls` times, and flushes.
+fn emit_all<R: Clock, S: MetricSink>(
+    rt: &R,
+    sink: &S,
+    line: &str,
+    calls: u64,
+) -> MetricResult<Done> {
+    let hidden = BlackBox::new();
+    let start = Instant::now(rt)?;
+    for _ in 0..calls {
+        sink.emit(hidden.text(line))?;
+    }
+    sink.flush()?;
+    Ok(done_by(start.elapsed(rt)?, sink))
+}
+
+/// Emits lines into a buffered UDP sink.
+pub fn emit_to_udp<R: Clock + Net + Wait + Clone + Drop>(
+    rt: &R,
+    alloc: Global,
+    arguments: &Arguments,
+) -> MetricResult<Done> {
+    let line = make_line(alloc, arguments.length)?;
+    let (_server, sink) = make_buffered_sink(rt, alloc, arguments.capacity)?;
+    emit_all(rt, &sink, &line, arguments.calls)
+}
+
+/// Makes a queue over a sink. A queue of capacity 0 has no bound.
+pub fn make_queue<
+    S: MetricSink + Send + Sync + 'static,
+    R: Wait + Threads + Clone + Drop + Send + Sync + 'static,
+>(rt: &R, alloc: Global, sink: S, capacity: usize) -> MetricResult<QueuingMetricSink<S, R>> {
+    match capacity {
+        0 => QueuingMetricSink::from(rt.clone()?, alloc, sink),
+        capacity => QueuingMetricSink::with_capacity(rt.clone()?, alloc, sink, capacity),
+    }
+}
+
+/// Waits until the worker has taken this many lines.
+pub fn wait_until_drained<S: MetricSink, R: Wait + Drop>(
+    rt: &R,
+    queue: &QueuingMetricSink<S, R>,
+    lines: u64,
+) {
+    for _ in rt.forever() {
+        if queue.drained() >= lines {
+            return;
+        }
+        thread::yield_now();
+    }
+}
+
+/// Emits lines into a queue over a sink that does nothing. The time is that of the emits alone.
+pub fn emit_to_queue<R: Clock + Wait + Threads + Clone + Drop + Send + Sync + 'static>(
+    rt: &R,
+    alloc: Global,
+    arguments: &Arguments,
+) -> MetricResult<Done> {
+    let line = make_line(alloc, arguments.length)?;
+    let queue = make_queue(rt, alloc, NopMetricSink, arguments.capacity)?;
+    queue.emit(&line)?;
+    wait_until_drained(rt, &queue, 1);
+    let hidden = BlackBox::new();
+    let mut accepted = 0u64;
+    let start = Instant::now(rt)?;
+    for _ in 0..arguments.calls {
+        if queue.emit(hidden.text(&line)).is_ok() {
+            accepted = accepted.wrapping_add(1);
+        }
+    }
+    let time = start.elapsed(rt)?;
+    wait_until_drained(rt, &queue, accepted.wrapping_add(1));
+    let drained = start.elapsed(rt)?;
+    queue.stop_and_wait();
+    Ok(Done {
+        time,
+        check: if arguments.capacity == 0 { accepted } else { 0 },
+        note: Note::Accepted(accepted, drained),
+    })
+}

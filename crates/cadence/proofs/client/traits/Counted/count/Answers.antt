@@ -1,9 +1,0 @@
-use Rattle.cadence_text.specs.declared.line.MetricType.TheVariants.{Counter}
-use Rattle.cadence.proofs.SendingLemmas.{sends_plain}
-use Rattle.cadence.proofs.client.traits.Counted.count.Goals as goal
-
-pub returns : goal.returns
-returns g c =
-    let started = c.count_with_tags in
-    sends_plain _ g.Self.MetricBackend.line_may_get started.result.client.now c.args.self.now (g.Self.MetricBackend.settings c.args.self.now) Counter c.args.key.now (g.T.ToCounterValue.numbers c.args.value) started.result.draft c.try_send.result
-    started.ensures.client started.ensures.pending c.try_send.ensures.answers

@@ -1,0 +1,9 @@
+-- The target that is a host's name and a port.
+use Rattle.std.specs.Prelude.{◌≡◌, ℕ, List, string_bytes}
+use Rattle.cadence_resolve.specs.declared.target.Target.{Target}
+use Rattle.cadence_resolve.specs.declared.target.Target.TheVariants.{Name}
+
+-- The target is a host with this name and this port.
+abbrev pub IsHost : {A : Type 0} → List ℕ → ℕ → Target A → Type 0
+IsHost name port (Name host number) = (string_bytes host ≡ name) × (number ≡ port)
+IsHost name port _ = ⊥

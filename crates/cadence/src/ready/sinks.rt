@@ -1,0 +1,122 @@
+//! Sinks over UDP with sockets of their own, made from a runtime, an allocator and a target.
+ghost use Rattle.std.specs.Prelude.{◌≡◌, false, IfOk, IfErr};
+ghost use Rattle.cadence_resolve.specs.Refusals.{IsSocketRefusal};
+ghost use Rattle.cadence.specs.Host.{IsHost};
+ghost use Rattle.cadence_sinks.specs.Buffers.{udp_buffer};
+ghost use Rattle.cadence_sinks.specs.Queuing.{capacity_of, policy_of, queue_capacity, queue_policy, wrapped_sink};
+ghost use Rattle.cadence_sinks.specs.Udp.{looks_up_again};
+
+use cadence_errors::MetricResult;
+use cadence_resolve::{StaticResolver, Target, bind_socket};
+use cadence_sinks::{
+    BufferedUdpMetricSink, QueuingMetricSink, QueuingMetricSinkBuilder, UdpMetricSink,
+};
+use std::alloc::{AllocError, Allocator, Global};
+use std::net::{Net, SocketAddr, UdpSocket};
+use std::sync::Wait;
+use std::thread::Threads;
+
+/// A queuing sink that hands its lines to a buffered UDP sink.
+pub type QueuedUdpSink<R, A = Global> = QueuingMetricSink<BufferedUdpMetricSink<R, A>, R, A>;
+
+/// Returns the target for a host's name, or for an address as text, and a port. It fails only if memory runs out.
+pub fn host<A: Allocator>(alloc: A, name: &str, port: u16) -> Result<Target<A>, AllocError>
+    ensures { IfOk result (IsHost name.now port) }
+{
+    let host = String::from_str(alloc, name)?;
+    Ok(Target::Name { host, port })
+}
+
+// Looks the target up, and binds a socket that can send to its first address, at a port that the system picks.
+fn socket_to<A: Allocator + Clone>(
+    net: &impl Net,
+    alloc: &A,
+    target: Target<A>,
+) -> MetricResult<(SocketAddr, UdpSocket)>
+    ensures { IfErr result (λ e. IsSocketRefusal e) }
+{
+    let address = StaticResolver::new(net, alloc.clone()?, &target)?.get_addr();
+    Ok((address, bind_socket(net, address)?))
+}
+
+/// Makes a `UdpMetricSink` with a socket of its own. The target is looked up once, now, and the sink sends to its first
+/// address.
+///
+/// The errors are `SinkError::Io` if the lookup fails or the socket can't be made, the kind `InvalidInput` if the name
+/// has no address, and `SinkError::OutOfMemory`.
+pub fn udp_sink<R: Net + Wait + Clone + Drop, A: Allocator + Clone>(
+    rt: &R,
+    alloc: A,
+    target: Target<A>,
+) -> MetricResult<UdpMetricSink<R, A>>
+    ensures once { IfOk result (λ s. looks_up_again s ≡ false) }
+    ensures refused { IfErr result (λ e. IsSocketRefusal e) }
+{
+    let (address, socket) = socket_to(rt, &alloc, target)?;
+    UdpMetricSink::from(rt.clone()?, alloc, Target::Addr(address), socket)
+}
+
+/// Makes a `BufferedUdpMetricSink` with a socket of its own and a buffer of `capacity` bytes. The errors are those of
+/// `udp_sink`.
+pub fn buffered_udp_sink<R: Net + Wait + Clone + Drop, A: Allocator + Clone>(
+    rt: &R,
+    alloc: A,
+    target: Target<A>,
+    capacity: usize,
+) -> MetricResult<BufferedUdpMetricSink<R, A>>
+    ensures buffer { IfOk result (λ s. udp_buffer s ≡ capacity) }
+    ensures refused { IfErr result (λ e. IsSocketRefusal e) }
+{
+    let (address, socket) = socket_to(rt, &alloc, target)?;
+    BufferedUdpMetricSink::with_capacity(
+        rt.clone()?,
+        alloc,
+        Target::Addr(address),
+        socket,
+        capacity,
+    )
+}
+
+/// Makes a queuing sink with these settings over a buffered UDP sink with a buffer of `capacity` bytes, and starts its
+/// worker thread. The errors are those of `udp_sink`, and `SinkError::Io` if the thread can't be started.
+pub fn queued_udp_sink_with<
+    R: Net + Wait + Threads + Clone + Drop + Send + Sync + 'static,
+    A: Allocator + Clone + Send + Sync + 'static,
+>(
+    rt: &R,
+    alloc: A,
+    target: Target<A>,
+    capacity: usize,
+    settings: QueuingMetricSinkBuilder<A>,
+) -> MetricResult<QueuedUdpSink<R, A>>
+    ensures buffer { IfOk result (λ q. udp_buffer (wrapped_sink q) ≡ capacity) }
+    ensures lines { IfOk result (λ q. queue_capacity q ≡ capacity_of settings) }
+    ensures policy { IfOk result (λ q. queue_policy q ≡ policy_of settings) }
+    ensures refused { IfErr result (λ e. IsSocketRefusal e) }
+{
+    let sink = buffered_udp_sink(rt, alloc.clone()?, target, capacity)?;
+    settings.build(rt.clone()?, alloc, sink)
+}
+
+/// Makes a queuing sink for at most `lines` lines, or for any number, over a buffered UDP sink, and starts its worker
+/// thread. The errors are those of `udp_sink`, and `SinkError::Io` if the thread can't be started.
+pub fn queued_udp_sink<
+    R: Net + Wait + Threads + Clone + Drop + Send + Sync + 'static,
+    A: Allocator + Clone + Send + Sync + 'static,
+>(
+    rt: &R,
+    alloc: A,
+    target: Target<A>,
+    capacity: usize,
+    lines: Option<usize>,
+) -> MetricResult<QueuedUdpSink<R, A>>
+    ensures buffer { IfOk result (λ q. udp_buffer (wrapped_sink q) ≡ capacity) }
+    ensures lines { IfOk result (λ q. queue_capacity q ≡ lines) }
+    ensures refused { IfErr result (λ e. IsSocketRefusal e) }
+{
+    let settings = match lines {
+        Some(lines) => QueuingMetricSinkBuilder::new().with_capacity(lines),
+        None => QueuingMetricSinkBuilder::new(),
+    };
+    queued_udp_sink_with(rt, alloc, target, capacity, settings)
+}

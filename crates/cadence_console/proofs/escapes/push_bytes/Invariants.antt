@@ -1,6 +1,0 @@
-use Rattle.std.proofs.Common.{◌≡◌, ◌++◌, string_bytes, take}
-use Rattle.cadence_console.specs.Escapes.{escaped}
-use Rattle.cadence_console.proofs.escapes.push_bytes.Given as goal
-
-abbrev pub invariant-loop-byte : goal.invariant-loop-byte
-invariant-loop-byte g l = string_bytes l.out ≡ string_bytes l.initial.out ++ escaped (take l.byte-index l.bytes)

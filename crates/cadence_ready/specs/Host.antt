@@ -1,9 +1,0 @@
--- The target of a host's name.
-use Rattle.std.specs.Prelude.{◌≡◌, ℕ, List, string_bytes}
-use Rattle.cadence_resolve.specs.declared.target.Target.{Target}
-use Rattle.cadence_resolve.specs.declared.target.Target.TheVariants.{Name}
-
--- the target has this name and this port
-abbrev pub IsHost : {A : Type 0} → List ℕ → ℕ → Target A → Type 0
-IsHost name port (Name host number) = (string_bytes host ≡ name) × (number ≡ port)
-IsHost name port _ = ⊥

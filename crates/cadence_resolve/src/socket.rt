@@ -1,0 +1,15 @@
+//! A socket that can send to an address.
+
+use std::io;
+use std::net::{Ipv4Addr, Ipv6Addr, Net, SocketAddr, UdpSocket};
+
+/// Binds a UDP socket of the family of an address, IPv4 or IPv6, at a port that the system picks. Such a socket can send
+/// to the address. The error is the system's.
+pub fn bind_socket(net: &impl Net, address: SocketAddr) -> io::Result<UdpSocket> {
+    let any = if address.is_ipv4() {
+        SocketAddr::from((Ipv4Addr::UNSPECIFIED, 0))
+    } else {
+        SocketAddr::from((Ipv6Addr::UNSPECIFIED, 0))
+    };
+    UdpSocket::bind(net, any)
+}

@@ -1,0 +1,4 @@
+-- Calls: their options and metrics, the drafts of their lines, and the prefix.
+pub mod CallOptions
+pub mod NonemptyLines
+pub mod TrailingDots

@@ -1,0 +1,181 @@
+-- What a run shows at its end: its packets, its cut, its counts and its sums.
+use Rattle.std.proofs.Common.{◌≡◌, ◌≢◌, ℕ, zero-le, ◌+◌, ◌%◌, ◌^◌, ◌<◌, ◌≤◌, List, [], ◌∷◌, ◌++◌, Option, Some, None, Ok, Err, Bool, true}
+use Rattle.std.proofs.Common.{false, length, drop, refl, sym, ap, ◌∙◌, arith, subst, cond, map}
+use Rattle.std.specs.List.{concat}
+use Rattle.std.specs.Option.{option_to_list}
+use Rattle.std.proofs.lemmas.List.{append-nil, append_assoc, length-append, drop_at}
+use Rattle.std.proofs.lemmas.List.Concat.{flat_map-append}
+use Rattle.std.proofs.lemmas.List.Folds.{concat-append}
+use Rattle.std.proofs.lemmas.List.Sums.{sum_by-cons}
+use Rattle.cadence_flow.specs.Frame.{Format, size_of, frame, stream, held_packet, taken_stream}
+use Rattle.cadence_flow.specs.Sums.{less, start_of, counted_kind, start_if, zero_sums}
+use Rattle.cadence_flow.specs.Writer.{PacketHistory, WriterKind, Extends}
+use Rattle.cadence_flow.specs.declared.queue.policy.QueuePolicy.{QueuePolicy}
+use Rattle.cadence_flow.specs.declared.stats.SinkStats.{SinkStats}
+use Rattle.cadence_schedule.specs.declared.call.Call.{Call}
+use Rattle.cadence_schedule.specs.declared.steps.Step.TheVariants as step
+use Rattle.cadence_schedule.specs.declared.steps.Reply.TheVariants as reply
+use Rattle.cadence_schedule.specs.Headline.{packets_between, AreSumsBetween}
+use Rattle.cadence_schedule.specs.RunHistory.{Turn, accepted, accepted_by, taken_count, dropped_count, kept, kept_counts, error_count}
+use Rattle.cadence_schedule.specs.RunHistory.{is_error, marks}
+use Rattle.cadence_schedule.specs.RunHistory.{refusals, refusal_at, places_after}
+use Rattle.cadence_schedule.specs.Packets.{ArePacketsOf}
+use Rattle.cadence_schedule.specs.Plan.{groups_of, IsTight, IsCutLate}
+use Rattle.cadence_schedule.specs.Moves.{State}
+use Rattle.cadence_schedule.proofs.packets.ListEnds.{joined}
+use Rattle.cadence_schedule.proofs.packets.CutLengths.{shown, shown_late}
+use Rattle.cadence_schedule.proofs.headline.EachTurn.{After}
+
+-- the packets joined, then the held text
+joined_packets : (packets : List (List ℕ)) (held : List ℕ) → concat (packets ++ held_packet held) ≡ concat packets ++ held
+joined_packets [] [] = refl
+joined_packets [] (b ∷ held) = append-nil (b ∷ held)
+joined_packets (p ∷ packets) held = ap (λ t. p ++ t) (joined_packets packets held) ∙ sym (append_assoc p (concat packets) held)
+
+joined_groups : (format : Format) (groups : List (List (List ℕ))) → concat (map (stream format) groups) ≡ stream format (joined groups)
+joined_groups format [] = refl
+joined_groups format (group ∷ groups) =
+    ap (λ t. stream format group ++ t) (joined_groups format groups) ∙ sym (flat_map-append (frame format) group (joined groups))
+
+-- equal texts that begin alike end alike
+goes_on : (xs ys zs : List ℕ) → xs ++ ys ≡ xs ++ zs → ys ≡ zs
+goes_on [] ys zs e = e
+goes_on (x ∷ xs) ys zs e = goes_on xs ys zs (let tail : xs ++ ys ≡ xs ++ zs = cc in tail)
+
+between_is : (before after : PacketHistory) (more : List (List ℕ)) → after.packets ≡ before.packets ++ more → packets_between before after ≡ more
+between_is before after more e = ap (drop (length before.packets)) e ∙ drop_at before.packets more (length before.packets) refl
+
+short_mod : (n m : ℕ) → n ≤ m → m < 2 ^ 64 → n % 2 ^ 64 ≡ n
+short_mod n m h short = omega arith
+
+module _ {A : Type 0} (line_of : Call A → Option (List ℕ)) where
+  none_here : (t : Turn A) (n : ℕ) → ◌≡◌ {A = ℕ} (cond (is_error t) 1 0) 0 → refusal_at line_of n t ≡ []
+  none_here (step.Hand, reply.Handed (Err e)) n h = absurd (omega arith)
+  none_here _ n h = refl
+
+  -- with no error there is no place of a refused line
+  no_refusals : (before h : List (Turn A)) → error_count h ≡ 0 → places_after line_of (refusal_at line_of) before h ≡ []
+  no_refusals before [] e = refl
+  no_refusals before (t ∷ h) e =
+      let parts : error_count (t ∷ h) ≡ cond (is_error t) 1 0 + error_count h = sum_by-cons (λ u. cond (is_error u) 1 0) t h in
+      let here : refusal_at line_of (length (kept line_of before)) t ≡ [] = none_here t (length (kept line_of before)) (omega arith) in
+      let later : places_after line_of (refusal_at line_of) (before ++ t ∷ []) h ≡ [] = no_refusals (before ++ t ∷ []) h (omega arith) in
+      (λ i. here i ++ later i)
+
+  bit_le : (b : Bool) → cond b 1 0 ≤ 1
+  bit_le true = omega arith
+  bit_le false = omega arith
+
+  errors_le : (h : List (Turn A)) → error_count h ≤ length h
+  errors_le [] = zero-le
+  errors_le (t ∷ h) = omega (arith, sum_by-cons (λ u. cond (is_error u) 1 0) t h, bit_le (is_error t), errors_le h)
+
+  option_one : (o : Option (List ℕ)) → length (option_to_list o) ≤ 1
+  option_one None = zero-le
+  option_one (Some line) = omega arith
+
+  accepted_one : (t : Turn A) → length (accepted_by line_of t) ≤ 1
+  accepted_one (step.Call call, reply.Called (Ok n)) = option_one (line_of call)
+  accepted_one (step.Call call, reply.CallDropped n m) = option_one (line_of call)
+  accepted_one _ = zero-le
+
+  accepted_le : (h : List (Turn A)) → length (accepted line_of h) ≤ length h
+  accepted_le [] = zero-le
+  accepted_le (t ∷ h) = omega (arith, length-append (accepted_by line_of t) (accepted line_of h), accepted_one t, accepted_le h)
+
+  module _ (filled : (call : Call A) (line : List ℕ) → line_of call ≡ Some line → line ≢ []) (kind : WriterKind) (format : Format)
+      (queue : Option ℕ) (policy : QueuePolicy) (start : PacketHistory) (h : List (Turn A)) (s : State)
+      (a : After line_of filled kind format queue policy start h s) where
+    pub run_taken : kind.tells ≡ true → concat (packets_between start s.history) ++ s.held ≡ taken_stream format (kept_counts line_of h)
+    run_taken tells =
+        let b = a.text tells in
+        let (more, e) = b.extends in
+        let text : concat start.packets ++ (concat more ++ s.held) ≡ concat start.packets ++ taken_stream format (kept_counts line_of h) =
+        sym (append_assoc (concat start.packets) (concat more) s.held)
+        ∙ ap (λ t. t ++ s.held) (sym (concat-append start.packets more) ∙ ap concat (sym e)) ∙ b.text in
+        ap (λ p. concat p ++ s.held) (between_is start s.history more e)
+        ∙ goes_on (concat start.packets) (concat more ++ s.held) (taken_stream format (kept_counts line_of h)) text
+
+    pub run_stream : kind.tells ≡ true → kind.takes_whole ≡ true → concat (packets_between start s.history) ++ s.held ≡ stream format (kept line_of h)
+    run_stream tells whole =
+        let b = a.cut tells whole in
+        ap (λ p. concat p ++ s.held) (between_is start s.history b.packets b.since)
+        ∙ sym (joined_packets b.packets s.held) ∙ ap concat b.cut.into ∙ joined_groups format b.groups ∙ ap (stream format) b.cut.all
+
+    pub run_cut : kind.tells ≡ true → kind.takes_whole ≡ true
+        → ArePacketsOf format (marks line_of h) (refusals line_of h) (kept line_of h) s.cut (packets_between start s.history) s.held
+    run_cut tells whole =
+        let b = a.cut tells whole in
+        subst (λ p. ArePacketsOf format (marks line_of h) (refusals line_of h) (kept line_of h) s.cut p s.held)
+        (sym (between_is start s.history b.packets b.since))
+        (subst (λ p. ArePacketsOf format (marks line_of h) (refusals line_of h) (kept line_of h) p b.packets s.held) (sym b.plan_is)
+        (shown format (marks line_of h) (refusals line_of h) (kept line_of h) b.groups b.packets s.held b.cut))
+
+    pub run_late : kind.tells ≡ true → kind.takes_whole ≡ true
+        → IsCutLate format.capacity (marks line_of h ++ refusals line_of h) (groups_of s.cut (map (size_of format) (kept line_of h)))
+    run_late tells whole =
+        let b = a.cut tells whole in
+        subst (λ p. IsCutLate format.capacity (marks line_of h ++ refusals line_of h) (groups_of p (map (size_of format) (kept line_of h))))
+        (sym b.plan_is)
+        (shown_late format (marks line_of h) (refusals line_of h) (kept line_of h) b.groups b.packets s.held b.cut)
+
+    pub run_tight : length h < 2 ^ 64 → kind.tells ≡ true → kind.takes_whole ≡ true → s.history.refusals ≡ start.refusals
+        → IsTight format.capacity (marks line_of h) (map (size_of format) (kept line_of h)) s.cut
+    run_tight short tells whole none =
+        let counted : s.history.refusals % 2 ^ 64 ≡ (start.refusals + error_count h) % 2 ^ 64 = a.refusals whole in
+        let no_errors : error_count h ≡ 0 =
+        none_counted s.history.refusals start.refusals (error_count h) (length h) none counted (errors_le h) short in
+        record {
+          admissible = (run_cut tells whole).admissible;
+          no_later = subst (λ e. IsCutLate format.capacity e (groups_of s.cut (map (size_of format) (kept line_of h))))
+              (ap (λ r. marks line_of h ++ r) (no_refusals [] h no_errors) ∙ append-nil (marks line_of h)) (run_late tells whole);
+        }
+      where
+        none_counted : (new old n m : ℕ) → new ≡ old → new % 2 ^ 64 ≡ (old + n) % 2 ^ 64 → n ≤ m → m < 2 ^ 64 → n ≡ 0
+        none_counted new old n m e f g k = omega arith
+
+    pub run_submitted : length h < 2 ^ 64 → s.submitted ≡ length (accepted line_of h)
+    run_submitted short = a.line.submitted_is ∙ short_mod (length (accepted line_of h)) (length h) (accepted_le h) short
+
+    pub run_drained : length h < 2 ^ 64 → s.drained ≡ taken_count h
+    run_drained short = a.line.drained_is ∙ short_mod (taken_count h) (length h) (omega (arith, a.line.within, accepted_le h)) short
+
+    pub run_dropped : length h < 2 ^ 64 → s.dropped ≡ dropped_count h
+    run_dropped short = a.line.dropped_is ∙ short_mod (dropped_count h) (length h) (omega (arith, a.line.within, accepted_le h)) short
+
+-- the sums of a run that began with none
+sum_between : (s n0 n1 more : ℕ) → n1 ≡ n0 + more → s < 2 ^ 64 → less s n1 ≡ less 0 n0 → s ≡ more % 2 ^ 64
+sum_between s n0 n1 more e small same = omega arith
+
+drop_between : (s n0 n1 : ℕ) → less s n1 ≡ less 0 n0 → (n0 + s) % 2 ^ 64 ≡ n1 % 2 ^ 64
+drop_between s n0 n1 same = omega arith
+
+-- a counting writer that began with no sums
+counted_start : (k0 k1 : WriterKind) (h0 h1 : PacketHistory) (s : SinkStats) → counted_kind k1 h1 s ≡ counted_kind k0 h0 zero_sums
+    → k0.tells ≡ true → start_of s h1 ≡ start_of zero_sums h0
+counted_start k0 k1 h0 h1 s same tells =
+    let told : k1.tells ≡ true = ap (λ (k : WriterKind). k.tells) same ∙ tells in
+    subst (λ b. start_of s h1 ≡ start_if b zero_sums h0) tells
+    (subst (λ b. start_if b s h1 ≡ start_if k0.tells zero_sums h0) told (ap (λ (k : WriterKind). k.start) same))
+
+length_between : (h0 h1 : PacketHistory) (more : List (List ℕ)) → h1.packets ≡ h0.packets ++ more
+    → length (concat h1.packets) ≡ length (concat h0.packets) + length (concat more)
+length_between h0 h1 more e = ap (λ p. length (concat p)) e ∙ ap (λ t. length t) (concat-append h0.packets more)
+    ∙ length-append (concat h0.packets) (concat more)
+
+pub run_sums : (k0 k1 : WriterKind) (h0 h1 : PacketHistory) (s : SinkStats) → counted_kind k1 h1 s ≡ counted_kind k0 h0 zero_sums
+    → k0.tells ≡ true → Extends h0 h1 → s.bytes_sent < 2 ^ 64 → s.packets_sent < 2 ^ 64 → AreSumsBetween h0 h1 s
+run_sums k0 k1 h0 h1 s same tells (more, e) bytes packets =
+    let began : start_of s h1 ≡ start_of zero_sums h0 = counted_start k0 k1 h0 h1 s same tells in
+    let between : packets_between h0 h1 ≡ more = between_is h0 h1 more e in
+    record {
+      bytes_sent =
+          sum_between s.bytes_sent (length (concat h0.packets)) (length (concat h1.packets)) (length (concat more))
+          (length_between h0 h1 more e) bytes (ap (λ (t : SinkStats). t.bytes_sent) began)
+          ∙ ap (λ p. length (concat p) % 2 ^ 64) (sym between);
+      packets_sent = sum_between s.packets_sent (length h0.packets) (length h1.packets) (length more) (ap (λ p. length p) e
+          ∙ length-append h0.packets more) packets (ap (λ (t : SinkStats). t.packets_sent) began)
+          ∙ ap (λ p. length p % 2 ^ 64) (sym between);
+      bytes_dropped = drop_between s.bytes_dropped h0.refused_bytes h1.refused_bytes (ap (λ (t : SinkStats). t.bytes_dropped) began);
+      packets_dropped = drop_between s.packets_dropped h0.refusals h1.refusals (ap (λ (t : SinkStats). t.packets_dropped) began);
+    }

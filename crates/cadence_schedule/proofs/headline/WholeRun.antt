@@ -1,0 +1,136 @@
+-- The headline of a whole run, from its first state, its steps and its outcome.
+use Rattle.std.proofs.Common.{◌≡◌, ℕ, ◌^◌, ◌<◌, List, [], length, sym, ap, ◌∙◌, ◌≢◌, arith, subst, Some, Option, Vec, map}
+use Rattle.std.specs.List.{zip}
+use Rattle.std.specs.Prelude.{All, string_bytes}
+use Rattle.std.specs.Option.{option_map}
+use Rattle.cadence_flow.specs.Frame.{Format}
+use Rattle.cadence_flow.specs.Sums.{counted_kind, zero_sums}
+use Rattle.cadence_flow.specs.Writer.{PacketHistory, WriterKind}
+use Rattle.cadence_flow.specs.declared.queue.policy.QueuePolicy.{QueuePolicy}
+use Rattle.cadence_text.specs.Line.{line_of}
+use Rattle.cadence_text.specs.Metric.{Metric}
+use Rattle.cadence_text.specs.Representable.{IsRepresentable}
+use Rattle.cadence_schedule.specs.declared.call.Call.{Call}
+use Rattle.cadence_schedule.specs.declared.counting.CountingWriter.{CountingWriter}
+use Rattle.cadence_schedule.specs.declared.running.Running.{Running}
+use Rattle.cadence_schedule.specs.declared.steps.Reply.{Reply}
+use Rattle.cadence_schedule.specs.declared.steps.Step.{Step}
+use Rattle.cadence_schedule.specs.CallData.{line_of_data, metric_of_data}
+use Rattle.cadence_schedule.specs.Headline.{given_of, packets_between, HasHeadline, IsAccounted}
+use Rattle.cadence_schedule.specs.RunHistory.{Turn, accepted, kept, marks, refusals}
+use Rattle.cadence_schedule.specs.Laws.{LeastPackets, PacketsReadOneWay}
+use Rattle.cadence_schedule.specs.Moves.{State, Runs}
+use Rattle.cadence_schedule.specs.Packets.{ArePacketsOf}
+use Rattle.cadence_schedule.specs.RunOutcome.{outcome_after}
+use Rattle.cadence_schedule.specs.Running.{IsAtStart, state_of}
+use Rattle.cadence_schedule.specs.Settings.{Settings}
+use Rattle.cadence_schedule.proofs.history.KeptMetrics.{all_kept, kept_mapped}
+use Rattle.cadence_schedule.proofs.calls.NonemptyLines.{line_filled}
+use Rattle.cadence_schedule.proofs.headline.AfterRun.{run_after}
+use Rattle.cadence_schedule.proofs.headline.FinishedRun.{run_taken, run_stream, run_cut, run_late, run_tight, run_submitted, run_drained}
+use Rattle.cadence_schedule.proofs.headline.FinishedRun.{run_dropped, run_sums}
+use Rattle.cadence_schedule.proofs.headline.RunOfTurns.{length-zip}
+use Rattle.cadence_schedule.proofs.history.QueueAndHand.{at_start}
+use Rattle.cadence_schedule.proofs.headline.EachTurn.{After}
+
+module _ {W A : Type 0} (kind_of : W → WriterKind) (history_of : W → PacketHistory) (settings : Settings) (capacity : ℕ) (ending : List ℕ)
+    (queue : Option ℕ) (policy : QueuePolicy) (steps : List (Step A)) (writer : W) where
+  abbrev counted : CountingWriter W → WriterKind
+  counted w = counted_kind (kind_of w.inner) (history_of w.inner) w.stats
+
+  abbrev inner : CountingWriter W → PacketHistory
+  inner w = history_of w.inner
+
+  module _ (law : (metric : Metric) → 0 < length (line_of metric)) (begun run : Running (CountingWriter W) A) (none replies : Vec Reply A)
+      (start : IsAtStart capacity ending queue policy (length steps) (record { inner = writer; stats = zero_sums }) begun none)
+      (runs : Runs (line_of_data settings) (counted begun.packer.writer) begun.packer.format begun.queue.capacity begun.queue.policy
+      (state_of inner begun) (zip steps replies.items) (state_of inner run))
+      (one_each : length replies.items ≡ length steps) (same_kind : counted run.packer.writer ≡ counted begun.packer.writer) where
+    abbrev lines : Call A → Option (List ℕ)
+    lines = line_of_data settings
+
+    abbrev turns : List (Turn A)
+    turns = zip steps replies.items
+
+    abbrev format : Format
+    format = record { capacity = capacity; ending = ending }
+
+    abbrev before : PacketHistory
+    before = history_of writer
+
+    abbrev kind : WriterKind
+    kind = counted_kind (kind_of writer) (history_of writer) zero_sums
+
+    abbrev ended : State
+    ended = state_of inner run
+
+    short : length (zip steps replies.items) < 2 ^ 64
+    short = omega (arith, length-zip steps replies.items (sym one_each), start.few)
+
+    kind_is : counted begun.packer.writer ≡ kind
+    kind_is = ap (λ p. counted p.writer) start.packer_is
+
+    began : state_of inner begun ≡ at_start before
+    began = λ i. record {
+      waiting = map string_bytes (start.queue_is i).waiting;
+      stopped = (start.queue_is i).stopped;
+      submitted = (start.queue_is i).submitted;
+      drained = (start.queue_is i).drained;
+      dropped = (start.queue_is i).dropped;
+      in_hand = option_map string_bytes (start.hand_is i);
+      cut = start.cut_is i;
+      history = history_of (start.packer_is i).writer.inner;
+      held = (start.packer_is i).held;
+    }
+
+    filled : (call : Call A) (line : List ℕ) → line_of_data settings call ≡ Some line → line ≢ []
+    filled = line_filled law settings
+
+    after : After lines filled kind format queue policy before turns ended
+    after =
+        run_after lines filled kind _ format _ queue _ policy _ before (state_of inner begun) ended turns kind_is
+        (ap (λ p. p.format) start.packer_is) (ap (λ q. q.capacity) start.queue_is) (ap (λ q. q.policy) start.queue_is) began short runs
+
+    -- the headline
+    pub has_headline : LeastPackets
+        → HasHeadline history_of (given_of kind_of history_of settings capacity ending queue policy steps writer) (outcome_after run replies)
+    has_headline least = record {
+      stream = λ whole. run_stream lines filled kind format queue policy before turns ended after whole.0 whole.1;
+      cut = λ whole. run_cut lines filled kind format queue policy before turns ended after whole.0 whole.1;
+      replies = record {
+        one_each = one_each;
+        causes = after.replies;
+        waiting = after.line.waiting_is;
+        submitted = run_submitted lines filled kind format queue policy before turns ended after short;
+        drained = run_drained lines filled kind format queue policy before turns ended after short;
+        dropped = run_dropped lines filled kind format queue policy before turns ended after short;
+        stopped = after.line.stopped_is;
+        in_hand = after.line.hand_is;
+      };
+      errors = after.refusals;
+      fewest = λ whole none.
+          let tight = run_tight lines filled kind format queue policy before turns ended after short whole.0 whole.1 none in
+          record { tight = tight; fewest = least _ _ _ _ tight };
+    }
+
+    -- what is promised beside it
+    pub is_accounted : PacketsReadOneWay → All IsRepresentable (accepted (metric_of_data settings) turns)
+        → run.packer.writer.stats.bytes_sent < 2 ^ 64 → run.packer.writer.stats.packets_sent < 2 ^ 64
+        → IsAccounted history_of (given_of kind_of history_of settings capacity ending queue policy steps writer) (outcome_after run replies)
+    is_accounted reads each bytes packets = record {
+      late = λ whole. run_late lines filled kind format queue policy before turns ended after whole.0 whole.1;
+      taken = λ tells. run_taken lines filled kind format queue policy before turns ended after tells;
+      stats = λ tells.
+          run_sums (kind_of writer) (kind_of run.packer.writer.inner) before (history_of run.packer.writer.inner) run.packer.writer.stats
+          (same_kind ∙ kind_is) tells (after.text tells).extends bytes packets;
+      earlier = λ tells. (after.text tells).extends;
+      said = all_kept IsRepresentable (metric_of_data settings) turns each;
+      one_reading = λ whole newline free.
+          reads capacity (marks lines turns) (refusals lines turns) run.cut.items (kept (metric_of_data settings) turns)
+          (packets_between before ended.history) run.packer.held free
+          (subst (λ e. ArePacketsOf record { capacity = capacity; ending = e } (marks lines turns) (refusals lines turns)
+          (map line_of (kept (metric_of_data settings) turns)) run.cut.items (packets_between before ended.history) run.packer.held) newline
+          (subst (λ ls. ArePacketsOf format (marks lines turns) (refusals lines turns) ls run.cut.items
+          (packets_between before ended.history) run.packer.held) (kept_mapped line_of (metric_of_data settings) turns)
+          (run_cut lines filled kind format queue policy before turns ended after whole.0 whole.1)));
+    }

@@ -1,0 +1,14 @@
+pub mod Cut
+pub mod QueuePast
+pub mod QueueTaken
+pub mod RecordedPacker
+pub mod RecordedQueue
+pub mod RecordedWriter
+pub mod SharedQueue
+pub mod Taker
+pub mod Whole
+pub mod WholePacker
+pub use Rattle.cadence_errors.specs.Errors
+pub use Rattle.cadence_flow.specs.Packer
+pub use Rattle.cadence_flow.specs.Queue
+pub use Rattle.cadence_flow.specs.Writer

@@ -1,0 +1,55 @@
+//! How a lock is taken.
+//!
+//! Each holder of a lock of this crate lets it go soon, after one step of the queue or of the counts. There are three
+//! ways to take one:
+//!
+//! - `acquire` tries the lock, and spins and tries again, before it sleeps. The calls that a service makes for each
+//!   metric take the lock in this way (a sink's `emit`, the queue's `submit`, `offer` and `try_take`, and the counts of
+//!   a socket), because a sleeper has to be woken by the thread that holds the lock, which costs both of them more than
+//!   a short wait.
+//! - `lock.lock(rt)` sleeps at once if the lock is held. The calls that are not in a hurry take it in this way: a
+//!   flush, a stop, a change of the handles, a reading of the queue's counts, and a worker that is about to sleep
+//!   anyway.
+//! - `lock.try_lock()` alone is how the worker looks for texts: it never sleeps for the lock (`SharedQueue::look`).
+//!
+//! The numbers here were chosen by measurement, and no contract speaks of them.
+
+use std::hint;
+use std::sync::{Mutex, MutexGuard, Wait};
+
+/// How often a caller that finds a lock held tries it again before it sleeps.
+const TRIES: u32 = 16;
+
+/// How many turns of an empty loop a caller waits between two tries of a lock that is held.
+const TURNS_BETWEEN_TRIES: u32 = 200;
+
+/// Spins for this many turns of an empty loop.
+pub(super) fn spin(turns: u32) {
+    for _ in 0..turns {
+        hint::spin_loop();
+    }
+}
+
+/// Takes a lock that each holder soon lets go. If another thread holds it, spins and tries again several times, and
+/// sleeps only then.
+#[inline(always)]
+pub fn acquire<'a, T>(lock: &'a Mutex<T>, rt: &impl Wait) -> MutexGuard<'a, T> {
+    match lock.try_lock() {
+        Some(guard) => guard,
+        None => acquire_late(lock, rt),
+    }
+}
+
+// Takes a lock that another thread held a moment ago. It is a function of its own, so that `acquire` is short enough to
+// be inlined.
+#[cold]
+#[inline(never)]
+fn acquire_late<'a, T>(lock: &'a Mutex<T>, rt: &impl Wait) -> MutexGuard<'a, T> {
+    for _ in 0..TRIES {
+        spin(TURNS_BETWEEN_TRIES);
+        if let Some(guard) = lock.try_lock() {
+            return guard;
+        }
+    }
+    lock.lock(rt)
+}

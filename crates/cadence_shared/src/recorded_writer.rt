@@ -1,0 +1,79 @@
+//! A writer with a record of its packets that only proofs read.
+ghost use Rattle.std.specs.Prelude.{◌≡◌, true};
+
+use super::ghost_texts::GhostTexts;
+use cadence_errors::SinkError;
+use cadence_flow::io::PacketWriter;
+
+/// A writer with a record of each packet that it was offered and didn't refuse, with the number of bytes that the
+/// writer said it took. The record exists in proofs only. So contracts can speak of the packets of any writer, also of
+/// one that doesn't tell them itself, such as a socket.
+#[derive(Drop)]
+pub struct RecordedWriter<W> {
+    inner: W,
+    offers: GhostTexts,
+}
+
+impl<W> RecordedWriter<W> {
+    ghost use Rattle.std.specs.Prelude.{[]};
+    ghost use Rattle.cadence_shared.specs.RecordedWriter.{writer_of, offers_of};
+
+    /// Wraps a writer, with an empty record.
+    pub fn new(inner: W) -> Self
+        ensures writer { writer_of result ≡ inner }
+        ensures none { offers_of result ≡ [] }
+    {
+        RecordedWriter {
+            inner,
+            offers: GhostTexts::new(),
+        }
+    }
+}
+
+impl<W: PacketWriter> PacketWriter for RecordedWriter<W> {
+    ghost use Rattle.std.specs.Option.{ok_or};
+    ghost use Rattle.std.specs.Prelude.{Some};
+    ghost use Rattle.cadence_flow.specs.Offers.{IsOffered};
+    ghost use Rattle.cadence_flow.specs.Writer.{WritesPacket};
+    ghost use Rattle.cadence_shared.specs.RecordedWriter.{offers_of, packets_of, recorded_history, recorded_kind, writer_of};
+
+    ghost history = { recorded_history W.history };
+
+    ghost kind = { recorded_kind W.kind };
+
+    ghost offers = { λ t. Some (offers_of t) };
+
+    fn write_packet(&mut self, packet: &[u8]) -> Result<usize, SinkError>
+        ensures same_kind { recorded_kind W.kind self.new ≡ recorded_kind W.kind self.old }
+        ensures writes { WritesPacket (recorded_kind W.kind self.old)
+            (recorded_history W.history self.old) (recorded_history W.history self.new)
+            packet.now result }
+        ensures offers { IsOffered (Some (offers_of self.old)) (Some (offers_of self.new))
+            packet.now result }
+        ensures ties { (W.kind (writer_of self.old)).tells ≡ true →
+            packets_of self.old ≡ (W.history (writer_of self.old)).packets →
+            packets_of self.new ≡ (W.history (writer_of self.new)).packets }
+    {
+        let mut fault = SinkError::NothingWritten;
+        self.write_packet_narrow(packet, &mut fault).ok_or(fault)
+    }
+
+    #[inline(always)]
+    fn write_packet_narrow(&mut self, packet: &[u8], fault: &mut SinkError) -> Option<usize>
+        ensures same_kind { recorded_kind W.kind self.new ≡ recorded_kind W.kind self.old }
+        ensures writes { WritesPacket (recorded_kind W.kind self.old)
+            (recorded_history W.history self.old) (recorded_history W.history self.new)
+            packet.now (ok_or result fault.new) }
+        ensures offers { IsOffered (Some (offers_of self.old)) (Some (offers_of self.new))
+            packet.now (ok_or result fault.new) }
+        ensures ties { (W.kind (writer_of self.old)).tells ≡ true →
+            packets_of self.old ≡ (W.history (writer_of self.old)).packets →
+            packets_of self.new ≡ (W.history (writer_of self.new)).packets }
+    {
+        let taken = self.inner.write_packet_narrow(packet, fault);
+        if let Some(n) = taken {
+            self.offers.note(packet, n);
+        }
+        taken
+    }
+}

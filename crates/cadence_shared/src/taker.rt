@@ -1,0 +1,139 @@
+//! How a worker takes texts out of a shared queue, several at a time.
+ghost use Rattle.std.specs.Prelude.{◌≡◌, [], ◌++◌, true};
+
+use super::ghost_list::GhostList;
+use super::shared_queue::SharedQueue;
+use cadence_flow::queue::TextRing;
+use std::alloc::{AllocError, Allocator, Global};
+use std::sync::Wait;
+
+/// How many texts a taker moves out of the queue at once, at most, and how many used ones it keeps for reuse.
+const MOST_AT_ONCE: usize = 32;
+
+/// The memory that a taker needs. `SharedQueue::room_of_taker` makes it.
+#[derive(Drop)]
+pub struct TakerRoom<T, A: Allocator = Global> {
+    // for the texts that the taker moved out of the queue and has not returned yet
+    pub(super) texts: TextRing<T, A>,
+    // for the texts that it is done with
+    pub(super) done: TextRing<T, A>,
+    // for the queue's spares
+    pub(super) spares: TextRing<T, A>,
+    pub ghost empty: { texts.items ≡ [] },
+}
+
+impl<T: Drop, A: Allocator + Clone> TakerRoom<T, A> {
+    /// Makes room for 32 texts, or for a thirty-second of the queue's capacity if that is less, but at least for one
+    /// text.
+    pub(super) fn new(alloc: A, capacity: Option<usize>) -> Result<Self, AllocError> {
+        let room = match capacity {
+            Some(capacity) => (capacity / MOST_AT_ONCE).clamp(1, MOST_AT_ONCE),
+            None => MOST_AT_ONCE,
+        };
+        let texts = TextRing::with_room(alloc.clone()?, room)?;
+        let done = TextRing::with_room(alloc.clone()?, room)?;
+        let spares = TextRing::with_room(alloc, room)?;
+        Ok(TakerRoom {
+            texts,
+            done,
+            spares,
+        })
+    }
+}
+
+/// Moves texts out of its queue, several at a time, and returns them one by one, in order. So the lock is taken once
+/// for many texts. `SharedQueue::taker` makes a taker.
+///
+/// The queue counts a text as taken when it is moved, also before `next` returns it. No such text is lost, because a
+/// taker can't be dropped: it ends by `finish`, which requires that `next` returned all of them.
+///
+/// In proofs it has a record of the texts that it moved. They are those that `next` returned, followed by those that it
+/// still has (`whole`).
+pub struct Taker<'a, T, A: Allocator = Global> {
+    queue: &'a SharedQueue<T, A>,
+    texts: TextRing<T, A>,
+    done: TextRing<T, A>,
+    taken: GhostList<T>,
+    given: GhostList<T>,
+    has_ended: bool,
+    pub ghost whole: { taken.items ≡ given.items ++ texts.items },
+    pub ghost empty: { has_ended ≡ true → texts.items ≡ [] },
+}
+
+impl<'a, T: Drop, A: Allocator + Clone> Taker<'a, T, A> {
+    ghost use Rattle.std.specs.Prelude.{◌∷◌, IfSome, IfNone, false};
+    ghost use Rattle.cadence_shared.specs.Taker.{given_by, has_ended, taken_by};
+
+    /// Makes a taker that has moved no text yet.
+    pub(super) fn new(
+        queue: &'a SharedQueue<T, A>,
+        texts: TextRing<T, A>,
+        done: TextRing<T, A>,
+    ) -> Self
+        requires { texts.items ≡ [] }
+        ensures none { (given_by result ≡ []) × (has_ended result ≡ false) }
+    {
+        Taker {
+            queue,
+            texts,
+            done,
+            taken: GhostList::new(),
+            given: GhostList::new(),
+            has_ended: false,
+        }
+    }
+
+    /// Returns the oldest text that the taker has. If it has none, it first moves some out of the queue, and waits if
+    /// the queue is empty and not stopped. `None` is the end: the queue is stopped and no text is left.
+    #[inline(always)]
+    pub fn next(&mut self, rt: &impl Wait) -> Option<T>
+        ensures text { IfSome result (λ text.
+            (given_by self.new ≡ given_by self.old ++ text ∷ [])
+            × (has_ended self.new ≡ has_ended self.old)) }
+        ensures end { IfNone result ((given_by self.new ≡ given_by self.old)
+            × (has_ended self.new ≡ true)) }
+    {
+        if self.has_ended {
+            return None;
+        }
+        if self.texts.len() == 0 {
+            self.queue
+                .take_some(rt, &mut self.texts, &mut self.taken, &mut self.done);
+        }
+        let Some(text) = self.texts.pop_front() else {
+            self.has_ended = true;
+            return None;
+        };
+        self.given = self.given.and(&text);
+        Some(text)
+    }
+
+    /// Keeps a text that the worker is done with, so that a caller can make its next text in the same memory. It takes
+    /// no memory: if there is no room for the text, it is freed.
+    pub fn give_back(&mut self, text: T)
+        ensures same { (given_by self.new ≡ given_by self.old)
+            × (has_ended self.new ≡ has_ended self.old) }
+    {
+        if self.done.len() < self.done.room() {
+            let _ = self.done.push_back(text);
+        }
+    }
+
+    /// Ends the taker, after `next` returned `None`. In proofs it returns the texts that it moved, all of which `next`
+    /// returned.
+    pub fn finish(self) -> GhostList<T>
+        requires { has_ended self ≡ true }
+        ensures taken { result.items ≡ taken_by self.entry }
+        ensures given { result.items ≡ given_by self.entry }
+    {
+        let Taker {
+            queue: _,
+            texts: _,
+            done: _,
+            taken,
+            given: _,
+            has_ended: _,
+        } = self;
+        taken
+    }
+}

@@ -1,0 +1,67 @@
+//! A packer with a record of its past, over a writer that takes each packet whole.
+ghost use Rattle.cadence_shared.specs.RecordedPacker.{accepted_of, packer_of};
+ghost use Rattle.cadence_shared.specs.RecordedWriter.{packets_of};
+ghost use Rattle.cadence_shared.specs.Whole.{IsWhole};
+
+use super::recorded_packer::RecordedPacker;
+use cadence_errors::{MetricResult, SinkError};
+use cadence_flow::io::PacketWriter;
+use std::alloc::{Allocator, Global};
+
+/// A `RecordedPacker` over a writer that takes each packet whole or refuses it. One more fact is true of every
+/// `WholePacker` (`whole`): each packet that the writer took is the frames of accepted lines, so no line is split.
+#[derive(Drop)]
+pub struct WholePacker<W, A: Allocator = Global> {
+    lines: RecordedPacker<W, A>,
+    pub ghost whole: { ∥ IsWhole (packer_of lines).format (packets_of (packer_of lines).writer)
+        (accepted_of lines) (packer_of lines).held ∥₁ },
+}
+
+impl<W: PacketWriter, A: Allocator + Clone> WholePacker<W, A> {
+    ghost use Rattle.std.specs.Prelude.{◌≡◌, [], IfOk};
+    ghost use Rattle.cadence_errors.specs.Errors.{MayOnlyRunOutOfMemory};
+    ghost use Rattle.cadence_shared.specs.RecordedPacker.{begins_over};
+    ghost use Rattle.cadence_shared.specs.WholePacker.{lines_of};
+
+    /// Makes a packer with a capacity in bytes, which has accepted no line yet. The only error is `OutOfMemory`.
+    pub fn new(alloc: A, writer: W, capacity: usize) -> MetricResult<Self>
+        ensures packer { IfOk result (λ l. begins_over (lines_of l) writer capacity) }
+        ensures none { IfOk result (λ l. accepted_of (lines_of l) ≡ []) }
+        ensures refused { MayOnlyRunOutOfMemory result }
+    {
+        let lines = RecordedPacker::new(alloc, writer, capacity)?;
+        Ok(WholePacker { lines })
+    }
+}
+
+impl<W: PacketWriter, A: Allocator> WholePacker<W, A> {
+    ghost use Rattle.std.specs.Prelude.{◌≡◌, [], ◌∷◌, ◌++◌, IfOk, OnErr};
+    ghost use Rattle.cadence_flow.specs.Packer.{FlushesHeld, WritesLine};
+    ghost use Rattle.cadence_shared.specs.RecordedWriter.{recorded_history, recorded_kind};
+    ghost use Rattle.cadence_shared.specs.WholePacker.{TakesWhole, lines_of};
+
+    /// Writes a line as `RecordedPacker::write` does, and returns its length, or the error.
+    pub fn write(&mut self, line: &[u8]) -> Result<usize, SinkError>
+        requires { TakesWhole W.kind self.old }
+        ensures accepted { IfOk result (λ n. accepted_of (lines_of self.new)
+            ≡ accepted_of (lines_of self.old) ++ (line.now, n) ∷ []) }
+        ensures refused { OnErr result
+            (accepted_of (lines_of self.new) ≡ accepted_of (lines_of self.old)) }
+        ensures writes { WritesLine (recorded_kind W.kind) (recorded_history W.history)
+            (packer_of (lines_of self.old)) (packer_of (lines_of self.new)) line.now result }
+    {
+        let mut fault = SinkError::NothingWritten;
+        self.lines.write(line, &mut fault).ok_or(fault)
+    }
+
+    /// Writes the held text as `RecordedPacker::flush` does, or returns the error.
+    pub fn flush(&mut self) -> Result<(), SinkError>
+        requires { TakesWhole W.kind self.old }
+        ensures same { accepted_of (lines_of self.new) ≡ accepted_of (lines_of self.old) }
+        ensures flushes { FlushesHeld (recorded_kind W.kind) (recorded_history W.history)
+            (packer_of (lines_of self.old)) (packer_of (lines_of self.new)) result }
+    {
+        let mut fault = SinkError::NothingWritten;
+        self.lines.flush(&mut fault).ok_or(fault)
+    }
+}

@@ -1,0 +1,40 @@
+//! A mark that a queue's worker sets at its end.
+ghost use Rattle.std.specs.Prelude.{◌≡◌, true};
+
+use std::sync::{Condvar, Mutex, Wait};
+
+/// A mark that a worker sets at its end and that other threads can wait for. It has a lock of its own.
+#[derive(Drop)]
+pub struct WorkerEnd {
+    ended: Mutex<bool>,
+    marked: Condvar,
+}
+
+// A function of its own, because the contract of `mark` can't speak of the value under the lock.
+fn set(mark: &mut bool)
+    ensures { mark.new ≡ true }
+{
+    *mark = true;
+}
+
+impl WorkerEnd {
+    /// Makes a mark that is not set yet.
+    pub fn new() -> WorkerEnd {
+        WorkerEnd {
+            ended: Mutex::new(false),
+            marked: Condvar::new(),
+        }
+    }
+
+    /// Sets the mark, and wakes the threads that wait for it.
+    pub fn mark(&self, rt: &impl Wait) {
+        set(&mut self.ended.lock(rt));
+        self.marked.notify_all();
+    }
+
+    /// Waits until the mark is set.
+    pub fn wait(&self, rt: &impl Wait) {
+        self.marked
+            .wait_while(rt, self.ended.lock(rt), |ended| !*ended);
+    }
+}

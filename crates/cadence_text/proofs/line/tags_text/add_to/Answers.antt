@@ -1,0 +1,27 @@
+use Rattle.std.proofs.Common.{◌≡◌, ◌+◌, ◌≤◌, [], ◌++◌, arith, length, rules, length-append}
+use Rattle.cadence_text.specs.Draft.{lead}
+use Rattle.cadence_text.specs.Line.{tag_text}
+use Rattle.cadence_text.specs.Record.{tag_of}
+use Rattle.cadence_text.proofs.DraftText.{lead_short, tag_utf8}
+use Rattle.cadence_text.proofs.LineLength.{said_tag}
+use Rattle.cadence_text.proofs.SinkEnds.{filled_more}
+use Rattle.cadence_text.proofs.line.tags_text.add_to.Goals as goal
+
+pub returns-clause-ok : goal.returns-clause-ok
+returns-clause-ok g c =
+    let old = c.args.line.now.bytes.items in
+    let before = lead c.args.begun in
+    let text = tag_text (tag_of c.args.tag.now) in
+    let (some, few) = lead_short c.args.begun in
+    let room : length text + 2 ≤ c.in-Some.room = search rules in
+    let end : c.reserve.new.self.end ≡ length old + c.in-Some.room = search rules in
+    filled_more c.reserve.new.self.end c.push_next_tag.new.line.end old c.reserve.new.self.bytes.items
+    c.push_next_tag.new.line.bytes.items (before ++ text)
+    (omega (arith, some, length-append before text)) (omega (arith, few, room, end, length-append before text)) c.reserve.ensures.text
+    (c.push_next_tag.ensures.taken [])
+
+pub returns-clause-utf8 : goal.returns-clause-utf8
+returns-clause-utf8 g c = tag_utf8 c.args.begun (tag_of c.args.tag.now) c.push_next_tag.ensures.sized
+
+pub returns-clause-said : goal.returns-clause-said
+returns-clause-said g c = said_tag (tag_of c.args.tag.now) c.push_next_tag.ensures.sized

@@ -1,0 +1,231 @@
+//! The two places where the pieces of a line go: a counter of bytes, which measures a line, and a buffer of the measured
+//! length, into which the line is written.
+//!
+//! A `LineSink` can't refuse a piece. So a piece that is too long for the buffer empties the buffer, and the functions that
+//! reserve its room prove that this never happens.
+ghost use Rattle.std.specs.Prelude.{◌≡◌, ◌≤◌, ◌+◌, ◌%◌, ◌^◌, [], IfOk, IsUtf8, OnOk, length, string_bytes};
+ghost use Rattle.std.specs.Vec.{vec_capacity};
+
+use cadence_value::text::{
+    ByteSink, LineSink, number_len, push_digits, push_wide_digits, wide_len,
+};
+use std::alloc::{AllocError, Allocator};
+
+/// A `LineSink` that only counts the bytes, modulo 2 to the 128.
+#[derive(Clone, Copy)]
+pub(crate) struct LengthCounter {
+    length: u128,
+}
+
+impl LengthCounter {
+    #[inline(always)]
+    pub(crate) fn new() -> LengthCounter
+        ensures { result.length ≡ 0 }
+    {
+        LengthCounter { length: 0 }
+    }
+
+    #[inline(always)]
+    pub(crate) fn length(&self) -> u128
+        ensures { result ≡ self.now.length }
+    {
+        self.length
+    }
+
+    #[inline(always)]
+    fn add(&mut self, count: usize)
+        ensures { self.new.length ≡ (self.old.length + count) % 2 ^ 128 }
+    {
+        self.length = self.length.wrapping_add(count as u128);
+    }
+}
+
+impl LineSink for LengthCounter {
+    ghost use Rattle.cadence_text.specs.Sink.{counter_ends};
+
+    ghost ends_as = { counter_ends };
+
+    #[inline(always)]
+    fn take_piece(&mut self, piece: &str) {
+        self.add(piece.len());
+    }
+
+    #[inline(always)]
+    fn take_byte(&mut self, _byte: u8) {
+        self.add(1);
+    }
+
+    #[inline]
+    fn take_number(&mut self, number: u64) {
+        self.add(number_len(number));
+    }
+
+    fn take_wide(&mut self, number: u128) {
+        self.add(wide_len(number));
+    }
+}
+
+/// A `LineSink` that writes the bytes into a buffer of a fixed length. `end` is the length that was reserved: contracts
+/// say of each text that fits in it that it is written, and of a longer one nothing.
+#[derive(Drop)]
+pub(crate) struct LineBuf<A: Allocator> {
+    bytes: Vec<u8, A>,
+    end: usize,
+    ghost utf8: { ∥ IsUtf8 bytes.items ∥₁ },
+    ghost within: { end ≤ vec_capacity bytes },
+}
+
+impl<A: Allocator> LineBuf<A> {
+    ghost use Rattle.cadence_text.specs.Sink.{rotated_text};
+
+    /// Returns an empty buffer of `length` bytes. It takes memory once, and just that much.
+    #[inline]
+    pub(crate) fn with_room(alloc: A, length: usize) -> Result<LineBuf<A>, AllocError>
+        ensures empty { IfOk result (λ f. f.bytes.items ≡ []) }
+        ensures end { IfOk result (λ f. f.end ≡ length) }
+        ensures exact { IfOk result (λ f. vec_capacity f.bytes ≡ length) }
+    {
+        let bytes = Vec::with_capacity(alloc, length)?;
+        Ok(LineBuf { bytes, end: length })
+    }
+
+    /// Empties a buffer of the caller's, and returns it with room for `length` bytes. It takes memory only if the buffer
+    /// is too short, and then just that much.
+    #[inline]
+    pub(crate) fn in_buffer(buffer: Vec<u8, A>, length: usize) -> Result<LineBuf<A>, AllocError>
+        ensures empty { IfOk result (λ f. f.bytes.items ≡ []) }
+        ensures end { IfOk result (λ f. f.end ≡ length) }
+    {
+        let mut bytes = buffer;
+        bytes.clear();
+        bytes.reserve_exact(length)?;
+        Ok(LineBuf { bytes, end: length })
+    }
+
+    /// Returns a buffer of length 0. It takes no memory.
+    pub(crate) fn empty(alloc: A) -> LineBuf<A>
+        ensures { result.bytes.items ≡ [] }
+    {
+        LineBuf {
+            bytes: Vec::new(alloc),
+            end: 0,
+        }
+    }
+
+    /// Makes room for `more` bytes after the text, and ends the room there. The buffer grows by doubling.
+    #[inline(always)]
+    pub(crate) fn reserve(&mut self, more: usize) -> Result<(), AllocError>
+        ensures text { self.new.bytes.items ≡ self.old.bytes.items }
+        ensures end { OnOk result (self.new.end ≡ length self.old.bytes.items + more) }
+    {
+        // The test is inline, so that a buffer with room makes no call.
+        if more > self.bytes.capacity() - self.bytes.len() {
+            return self.grow(more);
+        }
+        self.end = self.bytes.len() + more;
+        Ok(())
+    }
+
+    #[cold]
+    fn grow(&mut self, more: usize) -> Result<(), AllocError>
+        ensures text { self.new.bytes.items ≡ self.old.bytes.items }
+        ensures end { OnOk result (self.new.end ≡ length self.old.bytes.items + more) }
+    {
+        self.bytes.reserve(more)?;
+        self.end = self.bytes.len() + more;
+        Ok(())
+    }
+
+    #[inline]
+    pub(crate) fn len(&self) -> usize
+        ensures { result ≡ length self.now.bytes.items }
+    {
+        self.bytes.len()
+    }
+
+    /// Moves the `count` bytes after `start` to the end.
+    pub(crate) fn turn(&mut self, start: usize, count: usize)
+        requires within { start + count ≤ length self.old.bytes.items }
+        requires utf8 { IsUtf8 (rotated_text start count self.old.bytes.items) }
+        ensures bytes { self.new.bytes.items ≡ rotated_text start count self.old.bytes.items }
+        ensures end { self.new.end ≡ self.old.end }
+    {
+        self.bytes[start..].rotate_left(count);
+    }
+
+    #[inline]
+    pub(crate) fn as_text(&self) -> &str
+        ensures { result.now ≡ self.now.bytes.items }
+    {
+        unsafe { std::str::from_utf8_unchecked(self.bytes.as_slice()) }
+    }
+
+    #[inline]
+    pub(crate) fn into_bytes(self) -> Vec<u8, A>
+        ensures { result.items ≡ self.bytes.items }
+    {
+        self.bytes
+    }
+
+    #[inline]
+    pub(crate) fn into_text(self) -> String<A>
+        ensures { string_bytes result ≡ self.bytes.items }
+    {
+        unsafe { String::from_utf8_unchecked(self.bytes) }
+    }
+
+    // Empties the buffer. It is inline, so that the buffer's address and length stay in registers.
+    #[inline(always)]
+    fn give_up(&mut self)
+        ensures bytes { self.new.bytes.items ≡ [] }
+        ensures end { self.new.end ≡ 0 }
+    {
+        self.bytes.clear();
+        self.end = 0;
+    }
+}
+
+impl<A: Allocator> ByteSink for LineBuf<A> {
+    ghost use Rattle.cadence_text.specs.Sink.{line_buf_ends};
+
+    ghost ends_as = { line_buf_ends };
+
+    #[inline(always)]
+    fn put_byte(&mut self, byte: u8) {
+        if self.bytes.len() >= self.bytes.capacity() {
+            return self.give_up();
+        }
+        self.bytes.push_reserved(byte);
+    }
+}
+
+impl<A: Allocator> LineSink for LineBuf<A> {
+    ghost use Rattle.cadence_text.specs.Sink.{line_buf_ends};
+
+    ghost ends_as = { line_buf_ends };
+
+    #[inline]
+    fn take_piece(&mut self, piece: &str) {
+        // A piece that passes the capacity passes the end too. Because of this test the compiler leaves out the growth.
+        if piece.len() > self.bytes.capacity() - self.bytes.len() {
+            return self.give_up();
+        }
+        let Ok(()) = self.bytes.extend_from_slice(piece.as_bytes()) else {
+            unreachable!()
+        };
+    }
+
+    #[inline(always)]
+    fn take_byte(&mut self, byte: u8) {
+        self.put_byte(byte);
+    }
+
+    #[inline]
+    fn take_number(&mut self, number: u64) {
+        push_digits(self, number);
+    }
+
+    fn take_wide(&mut self, number: u128) {
+        push_wide_digits(self, number);
+    }
+}

@@ -1,0 +1,51 @@
+//! The separators of a line: the bytes that end a name, a tag or a container id in it.
+ghost use Rattle.std.specs.Prelude.{◌<◌, ◌≤◌, ◌↔◌, ℕ, IsTrue, length, slice_index};
+ghost use Rattle.cadence_text.specs.OneReading.{IsFreeText, IsNoSeparator};
+
+// Returns whether a byte is no separator. Letters are tested first, because most bytes of a name are letters.
+fn is_no_separator(byte: u8) -> bool
+    ensures { IsTrue result ↔ IsNoSeparator byte }
+{
+    (59..=123).contains(&byte) || (byte != b':' && byte != b',' && byte != b'|' && byte != b'\n')
+}
+
+// Returns a multiple of four: no byte before it is a separator. The loop tests four bytes at each turn, because the
+// compiler then tests the length once for all four.
+#[inline(always)]
+fn free_fours(text: &[u8]) -> usize
+    ensures bound { result ≤ length text.now }
+    ensures front { (k : ℕ) → k < result → IsNoSeparator (slice_index text.now k) }
+{
+    let mut at = 0;
+    while text.len() - at >= 4
+        && is_no_separator(text[at])
+        && is_no_separator(text[at + 1])
+        && is_no_separator(text[at + 2])
+        && is_no_separator(text[at + 3])
+    {
+        at += 4;
+    }
+    at
+}
+
+/// Returns the index of the first colon, comma, bar or newline in a text. If the text has none, it returns its length.
+#[inline(always)]
+pub fn first_separator(text: &[u8]) -> usize
+    ensures bound { result ≤ length text.now }
+    ensures front { (k : ℕ) → k < result → IsNoSeparator (slice_index text.now k) }
+    ensures stops { result < length text.now → IsNoSeparator (slice_index text.now result) → ⊥ }
+{
+    let mut at = free_fours(text);
+    while at < text.len() && is_no_separator(text[at]) {
+        at += 1;
+    }
+    at
+}
+
+/// Returns whether a text has no colon, comma, bar or newline. If the name, the tags and the container id of a metric
+/// are such texts, its line can be read in one way only.
+pub fn is_free(text: &[u8]) -> bool
+    ensures { IsTrue result ↔ IsFreeText text.now }
+{
+    first_separator(text) == text.len()
+}

@@ -1,0 +1,58 @@
+//! The programs of docs/GUIDE.md. Each block of Rattle there is in a file of this crate, word for word, and
+//! `.ci/front-door` compares them.
+//!
+//! The program prints what the blocks send: the lines of metrics, what clients over sockets count, and the datagrams
+//! that a server of its own receives. The lines follow from the grammar of Statsd with the DogStatsD fields. Nobody has
+//! to listen at port 8125; what is sent there is counted and not looked at.
+//!
+//! - `shop`: a service that makes its client, and code that sends over any client.
+//! - `kinds`: each kind of metric and each option of a call.
+//! - `sinks`: a client over each sink.
+//! - `errors`: what a service does with errors.
+//! - `own`: a sink, a value and a metric of a caller's own types.
+//! - `ported`: a program of the Rust crate.
+//! - `capacities`: how many packets some lines need.
+//! - `runtime`: the bounds of a runtime that makes sinks.
+//! - `lines`, `numbers`, `round_trip`: these blocks run, and what they send as a text.
+#![tactic(auto)]
+
+mod capacities;
+mod errors;
+mod kinds;
+mod lines;
+mod numbers;
+mod own;
+mod ported;
+mod round_trip;
+mod runtime;
+mod shop;
+mod sinks;
+
+use cadence::client::BoxedHandler;
+use cadence::{MetricError, MetricResult, NopMetricSink, StatsdClient};
+use runtime::Runtime;
+use std::alloc::Global;
+
+// Runs the blocks, and returns what they send and count.
+fn report<R: Runtime>(rt: &R, alloc: Global) -> MetricResult<String> {
+    let mut text = lines::report(rt, alloc)?;
+    text.push_str(&numbers::report(rt, alloc)?)?;
+    text.push_str(&round_trip::report(rt, alloc)?)?;
+    Ok(text)
+}
+
+fn main(rt: HostRuntime) -> MetricResult<()> {
+    let alloc = rt.alloc();
+    print!(rt; "{}", report(&rt, alloc)?)?;
+    ported::send_over_re_resolving_sink(&rt, alloc)?;
+
+    let printer = rt.clone()?;
+    let handler: BoxedHandler = Box::new(alloc, move |error: MetricError| {
+        let _ = eprintln!(printer; "metric lost: {error}");
+    })?;
+    let client = StatsdClient::builder(alloc, "my.service", NopMetricSink)
+        .with_error_handler(handler)
+        .build()?;
+    errors::send_quietly(&client);
+    Ok(())
+}

@@ -1,0 +1,45 @@
+//! A service that sends through a queue and a buffered UDP sink, and the server that receives its datagrams.
+//!
+//! Datagrams on the loopback address arrive in order here, so the text is the same in each run.
+
+use crate::runtime::Runtime;
+use cadence::prelude::*;
+use cadence::ready::queued_udp_client;
+use cadence::sinks::Target;
+use cadence::{MetricResult, MetricSink};
+use std::alloc::Global;
+use std::net::{Ipv4Addr, SocketAddr, UdpSocket};
+use std::time::Duration;
+
+// Sends three lines, and returns how many datagrams that took. Of at most 64 bytes, a datagram holds the first two
+// lines (44 bytes with their newlines), but not the third one (27 bytes) as well.
+fn send_three<R: Runtime>(rt: &R, alloc: Global, server: SocketAddr) -> MetricResult<u64> {
+    let target = Target::Addr(server);
+    let client = queued_udp_client(rt, alloc, "my.service", target, 64, None)?;
+    client.count("visits", 3)?;
+    client.incr("logins")?;
+    client.time("startup", 1250u64)?;
+    client.sink().stop_and_wait();
+    client.flush()?;
+    Ok(client.sink().stats().packets_sent)
+}
+
+// Receives this many datagrams, and returns each with its length.
+fn receive(alloc: Global, server: &UdpSocket, count: u64) -> MetricResult<String> {
+    let mut text = String::new(alloc);
+    let mut bytes = [0u8; 64];
+    for _ in 0..count {
+        let (length, _from) = server.recv_from(&mut bytes)?;
+        let datagram = String::from_utf8_lossy(alloc, &bytes[..length])?;
+        write!(&mut text, "datagram of {length} bytes:\n{datagram}")?;
+    }
+    Ok(text)
+}
+
+/// Returns the datagrams that a server of its own receives. The server waits for each five seconds at most.
+pub fn report<R: Runtime>(rt: &R, alloc: Global) -> MetricResult<String> {
+    let server = UdpSocket::bind(rt, SocketAddr::from((Ipv4Addr::LOCALHOST, 0)))?;
+    server.set_read_timeout(Some(Duration::from_secs(5)))?;
+    let count = send_three(rt, alloc, server.local_addr()?)?;
+    receive(alloc, &server, count)
+}

@@ -1,0 +1,10 @@
+//! The bounds of a runtime for functions that make sinks.
+
+use std::net::Net;
+use std::sync::Wait;
+use std::thread::Threads;
+
+/// What the sinks of a service ask of a runtime.
+pub trait Runtime: Net + Wait + Threads + Clone + Drop + Send + Sync + 'static {}
+
+impl<R: Net + Wait + Threads + Clone + Drop + Send + Sync + 'static> Runtime for R {}

@@ -1,5 +1,0 @@
-//! Tests of the packer, the counts and the queues, through their public calls.
-#![tactic(auto)]
-
-#[cfg(test)]
-mod tests;

@@ -1,9 +1,0 @@
--- A block goes back on any thread, where the inner allocator's blocks do.
-use mir.Syntax.{Dict}
-use denote.RattleType.{RattleType}
-use denote.Param.Send.{Frees}
-use Rattle.std.specs.declared.alloc.Allocator.{Ghosts}
-use Rattle.refusing.specs.contracts.memory.RefusingAllocator.TheImpl.{ghosts}
-
-pub frees : (A : RattleType) (g : Ghosts A.Denot) (d e : Dict) → Frees g g.dealloc_token → Frees (ghosts A g d e) (ghosts A g d e).dealloc_token
-frees A g d e f = record { frees = λ a. f.frees a.inner }

@@ -1,0 +1,123 @@
+//! Makes every call of the client for every type of its value, plain and with tags, and prints the lines that its sink
+//! received, each of which must come once. Then it prints the texts of an audited queue's errors.
+//!
+//! The expected lines follow from the grammar: prefix, key, numbers, kind, rate, tags, container, timestamp. A spy
+//! takes the place of a socket. Errors, refusals and memory are tested in `test_client`.
+//!
+//! - `groups`: the calls in groups. `kinds`: the calls of each kind. `tagged`: the end of a call with a tag.
+//! - `options`: the options of a call, and clients with settings.
+#![tactic(auto)]
+
+mod groups;
+mod kinds;
+mod options;
+mod tagged;
+
+use cadence::queue::{AuditError, EndFault};
+use cadence::sinks::{SpyMetricSink, SpyReceiver};
+use cadence::{DEFAULT_PORT, MetricResult, MetricSink, StatsdClient};
+use groups::Group;
+use options::Setting;
+use std::alloc::{AllocError, Global};
+use std::sync::Wait;
+
+// The settings of further clients, each of which makes a few calls.
+const SETTINGS: [Setting; 6] = [
+    Setting::Prefix("..."),
+    Setting::Prefix(""),
+    Setting::Prefix("a.."),
+    Setting::Prefix("a.b"),
+    Setting::Tags,
+    Setting::Container,
+];
+
+// The groups of calls that the first client makes.
+const GROUPS: [Group; 6] = [
+    Group::Counters,
+    Group::Timers,
+    Group::Gauges,
+    Group::Histograms,
+    Group::Distributions,
+    Group::Options,
+];
+
+// More lines than a group of calls sends.
+const MOST_LINES: u32 = 100;
+
+// Adds a line, with two spaces before it.
+fn push_line(alloc: Global, text: &mut String, line: &[u8]) -> Result<(), AllocError> {
+    let line = String::from_utf8_lossy(alloc, line)?;
+    text.push_str("  ")?;
+    text.push_str(&line)?;
+    text.push('\n')
+}
+
+// Receives all lines that wait, and returns them under a heading.
+fn report_lines<R: Wait + Drop>(
+    alloc: Global,
+    heading: &str,
+    lines: &SpyReceiver<R>,
+) -> Result<String, AllocError> {
+    let mut text = format!(in alloc; "{heading}:\n")?;
+    for _ in 0..MOST_LINES {
+        let Some(line) = lines.try_recv() else {
+            break;
+        };
+        push_line(alloc, &mut text, &line)?;
+    }
+    Ok(text)
+}
+
+// Returns the text of each error of an audited queue and of its end.
+fn audit_error_texts(alloc: Global) -> Result<String, AllocError> {
+    let (memory, stranger) = (AuditError::OutOfMemory, AuditError::Stranger);
+    let (missing, mismatch) = (EndFault::SeatsMissing, EndFault::Mismatch);
+    let texts = format!(in alloc; "  {memory}\n  {stranger}\n  {missing}\n  {mismatch}\n")?;
+    format!(in alloc; "faults of an audited queue:\n{texts}")
+}
+
+// Makes the calls of each group, all by one client, and returns the lines of each.
+fn report_groups<R: Wait + Drop>(
+    alloc: Global,
+    client: &StatsdClient,
+    lines: &SpyReceiver<R>,
+) -> MetricResult<String> {
+    let mut text = String::new(alloc);
+    for group in GROUPS {
+        group.send(alloc, client)?;
+        text.push_str(&report_lines(alloc, group.heading(), lines)?)?;
+    }
+    Ok(text)
+}
+
+// Makes a client with this setting, and returns the lines that it sends.
+fn report_setting<R: Wait + Clone + Drop>(
+    rt: &R,
+    alloc: Global,
+    setting: Setting,
+) -> MetricResult<String> {
+    let (lines, spy) = SpyMetricSink::new(rt.clone()?, alloc)?;
+    setting.send(alloc, spy)?;
+    Ok(report_lines(alloc, setting.heading(), &lines)?)
+}
+
+// Returns the lines of a client with each setting, and then the texts that no call sends.
+fn report_settings<R: Wait + Clone + Drop>(rt: &R, alloc: Global) -> MetricResult<String> {
+    let mut text = String::new(alloc);
+    for setting in SETTINGS {
+        text.push_str(&report_setting(rt, alloc, setting)?)?;
+    }
+    writeln!(&mut text, "port {DEFAULT_PORT}")?;
+    text.push_str(&audit_error_texts(alloc)?)?;
+    Ok(text)
+}
+
+fn main(rt: HostRuntime) -> MetricResult<()> {
+    let alloc = rt.alloc();
+    let (lines, spy) = SpyMetricSink::new(rt.clone()?, alloc)?;
+    let sink: Box<dyn MetricSink + Send + Sync> = Box::new(alloc, spy)?;
+    let client = StatsdClient::from_sink(alloc, "p", sink)?;
+    print!(rt; "{}", report_groups(alloc, &client, &lines)?)?;
+    print!(rt; "{}", report_settings(&rt, alloc)?)?;
+    Ok(())
+}

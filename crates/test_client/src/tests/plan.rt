@@ -1,0 +1,31 @@
+//! Plans whose memory is refused. The program `test_scripts` has more worked plans, in its file `data/plans`.
+use cadence::schedule::plan_packets;
+use cadence::types::{MetricError, SinkError};
+use std::test::Fail;
+use test_faults::each_refused;
+
+// The lengths of lines, the marks before which a packet ends, and how many lines each packet of at most 10 bytes has.
+// For example 4 and 4 fit a packet, and another 4 doesn't, but 9 and 1 do.
+const PLANS: [(&[usize], &[usize], &[usize]); 4] = [
+    (&[4, 4, 4, 9, 1], &[], &[2, 1, 2]),
+    (&[4, 4, 4, 9, 1], &[1], &[1, 2, 2]),
+    (&[11, 11], &[0, 2, 7], &[1, 1]),
+    (&[], &[], &[]),
+];
+
+#[test]
+fn a_plan_without_memory_is_refused(rt: HostRuntime) -> Result<(), Fail> {
+    for (sizes, marks, wanted) in PLANS {
+        let granted: Result<Option<u64>, Fail> = each_refused(
+            rt.alloc(),
+            |heap| match plan_packets(heap, sizes, 10, marks) {
+                Ok(plan) if plan.as_slice() == wanted => Ok(true),
+                Ok(_) => Err(Fail::new("another plan")),
+                Err(MetricError::Sink(SinkError::OutOfMemory)) => Ok(false),
+                Err(_) => Err(Fail::new("another error")),
+            },
+        );
+        assert!(rt; granted?.is_some_and(|granted| granted > 0 || wanted.is_empty()));
+    }
+    Ok(())
+}

@@ -1,0 +1,15 @@
+//! Allocators, readers and writers that fail once, so that a test can let each request, read and write fail in turn.
+//!
+//! Each of them counts its calls down, and the call that finds the countdown at 0 fails. The calls before it and after
+//! it are passed on.
+//!
+//! - `memory`: an allocator that refuses one request, and a function that runs an attempt with each request refused.
+//! - `reader`: a reader that fails once, and one that reads one byte at a time.
+//! - `writer`: a writer that fails once, and one that writes one byte at a time.
+#![tactic(auto)]
+
+pub mod memory;
+pub mod reader;
+pub mod writer;
+
+pub use memory::{RefusingAllocator, each_refused};

@@ -1,0 +1,22 @@
+//! A model of a script's run: it works out the report that `statsd_schedule` has to print, and shares no code with it.
+//!
+//! The model knows no crate of the library, so a mistake of the library can't be in both. It expects a script that
+//! `statsd_schedule` can read, and says nothing about others. It is checked by comparison alone: a rule that model and
+//! library both have wrong isn't found.
+//!
+//! - `script`: the settings and the steps of a script.
+//! - `line`: the line of a call.
+//! - `queue`: the queue of lines, and the one line that is taken but not yet handed on.
+//! - `packer`: the packer and its writer.
+//! - `run`: the run and its report, and whether a report is one that the script may have.
+//! - `text`: the texts of a script, and bytes as a report prints them.
+#![tactic(auto)]
+
+mod line;
+mod packer;
+mod queue;
+mod run;
+mod script;
+mod text;
+
+pub use run::{MemoryError, is_right_report, report_of};

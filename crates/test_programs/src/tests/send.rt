@@ -1,0 +1,303 @@
+//! The engine of `statsd_send` over a reader, writers, packets and memory that fail. A run has to end with the status
+//! and the message of its failure, and to send the lines before it.
+use cadence_flow::io::{Answer, LineBuffer, PacketLog, PacketWriter};
+use cadence_send::{PacketPrinter, Request, Unhurried, read_options, run_input, run_words};
+use std::alloc::{Allocator, Global};
+use std::io::{Read, Write};
+use std::test::Fail;
+use test_faults::reader::{ByteReader, FailingReader};
+use test_faults::writer::{ByteWriter, FailingWriter};
+use test_faults::{RefusingAllocator, each_refused};
+
+// Three lines of input, what is sent for them, and what is sent for the first two.
+const TEXT: &[u8] = b"c a 1 k:v\nms b 12,250\ng c 0.5\n";
+
+const LINES: &[u8] = b"p.a:1|c|#x,k:v|c:id\np.b:12:250|ms|#x|c:id\np.c:0.5|g|#x|c:id\n";
+
+const TWO_LINES: &[u8] = b"p.a:1|c|#x,k:v|c:id\np.b:12:250|ms|#x|c:id\n";
+
+// Options that take memory: a prefix, a tag and a container for each line.
+const OPTIONS: &[&str] = &["--prefix", "p", "--tag", "x", "--container", "id"];
+
+// The words of the first line, and what is sent and printed for them.
+const WORDS: &[&str] = &["c", "a", "1", "k:v"];
+
+const LINE: &[u8] = b"p.a:1|c|#x,k:v|c:id\n";
+
+const SHOWN: &[u8] = b"packet 20 p.a:1|c|#x,k:v|c:id\\n\n";
+
+// No words, so that the input is read.
+const NONE: &[&str] = &[];
+
+// Answers of a log that takes one byte of each packet, one for each byte of `LINES`.
+const SHORT: [Answer; 60] = [Answer::Short(1); 60];
+
+// More than the requests for memory of any run. The countdown of a heap that refused one has passed 0, and is greater.
+const MOST_REQUESTS: u64 = 1000;
+
+// More than the writes of one byte of any run.
+const MOST_WRITES: u64 = 300;
+
+// The messages of errors.
+const UNREAD: &[u8] = b"statsd_send: input: cannot read\n";
+
+const REFUSED: &[u8] = b"statsd_send: cannot send: packet refused\n";
+
+const NO_VALUE: &[u8] =
+    b"statsd_send: VALUE is a number of its kind, as in `c visits 1`, `g load 0.75` or `ms wait 12,1.25s`\n";
+
+const NO_METRICS: &[u8] =
+    b"statsd_send: line 2: wants KIND NAME VALUE [TAG ..], as in `c visits 1 page:home`
+statsd_send: line 3: KIND is c, ms, g, m, h, s, d or the name of one, as in `count visits 1`
+statsd_send: 2 of 3 lines: cannot read\n";
+
+// In place of a status: the writer refused nothing, but at its end the run still holds text.
+const LOST: u8 = 9;
+
+// In place of a status: memory was refused before the run began.
+const BEFORE: u8 = 4;
+
+// Runs the words, or the input if there are no words, over a packer whose packets hold one line. Returns the status,
+// whether no text is held at the end, and the writer. Returns `None` if memory was refused before the run.
+fn drive<A: Allocator + Clone, T: PacketWriter, I: Read, E: Write>(
+    alloc: A,
+    writer: T,
+    words: &[&str],
+    input: &mut I,
+    errors: &mut E,
+) -> Option<(u8, bool, T)> {
+    let Ok(mut lines) = LineBuffer::new(alloc.clone().ok()?, writer, 24) else {
+        return None;
+    };
+    let Ok(Request::Send(options, _)) = read_options(alloc.clone().ok()?, OPTIONS) else {
+        return None;
+    };
+    let defaults = options.defaults(alloc.clone().ok()?).ok()?;
+    let status = if words.is_empty() {
+        run_input(&alloc, &defaults, &mut lines, input, errors, &mut Unhurried)
+    } else {
+        run_words(&alloc, &defaults, &mut lines, words, errors)
+    };
+    let (writer, held) = lines.into_parts();
+    Some((status, held.is_empty(), writer))
+}
+
+// Runs the words, or the input if there are no words, over a log with these answers. Returns the status and the bytes
+// of all packets.
+fn run_over_log<A: Allocator + Clone, I: Read, E: Write>(
+    alloc: A,
+    plain: Global,
+    answers: &[Answer],
+    words: &[&str],
+    input: &mut I,
+    errors: &mut E,
+) -> Result<(u8, Vec<u8>), Fail> {
+    let log = PacketLog::new(plain, Vec::from_slice(plain, answers)?);
+    let mut all = Vec::new(plain);
+    let Some((status, is_sent, log)) = drive(alloc, log, words, input, errors) else {
+        return Ok((BEFORE, all));
+    };
+    for packet in log.packets() {
+        all.extend_from_slice(packet)?;
+    }
+    let is_whole = is_sent || status == 1;
+    Ok((if is_whole { status } else { LOST }, all))
+}
+
+// Runs the words over a writer that prints their packet, and returns the status. Returns `None` if memory was refused
+// before the run.
+fn print_packet<A: Allocator + Clone, O: Write + Drop>(
+    alloc: A,
+    output: O,
+    errors: &mut Vec<u8>,
+) -> Option<u8> {
+    let printed = PacketPrinter::new(alloc.clone().ok()?, output).ok()?;
+    let mut none = ByteReader::new(b"");
+    let (status, _is_sent, _printed) = drive(alloc, printed, WORDS, &mut none, errors)?;
+    Some(status)
+}
+
+// Returns the first `count` lines of `LINES`.
+fn first_lines(count: usize) -> &'static [u8] {
+    match count {
+        0 => b"",
+        1 => LINE,
+        2 => TWO_LINES,
+        _ => LINES,
+    }
+}
+
+// The number of reads: one for each byte of the text, and one that finds its end.
+const READS: u64 = 31;
+
+// Returns whether a run whose reader fails after `passed` reads has the right status, sends the lines before that, and
+// reports the failure.
+fn has_right_end_after_reads(alloc: Global, passed: u64) -> Result<bool, Fail> {
+    let mut input = FailingReader::after(ByteReader::new(TEXT), passed);
+    let mut errors = Vec::new(alloc);
+    let (status, sent) = run_over_log(alloc, alloc, &[], NONE, &mut input, &mut errors)?;
+    let taken = TEXT.iter().take(passed as usize);
+    let lines = first_lines(taken.filter(|byte| **byte == b'\n').count());
+    let (failed, message) = if passed < READS {
+        (1, UNREAD)
+    } else {
+        (0, b"".as_slice())
+    };
+    Ok(status == failed && sent.as_slice() == lines && errors.as_slice() == message)
+}
+
+#[test]
+fn each_read_may_fail(rt: HostRuntime) -> Result<(), Fail> {
+    for passed in 0..=READS {
+        assert!(rt;
+            has_right_end_after_reads(rt.alloc(), passed)?,
+            "{passed} reads"
+        );
+    }
+    Ok(())
+}
+
+// Words, or a text if there are no words, and the answers of the log; then the status, what is sent, and the message.
+type Row = (
+    &'static [&'static str],
+    &'static [u8],
+    &'static [Answer],
+    u8,
+    &'static [u8],
+    &'static [u8],
+);
+
+// Text that is still held when a packet is refused is sent at the end.
+const ROWS: [Row; 8] = [
+    (NONE, TEXT, &SHORT, 0, LINES, b""),
+    (WORDS, b"", &SHORT, 0, LINE, b""),
+    (
+        NONE,
+        TEXT,
+        &[Answer::Whole, Answer::Whole, Answer::Refuse],
+        1,
+        TWO_LINES,
+        REFUSED,
+    ),
+    (
+        NONE,
+        TEXT,
+        &[Answer::Whole, Answer::Refuse],
+        1,
+        TWO_LINES,
+        REFUSED,
+    ),
+    (NONE, TEXT, &[Answer::Refuse], 1, LINE, REFUSED),
+    (WORDS, b"", &[Answer::Refuse], 1, b"", REFUSED),
+    (&["c", "a", "k:v"], b"", &[], 2, b"", NO_VALUE),
+    (NONE, b"c a 1 k:v\nc\nx y 1\n", &[], 2, LINE, NO_METRICS),
+];
+
+// Returns whether the run of a row has the right status and sends the right lines, although standard error fails after
+// `passed` writes. If no write fails, the message is compared too.
+fn has_right_end_after_errors(alloc: Global, row: &Row, passed: u64) -> Result<bool, Fail> {
+    let (words, text, answers, status, lines, message) = *row;
+    let mut input = ByteReader::new(text);
+    let mut errors = FailingWriter::after(ByteWriter::new(alloc), passed);
+    let (ended, sent) = run_over_log(alloc, alloc, answers, words, &mut input, &mut errors)?;
+    let is_reported = passed < MOST_WRITES || errors.get_ref().taken() == message;
+    Ok(ended == status && sent.as_slice() == lines && is_reported)
+}
+
+#[test]
+fn each_answer_is_reported_and_each_write_of_a_message_may_fail(
+    rt: HostRuntime,
+) -> Result<(), Fail> {
+    for row in &ROWS {
+        for passed in 0..=MOST_WRITES {
+            assert!(rt; has_right_end_after_errors(rt.alloc(), row, passed)?);
+        }
+    }
+    Ok(())
+}
+
+// Returns whether a run with this memory was refused none, in which case it must send the lines. A run that was refused
+// some must send the first lines, or none, and report that memory ran out.
+fn sends_lines_with(
+    alloc: Global,
+    heap: RefusingAllocator<Global>,
+    words: &[&str],
+    lines: &[u8],
+) -> Result<bool, Fail> {
+    let left = heap.clone()?;
+    let (mut input, mut errors) = (ByteReader::new(TEXT), Vec::new(alloc));
+    let (status, sent) = run_over_log(heap, alloc, &[], words, &mut input, &mut errors)?;
+    let message = match status {
+        0 if sent.as_slice() == lines => b"".as_slice(),
+        3 => b"statsd_send: out of memory\n",
+        BEFORE => b"",
+        _ => return Err(Fail::new("another end")),
+    };
+    let is_start = (0..4).any(|count| first_lines(count) == sent.as_slice());
+    if !is_start || errors.as_slice() != message {
+        return Err(Fail::new("another text"));
+    }
+    Ok(left.left() <= MOST_REQUESTS)
+}
+
+#[test]
+fn each_request_may_be_refused(rt: HostRuntime) -> Result<(), Fail> {
+    // a run asks for more memory than the packer, which makes two requests
+    for (words, lines, least) in [(NONE, LINES, 8), (WORDS, LINE, 2)] {
+        let turn = |heap: RefusingAllocator<Global>| sends_lines_with(
+            rt.alloc(),
+            heap,
+            words,
+            lines,
+        );
+        let granted = each_refused(rt.alloc(), turn)?;
+        assert!(rt; granted.is_some_and(|granted| granted > least));
+    }
+    Ok(())
+}
+
+// Returns whether a packet is printed over a writer that fails after `passed` writes. If it isn't, the run must end
+// with status 1 and a message.
+fn is_printed_after_writes(alloc: Global, passed: u64) -> Result<bool, Fail> {
+    let mut output = FailingWriter::after(ByteWriter::new(alloc), passed);
+    let mut errors = Vec::new(alloc);
+    let status = print_packet(alloc, &mut output, &mut errors);
+    let shown = output.get_ref().taken();
+    if !SHOWN.starts_with(shown) || shown.len() as u64 != passed {
+        return Err(Fail::new("another text"));
+    }
+    match status {
+        Some(0) if shown == SHOWN && errors.is_empty() => Ok(true),
+        Some(1) if errors.starts_with(b"statsd_send: cannot send: ") => Ok(false),
+        _ => Err(Fail::new("another end")),
+    }
+}
+
+#[test]
+fn each_write_of_a_printed_packet_may_fail(rt: HostRuntime) -> Result<(), Fail> {
+    for passed in 0..MOST_WRITES {
+        if is_printed_after_writes(rt.alloc(), passed)? {
+            return Ok(());
+        }
+    }
+    Err(Fail::new("always failed"))
+}
+
+// Returns whether a packet is printed with this memory, and none was refused. If it isn't printed, nothing must be.
+fn is_printed_with(alloc: Global, heap: RefusingAllocator<Global>) -> Result<bool, Fail> {
+    let left = heap.clone()?;
+    let (mut output, mut errors) = (Vec::new(alloc), Vec::new(alloc));
+    let status = print_packet(heap, &mut output, &mut errors);
+    match (status, output.as_slice()) {
+        (Some(0), shown) if shown == SHOWN => Ok(left.left() <= MOST_REQUESTS),
+        (Some(3) | None, []) => Ok(false),
+        _ => Err(Fail::new("another end")),
+    }
+}
+
+#[test]
+fn each_request_of_a_printed_packet_may_be_refused(rt: HostRuntime) -> Result<(), Fail> {
+    let granted = each_refused(rt.alloc(), |heap| is_printed_with(rt.alloc(), heap))?;
+    assert!(rt; granted.is_some());
+    Ok(())
+}
