@@ -28,7 +28,7 @@ module _ {X : Type 0} (P : X → Type 0) (xs : List X) (i : ℕ) where
   pub all_not : (x : X) → i < length xs → x ≡ get_or xs i x → (P x → ⊥) → All P xs → ⊥
   all_not x lt is not all = not (subst P (sym is) (all i x lt))
 
-  -- A fact is true of one more element.
+  -- A fact that is true of the first elements and of the next one is true of one element more.
   pub all_more : (x : X) → i < length xs → x ≡ get_or xs i x → P x → All P (take i xs) → All P (take (i + 1) xs)
   all_more x lt is px all = All-more P xs i x lt all (subst P is px)
 
@@ -36,7 +36,7 @@ module _ {X : Type 0} (P : X → Type 0) (xs : List X) (i : ℕ) where
   pub all_done : length xs ≤ i → All P (take i xs) → All P xs
   all_done le all = subst (All P) (take_all i xs le) all
 
--- A number counts as 1 if it is the one that is looked for, and as 0 if not.
+-- A number counts as 1 if it equals the one that is counted, and as 0 otherwise.
 count_of_same : (a b : ℕ) → a ≡ b → ◌≡◌ {A = ℕ} (cond (a == b) 1 0) 1
 count_of_same a b is = grind (arith, nat_tests)
 
@@ -61,7 +61,7 @@ module _ {Z : Type 0} (events : List (Event Z)) (s : ℕ) where
       let one = count_of_same _ s (ap (λ (x : Event Z). x.seat) (sym is) ∙ mine) in
       omega (arith, one, sum_by_more (λ (x : Event Z). cond (x.seat == s) 1 0) events i e lt)
 
-  -- An event of another seat adds none to its events.
+  -- An event of another seat doesn't add to the events of this seat.
   pub event_count-other : (i : ℕ) (e : Event Z) → i < length events → e ≡ get_or events i e → (e.seat ≡ s → ⊥)
       → event_count s (take (i + 1) events) ≡ event_count s (take i events)
   event_count-other i e lt is other =
@@ -72,7 +72,7 @@ module _ {Z : Type 0} (events : List (Event Z)) (s : ℕ) where
   abbrev IsAt : ℕ → Event Z → ℕ → Type 0
   IsAt i e n = (i < length events) × (slice_get events i ≡ Some e) × (e.seat ≡ s) × (event_count s (take i events) ≡ n)
 
-  -- Before a later event of the seat there is at least one event more.
+  -- Before a later event of a seat there is at least one event more of that seat.
   later : (i j : ℕ) (e : Event Z) (n : ℕ) → IsAt i e n → i < j → n < event_count s (take j events)
   later i j e n at lt =
       omega (
@@ -127,7 +127,7 @@ module _ {Z : Type 0} (events : List (Event Z)) (s : ℕ) where
             | inr past ↦ absurd (omega (arith, past.0, lt))
           ]
 
--- One more receipt is among the events, or there was none more.
+-- One more receipt is among the events (`held_more`), or there are no more receipts (`held_all`).
 module _ {X : Type 0} (events receipts : List X) (n : ℕ) where
   pub held_more : (i : ℕ) (e r : X) → i < length events → e ≡ get_or events i e → n < length receipts → r ≡ get_or receipts n r → r ≡ e
       → All (Contains events) (take n receipts) → All (Contains events) (take (n + 1) receipts)
@@ -137,7 +137,7 @@ module _ {X : Type 0} (events receipts : List X) (n : ℕ) where
   pub held_all : length receipts ≤ n → All (Contains events) (take n receipts) → All (Contains events) (take (n + 1) receipts)
   held_all le all = subst (All (Contains events)) (take_all n receipts le ∙ sym (take_all (n + 1) receipts (omega (arith, le)))) all
 
--- The element at a place, after one more was added at the end.
+-- An element stays at its place if one more is added at the end, and the added one is at the last place.
 get_before_push : {X : Type 0} (xs : List X) (x : X) (k : ℕ) → k < length xs → slice_get (xs ++ x ∷ []) k ≡ slice_get xs k
 get_before_push [] x k lt = absurd (omega (arith, lt))
 get_before_push (y ∷ ys) x zero lt = refl
@@ -147,7 +147,7 @@ get_at_push : {X : Type 0} (xs : List X) (x : X) → slice_get (xs ++ x ∷ []) 
 get_at_push [] x = refl
 get_at_push (y ∷ ys) x = get_at_push ys x
 
--- One more new seat.
+-- New seats and one more seat without receipts, whose number is the next one, are new seats.
 pub new_seats_more : {Z : Type 0} (n : ℕ) (seats : List (SeatState Z)) → AreNewSeats n seats
     → AreNewSeats (n + 1) (seats ++ record { number = n; receipts = [] } ∷ [])
 new_seats_more n seats new = (
@@ -161,7 +161,8 @@ new_seats_more n seats new = (
   ],
 )
 
--- The receipts of the seats up to one of them are its own and the earlier ones, and at most all.
+-- The receipts of the first seats, up to one of them, are those of that seat and of the earlier ones. They are at most
+-- all receipts.
 pub receipts_more : {Z : Type 0} (seats : List (SeatState Z)) (i n : ℕ) (seat : SeatState Z)
     → i < length seats → seat ≡ get_or seats i seat → n ≡ length seat.receipts
     → (receipt_count (take (i + 1) seats) ≡ receipt_count (take i seats) + n)

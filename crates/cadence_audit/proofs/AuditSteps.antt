@@ -81,7 +81,7 @@ module _ {Z : Type 0} where
             rw here (subst (λ x. MayFollow capacity es x) q.1 m)
       ]
 
-  -- A seat has the right receipts after its next call too.
+  -- If a seat has the right receipts, it has the right ones after its next call too.
   pub receipts_push : (number : ℕ) (rs : List (Event Z)) (r : Event Z) → AreReceiptsOf number rs → r.seat ≡ number → r.count ≡ length rs
       → AreReceiptsOf number (rs ++ r ∷ [])
   receipts_push number rs r h seat count k f got =
@@ -90,7 +90,7 @@ module _ {Z : Type 0} where
         | inr q ↦ (ap (λ (x : Event Z). x.seat) (sym q.1) ∙ seat, ap (λ (x : Event Z). x.count) (sym q.1) ∙ count ∙ sym q.0)
       ]
 
-  -- the number of events of the seat at this place
+  -- If the counts are right, the count at a place is the number of events of the seat with that number.
   pub counted_get : (es : List (Event Z)) (counts : List ℕ) → ((k : ℕ) → k < length counts → slice_index counts k ≡ event_count k es)
       → (n x : ℕ) → n < length counts → x ≡ get_or counts n x → x ≡ event_count n es
   counted_get es counts h n x lt is = grind (arith, common_steps, h n lt)
@@ -121,7 +121,7 @@ module _ {Z : Type 0} where
       → core.waiting ≡ waiting_texts es
   waits_after capacity es core counts k = k.past.waits ∙ ap (λ n. drop n (accepted_texts es)) (as_many es)
 
-  -- A call leaves a legal history that leads to the queue, if the queue has the past that its event gives.
+  -- A call leaves a legal history whose calls lead to the queue, if the queue has the past that the call's event gives.
   pub kept_push : (capacity : Option ℕ) (es : List (Event Z)) (core after : Queue (List ℕ)) (counts : List ℕ) (e : Event Z) (n t : ℕ)
       → HasLegalHistory capacity es core counts → MayFollow capacity es e → n ≡ e.count + 1
       → t ≡ taken_count es + length (given_text e.reply)
@@ -149,7 +149,7 @@ module _ {Z : Type 0} where
         counted = λ j lt. counted_at es counts e n j (e.seat == j) refl k.counted m.1 more lt;
       }
 
-  -- A call that didn't change the queue leaves a legal history that leads to it.
+  -- A call that didn't change the queue leaves a legal history whose calls lead to the queue.
   pub kept_same : (capacity : Option ℕ) (es : List (Event Z)) (core : Queue (List ℕ)) (counts : List ℕ) (e : Event Z) (n : ℕ)
       → HasLegalHistory capacity es core counts → MayFollow capacity es e → n ≡ e.count + 1
       → accepted_text e ≡ [] → given_text e.reply ≡ [] → is_stop e.call ≡ false
@@ -163,7 +163,7 @@ module _ {Z : Type 0} where
       refl
       (rw stop (sym (or-false core.stopped)))
 
-  -- A stop leaves a legal history that leads to the queue.
+  -- A stop leaves a legal history whose calls lead to the queue.
   abbrev stop_event : ℕ → ℕ → Event Z
   stop_event seat n = record { seat = seat; count = n; call = call.Stop; reply = reply.Stop }
 
@@ -182,7 +182,7 @@ module _ {Z : Type 0} where
       rw h (kept_push capacity es core (after_stop core) counts (stop_event seat n) (n + 1) (taken_count es) k (refl, is) refl (omega arith)
       (rw (append-nil, append-nil) k.order) past refl refl (sym (or-true core.stopped)))
 
-  -- A take leaves a legal history that leads to the queue.
+  -- A take leaves a legal history whose calls lead to the queue.
   abbrev take_event : ℕ → ℕ → Taken (List ℕ) → Event Z
   take_event seat n t = record { seat = seat; count = n; call = call.Take; reply = reply.Take t }
 
@@ -208,7 +208,7 @@ taken_is_first q r (taken.Text x) h = rw h.0 refl
 taken_is_first q r taken.Empty h = rw (h.0, h.1) refl
 taken_is_first q r taken.Ended h = rw (h.0, h.1) refl
 
--- A queue that refuses drops no text, and lacks room just if it is full.
+-- A queue with the policy to refuse drops no text, and lacks room exactly if it is full.
 drops_none : (core : Queue (List ℕ)) (oldest : List ℕ) → core.policy ≡ Refuse → drops_for_room core.policy core.waiting ≡ Some oldest → ⊥
 drops_none core oldest refuses first = let bad : ◌≡◌ {A = Option (List ℕ)} None (Some oldest) = ap (λ p. drops_for_room p core.waiting) (sym refuses)
     ∙ first in cc
@@ -216,7 +216,7 @@ drops_none core oldest refuses first = let bad : ◌≡◌ {A = Option (List ℕ
 refuses_full : (core : Queue (List ℕ)) → core.policy ≡ Refuse → lacks_room core ≡ is_full core
 refuses_full core refuses = ap (λ p. is_full core && is_none (drops_for_room p core.waiting)) refuses ∙ and-true (is_full core)
 
--- The reply to a refused submit is the one by the history, which is not `Accepted`.
+-- The reply to a refused submit is the one that the history calls for, and it is not `Accepted`.
 submit_is : (s f : Bool) (e : SinkError) (x : List ℕ) (r : SubmitReply)
     → e ≡ cond s refusal.ChannelDisconnected (cond f refusal.ChannelFull refusal.OutOfMemory)
     → IsRefusalReply e x (Ok r) → (r ≡ submit_reply s f) × (r ≢ submit.Accepted)
@@ -233,7 +233,7 @@ module _ {Z : Type 0} where
       ∙ ap (take_reply (was_stopped es)) (waits_after capacity es core counts k) in
       kept_taken capacity es core after counts seat n t k (ap reply.Take may, is) h next
 
-  -- A submit leaves a legal history that leads to the queue.
+  -- A submit leaves a legal history whose calls lead to the queue.
   abbrev submit_event : ℕ → ℕ → List ℕ → SubmitReply → Event Z
   submit_event seat n x r = record { seat = seat; count = n; call = call.Submit x; reply = reply.Submit r }
 

@@ -1,5 +1,5 @@
--- Which histories of a queue are legal. Nothing is replayed: the state of the queue at a call is what the events before
--- that call say of it. A call for which memory ran out is no event.
+-- Which histories of a queue are legal. No queue is run again to find out: the state of the queue at a call follows
+-- from the events before that call. A call for which memory ran out is no event.
 use Rattle.std.specs.Prelude.{◌≡◌, ℕ, ◌==◌, Bool, true, false, if◌then◌else◌, List, [], ◌∷◌, ◌++◌, length}
 use Rattle.std.specs.Prelude.{take, drop, slice_get, count_by, Option, Some}
 use Rattle.std.specs.List.{list_any, flat_map}
@@ -63,8 +63,8 @@ module _ {Z : Type 0} where
   abbrev pub waiting_texts : List (Event Z) → List (List ℕ)
   waiting_texts events = drop (taken_count events) (accepted_texts events)
 
-  -- The accepted texts are those that were taken, followed by those that wait. So no text is lost, doubled or
-  -- overtaken.
+  -- The accepted texts are those that were taken, followed by those that wait. So no text is lost or taken twice, and
+  -- none is taken before an older one.
   abbrev pub AreInOrder : List (Event Z) → Type 0
   AreInOrder events = accepted_texts events ≡ taken_texts events ++ waiting_texts events
 

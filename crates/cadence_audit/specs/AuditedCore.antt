@@ -26,12 +26,12 @@ pub record AuditedCoreState (Z : Type 0) : Type 0 where
   pub events : List (Event Z)
   pub seats : ℕ
 
--- how each text left the queue: it was taken, since an audited queue drops none
+-- how each text left the queue: it was taken, because an audited queue drops none
 abbrev pub exits : {Z : Type 0} → List (Event Z) → List Exit
 exits events = map (λ _. by_take) (taken_texts events)
 
--- The history is legal, and the queue is the one to which it leads, with this capacity and the policy to refuse. The
--- counts are the numbers of the seats' events.
+-- The history is legal, and its calls bring a new queue, with this capacity and the policy to refuse, to the state of
+-- this queue. The counts are the numbers of the seats' events.
 pub record HasLegalHistory {Z : Type 0} (capacity : Option ℕ) (events : List (Event Z)) (core : Queue (List ℕ)) (counts : List ℕ) : Type 0 where
   pub legal : IsLegal capacity events
   pub order : AreInOrder events
@@ -54,25 +54,27 @@ module _ {Z : Type 0} where
   abbrev pub IsKnown : AuditedCoreState Z → SeatState Z → Type 0
   IsKnown p s = (s.number < p.seats) × (length s.receipts ≡ event_count s.number p.events)
 
-  -- The error of a call that did nothing: `Stranger` if the seat is not one of this queue, and `OutOfMemory` if it is.
+  -- This is the error of a call that did nothing: `Stranger` if the seat is not one of this queue, and `OutOfMemory` if
+  -- it is.
   abbrev pub IsAuditRefusal : AuditedCoreState Z → SeatState Z → AuditError → Type 0
   IsAuditRefusal p s Stranger = IsKnown p s → ⊥
   IsAuditRefusal p s OutOfMemory = IsKnown p s
 
-  -- A call that returned `Ok`: the core has its event, and the seat its receipt.
+  -- A call returned `Ok`: the core has its event, and the seat its receipt.
   abbrev pub RecordsCall : AuditedCoreState Z → AuditedCoreState Z → SeatState Z → SeatState Z → AuditCall Z → AuditReply Z → Type 0
   RecordsCall p q s t c r = (q ≡ with_event p s c r) × (t ≡ with_receipt s c r)
 
-  -- A call that returned this error: neither the core nor the seat has changed.
+  -- A call returned this error: it is the right error, and neither the core nor the seat has changed.
   abbrev pub DoesNothing : AuditedCoreState Z → AuditedCoreState Z → SeatState Z → SeatState Z → AuditError → Type 0
   DoesNothing p q s t e = IsAuditRefusal p s e × (q ≡ p) × (t ≡ s)
 
--- The reply to a submit that the queue refused: that it is stopped or full. If memory ran out, the text comes back.
+-- The queue refused a text with this error, and the reply says so: it is `Stopped` or `Full`. If memory ran out, there
+-- is no reply, and the text comes back.
 abbrev pub IsRefusalReply : SinkError → List ℕ → Result SubmitReply (List ℕ) → Type 0
 IsRefusalReply refusal.ChannelDisconnected text reply = reply ≡ Ok submit.Stopped
 IsRefusalReply refusal.ChannelFull text reply = reply ≡ Ok submit.Full
 IsRefusalReply _ text reply = reply ≡ Err text
 
--- The reply to a submit, by the result of `QueueCore::submit`.
+-- The reply to a submit follows from this result of `QueueCore::submit`.
 abbrev pub IsSubmitReply : Result (Option (List ℕ)) (SinkError × List ℕ) → Result SubmitReply (List ℕ) → Type 0
 IsSubmitReply answer reply = MatchResult answer (λ _. reply ≡ Ok submit.Accepted) (λ e. IsRefusalReply e.0 e.1 reply)

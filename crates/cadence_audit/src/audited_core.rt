@@ -15,14 +15,14 @@ use cadence_flow::queue::{QueueCore, Taken};
 use std::alloc::{AllocError, Allocator, Global};
 use std::marker::Model;
 
-/// A queue with its history. In proofs, the history of every `AuditedCore` is legal, and it leads to the queue as it
-/// is.
+/// A queue with its history. In proofs, the history of every `AuditedCore` is legal, and its calls bring a new queue to
+/// the queue's present state.
 #[derive(Drop)]
 pub struct AuditedCore<A: Allocator = Global> {
     core: QueueCore<Text<A>, A>,
     capacity: Option<usize>,
     events: Vec<Event<A>, A>,
-    // for each seat, the number of its events
+    // the number of events of each seat
     counts: Vec<usize, A>,
 }
 
@@ -112,7 +112,8 @@ impl<A: Allocator> AuditedCore<A> {
         events
     }
 
-    // Whether the seat is one of this queue: it has as many receipts as the queue has events of it.
+    // Returns whether the seat is one of this queue, which means that the seat has as many receipts as the queue has
+    // events of it.
     fn knows(&self, seat: &Seat<A>) -> bool
         ensures { IsTrue result ↔ IsKnown self.now seat.now }
     {
@@ -120,7 +121,8 @@ impl<A: Allocator> AuditedCore<A> {
         number < self.counts.len() && self.counts[number] == seat.receipts().len()
     }
 
-    /// Stops the queue, as a call of this seat.
+    /// Stops the queue, as a call of this seat. The errors are `Stranger` if the seat is not one of this queue, and
+    /// `OutOfMemory`; the queue and the seat have not changed then.
     pub fn stop(&mut self, seat: &mut Seat<A>) -> Result<(), AuditError>
         ensures ok { OnOk result
             (RecordsCall self.old self.new seat.old seat.new call.Stop reply.Stop) }
@@ -153,7 +155,8 @@ impl<A: Allocator + Clone> AuditedCore<A> {
         })
     }
 
-    /// Takes the oldest text, as a call of this seat.
+    /// Takes the oldest text, as a call of this seat. The errors are those of `stop`, and the queue and the seat have
+    /// not changed after one.
     pub fn take(&mut self, seat: &mut Seat<A>) -> Result<Taken<Text<A>>, AuditError>
         ensures ok { IfOk result (λ t.
             RecordsCall self.old self.new seat.old seat.new call.Take (reply.Take t)) }
@@ -174,7 +177,8 @@ impl<A: Allocator + Clone> AuditedCore<A> {
         Ok(taken)
     }
 
-    /// Adds a text at the end, as a call of this seat. After an error the text comes back.
+    /// Adds a text at the end, as a call of this seat. The errors are those of `stop`. After an error the text comes
+    /// back, and the queue and the seat have not changed.
     pub fn submit(
         &mut self,
         seat: &mut Seat<A>,

@@ -10,8 +10,8 @@ pub enum AuditError {
     /// Memory ran out.
     #[error("out of memory")]
     OutOfMemory,
-    /// The seat is one of another queue: this queue has no seat of that number, or the seat has not as many receipts as
-    /// this queue has events of it.
+    /// The seat belongs to another queue: this queue has no seat of that number, or its number of events of that seat
+    /// isn't the seat's number of receipts.
     #[error("seat of another queue")]
     Stranger,
 }
@@ -27,7 +27,7 @@ impl From<AllocError> for AuditError {
     }
 }
 
-/// Why an audited queue returns no history at its end. The queue and the seats are gone then.
+/// Why an audited queue returns no history at its end. The queue and the seats have been dropped then.
 #[derive(Clone, Copy, Debug, PartialEq, Eq, Error)]
 pub enum EndFault {
     /// The numbers of the seats are not those of all seats of the queue, each once.

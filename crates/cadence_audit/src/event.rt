@@ -47,7 +47,7 @@ pub enum AuditReply<A: Allocator = Global> {
 pub struct Event<A: Allocator = Global> {
     /// The number of the caller's seat.
     pub seat: usize,
-    /// How many events the seat had before.
+    /// How many events the seat had before this one.
     pub count: usize,
     /// The call.
     pub call: AuditCall<A>,

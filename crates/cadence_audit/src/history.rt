@@ -26,15 +26,15 @@ impl<A: Allocator> Model for History<A> {
     ghost invariant = { λ h. AreCounted h.events.items };
 }
 
-// Whether a receipt and an event are equal.
+// Returns whether a receipt and an event are equal.
 fn is_same<A: Allocator>(receipt: &Event<A>, event: &Event<A>) -> bool
     ensures { IsTrue result ↔ (receipt.now ≡ event.now) }
 {
     *receipt == *event
 }
 
-// Whether each receipt of the seat with this number is among the events. The n-th receipt has to be the seat's n-th
-// event, so one pass over the events is enough.
+// Returns whether each receipt of the seat with this number is among the events. The n-th receipt has to be the seat's
+// n-th event, so one pass over the events is enough.
 fn contains_receipts<A: Allocator>(
     events: &[Event<A>],
     number: usize,
@@ -56,7 +56,7 @@ fn contains_receipts<A: Allocator>(
     found >= receipts.len()
 }
 
-// Whether the receipts of all seats are among the events.
+// Returns whether the receipts of all seats are among the events.
 fn contains_all_receipts<A: Allocator>(events: &[Event<A>], seats: &[Seat<A>]) -> bool
     requires { AreCounted events.now }
     ensures { IsTrue result ↔ All (IsRecordedIn events.now) seats.now }
@@ -69,7 +69,8 @@ fn contains_all_receipts<A: Allocator>(events: &[Event<A>], seats: &[Seat<A>]) -
     true
 }
 
-// Whether the seats together have this number of receipts. It counts down, because a sum might overflow.
+// Returns whether the seats together have this number of receipts. The function counts down, because a sum might
+// overflow.
 fn has_receipt_count<A: Allocator>(count: usize, seats: &[Seat<A>]) -> bool
     ensures { IsTrue result ↔ (count ≡ receipt_count seats.now) }
 {
@@ -100,8 +101,8 @@ impl<A: Allocator> History<A> {
         self.events.as_slice()
     }
 
-    /// Returns whether the receipts of the seats agree with the history: there are as many events as receipts, and each
-    /// receipt is among the events, with its seat and its count.
+    /// Returns whether the receipts of the seats agree with the history. They agree if there are as many events as
+    /// receipts, and if each receipt is among the events, with its seat and its count.
     pub fn agrees(&self, seats: &[Seat<A>]) -> bool
         ensures { IsTrue result ↔ Agrees self.now seats.now }
     {

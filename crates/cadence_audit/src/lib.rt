@@ -1,6 +1,7 @@
-//! A queue of texts that threads share, and that proves after the fact what happened in it. It keeps a history of its
-//! calls under its lock, and each caller keeps a receipt of each of its calls. At the end the two are compared. If they
-//! agree, the history is one that a single thread could have made, and it has the calls of the callers and no others.
+//! A queue of texts that threads share, and that proves afterwards what happened in it. It stores a history of its
+//! calls under its lock, and each caller stores a receipt of each of its calls. At the end the two are compared. If
+//! they agree, the history is one that a single thread could have made, and it has the calls of the callers and no
+//! others.
 //!
 //! - `audited_core`: what lies under the lock, which is the queue with its history
 //! - `seat`: the place of a caller, with its receipts
@@ -40,8 +41,8 @@ use std::sync::{Mutex, Wait};
 pub use text::Text;
 
 /// A queue of texts that threads share by reference. Each caller has a seat of its own. Each call is one step of a
-/// `QueueCore` under a lock. A call that returns `Ok` is an event of the history under the lock, and adds a receipt to
-/// the caller's seat.
+/// `QueueCore` under a lock. A call that returns `Ok` adds an event to the history under the lock, and a receipt to the
+/// caller's seat.
 #[derive(Drop)]
 pub struct AuditedQueue<A: Allocator = Global> {
     capacity: Option<usize>,
@@ -91,7 +92,8 @@ impl<A: Allocator + Clone> AuditedQueue<A> {
     }
 
     /// Adds a text at the end. If the reply is `Full` or `Stopped`, the text is freed; the event and the receipt have a
-    /// copy of it in any case. After an `AuditError` the text comes back, and the queue and the seat have not changed.
+    /// copy of it in any case. The errors are `Stranger` if the seat belongs to another queue, and `OutOfMemory`. After
+    /// an error the text comes back, and the queue and the seat have not changed.
     pub fn submit(
         &self,
         rt: &impl Wait,
@@ -109,7 +111,8 @@ impl<A: Allocator + Clone> AuditedQueue<A> {
         }
     }
 
-    /// Takes the oldest text. After an `AuditError` the queue and the seat have not changed.
+    /// Takes the oldest text. It doesn't wait for one. The errors are `Stranger` if the seat belongs to another queue,
+    /// and `OutOfMemory`; the queue and the seat have not changed then.
     pub fn take(&self, rt: &impl Wait, seat: &mut Seat<A>) -> Result<Taken<String<A>>, AuditError>
         ensures ok { IfOk result (λ t.
             seat.new ≡ with_receipt seat.old call.Take (reply.Take (taken_bytes t))) }
@@ -123,8 +126,8 @@ impl<A: Allocator + Clone> AuditedQueue<A> {
 }
 
 impl<A: Allocator> AuditedQueue<A> {
-    /// Stops the queue: it refuses texts from now on. Texts that wait can still be taken. After an `AuditError` the
-    /// queue and the seat have not changed.
+    /// Stops the queue: it refuses texts from now on. Texts that wait can still be taken. The errors are `Stranger` if
+    /// the seat belongs to another queue, and `OutOfMemory`; the queue and the seat have not changed then.
     pub fn stop(&self, rt: &impl Wait, seat: &mut Seat<A>) -> Result<(), AuditError>
         ensures ok { OnOk result (seat.new ≡ with_receipt seat.old call.Stop reply.Stop) }
         ensures err { OnErr result (seat.new ≡ seat.old) }
@@ -136,7 +139,7 @@ impl<A: Allocator> AuditedQueue<A> {
     ///
     /// The errors are `SeatsMissing` if the numbers of the seats are not those of all seats of the queue, each once,
     /// and otherwise `Mismatch` if the history doesn't agree with the receipts of the seats, or if the capacity under
-    /// the lock isn't the one outside it. After an error the queue and the seats are gone.
+    /// the lock isn't the one outside it. After an error the queue and the seats have been dropped.
     pub fn end(self, seats: Vec<Seat<A>, A>) -> Result<History<A>, EndFault>
         ensures missing { (result ≡ Err fault.SeatsMissing) ↔
             (HasAllSeats self.seats seats.items → ⊥) }

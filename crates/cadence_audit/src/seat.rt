@@ -6,7 +6,7 @@ use super::event::{AuditCall, AuditReply, Event};
 use std::alloc::{AllocError, Allocator, Global};
 use std::marker::Model;
 
-/// The place of one caller at an audited queue. It has a receipt of each call of that caller that returned `Ok`.
+/// The place of one caller at an audited queue. The seat has a receipt of each call of that caller that returned `Ok`.
 #[derive(Drop)]
 pub struct Seat<A: Allocator = Global> {
     pub(super) number: usize,
@@ -76,7 +76,7 @@ pub(super) fn new_seats<A: Allocator + Clone>(
     Ok(seats)
 }
 
-// Whether just one of the seats has this number.
+// Returns whether exactly one of the seats has this number.
 fn is_once<A: Allocator>(number: usize, seats: &[Seat<A>]) -> bool
     ensures { IsTrue result ↔ (count_by (λ s. s.number == number) seats.now ≡ 1) }
 {

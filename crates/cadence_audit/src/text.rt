@@ -4,7 +4,7 @@ ghost use Rattle.std.specs.Prelude.{◌≡◌, string_bytes};
 use std::alloc::{AllocError, Allocator, Global};
 use std::marker::Model;
 
-/// A text, which contracts see as its bytes. It wraps a `String`, and gives it back without a copy.
+/// A text, which contracts see as its bytes. It wraps a `String`, which `into_string` returns without a copy.
 #[derive(Drop)]
 #[derive_where(Clone; A)]
 pub struct Text<A: Allocator = Global> {
@@ -20,7 +20,7 @@ impl<A: Allocator> Model for Text<A> {
 }
 
 impl<A: Allocator> Text<A> {
-    /// Returns the text, to read.
+    /// Returns the text as a `&str`.
     pub fn as_str(&self) -> &str
         ensures { result.now ≡ self.now }
     {

@@ -14,11 +14,12 @@ plain_or_hex b = if nat_le 32 b then (if nat_le b 126 then b ∷ [] else hex_esc
     hex_escape : ℕ → List ℕ
     hex_escape n = codes "\\x" ++ hex_digit (n / 16) ∷ hex_digit (n % 16) ∷ []
 
--- the text that stands for one byte: two backslashes for a backslash, and `\n` for a newline
+-- the text that a report prints for one byte: two backslashes for a backslash, `\n` for a newline, and for any other
+-- byte what `plain_or_hex` says
 abbrev pub escaped_byte : ℕ → List ℕ
 escaped_byte b = if b == 92 then codes "\\\\" else if b == 10 then codes "\\n" else plain_or_hex b
 
--- the text that stands for the bytes
+-- the text that a report prints for the bytes
 abbrev pub escaped_bytes : List ℕ → List ℕ
 escaped_bytes bytes = flat_map escaped_byte bytes
 

@@ -5,10 +5,10 @@ ghost use Rattle.cadence_cli.specs.declared.read_error.ReadError.TheVariants.{Ou
 use std::alloc::{AllocError, AllocFailed};
 use std::fmt;
 
-/// Why something was not read. `W` says what is wrong with it.
+/// Why something was not read. The type `W` says what is wrong with it.
 #[derive(Clone, Copy, Debug, PartialEq, Eq)]
 pub enum ReadError<W> {
-    /// It can't be read, for this reason.
+    /// The input can't be read, for this reason.
     Unreadable(W),
     /// Memory ran out.
     OutOfMemory,

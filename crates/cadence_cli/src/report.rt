@@ -8,10 +8,10 @@ use std::alloc::{AllocError, Allocator};
 use std::fmt;
 use std::io::Write;
 
-/// Why a program prints no report. `E` says what is wrong with an input that was read.
+/// Why a program prints no report. The type `E` says what is wrong with an input that was read.
 #[derive(Debug, Drop)]
 pub enum ReportError<E: Drop> {
-    /// The input was read, and can't be used.
+    /// The input was read, but it can't be used, for this reason.
     Unusable(E),
     /// The input can't be read.
     Input,

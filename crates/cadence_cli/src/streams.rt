@@ -7,14 +7,14 @@ use std::alloc::Allocator;
 use std::io;
 use std::io::{Read, Write};
 
-/// A reader failed, or returned bytes without an end.
+/// A reader failed, or didn't end within `u64::MAX` reads.
 #[derive(Clone, Copy, Debug, PartialEq, Eq)]
 pub struct BrokenInput;
 
 /// Returns all bytes that the reader returns up to its end.
 ///
-/// # Errors
-/// `Unreadable` if the reader fails, and `OutOfMemory`. The bytes that were read before the error are lost.
+/// # Errors `Unreadable` if the reader fails or doesn't end within `u64::MAX` reads, and `OutOfMemory`. The bytes that
+/// were read before the error are lost.
 pub fn read_all<A: Allocator, I: Read>(
     alloc: A,
     input: &mut I,

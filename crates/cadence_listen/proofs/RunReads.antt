@@ -28,7 +28,7 @@ tags_listed [] free said = tt
 tags_listed (tag ∷ tags) (free, frees) (said, saids) =
     (record { key = text_listed tag.key free.key said.key; text = (free.text, said.text) }, tags_listed tags frees saids)
 
--- A metric of a record that has no separators can be read.
+-- A metric that a record can represent, and that has no separators, can be read.
 listed : (m : Metric) → IsFreeOfSeparators m → IsRepresentable m → IsListed m
 listed m free said = record {
   name = (free.name, said.name);
@@ -87,7 +87,8 @@ reads_listed metrics packets held said (lists, joined, zipped) =
     subst (AllByRecursion IsRepresentable) (sym joined) (recursion_from_All IsRepresentable metrics said) in
     subst (AreListed (packets ++ held ∷ [])) joined (with_held packets held lists (lists_listed lists (packets ++ held_packet held) zipped each))
 
--- If the metrics of the kept calls have no separators, then the packets and the held text are theirs.
+-- If the metrics of the kept calls have no separators, then the packets and the held text are the packets of these
+-- metrics.
 pub kept_listed : {A : Type 0} (settings : Settings) (capacity : ℕ) (queue : Option ℕ) (steps : List (Step A)) (log : LogState)
     (outcome : Outcome LogState A)
     → IsNewWhole log → IsRun (given_to settings capacity queue steps log) outcome

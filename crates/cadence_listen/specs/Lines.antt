@@ -10,6 +10,6 @@ use Rattle.cadence_read.specs.Listed.{IsListOf}
 abbrev pub listing_of : List Metric → List ℕ
 listing_of metrics = flat_map (λ metric. text_line (codes "line") (line_of metric)) metrics
 
--- The text lists the metrics whose packet this is.
+-- The first text is the packet of some metrics, and the second text lists them.
 abbrev pub IsLinesOf : List ℕ → List ℕ → Type 0
 IsLinesOf packet text = (metrics : List Metric) × IsListOf packet metrics × (text ≡ listing_of metrics)

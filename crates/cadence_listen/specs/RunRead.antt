@@ -21,7 +21,7 @@ module _ {A : Type 0} where
   abbrev pub given_to : Settings → ℕ → Option ℕ → List (Step A) → LogState → Given A
   given_to settings capacity queue steps log = given_of log_kind log_history settings capacity (codes "\n") queue Refuse steps log
 
-  -- The run has all that is promised about runs.
+  -- The run has all properties that are promised of runs.
   pub record IsRun (given : Given A) (outcome : Outcome LogState A) : Type 0 where
     pub headline : HasHeadline log_history given outcome
     pub beside : IsAccounted log_history given outcome
@@ -34,7 +34,8 @@ module _ {A : Type 0} where
   abbrev pub kept_metrics : Given A → Outcome LogState A → List Metric
   kept_metrics given outcome = kept given.metric_of (turns_of log_history given outcome)
 
-  -- No metrics have the packets of the run. If the log was new and none of its answers was short, then a kept metric has a separator.
+  -- The packets of the run are not those of any metrics. If the log was new and none of its answers was short, then a
+  -- kept metric has a separator.
   abbrev pub IsUnreadable : LogState → Given A → Type 0
   IsUnreadable log given =
       (outcome : Outcome LogState A) × IsRun given outcome

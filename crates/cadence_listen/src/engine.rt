@@ -11,7 +11,7 @@ use cadence_text::line::OwnedMetric;
 use std::alloc::Allocator;
 use std::io::{Read, Write};
 
-// Turns an error of reading into one of the program.
+// Turns an error of reading into an error of the program.
 fn report_error(fault: ReadFault) -> ReportError<ReadFault> {
     match fault {
         ReadFault::NotMetrics => ReportError::Unusable(fault),
@@ -19,7 +19,7 @@ fn report_error(fault: ReadFault) -> ReportError<ReadFault> {
     }
 }
 
-// Returns a line of the report for each metric. It fails only if memory runs out.
+// Returns a line of the report for each metric. The only error is that memory ran out.
 fn listing_of<A: Allocator + Clone>(
     alloc: &A,
     metrics: &[OwnedMetric<A>],
@@ -61,7 +61,8 @@ fn read_listing<A: Allocator + Clone, I: Read>(
 /// - 2 if the input can't be read, or is not a packet of metrics,
 /// - 3 if memory ran out.
 ///
-/// For 2 and 3 nothing is printed, and one line is written to `errors`. An error of `errors` is ignored.
+/// With the status 2 or 3 nothing is printed to `output`, and one line is written to `errors`. An error of `errors` is
+/// ignored.
 pub fn run_listen<A: Allocator + Clone, I: Read, O: Write, E: Write>(
     alloc: A,
     input: &mut I,

@@ -1,5 +1,4 @@
-//! The engine of `statsd_listen`, and runs of a schedule whose packets are read back. Its readers are those of
-//! `cadence_read`.
+//! The engine of `statsd_listen`, and runs of a schedule whose packets are read back. Both read with `cadence_read`.
 //!
 //! - `engine`: prints the lines of one packet, over any reader and writers.
 //! - `run`: runs a schedule over a packet log, and reads the packets back.

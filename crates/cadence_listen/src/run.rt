@@ -16,11 +16,11 @@ use std::alloc::Allocator;
 /// Runs the steps with `run_schedule`, over a packet log and with a newline after each line. Then it reads the metrics
 /// of the log's packets and of the held text.
 ///
-/// If the log is new, none of its answers is short, and the metrics of the kept calls have no separators, then exactly
-/// these metrics are read, in order. A call is kept if it was accepted, and its line was handed on and not refused.
+/// A call is kept if it was accepted, and its line was handed on and not refused. If the log is new, none of its
+/// answers is short, and the metrics of the kept calls have no separators, then exactly these metrics are read, in
+/// order.
 ///
-/// # Errors
-/// `NotMetrics` if the packets are not those of metrics, and `OutOfMemory`.
+/// # Errors `NotMetrics` if a packet or the held text is not the packet of any metrics, and `OutOfMemory`.
 pub fn run_and_read<A: Allocator + Clone>(
     alloc: A,
     settings: &ClientSettings<A>,

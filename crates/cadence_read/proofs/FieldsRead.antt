@@ -27,7 +27,7 @@ pub fails_on : {Y Z S T : Type 0} (e : ReadFault) (Good : Y → Type 0) (shown :
 fails_on NotMetrics Good shown s Whole seen t part none = λ z is. let h = part z is.0 is.1 in none h.0 (h.1, h.2)
 fails_on OutOfMemory Good shown s Whole seen t part none = tt
 
--- The error that a `?` returns is right.
+-- A reading that returns an error that `FailsAs` allows is right.
 pub hands_on : {X Z T : Type 0} (Whole : Z → Type 0) (seen : Z → T) (t : T) (view : X → Z) (r : Result X ReadFault) (e : ReadFault)
     → r ≡ Err e → FailsAs Whole seen t e → ReadsOrFails Whole seen t view r
 hands_on Whole seen t view r e is none = rw is none

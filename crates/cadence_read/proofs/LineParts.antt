@@ -38,7 +38,7 @@ marked_none first mark text h e =
     (slice_eq-Decides Decides-eqb (take (length mark) first) mark (pointwise eqb (take (length mark) first) mark) refl).1 same in
     let bad : true ≡ false = sym yes ∙ h in absurd cc
 
--- There is one way to take a field off the parts, if no later part has the field's mark.
+-- There is only one way to take a field off the parts, if no later part has the field's mark.
 pub marked_once : (b : ℕ) (m : List ℕ) (parts : List (List ℕ)) (f : Option (List ℕ)) (rest : List (List ℕ)) (g : Option (List ℕ))
     (more : List (List ℕ))
     → IsMarked (b ∷ m) parts f rest → field_part (b ∷ m) g ++ more ≡ parts → Stops (marked b) more → (f ≡ g) × (rest ≡ more)
@@ -58,7 +58,7 @@ pub none_left : (mark : ℕ) (left : Option (List ℕ)) → pieces_left mark lef
 none_left mark None e = refl
 none_left mark (Some text) e = absurd (omega (arith, ap (λ ps. length ps) e, length-slice_split (λ b. eqb b mark) text))
 
--- The marks that later parts can't have.
+-- The parts after a field don't begin with that field's mark.
 stops_rate : (tags container time : Option (List ℕ))
     → Stops (marked 64) (field_part (codes "#") tags ++ (field_part (codes "c:") container ++ field_part (codes "T") time))
 stops_rate (Some _) container time = refl
@@ -141,7 +141,7 @@ texts_once s t hs ht e =
       time = sym same.time i;
     }
 
--- The texts of a metric make the parts of its line.
+-- The parts of a metric's line are those of the metric's texts.
 rate_same : (o : Option Number) → field_part (codes "@") (option_map number_text o) ≡ rate_part o
 rate_same (Some r) = refl
 rate_same None = refl

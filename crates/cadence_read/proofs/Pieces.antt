@@ -21,7 +21,7 @@ none_is c xs h k d inside = ne_eqb (get_or xs k d) c (h k d inside)
 pub pieces-none : (c : ℕ) (xs : List ℕ) → All (λ b. b ≢ c) xs → pieces c xs ≡ xs ∷ []
 pieces-none c xs h = slice_split_none (λ b. eqb b c) xs (none_is c xs h)
 
--- The first piece ends at the first such byte.
+-- The first piece of a text ends at the first byte that cuts it.
 pub pieces-at : (c : ℕ) (xs ys : List ℕ) → All (λ b. b ≢ c) xs → pieces c (xs ++ c ∷ ys) ≡ xs ∷ pieces c ys
 pieces-at c xs ys h = slice_split_at (λ b. eqb b c) xs c ys (none_is c xs h) (eq-eqb c c refl)
 

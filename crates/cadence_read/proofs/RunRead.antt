@@ -23,7 +23,7 @@ zip_at R (a ∷ xs) [] k d h within = absurd h
 zip_at R (a ∷ xs) (b ∷ ys) zero d h within = (b, h.0)
 zip_at R (a ∷ xs) (b ∷ ys) (suc k) d h within = zip_at R xs ys k d h.1 (omega arith)
 
--- One more packet is read.
+-- If the packets so far are read as metrics, and one more packet is, then all of them together are.
 pub listed_more : (packets : List (List ℕ)) (metrics more : List Metric) (packet : List ℕ) → AreListed packets metrics
     → IsListOf packet more → AreListed (packets ++ packet ∷ []) (metrics ++ more)
 listed_more packets metrics more packet h list = (
@@ -32,7 +32,7 @@ listed_more packets metrics more packet h list = (
   flat_map-append (λ list. list) h.0 (more ∷ []) ∙ ap₂ (λ a b. a ++ b) h.2 (append-nil more),
 )
 
--- If one of the packets has no list of metrics, then no metrics have these packets.
+-- If one of the packets is not the packet of any list of metrics, then no metrics have these packets.
 pub run_fails : (packets : List (List ℕ)) (e : ReadFault) (packet : List ℕ) (k : ℕ) (d : List ℕ) → k < length packets
     → get_or packets k d ≡ packet → FailsPacket packet e → e ≡ NotMetrics → (metrics : List Metric) → AreListed packets metrics → ⊥
 run_fails packets NotMetrics packet k d within here none is metrics h =
@@ -60,7 +60,7 @@ pub listed_same : (packets others : List (List ℕ)) (metrics same : List Metric
     → AreListed packets metrics → AreListed others same
 listed_same packets others metrics same e f h = subst (λ ms. AreListed others ms) f (subst (λ ps. AreListed ps metrics) e h)
 
--- The packet at which a loop is.
+-- The packet at an index is that of the item at the same index.
 pub packet_at : {X : Type 0} (items : X → List ℕ) (xs : List X) (k : ℕ) (x : X) (d : List ℕ) → k < length xs → x ≡ get_or xs k x
     → get_or (map items xs) k d ≡ items x
 packet_at items xs k x d within is = get_or-map items xs k x d within ∙ ap items (sym is)

@@ -38,7 +38,7 @@ abbrev pub FailsPacket : List ℕ → ReadFault → Type 0
 FailsPacket packet NotMetrics = (metrics : List Metric) → IsListOf packet metrics → ⊥
 FailsPacket packet OutOfMemory = ⊤
 
--- If metrics were read, this is their packet. If there is an error instead, the error is right.
+-- If metrics were read, this is their packet. If there is an error instead, it is one that `FailsPacket` allows.
 abbrev pub ReadsPacket : {Z : Type 0} → List ℕ → Result (Vec (OwnedMetric Z) Z) ReadFault → Type 0
 ReadsPacket packet (Ok metrics) = IsListOf packet (metrics_of metrics)
 ReadsPacket packet (Err e) = FailsPacket packet e

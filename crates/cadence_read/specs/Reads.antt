@@ -9,8 +9,8 @@ abbrev pub FailsAs : {X Y : Type 0} → (X → Type 0) → (X → Y) → Y → R
 FailsAs Good shown y NotMetrics = HasNone (PrintsAs Good shown y)
 FailsAs Good shown y OutOfMemory = ⊤
 
--- If the reading returns a value, then that value, as `view` sees it, is a good one that prints as this text. If it returns an error, the error
--- is right.
+-- If the reading returns a value, then that value, as `view` sees it, is a good one that prints as this text. If it
+-- returns an error, it is one that `FailsAs` allows.
 abbrev pub ReadsOrFails : {C X Y : Type 0} → (X → Type 0) → (X → Y) → Y → (C → X) → Result C ReadFault → Type 0
 ReadsOrFails Good shown y view (Ok c) = PrintsAs Good shown y (view c)
 ReadsOrFails Good shown y view (Err e) = FailsAs Good shown y e

@@ -22,8 +22,9 @@ pub(crate) fn cut_piece(text: &[u8], mark: u8) -> (&[u8], Option<&[u8]>)
     }
 }
 
-// Takes the part before the first bar off the text that is left, if it begins with this mark. Returns the rest of that
-// part, and the text after the bar. If the part begins otherwise, it returns `None` and leaves the text as it is.
+// Removes the part before the first bar from the text that is left, if that part begins with this mark. Returns the
+// rest of that part, and the text after the bar. If the part begins otherwise, the function returns `None` and the text
+// as it is.
 fn take_marked<'a>(left: Option<&'a [u8]>, mark: &[u8]) -> (Option<&'a [u8]>, Option<&'a [u8]>)
     requires { AllByRecursion (λ byte. byte ≢ 124) mark.now }
     ensures { IsMarked mark.now (pieces_left 124 (option_copied left.entry))

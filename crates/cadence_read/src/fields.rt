@@ -40,8 +40,8 @@ fn read_text<A: Allocator>(alloc: A, text: &[u8]) -> Result<String<A>, ReadFault
     read_free(alloc, text)
 }
 
-// Reads the numbers between the colons. An empty text has no numbers. There is room for one, because most lines have
-// one.
+// Reads the numbers between the colons. An empty text has no numbers. The list begins with room for one number, because
+// most lines have one.
 pub(crate) fn read_numbers<A: Allocator>(
     alloc: A,
     text: &[u8],
@@ -64,7 +64,7 @@ pub(crate) fn read_numbers<A: Allocator>(
     Ok(numbers)
 }
 
-// Returns the kind that this text stands for.
+// Returns the kind that has this type text, or `None` if no kind has it.
 pub(crate) fn read_kind(text: &[u8]) -> Option<MetricType>
     ensures { Reads (λ _. ⊤) kind_text text.now result }
 {

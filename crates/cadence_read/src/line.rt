@@ -44,8 +44,8 @@ fn read_texts<A: Allocator + Clone>(
     })
 }
 
-// Reads the metric whose line is the name, a colon and the rest. A line without optional fields has a call of its own,
-// in which the compiler drops the code that reads them.
+// Reads the metric whose line is the name, a colon and the rest. A line without optional fields is read by a call of
+// its own, from which the compiler removes the code for those fields.
 #[inline(always)]
 pub(crate) fn read_named<A: Allocator + Clone>(
     alloc: &A,

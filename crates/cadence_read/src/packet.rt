@@ -21,7 +21,7 @@ const MOST_ROOM: usize = 1024;
 const SHORT_LINE: usize = 16;
 
 // Returns for how many metrics to make room: for as many as there would be if all lines were short. There is a limit,
-// because most packets have longer lines, and the packet may come from anywhere.
+// because most packets have longer lines, and because anybody may have sent the packet.
 fn room_for(lines: &[u8]) -> usize {
     (lines.len() / SHORT_LINE).min(MOST_ROOM - 1) + 1
 }
@@ -67,10 +67,11 @@ fn read_list<A: Allocator + Clone>(
     Ok(metrics)
 }
 
-/// Reads the metrics of a packet. There is at most one list of metrics with this packet.
+/// Reads the metrics of a packet: lines that each end in a newline, or one line without a newline. There is at most one
+/// list of metrics with this packet.
 ///
-/// The metrics own their texts and lists, in memory of `alloc`. With an arena that is emptied after each packet,
-/// reading takes no memory from the heap once the arena has room.
+/// The metrics own their texts and lists, in memory of `alloc`. If `alloc` is an arena that is emptied after each
+/// packet, reading takes no memory from the heap once the arena has room.
 ///
 /// # Errors
 /// `NotMetrics` if no list of metrics has this packet, and `OutOfMemory`.
@@ -87,10 +88,10 @@ pub fn read_packet<A: Allocator + Clone>(
     read_list(&alloc, packet)
 }
 
-/// Reads the metrics of the packets of a run, and then those of the held text, into one list.
+/// Reads the metrics of the packets of a run, and then the metrics of the held text, into one list.
 ///
-/// # Errors
-/// `NotMetrics` if a packet or the held text is the packet of no list of metrics, and `OutOfMemory`.
+/// # Errors `NotMetrics` if no list of metrics has one of the packets, or the held text, as its packet, and
+/// `OutOfMemory`.
 pub fn read_run<A: Allocator + Clone>(
     alloc: A,
     packets: &[Vec<u8, A>],

@@ -1,5 +1,5 @@
--- A resolver that was right after some lookups is right after one more. The counts modulo 2 to the 64 come first, then a lookup without
--- addresses, one with addresses, and the first lookup.
+-- A resolver that was right after some lookups is right after one more. The lemmas about the counts modulo 2 to the 64
+-- come first, then those about a lookup without addresses, about one with addresses, and about the first lookup.
 use Rattle.std.proofs.Common.{◌≡◌, ℕ, ◌+◌, ◌%◌, ◌^◌, List, [], ◌∷◌, ◌++◌, Bool, false, ap, sym, ◌∙◌, refl, arith}
 use Rattle.std.proofs.Math.Nat.{mod-add-mod}
 use Rattle.std.proofs.lemmas.List.{append_assoc}
@@ -11,7 +11,7 @@ use Rattle.cadence_errors.specs.declared.SinkError.{SinkError}
 use Rattle.cadence_resolve.specs.Address.{Resolved, IsResolvedBy, IsNotedAfter, addresses_of, gave_any}
 use Rattle.cadence_resolve.specs.Lookups.{IsStart, IsStartAt, IsNoted, IsNotedList, after_success, after_failure}
 
--- One more element at the end of a list adds 1 to the count if it passes the test, and 0 if it doesn't.
+-- One more element at the end of a list adds 1 to the count if it passes the test, and nothing if it doesn't.
 count_by_snoc : {X : Type 0} (p : X → Bool) (xs : List X) (x : X)
     → count_by p (xs ++ x ∷ []) ≡ count_by p xs + (if p x then 1 else 0)
 count_by_snoc p xs x = sum_by-append (λ y. if p y then 1 else 0) xs (x ∷ []) ∙ omega arith
@@ -69,13 +69,13 @@ some_is_after r s address others step = λ first later past.
       failures = ap (λ z. z.failures) step ∙ not_counted (λ found. not (gave_any found)) later (address ∷ others) r.failures refl past.failures;
     }
 
--- One more lookup that didn't fail, with addresses or without.
+-- A resolver stays right after one more lookup that didn't fail, with addresses or without.
 list_is_after : (r s : Resolved) (found : List SocketAddr) (fault : Option SinkError)
     → IsNotedList r found fault s → IsNotedAfter r found s
 list_is_after r s [] fault step = none_is_after r s step.1
 list_is_after r s (address ∷ others) fault step = some_is_after r s address others step.1
 
--- One more lookup, which may have failed.
+-- A resolver stays right after one more lookup, which may have failed.
 pub noted_is_after : {A : Type 0} (r s : Resolved) (lookup : Result (Vec SocketAddr A) SinkError) (fault : Option SinkError)
     → IsNoted r lookup fault s → IsNotedAfter r (addresses_of lookup) s
 noted_is_after r s (Ok found) fault step = list_is_after r s found.items fault step

@@ -28,7 +28,9 @@ pub record Resolved : Type 0 where
   pub successes : ℕ
   pub failures : ℕ
 
--- After this first lookup and these later ones, the resolver has the address and the counts that it should have.
+-- After this first lookup and these later ones, the resolver has the first address of the last lookup that gave any,
+-- and its counts are the numbers of the later lookups that gave an address and of those that gave none, modulo 2 to the
+-- 64.
 pub record IsResolvedBy (first : List SocketAddr) (later : List (List SocketAddr)) (r : Resolved) : Type 0 where
   pub address : IsAddressAfter (first ∷ later) r.address
   pub successes : r.successes ≡ count_by (λ found. gave_any found) later % 2 ^ 64

@@ -1,4 +1,4 @@
--- What contracts show of a handler of errors.
+-- What contracts see of a handler of errors.
 use Rattle.std.specs.declared.dyn_box.DynBox.{DynBox}
 use Rattle.cadence_resolve.specs.declared.handler.Handler.{Handler}
 

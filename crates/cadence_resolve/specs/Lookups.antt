@@ -13,7 +13,8 @@ use Rattle.cadence_resolve.specs.declared.resolver.Resolver.TheVariants.{Static,
 use Rattle.cadence_resolve.specs.declared.target.Target.{Target}
 use Rattle.cadence_resolve.specs.declared.target.Target.TheVariants.{Addr}
 
--- A resolver starts at the first of these addresses, with no later lookup. If there is none, the error is an invalid input.
+-- A resolver starts at the first of these addresses, with no later lookup. If there is no address, the error is an
+-- invalid input.
 abbrev pub IsStartAt : List SocketAddr → Result Resolved MetricError → Type 0
 IsStartAt [] result = IsErrAnd result (λ e. IsInvalid e)
 IsStartAt (address ∷ others) result = result ≡ Ok (record { address = address; successes = 0; failures = 0 })
@@ -36,13 +37,13 @@ after_success r address = record r { address = address; successes = (r.successes
 abbrev pub after_failure : Resolved → Resolved
 after_failure r = record r { failures = (r.failures + 1) % 2 ^ 64 }
 
--- After a later lookup that gave these addresses, the resolver has the first of them. If there is none, it keeps its address and returns
--- `NoAddresses`.
+-- After a later lookup that gave these addresses, the resolver has the first of them. If there is no address, the
+-- resolver keeps the one that it has, and the error is `NoAddresses`.
 abbrev pub IsNotedList : Resolved → List SocketAddr → Option SinkError → Resolved → Type 0
 IsNotedList r [] fault s = (fault ≡ Some NoAddresses) × (s ≡ after_failure r)
 IsNotedList r (address ∷ others) fault s = (fault ≡ None) × (s ≡ after_success r address)
 
--- A later lookup changes the resolver `r` to `s`, and the call that notes it returns this error, if there is one.
+-- A later lookup changes the resolver `r` to `s`, and the call of `note` returns this error, if there is one.
 abbrev pub IsNoted : {A : Type 0} → Resolved → Result (Vec SocketAddr A) SinkError → Option SinkError → Resolved → Type 0
 IsNoted r (Ok found) fault s = IsNotedList r found.items fault s
 IsNoted r (Err e) fault s = (fault ≡ Some e) × (s ≡ after_failure r)
@@ -54,7 +55,7 @@ module _ {A : Type 0} where
       IfOk result (λ found. found.items ≡ address ∷ []) × IfErr result (λ e. e ≡ OutOfMemory)
   IsLookedUp _ result = IfErr result (λ e. IsLookupFault e)
 
--- A resolver of an address has this address and makes no error. A name may have any address, or none.
+-- The resolver of an address has this address, and there is no error. A name may have any address, or none.
 abbrev pub IsAddressOf : {A : Type 0} → Target A → Result SocketAddr MetricError → Type 0
 IsAddressOf (Addr address) result = result ≡ Ok address
 IsAddressOf _ result = IfErr result (λ e. IsSocketRefusal e)

@@ -14,11 +14,11 @@ pub type Lookup<A = Global> = Result<Vec<SocketAddr, A>, SinkError>;
 
 /// Looks a name up.
 pub trait NameLookup<A: Allocator>: Drop {
-    /// Looks the name up, and returns the addresses that it has now, possibly none, or the error.
+    /// Looks the name up, and returns the addresses that it has now, possibly none, or the error of the lookup.
     fn look_up(&self) -> Lookup<A>;
 }
 
-/// Lets a thread sleep. A test may have one that doesn't take the time.
+/// Lets a thread sleep. A test may implement it without waiting.
 pub trait Sleeper: Drop {
     /// Returns after this time.
     fn sleep(&self, time: Duration);
@@ -58,7 +58,7 @@ pub(super) fn host_addresses<A: Allocator>(
     Ok(addresses)
 }
 
-/// Looks up a target. The lookup of an address gives this address.
+/// Looks up a target. The lookup of an address returns this address.
 #[derive(Drop)]
 pub struct TargetLookup<R: Net + Drop, A: Allocator + Clone> {
     pub rt: R,

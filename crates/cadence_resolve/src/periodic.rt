@@ -25,7 +25,8 @@ impl State {
     }
 }
 
-/// A `ResolverCore` under a lock. One thread looks the name up again after each period, while others read the address.
+/// A `ResolverCore` under a lock. One thread runs `run`, which looks the name up again after each period, while other
+/// threads read the address.
 #[derive(Drop)]
 pub struct PeriodicResolver<R: Wait + Drop> {
     rt: R,
@@ -39,7 +40,7 @@ impl<R: Wait + Drop> PeriodicResolver<R> {
     ghost use Rattle.cadence_resolve.specs.Address.{addresses_of};
     ghost use Rattle.cadence_resolve.specs.Lookups.{IsStartRefusal};
 
-    /// Makes a resolver that starts with the first address of this first lookup.
+    /// Makes a resolver that starts with the first address of this lookup.
     ///
     /// If the lookup failed, its error is returned as `MetricError::Sink`. If it gave no address, the error has the
     /// kind `InvalidInput`.
@@ -59,9 +60,9 @@ impl<R: Wait + Drop> PeriodicResolver<R> {
         })
     }
 
-    /// Runs until the resolver is stopped: sleeps for a period, looks the name up, notes the result, and gives an
-    /// error to the handler. It checks for a stop before each sleep, so after a stop during a sleep it still does one
-    /// lookup.
+    /// Runs until the resolver is stopped: it sleeps for a period, looks the name up, stores the result, passes an
+    /// error to the handler, and begins again. It checks for a stop before each sleep, so after a stop during a sleep
+    /// it still does one lookup.
     pub fn run<A: Allocator, L: NameLookup<A>, S: Sleeper>(
         &self,
         lookup: &L,
@@ -89,12 +90,12 @@ impl<R: Wait + Drop> PeriodicResolver<R> {
         self.state.lock(&self.rt).core.note(lookup)
     }
 
-    /// Tells `run` to end, which it does after one more lookup at the latest. This call doesn't wait for it.
+    /// Makes `run` end, after one more lookup at the latest. This call doesn't wait for that.
     pub fn stop(&self) {
         self.state.lock(&self.rt).stop();
     }
 
-    /// Returns the address.
+    /// Returns the first address of the last lookup that gave one.
     pub fn get_addr(&self) -> SocketAddr {
         self.state.lock(&self.rt).core.get_addr()
     }

@@ -12,7 +12,8 @@ use std::sync::{Arc, Wait};
 use std::thread::Threads;
 use std::time::{Clock, Duration};
 
-/// Gives the address that a sink sends to. Its drop stops the lookups and doesn't wait for the thread.
+/// The resolver of a sink, which returns the address that the sink sends to. Its drop stops the lookups and doesn't
+/// wait for their thread.
 pub enum Resolver<R: Wait + Drop, A: Allocator> {
     /// The target was looked up once, when the resolver was made.
     Static(StaticResolver),
@@ -43,7 +44,8 @@ impl<R: Wait + Drop, A: Allocator> Drop for Resolver<R, A> {
     }
 }
 
-/// A runtime under which a resolver can have a thread of its own. Each type with these bounds is one.
+/// A runtime under which a resolver can have a thread of its own. Each type that meets these bounds implements this
+/// trait.
 pub trait ResolverRuntime: Net<Listener = TcpListener, Stream = TcpStream>
     + Wait
     + Threads
@@ -69,8 +71,8 @@ impl<
 impl<R: ResolverRuntime, A: Allocator + Clone + Send + Sync + 'static> Resolver<R, A> {
     ghost use Rattle.cadence_resolve.specs.Lookups.{KeepsAddress, is_periodic};
 
-    /// Looks the target up and makes a resolver: a static one if there is no period, and otherwise a periodic one,
-    /// whose thread it starts.
+    /// Looks the target up and makes a resolver. It is a static one if there is no period. Otherwise it is a periodic
+    /// one, and this call starts its thread.
     ///
     /// The errors are `SinkError::Io` if the lookup fails or the thread can't be started, `SinkError::OutOfMemory`, and
     /// the kind `InvalidInput` if the name has no address.
@@ -107,7 +109,7 @@ impl<R: ResolverRuntime, A: Allocator + Clone + Send + Sync + 'static> Resolver<
     }
 }
 
-// What the thread of a periodic resolver needs beside the handler.
+// What the thread of a periodic resolver needs besides the handler.
 #[derive(Drop)]
 struct Lookups<R: Net + Wait + Clock + Drop, A: Allocator + Clone> {
     resolver: Arc<PeriodicResolver<R>, A>,

@@ -5,7 +5,7 @@ use std::alloc::Allocator;
 use std::marker::Model;
 use std::net::SocketAddr;
 
-/// Keeps the first address of the last lookup that gave an address, and counts the lookups after the first one.
+/// Stores the first address of the last lookup that gave an address, and counts the lookups after the first one.
 #[derive(Drop)]
 pub struct ResolverCore {
     address: SocketAddr,
@@ -30,7 +30,7 @@ impl ResolverCore {
     ghost use Rattle.cadence_resolve.specs.Address.{IsResolvedBy, IsNotedAfter, addresses_of};
     ghost use Rattle.cadence_resolve.specs.Lookups.{IsStart, IsNoted};
 
-    /// Starts with the first address of this first lookup, which is not counted.
+    /// Starts with the first address of this lookup, which is not counted.
     ///
     /// If the lookup failed, its error is returned as `MetricError::Sink`. If it gave no address, the error has the
     /// kind `InvalidInput` and the text `No socket addresses yielded`.
@@ -49,8 +49,9 @@ impl ResolverCore {
         })
     }
 
-    /// Notes a later lookup, and takes its first address. If the lookup failed, this returns its error and keeps the
-    /// address. If it gave no address, this returns `NoAddresses` and keeps the address too. It requests no memory.
+    /// Counts a later lookup, and stores its first address in place of the earlier one. If the lookup failed, this call
+    /// returns its error, and the address stays. If the lookup gave no address, this call returns `NoAddresses`, and
+    /// the address stays too. It requests no memory.
     pub fn note<A: Allocator>(&mut self, lookup: Lookup<A>) -> Option<SinkError>
         ensures noted { IsNoted self.old lookup result self.new }
         ensures after { IsNotedAfter self.old (addresses_of lookup) self.new }
@@ -75,7 +76,7 @@ impl ResolverCore {
         }
     }
 
-    /// Returns the address.
+    /// Returns the first address of the last lookup that gave one.
     pub fn get_addr(&self) -> SocketAddr
         ensures { result ≡ self.now.address }
     {

@@ -7,7 +7,7 @@ use std::alloc::Allocator;
 use std::marker::Model;
 use std::net::{Net, SocketAddr};
 
-/// Keeps the address that its target had when the resolver was made.
+/// Stores the address that its target had when the resolver was made.
 #[derive(Drop)]
 pub struct StaticResolver {
     address: SocketAddr,
@@ -25,8 +25,8 @@ impl StaticResolver {
     ghost use Rattle.std.specs.Prelude.{◌≡◌};
     ghost use Rattle.cadence_resolve.specs.Lookups.{IsAddressOf};
 
-    /// Makes a resolver of this target. An address is kept as it is, without a request for memory. A host's name is
-    /// looked up now, and the first of its addresses is kept.
+    /// Makes a resolver of this target. An address is stored as it is, without a request for memory. A host's name is
+    /// looked up now, and the first of its addresses is stored.
     ///
     /// For a name the errors are `SinkError::Io` if the lookup fails, `SinkError::OutOfMemory` if there is no memory
     /// for the addresses, and the kind `InvalidInput` with the text `No socket addresses yielded` if the name has no
@@ -45,7 +45,7 @@ impl StaticResolver {
         }
     }
 
-    /// Returns the address.
+    /// Returns the address that the target had when the resolver was made.
     pub fn get_addr(&self) -> SocketAddr
         ensures { result ≡ self.now }
     {

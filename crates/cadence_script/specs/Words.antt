@@ -8,6 +8,6 @@ abbrev pub rest_len : Option (Bor (List ℕ)) → ℕ
 rest_len None = 0
 rest_len (Some rest) = length rest.now + 1
 
--- the number of bytes that were not read yet, and one more as long as there are words: it gets smaller with every word
+-- the number of bytes that were not read yet, plus one as long as a word is left: it gets smaller with every word
 abbrev pub bytes_left : Words → ℕ
 bytes_left w = rest_len w.rest

@@ -60,7 +60,7 @@ fn list_of<T: Item, A: Allocator>(alloc: A, items: &str) -> Result<Vec<T, A>, Li
     Ok(list)
 }
 
-// A value as the script writes it. Each kind of metric takes some of these forms.
+// A value as the script writes it. Each kind of metric accepts some of these forms.
 #[derive(Drop)]
 enum Form<A: Allocator> {
     Signed(i64),
@@ -157,7 +157,7 @@ fn distribution_of<A: Allocator>(form: Form<A>) -> Result<CallValue<A>, LineErro
     }
 }
 
-// Returns the call's value. It is an error if the kind doesn't take values of this form.
+// Returns the call's value. The error is `Unreadable` if the kind doesn't accept values of this form.
 fn value_of<A: Allocator>(kind: MetricType, form: Form<A>) -> Result<CallValue<A>, LineError> {
     match kind {
         MetricType::Counter => count_of(form),
@@ -202,8 +202,7 @@ fn option_of<A: Allocator + Clone>(
 
 /// Reads a call from its words: the kind, the key, the value and any options.
 ///
-/// # Errors
-/// `Unreadable` if the words are no call, and `OutOfMemory`.
+/// # Errors `Unreadable` if the words don't make a call, and `OutOfMemory`.
 pub fn call_of<A: Allocator + Clone>(
     alloc: &A,
     words: &mut Words<'_>,

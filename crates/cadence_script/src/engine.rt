@@ -48,7 +48,8 @@ fn report_of<A: Allocator + Clone, I: Read>(
 /// - 2 if the input can't be read, is not UTF-8, or has a line that can't be read,
 /// - 3 if memory ran out.
 ///
-/// For 2 and 3 nothing is printed, and one line is written to `errors`. An error of `errors` is ignored.
+/// With the status 2 or 3 nothing is printed to `output`, and one line is written to `errors`. An error of `errors` is
+/// ignored.
 pub fn run_script<A: Allocator + Clone, I: Read, O: Write, E: Write>(
     alloc: A,
     input: &mut I,

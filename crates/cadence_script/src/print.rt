@@ -25,8 +25,8 @@ fn push_reply<A: Allocator>(out: &mut String<A>, reply: &Reply) -> Result<(), Al
     }
 }
 
-// Adds the line `cut`, with the number of lines in each packet, and last in the held text. If an answer of the log was
-// short, these numbers are not known.
+// Adds the line `cut`, with the number of lines in each packet, and last in the held text. These numbers are not known
+// if the script has a short answer, and the line says so then.
 fn push_cut<A: Allocator>(
     out: &mut String<A>,
     cut: &[usize],

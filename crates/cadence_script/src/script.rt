@@ -35,7 +35,7 @@ pub struct Script<A: Allocator> {
     pub capacity: usize,
     /// The text that follows each line in a packet.
     pub ending: String<A>,
-    /// The queue's capacity, in lines. `None` is a queue without a limit.
+    /// The queue's capacity, in lines. `None` means that the queue has no limit.
     pub queue: Option<usize>,
     /// What a full queue does with a new line.
     pub policy: QueuePolicy,
@@ -79,8 +79,7 @@ impl<A: Allocator + Clone> Script<A> {
 
     /// Returns the settings of the client.
     ///
-    /// # Errors
-    /// Only if memory runs out.
+    /// # Errors The only error is that memory ran out.
     pub fn settings(&self) -> Result<ClientSettings<A>, MetricError> {
         let mut settings = ClientSettings::new(self.alloc.clone()?, &self.prefix)?;
         for (key, text) in &self.tags {
@@ -113,7 +112,8 @@ impl<A: Allocator + Clone> Script<A> {
         Ok(())
     }
 
-    // Reads the answers of the packet log. A line has at least one, and they replace the answers of an earlier line.
+    // Reads the answers of the packet log from the words of a line, which must have at least one. They replace the
+    // answers of an earlier line.
     fn read_answers(&mut self, words: &mut Words<'_>) -> Result<(), LineError> {
         let mut answers = Vec::new(self.alloc.clone()?);
         answers.push(answer_of(words.word()?)?)?;
@@ -188,8 +188,7 @@ fn answer_of(word: &str) -> Result<Answer, LineError> {
 
 /// Reads a whole script.
 ///
-/// # Errors
-/// `Unusable` with the first line that can't be read, and `OutOfMemory`.
+/// # Errors `Unusable`, with the number of the first line that can't be read, and `OutOfMemory`.
 pub fn read_script<A: Allocator + Clone>(
     alloc: A,
     text: &str,

@@ -6,7 +6,7 @@ use cadence_cli::ReadError;
 use std::alloc::Allocator;
 use std::str::FromStr;
 
-/// A line, or a part of one, is not what a script may have there.
+/// A line, or a part of a line, is not one that a script may have at this place.
 #[derive(Clone, Copy, Debug, PartialEq, Eq)]
 pub struct BadLine;
 
@@ -114,10 +114,10 @@ fn is_number(word: &str) -> bool {
     }
 }
 
-/// Returns the whole number that a word stands for. It has no sign and no needless zeros.
+/// Returns the whole number that a word stands for. The word has no sign and no needless zeros.
 ///
 /// # Errors
-/// `Unreadable` if the word is no such number, or if the type `N` doesn't have it.
+/// `Unreadable` if the word is not such a number, or if the number doesn't fit the type `N`.
 pub fn number<N: FromStr<Err: Drop>>(word: &str) -> Result<N, LineError> {
     if !is_number(word) {
         return Err(LineError::Unreadable(BadLine));
@@ -131,7 +131,7 @@ pub fn number<N: FromStr<Err: Drop>>(word: &str) -> Result<N, LineError> {
 /// Returns the whole number that a word stands for. A minus may come before a number that is not 0.
 ///
 /// # Errors
-/// `Unreadable` if the word is no such number, or if the type `N` doesn't have it.
+/// `Unreadable` if the word is not such a number, or if the number doesn't fit the type `N`.
 pub fn signed_number<N: FromStr<Err: Drop>>(word: &str) -> Result<N, LineError> {
     let is_signed = match word.strip_prefix('-') {
         Some(digits) => is_number(digits) && digits != "0",
