@@ -1,4 +1,5 @@
--- What an option makes of a builder, and what a builder sends: for each call, it is what the call with this option says.
+-- What an option changes in a builder, and what a builder sends: for each call, it is the draft, or the line, of the
+-- call with the builder's options.
 use Rattle.std.proofs.Common.{◌≡◌, ◌∙◌, ℕ, List, Result, Ok, Err, ap, refl, subst, sym}
 use Rattle.cadence_errors.specs.declared.MetricError.{MetricError}
 use Rattle.cadence_text.specs.Draft.{Draft, draft_line, draft_of}
@@ -25,7 +26,8 @@ draft_with_choice-call s c o d e = ap (λ (x : Draft). draft_with_choice x o) e
     ∙ draft_with_choice-metric (metric_of_call s c) o
     ∙ ap draft_of (chosen-metric_of_call s c o)
 
--- After an option that requests no memory, a builder that stood for a call stands for this call with the option.
+-- If a pending draft is right for a call, then after an option that requests no memory it is right for this call with
+-- the option.
 pub stands_chosen : (old new : Result Draft MetricError) (o : Choice) → Chooses old o new → StandsForMore old o new
 stands_chosen (Err e) new o h =
     record { for_each = λ s c _. subst (λ (p : Result Draft MetricError). StandsFor s (with_choice c o) p) (sym h) tt }
@@ -35,21 +37,22 @@ stands_chosen (Ok d) new o h =
           (draft_with_choice-call s c o d e);
     }
 
--- After an option that may run out of memory, a builder that stood for a call stands for this call with the option.
+-- If a pending draft is right for a call, then after an option that may run out of memory it is right for this call
+-- with the option.
 pub stands_chosen_or_failed : (old new : Result Draft MetricError) (o : Choice) → ChoosesOrFails old o new → StandsForMore old o new
 stands_chosen_or_failed (Err e) new o h =
     record { for_each = λ s c _. subst (λ (p : Result Draft MetricError). StandsFor s (with_choice c o) p) (sym h) tt }
 stands_chosen_or_failed (Ok d) (Ok n) o h = record { for_each = λ s c e. h ∙ draft_with_choice-call s c o d e }
 stands_chosen_or_failed (Ok d) (Err x) o h = record { for_each = λ s c e. tt }
 
--- If a builder has a draft, the result of sending the draft's line is a result that the builder may return.
+-- If a builder stores a draft, the result of sending the draft's line is a result that the builder may return.
 pub sends_pending : {M : Type 0} (may : SinkResults) (made : List ℕ → M → Type 0) (pending : Result Draft MetricError) (d : Draft)
     (answer : Result M MetricError)
     → pending ≡ Ok d → SendsLine may made (draft_line d) answer → SendsPending may made pending answer
 sends_pending may made pending d answer is sent =
     subst (λ (p : Result Draft MetricError). SendsPending may made p answer) (sym is) sent
 
--- The metric that a builder returns has the line of the call that the builder stands for.
+-- The metric that a builder returns has the line of each call for which its pending draft is right.
 pub has_line : {M : Type 0} (may : SinkResults) (made : List ℕ → M → Type 0) (pending : Result Draft MetricError) (answer : Result M MetricError)
     → SendsPending may made pending answer → HasLineOfCall made pending answer
 has_line may made (Ok d) (Ok m) h = record {

@@ -1,5 +1,5 @@
--- What a builder of a metric keeps, and what the calls that send a metric may return. A "pending" draft is the draft that a builder keeps, or
--- the error in its place.
+-- What a builder of a metric stores, and what the calls that send a metric may return. A pending draft is the draft
+-- that a builder stores, or the error that it stores instead.
 use Rattle.std.specs.Prelude.{◌≡◌, ℕ, ◌⊎◌, List, Option, Some, None, Result, Ok, Err, IfOk, String, string_bytes}
 use Rattle.std.specs.Option.{option_map}
 use Rattle.cadence_text.specs.declared.line.MetricType.{MetricType}
@@ -14,18 +14,18 @@ use Rattle.cadence_value.specs.Number.{Number}
 use Rattle.cadence_schedule.specs.Call.{Choice, tagged, contained, timed, rated, MetricCall, metric_of_call, plain_call, with_choice}
 use Rattle.cadence_schedule.specs.Settings.{Settings}
 
--- the results of a sink that each text may get
+-- for each text, which results a sink may return for it
 abbrev pub SinkResults : Type 1
 SinkResults = List ℕ → Result ℕ SinkError → Type 0
 
--- A call gave this text to the sink. If it returned Ok, the sink may take this text. Otherwise it returned an error that the sink may return
--- for this text.
+-- A call gave this text to the sink. If it returned Ok, the sink may accept this text. Otherwise it returned an error
+-- that the sink may return for this text.
 abbrev pub SendsText : {U : Type 0} → SinkResults → List ℕ → Result U MetricError → Type 0
 SendsText may text (Ok _) = (n : ℕ) × may text (Ok n)
 SendsText may text (Err e) = (fault : SinkError) × (e ≡ Sink fault) × may text (Err fault)
 
--- A call sent this line. If it returned Ok, what it returned was made from this line, and the sink may take the line. Otherwise memory ran
--- out, or the sink may return this error for this line.
+-- A call sent this line. If it returned Ok, what it returned was made from this line, and the sink may accept the line.
+-- Otherwise memory ran out, or the sink may return this error for this line.
 abbrev pub SendsLine : {M : Type 0} → SinkResults → (List ℕ → M → Type 0) → List ℕ → Result M MetricError → Type 0
 SendsLine may made line (Ok m) = made line m × ((n : ℕ) × may line (Ok n))
 SendsLine may made line (Err e) = (e ≡ out_of_memory) ⊎ ((fault : SinkError) × (e ≡ Sink fault) × may line (Err fault))
@@ -61,8 +61,8 @@ MakesDraft (Some m) (Err e) = e ≡ out_of_memory
 MakesDraft None (Ok d) = ⊥
 MakesDraft None (Err e) = IsInvalid e
 
--- A builder of this kind starts with the draft of the call without options, or out of memory. If the call's value has no numbers, it starts
--- with an invalid input.
+-- A builder of this kind starts with the draft of the call without options, or with the error that memory ran out. If
+-- the call's value has no numbers, it starts with an invalid input.
 pub record StartsPlain (settings : Settings) (kind : MetricType) (key : List ℕ) (numbers : Option (List Number))
     (pending : Result Draft MetricError) : Type 0 where
   pub is : MakesDraft (plain_metric_of settings kind key numbers) pending
@@ -85,33 +85,36 @@ ChoosesOrFails (Err e) o new = new ≡ Err e
 ChoosesOrFails (Ok d) o (Ok n) = n ≡ draft_with_choice d o
 ChoosesOrFails (Ok d) o (Err e) = e ≡ out_of_memory
 
--- The last two as records. The contracts of a builder's calls name these, so that a proof about a chain of calls has one fact for each call
--- and doesn't split it into cases.
+-- `HasChosen` is `Chooses` as a record, and `HasChosenOrFailed` is `ChoosesOrFails` as a record. The contracts of a
+-- builder's calls name the records, so that a proof about a chain of calls has one fact for each call and doesn't split
+-- it into cases.
 pub record HasChosen (old : Result Draft MetricError) (o : Choice) (new : Result Draft MetricError) : Type 0 where
   pub is : Chooses old o new
 
 pub record HasChosenOrFailed (old : Result Draft MetricError) (o : Choice) (new : Result Draft MetricError) : Type 0 where
   pub is : ChoosesOrFails old o new
 
--- A builder sent the line of its draft. If it kept an error, it returned this error instead.
+-- A builder sent the line of its draft. If it stored an error, it returned this error instead.
 abbrev pub SendsPending : {M : Type 0} → SinkResults → (List ℕ → M → Type 0) → Result Draft MetricError → Result M MetricError → Type 0
 SendsPending may made (Err e) answer = answer ≡ Err e
 SendsPending may made (Ok d) answer = SendsLine may made (draft_line d) answer
 
--- The fact above as a record, which contracts name, so that a proof doesn't split it into cases.
+-- `HasSentPending` is `SendsPending` as a record. Contracts name the record, so that a proof doesn't split it into
+-- cases.
 pub record HasSentPending {M : Type 0} (may : SinkResults) (made : List ℕ → M → Type 0) (pending : Result Draft MetricError)
     (answer : Result M MetricError) : Type 0 where
   pub is : SendsPending may made pending answer
 
--- A builder stands for a call: it keeps the draft of the call's metric, or an error.
+-- A pending draft is right for a call: it is the draft of the call's metric, or an error.
 abbrev pub StandsFor : Settings → MetricCall → Result Draft MetricError → Type 0
 StandsFor settings call pending = IfOk pending (λ d. d ≡ draft_of (metric_of_call settings call))
 
--- If a builder stood for a call before an option, it stands for this call with the option after it.
+-- For each call for which the pending draft `old` is right, `new` is right for this call with one more option.
 pub record StandsForMore (old : Result Draft MetricError) (o : Choice) (new : Result Draft MetricError) : Type 0 where
   pub for_each : (settings : Settings) (call : MetricCall) → StandsFor settings call old → StandsFor settings (with_choice call o) new
 
--- If a builder stands for a call, the metric that it returns has the line of this call.
+-- For each call for which the pending draft is right, a metric that was returned for it was made from the line of this
+-- call.
 pub record HasLineOfCall {M : Type 0} (made : List ℕ → M → Type 0) (pending : Result Draft MetricError) (answer : Result M MetricError) : Type 0 where
   pub for_each : (settings : Settings) (call : MetricCall) → StandsFor settings call pending
       → IfOk answer (made (line_of (metric_of_call settings call)))

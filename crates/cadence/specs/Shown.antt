@@ -19,7 +19,7 @@ module _ {T C Z : Type 0} where
   backend_of b = b.client.now
 
 module _ {Z Y : Type 0} {G : Y → Type 0} {g : _} where
-  -- the boxed closure that a handler keeps
+  -- the boxed closure that a handler stores
   abbrev pub box_of_handler : BoxedErrorHandler Z Y G g → DynBox Y Z G
   box_of_handler h = h.call
 
@@ -48,7 +48,8 @@ module _ {Z S H : Type 0} where
   abbrev pub handler_of_builder : StatsdClientBuilder Z S H → H
   handler_of_builder b = b.handler
 
-  -- The builder changed its settings so, unless memory ran out, and kept its sink and its handler.
+  -- The builder's settings were changed by `change`, unless memory ran out, and its sink and its handler stayed the
+  -- same.
   pub record AddsDefault (change : Settings → Settings) (old new : StatsdClientBuilder Z S H) : Type 0 where
     pub settings : Changes (settings_of_builder old) change (settings_of_builder new)
     pub sink : sink_of_builder new ≡ sink_of_builder old

@@ -1,6 +1,6 @@
 //! The client (`statsd_client`), its builder (`client_builder`), the traits of its metrics (`traits`, and all of them
-//! as one bound in `metric_client`), the builder of a metric (`builder`), what a metric is sent by (`backend`) and the
-//! receivers of errors (`handler`).
+//! as one bound in `metric_client`), the builder of a metric (`builder`), the traits of what sends a metric (`backend`)
+//! and the receivers of errors (`handler`).
 
 mod backend;
 mod builder;

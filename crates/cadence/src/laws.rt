@@ -12,8 +12,9 @@ pub use cadence_text::laws::{line_reads_one_way, no_line_is_empty, packet_reads_
 pub use cadence_value::laws::decimals_equal_by_number;
 use std::alloc::Allocator;
 
-/// If a builder has the draft of a call, then after one more option it has the draft of this call with the option. An
-/// option that ran out of memory leaves an error, which stands for any call.
+/// If a builder has the draft of a call's metric, then after one more option it has the draft of the metric of this
+/// call with the option. If the option ran out of memory, the builder has an error instead, which is right for any
+/// call.
 pub fn choosing_stands_for_more()
     ensures chosen { (old new : Result Draft MetricError) (option : Choice) →
         Chooses old option new → StandsForMore old option new }

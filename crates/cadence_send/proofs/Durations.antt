@@ -82,7 +82,7 @@ unit_once Nano Milli e = absurd (omega (arith, first e))
 unit_once Nano Micro e = absurd (omega (arith, first e))
 unit_once Nano Nano e = refl
 
--- The nanoseconds of a number of units are those of the word.
+-- A word that is a number and a unit says the nanoseconds of that number of units.
 pub nanos_found : (word front rest : List ℕ) (n : Number) (u : Unit) (r : Option ℕ) → All (λ b. b ≤ 57) front → 57 < get_or rest 0 0
     → word ≡ front ++ rest → IsDecimal n → Denotes front n → unit_text u ≡ rest → Finds (λ nanos. IsNanos n u nanos × (nanos < 2 ^ 128)) r
     → Finds (λ nanos. IsTimeWord word nanos × (nanos < 2 ^ 128)) r

@@ -106,7 +106,7 @@ module _ {W : Type 0} (kind : W → WriterKind) (history : W → PacketHistory) 
       takes = takes_more p q r h.lines k.lines h.takes k.takes;
     }
 
-    -- The text asks for a metric, whose line is taken; or it asks for no metric, and no line is taken.
+    -- A text is taken if its metric's line is taken, or if it asks for no metric and no line is taken.
     pub text_taken : (p q : Packer W) (text line : List ℕ) → Gives d text (Some line) → TakesLines kind history p q (line ∷ [])
         → TakesTexts d kind history p q (text ∷ [])
     text_taken p q text line given takes = record { lines = line ∷ []; are = (Some line ∷ [], (given, tt), refl); takes = takes }
@@ -114,7 +114,8 @@ module _ {W : Type 0} (kind : W → WriterKind) (history : W → PacketHistory) 
     pub text_without : (p : Packer W) (text : List ℕ) → Gives d text None → TakesTexts d kind history p p (text ∷ [])
     text_without p text given = record { lines = []; are = (None ∷ [], (given, tt), refl); takes = takes_none p }
 
-    -- Bytes waited, and more bytes arrived. Some of these are left: the texts before them were taken, or wait.
+    -- Bytes waited, and more bytes arrived, of which some are left. The texts before those were taken, except for a
+    -- last one without a newline, which waits.
     pub record Feeding (p q : Packer W) (before bytes waiting left : List ℕ) : Type 0 where
       pub texts : List (List ℕ)
       pub cut : before ++ bytes ≡ with_newlines texts ++ (waiting ++ left)
@@ -125,7 +126,7 @@ module _ {W : Type 0} (kind : W → WriterKind) (history : W → PacketHistory) 
     pub feeding_none : (p : Packer W) (before bytes : List ℕ) → IsOneText before → Feeding p p before bytes before bytes
     feeding_none p before bytes one = record { texts = []; cut = refl; each = All-nil IsOneText; rest = one; taken = texts_none p }
 
-    -- One more text ends and is taken.
+    -- If one more text ends and is taken, what was said of the texts before it is true of all of them.
     pub feeding_more : (p q r : Packer W) (before bytes waiting left front others : List ℕ) → Feeding p q before bytes waiting left
         → left ≡ front ++ 10 ∷ others → IsOneText front → TakesTexts d kind history q r ((waiting ++ front) ∷ [])
         → Feeding p r before bytes [] others
@@ -145,7 +146,7 @@ module _ {W : Type 0} (kind : W → WriterKind) (history : W → PacketHistory) 
       taken = texts_more p q r h.texts ((waiting ++ front) ∷ []) h.taken more;
     }
 
-    -- Bytes arrive, and then more bytes.
+    -- If bytes arrive and then more bytes, all of them together arrived.
     pub fed_more : (p q r : Packer W) (first more waiting after : List ℕ) → Feeds d kind history p q [] first waiting
         → Feeds d kind history q r waiting more after → Feeds d kind history p r [] (first ++ more) after
     fed_more p q r first more waiting after h k = record {
@@ -162,7 +163,7 @@ module _ {W : Type 0} (kind : W → WriterKind) (history : W → PacketHistory) 
     pub fed_none : (p : Packer W) → Feeds d kind history p p [] [] []
     fed_none p = record { texts = []; cut = refl; each = All-nil IsOneText; rest = All-nil (λ b. b ≢ 10); taken = texts_none p }
 
-    -- Bytes arrive, and then the held text is sent.
+    -- If bytes arrive and then the held text is sent, these bytes arrived.
     pub fed_flushed : (p q r : Packer W) (first waiting : List ℕ) → Feeds d kind history p q [] first waiting
         → TakesLines kind history q r [] → Feeds d kind history p r [] first waiting
     fed_flushed p q r first waiting h flushed = record {
@@ -177,7 +178,7 @@ module _ {W : Type 0} (kind : W → WriterKind) (history : W → PacketHistory) 
       };
     }
 
-    -- At the end of the input, the last text is taken without a newline.
+    -- At the end of the input, the last text is taken, although no newline ends it.
     pub fed_whole : (p q r : Packer W) (input waiting : List ℕ) → Feeds d kind history p q [] input waiting
         → TakesTexts d kind history q r (waiting ∷ []) → TakesTexts d kind history p r (texts_of input)
     fed_whole p q r input waiting h last =
@@ -201,7 +202,7 @@ pub of_known : (known : Option (List ℕ)) (got : List ℕ) (P : List ℕ → Ty
 of_known None got P e h = tt
 of_known (Some left) got P e h = subst P e h
 
--- After the texts were taken, the held text is sent.
+-- If texts are taken and then the held text is sent, the lines of the texts are sent.
 pub sent_all : {W Z : Type 0} (kind : W → WriterKind) (history : W → PacketHistory) (d : Defaults Z) (known : Option (List ℕ)) (p q r : Packer W)
     → IfSome known (λ text. TakesTexts d kind history p q (texts_of text)) → TakesLines kind history q r [] → r.held ≡ []
     → IfSome known (λ text. SendsTexts d kind history p r (texts_of text))

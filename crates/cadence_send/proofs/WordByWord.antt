@@ -66,7 +66,7 @@ three_words (w1 ∷ []) k n v long = absurd (omega (arith, long))
 three_words (w1 ∷ w2 ∷ []) k n v long = absurd (omega (arith, long))
 three_words (w1 ∷ w2 ∷ w3 ∷ ws) k n v long = ap (λ others. w1.now ∷ w2.now ∷ w3.now ∷ texts others) (sym (rest_is (w1 ∷ w2 ∷ w3 ∷ ws)))
 
--- If each value with the property has a part, and there is no such part, then there is no value.
+-- If each value with the property has a part, and there is no such part, then no value has the property.
 pub hands_on : {C X Y W : Type 0} (Has : X → Type 0) (view : C → X) (HasPart : Y → Type 0) (r : Result C (ReadError W)) (error : ReadError W)
     → r ≡ Err error → ((x : X) → Has x → (y : Y) × HasPart y) → FailsAs HasPart error → FindsOrFails Has view r
 hands_on Has view HasPart r (Unreadable why) is from none = rw is (λ x h. let p = from x h in none p.0 p.1)
@@ -154,7 +154,7 @@ tags_fail words word old new r OutOfMemory is from none = rw is tt
 abbrev pub Tagged : Draft → Draft → List Tag → Type 0
 Tagged old new tags = (m : Metric) → old ≡ draft_of m → new ≡ draft_of (record m { tags = m.tags ++ tags })
 
--- No tags are added, and then one more.
+-- The draft stays the same if no tags are added, and it has one tag more if one more is added.
 pub tagged_none : (draft : Draft) → Tagged draft draft []
 tagged_none draft m is = is ∙ ap (λ ts. draft_of (record m { tags = ts })) (sym (append-nil m.tags))
 

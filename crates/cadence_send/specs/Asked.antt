@@ -119,12 +119,14 @@ AskFor (kind ∷ name ∷ []) asked = ⊥
 AskFor (kind ∷ name ∷ value ∷ tags) asked =
     NamesKind kind asked.kind × (asked.name ≡ name) × IsWord name × IsValueWord asked.kind value asked.numbers × AllZip IsTagWord tags asked.tags
 
--- If the result is Ok, the draft of a metric became the draft of the metric with the word's tag. If it is an error, the error is right.
+-- If the result is Ok, the draft of a metric became the draft of the metric with the word's tag. If it is an error, it
+-- is one that `FailsAs` allows.
 abbrev pub AddsTag : List ℕ → Draft → Draft → Result (Unit {0}) (ReadError Part) → Type 0
 AddsTag word old new (Ok done) = (tag : Tag) × IsTagWord word tag × ((m : Metric) → old ≡ draft_of m → new ≡ draft_of (with_tag m tag))
 AddsTag word old new (Err fault) = FailsAs (IsTagWord word) fault
 
--- If the result is Ok, the draft of a metric became the draft of the metric with the words' tags. If it is an error, the error is right.
+-- If the result is Ok, the draft of a metric became the draft of the metric with the words' tags. If it is an error, it
+-- is one that `FailsAs` allows.
 abbrev pub AddsTags : List (List ℕ) → Draft → Draft → Result (Unit {0}) (ReadError Part) → Type 0
 AddsTags words old new (Ok done) =
     (tags : List Tag) × AllZip IsTagWord words tags × ((m : Metric) → old ≡ draft_of m → new ≡ draft_of (record m { tags = m.tags ++ tags }))

@@ -38,8 +38,8 @@ pub record IsTimeWord (word : List ℕ) (nanos : ℕ) : Type 0 where
   pub text : digits ++ unit_text unit ≡ word
   pub is : IsNanos number unit nanos
 
--- A metric of this kind gives a duration of these nanoseconds as this count: a timer as whole milliseconds, rounded down, and a histogram as
--- nanoseconds. Other kinds don't take durations.
+-- A metric of this kind counts a duration of these nanoseconds as this number: a timer counts whole milliseconds,
+-- rounded down, and a histogram counts nanoseconds. Other kinds don't take durations.
 abbrev pub CountsNanos : MetricType → ℕ → ℕ → Type 0
 CountsNanos Counter nanos count = ⊥
 CountsNanos Timer nanos count = count ≡ nanos / 1_000_000

@@ -9,7 +9,8 @@ abbrev pub FailsAs : {X W : Type 0} → (X → Type 0) → ReadError W → Type 
 FailsAs Has (Unreadable why) = HasNone Has
 FailsAs Has OutOfMemory = ⊤
 
--- If the search returns a value, then that value, as `view` sees it, has the property. If it returns an error, the error is right.
+-- If the search returns a value, then that value, as `view` sees it, has the property. If it returns an error, it is
+-- one that `FailsAs` allows.
 abbrev pub FindsOrFails : {C X W : Type 0} → (X → Type 0) → (C → X) → Result C (ReadError W) → Type 0
 FindsOrFails Has view (Ok c) = Has (view c)
 FindsOrFails Has view (Err error) = FailsAs Has error

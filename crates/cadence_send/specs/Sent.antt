@@ -63,8 +63,8 @@ pub record SendsTexts {W Z : Type 0} (d : Defaults Z) (kind : W → WriterKind) 
   pub taken : TakesTexts d kind history old new texts
   pub none_held : new.held ≡ []
 
--- If there is no complaint, the packer took the line of the words, and no text is held any more. Otherwise the words ask for no metric, and the
--- packer is unchanged.
+-- If no part of the words was reported as unreadable, the packer took the line of the words, and no text is held any
+-- more. Otherwise the words ask for no metric, and the packer is unchanged.
 abbrev pub SendsWords : {W Z X : Type 0} → Defaults Z → (W → WriterKind) → (W → PacketHistory) → Packer W → Packer W → List (List ℕ)
     → Option X → Type 0
 SendsWords d kind history old new words None =

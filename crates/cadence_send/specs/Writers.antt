@@ -5,7 +5,7 @@ use Rattle.cadence_errors.specs.declared.SinkError.TheVariants.{Io, OutOfMemory}
 use Rattle.cadence_flow.specs.Sums.{zero_sums}
 use Rattle.cadence_flow.specs.Writer.{WriterKind}
 
--- whether the error is one of the system, or that memory ran out
+-- whether the error comes from the system, or says that memory ran out
 abbrev pub is_packet_error : SinkError → Bool
 is_packet_error (Io e) = true
 is_packet_error OutOfMemory = true

@@ -18,7 +18,7 @@ pub(crate) enum Unit {
 }
 
 impl Unit {
-    // Returns for which power of ten the unit is that many nanoseconds.
+    // Returns the number `n` for which the unit is 10 to the power of `n` nanoseconds.
     fn tens(self) -> u8
         ensures value { result ≡ unit_tens self }
         ensures most { result ≤ 9 }

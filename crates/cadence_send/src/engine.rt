@@ -109,8 +109,8 @@ struct Buffers<A: Allocator> {
     line: Vec<u8, A>,
 }
 
-// Gives the metric's line of a text to the packer. If the text has words and asks for no metric, it returns the part
-// that can't be read. The line is written into the buffer.
+// Gives the metric's line of a text to the packer. If the text has words and asks for no metric, this function returns
+// the part that can't be read. The line is written into the buffer.
 fn take_text<T: PacketWriter, A: Allocator + Clone>(
     alloc: &A,
     defaults: &Defaults<A>,
@@ -187,7 +187,7 @@ fn feed<T: PacketWriter, E: Write, A: Allocator + Clone>(
     Ok(())
 }
 
-// Sends the held text if it is time.
+// Sends the held text if the pace says that it is due.
 fn keep_pace<T: PacketWriter, P: Pace, A: Allocator>(
     lines: &mut LineBuffer<T, A>,
     pace: &mut P,
@@ -204,7 +204,7 @@ fn keep_pace<T: PacketWriter, P: Pace, A: Allocator>(
 
 /// Reads the lines of the input, and gives the metric's line of each to the packer. For a line that can't be read, its
 /// number and the reason are written to `errors`. An error of `errors` is ignored. After each piece of input, the held
-/// text is sent if it is time. At the end of the input, the held text stays held.
+/// text is sent if the pace says that it is due. The text that is held at the end of the input is not sent.
 ///
 /// # Errors
 /// `Input` if the reader fails, `Writer` if a packet is refused, and `OutOfMemory`. The lines before the error were

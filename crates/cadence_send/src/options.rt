@@ -42,18 +42,19 @@ pub struct Options<'a, A: Allocator> {
     pub rate: Option<Decimal>,
     /// The capacity of a packet in bytes.
     pub capacity: usize,
-    /// The milliseconds after which buffered lines are sent before more input is read.
+    /// After how many milliseconds buffered lines are sent before more input is read.
     pub flush_every: Option<u64>,
     /// Whether packets are printed instead of sent.
     pub is_printing: bool,
 }
 
-/// The option that can't be read. Its text says what is wrong with it, and how it is used.
+/// The option that can't be read, with its value if it has one. Its text says what is wrong with it, and how it is
+/// used.
 #[derive(Clone, Copy, Debug, PartialEq, Eq)]
 pub enum OptionError<'a> {
     /// There is no option of this name.
     Unknown(&'a str),
-    /// The option is the last word, and wants a value.
+    /// The option is the last word, but it requires a value.
     NoValue(&'a str),
     /// The option can't have this value.
     Value(&'a str, &'a str),

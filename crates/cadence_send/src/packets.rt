@@ -105,7 +105,7 @@ fn push_escaped<A: Allocator>(
     text.extend_from_slice(piece.as_bytes())
 }
 
-// Prints a packet and returns its length in bytes. The buffers lose their texts.
+// Prints a packet and returns its length in bytes. The texts of the two buffers are replaced.
 fn print_packet<O: Write, A: Allocator>(
     output: &mut O,
     text: &mut Vec<u8, A>,

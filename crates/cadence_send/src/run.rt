@@ -51,7 +51,7 @@ where
     Ok(counts)
 }
 
-/// Sends the metric of the words, and the text that was held before it. If the words ask for no metric, it sends
+/// Sends the text that is held, and then the metric of the words. If the words ask for no metric, this function sends
 /// nothing and returns the part that can't be read.
 ///
 /// # Errors

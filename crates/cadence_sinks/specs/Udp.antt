@@ -15,7 +15,7 @@ use Rattle.cadence_sinks.specs.declared.udp.unbuffered.UdpMetricSink.{UdpMetricS
 abbrev pub looks_up_again : {R A : Type 0} → UdpMetricSink R A → Bool
 looks_up_again s = is_periodic s.socket.socket.resolver
 
--- A sink whose target is looked up once sends to the target's address. (Of a sink with a period this says nothing.)
+-- A sink whose target is looked up once sends to the target's address. (This says nothing of a sink with a period.)
 abbrev pub SendsTo : {R A B : Type 0} → UdpMetricSink R A → Target B → Type 0
 SendsTo s target = KeepsAddress s.socket.socket.resolver target
 

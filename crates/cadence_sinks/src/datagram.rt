@@ -87,7 +87,7 @@ impl<D: DatagramSocket, R: Wait + Drop, A: Allocator> PacketWriter for SocketWri
 }
 
 /// Packs lines, each followed by a newline, into the packets of a counted socket. The packer and its record, which only
-/// proofs read, are under a lock. The drop tries one flush.
+/// proofs read, are under a lock. The drop of a `PackedSocket` tries one flush.
 pub struct PackedSocket<D: DatagramSocket, R: Wait + Drop, A: Allocator> {
     rt: R,
     writer: Mutex<RecordedPacker<SocketWriter<D, R, A>, A>>,
@@ -118,17 +118,19 @@ impl<D: DatagramSocket, R: Wait + Clone + Drop, A: Allocator + Clone> PackedSock
 }
 
 impl<D: DatagramSocket, R: Wait + Drop, A: Allocator> PackedSocket<D, R, A> {
-    /// Takes the line of a metric, under the lock. There are three cases:
+    /// Buffers or sends the line of a metric, under the lock. There are three cases:
     ///
     /// 1. The line and its newline fit into the free room of the buffer. They are held, and nothing is sent.
-    /// 2. They don't, but they fit into an empty buffer. The held text is sent, and then they are held.
+    /// 2. They don't fit into the free room, but they fit into an empty buffer. The held text is sent, and then they
+    ///    are held.
     /// 3. They don't fit into an empty buffer. The held text is sent, and then the line alone, without the newline.
     ///
     /// Returns the line's length, or in the third case how many bytes of the line the socket took. After an error the
     /// result is `None`, and nothing of the line is held. The error in `fault` is the socket's, or `NothingWritten` if
     /// the socket took 0 bytes of the held text.
-    // It is forced inline, because most lines are the first case, and a call would take some 23 instructions more. A
-    // wide result would take 17 more, although this is inline, because the sink's own `emit` copies it.
+    // The function is forced inline, because most lines are the first case, and a call would take some 23 instructions
+    // more. A wide result would take 17 more, even though the function is inline, because the sink's own `emit` copies
+    // it.
     #[inline(always)]
     pub fn emit(&self, metric: &str, fault: &mut SinkError) -> Option<usize>
         ensures { IsBufferedAnswer D.may_give (buffer_of self.now)
@@ -146,8 +148,8 @@ impl<D: DatagramSocket, R: Wait + Drop, A: Allocator> PackedSocket<D, R, A> {
     //   the same with some 20 instructions more, because it asks for free room first.
     // - They fit into an empty buffer, but `hold` still refuses them. This never happens, but no contract excludes it,
     //   because a clause of a lock can't name the capacity of the packer under it. Then `write` takes the line.
-    // - They don't fit into an empty buffer. Then `write` flushes, and sends the line alone.
-    // It is never inline, so that the first case of `emit` is short.
+    // - They don't fit into an empty buffer. Then `write` flushes, and sends the line alone. The function is never
+    //   inline, so that the first case of `emit` is short.
     #[inline(never)]
     fn write_out(
         &self,

@@ -8,7 +8,8 @@ use std::alloc::Allocator;
 
 /// Takes lines and sends them somewhere. A line has no newline at its end.
 ///
-/// An impl states which results a line may get and which results a flush may get. A flush always may succeed.
+/// An impl states which results a line may get and which results a flush may get. Among these there has to be `Ok(())`
+/// for a flush.
 ///
 /// ```text
 /// impl MetricSink for MySink {
@@ -27,7 +28,7 @@ pub trait MetricSink: Drop {
     /// A flush may always succeed.
     ghost flush_may_succeed: { (s : Self) → may_flush s (Ok tt) };
 
-    /// Takes a line, and returns how many of its bytes it took, or why it refused the line.
+    /// Takes a line, and returns how many of its bytes the sink took, or why it refused the line.
     fn emit(&self, metric: &str) -> Result<usize, SinkError>
         ensures { may_answer self.now metric.now result };
 

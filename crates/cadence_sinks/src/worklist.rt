@@ -9,7 +9,7 @@ use std::sync::Wait;
 /// whether it promises anything about these three: an impl with `tells` false promises nothing. No call changes
 /// `tells`. The list of a queuing sink's worker promises all of it.
 pub trait Worklist {
-    /// The type of a text, as `String`. It needn't be `Clone`, so `work` can't hand a copy on.
+    /// The type of a text, for example `String`. It needn't be `Clone`, so `work` can't hand a copy on.
     type Text: Drop;
 
     /// The texts that `next` gave, in order.

@@ -58,8 +58,8 @@ impl TargetError {
     }
 }
 
-// Returns the value of a variable of the environment, if there is one. For a value that is empty or not UTF-8 it
-// returns the error `unread`.
+// Returns the value of a variable of the environment, if the variable is set. If the value is empty or not UTF-8, this
+// function returns the error `unread`.
 fn read_variable(
     rt: &HostRuntime,
     name: &str,
@@ -77,7 +77,7 @@ fn read_variable(
     Ok(Some(text))
 }
 
-// Returns the port of the environment, or the usual one.
+// Returns the port of the environment, or 8125 if the environment has none.
 fn read_port_variable(rt: &HostRuntime) -> Result<u16, TargetError> {
     let Some(text) = read_variable(rt, "STATSD_PORT", TargetError::Port)? else {
         return Ok(DEFAULT_PORT);

@@ -2,7 +2,8 @@
 use cadence_send::Pace;
 use std::time::{Clock, Duration, Instant};
 
-/// Sends if the period has passed since the last time. If the period is zero or the clock fails, it always sends.
+/// A pace that sends if the period has passed since it last did. If the period is zero or the clock fails, it always
+/// sends.
 #[derive(Drop)]
 pub struct Every<R: Clock + Drop> {
     rt: R,

@@ -1,4 +1,4 @@
-//! What a metric is sent by.
+//! The traits of what sends a metric, and the functions that send a metric or begin its draft.
 ghost use Rattle.cadence_value.specs.Values.{Converts};
 ghost use Rattle.cadence.specs.Sending.{SendsPlain, StartsPlain};
 
@@ -12,8 +12,8 @@ use std::alloc::Allocator;
 /// No other crate can name this trait, so that no other crate can implement the traits above it.
 pub trait Sealed {}
 
-/// What a metric is sent by. `StatsdClient` has it, and no other crate can implement it. A service calls `send_metric`
-/// to send a metric of its own type through a client.
+/// Sends metrics to a sink, and errors to a handler. `StatsdClient` implements it, and no other crate can. A service
+/// calls `send_metric` to send a metric of its own type through a client.
 pub trait MetricBackend: Sealed {
     ghost use Rattle.std.specs.Prelude.{ℕ, List, Result};
     ghost use Rattle.cadence_errors.specs.declared.SinkError.{SinkError};

@@ -45,8 +45,8 @@ fn send_line<C: MetricBackend, T: From<String<C::Memory>>>(
     Ok(T::from(text))
 }
 
-/// A metric that is being built. It keeps the metric's line so far, or the first error of the call; after an error the
-/// options change nothing. A builder has to be sent: code that drops one doesn't compile.
+/// A metric that is being built. It stores the draft of the metric's line, or the first error of the call; after an
+/// error the options change nothing. A builder has to be sent: code that drops one doesn't compile.
 ///
 /// ```text
 /// client
@@ -66,7 +66,7 @@ pub struct MetricBuilder<
     of: PhantomData<T>,
 }
 
-// Each option calls `choosing_stands_for_more`, a law for the proof alone: no code comes of it.
+// Each option calls `choosing_stands_for_more`, a law that only the proof needs. The call compiles to no code.
 impl<'m, 'c, T: Metric + From<String<C::Memory>>, C: MetricBackend> MetricBuilder<'m, 'c, T, C> {
     ghost use Rattle.cadence.specs.Shown.{pending_of, backend_of};
 
@@ -158,8 +158,9 @@ impl<'m, 'c, T: Metric + From<String<C::Memory>>, C: MetricBackend> MetricBuilde
         self
     }
 
-    /// Sets the sampling rate, in place of an earlier one. It only tells the server that the caller samples: the client
-    /// sends each call, and doesn't check that the rate is between 0 and 1.
+    /// Sets the sampling rate, in place of an earlier one: the share of events for which the caller makes a call, for
+    /// example 0.1. The server scales by it. The client doesn't sample: it sends every call, and it doesn't check that
+    /// the rate is between 0 and 1.
     #[inline(always)]
     pub fn with_sampling_rate(mut self, rate: Decimal) -> Self
         ensures pending { HasChosen (pending_of self.entry) (rated rate) (pending_of result) }

@@ -10,7 +10,7 @@ pub trait ErrorHandler: Drop {
     fn handle(&self, error: MetricError);
 }
 
-/// Drops each error. A client has it if no handler is set.
+/// Drops each error. A client for which no handler is set has this one.
 #[derive(Drop)]
 pub struct NopErrorHandler;
 
@@ -21,7 +21,7 @@ impl ErrorHandler for NopErrorHandler {
 /// A caller's closure that receives errors, in a box.
 pub type BoxedHandler<A = Global> = Box<dyn Fn(MetricError) + Send + Sync, A>;
 
-/// Keeps a closure that may be called at any time. `StatsdClientBuilder::with_error_handler` makes one.
+/// Stores a closure that may be called at any time. `StatsdClientBuilder::with_error_handler` makes such a handler.
 // `Handler` of `cadence_resolve` is the same struct for a `SinkError`, and a comment there says why they are two.
 #[derive(Drop)]
 pub struct BoxedErrorHandler<A: Allocator = Global> {
@@ -33,7 +33,7 @@ impl<A: Allocator> BoxedErrorHandler<A> {
     ghost use Rattle.std.specs.Prelude.{◌≡◌};
     ghost use Rattle.cadence.specs.Shown.{box_of_handler};
 
-    /// Keeps this closure.
+    /// Stores this closure.
     pub fn new(call: BoxedHandler<A>) -> BoxedErrorHandler<A>
         requires { IsAlwaysCallable call }
         ensures { box_of_handler result ≡ call }

@@ -19,7 +19,7 @@ use std::thread::Threads;
 /// A queuing sink that hands its lines to a buffered UDP sink.
 pub type QueuedUdpSink<R, A = Global> = QueuingMetricSink<BufferedUdpMetricSink<R, A>, R, A>;
 
-/// Returns the target for a host's name, or for an address as text, and a port. It fails only if memory runs out.
+/// Returns the target for a host's name, or for an address as text, and a port. The only error is that memory ran out.
 pub fn host<A: Allocator>(alloc: A, name: &str, port: u16) -> Result<Target<A>, AllocError>
     ensures { IfOk result (IsHost name.now port) }
 {
@@ -98,8 +98,9 @@ pub fn queued_udp_sink_with<
     settings.build(rt.clone()?, alloc, sink)
 }
 
-/// Makes a queuing sink for at most `lines` lines, or for any number, over a buffered UDP sink, and starts its worker
-/// thread. The errors are those of `udp_sink`, and `SinkError::Io` if the thread can't be started.
+/// Makes a queuing sink over a buffered UDP sink, and starts its worker thread. At most `lines` lines wait in its
+/// queue; `None` means that any number may wait. The errors are those of `udp_sink`, and `SinkError::Io` if the thread
+/// can't be started.
 pub fn queued_udp_sink<
     R: Net + Wait + Threads + Clone + Drop + Send + Sync + 'static,
     A: Allocator + Clone + Send + Sync + 'static,

@@ -167,7 +167,7 @@ impl<A: Allocator + Clone> Set<A> {
     }
 }
 
-/// Keeps the text as it is.
+/// Makes the metric whose text is this string.
 impl<K, A: Allocator> From<String<A>> for MetricText<K, A> {
     ghost from_gives = { λ line text. text ≡ string_bytes line };
 

@@ -65,7 +65,7 @@ impl<'a, S: MetricSink, R: Wait + Drop, A: Allocator + Clone> Worklist
     }
 }
 
-// Goes through the queue to its end. It hands on each line that it takes, in order.
+// Goes through the queue to its end, and hands on each line that it takes, in order.
 fn pass_on<S: MetricSink, R: Wait + Drop, A: Allocator + Clone>(
     rt: &R,
     shared: &Shared<S, A>,
@@ -95,7 +95,7 @@ fn pass_on<S: MetricSink, R: Wait + Drop, A: Allocator + Clone>(
     }
 }
 
-/// What the worker thread needs beside the handler.
+/// What the worker thread needs besides the handler.
 #[derive(Drop)]
 pub struct Worker<S: MetricSink, R: Wait + Drop, A: Allocator> {
     pub rt: R,

@@ -39,7 +39,7 @@ impl<R: Wait + Drop, A: Allocator + Clone> PacketWriter for MessageWriter<R, A> 
 /// A line that with its newline passes the capacity is a message of its own, without the newline. `emit` returns the
 /// line's length. If a message is refused, the errors are `ChannelDisconnected` if the receiver was dropped,
 /// `ChannelFull` if the queue has no room for one more message, and `OutOfMemory`, in this order; the held text stays
-/// held. The sink keeps no counts. It keeps the runtime `R`, whose locks it takes.
+/// held. The sink has no counts. It stores the runtime `R`, which taking its lock needs.
 ///
 /// ```text
 /// let (receiver, sink) = BufferedSpyMetricSink::new(rt.clone()?, alloc)?;
@@ -60,8 +60,8 @@ impl<R: Wait + Clone + Drop, A: Allocator + Clone> BufferedSpyMetricSink<R, A> {
         Self::with_capacity(rt, alloc, None, None)
     }
 
-    /// Makes a spy and its receiver, with a queue for at most `queue` messages, or for any number, and with a buffer of
-    /// `buffer` bytes, or of 512. The only error is `OutOfMemory`.
+    /// Makes a spy and its receiver. At most `queue` messages wait for the receiver; `None` means that any number may
+    /// wait. The buffer has `buffer` bytes, or 512 if that is `None`. The only error is `OutOfMemory`.
     pub fn with_capacity(
         rt: R,
         alloc: A,

@@ -22,7 +22,7 @@ impl<R: Wait + Drop, A: Allocator> SpyReceiver<R, A> {
         self.messages.take_wait(&self.rt)
     }
 
-    /// Returns the oldest message, if there is one. It doesn't wait.
+    /// Returns the oldest message, if there is one. It doesn't wait for a message.
     pub fn try_recv(&self) -> Option<Vec<u8, A>> {
         match self.messages.try_take(&self.rt) {
             Taken::Text(message) => Some(message),
@@ -50,7 +50,8 @@ pub struct Sender<R: Wait + Drop, A: Allocator = Global> {
     messages: Messages<A>,
 }
 
-/// Makes both ends of a queue for at most `capacity` messages, or for any number. The only error is `OutOfMemory`.
+/// Makes both ends of a queue. At most `capacity` messages wait in it; `None` means that any number may wait. The only
+/// error is `OutOfMemory`.
 pub fn new_channel<R: Wait + Clone + Drop, A: Allocator + Clone>(
     rt: R,
     alloc: A,
@@ -73,9 +74,9 @@ pub fn new_channel<R: Wait + Clone + Drop, A: Allocator + Clone>(
 }
 
 impl<R: Wait + Drop, A: Allocator + Clone> Sender<R, A> {
-    /// Puts a copy of the bytes last in the queue, and returns their number. The errors are `ChannelDisconnected` after
-    /// a stop, `ChannelFull` if as many messages wait as the capacity, and `OutOfMemory`, in this order. The first two
-    /// request no memory.
+    /// Adds a copy of the bytes at the end of the queue, and returns their number. The errors are `ChannelDisconnected`
+    /// after a stop, `ChannelFull` if as many messages wait as the capacity, and `OutOfMemory`, in this order. The
+    /// first two request no memory.
     pub fn send(&self, bytes: &[u8]) -> Result<usize, SinkError>
         ensures { IsQueueAnswer bytes.now result }
     {

@@ -11,8 +11,8 @@ use std::sync::Wait;
 /// A sink for tests that makes each line a message of its receiver.
 ///
 /// `emit` returns the line's length. The errors are `ChannelDisconnected` if the receiver was dropped, `ChannelFull` if
-/// the queue has no room for one more message, and `OutOfMemory`, in this order. The sink keeps no counts. It keeps the
-/// runtime `R`, whose locks it takes.
+/// the queue has no room for one more message, and `OutOfMemory`, in this order. The sink has no counts. It stores the
+/// runtime `R`, which taking the lock of its queue needs.
 ///
 /// ```text
 /// let (receiver, sink) = SpyMetricSink::new(rt.clone()?, alloc)?;

@@ -98,7 +98,8 @@ impl<R: Wait + Drop, A: Allocator> MetricSink for BufferedUdpMetricSink<R, A> {
 
 /// Makes a `BufferedUdpMetricSink`. Without a capacity the buffer has 512 bytes. Without a period the target is looked
 /// up once.
-// It has each method of `UdpMetricSinkBuilder` again: both are types of the Rust crate, and types can't share methods.
+// This type has each method of `UdpMetricSinkBuilder` again: both are types of the Rust crate, and types can't share
+// methods.
 #[derive(Drop)]
 pub struct BufferedUdpMetricSinkBuilder {
     capacity: Option<usize>,
@@ -130,7 +131,7 @@ impl BufferedUdpMetricSinkBuilder {
         self
     }
 
-    /// Lets a thread look the target up again after each period. It sleeps in between.
+    /// Lets a thread look the target up again after each period. The thread sleeps in between.
     pub fn with_resolver_period(mut self, period: Duration) -> Self
         ensures capacity { buffered_capacity_of result ≡ buffered_capacity_of self }
         ensures period { buffered_period_of result ≡ Some period }

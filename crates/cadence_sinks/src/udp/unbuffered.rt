@@ -96,7 +96,7 @@ impl UdpMetricSinkBuilder {
         }
     }
 
-    /// Lets a thread look the target up again after each period. It sleeps in between.
+    /// Lets a thread look the target up again after each period. The thread sleeps in between.
     pub fn with_resolver_period(mut self, period: Duration) -> Self
         ensures period { period_of result ≡ Some period }
         ensures handler { handler_of result ≡ handler_of self }
