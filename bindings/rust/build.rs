@@ -1,20 +1,20 @@
-//! Links libcadence_c.a: from `lib/` of the archive that this crate stands in, else from the folder that `CADENCE_LIB`
-//! names.
+//! Links libcadence_c.a: from `lib/` of the archive, if this crate is in one, and otherwise from the folder that
+//! `CADENCE_LIB` names.
 use std::env;
 use std::path::{Path, PathBuf};
 
 /// The file that is linked.
 const LIBRARY: &str = "libcadence_c.a";
 
-/// What a user does about a missing library.
+/// What the error says that a user can do about a missing library.
 const CURE: &str = "Set CADENCE_LIB to the absolute path of the folder that has libcadence_c.a, which is lib/ in the \
 archive that ./package makes; in that archive bindings/rust finds it without the variable.";
 
-/// The folder that has the library: the one that stands beside the crate in an archive, else the one that the variable
-/// names.
+/// Returns the folder that has the library: the one beside the crate in an archive, or otherwise the one that the
+/// variable names.
 ///
-/// It is an error if the variable is relative or names a folder without the library, even if one stands beside the
-/// crate, because the variable was meant. It is an error too if there is neither.
+/// The call fails if the variable is relative or names a folder without the library, even if there is one beside the
+/// crate, because whoever set the variable meant that folder. It also fails if there is neither.
 pub fn folder(crate_folder: &Path, variable: Option<&str>) -> Result<PathBuf, String> {
     let named = variable.map(named_folder).transpose()?;
     let beside = crate_folder.join("../../lib");
@@ -24,7 +24,7 @@ pub fn folder(crate_folder: &Path, variable: Option<&str>) -> Result<PathBuf, St
     named.ok_or_else(|| format!("CADENCE_LIB is not set, and no {LIBRARY} stands in {}. {CURE}", beside.display()))
 }
 
-/// The folder that the variable names, if it is absolute and has the library.
+/// Returns the folder that the variable names, if it is absolute and has the library.
 fn named_folder(variable: &str) -> Result<PathBuf, String> {
     let path = Path::new(variable);
     if !path.is_absolute() {

@@ -5,10 +5,10 @@ use crate::line::Record;
 use crate::types::{Metric, MetricResult};
 use std::marker::PhantomData;
 
-/// A metric before it is sent, to which options are added: tags, a container, a time and a sampling rate.
+/// A metric before it is sent. Options can be added to it: tags, a container, a time and a sampling rate.
 ///
-/// The calls of a client that end in `_with_tags` make it, and it is sent by [`try_send`](Self::try_send) or
-/// [`send`](Self::send). Texts are printed as they are, separators too.
+/// The calls of a client that end in `_with_tags` make a builder, and [`try_send`](Self::try_send) or
+/// [`send`](Self::send) sends its metric. Texts are printed as they are, with any separators in them.
 ///
 /// ```
 /// use cadence::prelude::*;
@@ -51,19 +51,19 @@ where
         self
     }
 
-    /// Adds a tag of a key and a value, after the client's and those that were added before.
+    /// Adds a tag with a key and a value, after the client's tags and those that were added before.
     #[inline]
     pub fn with_tag(self, key: &'m str, value: &'m str) -> Self {
         self.with(|record| record.add_tag(Tag::new(Some(key), value)))
     }
 
-    /// Adds a tag of a value alone.
+    /// Adds a tag that is only a value, after the client's tags and those that were added before.
     #[inline]
     pub fn with_tag_value(self, value: &'m str) -> Self {
         self.with(|record| record.add_tag(Tag::new(None, value)))
     }
 
-    /// Sets the container, in the place of the client's.
+    /// Sets the container, in place of the client's.
     pub fn with_container_id(self, container_id: &'m str) -> Self {
         self.with(|record| record.container = Some(container_id))
     }
@@ -73,18 +73,18 @@ where
         self.with(|record| record.time = Some(timestamp))
     }
 
-    /// Sets the sampling rate, which a server scales a count by. Nothing is sampled here: every call is sent, so the caller
-    /// sends only that share of its metrics.
+    /// Sets the sampling rate, by which a server scales a count. The client doesn't sample: it sends every call, so the
+    /// caller has to make only this share of its calls.
     ///
     /// A rate that is NaN or infinite makes the call fail with `InvalidInput`.
     pub fn with_sampling_rate(self, rate: f64) -> Self {
         self.with(|record| record.rate = Some(rate))
     }
 
-    /// Sends the metric, and answers it.
+    /// Sends the metric, and returns it.
     ///
-    /// It fails with `InvalidInput` if the value doesn't fit or a number is NaN or infinite, and with `IoError` if the sink
-    /// fails or memory is refused. The client can be used after that.
+    /// It fails with `InvalidInput` if the value doesn't fit or a number is NaN or infinite, and with `IoError` if the
+    /// sink fails or memory runs out. The client can be used after an error.
     pub fn try_send(self) -> MetricResult<T> {
         let record = match self.record {
             Ok(ref record) => record,
@@ -98,7 +98,8 @@ where
         Ok(metric)
     }
 
-    /// Sends the metric, and gives an error to the client's error handler, which does nothing if none was set.
+    /// Sends the metric, and passes an error to the client's error handler. If the client has none, the error is
+    /// dropped.
     pub fn send(self) {
         let client = self.client;
         if let Err(error) = self.try_send() {
@@ -107,7 +108,7 @@ where
     }
 }
 
-// A builder goes to other threads as the crate's does.
+// A builder is `Send` and `Sync`, as a builder of the crate `cadence` is.
 const _: fn() = || {
     fn both<T: Send + Sync>() {}
     both::<MetricBuilder<'_, '_, crate::Counter>>();

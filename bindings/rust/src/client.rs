@@ -12,9 +12,9 @@ use std::fmt;
 use std::panic::RefUnwindSafe;
 use std::time::Duration;
 
-/// Makes a client of a prefix, a sink, default tags, a container and an error handler.
+/// Makes a client from a prefix, a sink, default tags, a container and an error handler.
 ///
-/// [`StatsdClient::builder`] answers one.
+/// [`StatsdClient::builder`] returns a builder.
 ///
 /// ```
 /// use cadence::prelude::*;
@@ -40,7 +40,8 @@ impl StatsdClientBuilder {
         StatsdClientBuilder { client }
     }
 
-    /// Sets what gets the errors of [`MetricBuilder::send`], in the caller's thread. Without it they are dropped.
+    /// Sets the handler that receives the errors of [`MetricBuilder::send`], in the caller's thread. Without a handler
+    /// they are dropped.
     pub fn with_error_handler<F>(mut self, errors: F) -> Self
     where
         F: Fn(MetricError) + Sync + Send + RefUnwindSafe + 'static,
@@ -49,7 +50,7 @@ impl StatsdClientBuilder {
         self
     }
 
-    /// Adds a default tag of a key and a value, which every metric of the client has, before its own.
+    /// Adds a default tag with a key and a value. Every metric of the client has it, before the metric's own tags.
     pub fn with_tag<K, V>(mut self, key: K, value: V) -> Self
     where
         K: ToString,
@@ -59,7 +60,7 @@ impl StatsdClientBuilder {
         self
     }
 
-    /// Adds a default tag of a value alone.
+    /// Adds a default tag that is only a value.
     pub fn with_tag_value<K>(mut self, value: K) -> Self
     where
         K: ToString,
@@ -68,7 +69,7 @@ impl StatsdClientBuilder {
         self
     }
 
-    /// Sets the container that every metric of the client has, if it has none of its own.
+    /// Sets the container of every metric of the client that doesn't set its own.
     pub fn with_container_id<K>(mut self, container_id: K) -> Self
     where
         K: ToString,
@@ -83,10 +84,10 @@ impl StatsdClientBuilder {
     }
 }
 
-/// Makes metrics of a prefix, and hands the line of each to its sink.
+/// Makes metrics whose names begin with a prefix, and passes the line of each to a sink.
 ///
-/// Threads share a client by reference or in an `Arc`. It takes no lock of its own; its sink may. The traits of
-/// [`prelude`](crate::prelude) have its calls, and [`MetricClient`] all of them.
+/// Threads may share a client by reference or in an `Arc`. A client takes no lock of its own, but its sink may take
+/// one. The traits of [`prelude`](crate::prelude) have the calls of a client, and [`MetricClient`] has all of them.
 ///
 /// ```
 /// use std::sync::Arc;
@@ -108,8 +109,8 @@ pub struct StatsdClient {
 }
 
 impl StatsdClient {
-    /// Makes a client of a prefix and a sink, with no default tags. An empty prefix prints nothing; another loses the dots
-    /// at its end, and one dot stands between it and a key.
+    /// Makes a client from a prefix and a sink, without default tags. An empty prefix prints nothing. Any other prefix
+    /// loses the dots at its end, and is printed with one dot between it and the key.
     pub fn from_sink<S>(prefix: &str, sink: S) -> Self
     where
         S: MetricSink + Sync + Send + RefUnwindSafe + 'static,
@@ -117,8 +118,7 @@ impl StatsdClient {
         Self::builder(prefix, sink).build()
     }
 
-    /// Starts a client of a prefix, as in [`from_sink`](Self::from_sink), and a sink, to which more is added before it is
-    /// built.
+    /// Returns the builder of a client with a prefix, as in [`from_sink`](Self::from_sink), and a sink.
     pub fn builder<S>(prefix: &str, sink: S) -> StatsdClientBuilder
     where
         S: MetricSink + Sync + Send + RefUnwindSafe + 'static,
@@ -126,9 +126,9 @@ impl StatsdClient {
         StatsdClientBuilder::new(prefix, sink)
     }
 
-    /// Has the sink send what it holds.
+    /// Flushes the sink, which then sends the lines that it has buffered.
     ///
-    /// It fails with `IoError` if the sink does. What a buffered sink of this crate couldn't send it holds on to.
+    /// It fails with `IoError` if the sink does. A buffered sink of this crate keeps the lines that it couldn't send.
     pub fn flush(&self) -> MetricResult<()> {
         Ok(self.sink.flush()?)
     }
@@ -155,7 +155,7 @@ impl fmt::Debug for StatsdClient {
     }
 }
 
-/// What a client does with a metric that is made, for metrics of your own. Only [`StatsdClient`] has it.
+/// Sends metrics that are already made, for example metrics of a type of your own. Only [`StatsdClient`] implements it.
 ///
 /// ```
 /// use cadence::ext::MetricBackend;
@@ -175,14 +175,14 @@ impl fmt::Debug for StatsdClient {
 /// }
 /// ```
 pub trait MetricBackend: Sealed {
-    /// Hands the metric's text to the sink as it stands: no prefix, tag or container is added.
+    /// Passes the metric's text to the sink as it is: no prefix, tag or container is added.
     ///
     /// It fails with `IoError` if the sink does.
     fn send_metric<M>(&self, metric: &M) -> MetricResult<()>
     where
         M: Metric;
 
-    /// Gives an error to the client's error handler.
+    /// Passes an error to the client's error handler.
     fn consume_error(&self, err: MetricError);
 }
 
@@ -210,14 +210,14 @@ macro_rules! calls {
         where
             T: $value,
         {
-            /// Sends a metric with the client's tags alone, and answers it. It fails as
+            /// Sends a metric that has only the client's tags, and returns it. It fails as
             /// [`try_send`](MetricBuilder::try_send) does.
             #[inline]
             fn $plain(&self, key: &str, value: T) -> MetricResult<$metric> {
                 self.$tagged(key, value).try_send()
             }
 
-            /// Starts a metric, to which tags and other options are added before it is sent.
+            /// Returns the builder of a metric, to which tags and other options can be added before it is sent.
             fn $tagged<'a>(&'a self, key: &'a str, value: T) -> MetricBuilder<'a, 'a, $metric>;
         }
 
@@ -234,55 +234,55 @@ macro_rules! calls {
 }
 
 calls! {
-    /// Counters, which a server adds up: `i64`, `i32`, `u64` and `u32`.
+    /// Counters, which a server adds up. A value is an `i64`, `i32`, `u64` or `u32`.
     Counted of Counter, ToCounterValue: count count_with_tags
 }
 calls! {
-    /// Timers: milliseconds as `u64`, a `Duration`, which is cut off to whole milliseconds, and a `Vec` of either, which is
-    /// packed in one line.
+    /// Timers. A value is a number of milliseconds as `u64`, a `Duration`, which is rounded down to whole milliseconds,
+    /// or a `Vec` of either, which makes one line.
     Timed of Timer, ToTimerValue: time time_with_tags
 }
 calls! {
-    /// Gauges, values that stay until the next one: `u64` and `f64`. NaN and infinities are refused.
+    /// Gauges, whose value stays until the next one. A value is a `u64` or `f64`. NaN and infinities are refused.
     Gauged of Gauge, ToGaugeValue: gauge gauge_with_tags
 }
 calls! {
-    /// Meters, of which a server measures the rate: `u64`.
+    /// Meters, whose rate a server measures. A value is a `u64`.
     Metered of Meter, ToMeterValue: meter meter_with_tags
 }
 calls! {
-    /// Histograms, of whose values a server computes the distribution: `u64`, `f64`, a `Duration`, which is taken in
-    /// nanoseconds, and a `Vec` of each, which is packed in one line. NaN and infinities are refused.
+    /// Histograms: a server computes the distribution of their values. A value is a `u64`, an `f64`, a `Duration`,
+    /// which is sent in nanoseconds, or a `Vec` of one of these, which makes one line. NaN and infinities are refused.
     Histogrammed of Histogram, ToHistogramValue: histogram histogram_with_tags
 }
 calls! {
-    /// Distributions, which a server computes over all hosts: `u64`, `f64`, and a `Vec` of either, which is packed in one
-    /// line. NaN and infinities are refused.
+    /// Distributions, which a server computes over all hosts. A value is a `u64`, an `f64`, or a `Vec` of either, which
+    /// makes one line. NaN and infinities are refused.
     Distributed of Distribution, ToDistributionValue: distribution distribution_with_tags
 }
 calls! {
-    /// Sets, of which a server counts the different values: `i64`.
+    /// Sets, whose distinct values a server counts. A value is an `i64`.
     Setted of Set, ToSetValue: set set_with_tags
 }
 
 /// Counters of 1 and -1.
 pub trait CountedExt: Counted<i64> {
-    /// Adds 1 to a counter, as [`Counted::count`] does.
+    /// Adds 1 to a counter, as [`Counted::count`] does with the value 1.
     fn incr(&self, key: &str) -> MetricResult<Counter> {
         self.count(key, 1)
     }
 
-    /// Starts a counter of 1, to which tags are added.
+    /// Returns the builder of a counter of 1, to which tags and other options can be added.
     fn incr_with_tags<'a>(&'a self, key: &'a str) -> MetricBuilder<'a, 'a, Counter> {
         self.count_with_tags(key, 1)
     }
 
-    /// Takes 1 from a counter, as [`Counted::count`] does.
+    /// Subtracts 1 from a counter, as [`Counted::count`] does with the value -1.
     fn decr(&self, key: &str) -> MetricResult<Counter> {
         self.count(key, -1)
     }
 
-    /// Starts a counter of -1, to which tags are added.
+    /// Returns the builder of a counter of -1, to which tags and other options can be added.
     fn decr_with_tags<'a>(&'a self, key: &'a str) -> MetricBuilder<'a, 'a, Counter> {
         self.count_with_tags(key, -1)
     }
@@ -290,7 +290,7 @@ pub trait CountedExt: Counted<i64> {
 
 impl CountedExt for StatsdClient {}
 
-/// All calls of a client, for code that takes any client or keeps one in a box.
+/// All calls of a client, for code that takes any client or stores one in a box.
 ///
 /// ```
 /// use cadence::{MetricClient, NopMetricSink, StatsdClient};

@@ -1,32 +1,34 @@
-//! The decimals that floats print as.
+//! The decimals as which floats are printed.
 use crate::layout::Decimal;
 use std::fmt::{self, Write};
 use std::ops::Range;
 
-/// The most places that the library prints, and the most digits that fit 63 bits for sure or may do so.
+/// The most decimal places that the library prints, and the most digits that a number of 63 bits has.
 const PLACES: u64 = 30;
 const DIGITS: usize = 19;
 
-/// The longest text of a decimal: a sign, a 0, a dot and 30 places.
+/// The length of the longest text of a decimal: a sign, a 0, a dot and 30 places.
 const LONGEST: usize = 33;
 
-/// How many floats need no memory to be printed.
+/// For how many floats in one call no memory is requested.
 const FEW: usize = 8;
 
-/// The bits of a float that are its fraction.
+/// The bits of an `f64` that are its fraction.
 const FRACTION: u64 = (1 << 52) - 1;
 
-/// The exponents, as a float has them, of the floats from 2 to the power of -10 to below 2 to the power of 52.
+/// The exponents, as an `f64` stores them, of the floats from 2 to the power of -10 up to, but not including, 2 to the
+/// power of 52.
 const EXPONENTS: Range<u64> = 1013..1075;
 
-/// The decimal that a float prints as, if its digits fit 63 bits over at most 10 to the power of 30. There is none for -0,
-/// because a decimal has no sign of zero, nor for what is not finite. It has no zeros at the end of its places.
+/// Returns the decimal as which a float is printed, without zeros at the end of its places. Returns `None` if the
+/// digits don't fit 63 bits or there are more than 30 places, for -0, because a decimal has no negative zero, and for
+/// NaN and infinities.
 #[inline]
 pub(crate) fn decimal_of(number: f64) -> Option<Decimal> {
     short_decimal(number, 2, 1e2).or_else(|| short_decimal(number, 6, 1e6)).or_else(|| shortest_decimal(number))
 }
 
-/// Hands on the decimals of several floats, or nothing if one has none.
+/// Calls `with` with the decimals of several floats, or with `None` if one of the floats has no decimal.
 pub(crate) fn with_decimals<R>(numbers: &[f64], with: impl FnOnce(Option<&[Decimal]>) -> R) -> R {
     let (mut few, mut many) = ([Decimal::default(); FEW], Vec::new());
     let decimals = match few.get_mut(..numbers.len()) {
@@ -45,10 +47,11 @@ pub(crate) fn with_decimals<R>(numbers: &[f64], with: impl FnOnce(Option<&[Decim
     with(Some(decimals))
 }
 
-/// The decimal of a float that prints with at most so many places, and with at most 15 digits.
+/// Returns the decimal of a float, if it is printed with at most this many places and with at most 15 digits.
 ///
-/// Decimals of at most 15 digits lead to floats that differ, so the one that leads to this float is what it prints as.
-/// `scale` is 10 to the power of `places`; both numbers of the division are exact, so its answer is the float of the decimal.
+/// Different decimals of at most 15 digits are read as different floats, so the decimal that is read as this float is
+/// the one as which it is printed. `scale` is 10 to the power of `places`. Both numbers of the division are exact, so
+/// its result is the float as which the decimal is read.
 #[inline]
 fn short_decimal(number: f64, places: u64, scale: f64) -> Option<Decimal> {
     let scaled = number * scale;
@@ -60,7 +63,7 @@ fn short_decimal(number: f64, places: u64, scale: f64) -> Option<Decimal> {
     found.then(|| lowest(mantissa, places))
 }
 
-/// The decimal without the zeros at the end of its places.
+/// Returns the decimal without the zeros at the end of its places.
 #[inline]
 fn lowest(mut mantissa: i64, mut places: u64) -> Decimal {
     while places > 0 && mantissa % 10 == 0 {
@@ -70,19 +73,20 @@ fn lowest(mut mantissa: i64, mut places: u64) -> Decimal {
     Decimal { mantissa, places }
 }
 
-/// The decimal of a float for which a multiplication does not find it.
+/// Returns the decimal of a float for which a multiplication doesn't find it.
 #[inline(never)]
 fn shortest_decimal(number: f64) -> Option<Decimal> {
     nearest_decimal(number).or_else(|| printed_decimal(number))
 }
 
-/// The shortest decimal that leads to a float with a fraction, in whole numbers of 128 bits. There is none for a float
-/// outside of the exponents above, nor for a power of 2.
+/// Returns the shortest decimal that is read as this float, computed in whole numbers of 128 bits. Returns `None` if
+/// the float's exponent is not one of `EXPONENTS`, or if the float is a power of 2.
 ///
-/// The float is `significand` over 2 to the power of `shift`. A decimal leads to it if it is at most half the distance to the next float
-/// away; at just the half it does if the significand is even. If a decimal of k places leads to it, then one of k + 1 places does too, and
-/// one of 17 digits always does. So the search begins there and goes down to the fewest places. A power of 2 is left out because the
-/// next float below it is nearer than the one above it.
+/// The float is `significand` over 2 to the power of `shift`. A decimal is read as this float if it is nearer than half
+/// the distance to the next float, or if it is exactly that far away and the significand is even. If a decimal of k
+/// places is read as the float, then one of k + 1 places is too, and one of 17 digits always is. So the search begins
+/// with that one and goes down to the fewest places. A power of 2 is left out because the next float below it is nearer
+/// than the next one above it.
 fn nearest_decimal(number: f64) -> Option<Decimal> {
     let bits = number.to_bits();
     let (exponent, fraction) = ((bits >> 52) & 0x7ff, bits & FRACTION);
@@ -97,7 +101,7 @@ fn nearest_decimal(number: f64) -> Option<Decimal> {
         let distance = (mantissa << shift).abs_diff(exact);
         (mantissa, 2 * distance < scale + u128::from(significand % 2 == 0))
     };
-    // 1233 over 4096 is a little less than the logarithm of 2, so there are 17 digits at least.
+    // 1233 over 4096 is a little less than the decimal logarithm of 2, so there are at least 17 digits.
     let whole_digits = ((exponent as i64 - 1023) * 1233) >> 12;
     let mut places = (17 - whole_digits).min(19) as u64;
     let (mut mantissa, leads) = of_places(places);
@@ -115,7 +119,8 @@ fn nearest_decimal(number: f64) -> Option<Decimal> {
     Some(Decimal { mantissa: if number < 0.0 { -mantissa } else { mantissa }, places })
 }
 
-/// The decimal of the text that a float prints. It has no zeros at the end of its places, since the text has none.
+/// Returns the decimal of the text that a float prints. It has no zeros at the end of its places, because the text has
+/// none.
 fn printed_decimal(number: f64) -> Option<Decimal> {
     if !number.is_finite() {
         return None;
@@ -142,7 +147,7 @@ fn printed_decimal(number: f64) -> Option<Decimal> {
     Some(Decimal { mantissa: if text.bytes[0] == b'-' { -magnitude } else { magnitude }, places })
 }
 
-/// A text that is refused if it is longer than that of any decimal.
+/// A buffer for a text. It refuses a text that is longer than that of any decimal.
 struct Text {
     bytes: [u8; LONGEST],
     length: usize,
@@ -162,7 +167,7 @@ impl Write for Text {
 mod tests {
     use super::*;
 
-    /// The text of a decimal, with no zeros at its end.
+    /// Returns the text of a decimal, without zeros at the end of its places.
     fn text_of(decimal: Decimal) -> String {
         let (digits, places) = (decimal.mantissa.unsigned_abs().to_string(), decimal.places as usize);
         let padded = format!("{digits:0>width$}", width = places + 1);

@@ -1,4 +1,4 @@
-//! What types of your own are made of: values, metrics, sinks.
+//! What you need for types of your own: values, metrics and sinks.
 pub use crate::client::MetricBackend;
 pub use crate::io::MultiLineWriter;
 pub use crate::sinks::{SocketStats, SpyReceiver};

@@ -1,13 +1,15 @@
 //! A buffer of lines over any writer.
 use std::io::{self, BufWriter, Write, WriterPanicked};
 
-/// Gathers lines, and writes them together to another writer, for sinks of your own.
+/// Buffers lines, and writes several of them at once to another writer. It is for sinks of your own.
 ///
-/// Each `write` is a line: it is held, with the ending after it, or goes out whole. If it doesn't fit beside what is held,
-/// that goes out first. If it passes the capacity with its ending, it goes out alone, without the ending. `flush` writes
-/// what is held, and so does the drop. What the writer refuses stays held.
+/// Each `write` is a line, which is buffered with the ending after it. If the line doesn't fit beside the buffered
+/// text, that text is written first. If the line is longer than the capacity with its ending, it is written alone,
+/// without the ending. `flush` writes the buffered text, and so does the drop. Text that the writer refuses stays in
+/// the buffer.
 ///
-/// This type is plain Rust: the library's packer, which the sinks of this crate have, knows only the newline.
+/// This type is plain Rust, because the proved packer, which the sinks of this crate use, always ends a line with a
+/// newline.
 ///
 /// ```
 /// use std::io::Write;
@@ -29,7 +31,7 @@ where
     ending: Vec<u8>,
 }
 
-// The buffer has room for more than it is given, because a `BufWriter` writes at once what fills it.
+// The buffer has room for more bytes than it gets, because a `BufWriter` writes a text that fills it at once.
 fn buffer<T: Write>(inner: T, capacity: usize) -> BufWriter<T> {
     BufWriter::with_capacity(capacity.saturating_add(1), inner)
 }
@@ -38,28 +40,28 @@ impl<T> MultiLineWriter<T>
 where
     T: Write,
 {
-    /// Makes a buffer of a capacity in bytes, whose lines end with a newline.
+    /// Makes a buffer with a capacity of `cap` bytes, whose lines end with a newline.
     pub fn new(inner: T, cap: usize) -> MultiLineWriter<T> {
         Self::with_ending(inner, cap, "\n")
     }
 
-    /// Makes a buffer of a capacity in bytes, whose lines have this ending.
+    /// Makes a buffer with a capacity of `cap` bytes, whose lines have this ending.
     pub fn with_ending(inner: T, cap: usize, end: &str) -> MultiLineWriter<T> {
         MultiLineWriter { inner: buffer(inner, cap), capacity: cap, ending: end.as_bytes().to_vec() }
     }
 
-    /// The writer below.
+    /// Returns the writer.
     pub fn get_ref(&self) -> &T {
         self.inner.get_ref()
     }
 
-    /// The writer below. What is written to it directly overtakes what is held.
+    /// Returns the writer. A text that is written to it directly comes before the buffered text.
     pub fn get_mut(&mut self) -> &mut T {
         self.inner.get_mut()
     }
 
-    /// Puts another writer in the place of the one below, and answers that one with the bytes that were held for it. These
-    /// are in the error if that writer panicked. Nothing is held then.
+    /// Replaces the writer, and returns the old one with the bytes that were buffered for it. If the old writer
+    /// panicked, these bytes are in the error. The buffer is empty afterwards.
     pub fn replace_writer(&mut self, writer: T) -> (T, Result<Vec<u8>, WriterPanicked>) {
         std::mem::replace(&mut self.inner, buffer(writer, self.capacity)).into_parts()
     }

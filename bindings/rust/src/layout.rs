@@ -1,8 +1,8 @@
-//! What crosses to the library, in the layout of `cadence.h`.
+//! The structs that are passed to the library, in the layout of `cadence.h`.
 use std::marker::PhantomData;
 use std::{fmt, ptr};
 
-/// A kind of metric, by the number and the text that the library has for it.
+/// A kind of metric: the number and the text that the library has for it.
 #[derive(Debug, Clone, Copy, PartialEq, Eq)]
 pub(crate) enum Kind {
     Counter = 0,
@@ -14,7 +14,7 @@ pub(crate) enum Kind {
     Distribution = 6,
 }
 
-/// A packer, or none. Its fields are the library's own.
+/// A packer, or none. Only the library uses its fields.
 #[repr(C)]
 pub(crate) struct Handle {
     at: *mut u8,
@@ -51,17 +51,18 @@ impl<'a> Tag<'a> {
         Tag { key: key.as_ptr(), key_len: key.len(), text: text.as_ptr(), text_len: text.len(), keyed, of: PhantomData }
     }
 
-    /// How many bytes the tag has in a line, at most.
+    /// Returns how many bytes the tag has in a line, at most.
     #[inline]
     pub(crate) fn size(&self) -> usize {
         self.key_len + 1 + self.text_len
     }
 }
 
-/// `mantissa` over 10 to the power of `places`, which are at most 30.
+/// The number `mantissa` divided by 10 to the power of `places`, which is at most 30.
 ///
-/// C has one byte for the places and leaves seven to chance. Here they are one number, whose first byte that is, because the
-/// library reads all 16 bytes at once, and a processor waits for bytes that were written in smaller pieces.
+/// In C the places are one byte, and the seven bytes after it have any value. Here these eight bytes are one number,
+/// whose first byte has the places, because the library reads all 16 bytes at once, and a processor waits longer for
+/// bytes that were written in smaller pieces.
 #[repr(C)]
 #[derive(Clone, Copy, Debug, Default, PartialEq, Eq)]
 pub(crate) struct Decimal {
@@ -88,7 +89,7 @@ pub(crate) struct Options<'a> {
 }
 
 impl<'a> Options<'a> {
-    /// Tags, a container and a time, without a rate.
+    /// Returns options with these tags, this container and this time, and without a rate.
     #[inline]
     pub(crate) fn new(tags: &'a [Tag<'a>], container: Option<&'a str>, time: Option<u64>) -> Self {
         let text = container.unwrap_or("");
@@ -102,7 +103,7 @@ impl<'a> Options<'a> {
             contained: container.is_some(),
             rated: false,
             timed: time.is_some(),
-            // every text that gets here is a `&str`, and so is UTF-8
+            // each text is a `&str`, so it is UTF-8
             known: true,
             of: PhantomData,
         }
@@ -116,7 +117,7 @@ impl<'a> Options<'a> {
     }
 }
 
-/// What a packer has and did.
+/// The counts of a packer.
 #[repr(C)]
 #[derive(Default)]
 pub(crate) struct Counts {
@@ -140,7 +141,7 @@ mod tests {
         }};
     }
 
-    /// CADENCE_LAYOUT names a file of what the header says, as `bindings/c/layout.cpp` prints it.
+    /// The variable CADENCE_LAYOUT names a file with the layouts of the header, as `bindings/c/layout.cpp` prints them.
     #[test]
     fn layouts_are_those_of_the_header() {
         let Ok(file) = std::env::var("CADENCE_LAYOUT") else { return };

@@ -1,6 +1,7 @@
-//! A Statsd client with the interface of the crate `cadence`, whose lines a proved library formats and packs.
+//! A Statsd client with the interface of the crate `cadence`. A proved library formats its lines and packs them.
 //!
-//! It takes the place of `cadence = "1"`: a path or a `[patch.crates-io]` does it, and code stays as it is.
+//! It takes the place of `cadence = "1"` by a path or a `[patch.crates-io]` entry in Cargo.toml. Your code stays as it
+//! is.
 //!
 //! ```
 //! use std::net::UdpSocket;
@@ -18,30 +19,31 @@
 //! # Which sink
 //!
 //! [`UdpMetricSink`] and `UnixMetricSink` send a datagram for each line. [`BufferedUdpMetricSink`] and
-//! `BufferedUnixMetricSink` pack lines. [`QueuingMetricSink`] hands lines to another sink in a thread of its own.
-//! [`SpyMetricSink`] and [`BufferedSpyMetricSink`] give them to a test. [`NopMetricSink`] drops them. Your own is a
-//! [`MetricSink`].
+//! `BufferedUnixMetricSink` pack lines. [`QueuingMetricSink`] passes lines to another sink in a thread of its own.
+//! [`SpyMetricSink`] and [`BufferedSpyMetricSink`] pass them to a test. [`NopMetricSink`] drops them. A sink of your
+//! own implements [`MetricSink`].
 //!
 //! # What is proved
 //!
-//! The library formats each line and packs the lines of buffered sinks, and that is proved. The code round it, in this
-//! crate, is plain Rust, and tested: sockets, threads, channels, the decimals of floats, and the lines of the floats that
-//! the library can't print.
+//! The library formats each line and packs the lines of buffered sinks. The library is proved. The code around it, in
+//! this crate, is plain Rust, which is tested and not proved: sockets, threads, channels, the decimals of floats, and
+//! the lines of floats that the library can't print.
 //!
 //! # Floats
 //!
-//! A float is printed with the fewest digits that lead back to it, and without an exponent, as `{}` prints it. If its digits
-//! pass 63 bits or 30 places, and for -0, its text is put into the line that the library made without it. NaN and infinities
-//! are refused with [`ErrorKind::InvalidInput`], as values and as sampling rates, because no server reads them.
+//! A float is printed with the fewest digits that are read back as the same float, and without an exponent, as `{}`
+//! prints it. If its digits don't fit 63 bits, if it has more than 30 places, or if it is -0, the library makes the
+//! line without it, and this crate inserts its text. NaN and infinities are refused with [`ErrorKind::InvalidInput`],
+//! as values and as sampling rates, because no server reads them.
 //!
 //! # The library
 //!
-//! The build takes `libcadence_c.a` from `../../lib`, where it is in an archive that holds both, else from the folder that
-//! the variable `CADENCE_LIB` names by its absolute path.
+//! The build takes `libcadence_c.a` from `../../lib`, where an archive with both has it, and otherwise from the folder
+//! whose absolute path is in the variable `CADENCE_LIB`.
 #![warn(missing_docs)]
 #![deny(unsafe_code)]
 
-/// The port that a Statsd server listens at.
+/// The port on which a Statsd server listens.
 pub const DEFAULT_PORT: u16 = 8125;
 
 pub use self::builder::MetricBuilder;

@@ -7,15 +7,16 @@ use crate::value::MetricValue;
 use std::io;
 use std::slice::from_ref;
 
-/// The most bytes of an integer, and of a decimal, which has at most 30 places.
+/// How many bytes the text of an integer has at most, and the text of a decimal, which has at most 30 places.
 const INTEGER: usize = 20;
 const DECIMAL: usize = 33;
 
-/// For how many tags the first one takes memory.
+/// For how many tags memory is reserved when the first one is added.
 const FIRST_TAGS: usize = 4;
 
-/// What a line is made of. The library formats it. It has no text for a float whose digits don't fit 63 bits over 10 to the
-/// power of 30, nor for -0: there the library formats the line without that number, and its text is put in.
+/// What a line is made of. The library formats it. The library can't print a float whose digits don't fit 63 bits, or
+/// that has more than 30 places, or that is -0. It then formats the line without that number, and this crate inserts
+/// the number's text.
 #[derive(Debug)]
 pub(crate) struct Record<'a> {
     pub(crate) prefix: &'a str,
@@ -34,7 +35,7 @@ impl<'a> Record<'a> {
         Record { prefix, kind, key, value, tags: Vec::new(), container: None, rate: None, time: None }
     }
 
-    /// The error of a number that is NaN or infinite, if there is one.
+    /// Returns an error if a number is NaN or infinite.
     #[inline]
     pub(crate) fn check(&self) -> MetricResult<()> {
         if self.value.is_finite() && self.rate.is_none_or(f64::is_finite) {
@@ -43,7 +44,7 @@ impl<'a> Record<'a> {
         Err(MetricError::from((ErrorKind::InvalidInput, "a number is NaN or infinite")))
     }
 
-    /// Puts the line in the place of a text, whatever its numbers are.
+    /// Writes the line in place of a text, whatever its numbers are.
     #[inline]
     pub(crate) fn write(&self, line: &mut String) -> io::Result<()> {
         let numbers = match &self.value {
@@ -59,7 +60,8 @@ impl<'a> Record<'a> {
         self.write_numbers(Some(numbers), line)
     }
 
-    /// Writes the line of a float, which the library prints faster as an integer, if it is one.
+    /// Writes the line of a float. If the float is an integer, it is passed as one, because the library prints that
+    /// faster.
     fn write_float(&self, value: f64, line: &mut String) -> io::Result<()> {
         match decimal_of(value) {
             None => self.write_numbers(None, line),
@@ -68,7 +70,7 @@ impl<'a> Record<'a> {
         }
     }
 
-    /// Writes the line of these numbers, or of the value's text, if there are none.
+    /// Writes the line of these numbers. If there are none, it inserts the value's text.
     fn write_numbers(&self, numbers: Option<Numbers<'_>>, line: &mut String) -> io::Result<()> {
         let rate = self.rate.and_then(decimal_of);
         let mut options = Options::new(&self.tags, self.container, self.time);
@@ -83,7 +85,7 @@ impl<'a> Record<'a> {
         Ok(())
     }
 
-    /// Puts the texts of the value and of the rate in their places, where the library has printed none.
+    /// Inserts the texts of the value and of the rate at their places, if the library has not printed them.
     #[cold]
     fn insert_texts(&self, line: &mut String, value: bool, rate: bool) {
         if value {
@@ -94,19 +96,19 @@ impl<'a> Record<'a> {
         }
     }
 
-    /// Where the value stands in the line: after the prefix, the key and a colon.
+    /// Returns the place of the value in the line: after the prefix, the key and a colon.
     fn value_at(&self) -> usize {
         self.prefix.len() + self.key.len() + 1
     }
 
-    /// Puts the text of a rate in its place, which is after the value and the kind. A value has no `|` in it.
+    /// Inserts the text of a rate at its place, which is after the value and the kind. A value has no `|` in it.
     fn insert_rate(&self, line: &mut String, rate: f64) {
         let after_value = self.value_at() + self.value.to_string().len();
         let at = line[after_value + 1..].find('|').map_or(line.len(), |size| after_value + 1 + size);
         line.insert_str(at, &format!("|@{rate}"));
     }
 
-    /// Adds a tag. The first one takes memory for some more.
+    /// Adds a tag. The first one reserves memory for some more.
     #[inline]
     pub(crate) fn add_tag(&mut self, tag: Tag<'a>) {
         if self.tags.capacity() == 0 {
@@ -115,7 +117,7 @@ impl<'a> Record<'a> {
         self.tags.push(tag);
     }
 
-    /// How many bytes the line has, at most, if the library formats its numbers.
+    /// Returns how many bytes the line has at most, if the library formats its numbers.
     #[inline]
     fn size(&self) -> usize {
         let number = if matches!(self.value, MetricValue::Float(_) | MetricValue::PackedFloat(_)) { DECIMAL } else { INTEGER };

@@ -1,7 +1,7 @@
-//! The library in C, and safe calls of it. The only `unsafe` code of the crate stands here.
+//! The library, called as C, and safe calls of it. The only `unsafe` code of the crate is in this module.
 //!
-//! What is to be shown of each block is that the declarations fit `cadence.h` (a test of `layout.rs` compares the layouts),
-//! that each pointer comes with the length of what it leads to, and that a handle is used by one call at a time.
+//! Each block is safe if the declarations fit `cadence.h` (a test of `layout.rs` compares the layouts), if each pointer
+//! comes with the length of the memory that it points to, and if only one call at a time uses a handle.
 use crate::layout::{Counts, Decimal, Handle, Kind, Options, Tag};
 use std::cell::{Cell, UnsafeCell};
 use std::ffi::c_void;
@@ -9,9 +9,9 @@ use std::io;
 use std::mem::MaybeUninit;
 use std::{ptr, slice};
 
-// SAFETY: a tag is two `&str`s in another layout, and those may go to other threads.
+// SAFETY: a tag is two `&str`s in another layout, and a `&str` may be sent to another thread.
 unsafe impl Send for Tag<'_> {}
-// SAFETY: as above.
+// SAFETY: a tag is two `&str`s in another layout, and threads may share a `&str`.
 unsafe impl Sync for Tag<'_> {}
 
 const OK: u32 = 0;
@@ -19,10 +19,10 @@ const NO_MEMORY: u32 = 2;
 const TOO_SMALL: u32 = 7;
 const REFUSE: u32 = 0;
 
-/// How many packets may wait in a packer: what was held, and a line that is a packet of its own.
+/// How many packets may wait in a packer: the text that was held, and a line that is a packet of its own.
 const PACKETS: usize = 2;
 
-/// A call that writes a line. `values` leads to numbers of the type that the call has.
+/// A call that writes a line. `values` points to numbers of the type that the call expects.
 type Format = unsafe extern "C" fn(
     prefix: *const u8,
     prefix_len: usize,
@@ -60,7 +60,7 @@ unsafe extern "C" {
     fn cadence_counts(handle: *mut Handle, counts: *mut Counts) -> u32;
 }
 
-/// The error of a status that isn't `OK`.
+/// Returns the error of a status that isn't `OK`.
 #[cold]
 fn refusal(status: u32) -> io::Error {
     match status {
@@ -97,7 +97,7 @@ impl Numbers<'_> {
     }
 }
 
-/// Adds the line of a metric to a text. The line is made in the room that the text has, if that is enough.
+/// Adds the line of a metric to a text. The line is made in the spare room of the text, if that is enough.
 #[inline]
 pub(crate) fn append_line(
     line: &mut String,
@@ -109,19 +109,19 @@ pub(crate) fn append_line(
 ) -> io::Result<()> {
     let (format, values, values_len) = numbers.parts();
     let (prefix_at, prefix_len, key_at, key_len) = (prefix.as_ptr(), prefix.len(), key.as_ptr(), key.len());
-    // SAFETY: what is added below is a line of texts that are UTF-8, and of ASCII.
+    // SAFETY: the bytes that are added below are a line, which consists of texts in UTF-8 and of ASCII characters.
     let bytes = unsafe { line.as_mut_vec() };
     loop {
         let (start, room) = (bytes.len(), bytes.spare_capacity_mut());
         let (out, out_len, mut size) = (room.as_mut_ptr().cast::<u8>(), room.len(), 0);
-        // SAFETY: each pointer has the length of its slice, `format` is the call of the numbers' type, the room is only
-        // written to, and the call keeps no memory.
+        // SAFETY: each pointer comes with the length of its slice, `format` is the call for the type of the numbers,
+        // the call only writes to the room, and it keeps no pointer.
         let status = scratch::lent(|| unsafe {
             format(prefix_at, prefix_len, kind as u32, key_at, key_len, values, values_len, options, out, out_len, &mut size)
         });
         match status {
             OK => {
-                // SAFETY: the library wrote the first `size` bytes of the room.
+                // SAFETY: the library has written the first `size` bytes of the room.
                 unsafe { bytes.set_len(start + size) };
                 return Ok(());
             }
@@ -131,48 +131,48 @@ pub(crate) fn append_line(
     }
 }
 
-/// The packer, with the text that it holds and the packets that wait.
+/// The packer, with the text that it has buffered and the packets that wait.
 #[derive(Debug)]
 pub(crate) struct Packer {
     handle: Handle,
     packet: Vec<u8>,
 }
 
-// SAFETY: the library keeps nothing of a thread, and each call that changes it takes `&mut self`.
+// SAFETY: the library stores nothing that belongs to a thread, and each call that changes a packer takes `&mut self`.
 unsafe impl Send for Packer {}
 
 impl Packer {
-    /// A packer of packets of at most so many bytes.
+    /// Makes a packer whose packets have at most `capacity` bytes.
     pub(crate) fn new(capacity: usize) -> io::Result<Packer> {
         let mut handle = Handle::CLOSED;
-        // SAFETY: the handle is closed, and an empty prefix has the length 0.
+        // SAFETY: the handle is closed, and the prefix is empty, so its pointer may be null.
         checked(unsafe { cadence_new(&mut handle, ptr::null(), 0, capacity, PACKETS, REFUSE) })?;
         Ok(Packer { handle, packet: Vec::new() })
     }
 
-    /// How many bytes are held for the next packet, and how many packets wait.
+    /// Returns how many bytes are held for the next packet, and how many packets wait.
     #[inline]
     pub(crate) fn counts(&mut self) -> (usize, usize) {
         let mut counts = Counts::default();
-        // SAFETY: the handle is open, and `&mut self` is one call at a time.
+        // SAFETY: the handle is open, and because of `&mut self` only one call at a time uses it.
         unsafe { cadence_counts(&mut self.handle, &mut counts) };
         (counts.held, counts.waiting)
     }
 
-    /// Keeps a line. After an error it isn't kept.
+    /// Adds a line to the held text, or makes a packet of it. After an error the packer is as it was.
     #[inline]
     pub(crate) fn keep(&mut self, line: &[u8]) -> io::Result<()> {
         // SAFETY: as in `counts`; the pointer has the length of its slice.
         checked(unsafe { cadence_line(&mut self.handle, line.as_ptr(), line.len()) })
     }
 
-    /// Makes a packet of what is held, if anything is.
+    /// Makes a packet of the held text, if there is any.
     pub(crate) fn flush(&mut self) -> io::Result<()> {
         // SAFETY: as in `counts`.
         checked(unsafe { cadence_flush(&mut self.handle) })
     }
 
-    /// The oldest packet that waits. It waits on.
+    /// Returns the oldest packet that waits, if one does. The packet still waits afterwards.
     pub(crate) fn next(&mut self) -> Option<&[u8]> {
         let mut size = 0;
         loop {
@@ -187,14 +187,15 @@ impl Packer {
         }
     }
 
-    /// Drops the oldest packet that waits, if one does.
+    /// Drops the oldest packet that waits, if there is one.
     pub(crate) fn drop_oldest(&mut self) {
         // SAFETY: as in `counts`.
         unsafe { cadence_sent(&mut self.handle) };
     }
 
-    /// Holds the one packet that waits again, if nothing else is held. It was made of whole lines, each with its newline,
-    /// so it is the text of one line and a newline too. If memory is refused, the packet waits on.
+    /// Makes the one packet that waits the held text again, if no text is held. The packet consists of whole lines,
+    /// each with its newline, so it is also the text of a single line with a newline. If the library gets no memory,
+    /// the packet still waits.
     pub(crate) fn hold_again(&mut self) {
         if self.counts() != (0, 1) {
             return;
@@ -209,15 +210,15 @@ impl Packer {
 
 impl Drop for Packer {
     fn drop(&mut self) {
-        // SAFETY: as in `counts`; nobody uses the handle after this.
+        // SAFETY: as in `counts`; no call uses the handle after this one.
         unsafe { cadence_free(&mut self.handle) }
     }
 }
 
-/// The heap of the library, in the place of the one that its archive has.
+/// The heap of the library, in place of the one in the library's archive.
 ///
-/// A call that formats a line takes memory for the line, and gives it back before it ends. It gets a piece of a room of its
-/// thread, if that is enough. All other memory is malloc's.
+/// A call that formats a line requests memory for the line, and frees it before it returns. It gets a piece of a buffer
+/// of its thread, if the buffer is long enough. All other memory comes from malloc.
 mod scratch {
     use super::*;
 
@@ -226,7 +227,7 @@ mod scratch {
     #[repr(C, align(16))]
     struct Room {
         bytes: UnsafeCell<[MaybeUninit<u8>; SIZE]>,
-        /// How many bytes are taken, or `SIZE`, if none is lent.
+        /// How many bytes of the buffer are in use, or `SIZE` if the buffer is not lent to a call.
         taken: Cell<usize>,
     }
 
@@ -234,7 +235,7 @@ mod scratch {
         static ROOM: Room = const { Room { bytes: UnsafeCell::new([MaybeUninit::uninit(); SIZE]), taken: Cell::new(SIZE) } };
     }
 
-    /// A block as the library gets it, or none.
+    /// A block of memory as the library gets it, or none.
     #[repr(C)]
     pub struct Block {
         given: u64,
@@ -248,7 +249,8 @@ mod scratch {
     }
 
     impl Room {
-        /// A piece of the room, if it is lent and the piece fits. Pieces begin at multiples of 16.
+        /// Returns a piece of the buffer, if the buffer is lent to a call and the piece fits. Pieces begin at multiples
+        /// of 16 bytes.
         #[inline]
         fn piece(&self, size: usize) -> Option<*mut c_void> {
             let start = self.taken.get();
@@ -256,7 +258,7 @@ mod scratch {
                 return None;
             }
             self.taken.set((start + size).next_multiple_of(16).min(SIZE));
-            // SAFETY: the piece lies within the room.
+            // SAFETY: the piece lies within the buffer.
             Some(unsafe { self.bytes.get().cast::<u8>().add(start) }.cast())
         }
 
@@ -274,7 +276,7 @@ mod scratch {
         }
     }
 
-    /// Lends the room to a call that gives back all memory that it takes.
+    /// Lends the buffer to a call that frees all memory that it requests.
     #[inline]
     pub(super) fn lent<R>(call: impl FnOnce() -> R) -> R {
         ROOM.with(|room| room.taken.set(0));
@@ -288,23 +290,23 @@ mod scratch {
         let size = if size == 0 { align } else { size };
         match ROOM.with(|room| room.piece(size)) {
             Some(at) => Block { given: 1, at },
-            // SAFETY: malloc takes any size, and its blocks fit every alignment that the library has.
+            // SAFETY: malloc accepts any size, and its blocks fit every alignment that the library requests.
             None => block(unsafe { malloc(size) }),
         }
     }
 
     /// # Safety
     ///
-    /// `at` leads to a block of `old_size` bytes that was given by these functions.
+    /// `at` must point to a block of `old_size` bytes that these functions returned.
     #[unsafe(no_mangle)]
     unsafe extern "C" fn rattle_realloc(at: *mut c_void, old_size: usize, size: usize, align: usize) -> Block {
         if !ROOM.with(|room| room.has(at)) {
-            // SAFETY: the block is malloc's.
+            // SAFETY: the block came from malloc.
             return block(unsafe { realloc(at, if size == 0 { align } else { size }) });
         }
         let new = rattle_alloc(size, align);
         if new.given == 1 {
-            // SAFETY: both blocks have so many bytes, and the new one is another one.
+            // SAFETY: both blocks have at least as many bytes as are copied, and they don't overlap.
             unsafe { ptr::copy_nonoverlapping(at.cast::<u8>(), new.at.cast::<u8>(), old_size.min(size)) };
         }
         new
@@ -312,11 +314,12 @@ mod scratch {
 
     /// # Safety
     ///
-    /// `at` leads to a block that was given by these functions. A piece of a room is given back with the whole room.
+    /// `at` must point to a block that these functions returned. A piece of the buffer is freed together with the whole
+    /// buffer.
     #[unsafe(no_mangle)]
     unsafe extern "C" fn rattle_dealloc(at: *mut c_void) {
         if !ROOM.with(|room| room.has(at)) {
-            // SAFETY: the block is malloc's.
+            // SAFETY: the block came from malloc.
             unsafe { free(at) };
         }
     }
@@ -326,7 +329,7 @@ mod scratch {
         use super::*;
 
         fn bytes_of_the_room(size: usize) -> Vec<u8> {
-            // SAFETY: the test has written these bytes, and no call has the room.
+            // SAFETY: the test has written these bytes, and the buffer is not lent to a call.
             ROOM.with(|room| unsafe { slice::from_raw_parts(room.bytes.get().cast::<u8>(), size) }.to_vec())
         }
 
@@ -353,7 +356,7 @@ mod scratch {
                     let other = rattle_alloc(24, 8);
                     let mut block = rattle_alloc(1, 1);
                     for size in 1..3 * SIZE {
-                        // SAFETY: the block has `size` bytes, and grows by one.
+                        // SAFETY: the block has `size` bytes, and one more after it grew.
                         unsafe {
                             block.at.cast::<u8>().add(size - 1).write(size as u8);
                             block = rattle_realloc(block.at, size, size + 1, 1);
@@ -361,7 +364,7 @@ mod scratch {
                         assert_eq!(1, block.given);
                         assert_eq!(0, block.at as usize % 16);
                     }
-                    // SAFETY: so many bytes were written, and both blocks are given back once.
+                    // SAFETY: these bytes were written, and both blocks are freed once.
                     let bytes = unsafe { slice::from_raw_parts(block.at.cast::<u8>(), 3 * SIZE - 1) };
                     assert!(bytes.iter().enumerate().all(|(index, byte)| *byte == (index + 1) as u8));
                     unsafe { rattle_dealloc(block.at) };

@@ -5,14 +5,15 @@ use std::sync::atomic::{AtomicU64, Ordering};
 use std::sync::Arc;
 use std::thread;
 
-/// Runs a job in a thread of its own until it returns, again after each panic. It answers the count of those.
+/// Runs a job in a thread of its own until the job returns. After a panic, it runs the job again. Returns the count of
+/// panics.
 pub(crate) fn run_to_end<F>(job: F) -> io::Result<Arc<AtomicU64>>
 where
     F: Fn() + Send + 'static,
 {
     let panics = Arc::new(AtomicU64::new(0));
     let counted = Arc::clone(&panics);
-    // What a job shares with others is unwind safe, or is a receiver, which a panic leaves whole.
+    // What a job shares with other threads is unwind safe, or is a receiver, which stays in order after a panic.
     let run = move || {
         while catch_unwind(AssertUnwindSafe(&job)).is_err() {
             counted.fetch_add(1, Ordering::Relaxed);

@@ -1,4 +1,4 @@
-//! Metrics that were made, and the errors of calls.
+//! The metric types, and the errors of calls.
 use crate::layout::Kind;
 use crate::line::Record;
 use crate::value::MetricValue;
@@ -7,11 +7,11 @@ use std::{error, fmt, io};
 
 /// A metric that has a line of the Statsd format.
 pub trait Metric {
-    /// The line, without a newline.
+    /// Returns the line, without a newline.
     fn as_metric_str(&self) -> &str;
 }
 
-/// The line of a metric's constructor, which has no way to answer an error: if memory is refused, the process ends, as it
+/// Returns the line of a metric's constructor, which can't return an error. If memory runs out, the process ends, as it
 /// does for a `Vec`.
 fn line_of(prefix: &str, kind: Kind, key: &str, value: MetricValue) -> String {
     let mut line = String::new();
@@ -24,7 +24,7 @@ macro_rules! metric {
     ($(#[$about:meta])* $name:ident: $($(#[$of:meta])* $new:ident($type:ty => $value:ident);)*) => {
         $(#[$about])*
         ///
-        /// It is its line, which `as_metric_str` answers.
+        /// A metric is its line, which `as_metric_str` returns.
         #[derive(PartialEq, Eq, Debug, Hash, Clone)]
         pub struct $name {
             line: String,
@@ -53,7 +53,7 @@ macro_rules! metric {
 metric! {
     /// A counter, which a server adds up.
     Counter:
-    /// Makes a counter without a client. The prefix is printed as it stands, so it ends with a dot if it is to.
+    /// Makes a counter without a client. The prefix is printed as it is: no dot is added after it.
     ///
     /// ```
     /// use cadence::{Counter, Metric};
@@ -64,61 +64,61 @@ metric! {
 }
 
 metric! {
-    /// A timer, in milliseconds.
+    /// A time in milliseconds.
     Timer:
-    /// Makes a timer without a client. The prefix is printed as it stands.
+    /// Makes a timer without a client. The prefix is printed as it is.
     new(u64 => Unsigned);
 }
 
 metric! {
-    /// A gauge, a value at a moment, which stays until the next one.
+    /// The value of a gauge at a moment. A server keeps it until the next one.
     Gauge:
-    /// Makes a gauge of a whole number without a client. The prefix is printed as it stands.
+    /// Makes a gauge of a whole number without a client. The prefix is printed as it is.
     new(u64 => Unsigned);
-    /// Makes a gauge of a float without a client. The prefix is printed as it stands. NaN and infinities are printed as
-    /// `NaN`, `inf` and `-inf`, because there is no error to answer; a client refuses them.
+    /// Makes a gauge of a float without a client. The prefix is printed as it is. NaN and infinities are printed as
+    /// `NaN`, `inf` and `-inf`, because this call can't return an error. A client refuses them.
     new_f64(f64 => Float);
 }
 
 metric! {
-    /// A meter, of which a server measures the rate.
+    /// A count of events for a meter. A server measures the rate of the events.
     Meter:
-    /// Makes a meter without a client. The prefix is printed as it stands.
+    /// Makes a meter without a client. The prefix is printed as it is.
     new(u64 => Unsigned);
 }
 
 metric! {
-    /// A histogram, of whose values a server computes the distribution.
+    /// A value for a histogram. A server computes the distribution of the values.
     Histogram:
-    /// Makes a histogram of a whole number without a client. The prefix is printed as it stands.
+    /// Makes a histogram of a whole number without a client. The prefix is printed as it is.
     new(u64 => Unsigned);
     /// Makes a histogram of a float without a client, as [`Gauge::new_f64`] makes a gauge.
     new_f64(f64 => Float);
 }
 
 metric! {
-    /// A distribution, which a server computes over all hosts.
+    /// A value for a distribution, which a server computes over all hosts.
     Distribution:
-    /// Makes a distribution of a whole number without a client. The prefix is printed as it stands.
+    /// Makes a distribution of a whole number without a client. The prefix is printed as it is.
     new(u64 => Unsigned);
     /// Makes a distribution of a float without a client, as [`Gauge::new_f64`] makes a gauge.
     new_f64(f64 => Float);
 }
 
 metric! {
-    /// A set, of which a server counts the different values.
+    /// A member of a set. A server counts the distinct members.
     Set:
-    /// Makes a set's value without a client. The prefix is printed as it stands.
+    /// Makes a member of a set without a client. The prefix is printed as it is.
     new(i64 => Signed);
 }
 
-/// What kind of error a call met.
+/// The kind of an error.
 #[derive(PartialEq, Eq, Debug, Hash, Clone, Copy)]
 pub enum ErrorKind {
-    /// The value can't be sent: a duration doesn't fit 64 bits, or a float is NaN or infinite. Or a sink was given a name
-    /// that leads to no address.
+    /// The value can't be sent, because a duration doesn't fit 64 bits or a float is NaN or infinite; or the name that
+    /// a sink was made for has no address.
     InvalidInput,
-    /// A sink, a socket or a lookup failed, or memory was refused; the error's `source` says why.
+    /// A sink, a socket or a lookup failed, or memory ran out. The error's `source` says why.
     IoError,
 }
 
@@ -143,11 +143,11 @@ enum Fault {
     Io(io::Error),
 }
 
-/// The answer of a call: what it made, or its error.
+/// The result of a call: what it made, or its error.
 pub type MetricResult<T> = Result<T, MetricError>;
 
 impl MetricError {
-    /// The kind of the error.
+    /// Returns the kind of the error.
     pub fn kind(&self) -> ErrorKind {
         match &self.fault {
             Fault::Text(kind, _) => *kind,
@@ -185,7 +185,7 @@ impl error::Error for MetricError {
         }
     }
 
-    // Callers of the deprecated method get the text of the error, as the crate answers it.
+    // The deprecated method returns the text of the error, as it does in the crate `cadence`.
     #[allow(deprecated)]
     fn description(&self) -> &str {
         match &self.fault {

@@ -1,11 +1,11 @@
-//! The values of metrics, and the traits of what is one.
+//! The values of metrics, and the traits of the types that convert to one.
 use crate::types::{ErrorKind, MetricError, MetricResult};
 use std::fmt::{self, Write};
 use std::time::Duration;
 
-/// The value of a metric: one number, or several that are packed in one line with a colon between each two.
+/// The value of a metric: one number, or several, which make one line with a colon between each two.
 ///
-/// Its text is what stands in the line.
+/// It prints as the text that the line has.
 ///
 /// ```
 /// use cadence::ext::MetricValue;
@@ -30,7 +30,7 @@ pub enum MetricValue {
 }
 
 impl MetricValue {
-    /// How many numbers there are.
+    /// Returns how many numbers the value has.
     #[inline]
     pub(crate) fn count(&self) -> usize {
         match self {
@@ -41,7 +41,7 @@ impl MetricValue {
         }
     }
 
-    /// Whether each number is finite.
+    /// Returns whether each number is finite.
     #[inline]
     pub(crate) fn is_finite(&self) -> bool {
         match self {
@@ -75,7 +75,7 @@ impl fmt::Display for MetricValue {
     }
 }
 
-/// A count of milliseconds or nanoseconds, if it fits 64 bits.
+/// Returns a number of milliseconds or nanoseconds, if it fits 64 bits.
 fn fitting(count: u128) -> MetricResult<u64> {
     u64::try_from(count).map_err(|_| MetricError::from((ErrorKind::InvalidInput, "u64 overflow")))
 }
@@ -89,9 +89,9 @@ macro_rules! value_trait {
     ($(#[$about:meta])* $name:ident: $($type:ty => |$value:ident| $to:expr;)*) => {
         $(#[$about])*
         ///
-        /// Implement it for a type of your own to hand that type to a client.
+        /// Implement it for a type of your own, so that a client accepts this type.
         pub trait $name {
-            /// Answers the value, or the error that the client's call then answers. The impls here fail with
+            /// Returns the value, or the error that the client's call then returns. The impls in this crate fail with
             /// `InvalidInput` if a duration doesn't fit 64 bits.
             fn try_to_value(self) -> MetricResult<MetricValue>;
         }
@@ -105,7 +105,7 @@ macro_rules! value_trait {
 }
 
 value_trait! {
-    /// What a counter takes: `i64`, `i32`, `u64` and `u32`.
+    /// The types that a counter accepts: `i64`, `i32`, `u64` and `u32`.
     ToCounterValue:
     i64 => |n| Ok(MetricValue::Signed(n));
     i32 => |n| Ok(MetricValue::Signed(n.into()));
@@ -114,7 +114,8 @@ value_trait! {
 }
 
 value_trait! {
-    /// What a timer takes: milliseconds as `u64`, a `Duration`, which is cut off to whole milliseconds, and a `Vec` of either.
+    /// The types that a timer accepts: `u64` for milliseconds, `Duration`, which is rounded down to whole milliseconds,
+    /// and a `Vec` of either.
     ToTimerValue:
     u64 => |n| Ok(MetricValue::Unsigned(n));
     Vec<u64> => |ns| Ok(MetricValue::PackedUnsigned(ns));
@@ -123,20 +124,21 @@ value_trait! {
 }
 
 value_trait! {
-    /// What a gauge takes: `u64` and `f64`.
+    /// The types that a gauge accepts: `u64` and `f64`.
     ToGaugeValue:
     u64 => |n| Ok(MetricValue::Unsigned(n));
     f64 => |x| Ok(MetricValue::Float(x));
 }
 
 value_trait! {
-    /// What a meter takes: `u64`.
+    /// The type that a meter accepts: `u64`.
     ToMeterValue:
     u64 => |n| Ok(MetricValue::Unsigned(n));
 }
 
 value_trait! {
-    /// What a histogram takes: `u64`, `f64`, a `Duration`, which is taken in nanoseconds, and a `Vec` of each.
+    /// The types that a histogram accepts: `u64`, `f64`, `Duration`, which is sent in nanoseconds, and a `Vec` of one
+    /// of these.
     ToHistogramValue:
     u64 => |n| Ok(MetricValue::Unsigned(n));
     f64 => |x| Ok(MetricValue::Float(x));
@@ -147,7 +149,7 @@ value_trait! {
 }
 
 value_trait! {
-    /// What a distribution takes: `u64`, `f64`, and a `Vec` of either.
+    /// The types that a distribution accepts: `u64`, `f64`, and a `Vec` of either.
     ToDistributionValue:
     u64 => |n| Ok(MetricValue::Unsigned(n));
     f64 => |x| Ok(MetricValue::Float(x));
@@ -156,7 +158,7 @@ value_trait! {
 }
 
 value_trait! {
-    /// What a set takes: `i64`.
+    /// The type that a set accepts: `i64`.
     ToSetValue:
     i64 => |n| Ok(MetricValue::Signed(n));
 }

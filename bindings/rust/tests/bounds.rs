@@ -1,4 +1,4 @@
-//! What the types may be used for: these compile, or don't.
+//! Which bounds the types meet. The tests compile only if the types meet them.
 use cadence::ext::*;
 use cadence::prelude::*;
 use cadence::*;
@@ -50,7 +50,7 @@ fn sinks_are_sinks_of_a_client() {
     assert_eq!(0, boxed.emit("x").unwrap());
 }
 
-/// What may go to a client and to its handlers: it is `RefUnwindSafe`, but not `UnwindSafe`.
+/// A type that a client and its handlers may contain. It is `RefUnwindSafe`, but not `UnwindSafe`.
 struct Odd(PhantomData<&'static mut u8>);
 
 impl MetricSink for Odd {

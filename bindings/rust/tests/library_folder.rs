@@ -1,4 +1,4 @@
-//! Where the build looks for the library.
+//! The folders in which the build looks for the library.
 #[allow(dead_code)]
 #[path = "../build.rs"]
 mod build;
@@ -6,7 +6,7 @@ mod build;
 use std::fs;
 use std::path::PathBuf;
 
-/// Folders of a test's own: `archive/bindings/rust`, beside which the library stands, and `alone/bindings/rust`.
+/// Makes folders for one test: `archive/bindings/rust`, with the library in `archive/lib`, and `alone/bindings/rust`.
 fn folders(test: &str) -> PathBuf {
     let folder = PathBuf::from(env!("CARGO_TARGET_TMPDIR")).join(test);
     for place in ["archive/bindings/rust", "archive/lib", "alone/bindings/rust", "elsewhere", "empty"] {

@@ -133,7 +133,8 @@ fn texts_are_printed_as_they_are() {
     assert_eq!(format!("p.{long}:1|c|#{long}:{long},{long}"), found);
 }
 
-/// Floats, each of which prints as `{}` of it: those of the library first, then those that go by their text.
+/// Floats, each of which is printed as `{}` prints it: first those that the library prints, then those whose text is
+/// inserted.
 const FLOATS: [f64; 20] = [
     0.0,
     1.0,

@@ -11,7 +11,7 @@ thread_local! {
 /// Counts the requests of each thread.
 struct Counting;
 
-// SAFETY: each call is the system's.
+// SAFETY: each call is passed on to the system's allocator.
 unsafe impl GlobalAlloc for Counting {
     unsafe fn alloc(&self, layout: Layout) -> *mut u8 {
         let _ = REQUESTS.try_with(|requests| requests.set(requests.get() + 1));
@@ -31,7 +31,7 @@ unsafe impl GlobalAlloc for Counting {
 #[global_allocator]
 static ALLOCATOR: Counting = Counting;
 
-/// The requests of this thread in a call, after one that takes what is taken once.
+/// Returns how often this thread requests memory in a call. An earlier call requests what is requested only once.
 fn requests(call: impl Fn()) -> u64 {
     call();
     let before = REQUESTS.with(Cell::get);

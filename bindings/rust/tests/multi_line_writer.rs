@@ -3,7 +3,7 @@ use cadence::ext::MultiLineWriter;
 use std::io::{self, Write};
 use std::panic::{catch_unwind, AssertUnwindSafe};
 
-/// Keeps each write, and refuses or panics as it is told.
+/// A writer that stores each write. It refuses a write, or panics, if the test says so.
 #[derive(Debug, Default)]
 struct Writes {
     writes: Vec<String>,

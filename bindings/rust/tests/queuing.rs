@@ -34,7 +34,7 @@ fn lines_are_handed_on_in_order_and_after_the_drop_too() {
     assert_eq!(lines, texts(&receiver));
 }
 
-/// A sink that waits for leave to take each line.
+/// A sink that takes each line only when the test lets it.
 struct Gate {
     leave: Mutex<Receiver<()>>,
 }

@@ -9,7 +9,7 @@ use std::vec;
 
 const LONG: Duration = Duration::from_secs(60);
 
-/// A host whose lookups have these answers, the last one for good. It tells when it is dropped.
+/// A host whose lookups have these results; every later lookup has the last one. A flag says when the host was dropped.
 #[derive(Debug)]
 struct Host {
     answers: Mutex<Vec<Result<Vec<SocketAddr>, io::ErrorKind>>>,

@@ -105,7 +105,7 @@ fn clones_of_a_receiver_share_its_lines() {
     let other = receiver.clone();
     assert!(receiver.same_channel(&other) && !receiver.same_channel(&SpyMetricSink::new().0));
     let waiting = thread::spawn(move || text(other.recv().unwrap()));
-    // one clone waits, and the other doesn't wait for it
+    // one clone waits for a message, and the other clone doesn't wait for the first one
     thread::sleep(Duration::from_millis(20));
     assert_eq!(Err(TryRecvError::Empty), receiver.try_recv());
     assert_eq!(Err(RecvTimeoutError::Timeout), receiver.recv_timeout(Duration::from_millis(5)));
@@ -126,7 +126,7 @@ fn what_a_full_receiver_refuses_is_held_and_comes_once() {
     // `aaa` and `bbb` are a packet that waits to be received, and `ccc` is held
     assert!(sink.emit("long-line").is_err());
     assert!(sink.flush().is_err());
-    // after a refusal what fits beside what is held is held
+    // after a refusal, a line that fits beside the held text is held
     sink.emit("ddd").unwrap();
     assert!(sink.emit("eee").is_err());
     assert_eq!("aaa\nbbb\n", text(receiver.recv().unwrap()));

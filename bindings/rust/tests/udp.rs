@@ -5,7 +5,7 @@ use std::io;
 use std::net::{SocketAddr, UdpSocket};
 use std::time::Duration;
 
-/// The longest line that a datagram of IPv4 has.
+/// The length in bytes of the longest line that a datagram of IPv4 can have.
 const LONGEST: usize = 65_507;
 
 fn server() -> (UdpSocket, SocketAddr) {

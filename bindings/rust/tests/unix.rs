@@ -8,7 +8,7 @@ use std::path::{Path, PathBuf};
 use std::sync::atomic::{AtomicU32, Ordering};
 use std::time::Duration;
 
-/// A folder of a test's own, which goes with it.
+/// A folder for one test, which is removed when this value is dropped.
 struct Folder(PathBuf);
 
 impl Folder {
@@ -105,7 +105,7 @@ fn a_line_whose_call_failed_is_not_sent() {
     for _ in 0..3 {
         assert!(sink.emit("second:1|c").is_err());
     }
-    // what is held stays held, and what fits beside it is held too
+    // the held text stays held, and a line that fits beside it is held too
     assert!(sink.flush().is_err());
     assert_eq!(4, sink.stats().packets_dropped);
     sink.emit("3:1|c").unwrap();

@@ -1,15 +1,15 @@
-//! Lines that are packed before they are sent, which the buffered sinks share.
+//! The buffer of lines that the buffered sinks share.
 use crate::raw::Packer;
 use std::io;
 use std::sync::{Mutex, MutexGuard, PoisonError};
 
-/// Where packets go.
+/// Sends packets, for example over a socket.
 pub(crate) trait Outlet {
-    /// Sends a packet, and answers how many bytes were sent.
+    /// Sends a packet, and returns how many bytes were sent.
     fn send(&self, packet: &[u8]) -> io::Result<usize>;
 }
 
-/// The library's packer and an outlet, under a lock. Its drop sends what is held.
+/// The library's packer and an outlet, under a lock. The drop sends the held text.
 #[derive(Debug)]
 pub(crate) struct Buffer<O: Outlet> {
     lines: Mutex<Lines<O>>,
@@ -27,12 +27,12 @@ impl<O: Outlet> Buffer<O> {
         Ok(Buffer { lines: Mutex::new(Lines { packer: Packer::new(capacity)?, outlet, capacity }) })
     }
 
-    /// A buffer for a constructor that has no error to answer. It panics if memory is refused.
+    /// Makes a buffer for a constructor that can't return an error. It panics if memory runs out.
     pub(crate) fn expect(outlet: O, capacity: usize) -> Self {
         Self::new(outlet, capacity).expect("a buffered sink needs memory of its capacity")
     }
 
-    // After a panic in an outlet the packer is whole, since the library was not running.
+    // The packer is in order after a panic in an outlet, because the library was not running then.
     fn lines(&self) -> MutexGuard<'_, Lines<O>> {
         self.lines.lock().unwrap_or_else(PoisonError::into_inner)
     }
@@ -47,8 +47,8 @@ impl<O: Outlet> Buffer<O> {
 }
 
 impl<O: Outlet> Lines<O> {
-    /// Holds a line, or sends it, if it passes the capacity with its newline. If it doesn't fit beside what is held, that is
-    /// sent first. After an error the line is not kept, so a caller may try again.
+    /// Buffers a line, or sends it if it is longer than the capacity with its newline. If the line doesn't fit beside
+    /// the held text, that text is sent first. After an error the line is not buffered, so the caller may try again.
     fn emit(&mut self, line: &[u8]) -> io::Result<usize> {
         let (held, waiting) = self.packer.counts();
         if held + waiting > 0 && line.len() >= self.capacity - held {
@@ -61,22 +61,23 @@ impl<O: Outlet> Lines<O> {
         self.send_alone()
     }
 
-    /// Sends the packet of an over-long line, which is dropped then, even if the outlet refuses it: it would be refused
-    /// again, as one is that passes the longest datagram.
+    /// Sends the packet of a line that is longer than the capacity. The packet is then dropped, even if the outlet
+    /// refused it, because it would probably be refused again: it may be longer than any datagram.
     fn send_alone(&mut self) -> io::Result<usize> {
         let sent = self.packer.next().map_or(Ok(0), |packet| self.outlet.send(packet));
         self.packer.drop_oldest();
         sent
     }
 
-    /// Sends what is held, which stays so if the outlet refuses it.
+    /// Sends the held text. If the outlet refuses it, it stays held.
     fn flush(&mut self) -> io::Result<()> {
         self.send_waiting()?;
         self.packer.flush()?;
         self.send_waiting()
     }
 
-    /// Sends the packets that wait. There are none but in a flush, unless memory was refused to hold a text again.
+    /// Sends the packets that wait. Packets wait only during a flush, unless there was no memory to hold a refused text
+    /// again.
     fn send_waiting(&mut self) -> io::Result<()> {
         while let Some(packet) = self.packer.next() {
             match self.outlet.send(packet) {

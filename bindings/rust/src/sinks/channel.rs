@@ -1,4 +1,4 @@
-//! The standard library's channel, with the calls of the crate's.
+//! The channel of the standard library, with the calls of the channel that the crate `cadence` uses.
 use std::fmt;
 use std::io;
 use std::sync::atomic::{AtomicUsize, Ordering};
@@ -6,14 +6,14 @@ use std::sync::mpsc::{self, RecvError, RecvTimeoutError, TryRecvError, TrySendEr
 use std::sync::{Arc, Condvar, Mutex, MutexGuard, PoisonError};
 use std::time::{Duration, Instant};
 
-/// The sending end of a channel, of a capacity or without one.
+/// The sending end of a channel, with or without a capacity.
 #[derive(Debug)]
 pub(crate) enum Sender<T> {
     Unbounded(mpsc::Sender<T>),
     Bounded(mpsc::SyncSender<T>),
 }
 
-/// A channel. Without a capacity it takes every message.
+/// Makes a channel. Without a capacity it accepts every message.
 pub(crate) fn channel<T>(capacity: Option<usize>) -> (Sender<T>, mpsc::Receiver<T>) {
     match capacity {
         None => {
@@ -28,7 +28,7 @@ pub(crate) fn channel<T>(capacity: Option<usize>) -> (Sender<T>, mpsc::Receiver<
 }
 
 impl<T> Sender<T> {
-    /// Puts a message last, or says why not. It doesn't wait.
+    /// Adds a message at the end, or returns why it can't. It doesn't wait.
     pub(crate) fn try_send(&self, message: T) -> io::Result<()> {
         let refused = match self {
             Sender::Unbounded(sender) => sender.send(message).map_err(|error| TrySendError::Disconnected(error.0)),
@@ -42,12 +42,13 @@ impl<T> Sender<T> {
     }
 }
 
-/// How often a worker looks for a message before it sleeps, and how often of these without giving way to other threads.
+/// How often a worker looks for a message before it sleeps, and how many of these looks it makes without letting other
+/// threads run.
 const LOOKS: u32 = 11;
 const SPINS: u32 = 7;
 
-/// Waits for a message, or answers that no sender is left. It looks some times before it sleeps, because a sender that has to
-/// wake it takes longer.
+/// Waits for a message, or returns that no sender is left. It looks several times before it sleeps, because a sender
+/// that has to wake the receiver takes longer.
 pub(crate) fn wait<T>(receiver: &mpsc::Receiver<T>) -> Result<T, RecvError> {
     for look in 0..LOOKS {
         match receiver.try_recv() {
@@ -68,7 +69,7 @@ pub(crate) struct SpySender {
 }
 
 impl SpySender {
-    /// Gives the receiver a copy of the bytes.
+    /// Sends a copy of the bytes to the receiver.
     pub(crate) fn send(&self, bytes: &[u8]) -> io::Result<usize> {
         self.length.fetch_add(1, Ordering::SeqCst);
         match self.sender.try_send(bytes.to_vec()) {
@@ -81,7 +82,7 @@ impl SpySender {
     }
 }
 
-/// A spy's channel, of a capacity or without one.
+/// Makes a spy's channel, with or without a capacity.
 pub(crate) fn spy_channel(capacity: Option<usize>) -> (SpySender, SpyReceiver<Vec<u8>>) {
     let (sender, receiver) = channel(capacity);
     let length = Arc::new(AtomicUsize::new(0));
@@ -90,11 +91,10 @@ pub(crate) fn spy_channel(capacity: Option<usize>) -> (SpySender, SpyReceiver<Ve
     (SpySender { sender, length }, SpyReceiver { shared: Arc::new(shared) })
 }
 
-/// The receiving end of a spy, which gets each line or packet.
+/// The receiving end of a spy. It receives each line or packet of the spy.
 ///
-/// It has the calls that the receiver of the crate `crossbeam-channel` has, with the errors of `std::sync::mpsc`. Clones
-/// take from one channel: each message goes to one of them. While a clone waits for a message, the next one is that
-/// clone's.
+/// It has the calls of the receiver of the crate `crossbeam-channel`, with the errors of `std::sync::mpsc`. Clones
+/// share one channel, and each message goes to one of them. If a clone waits for a message, it gets the next one.
 ///
 /// ```
 /// use cadence::prelude::*;
@@ -111,7 +111,7 @@ pub struct SpyReceiver<T> {
     shared: Arc<Shared<T>>,
 }
 
-/// The channel's end is in its seat, unless a clone has it, which may wait with it.
+/// The channel's end is in its seat, unless a clone has taken it, perhaps to wait for a message.
 struct Shared<T> {
     seat: Mutex<Option<mpsc::Receiver<T>>>,
     free: Condvar,
@@ -119,7 +119,7 @@ struct Shared<T> {
     capacity: Option<usize>,
 }
 
-/// The channel's end in a clone's hand, which goes back to the seat.
+/// The channel's end while a clone has it. The drop puts it back into the seat.
 struct Turn<'a, T> {
     shared: &'a Shared<T>,
     end: Option<mpsc::Receiver<T>>,
@@ -137,7 +137,7 @@ impl<T> Shared<T> {
         self.seat.lock().unwrap_or_else(PoisonError::into_inner)
     }
 
-    /// Takes the channel's end, as soon as no other clone has it, unless the deadline passes first.
+    /// Takes the channel's end as soon as no other clone has it. Returns `None` if the deadline passes first.
     fn turn(&self, deadline: Option<Instant>) -> Option<Turn<'_, T>> {
         let mut seat = self.seat();
         loop {
@@ -160,25 +160,27 @@ impl<T> Shared<T> {
 }
 
 impl<T> SpyReceiver<T> {
-    /// Waits for a message. It fails if there is none and the sink is gone.
+    /// Waits for a message. It fails if there is none and the sink was dropped.
     pub fn recv(&self) -> Result<T, RecvError> {
         self.receive(None).map_err(|_| RecvError)
     }
 
-    /// Takes a message that is there. It fails with `Empty` if there is none, and with `Disconnected` if the sink is gone too.
+    /// Returns the oldest message without waiting. It fails with `Empty` if there is no message, and with
+    /// `Disconnected` if the sink was dropped too.
     pub fn try_recv(&self) -> Result<T, TryRecvError> {
         let deadline = if self.is_empty() { Some(Instant::now()) } else { None };
         let Some(turn) = self.shared.turn(deadline) else { return Err(TryRecvError::Empty) };
         self.shared.counted(turn.end.as_ref().map_or(Err(TryRecvError::Empty), mpsc::Receiver::try_recv))
     }
 
-    /// Waits for a message for so long at most. It fails with `Timeout` if none came, and with `Disconnected` if the sink is
-    /// gone.
+    /// Waits for a message, but at most for this time. It fails with `Timeout` if no message came, and with
+    /// `Disconnected` if there is none and the sink was dropped.
     pub fn recv_timeout(&self, timeout: Duration) -> Result<T, RecvTimeoutError> {
         self.receive(Instant::now().checked_add(timeout))
     }
 
-    /// Waits for a message until then at most, as [`recv_timeout`](Self::recv_timeout).
+    /// Waits for a message, but at most until this deadline. The errors are those of
+    /// [`recv_timeout`](Self::recv_timeout).
     pub fn recv_deadline(&self, deadline: Instant) -> Result<T, RecvTimeoutError> {
         self.receive(Some(deadline))
     }
@@ -192,37 +194,37 @@ impl<T> SpyReceiver<T> {
         })
     }
 
-    /// How many messages are there.
+    /// Returns how many messages wait.
     pub fn len(&self) -> usize {
         self.shared.length.load(Ordering::SeqCst).min(self.capacity().unwrap_or(usize::MAX))
     }
 
-    /// Whether no message is there.
+    /// Returns whether no message waits.
     pub fn is_empty(&self) -> bool {
         self.len() == 0
     }
 
-    /// Whether as many messages are there as may be.
+    /// Returns whether as many messages wait as the capacity allows.
     pub fn is_full(&self) -> bool {
         self.capacity() == Some(self.len())
     }
 
-    /// How many messages may be there, if there is a limit.
+    /// Returns how many messages may wait, if there is a limit.
     pub fn capacity(&self) -> Option<usize> {
         self.shared.capacity
     }
 
-    /// The messages, each of which is waited for, until the sink is gone.
+    /// Returns an iterator that waits for each message. It ends when no message is left and the sink was dropped.
     pub fn iter(&self) -> impl Iterator<Item = T> + '_ {
         std::iter::from_fn(|| self.recv().ok())
     }
 
-    /// The messages that are there.
+    /// Returns an iterator over the messages that wait. It doesn't wait for more.
     pub fn try_iter(&self) -> impl Iterator<Item = T> + '_ {
         std::iter::from_fn(|| self.try_recv().ok())
     }
 
-    /// Whether both take from one channel.
+    /// Returns whether both receivers share one channel.
     pub fn same_channel(&self, other: &SpyReceiver<T>) -> bool {
         Arc::ptr_eq(&self.shared, &other.shared)
     }

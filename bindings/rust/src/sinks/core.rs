@@ -1,9 +1,9 @@
-//! What a sink is, and what it counts.
+//! The trait of sinks, and the counts of a sink.
 use std::io;
 use std::sync::atomic::{AtomicU64, Ordering};
 use std::sync::Arc;
 
-/// How many bytes and packets a sink has sent and lost.
+/// How many bytes and packets a sink has sent, and how many its socket refused.
 #[derive(Clone, Debug, Default)]
 pub struct SinkStats {
     /// The bytes of the packets that the socket took.
@@ -16,7 +16,7 @@ pub struct SinkStats {
     pub packets_dropped: u64,
 }
 
-/// The counts of a sink of your own, which threads add to without a lock. Clones share the counts.
+/// Counts for a sink of your own. Threads add to them without a lock. Clones share the counts.
 ///
 /// ```
 /// use std::net::{SocketAddr, UdpSocket};
@@ -73,7 +73,7 @@ impl SocketStats {
         self.counts.packets_dropped.fetch_add(1, Ordering::Relaxed);
     }
 
-    /// Counts the answer of a socket to a packet of `len` bytes, and answers the same.
+    /// Counts the result of a socket for a packet of `len` bytes, and returns this result.
     pub fn update(&self, res: io::Result<usize>, len: usize) -> io::Result<usize> {
         match &res {
             Ok(sent) => {
@@ -100,7 +100,7 @@ impl From<&SocketStats> for SinkStats {
     }
 }
 
-/// Where a client's lines go.
+/// Receives a client's lines, and sends or stores them.
 ///
 /// ```
 /// use cadence::prelude::*;
@@ -118,21 +118,21 @@ impl From<&SocketStats> for SinkStats {
 /// StatsdClient::from_sink("my.service", Printer).incr("visits").unwrap();
 /// ```
 pub trait MetricSink {
-    /// Takes a line, which has no newline at its end, and answers how many of its bytes it took: 0 isn't an error.
+    /// Takes a line, which has no newline at its end, and returns how many of its bytes it took. 0 isn't an error.
     fn emit(&self, metric: &str) -> io::Result<usize>;
 
-    /// Sends what is held. A sink that holds nothing does nothing.
+    /// Sends the lines that the sink has buffered. A sink without a buffer does nothing.
     fn flush(&self) -> io::Result<()> {
         Ok(())
     }
 
-    /// How much was sent and lost. A sink that doesn't count answers zeros.
+    /// Returns how much was sent and refused. A sink that doesn't count returns zeros.
     fn stats(&self) -> SinkStats {
         SinkStats::default()
     }
 }
 
-/// Takes every line and sends none.
+/// Accepts every line and sends none.
 #[derive(Debug, Clone)]
 pub struct NopMetricSink;
 

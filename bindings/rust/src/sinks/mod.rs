@@ -1,4 +1,4 @@
-//! Sinks, which the client hands its lines to.
+//! Sinks: a client passes its lines to one.
 mod buffer;
 mod channel;
 mod core;
@@ -17,5 +17,5 @@ pub use self::udp::{BufferedUdpMetricSink, BufferedUdpMetricSinkBuilder, UdpMetr
 #[cfg(unix)]
 pub use self::unix::{BufferedUnixMetricSink, UnixMetricSink};
 
-/// The capacity of a buffered sink that isn't given one: a datagram of so many bytes passes most networks whole.
+/// The capacity in bytes of a buffered sink if none is set. A datagram of this size passes most networks whole.
 const DEFAULT_CAPACITY: usize = 512;

@@ -1,4 +1,4 @@
-//! A sink that hands lines to another one in a thread of its own.
+//! A sink that passes lines to another one in a thread of its own.
 use super::channel::{channel, wait, Sender};
 use super::core::{MetricSink, SinkStats};
 use crate::sync::run_to_end;
@@ -8,7 +8,7 @@ use std::panic::RefUnwindSafe;
 use std::sync::atomic::{AtomicU64, Ordering};
 use std::sync::Arc;
 
-/// What gets the errors of the wrapped sink.
+/// Receives the errors of the wrapped sink.
 type Handler = Box<dyn Fn(io::Error) + Sync + Send + RefUnwindSafe>;
 
 /// Makes a [`QueuingMetricSink`] with a capacity and an error handler.
@@ -29,7 +29,7 @@ pub struct QueuingMetricSinkBuilder {
 }
 
 impl QueuingMetricSinkBuilder {
-    /// Starts a sink whose queue has no limit, and which drops the errors of the wrapped one.
+    /// Returns the builder of a sink whose queue has no limit, and which drops the errors of the wrapped sink.
     pub fn new() -> Self {
         Self::default()
     }
@@ -59,7 +59,8 @@ impl QueuingMetricSinkBuilder {
         QueuingMetricSink { queue: Arc::new(sender), counts, panics, sink }
     }
 
-    /// Sets what gets the errors of the wrapped sink, in the worker's thread. If it panics, the worker goes on.
+    /// Sets the handler that receives the errors of the wrapped sink, in the worker's thread. If the handler panics,
+    /// the worker goes on.
     pub fn with_error_handler<F>(mut self, error_handler: F) -> Self
     where
         F: Fn(io::Error) + Sync + Send + RefUnwindSafe + 'static,
@@ -68,7 +69,7 @@ impl QueuingMetricSinkBuilder {
         self
     }
 
-    /// Sets how many lines may wait in the queue. With 0 a line is taken only while the worker waits for one.
+    /// Sets how many lines may wait in the queue. With 0, a line is accepted only while the worker waits for one.
     pub fn with_capacity(mut self, capacity: usize) -> Self {
         self.capacity = Some(capacity);
         self
@@ -81,12 +82,12 @@ struct Counts {
     drained: AtomicU64,
 }
 
-/// Puts lines in a queue, from which a worker thread hands them to another sink, so that a caller doesn't wait for a socket.
+/// Puts lines into a queue. A worker thread passes them to another sink, so that a caller doesn't wait for a socket.
 ///
-/// `emit` fails if the queue is full, and puts in nothing then; a queue without a limit is never full. `flush` flushes the
-/// wrapped sink, and doesn't wait for the queue. Clones share the queue. After the drop of the last clone the worker hands
-/// on what is queued, drops the wrapped sink, and ends; the drop doesn't wait for that. If the wrapped sink panics, the
-/// line is lost, and the worker goes on.
+/// `emit` fails if the queue is full, and the line is not queued then. A queue without a limit is never full. `flush`
+/// flushes the wrapped sink, and doesn't wait for the queue. Clones share the queue. After the drop of the last clone
+/// the worker passes on the queued lines, drops the wrapped sink, and ends. The drop doesn't wait for that. If the
+/// wrapped sink panics, the line is lost, and the worker goes on.
 ///
 /// ```
 /// use cadence::{MetricSink, QueuingMetricSink, SpyMetricSink};
@@ -111,12 +112,12 @@ impl fmt::Debug for QueuingMetricSink {
 }
 
 impl QueuingMetricSink {
-    /// Starts a sink with a capacity or an error handler.
+    /// Returns the builder of a sink, which can have a capacity and an error handler.
     pub fn builder() -> QueuingMetricSinkBuilder {
         QueuingMetricSinkBuilder::new()
     }
 
-    /// Makes a sink whose queue has no limit: it grows as long as the wrapped sink is slower than the callers.
+    /// Makes a sink whose queue has no limit. The queue grows as long as the wrapped sink is slower than the callers.
     ///
     /// # Panics
     ///
@@ -128,7 +129,7 @@ impl QueuingMetricSink {
         Self::builder().build(sink)
     }
 
-    /// Makes a sink in whose queue at most so many lines wait.
+    /// Makes a sink in whose queue at most `capacity` lines wait.
     ///
     /// # Panics
     ///
@@ -140,22 +141,23 @@ impl QueuingMetricSink {
         Self::builder().with_capacity(capacity).build(sink)
     }
 
-    /// How often the wrapped sink or the error handler panicked.
+    /// Returns how often the wrapped sink or the error handler panicked.
     pub fn panics(&self) -> u64 {
         self.panics.load(Ordering::Relaxed)
     }
 
-    /// How many lines wait: those that were put in less those that were handed on. The two are read one after the other.
+    /// Returns how many lines wait: the number of queued lines minus the number of lines that were passed on. The two
+    /// numbers are read one after the other.
     pub fn queued(&self) -> u64 {
         self.submitted().saturating_sub(self.drained())
     }
 
-    /// How many lines were put in the queue.
+    /// Returns how many lines were put into the queue.
     pub fn submitted(&self) -> u64 {
         self.counts.submitted.load(Ordering::Relaxed)
     }
 
-    /// How many lines the worker handed on, whatever the wrapped sink answered.
+    /// Returns how many lines the worker passed on, whatever the wrapped sink returned for them.
     pub fn drained(&self) -> u64 {
         self.counts.drained.load(Ordering::Relaxed)
     }

@@ -8,17 +8,17 @@ use std::panic::RefUnwindSafe;
 use std::sync::{Arc, Condvar, Mutex, PoisonError, RwLock};
 use std::time::{Duration, Instant};
 
-/// What gets the errors of later lookups.
+/// Receives the errors of lookups after the first one.
 pub(crate) type LookupHandler = Box<dyn Fn(io::Error) + Sync + Send + RefUnwindSafe>;
 
-/// The address that packets go to. The drop ends the thread that looks it up, if there is one.
+/// The address to which packets are sent. The drop ends the thread that looks it up, if there is one.
 #[derive(Debug)]
 pub(crate) enum Resolver {
     Once(SocketAddr),
     Periodic(Arc<Periodic>),
 }
 
-/// What the thread of lookups shares with its sink.
+/// What the thread that looks up shares with its sink.
 #[derive(Debug)]
 pub(crate) struct Periodic {
     address: RwLock<SocketAddr>,
@@ -35,12 +35,12 @@ fn known_address<A: ToSocketAddrs>(name: &A) -> MetricResult<SocketAddr> {
 }
 
 impl Resolver {
-    /// Looks the name up now and never again.
+    /// Looks the name up once, now.
     pub(crate) fn once<A: ToSocketAddrs>(name: &A) -> MetricResult<Self> {
         Ok(Resolver::Once(known_address(name)?))
     }
 
-    /// Looks the name up now, and if there is a period again in a thread, each time that it has passed.
+    /// Looks the name up now. If there is a period, a thread looks it up again each time that the period has passed.
     pub(crate) fn new<A>(name: A, period: Option<Duration>, errors: Option<LookupHandler>) -> MetricResult<Self>
     where
         A: ToSocketAddrs + fmt::Debug + Send + Sync + RefUnwindSafe + 'static,
@@ -57,7 +57,7 @@ impl Resolver {
         Ok(Resolver::Periodic(shared))
     }
 
-    /// The address that was found last.
+    /// Returns the address that was found last.
     #[inline]
     pub(crate) fn address(&self) -> SocketAddr {
         match self {
@@ -77,7 +77,7 @@ impl Drop for Resolver {
 }
 
 impl Periodic {
-    /// Waits for a period, and answers whether the sink was dropped meanwhile.
+    /// Waits for a period, and returns whether the sink was dropped meanwhile.
     fn ends_within(&self, period: Duration) -> bool {
         let start = Instant::now();
         let mut ended = self.ended.lock().unwrap_or_else(PoisonError::into_inner);

@@ -1,12 +1,12 @@
-//! Sinks for tests, whose lines a receiver gets.
+//! Sinks for tests, whose lines a receiver returns.
 use super::buffer::{Buffer, Outlet};
 use super::channel::{spy_channel, SpyReceiver, SpySender};
 use super::{MetricSink, DEFAULT_CAPACITY};
 use std::io;
 
-/// Gives each line to a receiver, for tests of a service.
+/// Sends each line to a receiver, for tests of a service.
 ///
-/// `emit` fails if the queue is full or the receiver is gone.
+/// `emit` fails if the queue is full or the receiver was dropped.
 ///
 /// ```
 /// use cadence::prelude::*;
@@ -22,13 +22,13 @@ pub struct SpyMetricSink {
 }
 
 impl SpyMetricSink {
-    /// Makes a spy that takes every line.
+    /// Makes a spy that accepts every line.
     #[allow(clippy::new_ret_no_self)]
     pub fn new() -> (SpyReceiver<Vec<u8>>, Self) {
         Self::of(None)
     }
 
-    /// Makes a spy that refuses a line if so many are there that were not received.
+    /// Makes a spy that refuses a line if `queue` lines already wait for the receiver.
     pub fn with_capacity(queue: usize) -> (SpyReceiver<Vec<u8>>, Self) {
         Self::of(Some(queue))
     }
@@ -51,9 +51,9 @@ impl Outlet for SpySender {
     }
 }
 
-/// Packs lines as the buffered sinks over sockets do, and gives each packet to a receiver, for tests of a service.
+/// Packs lines as the buffered sinks over sockets do, and sends each packet to a receiver, for tests of a service.
 ///
-/// What is held is given on by `flush` and by the drop.
+/// `flush` and the drop send the held text to the receiver.
 ///
 /// ```
 /// use cadence::prelude::*;
@@ -73,14 +73,14 @@ pub struct BufferedSpyMetricSink {
 }
 
 impl BufferedSpyMetricSink {
-    /// Makes a spy of packets of 512 bytes, which takes every packet.
+    /// Makes a spy with packets of at most 512 bytes, which accepts every packet.
     #[allow(clippy::new_ret_no_self)]
     pub fn new() -> (SpyReceiver<Vec<u8>>, Self) {
         Self::with_capacity(None, None)
     }
 
-    /// Makes a spy of packets of `buffer` bytes, or 512. It refuses a packet if `queue` of them are there that were not
-    /// received.
+    /// Makes a spy with packets of at most `buffer` bytes, or 512 if that is `None`. It refuses a packet if `queue`
+    /// packets already wait for the receiver.
     ///
     /// # Panics
     ///

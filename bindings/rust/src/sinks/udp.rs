@@ -50,13 +50,13 @@ pub struct UdpMetricSinkBuilder {
 }
 
 impl UdpMetricSinkBuilder {
-    /// Starts a sink that looks its host up once.
+    /// Returns the builder of a sink that looks its host up once.
     pub fn new() -> Self {
         Self::default()
     }
 
-    /// Makes the sink, which sends to the first address that the host has now, and to the last one that was found later.
-    /// The socket keeps its settings, such as whether it blocks.
+    /// Makes the sink. It sends to the first address that the host has now, and after a later lookup to the first
+    /// address that this lookup found. The socket keeps its settings, such as whether it blocks.
     ///
     /// It fails with `IoError` if the host can't be looked up or no thread can be started, and with `InvalidInput` if the
     /// host has no address.
@@ -73,8 +73,8 @@ impl UdpMetricSinkBuilder {
         self
     }
 
-    /// Sets what gets the errors of later lookups, in the thread of these. The address stays as it was then. Without a
-    /// period there are no such lookups.
+    /// Sets the handler that receives the errors of later lookups, in the thread that looks up. After such an error the
+    /// address stays as it was. Without a period there are no later lookups.
     pub fn with_resolver_error_handler<F>(mut self, error_handler: F) -> Self
     where
         F: Fn(io::Error) + Sync + Send + RefUnwindSafe + 'static,
@@ -152,12 +152,13 @@ pub struct BufferedUdpMetricSinkBuilder {
 }
 
 impl BufferedUdpMetricSinkBuilder {
-    /// Starts a sink of packets of 512 bytes, which looks its host up once.
+    /// Returns the builder of a sink with packets of at most 512 bytes, which looks its host up once.
     pub fn new() -> Self {
         Self::default()
     }
 
-    /// Makes the sink, as [`UdpMetricSinkBuilder::build`] does, and fails as that.
+    /// Makes the sink as [`UdpMetricSinkBuilder::build`] does, with the same errors, and with `IoError` if memory runs
+    /// out.
     pub fn build<A>(self, to_addr: A, socket: UdpSocket) -> MetricResult<BufferedUdpMetricSink>
     where
         A: ToSocketAddrs + fmt::Debug + Send + Sync + RefUnwindSafe + 'static,
@@ -166,7 +167,7 @@ impl BufferedUdpMetricSinkBuilder {
         BufferedUdpMetricSink::of(outlet, self.capacity.unwrap_or(DEFAULT_CAPACITY))
     }
 
-    /// Sets how many bytes a packet holds.
+    /// Sets how many bytes a packet has at most.
     pub fn with_capacity(mut self, capacity: usize) -> Self {
         self.capacity = Some(capacity);
         self
@@ -178,7 +179,8 @@ impl BufferedUdpMetricSinkBuilder {
         self
     }
 
-    /// Sets what gets the errors of later lookups, in the thread of these. The address stays as it was then.
+    /// Sets the handler that receives the errors of later lookups, in the thread that looks up. After such an error the
+    /// address stays as it was.
     pub fn with_resolver_error_handler<F>(mut self, error_handler: F) -> Self
     where
         F: Fn(io::Error) + Sync + Send + RefUnwindSafe + 'static,
@@ -190,12 +192,13 @@ impl BufferedUdpMetricSinkBuilder {
 
 /// Packs lines, and sends each packet as a datagram, in the caller's thread.
 ///
-/// A line is held with a newline. If it doesn't fit beside what is held, that is sent first. If it passes the capacity with
-/// its newline, it is sent alone, without the newline. `flush` and the drop send what is held.
+/// A line is buffered with a newline. If it doesn't fit beside the buffered text, that text is sent first. If the line
+/// is longer than the capacity with its newline, it is sent alone, without the newline. `flush` and the drop send the
+/// buffered text.
 ///
-/// If the socket refuses what is held, that stays held and is sent with a later call; the line of a call that answers an
-/// error is not kept, so a caller may try it again. A line that is sent alone is dropped if the socket refuses it, because
-/// a datagram that is too long for it would be refused for ever.
+/// If the socket refuses the buffered text, the text stays in the buffer, and a later call sends it again. The line of
+/// a call that returns an error is not buffered, so the caller may try it again. A line that is sent alone is dropped
+/// if the socket refuses it, because a datagram that is too long for the socket would always be refused.
 ///
 /// ```
 /// use std::net::UdpSocket;
@@ -221,10 +224,10 @@ pub struct BufferedUdpMetricSink {
 }
 
 impl BufferedUdpMetricSink {
-    /// Makes a sink of packets of 512 bytes, which sends to the first address that the host has now.
+    /// Makes a sink with packets of at most 512 bytes, which sends to the first address that the host has now.
     ///
-    /// It fails with `IoError` if the host can't be looked up or memory is refused, and with `InvalidInput` if the host has
-    /// no address.
+    /// It fails with `IoError` if the host can't be looked up or memory runs out, and with `InvalidInput` if the host
+    /// has no address.
     pub fn from<A>(sink_addr: A, socket: UdpSocket) -> MetricResult<Self>
     where
         A: ToSocketAddrs,
@@ -232,8 +235,8 @@ impl BufferedUdpMetricSink {
         Self::with_capacity(sink_addr, socket, DEFAULT_CAPACITY)
     }
 
-    /// Makes a sink of packets of `cap` bytes, which sends to the first address that the host has now. The socket keeps its
-    /// settings, such as whether it blocks. It fails as [`from`](Self::from) does.
+    /// Makes a sink with packets of at most `cap` bytes, which sends to the first address that the host has now. The
+    /// socket keeps its settings, such as whether it blocks. It fails as [`from`](Self::from) does.
     pub fn with_capacity<A>(to_addr: A, socket: UdpSocket, cap: usize) -> MetricResult<Self>
     where
         A: ToSocketAddrs,

@@ -27,7 +27,7 @@ impl Outlet for UnixOutlet {
 
 /// Sends each line as a datagram to a Unix socket, in the caller's thread.
 ///
-/// `emit` fails if no socket has the path or nobody listens there.
+/// `emit` fails if there is no socket at the path, or if no process receives from it.
 ///
 /// ```no_run
 /// use std::os::unix::net::UnixDatagram;
@@ -63,7 +63,8 @@ impl MetricSink for UnixMetricSink {
 
 /// Packs lines, and sends each packet as a datagram to a Unix socket, in the caller's thread.
 ///
-/// It packs, refuses and tries again as [`BufferedUdpMetricSink`](crate::BufferedUdpMetricSink) does.
+/// It buffers and sends lines as [`BufferedUdpMetricSink`](crate::BufferedUdpMetricSink) does, and does the same after
+/// an error.
 ///
 /// ```no_run
 /// use std::os::unix::net::UnixDatagram;
@@ -79,7 +80,7 @@ pub struct BufferedUnixMetricSink {
 }
 
 impl BufferedUnixMetricSink {
-    /// Makes a sink of packets of 512 bytes, which sends to a path.
+    /// Makes a sink with packets of at most 512 bytes, which sends to a path.
     ///
     /// # Panics
     ///
@@ -91,7 +92,8 @@ impl BufferedUnixMetricSink {
         Self::with_capacity(path, socket, DEFAULT_CAPACITY)
     }
 
-    /// Makes a sink of packets of `cap` bytes, which sends to a path. The socket keeps its settings, and may be unbound.
+    /// Makes a sink with packets of at most `cap` bytes, which sends to a path. The socket keeps its settings, and may
+    /// be unbound.
     ///
     /// # Panics
     ///
