@@ -1,7 +1,7 @@
-"""Builds the wheel: the extension module, in which the library is, and the Python files.
+"""Builds the wheel: the extension module, which contains the library, and the Python files.
 
-The library stands in ../../lib, as in the archive, or in the folder that CADENCE_LIB names, and the header in `include` beside
-that folder.
+The library is in ../../lib, as in the archive, or in the folder that CADENCE_LIB names. The header is in the folder
+`include` of the archive, or beside the folder of the library.
 """
 import base64
 import hashlib
@@ -21,7 +21,7 @@ TAG = f"cp311-abi3-{sysconfig.get_platform().replace('-', '_').replace('.', '_')
 
 
 def library():
-    """The path of the library."""
+    """Returns the path of the library."""
     named = os.environ.get("CADENCE_LIB")
     for folder in (HERE.parent.parent / "lib", pathlib.Path(named or HERE)):
         if (path := folder.resolve() / "libcadence_c.a").exists():
@@ -32,7 +32,7 @@ def library():
 
 
 def header():
-    """The path of the header."""
+    """Returns the path of the header."""
     for folder in (HERE.parent.parent, library().parent.parent):
         if (path := folder / "include" / "cadence.h").exists():
             return path
@@ -42,7 +42,7 @@ def header():
 
 
 def version():
-    """The version of the header, which is the library's."""
+    """Returns the version of the header, which is that of the library."""
     return re.search(r'#define CADENCE_VERSION "(.*)"', header().read_text())[1]
 
 
@@ -57,7 +57,7 @@ def compiled(to):
 
 
 def files():
-    """The files of the wheel but RECORD, by their names."""
+    """Yields the name and the bytes of each file of the wheel except RECORD."""
     project = tomllib.loads((HERE / "pyproject.toml").read_text())["project"]
     information = f"statsd_proved-{version()}.dist-info"
     for path in sorted((HERE / "src" / "statsd_proved").iterdir()):
@@ -88,5 +88,6 @@ def build_wheel(wheel_directory, config_settings=None, metadata_directory=None):
 
 
 def build_sdist(sdist_directory, config_settings=None):
-    """There is no source distribution but the archive, since the library is built from another language."""
+    """Ends the build, because there is no source distribution besides the archive: the library is built from another
+    language."""
     sys.exit("statsd-proved: the archive of ./package is the source distribution: install from its bindings/python")

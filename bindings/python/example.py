@@ -1,5 +1,5 @@
-"""Sends metrics to a socket of its own on the loopback address, and prints the datagrams that arrive, the errors that are
-told, and the counts."""
+"""Sends metrics to a socket of its own on the loopback address, and prints the datagrams that arrive, the errors that
+are reported, and the counts."""
 import datetime
 import socket
 

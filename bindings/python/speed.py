@@ -1,6 +1,6 @@
-"""speed CALLS: the nanoseconds of processor time of a call, of this client and, where python3-statsd is there, of
-statsd.StatsClient and its pipeline: medians of 11 turns, with the least and the greatest, to a UDP socket on the loopback
-address."""
+"""speed CALLS: prints how many nanoseconds of processor time a call takes, for this client and, if python3-statsd is
+installed, for statsd.StatsClient and its pipeline. The figures are medians of 11 turns, with the least and the
+greatest. The clients send to a UDP socket on the loopback address."""
 import socket
 import statistics
 import sys
@@ -26,7 +26,7 @@ CALLS = {
 
 
 def nanos(client, call, count):
-    """The nanoseconds of a call, with what sends its packets."""
+    """Returns the nanoseconds of a call, including the sending of its packets."""
     start = time.process_time_ns()
     for i in range(count):
         call(client, i)

@@ -1,8 +1,9 @@
 /* The type Packer of statsd_proved._core: the calls of cadence.h.
  *
- * Each method reads its arguments first, which may run other Python code, and then calls the library with no Python code
- * in between and the interpreter's lock held: so threads may share a Packer, and none sees another's call half done. A fork
- * of Python is made with that lock held too, and glibc's malloc may be called in its child, so calls may follow there. */
+ * Each method first reads its arguments, which may run other Python code. Then it calls the library while it holds the
+ * interpreter's lock, and no Python code runs between these calls. So threads may share a Packer, and no thread sees
+ * the call of another one half done. Python holds that lock during a fork too, and glibc allows malloc in the child, so
+ * the child may make calls as well. */
 #include "core.h"
 #include <string.h>
 
@@ -19,7 +20,7 @@ typedef struct {
     size_t line_len, line_room;
 } packer;
 
-/* What a call of a metric says. */
+/* The arguments of a call that makes a metric. */
 typedef struct {
     values_of_call values;
     tags_of_call tags;
@@ -41,7 +42,8 @@ static PyObject *refused(uint32_t status) {
     return NULL;
 }
 
-/* What a call that keeps a line answers: whether it made a packet. */
+/* Returns the result of a call that keeps a line: whether it made a packet. If the status isn't CADENCE_OK, it sets an
+ * exception. */
 static PyObject *answer(packer *self, uint32_t status) {
     const uint64_t made = self->counts.made;
     if (status != CADENCE_OK) return refused(status);
@@ -91,7 +93,8 @@ static void packer_dealloc(packer *self) {
     Py_DECREF(type);
 }
 
-/* The options of a call: its rate, where that is below 1, its container or the client's, and its time. */
+/* Reads the options of a call: its rate if that isn't 1, its container or otherwise the client's, and its time. Returns
+ * false if it has set an exception. */
 static bool read_options(packer *self, call *c, PyObject *rate, PyObject *container, PyObject *time) {
     c->options.known = true; /* what text_of gives is UTF-8 */
     c->options.rated = !(PyLong_Check(rate) && PyLong_AsLong(rate) == 1);
@@ -105,7 +108,8 @@ static bool read_options(packer *self, call *c, PyObject *rate, PyObject *contai
     return !c->options.timed || !PyErr_Occurred();
 }
 
-/* The arguments kind, form, stat, value, rate, tags, container, timestamp. */
+/* Reads the arguments kind, form, stat, value, rate, tags, container, timestamp. Returns false if it has set an
+ * exception. call_end has to be called in any case. */
 static bool call_begin(packer *self, call *c, PyObject *const *args, Py_ssize_t count) {
     const cadence_options none = CADENCE_NO_OPTIONS;
     memset(c, 0, sizeof *c);
@@ -151,7 +155,7 @@ static bool has_room(packer *self, size_t room) {
     return true;
 }
 
-/* Makes the line of a call, after what the line has. */
+/* Appends the line of a call to the text in self->line. */
 static uint32_t put_line(packer *self, const call *c) {
     for (;;) {
         size_t len = 0;
@@ -168,7 +172,7 @@ static uint32_t put_line(packer *self, const call *c) {
     }
 }
 
-/* Puts a text into the line, in the place of so many bytes. */
+/* Replaces the `cut` bytes of self->line from `at` on by a text. */
 static uint32_t splice(packer *self, size_t at, size_t cut, const void *text, size_t len) {
     if (!has_room(self, self->line_len - cut + len)) return CADENCE_NO_MEMORY;
     memmove(self->line + at + len, self->line + at + cut, self->line_len - at - cut);
@@ -177,14 +181,16 @@ static uint32_t splice(packer *self, size_t at, size_t cut, const void *text, si
     return CADENCE_OK;
 }
 
-/* The line of a number with a text in its place, or before it: the calls of the library print neither. */
+/* Keeps the line of a number, with a text in place of the number's first `cut` bytes. The library can't print such a
+ * value. */
 static uint32_t spliced(packer *self, call *c, size_t cut, const void *text, size_t len) {
     uint32_t status = put_line(self, c);
     if (status == CADENCE_OK) status = splice(self, c->prefix_len + c->key_len + 1, cut, text, len);
     return status != CADENCE_OK ? status : cadence_line(&self->handle, self->line, self->line_len);
 }
 
-/* A gauge below 0, which a server reads as a change: it is set to 0 first, in one packet. */
+/* Keeps the lines that set a gauge to a value below 0. A server reads a value with a sign as a change of the gauge, so
+ * the first line sets it to 0. Both lines are in one packet. */
 static uint32_t below_zero(packer *self, call *c) {
     const int64_t mantissa = c->values.at->mantissa;
     c->options.rated = false;
@@ -228,7 +234,7 @@ static PyObject *packer_flush(packer *self, PyObject *unused) {
     return answer(self, cadence_flush(&self->handle));
 }
 
-/* The oldest packet as bytes, which then no longer waits, or None. */
+/* Removes the oldest packet that waits, and returns it as bytes. Returns None if no packet waits. */
 static PyObject *packer_take(packer *self, PyObject *unused) {
     size_t len;
     uint32_t status = cadence_next(&self->handle, NULL, 0, &len);
@@ -242,7 +248,7 @@ static PyObject *packer_take(packer *self, PyObject *unused) {
     return packet;
 }
 
-/* The packets that are left, in a list, after which the client is closed. */
+/* Returns the packets that are left, the held text included, in a list. The client is closed then. */
 static PyObject *packer_close(packer *self, PyObject *unused) {
     PyObject *packets = PyList_New(0), *packet;
     const uint32_t status = cadence_flush(&self->handle);
@@ -279,7 +285,7 @@ static PyObject *packer_counts(packer *self, PyObject *unused) {
                          (unsigned long long)self->counts.dropped);
 }
 
-/* Adds a tag of each call that follows. Its texts stay in a list, which only grows. */
+/* Adds a tag to each later call. The list self->texts keeps the tag's texts alive; it only grows. */
 static PyObject *packer_add_tag(packer *self, PyObject *item) {
     cadence_tag tag;
     if (PyList_Append(self->texts, item) < 0 || !tag_of(item, self->texts, &tag)) return NULL;

@@ -7,7 +7,7 @@
 #include <Python.h>
 #include <cadence.h>
 
-/* One value of a call, or several: as decimals, or as one whole number past 63 bits. */
+/* The values of a call: one decimal or several, or one whole number that doesn't fit 63 bits. */
 typedef struct {
     cadence_decimal_number small[8], *at;
     size_t len;
@@ -15,14 +15,14 @@ typedef struct {
     uint64_t large;
 } values_of_call;
 
-/* The tags of a call, the client's first, and what has to live as long as they do. */
+/* The tags of a call, the client's first, and the Python objects that have to live as long as the tags. */
 typedef struct {
     cadence_tag small[16], *at;
     size_t len;
     PyObject *items, *texts;
 } tags_of_call;
 
-/* Each answers false with an exception set; values_end and tags_end are to be called in any case. */
+/* Each of these returns false if it has set an exception. values_end and tags_end have to be called in any case. */
 bool decimal_of(PyObject *value, bool in_millis, cadence_decimal_number *to);
 bool values_begin(values_of_call *values, PyObject *value, bool in_millis);
 void values_end(values_of_call *values);

@@ -1,8 +1,8 @@
-/* Texts and tags of Python as the library takes them. */
+/* Converts texts and tags of Python to those of the library. */
 #include "core.h"
 #include <string.h>
 
-/* A text or a number. The text of a number is put into the list `texts`, which keeps it. */
+/* Reads a str, or the text of a number. The list `texts` gets the text of a number and keeps it alive. */
 bool text_of(PyObject *value, PyObject *texts, const uint8_t **at, size_t *len) {
     Py_ssize_t size;
     if (!PyUnicode_Check(value)) {
@@ -21,7 +21,7 @@ bool text_of(PyObject *value, PyObject *texts, const uint8_t **at, size_t *len) 
     return *at != NULL;
 }
 
-/* A tag: a pair of a key and a text, or a text alone, as in "page:home". */
+/* Reads a tag: a pair of a key and a text, or a text alone, for example "page:home". */
 bool tag_of(PyObject *item, PyObject *texts, cadence_tag *to) {
     to->keyed = PyTuple_Check(item);
     to->key = NULL;
@@ -35,7 +35,7 @@ bool tag_of(PyObject *item, PyObject *texts, cadence_tag *to) {
         && text_of(PyTuple_GetItem(item, 1), texts, &to->text, &to->text_len);
 }
 
-/* Room for the tags of the client, which are copied, and for as many more. */
+/* Makes room for the tags of the client and for `more` others, and copies the tags of the client. */
 static bool tags_room(tags_of_call *tags, const cadence_tag *defaults, size_t defaults_len, size_t more) {
     if (defaults_len + more > sizeof tags->small / sizeof tags->small[0]) {
         tags->at = PyMem_Calloc(defaults_len + more, sizeof *defaults);
@@ -55,7 +55,7 @@ bool tags_begin(tags_of_call *tags, const cadence_tag *defaults, size_t defaults
         PyErr_Format(PyExc_TypeError, "tags are a dict or a list, as in [%R]", given);
         return false;
     }
-    /* a copy, since the text of a number may run code that changes what was given */
+    /* a copy, because making the text of a number may run code that changes the caller's object */
     PyObject *items = PyDict_Check(given) ? PyDict_Items(given) : NULL;
     if (PyDict_Check(given) && items == NULL) return false;
     tags->items = PySequence_Tuple(items != NULL ? items : given);

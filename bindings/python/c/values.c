@@ -1,4 +1,4 @@
-/* Numbers of Python as the library takes them. */
+/* Converts numbers of Python to those of the library. */
 #include "core.h"
 #include <stdlib.h>
 #include <string.h>
@@ -21,7 +21,8 @@ static bool is_digit(char c) {
     return c >= '0' && c <= '9';
 }
 
-/* Reads digits with a point, and tells where they end, or null. Zeros that end the places are left out. */
+/* Reads digits, which may have a point, and returns a pointer to their end, or null if there are none or they don't
+ * fit. Zeros at the end of the places are left out. */
 static const char *read_digits(const char *text, uint64_t *mantissa, long *places) {
     long zeros = 0;
     bool point = false, some = false;
@@ -42,7 +43,8 @@ static const char *read_digits(const char *text, uint64_t *mantissa, long *place
     return some ? text : NULL;
 }
 
-/* Takes an exponent into the places, and cuts off what is past the last place. */
+/* Subtracts an exponent from the places, and cuts off the digits after the last possible place. Returns false if the
+ * number doesn't fit. */
 static bool shift(uint64_t *mantissa, long *places, long exponent) {
     if (exponent > MOST_EXPONENT || exponent < -MOST_EXPONENT) return false;
     *places -= exponent;
@@ -52,7 +54,7 @@ static bool shift(uint64_t *mantissa, long *places, long exponent) {
     return true;
 }
 
-/* Reads what Python prints of a number. */
+/* Reads a number in the form in which Python prints it. Returns false if the number doesn't fit. */
 static bool decimal_of_text(const char *text, cadence_decimal_number *to) {
     const bool minus = *text == '-';
     uint64_t mantissa = 0;
@@ -81,7 +83,8 @@ static bool decimal_of_double(double value, char form, int places, cadence_decim
     return fits;
 }
 
-/* A float: of milliseconds six places, where these fit, and else its shortest text. */
+/* Reads a float. Milliseconds are rounded to six places, if the result fits. Otherwise the shortest text of the float
+ * is read. */
 static bool decimal_of_float(PyObject *value, bool in_millis, cadence_decimal_number *to) {
     const double number = PyFloat_AsDouble(value);
     if (in_millis && decimal_of_double(number, 'f', 6, to)) return true;
@@ -96,7 +99,7 @@ static bool decimal_of_whole(PyObject *value, cadence_decimal_number *to) {
     return to->mantissa != -1 || !PyErr_Occurred();
 }
 
-/* A number of another type, by its index or else by its text. */
+/* Reads a number of another type: by its __index__ if it has one, and otherwise by its text. */
 static bool decimal_of_other(PyObject *value, cadence_decimal_number *to) {
     const bool whole = PyIndex_Check(value);
     if (!PyNumber_Check(value)) {
@@ -117,7 +120,7 @@ bool decimal_of(PyObject *value, bool in_millis, cadence_decimal_number *to) {
     return decimal_of_other(value, to);
 }
 
-/* One value: a whole number may have 64 bits. */
+/* Reads one value. If it is a whole number, it may have up to 64 bits. */
 static bool one_value(values_of_call *values, PyObject *value, bool in_millis) {
     values->len = 1;
     if (decimal_of(value, in_millis, values->at)) return true;
@@ -131,7 +134,7 @@ static bool one_value(values_of_call *values, PyObject *value, bool in_millis) {
     return false;
 }
 
-/* The values of a list or a tuple, which nobody else holds. */
+/* Reads the values of a tuple, to which no other code has a reference. */
 static bool each_value(values_of_call *values, PyObject *tuple, bool in_millis) {
     const size_t len = (size_t)PyTuple_Size(tuple);
     if (len > sizeof values->small / sizeof values->small[0]) {

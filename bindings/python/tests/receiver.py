@@ -14,7 +14,7 @@ class Receiver:
         self.address = self.socket.getsockname()
 
     def packets(self, seconds=0.0):
-        """The packets that are there; for the first one it waits so long."""
+        """Returns the packets that have arrived. It waits for the first one for this many seconds."""
         found = []
         self.socket.settimeout(seconds or 0.0)
         try:
@@ -25,12 +25,12 @@ class Receiver:
             return found
 
     def lines(self, seconds=0.0):
-        """Their lines."""
+        """Returns the lines of these packets."""
         return [line for packet in self.packets(seconds) for line in packet.splitlines()]
 
 
 class Recorder:
-    """In the place of a client's socket: it keeps each packet, or refuses it with `fault`."""
+    """Takes the place of a client's socket. It stores each packet, or refuses it with `fault`."""
 
     def __init__(self):
         self.sent = []
@@ -49,7 +49,7 @@ class Recorder:
 
 
 class ClientTest(unittest.TestCase):
-    """Tests with a receiver, and with the errors that clients told."""
+    """Tests with a receiver, and with the errors that clients reported."""
 
     def setUp(self):
         self.receiver = Receiver()
@@ -57,14 +57,14 @@ class ClientTest(unittest.TestCase):
         self.faults = []
 
     def client(self, **words):
-        """A client that sends to the receiver, without a thread."""
+        """Returns a client that sends to the receiver and starts no thread."""
         words = {"flush_every": None, "on_error": self.faults.append, **words}
         client = StatsClient(*self.receiver.address[:2], **words)
         self.addCleanup(client.close)
         return client
 
     def sent_by(self, calls, **words):
-        """The lines that a client sends of calls which it is given, and which tell no error."""
+        """Makes these calls of a client, asserts that they report no error, and returns the lines that were sent."""
         with self.client(**words) as client:
             calls(client)
         self.assertEqual(self.faults, [])

@@ -1,4 +1,4 @@
-"""What the build says where the library is not found."""
+"""What the build says if the library is not found."""
 import os
 import pathlib
 import shutil
@@ -18,7 +18,7 @@ class Build(unittest.TestCase):
         shutil.copy(HERE / "build_wheel.py", self.place)
 
     def library(self, of="library", **environment):
-        """What a run says of the library, and of its fault."""
+        """Runs a function of the build, and returns the path that it found and the error that it reported."""
         others = {name: text for name, text in os.environ.items() if name != "CADENCE_LIB"}
         run = subprocess.run([sys.executable, "-c", f"import build_wheel; print(build_wheel.{of}())"], cwd=self.place,
                              env={**others, **environment}, stdout=subprocess.PIPE, stderr=subprocess.PIPE, text=True)

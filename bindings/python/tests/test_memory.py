@@ -1,4 +1,4 @@
-"""What the calls keep of the memory."""
+"""Whether calls free the memory that they allocate."""
 import gc
 import tracemalloc
 import unittest

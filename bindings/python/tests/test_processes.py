@@ -19,7 +19,7 @@ atexit.register(lambda: client.incr("late"))  # runs after what the package does
 import statsd_proved, sys, threading
 client = statsd_proved.StatsClient("127.0.0.1", int(sys.argv[1]))
 client.incr("a")
-# the frame of this thread holds the client to the end
+# the frame of this thread keeps the client alive to the end
 threading.Thread(target=lambda client: threading.Event().wait(), args=(client,), daemon=True).start()
 """
 
@@ -100,7 +100,7 @@ class Threads(ClientTest):
 
 class Processes(ClientTest):
     def forked(self, work):
-        """Runs work in the child of a fork, which ends without the handlers of an exit."""
+        """Runs work in the child of a fork, which ends without calling the handlers of atexit."""
         child = os.fork()
         if child == 0:
             signal.alarm(30)  # ends a child that waits for ever

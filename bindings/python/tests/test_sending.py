@@ -1,4 +1,4 @@
-"""What is sent, when, and what follows where the socket refuses."""
+"""What is sent, when it is sent, and what happens if the socket refuses a packet."""
 import errno
 import gc
 import socket

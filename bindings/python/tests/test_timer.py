@@ -12,7 +12,7 @@ PAUSE = 0.02  # seconds
 
 class Timers(ClientTest):
     def times_of(self, calls):
-        """The names and the milliseconds that are sent."""
+        """Returns the names and the milliseconds that are sent."""
         lines = [line.removesuffix("|ms").split(":") for line in self.sent_by(calls)]
         return [name for name, _ in lines], [float(value) for _, value in lines]
 

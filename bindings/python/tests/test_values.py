@@ -1,4 +1,4 @@
-"""Values, texts and tags that make no line."""
+"""Values, texts and tags of which no line can be made."""
 import math
 import pathlib
 import re
@@ -31,7 +31,8 @@ class Values(ClientTest):
                          [f"x:{2 ** 63}|c", f"x:{least}|c", f"x:{most}|c"])
 
     def refuses(self, kind, *calls):
-        """Each call keeps no line, raises nothing, is counted, and tells an error of the kind, which another client raises."""
+        """Asserts that no call keeps a line or raises, that each is counted, and that each reports an error of this
+        kind, which a client with `raises` raises."""
         for call in calls:
             with self.subTest(call=call), self.client() as client, self.client(raises=True) as strict:
                 self.faults.clear()

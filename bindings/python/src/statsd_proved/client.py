@@ -19,9 +19,10 @@ UNIX = "unix://"
 
 
 class Counts(TypedDict):
-    """Bytes that are held for the next packet, packets that wait, and how many packets were made, were sent and were
-    dropped (to make room, because the socket takes none so long, or at `close`), how many sends the socket refused, and how
-    many calls kept no line."""
+    """The counts of a client: `held` is how many bytes are held for the next packet, and `waiting` is how many packets
+    wait. `made`, `sent` and `dropped` are numbers of packets; a packet is dropped to make room for another one, because
+    it is too long for the socket, or at `close`. `refused` is how many sends the socket refused, and `bad` is how many
+    calls kept no line."""
 
     held: int
     waiting: int
@@ -33,7 +34,7 @@ class Counts(TypedDict):
 
 
 def _open(host: str, port: int, ipv6: bool) -> tuple[socket.socket, Any]:
-    """A socket and where it sends."""
+    """Returns a socket and the address that it sends to."""
     if host.startswith(UNIX):
         return socket.socket(socket.AF_UNIX, socket.SOCK_DGRAM), host[len(UNIX):]
     family = socket.AF_INET6 if ipv6 else socket.AF_INET
@@ -42,7 +43,7 @@ def _open(host: str, port: int, ipv6: bool) -> tuple[socket.socket, Any]:
 
 
 def _flush_often(client: weakref.ref[StatsClient], seconds: float, ended: threading.Event) -> None:
-    """Flushes until the client is closed or let go."""
+    """Flushes the client after each period, until it is closed or no longer referenced."""
     while not ended.wait(seconds):
         it = client()
         if it is None:
@@ -52,19 +53,20 @@ def _flush_often(client: weakref.ref[StatsClient], seconds: float, ended: thread
 
 
 class StatsClient(Metrics):
-    """A client that packs metrics into packets, and sends these to one address.
+    """A client that packs metrics into packets, and sends the packets to one address.
 
-    `host` is a name, an address, or `unix:///path` of a datagram socket. `maxudpsize` is the capacity of a packet in bytes:
-    a line that is longer is a packet of its own. What is held goes out when a packet is full, `flush_every` seconds later
-    at the latest (by a thread; None: by none; 0: with each call), at `flush`, `close` and the end of a `with`, when the
-    client is let go, and when the process ends. Threads may share a client. In the child of a fork it begins anew, since
-    what was held is the parent's.
+    `host` is a name, an address, or `unix:///path` for a datagram socket at that path. `maxudpsize` is the capacity of
+    a packet in bytes; a longer line is a packet of its own. The client sends the held text when a packet is full, every
+    `flush_every` seconds, at `flush`, at `close`, at the end of a `with`, when the client is no longer referenced, and
+    when the process ends. A thread flushes every `flush_every` seconds; with 0 each call flushes, and with None neither
+    does. Threads may share a client. In the child of a fork the client starts empty, because the parent still has the
+    held text.
 
-    No call raises, because a metric is not worth a service: a bad value is counted, a packet that the socket refuses is
-    counted and waits, to be offered again with the next one, and where as many wait behind it as `packets` says, the
-    oldest of these is dropped and counted. A packet that is too long for the socket is dropped. `on_error` gets each of
-    these errors: a TypeError, ValueError, OverflowError, MemoryError or StatusError of a call, or an OSError of a packet.
-    With `raises`, the call raises it too.
+    No call raises, because a metric must not stop a service. A bad value is counted. A packet that the socket refuses
+    is counted, and waits until it is offered again with the next packet. If `packets` packets already wait behind it,
+    the oldest of them is dropped and counted. A packet that is too long for the socket is dropped and counted.
+    `on_error` receives each of these errors: a TypeError, ValueError, OverflowError, MemoryError or StatusError of a
+    call, or an OSError of a packet. If `raises` is set, the call raises the error too.
     """
 
     def __init__(self, host: str = "localhost", port: int = 8125, prefix: str | None = None, maxudpsize: int = 512,
@@ -96,28 +98,29 @@ class StatsClient(Metrics):
             self._tell(self._close(), may_raise=False)
 
     def pipeline(self) -> Pipeline:
-        """Metrics that go out together."""
+        """Returns a pipeline, whose metrics are sent together."""
         made = Pipeline(self, self._new_packer())
         self._pipelines.add(made)
         return made
 
     def flush(self) -> None:
-        """Sends what is held and what waits."""
+        """Sends the packets that wait, and the held text."""
         self._tell(self._flush())
 
     def close(self) -> None:
-        """Sends what is held and what waits, drops what the socket refuses, and closes. A second call does nothing."""
+        """Sends the packets that wait and the held text, drops each packet that the socket refuses, and closes. A
+        second call does nothing."""
         self._tell(self._close())
 
     def counts(self) -> Counts:
-        """The counts, also after `close`."""
+        """Returns the counts, also after `close`."""
         with self._sending:
             held, waiting, made, _, dropped = self._packer.counts()
             return Counts(held=held, waiting=waiting + (self._refused is not None), made=made, sent=self._sent,
                           dropped=dropped + self._lost, refused=self._refusals, bad=self._bad_calls)
 
     def _begin(self) -> None:
-        """Nothing is held, nothing is counted, and no thread runs."""
+        """Starts with no text held, with all counts 0, and without a thread."""
         self._sending = threading.RLock()
         self._refused: bytes | None = None
         self._sent = self._lost = self._refusals = self._bad_calls = 0
@@ -143,7 +146,7 @@ class StatsClient(Metrics):
         return faults
 
     def _end(self) -> None:
-        """Sends what is held, and what comes later at once, because the process ends."""
+        """Sends the held text, and lets each later call flush, because the process ends."""
         if not self._ended.is_set():
             self._ended.set()
             self._starts = False
@@ -151,7 +154,7 @@ class StatsClient(Metrics):
             self._tell(self._flush(), may_raise=False)
 
     def _renew(self) -> None:
-        """Drops, in the child of a fork, what is the parent's."""
+        """Drops, in the child of a fork, the text and the packets that the parent has too."""
         if not self._ended.is_set():
             self._begin()
         self._packer.renew()
@@ -167,7 +170,7 @@ class StatsClient(Metrics):
         return packer
 
     def _start(self) -> None:
-        """Follows the first line of a process: starts the thread that flushes, where there is one."""
+        """Is called after the first line of a process. It starts the thread that flushes, if there is to be one."""
         with self._sending:
             if not self._starts:
                 return
@@ -221,7 +224,7 @@ class StatsClient(Metrics):
             return faults + (self._send_all() if self._refused is None else [])
 
     def _send_packets(self, packets: list[bytes]) -> None:
-        """Sends the packets of a pipeline, after what is held."""
+        """Sends the packets of a pipeline, after the held text."""
         faults: list[Exception] = []
         with self._sending:
             for packet in packets:
@@ -236,7 +239,8 @@ class StatsClient(Metrics):
         self._tell(faults)
 
     def _send_all(self) -> list[Exception]:
-        """Sends the packets that wait, until the socket refuses one, which waits then, unless it is too long."""
+        """Sends the packets that wait, until the socket refuses one. The refused packet then waits, unless it is too
+        long for the socket: then it is dropped, and the next packets are sent."""
         faults: list[Exception] = []
         while True:
             packet = self._packer.take() if self._refused is None else self._refused

@@ -1,4 +1,4 @@
-"""What the library answers, by name."""
+"""The statuses of the library, by name."""
 import enum
 
 
@@ -16,7 +16,7 @@ class Status(enum.IntEnum):
 
 
 class StatusError(ValueError):
-    """A call that the library refused, with its `status`. The client is as it was."""
+    """The library refused a call and returned `status`. The client is as it was before the call."""
 
     def __init__(self, status: int, text: str) -> None:
         super().__init__(text)

@@ -13,7 +13,7 @@ from .timer import Timer
 
 Number = Union[int, float, decimal.Decimal]
 Tags = Union[Mapping[str, Union[str, Number]], Iterable[Union[str, Number, tuple[str, Union[str, Number]]]]]
-"""Tags: a dict, or a list of texts ("page:home", "beta") and of pairs."""
+"""Tags: a dict, or a list whose elements are texts ("page:home", "beta") or pairs of a key and a text."""
 
 COUNTER, TIMER, GAUGE, METER, HISTOGRAM, SET, DISTRIBUTION = range(7)
 PLAIN, CHANGE, LEVEL = range(3)  # forms of a gauge: as any metric, a change by a value, a value that may be below 0
@@ -22,9 +22,9 @@ PLAIN, CHANGE, LEVEL = range(3)  # forms of a gauge: as any metric, a change by 
 class Metrics(abc.ABC):
     """Calls that make metrics.
 
-    Each takes a `rate`, and where that is below 1, keeps such a part of the calls, chosen at random, and prints the rate,
-    by which the server scales. Each takes `tags`, a `container` and a `timestamp` (whole seconds since 1970) too, which
-    servers with the Datadog fields read. A value is an int, a float or a Decimal.
+    Each call takes a `rate`. If the rate is below 1, only this share of the calls is kept, chosen at random, and the
+    line has the rate, by which the server scales. Each call also takes `tags`, a `container` and a `timestamp` (whole
+    seconds since 1970), which servers with the Datadog fields read. A value is an int, a float or a Decimal.
     """
 
     _packer: Packer
@@ -36,7 +36,7 @@ class Metrics(abc.ABC):
 
     def decr(self, stat: str, count: Number = 1, rate: float = 1, *, tags: Tags | None = None,
              container: str | None = None, timestamp: int | None = None) -> None:
-        """Takes `count` from a counter."""
+        """Subtracts `count` from a counter."""
         try:
             count = -count
         except TypeError as fault:
@@ -45,35 +45,36 @@ class Metrics(abc.ABC):
 
     def gauge(self, stat: str, value: Number, rate: float = 1, delta: bool = False, *, tags: Tags | None = None,
               container: str | None = None, timestamp: int | None = None) -> None:
-        """Sets a gauge, or with `delta` changes it by the value. A gauge that is set below 0 is set to 0 first, in the same
-        packet and without the rate, because a server reads a sign as a change."""
+        """Sets a gauge, or changes it by the value if `delta` is set. A gauge that is set to a value below 0 is set to
+        0 first, in the same packet and without the rate, because a server reads a value with a sign as a change."""
         self._keep(GAUGE, CHANGE if delta else LEVEL, stat, value, rate, tags, container, timestamp)
 
     def set(self, stat: str, value: Number | str, rate: float = 1, *, tags: Tags | None = None,
             container: str | None = None, timestamp: int | None = None) -> None:
-        """Adds a value, which may be a text, to a set. A text is printed as it is, separators too."""
+        """Adds a value, which may be a text, to a set. A text is printed as it is, with any separators in it."""
         self._keep(SET, PLAIN, stat, value, rate, tags, container, timestamp)
 
     def timing(self, stat: str, delta: Number | datetime.timedelta | Sequence[Number], rate: float = 1, *,
                tags: Tags | None = None, container: str | None = None, timestamp: int | None = None) -> None:
-        """A time in milliseconds, or a timedelta. A float is rounded to six places, where these fit. A list makes one line."""
+        """Sends a time: a number of milliseconds, or a timedelta. A float is rounded to six places, if the result fits.
+        A list makes one line."""
         if isinstance(delta, datetime.timedelta):
             delta = delta.total_seconds() * 1000
         self._keep(TIMER, PLAIN, stat, delta, rate, tags, container, timestamp)
 
     def histogram(self, stat: str, value: Number | Sequence[Number], rate: float = 1, *, tags: Tags | None = None,
                   container: str | None = None, timestamp: int | None = None) -> None:
-        """A value of a histogram. A list makes one line."""
+        """Sends a value for a histogram. A list makes one line."""
         self._keep(HISTOGRAM, PLAIN, stat, value, rate, tags, container, timestamp)
 
     def distribution(self, stat: str, value: Number | Sequence[Number], rate: float = 1, *, tags: Tags | None = None,
                      container: str | None = None, timestamp: int | None = None) -> None:
-        """A value of a distribution. A list makes one line."""
+        """Sends a value for a distribution. A list makes one line."""
         self._keep(DISTRIBUTION, PLAIN, stat, value, rate, tags, container, timestamp)
 
     def meter(self, stat: str, value: Number = 1, rate: float = 1, *, tags: Tags | None = None,
               container: str | None = None, timestamp: int | None = None) -> None:
-        """Marks a meter."""
+        """Sends a number of events for a meter."""
         self._keep(METER, PLAIN, stat, value, rate, tags, container, timestamp)
 
     def raw(self, line: str) -> None:
@@ -85,8 +86,8 @@ class Metrics(abc.ABC):
         self._kept(made_packet)
 
     def timer(self, stat: str, rate: float = 1, **fields: Any) -> Timer:
-        """A timer, which is a context manager, a decorator (of functions and of coroutine functions) and an object with
-        `start`, `stop` and `send`. `fields` are `tags`, `container` and `timestamp`."""
+        """Returns a timer. It is a context manager, a decorator of functions and of coroutine functions, and an object
+        with `start`, `stop` and `send`. `fields` are `tags`, `container` and `timestamp`."""
         return Timer(self, stat, rate, **fields)
 
     def _keep(self, kind: int, form: int, stat: str, value: Any, rate: float, tags: Any, container: Any,
@@ -104,8 +105,8 @@ class Metrics(abc.ABC):
 
     @abc.abstractmethod
     def _kept(self, made_packet: bool) -> None:
-        """Follows each line that was kept."""
+        """Is called after each line that was kept."""
 
     @abc.abstractmethod
     def _bad(self, fault: Exception) -> None:
-        """Follows each call that keeps no line."""
+        """Is called after each call that keeps no line."""

@@ -11,8 +11,8 @@ if TYPE_CHECKING:
 
 
 class Pipeline(Metrics):
-    """Metrics that are held until `send`, or the end of a `with`, and then go out at once, in as few packets as hold
-    them. A pipeline is for one thread at a time."""
+    """Holds metrics until `send` or the end of a `with`, and then sends all of them, in as few packets as possible.
+    Only one thread at a time may use a pipeline."""
 
     def __init__(self, client: StatsClient, packer: Packer) -> None:
         self._client = client
@@ -26,7 +26,7 @@ class Pipeline(Metrics):
         self.send()
 
     def send(self) -> None:
-        """Sends what is held."""
+        """Sends the metrics that are held."""
         try:
             self._packer.flush()
             self._take()
@@ -36,7 +36,7 @@ class Pipeline(Metrics):
         self._client._send_packets(packets)
 
     def pipeline(self) -> Pipeline:
-        """A pipeline of the same client."""
+        """Returns another pipeline of the same client."""
         return self._client.pipeline()
 
     def _kept(self, made_packet: bool) -> None:
@@ -48,7 +48,7 @@ class Pipeline(Metrics):
             self._packets.append(packet)
 
     def _renew(self) -> None:
-        """Drops, in the child of a fork, what is the parent's."""
+        """Drops, in the child of a fork, the metrics that the parent has too."""
         self._packets = []
         self._packer.renew()
 

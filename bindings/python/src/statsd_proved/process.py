@@ -14,12 +14,13 @@ _clients: weakref.WeakSet[StatsClient] = weakref.WeakSet()
 
 
 def watch(client: StatsClient) -> None:
-    """Has the client send what it holds when the process ends, and begin anew in the child of a fork."""
+    """Makes the client send its held text when the process ends, and start empty in the child of a fork."""
     _clients.add(client)
 
 
 def watch_worker() -> None:
-    """Has all clients do so when a process of multiprocessing ends, where atexit is not called."""
+    """Makes all clients send their held text when a process of multiprocessing ends, because such a process doesn't
+    call the handlers of atexit."""
     util = sys.modules.get("multiprocessing.util")
     if util is not None:
         util.Finalize(None, _end_all, exitpriority=0)

@@ -20,7 +20,7 @@ def _wraps(function: Callable[..., Any]) -> Callable[[Callable[..., Any]], Any]:
 
 
 class Timer:
-    """A time in milliseconds: `ms` holds it once the timer was stopped."""
+    """Measures a time. After `stop`, the field `ms` is the time in milliseconds."""
 
     def __init__(self, client: Metrics, stat: str, rate: float = 1, **fields: Any) -> None:
         self.client = client
@@ -32,8 +32,8 @@ class Timer:
         self._start_time: float | None = None
 
     def __call__(self, function: Function) -> Function:
-        """A function that times each of its calls, also in several threads at once; a coroutine from its first step to its
-        end."""
+        """Returns a function that measures each of its calls, also if several threads call it at once. A coroutine is
+        measured from its first step to its end."""
         if inspect.iscoroutinefunction(function):
             @_wraps(function)
             async def timed_coroutine(*args: Any, **kwargs: Any) -> Any:
@@ -54,14 +54,14 @@ class Timer:
         self.stop()
 
     def start(self) -> Timer:
-        """Starts, anew where it was started already."""
+        """Starts the timer. If it was started already, it starts again."""
         self.ms = None
         self._sent = False
         self._start_time = time.perf_counter()
         return self
 
     def stop(self, send: bool = True) -> Timer:
-        """Stops, and sends unless `send` is false."""
+        """Stops the timer, and sends the time unless `send` is false."""
         if self._start_time is None:
             raise RuntimeError("the timer has not started")
         self.ms = 1000 * (time.perf_counter() - self._start_time)
@@ -70,7 +70,7 @@ class Timer:
         return self
 
     def send(self) -> None:
-        """Sends the time, once."""
+        """Sends the time. A second call without a new start raises a RuntimeError."""
         if self.ms is None:
             raise RuntimeError("the timer has no time yet")
         if self._sent:

@@ -77,7 +77,7 @@ impl<O: Outlet> Lines<O> {
     }
 
     /// Sends the packets that wait. Packets wait only during a flush, unless there was no memory to hold a refused text
-    /// again.
+    /// again. An interrupted send is tried again.
     fn send_waiting(&mut self) -> io::Result<()> {
         while let Some(packet) = self.packer.next() {
             match self.outlet.send(packet) {
