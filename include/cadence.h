@@ -6,12 +6,13 @@
  * What the host must ensure:
  * - Only one call at a time uses a handle. Give each thread its own handle, or guard a handle with a lock. A handle may
  *   move to another thread under such a lock. Never copy a handle: it has one owner.
- * - A pointer leads to as many values as the length beside it says, and no other thread reads or writes what a call
- *   writes to meanwhile. If the length is 0, the pointer may be null. A pointer without a length is never null.
+ * - A pointer points to as many values as the length beside it says. During a call no other thread writes what the call
+ *   reads, and no other thread reads or writes what it writes. If the length is 0, the pointer may be null. A pointer
+ *   without a length is never null.
  * - malloc, realloc and free belong to one allocator. Make no call from a signal handler, or where malloc may not be
  *   called. The forked child of a process with threads is such a place, unless its C library allows malloc there, as
- *   glibc does. A forked child has a copy of what its parent holds. It must make a new client, because otherwise both
- *   processes send the same packets.
+ *   glibc does. A forked child has a copy of what its parent holds. The child must make a new client, because otherwise
+ *   both processes send the same packets.
  *
  * Each call of a client except cadence_free returns a status. If the status is not CADENCE_OK, the client is as it was
  * before the call. If several statuses apply, a call returns the first one in this list:
@@ -173,8 +174,8 @@ uint32_t cadence_decimal(cadence_handle *handle, uint32_t kind, const uint8_t *k
 uint32_t cadence_duration(cadence_handle *handle, uint32_t kind, const uint8_t *key, size_t key_len,
                           const uint64_t *nanos, size_t nanos_len, const cadence_options *options);
 
-/* Keeps a line that the host has made, whatever its bytes are. It is packed like the lines of the calls above. Returns
- * CADENCE_OK, CADENCE_NO_CLIENT, CADENCE_NO_MEMORY or CADENCE_FULL. */
+/* Keeps a line that the host has made. The bytes of the line are not tested. It is packed like the lines of the calls
+ * above. Returns CADENCE_OK, CADENCE_NO_CLIENT, CADENCE_NO_MEMORY or CADENCE_FULL. */
 uint32_t cadence_line(cadence_handle *handle, const uint8_t *line, size_t line_len);
 
 /* Makes a packet of the held text, if there is any. Returns CADENCE_OK, CADENCE_NO_CLIENT, CADENCE_NO_MEMORY or

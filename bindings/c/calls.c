@@ -1,6 +1,6 @@
-/* Tests what include/cadence.h says besides the types of the calls: which status a call returns if several apply, what
- * is neither read nor tested, what stays after an error, and the functions of the header itself. It prints each check
- * that fails, and its exit status is then 1. It is valid C and C++. */
+/* Tests what include/cadence.h says besides the types of the calls: which status a call returns if several apply, which
+ * arguments are neither read nor tested, what stays after an error, and the functions of the header itself. It prints
+ * each check that fails, and its exit status is then 1. It is valid C and C++. */
 #include <cadence.h>
 #include <stdio.h>
 #include <string.h>

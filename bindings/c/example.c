@@ -1,6 +1,6 @@
 /* Sends metrics to a socket of its own on the loopback address. It prints the status of each call that keeps no line,
- * and then the datagrams that arrive. For a while the socket refuses each packet, and one packet is longer than any
- * datagram. */
+ * and then the datagrams that arrive. For some of the calls the socket refuses each packet, and one packet is longer
+ * than any datagram. */
 #include "cadence.h"
 #include <arpa/inet.h>
 #include <errno.h>
@@ -28,7 +28,7 @@ static void send_waiting(cadence_handle *handle) {
     }
 }
 
-/* Adds to a counter. If as many packets wait as may wait, it sends them and makes the call again. */
+/* Adds to a counter. If the queue of packets is full, it sends the packets and makes the call again. */
 static void count(cadence_handle *handle, const char *key, int64_t value, const cadence_options *options) {
     uint32_t status = cadence_count(handle, key, value, options);
     if (status == CADENCE_FULL) {

@@ -5,7 +5,8 @@
 #include <stdio.h>
 #include <sys/socket.h>
 
-/* Sends the packets that wait. One that no datagram holds is dropped; one that the socket refuses still waits. */
+/* Sends the packets that wait. A packet that is too long for a datagram is dropped. A packet that the socket refuses
+ * for another reason still waits. */
 static void send_waiting(cadence_handle *client, int fd) {
     static uint8_t packet[65507];
     size_t length;

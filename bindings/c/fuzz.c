@@ -47,7 +47,7 @@ static void fail(const char *what, uint32_t status) {
 
 enum { ROOM = 1 << 16, LONGEST = 4096 };
 
-/* A handle, and what its client must hold. */
+/* A handle, and what its client must have kept. */
 typedef struct {
     cadence_handle handle;
     uint8_t stream[ROOM]; /* the frames of all lines that were kept */
@@ -56,7 +56,7 @@ typedef struct {
     bool drops;
 } host;
 
-/* A cut inside the last bytes makes a text that is not UTF-8. */
+/* Texts are pieces of these bytes. A piece that ends or begins inside the last bytes may not be UTF-8. */
 static uint8_t texts[] = "counter.of.things.that.happen.now.and.then:1|c#,\n@\x7f\xc3\xa9\xff";
 enum { PLAIN = 48 };
 
@@ -65,7 +65,7 @@ typedef struct {
     size_t length;
 } text;
 
-/* Whether each text that was made since this was last set is certainly UTF-8. */
+/* Whether each text that was made since this was last set to true is certainly UTF-8. */
 static bool all_plain;
 
 static text some_text(void) {
@@ -147,7 +147,7 @@ static uint32_t formats(text key, const cadence_options *options, uint8_t *line,
     }
 }
 
-/* Keeps a line that the formatter made, as a line of the host. */
+/* Formats a line without a client, and keeps it by cadence_line. */
 static uint32_t keeps_line(host *h) {
     static uint8_t line[LONGEST];
     all_plain = true;
@@ -162,8 +162,8 @@ static uint32_t keeps_line(host *h) {
     return status;
 }
 
-/* Makes the call of a value. Only the packets show which line it keeps, so it uses a client that drops packets, whose
- * packets are not compared. */
+/* Makes a call that keeps the line of a value. This program doesn't know that line, so it can't compare the packets.
+ * Therefore it makes the call only for a client that drops packets, whose packets aren't compared. */
 static uint32_t keeps_value(host *h) {
     all_plain = true;
     text key = some_text();

@@ -1,5 +1,5 @@
 /* The heap of libcadence_c.a, which calls that of the host. An empty block takes as many bytes as its alignment. If
- * memory runs out, the block that is returned is not given, and its pointer is one that nobody follows. */
+ * memory runs out, `given` of the returned block is 0, and nobody follows its pointer. */
 #include <stdint.h>
 #include <stdlib.h>
 

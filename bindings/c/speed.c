@@ -1,6 +1,6 @@
 /* speed count|tags CALLS [THREADS [known]]: makes CALLS calls in each thread and prints how many nanoseconds a call
- * takes. Each thread has a handle and a socket of its own. Packets of 1432 bytes are sent to the loopback address as
- * soon as two wait. */
+ * takes. With `known` the texts are not tested for UTF-8. Each thread has a handle and a socket of its own. Packets of
+ * 1432 bytes are sent to the loopback address as soon as two wait. */
 #include "cadence.h"
 #include <arpa/inet.h>
 #include <pthread.h>

@@ -1,4 +1,4 @@
-/* Returns the version of the library, which is that of the header it was built with. */
+/* Returns the version of the library, which is the version of the header with which it was built. */
 #include <cadence.h>
 
 const char *cadence_version(void) {
