@@ -174,8 +174,8 @@ uint32_t cadence_decimal(cadence_handle *handle, uint32_t kind, const uint8_t *k
 uint32_t cadence_duration(cadence_handle *handle, uint32_t kind, const uint8_t *key, size_t key_len,
                           const uint64_t *nanos, size_t nanos_len, const cadence_options *options);
 
-/* Keeps a line that the host has made. The bytes of the line are not tested. It is packed like the lines of the calls
- * above. Returns CADENCE_OK, CADENCE_NO_CLIENT, CADENCE_NO_MEMORY or CADENCE_FULL. */
+/* Keeps a line that the host has made, without testing its bytes. The line is packed like the lines of the calls above.
+ * Returns CADENCE_OK, CADENCE_NO_CLIENT, CADENCE_NO_MEMORY or CADENCE_FULL. */
 uint32_t cadence_line(cadence_handle *handle, const uint8_t *line, size_t line_len);
 
 /* Makes a packet of the held text, if there is any. Returns CADENCE_OK, CADENCE_NO_CLIENT, CADENCE_NO_MEMORY or

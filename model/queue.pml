@@ -1,8 +1,9 @@
-/* A model of the queue that threads share (shared_queue.rt and taker.rt of crates/cadence_shared/src). Callers offer texts,
-   and a worker takes several at once and hands them on one by one. The queue is stopped by a thread that then waits for the
-   worker's end, or by the drop of its last handle. Beneath it are the kit's Condvar, step by step, and a lock. The lock is a
-   plain one, or, if KIT is 1, the kit's Mutex, step by step. README.md says what is checked, and .ci/model checks it. Each
-   process is a thread. Each statement is one step, and so is each `atomic` block; other threads may do steps in between.
+/* A model of the queue that threads share (shared_queue.rt and taker.rt of crates/cadence_shared/src). Callers offer
+   texts, and a worker takes several at once and hands them on one by one. The queue is stopped by a thread that then
+   waits for the worker's end, or by the drop of its last handle. The queue uses the kit's Condvar, step by step, and a
+   lock. The lock is a plain one, or, if KIT is 1, the kit's Mutex, step by step. README.md says what is checked, and
+   .ci/model checks it. Each process is a thread. Each statement is one step, and so is each `atomic` block; other
+   threads may do steps in between.
 
    These macros (-D) choose what is checked: */
 
@@ -51,8 +52,9 @@
 #define STOPPED 3
 #define OUT_OF_MEMORY 4
 
-/* Where a thread sleeps: for one of the two locks, the queue's and the end mark's, or on the Condvar of one of them. The
-   first thread is the one that starts the others, the second is the worker, and the last ones are those that stop. */
+/* Where each thread sleeps: for one of the two locks, which are the queue's and the end mark's, or on the Condvar of
+   one of them. The first thread starts the others, the second is the worker, then come the callers, and the last
+   threads stop the queue. */
 #define THREADS (2 + CALLERS + STOPPERS)
 #define WORKER 1
 #define NOWHERE 0
@@ -68,13 +70,13 @@ byte submitted, drained, dropped;
 bool stopped;
 byte handles = CALLERS;
 
-/* The texts that the worker has taken and not yet handed on; and its end mark, which has a lock of its own. */
+/* The texts that the worker has taken and not yet handed on, and the end mark, which has a lock of its own. */
 chan lent = [ROOM] of { byte };
 bool ended;
 
-/* What only the checks read: the accepted texts that were neither handed on nor dropped, in the order in which they were
-   accepted; how many offers answered that they were accepted; how many texts were handed on; and how many calls have
-   changed the queue and not returned yet. */
+/* Only the checks read these: the accepted texts that were neither handed on nor dropped, in the order in which they
+   were accepted; how many offers returned that their text was accepted; how many texts were handed on; and how many
+   calls have changed the queue and not returned yet. */
 chan owed = [TEXTS] of { byte };
 byte accepted, handed, under_way;
 
@@ -88,16 +90,16 @@ byte accepted, handed, under_way;
 #define IS_WITHIN (len(ring) <= CAPACITY)
 #endif
 
-/* The worker sleeps though it has something to do, and no call is under way that might wake it. */
+/* The worker sleeps although it has something to do, and no call is under way that might wake it. */
 #define IS_NEGLECTED (sleeps_at[WORKER] == CHANGED && !IS_IDLE && under_way == 0)
 
 /* ---- The locks ---- */
 
 #if KIT
 
-/* The kit's Mutex; each of its steps on its word is a step here. The word is 1 if the lock is free, and 4 if it is free for a
-   thread that has slept. It is 0 if the lock is held, 2 if it is held and a thread may sleep for it, and 3 if a thread that has
-   slept twice asks for 4. */
+/* The kit's Mutex; each of its steps on its word is a step here. The word is 1 if the lock is free, and 4 if it is free
+   only for a thread that has slept. It is 0 if a thread has the lock, 2 if a thread has it and another may sleep for
+   it, and 3 if a thread that has slept twice asks that the word become 4. */
 byte word[3] = 1;
 byte holders[3];
 
@@ -192,7 +194,8 @@ bool held[3];
 
 #define LOCALS bool got; byte noted
 
-/* It may fail at any moment, because the kit's try fails too if the lock is free for a thread that has slept. */
+/* A try may fail at any moment, because the kit's try also fails if the lock is free only for a thread that has
+   slept. */
 inline TRY_LOCK(lock) {
   atomic { if :: !held[lock] -> held[lock] = true; got = true :: got = false fi }
 }
@@ -219,7 +222,8 @@ hidden byte each;
 #define NOTIFICATIONS(condvar) notifications[condvar - CHANGED]
 #define SLEEPERS(condvar) sleepers[condvar - CHANGED]
 
-/* The thread doesn't fall asleep if there was a notification since it noted their number, which it did under the lock. */
+/* The thread doesn't fall asleep if there was a notification after it read the number of notifications, which it did
+   under the lock. */
 inline WAIT(condvar, lock) {
 #if FAULT == 9
   UNLOCK(lock);
@@ -268,10 +272,11 @@ inline NOTIFY_ALL(condvar) {
 
 /* ---- The queue ---- */
 
-/* What has to hold whenever the queue's lock is free, and a further claim of the thread that held the lock. */
+/* Asserts what has to be true whenever the queue's lock is free, and a further claim of the thread that had the
+   lock. */
 #define CHECK(claim) assert(IS_WITHIN); assert(len(ring) == submitted - drained - dropped); assert(claim)
 
-/* Makes these checks and gives up the queue's lock. The checks read only the fields under the lock. */
+/* Makes these checks and releases the queue's lock. The checks read only the fields under the lock. */
 #if KIT
 inline RELEASE(claim) {
   atomic { CHECK(claim) };

@@ -1,14 +1,15 @@
 #!/usr/bin/env python3
-"""Measures the work of the program bench and prints the tables of docs/SPEED.md. With --rust it measures, beside it, a
-program that does the same work over the Rust crate. Both programs take MODE N [SIZES] and print `check=..` and
-`ns_per=..`, and for a queue also `accepted=..` and `drained_ns_per=..`. If a check differs between the programs, that is
-printed and the status is 1."""
+"""Measures the work of the program bench and prints the tables of docs/SPEED.md. With --rust it also measures a program
+that does the same work over the Rust crate. Both programs take MODE N [SIZES] and print `check=..` and `ns_per=..`, and
+for a queue also `accepted=..` and `drained_ns_per=..`. If a check differs between the programs, that is printed and the
+status is 1."""
 import argparse, collections, os, re, statistics, subprocess, sys, tempfile
 from typing import NamedTuple
 
 
 class Work(NamedTuple):
-    """A mode, the sizes that all its runs have, the sizes of which each run has one, and what a call does."""
+    """The work of a line of the tables: a mode, the sizes that all its runs have, the sizes of which each run has one,
+    and what a call does."""
     mode: str
     sizes: str
     each: str
@@ -63,7 +64,7 @@ QUEUED = ('queue', 'callers', 'service')
 
 
 class Programs:
-    """The programs by their names, this one last, and the checks that each kind of run printed."""
+    """The programs by their names, the program bench last, and the checks that each kind of run printed."""
 
     def __init__(self, this, rust):
         self.paths = {**({'Rust': rust} if rust else {}), 'This': this}
@@ -92,7 +93,8 @@ def lines_together(mode, sizes):
 
 
 def count_of_a_call(programs, name, work, sizes, apart, before, pattern):
-    """Returns what valgrind counts for a call. It is the difference of two runs, which leaves out start and end."""
+    """Returns what valgrind counts for a call. The count is the difference of two runs, so it leaves out the start and
+    the end of the program."""
     together, counts = lines_together(work.mode, sizes), []
     two = [-(-calls // together) * together for calls in (apart // 10, apart // 10 + apart)]
     for calls in two:
@@ -112,7 +114,7 @@ def requests(programs, name, work, sizes):
 
 
 def row(work, columns):
-    """Returns a line of a table, whose cells have the figure of each run of the work. A missing figure is left out."""
+    """Returns a line of a table, whose cells have the figures of the runs of the work. A missing figure is left out."""
     return ' | '.join(['| ' + work.title(), *(', '.join(one for one in column if one) for column in columns)]) + ' |'
 
 
@@ -137,8 +139,8 @@ def spread(values):
 
 
 def times_of(programs, work, sizes, runs):
-    """Runs the programs in turns, and returns three lists for each: the nanoseconds of a call, the lines got through
-    in a millisecond and the lines accepted of a hundred."""
+    """Runs the programs in turns, and returns three lists for each: the nanoseconds of a call, the lines that went
+    through the queue in a millisecond, and the lines of a hundred that were accepted."""
     found = collections.defaultdict(lambda: ([], [], []))
     for name in programs.names(work) * runs:
         printed, _ = programs.run(name, work.mode, work.timed, sizes)

@@ -113,7 +113,7 @@ pub struct Arguments {
     pub callers: usize,
 }
 
-/// What is printed if the words name no work.
+/// The text that is printed if the words name no work.
 pub const USAGE: &str = "bench count|count_tags|histogram4 N
 bench tags|dtags|values|key N [SIZE]
 bench packer|udp|queue N [CAP LEN]

@@ -1,4 +1,4 @@
-//! Lines into sinks and queues, from several threads at the same time.
+//! Emits lines into sinks and queues, from several threads at the same time.
 
 use crate::arguments::{Arguments, Emitting};
 use crate::done::{Accepted, BlackBox, Done};
@@ -26,9 +26,9 @@ struct Turns {
     succeeded: u64,
 }
 
-// What several callers do at the same time.
+// The work that several callers do at the same time, one turn after another.
 trait Turn: Sync {
-    // Does it once, and returns whether it succeeded.
+    // Does the work once, and returns whether it succeeded.
     fn take(&self, hidden: &BlackBox, number: u64) -> bool;
 }
 
@@ -54,8 +54,8 @@ fn take_turns<R: Clock, T: Turn>(
     })
 }
 
-// Runs the callers, each with its part of the turns, all from the same moment on. Returns how many turns succeeded, and
-// the time from when the first caller began until the last one ended.
+// Runs the callers, each with its share of the turns, all from the same moment on. Returns how many turns succeeded,
+// and the time from when the first caller began until the last one ended.
 fn run_together<R: Clock + Wait + Threads + Sync, T: Turn>(
     rt: &R,
     alloc: Global,

@@ -48,15 +48,15 @@ impl Accepted {
     }
 }
 
-/// Hides values from the compiler, so that it can't work out a call when it compiles it. It hides them behind a test of
-/// an atomic number, whose value the compiler can't know.
+/// Hides values from the compiler, so that it can't compute the result of a call when it compiles the call. The values
+/// are hidden behind a test of an atomic number, whose value the compiler can't know.
 #[derive(Drop)]
 pub struct BlackBox {
     zero: AtomicU64,
 }
 
 impl BlackBox {
-    /// Creates a box for any number of values.
+    /// Creates a `BlackBox`, which can hide any number of values.
     pub fn new() -> BlackBox {
         BlackBox {
             zero: AtomicU64::new(0),

@@ -1,4 +1,4 @@
-//! Calls of a client, each of one size.
+//! Makes calls of a client, each of one size.
 
 use crate::done::{BlackBox, Done, Note};
 use cadence::prelude::*;

@@ -1,4 +1,4 @@
-//! Lines into a packer.
+//! Writes lines to a packer.
 
 use crate::arguments::Arguments;
 use crate::counting::CountingWriter;

@@ -1,4 +1,4 @@
-//! Packets that are read.
+//! Reads packets.
 
 use crate::arguments::{Arguments, Reading};
 use crate::done::{BlackBox, Done, Note};

@@ -1,4 +1,4 @@
-//! Lines into sinks and queues, from one thread.
+//! Emits lines into sinks and queues, from one thread.
 
 use crate::arguments::Arguments;
 use crate::done::{BlackBox, Done, Note};

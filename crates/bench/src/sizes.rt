@@ -1,4 +1,4 @@
-//! Calls of a client whose size is an argument.
+//! Makes calls of a client, whose size is an argument.
 
 use crate::done::{BlackBox, Done, Note};
 use cadence::prelude::*;
