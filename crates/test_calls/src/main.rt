@@ -1,10 +1,10 @@
-//! Makes every call of the client for every type of its value, plain and with tags, and prints the lines that its sink
-//! received, each of which must come once. Then it prints the texts of an audited queue's errors.
+//! Makes every call of the client for every type of its value, plain and with tags, and prints the lines that the sink
+//! received. Each line must arrive once. Then it prints the texts of an audited queue's errors.
 //!
 //! The expected lines follow from the grammar: prefix, key, numbers, kind, rate, tags, container, timestamp. A spy
 //! takes the place of a socket. Errors, refusals and memory are tested in `test_client`.
 //!
-//! - `groups`: the calls in groups. `kinds`: the calls of each kind. `tagged`: the end of a call with a tag.
+//! - `groups`: the calls in groups. `kinds`: the calls of each kind. `tagged`: adds a tag to a call and sends it.
 //! - `options`: the options of a call, and clients with settings.
 #![tactic(auto)]
 

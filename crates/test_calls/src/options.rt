@@ -11,7 +11,8 @@ const LONG: &str =
     0123456789012345678901234567890123456789012345678901234567890123456789012345678901234567890123456789\
     0123456789012345678901234567890123456789012345678901234567890123456789012345678901234567890123456789";
 
-/// Makes a call with each option. In the line they come in the order of the grammar, not of the calls.
+/// Makes a call with each option. The line has the options in the order of the grammar, and not in the order in which
+/// they were set.
 pub fn choose_each(client: &StatsdClient) -> MetricResult<()> {
     let half = Decimal::new(5, 1)?;
     client
@@ -24,7 +25,7 @@ pub fn choose_each(client: &StatsdClient) -> MetricResult<()> {
     Ok(())
 }
 
-/// Makes calls that choose an option twice. The last choice counts.
+/// Makes calls that set an option twice. The line has the last choice.
 pub fn choose_twice(client: &StatsdClient) -> MetricResult<()> {
     let (half, whole) = (Decimal::new(5, 1)?, Decimal::new(1, 0)?);
     let call = client.incr_with_tags("k").with_sampling_rate(half);
@@ -65,7 +66,7 @@ pub enum Setting {
     Prefix(&'static str),
     /// Default tags, which come before the tags of a call.
     Tags,
-    /// A container, which that of a call replaces.
+    /// A container. The container of a call replaces it.
     Container,
 }
 
@@ -109,7 +110,7 @@ fn send_with_tags<S: MetricSink>(alloc: Global, sink: S) -> MetricResult<()> {
     Ok(())
 }
 
-// Makes a client whose container is set twice. The last one counts.
+// Makes a client whose container is set twice. Its lines have the last one.
 fn make_client_with_container<S: MetricSink>(
     alloc: Global,
     sink: S,

@@ -1,9 +1,9 @@
 //! Four callers in threads over one queuing sink, for each kind of queue, while handles are cloned and dropped.
 //!
-//! The program prints only what has to be so in any order of the threads' turns: sums, and whether each accepted line
-//! that wasn't dropped reached the wrapped sink once, in the order of its caller, one at a time. In the first part the
-//! callers emit as fast as they can. In the second one each waits until no line is queued, so the worker sleeps before
-//! most lines: a lost wake-up would show as a caller that doesn't end.
+//! The program prints only what has to be true for any order of the threads' turns: sums, and whether each accepted
+//! line that wasn't dropped reached the wrapped sink once, in the order of its caller, one at a time. In the first part
+//! the callers emit as fast as they can. In the second one each waits until no line is queued, so the worker sleeps
+//! before most lines: a lost wake-up would show as a caller that doesn't end.
 //!
 //! It waits for each thing 20 seconds at most, so it ends even if a thread hangs. A run tries some orders of turns, and
 //! not all of them; the model in `model/` goes through all orders of a few threads.

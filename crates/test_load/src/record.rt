@@ -10,8 +10,8 @@ use std::sync::{Arc, Mutex, Wait};
 /// How many callers there are.
 pub const CALLERS: usize = 4;
 
-/// Returns the trace of a list of numbers, given the trace of the list before its last number. Two lists have the same
-/// trace if they are equal, and otherwise most likely not.
+/// Returns the trace of a list of numbers, given the trace of the list before its last number. Equal lists have the
+/// same trace, and lists that differ most likely have different ones.
 pub fn next_trace(before: u64, number: u64) -> u64 {
     before
         .wrapping_mul(6_364_136_223_846_793_005)

@@ -1,11 +1,11 @@
-//! Waiting that gives up after a time, and the bounds of the runtime.
+//! Waits that give up after a time, and the bounds of the runtime.
 
 use std::alloc::AllocError;
 use std::sync::Wait;
 use std::thread::{self, Threads};
 use std::time::{Clock, Duration};
 
-/// The bounds of a runtime for these runs. Each type with these bounds is one.
+/// The bounds of a runtime for these runs. Each type that meets these bounds implements this trait.
 pub trait Runtime: Clock + Wait + Threads + Clone + Drop + Send + Sync + 'static {}
 
 impl<R: Clock + Wait + Threads + Clone + Drop + Send + Sync + 'static> Runtime for R {}
@@ -13,7 +13,7 @@ impl<R: Clock + Wait + Threads + Clone + Drop + Send + Sync + 'static> Runtime f
 // A wait gives up after this many milliseconds.
 const MOST_MILLISECONDS: u32 = 20_000;
 
-/// Waits until `is_so` returns `true`, and returns whether it did in time. Calls it every millisecond.
+/// Waits until `is_so` returns `true`, and returns whether it did in time. It is called every millisecond.
 pub fn holds_in_time<R: Clock, F: Fn() -> bool>(rt: &R, is_so: &F) -> bool
     requires { F.IsAlwaysCallable is_so.now }
 {

@@ -1,8 +1,9 @@
-//! A model of a script's run: it works out the report that `statsd_schedule` has to print, and shares no code with it.
+//! A model of a script's run: it computes the report that `statsd_schedule` has to print, and shares no code with that
+//! program.
 //!
-//! The model knows no crate of the library, so a mistake of the library can't be in both. It expects a script that
-//! `statsd_schedule` can read, and says nothing about others. It is checked by comparison alone: a rule that model and
-//! library both have wrong isn't found.
+//! The model uses no crate of the library, so a mistake in the library's code can't be in both. It expects a script
+//! that `statsd_schedule` can read, and says nothing about other scripts. It is checked only by comparison: a rule that
+//! is wrong in the model and in the library isn't found.
 //!
 //! - `script`: the settings and the steps of a script.
 //! - `line`: the line of a call.

@@ -96,7 +96,7 @@ impl<'a> Fields<'a> {
         })
     }
 
-    // Sets the field that `name` says, from the words that follow it. A tag is added.
+    // Sets the field that `name` names, from the words that follow it. A tag is added to the earlier ones.
     fn set_field(
         &mut self,
         alloc: Global,

@@ -3,7 +3,7 @@ use crate::script::Settings;
 use std::alloc::{AllocError, Global};
 use std::str::Split;
 
-/// The packer and its writer: what they have sent, what they hold and what they have counted.
+/// The packer and its writer: the packets that were sent, the held text and the counts.
 #[derive(Drop)]
 pub struct Packer<'a> {
     alloc: Global,
@@ -21,7 +21,7 @@ pub struct Packer<'a> {
     pub groups: Vec<usize>,
     /// The number of packets that the writer refused.
     pub refusals: usize,
-    /// The bytes of these packets.
+    /// The bytes of the refused packets.
     pub refused_bytes: usize,
 }
 
@@ -117,7 +117,8 @@ impl<'a> Packer<'a> {
         Ok(Ok(line.len()))
     }
 
-    // Adds a line to the held text, and counts it in the held text's group if that had a line before the call.
+    // Adds a line to the held text. Counts the line in the last group if `joins` is set and text is held, and otherwise
+    // in a new group.
     fn hold(&mut self, line: &str, joins: bool) -> Result<(), AllocError> {
         match self.groups.last_mut() {
             Some(last) if joins && !self.held.is_empty() => *last = last.wrapping_add(1),

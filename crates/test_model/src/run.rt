@@ -6,7 +6,7 @@ use crate::script::{Settings, read_script};
 use crate::text::{push_number, push_shown};
 use std::alloc::{AllocError, Global};
 
-/// The place at which memory runs out in a run, once at most. Steps and writes are each counted from 0.
+/// The one place at which memory runs out in a run, or none. Steps and writes are each counted from 0.
 #[derive(Clone, Copy, Debug)]
 pub enum MemoryError {
     /// Nowhere.

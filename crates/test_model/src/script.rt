@@ -12,7 +12,7 @@ pub struct Settings<'a> {
     /// The capacity of a packet, in bytes.
     pub capacity: usize,
     pub ending: String,
-    /// The capacity of the queue, in lines. `None` is no bound.
+    /// The capacity of the queue, in lines. `None` means that the queue has no bound.
     pub queue: Option<usize>,
     /// Whether a full queue drops its oldest line for a new one. Otherwise it refuses the new one.
     pub drops_oldest: bool,

@@ -1,8 +1,8 @@
 //! The texts of a script, and bytes as a report prints them.
 use std::alloc::{AllocError, Global};
 
-/// Returns the text that a word of a script means: `\\n` is a newline, `\\s` a space, `\\e` nothing, and `\\` before
-/// any other character is that character.
+/// Returns the text that a word of a script stands for: `\n` stands for a newline, `\s` for a space and `\e` for no
+/// text, and a backslash before any other character stands for that character.
 pub fn text_of(alloc: Global, word: &str) -> Result<String, AllocError> {
     let mut text = String::new(alloc);
     let mut after_backslash = false;

@@ -16,8 +16,8 @@
 //!
 //! The program calls the engine and not the program `statsd_schedule`, which `.ci/programs` runs over the same rows.
 //!
-//! - `scripts`: a script and what it gives. `plans`: a plan and whether it is the one that is made.
-//! - `generator`: scripts of every shape, from a seed. `turns`: a script with one thing failing in each turn.
+//! - `scripts`: runs a script and compares the outcome. `plans`: tests a plan.
+//! - `generator`: makes scripts of every shape from a seed. `turns`: runs a script with one failure in each turn.
 //! - `makers`, `udp_makers`: the constructors. `memory`: whether a new sink has memory for a line and a flush.
 #![tactic(auto)]
 
@@ -57,7 +57,7 @@ fn word_of(difference: Option<&'static str>) -> &'static str {
     difference.unwrap_or("ok")
 }
 
-// Runs each worked row, and prints whether it gave what it has to.
+// Runs each worked row, and prints whether it had the outcome that it must have.
 fn print_rows(rt: &HostRuntime) -> MetricResult<()> {
     for name in fs::read_to_string(rt, "index")?.lines() {
         let difference = scripts::row_difference(rt, name)?;
@@ -76,7 +76,7 @@ fn print_unreadable(rt: &HostRuntime) -> MetricResult<()> {
     Ok(())
 }
 
-// Prints of each plan whether it is judged and made as it has to be.
+// Prints for each plan whether `check_plan` and `plan_packets` return what they have to return for it.
 fn print_plans(rt: &HostRuntime) -> MetricResult<()> {
     for line in fs::read_to_string(rt, "plans")?.lines() {
         if !line.starts_with('#') {

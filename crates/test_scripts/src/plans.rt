@@ -1,4 +1,4 @@
-//! A plan, which says how many lines each packet has, and whether it is the one that is made.
+//! Reads plans, which say how many lines each packet has, and tests whether they are the plans that are made.
 use cadence::schedule::{check_plan, plan_packets};
 use cadence::{ErrorKind, MetricError, MetricResult};
 use std::alloc::Global;
@@ -21,8 +21,8 @@ fn parse_numbers(alloc: Global, field: &str) -> MetricResult<Vec<usize>> {
     Ok(numbers)
 }
 
-/// Reads `CAPACITY; SIZES; MARKS; PLAN; ANSWER`. Compares the answer, `yes` or `no`, with that of `check_plan`, and
-/// with whether `plan_packets` makes this plan. Returns which of the two differs, and `None` if neither does.
+/// Reads `CAPACITY; SIZES; MARKS; PLAN; ANSWER`. Compares the answer, `yes` or `no`, with what `check_plan` returns,
+/// and with whether `plan_packets` makes this plan. Returns which of the two differs, or `None` if neither does.
 pub fn plan_difference(alloc: Global, line: &str) -> MetricResult<Option<&'static str>> {
     let mut fields = line.split(';');
     let mut next = || fields.next().ok_or(malformed_plan());

@@ -1,4 +1,4 @@
-//! A script, what its run gives, and what it has to give.
+//! Runs scripts, and compares the outcomes with those that they must have.
 use cadence_cli::push_bytes;
 use cadence_script::run_script;
 use std::alloc::{AllocError, Global};
@@ -6,7 +6,7 @@ use std::io::ErrorKind;
 use std::rt::Files;
 use std::{fs, io};
 
-/// What a run gives, or what it has to give: the output, the errors and the exit status.
+/// The outcome of a run, or the outcome that it must have: the output, the errors and the exit status.
 #[derive(Drop)]
 pub struct Outcome {
     pub output: Vec<u8>,
@@ -29,7 +29,7 @@ impl Outcome {
     }
 }
 
-/// Runs a script, and returns what it gives.
+/// Runs a script, and returns the outcome.
 pub fn outcome_of(alloc: Global, script: &[u8]) -> Outcome {
     let (mut output, mut errors) = (Vec::new(alloc), Vec::new(alloc));
     let mut input = script;

@@ -1,9 +1,9 @@
 //! Runs of a script in which one thing fails in each turn: a request for memory, an answer of the writer, a read or a
 //! write.
 //!
-//! How a turn has to end: as the run without a failure, if the failure wasn't met or changed nothing; with the status
-//! and the message of the failure, and nothing or a first part of the report printed; or with a report that
-//! `test_model` allows.
+//! A turn has to end in one of these ways: as the run without a failure does, if the failure didn't happen or changed
+//! nothing; with the status and the message of the failure, and with no output or a first part of the report; or with a
+//! report that `test_model` allows.
 use crate::scripts::{Outcome, outcome_of};
 use cadence_script::run_script;
 use std::alloc::{AllocError, Global};
@@ -58,7 +58,7 @@ impl EndCounts {
         }
     }
 
-    // Counts a turn that ended in this way, if it ended as it has to.
+    // Counts a turn that ended in this way. If `is_right` is false, the turn counts as wrong.
     fn count(&mut self, is_right: bool, end: End) {
         let count = self.count_of(is_right, end);
         *count = count.wrapping_add(1);

@@ -8,7 +8,7 @@ use std::io;
 use std::net::UdpSocket;
 use std::sync::Wait;
 
-/// Gives a sink an input, and returns its answer as a text.
+/// Passes an input to a sink, and returns its answer as a text.
 pub fn answer_of<S: MetricSink>(
     alloc: Global,
     sink: &S,
@@ -29,7 +29,7 @@ pub fn answer_of<S: MetricSink>(
     }
 }
 
-/// Gives a sink the inputs of the list, and returns whether each answer is that of the run.
+/// Passes the inputs of the list to a sink, and returns whether each answer is that of the run.
 pub fn answers_match<S: MetricSink>(
     alloc: Global,
     sink: &S,

@@ -1,13 +1,13 @@
 //! Compares the sinks that pack lines with the proved run, byte for byte.
 //!
-//! What a run gives is proved for a packet log in memory. The sinks over sockets and spies aren't proved as a whole, so
-//! this program gives the same lists of lines and flushes to the run and to each sink, and prints for how many lists
-//! the packets, the answers and the counts were the same. Then it does so for sinks that are made without a capacity or
+//! What a run does is proved for a packet log in memory. The sinks over sockets and spies aren't proved as a whole, so
+//! this program passes the same lists of lines and flushes to the run and to each sink, and prints for how many lists
+//! the packets, the results and the counts were the same. Then it does so for sinks that are made without a capacity or
 //! a period, for two worked rows after each of their steps, and for boxed sinks that two threads share. The run says
-//! what is expected; for the worked rows the program prints its values too.
+//! what is expected; for the worked rows the program also prints the values of the run.
 //!
-//! UDP on the loopback address is taken to lose nothing. A UDP socket can't be made to refuse, so refusals are tried
-//! over a Unix sink whose socket is in memory, and over a spy whose queue is full.
+//! The program assumes that UDP on the loopback address loses nothing. A UDP socket can't be made to refuse, so
+//! refusals are tried over a Unix sink whose socket is in memory, and over a spy whose queue is full.
 //!
 //! - `lists`: lists of inputs. `runs`: the proved run of a list.
 //! - `checks`: whether one sink matches the run for one list. `comparison`: the comparisons that this needs.

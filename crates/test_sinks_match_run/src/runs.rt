@@ -8,7 +8,7 @@ use cadence::types::SinkError;
 use cadence::{MetricError, MetricResult, SinkStats};
 use std::alloc::{AllocError, Global};
 
-/// What a run gave: the answers as texts, the packets and the sums, before and after one more flush at its end.
+/// The outcome of a run: the answers as texts, the packets and the sums, before and after one more flush at its end.
 #[derive(Drop)]
 pub struct Run {
     /// The answer to each line and flush.
@@ -89,7 +89,7 @@ fn copy_packets(alloc: Global, packets: &[Vec<u8>]) -> Result<Vec<Vec<u8>>, Allo
     Ok(all)
 }
 
-// What a run of some steps gave.
+// The outcome of a run of some steps.
 #[derive(Drop)]
 struct StepResults {
     answers: Vec<String>,

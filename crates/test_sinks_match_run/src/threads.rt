@@ -59,8 +59,8 @@ pub fn join_packets(alloc: Global, packets: &[Vec<u8>]) -> Result<String, AllocE
     String::from_utf8_lossy(alloc, &bytes)
 }
 
-// Adds the next line of a thread to the list if this line begins with the thread's key. That the line is that one
-// follows when the packets are compared with the run.
+// Adds the next line of a thread to the list if this line begins with the thread's key. Whether the received line
+// really is that one shows when the packets are compared with the run.
 fn add_next(
     alloc: Global,
     list: &mut List,

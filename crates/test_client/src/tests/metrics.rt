@@ -35,7 +35,7 @@ fn hash_both<K, A: Allocator, H: Hasher>(
     other.hash(second);
 }
 
-// Returns the text of any metric. The function knows nothing of it but the bound `Metric`.
+// Returns the text of any metric. The function uses only the bound `Metric`.
 fn text_of<M: Metric>(metric: &M) -> &str
     ensures { result.now ≡ M.metric_text metric.now }
 {

@@ -5,7 +5,8 @@ use std::test::Fail;
 use test_faults::each_refused;
 
 // The lengths of lines, the marks before which a packet ends, and how many lines each packet of at most 10 bytes has.
-// For example 4 and 4 fit a packet, and another 4 doesn't, but 9 and 1 do.
+// For example, lines of 4 and 4 bytes fit a packet, and another line of 4 bytes doesn't fit beside them; lines of 9 and
+// 1 bytes fit a packet.
 const PLANS: [(&[usize], &[usize], &[usize]); 4] = [
     (&[4, 4, 4, 9, 1], &[], &[2, 1, 2]),
     (&[4, 4, 4, 9, 1], &[1], &[1, 2, 2]),

@@ -1,6 +1,6 @@
 //! The audited queue: its history, what it does with seats of other queues, each request for memory refused in turn,
-//! and callers in threads. A contract says what the history agrees with; that it is the history of these calls is
-//! tested here.
+//! and callers in threads. A contract says what a history agrees with. The tests show that it is the history of these
+//! calls.
 use super::audited_callers::runs_callers_in_threads;
 use cadence_audit::{AuditError, AuditedQueue, EndFault, Event, History, Seat, SubmitReply};
 use cadence_flow::queue::Taken;
@@ -189,8 +189,8 @@ fn make_queue(
     Some((queue, seat, text))
 }
 
-// Returns whether the heap had all the memory for a submit. A submit that is refused is counted. It has to give the
-// text back and to leave no receipt, and the next submit has to succeed.
+// Returns whether the heap had all the memory for a submit. A refused submit is counted. It has to return the text and
+// to leave no receipt, and the next submit has to succeed.
 fn has_memory_for_a_submit<R: Wait>(
     rt: &R,
     heap: RefusingAllocator<Global>,

@@ -85,8 +85,8 @@ fn replaces_writer(packer: &mut MultiLineWriter<PacketLog>, alloc: Global) -> bo
         && has_packets_and_text(packer, &[], "")
 }
 
-// Returns whether the packer gives back its log, with a packet that was written past the packer, and the line that it
-// holds.
+// Returns whether the packer gives back its log, with a packet that was written to the log directly, and the line that
+// it holds.
 fn gives_back_packet_and_line(packer: MultiLineWriter<PacketLog>) -> bool {
     let (log, text) = packer.into_parts();
     has_packets(&log, &["third data\n", "direct"]) && text.as_slice() == b"a:1|c\n".as_slice()
@@ -213,7 +213,7 @@ fn refused_packet_uses_up_its_answer(rt: HostRuntime) -> Result<(), Fail> {
     Ok(())
 }
 
-// Makes a packer that writes its errors to a place of the caller's, over a log with these answers.
+// Makes a packer that stores its errors in a variable of the caller, over a log with these answers.
 fn make_line_buffer(
     alloc: Global,
     capacity: usize,
@@ -297,13 +297,13 @@ const JOINING: &[Row] = &[
     (Call::Write("x"), true, 4, "x\n"),
 ];
 
-// What a short write leaves of the held text is given back with the writer.
+// The rest of the held text that a short write leaves is returned with the writer.
 const LEAVING: &[Row] = &[
     (Call::Write("abc"), true, 0, "abc\n"),
     (Call::Flush, false, 1, "bc\n"),
 ];
 
-// A call that fails writes its error to the place that it was passed.
+// A call that fails stores its error in the variable that was passed to it.
 const FAILING: &[Row] = &[
     (Call::Write("abc"), true, 0, "abc\n"),
     (Call::WriteRefused("123456789"), true, 0, "abc\n"),

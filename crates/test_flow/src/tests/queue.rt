@@ -1,6 +1,6 @@
 //! The core of a queue step by step, the shared queue with a taker that waits, and the end mark of a worker. Threads
-//! that wait for each other show that a waiting thread is woken, which no contract says. No answer depends on when it
-//! is.
+//! that wait for each other show that a waiting thread is woken, which no contract says. No result depends on when it
+//! is woken.
 use cadence_errors::{MetricResult, SinkError};
 use cadence_flow::queue::{QueueCore, QueuePolicy, Taken};
 use cadence_shared::{SharedQueue, WorkerEnd};
@@ -59,9 +59,9 @@ enum Step {
     SubmitNone,
     // The text is refused, and comes back.
     Refuse(char, Reason),
-    // The text that is taken is this one.
+    // This is the text that is taken.
     Take(char),
-    // The queue is stopped, and no text waits.
+    // A take returns `Ended`, because the queue is stopped and no text waits.
     Ended,
     Stop,
     AddHandle,
@@ -72,7 +72,7 @@ enum Step {
     Counts(u64, u64, u64),
     // No text waits.
     Idle,
-    // There is room for another text.
+    // The queue has room for another text.
     Room,
 }
 
@@ -232,7 +232,7 @@ fn bounded_queue_is_refused(rt: HostRuntime) -> Result<(), Fail> {
     Ok(())
 }
 
-// Sleeps for a time in which a taker most likely begins to wait. No answer depends on it.
+// Sleeps for a time in which a taker most likely begins to wait. No result depends on that.
 fn sleep_a_while<R: Clock>(rt: &R) {
     thread::sleep(rt, Duration::from_millis(20));
 }

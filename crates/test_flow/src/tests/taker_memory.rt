@@ -56,8 +56,8 @@ const GIVEN_BACK: &[(&str, u64)] = &[
     ("longer:6666|c", 0),
 ];
 
-// How lines went through a queue: each asked for as much memory as it has to; or one was refused once, and was accepted
-// and taken the next time; or anything else.
+// How lines went through a queue. `Well`: each line asked for memory as often as it has to. `RefusedOnce`: one line was
+// refused once, and was accepted and taken at the next try. `Wrong`: anything else.
 #[derive(Clone, Copy, PartialEq, Eq)]
 enum Passage {
     Well,
@@ -98,7 +98,7 @@ fn finish<R: Wait>(rt: &R, mut taker: Taker<'_, Line, RefusingAllocator<Global>>
     unreachable!()
 }
 
-// Puts each line of `GIVEN_BACK` into a queue of two, and takes it, until one has another end than `Well`.
+// Puts each line of `GIVEN_BACK` into a queue of two, and takes it, until one doesn't end in `Well`.
 fn send_each_through<R: Wait>(rt: &R, heap: RefusingAllocator<Global>) -> MetricResult<Passage> {
     let queue = SharedQueue::new(heap.clone()?, Some(2))?;
     let room = queue.room_of_taker(heap.clone()?)?;

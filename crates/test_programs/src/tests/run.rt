@@ -41,8 +41,8 @@ fn a_line_is_read(rt: HostRuntime) -> Result<(), Fail> {
     Ok(())
 }
 
-// Reads a run with this packet and this held text. Returns whether its metrics have these lines, or, if `lines` is
-// `None`, whether it is refused as one of no metrics.
+// Reads a run with this packet and this held text. Returns whether its metrics have these lines. If `lines` is `None`,
+// returns whether the reading fails with `NotMetrics`.
 fn reads_as(
     alloc: Global,
     packet: &[u8],

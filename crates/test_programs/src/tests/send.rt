@@ -51,10 +51,10 @@ const NO_METRICS: &[u8] =
 statsd_send: line 3: KIND is c, ms, g, m, h, s, d or the name of one, as in `count visits 1`
 statsd_send: 2 of 3 lines: cannot read\n";
 
-// In place of a status: the writer refused nothing, but at its end the run still holds text.
+// Returned in place of a status if the writer refused nothing, but text is still held at the end of the run.
 const LOST: u8 = 9;
 
-// In place of a status: memory was refused before the run began.
+// Returned in place of a status if memory was refused before the run began.
 const BEFORE: u8 = 4;
 
 // Runs the words, or the input if there are no words, over a packer whose packets hold one line. Returns the status,
@@ -216,8 +216,8 @@ fn each_answer_is_reported_and_each_write_of_a_message_may_fail(
     Ok(())
 }
 
-// Returns whether a run with this memory was refused none, in which case it must send the lines. A run that was refused
-// some must send the first lines, or none, and report that memory ran out.
+// Returns whether no request of a run with this memory was refused, in which case the run must send the lines. A run
+// with a refused request must send the first lines, or none, and report that memory ran out.
 fn sends_lines_with(
     alloc: Global,
     heap: RefusingAllocator<Global>,
@@ -283,7 +283,8 @@ fn each_write_of_a_printed_packet_may_fail(rt: HostRuntime) -> Result<(), Fail> 
     Err(Fail::new("always failed"))
 }
 
-// Returns whether a packet is printed with this memory, and none was refused. If it isn't printed, nothing must be.
+// Returns whether a packet is printed with this memory, and no request was refused. If the packet isn't printed,
+// nothing may be printed.
 fn is_printed_with(alloc: Global, heap: RefusingAllocator<Global>) -> Result<bool, Fail> {
     let left = heap.clone()?;
     let (mut output, mut errors) = (Vec::new(alloc), Vec::new(alloc));

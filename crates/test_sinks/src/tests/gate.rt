@@ -31,8 +31,8 @@ pub struct Gate {
     pub flushed: AtomicBool,
 }
 
-/// A sink that sends each line to one spy when it comes, and to another spy once the gate is open. Its counts are 1 to
-/// 4.
+/// A sink that sends each line to one spy when it comes, and to another spy once the gate is open. Its four counts are
+/// 1, 2, 3 and 4.
 #[derive(Drop)]
 pub struct GatedSink<R: Wait + Drop> {
     gate: Arc<Gate>,

@@ -206,7 +206,7 @@ fn has_right_end<R: Runtime>(
     Ok(all && queued == 0 && heap.left() == left)
 }
 
-// Returns whether the queue of a row does as the row says, and its handler is never called.
+// Returns whether the queue of a row does what the row says, and its handler is never called.
 fn is_as_row_says<R: Runtime>(
     rt: &R,
     alloc: Global,
@@ -263,7 +263,7 @@ const OF_TWO_THREADS: [(Bound, (u64, u64), [u64; 4]); 3] = [
     ),
 ];
 
-// Returns whether the queue of a row does as the row says, and each accepted line is dropped or drained until the
+// Returns whether the queue of a row does what the row says, and each accepted line has been dropped or drained at the
 // worker's end.
 fn is_as_row_of_two_says<R: Runtime>(
     rt: &R,

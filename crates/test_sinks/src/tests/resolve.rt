@@ -1,4 +1,4 @@
-//! Resolvers: which address counts after a lookup, a host that can't be found, each request for memory of a first
+//! Resolvers: which address they have after a lookup, a host that can't be found, each request for memory of a first
 //! lookup refused, and the thread that looks up again and again. The sleeper of the tests doesn't sleep.
 use cadence_errors::{ErrorKind, MetricError, SinkError};
 use cadence_resolve::{

@@ -7,7 +7,7 @@ use std::sync::Wait;
 use std::test::Fail;
 use std::thread::Threads;
 
-/// A runtime under which a queue can have a worker. Each type with these bounds is one.
+/// A runtime under which a queue can have a worker. Each type that meets these bounds implements this trait.
 pub trait Runtime: Wait + Threads + Clone + Drop + Send + Sync + 'static {}
 
 impl<R: Wait + Threads + Clone + Drop + Send + Sync + 'static> Runtime for R {}

@@ -38,7 +38,7 @@ impl MetricSink for RefusingSink {
     ghost flush_may_succeed = { λ _. tt };
 }
 
-// A sink that takes each line, and counts its calls. A flush counts as 100.
+// A sink that takes each line, and counts its calls. A flush counts as 100 calls.
 #[derive(Drop)]
 struct CountingSink {
     calls: Arc<AtomicU64>,
