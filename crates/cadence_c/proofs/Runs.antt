@@ -23,7 +23,7 @@ format_of capacity = record { capacity = capacity; ending = codes "\n" }
 abbrev whole : State → List ℕ
 whole s = concat s.queue.waiting ++ s.held
 
--- The oldest packet, and then the other packets with one more at the end, are all packets and the one more.
+-- The oldest packet, followed by the other packets with one more at the end, are all packets and the one more.
 first_and_rest : (ps : List (List ℕ)) (p : List ℕ) → concat (take 1 ps) ++ concat (drop 1 ps ++ p ∷ []) ≡ concat ps ++ p
 first_and_rest [] p = append-nil p
 first_and_rest (x ∷ ps) p =
@@ -53,7 +53,8 @@ held_text : (q : Queue (List ℕ)) (held : List ℕ)
 held_text q [] = sym (append-nil (concat q.waiting))
 held_text q (byte ∷ held) = packet_text q (byte ∷ held)
 
--- If a client keeps a line, the bytes that left it and those that it has grow by the frame of the line.
+-- If a client keeps a line, the bytes that left the client and those that it has together grow by the frame of the
+-- line.
 line_text : (s t : State) (line : List ℕ) (left : List (List ℕ)) → KeepsLine s line t → Drops s line left
     → concat left ++ whole t ≡ whole s ++ frame (format_of s.capacity) line
 line_text s t line left kept drops =
@@ -94,7 +95,7 @@ line_text s t line left kept drops =
     (cases_lt s.capacity (length s.held + size)))
     (cases_lt s.capacity size)
 
--- A client that keeps a line keeps its capacity.
+-- If a client keeps a line, its capacity stays the same.
 line_capacity : (s t : State) (line : List ℕ) → KeepsLine s line t → t.capacity ≡ s.capacity
 line_capacity s t line kept =
     ⊎_elim
@@ -117,7 +118,8 @@ capacity_stays (sets settings) s t left does = ap (λ (u : State). u.capacity) d
 abbrev frames : ℕ → List Act → List ℕ
 frames capacity acts = stream (format_of capacity) (filter_map line_of_act acts)
 
--- After an act, the bytes that left the client and those that it has grow by the frame of the line that the act keeps.
+-- After an act, the bytes that left the client and those that it has together grow by the frame of the line that the
+-- act keeps.
 act_text : (act : Act) (s t : State) (left : List (List ℕ)) → Does act s t left → concat left ++ whole t ≡ whole s ++ frames s.capacity (act ∷ [])
 act_text (keeps line) s t left does =
     line_text s t line left does.0 does.1 ∙ ap (λ (l : List ℕ). whole s ++ l) (sym (append-nil (frame (format_of s.capacity) line)))
@@ -142,7 +144,8 @@ frames-cons capacity flushes acts = refl
 frames-cons capacity (sends packet) acts = refl
 frames-cons capacity (sets settings) acts = refl
 
--- After acts, the bytes that left the client and those that it has grow by the frames of the lines that the acts keep.
+-- After acts, the bytes that left the client and those that it has together grow by the frames of the lines that the
+-- acts keep.
 run_text : (acts : List Act) (s t : State) (left : List (List ℕ)) → Leads acts s t left → concat left ++ whole t ≡ whole s ++ frames s.capacity acts
 run_text [] s t left leads =
     ap (λ (l : List (List ℕ)). concat l ++ whole t) leads.1 ∙ (ap whole leads.0 ∙ sym (append-nil (whole s)))
@@ -168,24 +171,25 @@ nothing_is_lost prefix capacity most policy acts t left leads = run_text acts (n
 packet_policy : (q : Queue (List ℕ)) (p : List ℕ) → q.policy ≡ Refuse → (queue_with_packet q p).policy ≡ Refuse
 packet_policy q p e = ap (λ (policy : QueuePolicy). (queue_with_room policy q).policy) e ∙ e
 
--- It has the same policy after the held text became a packet.
+-- A queue that refuses packets if it is full has the same policy after the held text became a packet.
 held_policy : (q : Queue (List ℕ)) (held : List ℕ) → q.policy ≡ Refuse → (queue_with_held q held).policy ≡ Refuse
 held_policy q [] e = e
 held_policy q (byte ∷ held) e = packet_policy q (byte ∷ held) e
 
--- It drops no packet to make room for the held text.
+-- A queue that refuses packets if it is full drops no packet to make room for the held text.
 none_for_held : (q : Queue (List ℕ)) (held : List ℕ) → q.policy ≡ Refuse → dropped_for_held q held ≡ []
 none_for_held q [] e = refl
 none_for_held q (byte ∷ held) e = ap (λ (policy : QueuePolicy). dropped_for_packet policy q) e
 
--- It drops no packet to make room for the held text and an oversize line.
+-- A queue that refuses packets if it is full drops no packet to make room for the held text and an oversize line.
 none_for_oversize : (q : Queue (List ℕ)) (held : List ℕ) → q.policy ≡ Refuse
     → dropped_for_held q held ++ dropped_for_packet (queue_with_held q held).policy (queue_with_held q held) ≡ []
 none_for_oversize q held e =
     ap (λ (l : List (List ℕ)). l ++ dropped_for_packet (queue_with_held q held).policy (queue_with_held q held)) (none_for_held q held e)
     ∙ ap (λ (policy : QueuePolicy). dropped_for_packet policy (queue_with_held q held)) (held_policy q held e)
 
--- A client with such a queue drops no packet if it keeps a line, and its queue has the same policy then.
+-- A client whose queue refuses packets if it is full drops no packet when it keeps a line, and the queue has the same
+-- policy afterwards.
 line_refuses : (s t : State) (line : List ℕ) (left : List (List ℕ)) → s.queue.policy ≡ Refuse → KeepsLine s line t → Drops s line left
     → (left ≡ []) × (t.queue.policy ≡ Refuse)
 line_refuses s t line left e kept drops =
@@ -206,7 +210,8 @@ line_refuses s t line left e kept drops =
     (cases_lt s.capacity (length s.held + (length line + 1))))
     (cases_lt s.capacity (length line + 1))
 
--- The packet that leaves such a client by an act is one that the host sent, and its queue has the same policy then.
+-- If an act makes a packet leave a client whose queue refuses packets if it is full, the host has sent this packet, and
+-- the queue has the same policy afterwards.
 act_refuses : (act : Act) (s t : State) (left : List (List ℕ)) → s.queue.policy ≡ Refuse → Does act s t left
     → (left ≡ filter_map packet_of_act (act ∷ [])) × (t.queue.policy ≡ Refuse)
 act_refuses (keeps line) s t left e does = line_refuses s t line left e does.0 does.1
@@ -223,7 +228,8 @@ sent-cons flushes acts = refl
 sent-cons (sends packet) acts = refl
 sent-cons (sets settings) acts = refl
 
--- The packets that leave such a client by acts are those that the host sent.
+-- If acts make packets leave a client whose queue refuses packets if it is full, these are the packets that the host
+-- has sent.
 run_refuses : (acts : List Act) (s t : State) (left : List (List ℕ)) → s.queue.policy ≡ Refuse → Leads acts s t left
     → left ≡ filter_map packet_of_act acts
 run_refuses [] s t left e leads = leads.1

@@ -16,8 +16,8 @@ pub record UnchangedUnlessOk (s : ℕ) (old new : Handle) : Type 0 where
   pub unchanged : s ≢ CADENCE_OK → client_of new ≡ client_of old
   pub closed : s ≡ CADENCE_NO_CLIENT → client_of old ≡ None
 
--- What a call returns and does that keeps the line of a value. `has` says of numbers that the value has them, and `lacks` says
--- that it has none, because it is invalid.
+-- What a call that keeps the line of a value returns and does. `has` says of numbers that the value has them, and
+-- `lacks` says that it has none, because it is invalid.
 pub record Keeps (s kind : ℕ) (key : List ℕ) (has : List Number → Type 0) (lacks : Type 0) (o : COptions) (old new : Handle) : Type 0 where
   pub kept : s ≡ CADENCE_OK → (numbers : List Number) × has numbers × OnOpen (KeepsCall kind key numbers o) old new
   pub refused : UnchangedUnlessOk s old new
@@ -26,8 +26,8 @@ pub record Keeps (s kind : ℕ) (key : List ℕ) (has : List Number → Type 0) 
   pub invalid : s ≡ CADENCE_INVALID → IsInvalidCall kind o ⊎ lacks
   pub statuses : IsOkOr (CADENCE_NO_CLIENT ∷ CADENCE_NO_MEMORY ∷ CADENCE_FULL ∷ CADENCE_INVALID ∷ CADENCE_NOT_UTF8 ∷ []) s
 
--- What a call returns and does that writes the line of a value into the first bytes of `out` and its length into `size`. `has`
--- says of numbers that the value has them, and `lacks` says that it has none, because it is invalid.
+-- What a call that writes the line of a value into the first bytes of `out`, and its length into `size`, returns and
+-- does. `has` says of numbers that the value has them, and `lacks` says that it has none, because it is invalid.
 pub record Formats (s : ℕ) (prefix : List ℕ) (kind : ℕ) (key : List ℕ) (has : List Number → Type 0) (lacks : Type 0) (o : COptions)
     (out : List ℕ) (size : ℕ) : Type 0 where
   pub line : s ≡ CADENCE_OK → (numbers : List Number) × has numbers × IsLineOfCall (prefix_alone prefix) kind key numbers o (take size out)

@@ -9,8 +9,8 @@ use Rattle.cadence_flow.specs.declared.queue.policy.QueuePolicy.TheVariants.{Ref
 use Rattle.cadence_schedule.specs.Settings.{Settings}
 use Rattle.cadence_c.specs.State.{State, DropsSent, KeepsLine, after_flush, new_state, queue_with_held}
 
--- What a call does that returns CADENCE_OK: it keeps a line, makes a packet of the held text, drops a packet because the host
--- has sent it, or changes the settings. A call that returns another status does nothing.
+-- What a call that returns CADENCE_OK does: it keeps a line, makes a packet of the held text, drops a packet because
+-- the host has sent it, or changes the settings. A call that returns another status does nothing.
 pub data Act : Type 0 where
   keeps : List ℕ → Act
   flushes : Act

@@ -1,4 +1,4 @@
--- What a client of C holds, and what each call does to it.
+-- The state of a client of C, and what each call does to it.
 use Rattle.std.specs.Prelude.{◌≡◌, ℕ, ◌+◌, ◌%◌, ◌^◌, ◌≤◌, ◌<◌, ◌==◌, if◌then◌else◌, nat_lt, List, [], ◌∷◌, ◌++◌, length, codes, slice_get}
 use Rattle.std.specs.Prelude.{Option, Some, None, IfSome}
 use Rattle.cadence_text.specs.Metric.{Tag}

@@ -60,7 +60,7 @@ pub fn kind_of(kind: u32) -> Option<MetricType>
     }
 }
 
-/// Returns the number of a decimal. One with more than 30 places is `Invalid`.
+/// Returns the number of a decimal. The error is `Invalid` if it has more than 30 places.
 #[inline]
 pub fn decimal_of(decimal: CDecimal) -> Result<Decimal, StatusError>
     ensures number { IfOk result (λ d. IsNumberOf decimal d) }
@@ -72,7 +72,7 @@ pub fn decimal_of(decimal: CDecimal) -> Result<Decimal, StatusError>
     }
 }
 
-/// Returns the text of bytes if they are UTF-8. Most texts are ASCII, and the test for that is faster.
+/// Returns the text of bytes if they are UTF-8. Most texts are ASCII, and the test for ASCII is faster.
 #[inline]
 pub fn text_of(bytes: &[u8]) -> Option<&str>
     ensures text { IfSome result (λ t. (t.now ≡ bytes.now) × IsUtf8 bytes.now) }
@@ -161,7 +161,7 @@ pub fn are_texts(options: &COptions<'_>) -> bool
     are_text_tags(options.tags)
 }
 
-/// Returns the sampling rate of the options, if they have one. One with more than 30 places is `Invalid`.
+/// Returns the sampling rate of the options, if they have one. The error is `Invalid` if it has more than 30 places.
 #[inline]
 pub fn rate_of(options: &COptions<'_>) -> Result<Option<Decimal>, StatusError>
     ensures rate { IfOk result (λ rate. IsRateOf options.now rate) }

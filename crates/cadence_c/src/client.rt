@@ -83,7 +83,7 @@ impl Client {
     ghost use Rattle.cadence_c.specs.State.{new_state, after_oversize, queue_with_packet, AddsDefaultTag, AreCountsOf, DropsOldest, Flushes, HasNoPacket, IsOldest, IsOldestLength, KeepsCall, KeepsLine, LacksRoom, LacksRoomForCall, LacksRoomForHeld, LacksRoomForLine, SetsDefaultContainer};
 
     /// Makes a client without packets: `capacity` is how many bytes a packet holds, and `most` is how many packets may
-    /// wait. Returns none if memory runs out.
+    /// wait. Returns `None` if memory runs out.
     pub fn new(
         alloc: Global,
         prefix: &str,
@@ -226,8 +226,8 @@ impl Client {
     }
 
     /// Keeps the line of the metric that a call means. The errors are `NotUtf8` for a text of the call, `Invalid` for
-    /// its kind or its rate, `NoMemory` and `Full`. After an error the client is as it was, except that its buffer,
-    /// which contracts don't see, may be gone if memory ran out. The next call then asks for a new one.
+    /// its kind or its rate, `NoMemory` and `Full`. After an error the client is as it was, except for its buffer,
+    /// which contracts don't see: it may have been freed if memory ran out. The next call then asks for a new one.
     pub fn keep(
         &mut self,
         alloc: Global,
@@ -260,7 +260,7 @@ impl Client {
         outcome
     }
 
-    /// Adds a default tag after the others. The error is `NoMemory`; after it the client is as it was.
+    /// Adds a default tag after the others. The only error is `NoMemory`; after it the client is as it was.
     pub fn add_tag(&mut self, key: Option<&str>, text: &str) -> Result<(), StatusError>
         ensures added { OnOk result (AddsDefaultTag
             (record { key = option_copied key.entry; text = text.now }) self.old self.new) }
@@ -273,7 +273,8 @@ impl Client {
         }
     }
 
-    /// Sets the default container, in place of an earlier one. The error is `NoMemory`; the client is unchanged then.
+    /// Sets the default container, in place of an earlier one. The only error is `NoMemory`; after it the client is as
+    /// it was.
     pub fn set_container(&mut self, container: &str) -> Result<(), StatusError>
         ensures set { OnOk result (SetsDefaultContainer container.now self.old self.new) }
         ensures refused { OnErr result (self.new ≡ self.old) }

@@ -7,7 +7,7 @@
 //! - `status`: the statuses that calls return, and the copy of a text into a buffer of C
 //! - `packet`: a finished packet
 //! - `client`: a client, with its settings, its held text and its queue of packets
-//! - `box_parts` and `handle`: a `Box` taken apart, and the handle that C holds
+//! - `box_parts` and `handle`: a `Box` taken apart, and the handle that C stores
 //! - `laws`: what holds after many calls
 #![tactic(auto)]
 

@@ -22,9 +22,9 @@ pub struct TestedCall<'a> {
     pub rate: Option<Decimal>,
 }
 
-/// Tests a call: its key, its kind, the texts of its options and its rate, in this order. A text that is not UTF-8 is
-/// `NotUtf8`; an unknown kind, or a rate with more than 30 places, is `Invalid`. The line is begun only after this
-/// test, so a call that fails it takes no memory. It is inlined so that what it returns stays in registers.
+/// Tests a call: its key, its kind, the texts of its options and its rate, in this order. The error is `NotUtf8` if a
+/// text is not UTF-8, and `Invalid` if the kind is unknown or the rate has more than 30 places. The line is begun only
+/// after this test, so a call that fails it takes no memory. It is inlined so that what it returns stays in registers.
 #[inline(always)]
 pub fn test_call<'a>(
     kind: u32,

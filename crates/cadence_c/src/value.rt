@@ -41,7 +41,7 @@ pub fn unsigned_value(alloc: Global, values: &[u64]) -> Result<MetricValue, Stat
     }
 }
 
-/// Returns the value of decimal numbers. One with more than 30 places is `Invalid`.
+/// Returns the value of decimal numbers. The error is `Invalid` if one of them has more than 30 places.
 pub fn decimal_value(alloc: Global, values: &[CDecimal]) -> Result<MetricValue, StatusError>
     ensures numbers { IfOk result (λ v. AreNumbersOf values.now (numbers_of v)) }
     ensures invalid { status result ≡ CADENCE_INVALID → AreValidDecimals values.now → ⊥ }
@@ -80,8 +80,8 @@ fn millis_value(alloc: Global, nanos: &[u64]) -> Result<MetricValue, StatusError
     Ok(MetricValue::PackedUnsigned(millis))
 }
 
-/// Returns the value of durations in nanoseconds: whole milliseconds for a timer and nanoseconds for a histogram.
-/// Another kind is `Invalid`.
+/// Returns the value of durations in nanoseconds: whole milliseconds for a timer and nanoseconds for a histogram. For
+/// any other kind the error is `Invalid`.
 pub fn duration_value(alloc: Global, kind: u32, nanos: &[u64]) -> Result<MetricValue, StatusError>
     ensures numbers { IfOk result (λ v. durations_of kind nanos.now ≡ Some (numbers_of v)) }
     ensures invalid { status result ≡ CADENCE_INVALID → durations_of kind nanos.now ≡ None }

@@ -14,7 +14,7 @@ taken_is : (held : List ℕ) (sent : ℕ) → sent ≤ length held → length he
 taken_is held sent h = omega (arith, length-drop sent held)
 
 module _ (kind : WriterKind) (old new : PacketHistory) (held : List ℕ) (sent : ℕ) where
-  -- The packets and the rest together are the packets before and the held text.
+  -- The packets afterwards and the rest together are the packets before and the held text.
   joined_text : concat new.packets ≡ concat old.packets ++ take sent held → whole_text new (drop sent held) ≡ whole_text old held
   joined_text e =
       ap (λ (l : List ℕ). l ++ drop sent held) e ∙ append_assoc (concat old.packets) (take sent held) (drop sent held)
@@ -32,7 +32,7 @@ module _ (kind : WriterKind) (old new : PacketHistory) (held : List ℕ) (sent :
   cause_extends e (inl refused) t = Sends-Extends old new (take sent held) (refused.sent t)
   cause_extends e (inr nothing) t = SendsThen-Extends old new (take sent held) [] (nothing.sent t)
 
-  -- The flush, for each of the two results of sending.
+  -- A flush does what `Flushes` says, for each of the two results of sending the held text.
   pub Flushes-sent : {A : Type 0} (r : Result A SinkError) → 0 < length held → OnOk r (sent ≡ length held) → OnErr r (sent < length held)
       → OnOk r (RefusedNothing old new) → (kind.tells ≡ true → OnOk r (Sends old new held))
       → IfErr r (HasCause kind old new (take sent held) (drop sent held))

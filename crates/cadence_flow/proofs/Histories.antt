@@ -5,7 +5,7 @@ use Rattle.std.proofs.lemmas.List.Folds.{concat-append}
 use Rattle.std.specs.List.{concat}
 use Rattle.cadence_flow.specs.Writer.{PacketHistory, Extends, Sends, SendsThen}
 
--- The bytes of the packets with one more packet at the end.
+-- One more packet at the end adds its bytes to those of the packets.
 pub concat-push : (ps : List (List ℕ)) (p : List ℕ) → concat (ps ++ p ∷ []) ≡ concat ps ++ p
 concat-push ps p = concat-append ps (p ∷ []) ∙ ap (λ (l : List ℕ). concat ps ++ l) (append-nil p)
 
@@ -18,12 +18,12 @@ pub Extends-trans : (old mid new : PacketHistory) → Extends old mid → Extend
 Extends-trans old mid new a b =
     (a.0 ++ b.0, b.1 ∙ ap (λ (l : List (List ℕ)). l ++ b.0) a.1 ∙ append_assoc old.packets a.0 b.0)
 
--- The bytes of the packets grew by the text that was sent.
+-- Sending a text adds the text to the bytes of the packets.
 pub Sends-joined : (old new : PacketHistory) (text : List ℕ) → Sends old new text → concat new.packets ≡ concat old.packets ++ text
 Sends-joined old new text s =
     ap (λ (ps : List (List ℕ)). concat ps) s.packets ∙ concat-append old.packets s.more ∙ ap (λ (l : List ℕ). concat old.packets ++ l) s.joined
 
--- The bytes of the packets grew by the text that was sent and by the packet after it.
+-- Sending a text and one more packet adds both to the bytes of the packets.
 pub SendsThen-joined : (old new : PacketHistory) (text packet : List ℕ) → SendsThen old new text packet
     → concat new.packets ≡ concat old.packets ++ (text ++ packet)
 SendsThen-joined old new text packet s =
@@ -38,7 +38,7 @@ Sends-Extends old new text s = (s.more, s.packets)
 pub SendsThen-Extends : (old new : PacketHistory) (text packet : List ℕ) → SendsThen old new text packet → Extends old new
 SendsThen-Extends old new text packet s = (s.more ++ packet ∷ [], s.packets)
 
--- A text that was sent, followed by one more packet.
+-- If a text was sent and then one more packet was taken, the text was sent and the packet after it.
 pub Sends-then : (old mid new : PacketHistory) (text packet : List ℕ) → Sends old mid text → new.packets ≡ mid.packets ++ packet ∷ []
     → SendsThen old new text packet
 Sends-then old mid new text packet s e =

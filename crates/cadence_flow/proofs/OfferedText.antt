@@ -23,7 +23,7 @@ module _ (old : List Offer) (mid new : Offers) (packet : List ℕ) where
   one_whole n all_of (shorts, all, is) step =
       (shorts, packet, all, after_shorts n shorts is step ∙ ap (λ k. Some (old ++ (shorts ++ (packet, k) ∷ []))) all_of)
 
--- One more packet of the text was offered and taken in part or whole.
+-- What is true of the first `sent` bytes stays true after one more packet of the text was taken, in part or whole.
 pub offered_more : (old mid new : Offers) (packet : List ℕ) (len sent n : ℕ) → OfferedSoFar old mid len sent
     → sent < len → length packet ≡ len - sent → IsOffered mid new packet (Ok n) → OfferedSoFar old new len (sent + n)
 offered_more None mid new packet len sent n before more is step = tt
@@ -33,27 +33,27 @@ offered_more (Some old) mid new packet len sent n before more is step = (
       (before.0 more) step,
 )
 
--- The writer took 0 bytes of what was left of the text.
+-- If the writer took 0 bytes of the rest of the text, sending the text failed, and added only short counts.
 pub offered_nothing : (old mid new : Offers) (packet : List ℕ) (len sent n : ℕ) → OfferedSoFar old mid len sent
     → sent < len → length packet ≡ len - sent → n ≡ 0 → IsOffered mid new packet (Ok n) → SendsOffers old new false
 offered_nothing None mid new packet len sent n before more is none step = tt
 offered_nothing (Some old) mid new packet len sent n before more is none step = one_short old mid new packet n (omega arith) (before.0 more) step
 
--- What sending the held text adds is what a flush adds, if something is held.
+-- If text is held, a flush adds the offers that sending the held text adds.
 pub offered_held : (old new : Offers) (held : List ℕ) (ok : Bool) → 0 < length held → SendsOffers old new ok
     → FlushesOffers old new held ok
 offered_held None new held ok some sent = tt
 offered_held (Some old) new [] ok some sent = absurd (omega arith)
 offered_held (Some old) new (b ∷ bs) ok some sent = sent
 
--- An oversize line was offered after a flush, and taken.
+-- If an oversize line is taken after a flush, the flush's offers and that of the line are added.
 pub alone_offers : (old mid new : Offers) (held line : List ℕ) (r : Result ℕ SinkError)
     → FlushesOffers old mid held true → IsOffered mid new line r
     → IfOk r (λ n. (between : Offers) × FlushesOffers old between held true × IsOffered between new line (Ok n))
 alone_offers old mid new held line (Ok n) flushed step = (mid, flushed, step)
 alone_offers old mid new held line (Err e) flushed step = tt
 
--- An oversize line was offered after a flush, and refused.
+-- If an oversize line is refused after a flush, only the flush's offers are added.
 pub refused_offers : (old mid new : Offers) (held rest line : List ℕ) (r : Result ℕ SinkError)
     → FlushesOffers old mid held true → IsOffered mid new line r → rest ≡ []
     → OnErr r (FlushesOffers old new held false ⊎ (FlushesOffers old new held true × (rest ≡ [])))

@@ -19,7 +19,7 @@ module _ (kind : WriterKind) (old mid new : PacketHistory) (held : List ℕ) (fo
       ∙ ap (λ (l : List ℕ). l ++ take n line) (sym (append-nil (concat mid.packets)) ∙ before)
       ∙ ap (λ (b : Bool). whole_text old held ++ (if b then take n line else line ++ format.ending)) (sym over)
 
-  -- The write, for each of the two results of offering the line.
+  -- Writing an oversize line does what `Writes` says, for each of the two results of offering the line.
   pub Writes-alone : (r : Result ℕ SinkError) → Flushes kind old mid held [] (Ok u) → is_oversize format line ≡ true
       → format.capacity < size_of format line → WritesPacket kind mid new line r → Writes kind format old new held [] line r
   Writes-alone (Ok n) flushed over passes answered =

@@ -19,7 +19,8 @@ pub record SentSoFar (kind : WriterKind) (old now : PacketHistory) (xs : List �
 pub rest_is : (xs : List ℕ) (sent : ℕ) → take (length xs - sent) (drop sent xs) ≡ drop sent xs
 rest_is xs sent = take_all (length xs - sent) (drop sent xs) (omega (arith, length-drop sent xs))
 
--- One more packet was sent, of at least one byte.
+-- If the first `sent` bytes of a text are sent, and then a packet of at least one of its next bytes, the bytes up to
+-- the end of that packet are sent.
 Sends-more : (old mid new : PacketHistory) (xs : List ℕ) (sent n : ℕ) → Sends old mid (take sent xs) → 0 < length (take n (drop sent xs))
     → new ≡ after_packet mid (take n (drop sent xs)) → Sends old new (take (sent + n) xs)
 Sends-more old mid new xs sent n s some e =
@@ -51,7 +52,7 @@ some_taken (suc n) [] p q = absurd (omega arith)
 some_taken (suc n) (x ∷ xs) p q = omega arith
 
 module _ (kind : WriterKind) (old mid new : PacketHistory) (xs : List ℕ) (sent n : ℕ) where
-  -- One more packet of the text was taken, in part or whole.
+  -- What is true of the first `sent` bytes stays true after one more packet of the text was taken, in part or whole.
   pub SentSoFar-more : SentSoFar kind old mid xs sent → sent < length xs → 0 < n → n ≤ length (drop sent xs)
       → (kind.takes_whole ≡ true → n ≡ length (drop sent xs)) → (kind.tells ≡ true → new ≡ after_packet mid (take n (drop sent xs)))
       → RefusedNothing mid new → SentSoFar kind old new xs (sent + n)

@@ -1,4 +1,4 @@
--- A log of packets in memory, which answers by a script.
+-- A log of packets in memory. A script says what it does with each packet.
 use Rattle.std.specs.Prelude.{◌≡◌, ℕ, min, Bool, true, false, List, [], ◌∷◌, length, drop, IfOk, IfErr, Err}
 use Rattle.std.specs.declared.result.Result.{Result}
 use Rattle.cadence_errors.specs.declared.SinkError.{SinkError}
@@ -57,12 +57,12 @@ log_kind l =
 abbrev pub answers_left : LogState → List Answer
 answers_left l = drop l.used l.script
 
--- the next answer of a script: at its end each packet is taken whole
+-- the next answer of a script; after the script's end each packet is taken whole
 abbrev pub next_answer : List Answer → Answer
 next_answer [] = Whole
 next_answer (answer ∷ rest) = answer
 
--- The result for a packet is what this answer of the script says; instead of a count it may be `OutOfMemory`.
+-- The result for a packet is what this answer of the script says. In place of a count it may be `OutOfMemory`.
 abbrev pub Follows : Answer → List ℕ → Result ℕ SinkError → Type 0
 Follows Whole packet result = IfOk result (λ n. n ≡ length packet) × IfErr result (λ e. e ≡ OutOfMemory)
 Follows (Short k) packet result = IfOk result (λ n. n ≡ min k (length packet)) × IfErr result (λ e. e ≡ OutOfMemory)

@@ -19,11 +19,11 @@ abbrev pub IsBounded : Option ℕ → Type 0
 IsBounded (Some capacity) = Unit {0}
 IsBounded None = ⊥
 
--- The queue has a capacity above 0, so that it needs memory to begin with.
+-- The queue has a capacity above 0, so it takes memory when it is made.
 abbrev pub TakesRoom : Option ℕ → Type 0
 TakesRoom (Some capacity) = 0 < capacity
 TakesRoom None = ⊥
 
--- The only error is that memory runs out, and only a queue with a capacity above 0 can meet it.
+-- The only error is that memory ran out, and it is possible only for a queue with a capacity above 0.
 abbrev pub OnlyWantsRoom : {T : Type 0} → Option ℕ → Result T MetricError → Type 0
 OnlyWantsRoom capacity result = IfErr result (λ e. (e ≡ out_of_memory) × TakesRoom capacity)

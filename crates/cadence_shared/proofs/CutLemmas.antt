@@ -29,7 +29,7 @@ stream_more format lines line n =
     ∙ ap (λ l. taken_stream format lines ++ l) (append-nil (frame_of format line n))
 
 module _ (format : Format) (offers accepted : Pairs) (held : List ℕ) (cut : IsCut format offers accepted held) where
-  -- The cut after one more line is held.
+  -- A cut stays a cut if one more line is held.
   pub cut_held : (line : List ℕ) (n : ℕ) → IsCut format offers (accepted ++ (line, n) ∷ []) (held ++ frame_of format line n)
   cut_held line n =
       record {
@@ -44,7 +44,7 @@ module _ (format : Format) (offers accepted : Pairs) (held : List ℕ) (cut : Is
             ∙ sym (stream_more format cut.lines line n);
       }
 
-  -- The cut after the writer took some of the held text in short counts.
+  -- A cut stays a cut if the writer took some of the held text in short counts.
   cut_shorts : (more : Pairs) (rest : List ℕ) → All IsShort more → bytes_taken more ++ rest ≡ held → IsCut format (offers ++ more) accepted rest
   cut_shorts more rest short text =
       record {
@@ -59,7 +59,7 @@ module _ (format : Format) (offers accepted : Pairs) (held : List ℕ) (cut : Is
             ∙ ap (λ l. bytes_taken cut.shorts ++ l) text ∙ cut.rest;
       }
 
-  -- The cut after the writer took all of the held text: in short counts, and then one packet that it took whole.
+  -- A cut stays a cut if the writer took all of the held text: in short counts, and then one packet that it took whole.
   cut_whole : (more : Pairs) (last : List ℕ) → All IsShort more → bytes_taken (more ++ (last, length last) ∷ []) ≡ held
       → IsCut format (offers ++ (more ++ (last, length last) ∷ [])) accepted []
   cut_whole more last short text =
@@ -84,14 +84,14 @@ module _ (format : Format) (offers accepted : Pairs) (held : List ℕ) (cut : Is
         rest = refl;
       }
 
--- What the writer took since is what left the held text.
+-- The bytes that the writer took in the later offers are those that left the held text.
 gone : (offers more : Pairs) (held rest : List ℕ) → bytes_taken (offers ++ more) ++ rest ≡ bytes_taken offers ++ held
     → bytes_taken more ++ rest ≡ held
 gone offers more held rest text =
     append_cancel_left (bytes_taken offers) (bytes_taken more ++ rest) held (sym (append_assoc (bytes_taken offers) (bytes_taken more) rest)
     ∙ ap (λ l. l ++ rest) (sym (bytes_taken-append offers more)) ∙ text)
 
--- The cut after a flush, whether it succeeded or not.
+-- A cut stays a cut after a flush, whether the flush succeeded or not.
 pub cut_flush : (format : Format) (offers after accepted : Pairs) (held rest : List ℕ) (ok : Bool) → IsCut format offers accepted held
     → FlushesOffers (Some offers) (Some after) held ok → (ok ≡ true → rest ≡ []) → bytes_taken after ++ rest ≡ bytes_taken offers ++ held
     → IsCut format after accepted rest
@@ -117,7 +117,7 @@ module _ (format : Format) (offers accepted : Pairs) (line : List ℕ) (over : i
   frame_over : (n : ℕ) → frame_of format line n ≡ take n line
   frame_over n = ap (λ (b : Bool). if b then take n line else line ++ format.ending) over
 
-  -- The cut after an oversize line of which only a part was taken.
+  -- A cut stays a cut after an oversize line of which only a part was taken.
   alone_short : (n : ℕ) → IsCut format offers accepted [] → n < length line → IsCut format (offers ++ (line, n) ∷ []) (accepted ++ (line, n) ∷ []) []
   alone_short n cut less =
       let held = cut_held format offers accepted [] cut line n in
@@ -125,7 +125,7 @@ module _ (format : Format) (offers accepted : Pairs) (line : List ℕ) (over : i
       (All-push IsShort [] (line, n) (All-nil IsShort) less) (append-nil _
       ∙ bytes_taken-one line n ∙ sym (frame_over n))
 
-  -- The cut after an oversize line that was taken whole.
+  -- A cut stays a cut after an oversize line that was taken whole.
   alone_whole : IsCut format offers accepted [] → IsCut format (offers ++ (line, length line) ∷ []) (accepted ++ (line, length line) ∷ []) []
   alone_whole cut =
       let held = cut_held format offers accepted [] cut line (length line) in
@@ -139,7 +139,7 @@ module _ (format : Format) (offers accepted : Pairs) (line : List ℕ) (over : i
       ⊎_elim (λ e. subst (λ k. IsCut format (offers ++ (line, k) ∷ []) (accepted ++ (line, k) ∷ []) []) (sym e) (alone_whole cut))
       (λ less. alone_short n cut less) (eq-or-lt_of_le most)
 
--- The cut after a write: each of the four lemmas below is one way in which it ends.
+-- A cut stays a cut after a write. Each of the four lemmas below is about one way in which the write ends.
 module _ (format : Format) (offers after accepted : Pairs) (held rest line : List ℕ) (cut : IsCut format offers accepted held) where
   frame_within : (n : ℕ) → is_oversize format line ≡ false → frame_of format line n ≡ line ++ format.ending
   frame_within n within = ap (λ (b : Bool). if b then take n line else line ++ format.ending) within

@@ -14,7 +14,7 @@ use Rattle.cadence_shared.specs.QueuePast.{IsPast, taken_by}
 use Rattle.cadence_shared.specs.QueueTaken.{texts_of}
 
 module _ {T : Type 0} where
-  -- A text that is accepted now changes nothing for those that left.
+  -- If one more text is accepted, the texts that were taken stay the same.
   taken_longer : (exits : List Exit) (texts : List T) (text : T) → length exits ≤ length texts
       → taken_by exits (texts ++ text ∷ []) ≡ taken_by exits texts
   taken_longer [] texts text front = refl
@@ -22,7 +22,7 @@ module _ {T : Type 0} where
   taken_longer (by_take ∷ exits) (x ∷ texts) text front = ap (λ xs. x ∷ xs) (taken_longer exits texts text (omega arith))
   taken_longer (by_drop ∷ exits) (x ∷ texts) text front = taken_longer exits texts text (omega arith)
 
-  -- The texts taken are the same after the oldest waiting text was dropped.
+  -- If the oldest waiting text is dropped, the texts that were taken stay the same.
   taken_dropped : (exits : List Exit) (texts : List T) → taken_by (exits ++ by_drop ∷ []) texts ≡ taken_by exits texts
   taken_dropped [] [] = refl
   taken_dropped [] (x ∷ texts) = refl
@@ -30,7 +30,7 @@ module _ {T : Type 0} where
   taken_dropped (by_take ∷ exits) (x ∷ texts) = ap (λ xs. x ∷ xs) (taken_dropped exits texts)
   taken_dropped (by_drop ∷ exits) (x ∷ texts) = taken_dropped exits texts
 
-  -- The texts taken are one more after the oldest waiting text was taken.
+  -- If the oldest waiting text is taken, it is added to the texts that were taken.
   taken_next : (exits : List Exit) (texts : List T) (text : T) → slice_get texts (length exits) ≡ Some text
       → taken_by (exits ++ by_take ∷ []) texts ≡ taken_by exits texts ++ text ∷ []
   taken_next [] [] text at = absurd cc
@@ -153,7 +153,7 @@ module _ {T : Type 0} where
   made_is_noted accepted q r found (text, dropped, made, step) at =
       (text, dropped, made, ap (λ t. accepted ++ t ∷ []) (sym (same_newest q text found dropped r step at)), step)
 
-  -- After a submit there is a newest text.
+  -- After a submit that returned `Ok` there is a newest text that waits.
   pub made_is_found : {P : T → Type 0} {G : Type 0} (q r : Queue T)
       → ((text : T) × (dropped : Option T) × P text × Accepts q text dropped r) → slice_get r.waiting (length r.waiting - 1) ≡ None → G
   made_is_found q r (text, dropped, made, step) none = let no : Some text ≡ None = sym (accepted_is_newest q text dropped r step) ∙ none in absurd cc

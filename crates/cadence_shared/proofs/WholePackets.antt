@@ -16,7 +16,7 @@ use Rattle.cadence_shared.specs.declared.recorded_writer.RecordedWriter.{Recorde
 use Rattle.cadence_shared.proofs.CutLemmas.{stream_more}
 
 module _ (format : Format) (packets : List (List ℕ)) (accepted : List (List ℕ × ℕ)) (held : List ℕ) (cut : IsWhole format packets accepted held) where
-  -- The cut after one more line is held.
+  -- A cut of whole packets stays one if one more line is held.
   whole_held : (line : List ℕ) (n : ℕ) → IsWhole format packets (accepted ++ (line, n) ∷ []) (held ++ frame_of format line n)
   whole_held line n =
       record {
@@ -27,7 +27,7 @@ module _ (format : Format) (packets : List (List ℕ)) (accepted : List (List �
         rest = ap (λ l. l ++ frame_of format line n) cut.rest ∙ sym (stream_more format cut.lines line n);
       }
 
-  -- The cut after the held text went out as one packet.
+  -- A cut of whole packets stays one if the held text went out as one packet.
   whole_packet : IsWhole format (packets ++ held ∷ []) accepted []
   whole_packet =
       record {
@@ -40,13 +40,13 @@ module _ (format : Format) (packets : List (List ℕ)) (accepted : List (List �
         rest = refl;
       }
 
--- The cut after a flush: the held text went out as one packet, if there was any.
+-- A cut of whole packets stays one after a flush, which sends the held text as one packet, if there is any.
 whole_out : (format : Format) (packets : List (List ℕ)) (accepted : List (List ℕ × ℕ)) (held : List ℕ)
     → IsWhole format packets accepted held → IsWhole format (packets ++ held_packet held) accepted []
 whole_out format packets accepted [] cut = subst (λ p. IsWhole format p accepted []) (sym (append-nil packets)) cut
 whole_out format packets accepted (b ∷ held) cut = whole_packet format packets accepted (b ∷ held) cut
 
--- The cut after an oversize line went out alone.
+-- A cut of whole packets stays one after an oversize line went out alone.
 whole_alone : (format : Format) (packets : List (List ℕ)) (accepted : List (List ℕ × ℕ)) (line : List ℕ) (n : ℕ)
     → is_oversize format line ≡ true → n ≡ length line → IsWhole format packets accepted []
     → IsWhole format (packets ++ line ∷ []) (accepted ++ (line, n) ∷ []) []
@@ -78,7 +78,7 @@ module _ {W : Type 0} where
 module _ {W : Type 0} (kind : W → WriterKind) (history : W → PacketHistory) (old new : Packer (RecordedWriter W))
     (takes : (recorded_kind kind old.writer).takes_whole ≡ true) (accepted : List (List ℕ
     × ℕ)) where
-  -- A cut with the packets and the held text of the new packer is its cut, since the format stayed the same.
+  -- A cut with the packets and the held text of the new packer is its cut, because the format stayed the same.
   becomes : (packets : List (List ℕ)) (after : List (List ℕ × ℕ)) (held : List ℕ) → new.format ≡ old.format
       → packets_of new.writer ≡ packets → new.held ≡ held → IsWhole old.format packets after held → PackerWhole new after
   becomes packets after held same told is cut =

@@ -21,8 +21,8 @@ const TURNS_FOR_EACH_TEXT: u32 = 32;
 /// (`lock::TURNS_BETWEEN_TRIES`).
 const TURNS_BETWEEN_TRIES: u32 = 100;
 
-/// Waits between two looks at a queue that had no text, if the worker has room for `room` texts: spins so long that the
-/// next look probably finds as many, and lets other threads run.
+/// Waits between two looks at a queue that had no text. If the worker has room for `room` texts, this call spins until
+/// the next look probably finds about that many, and then lets other threads run.
 pub fn wait_for_texts(room: usize) {
     for _ in 0..room {
         spin(TURNS_FOR_EACH_TEXT);

@@ -1,7 +1,7 @@
 //! How a lock is taken.
 //!
-//! Each holder of a lock of this crate lets it go soon, after one step of the queue or of the counts. There are three
-//! ways to take one:
+//! Each thread that takes a lock of this crate releases it soon, after one step of the queue or of the counts. There
+//! are three ways to take one:
 //!
 //! - `acquire` tries the lock, and spins and tries again, before it sleeps. The calls that a service makes for each
 //!   metric take the lock in this way (a sink's `emit`, the queue's `submit`, `offer` and `try_take`, and the counts of
@@ -30,8 +30,8 @@ pub(super) fn spin(turns: u32) {
     }
 }
 
-/// Takes a lock that each holder soon lets go. If another thread holds it, spins and tries again several times, and
-/// sleeps only then.
+/// Takes a lock that each thread soon releases. If another thread has it, this call spins and tries again several
+/// times, and only then sleeps.
 #[inline(always)]
 pub fn acquire<'a, T>(lock: &'a Mutex<T>, rt: &impl Wait) -> MutexGuard<'a, T> {
     match lock.try_lock() {

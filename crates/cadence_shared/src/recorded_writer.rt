@@ -6,8 +6,8 @@ use cadence_errors::SinkError;
 use cadence_flow::io::PacketWriter;
 
 /// A writer with a record of each packet that it was offered and didn't refuse, with the number of bytes that the
-/// writer said it took. The record exists in proofs only. So contracts can speak of the packets of any writer, also of
-/// one that doesn't tell them itself, such as a socket.
+/// writer returned for it. The record exists in proofs only. With it, contracts can speak of the packets of any writer,
+/// also of a writer such as a socket, which doesn't tell its packets itself.
 #[derive(Drop)]
 pub struct RecordedWriter<W> {
     inner: W,

@@ -9,7 +9,7 @@ use std::alloc::{AllocError, Allocator, Global};
 use std::sync::{Arc, Mutex, Wait};
 
 /// The four counts of a `SinkStats` for a sink over a socket, under a lock. A clone shares the counts of its original.
-/// The four numbers of one reading are of the same moment. It keeps the runtime `R`, which taking the lock needs.
+/// The four numbers of one reading are of the same moment. It stores the runtime `R`, which taking the lock needs.
 #[derive(Drop)]
 pub struct SocketStats<R: Wait + Drop, A: Allocator = Global> {
     rt: R,

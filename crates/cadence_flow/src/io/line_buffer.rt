@@ -9,7 +9,7 @@ use std::mem;
 /// A packer: it holds lines, each followed by an ending, until one doesn't fit a packet of the capacity any more, and
 /// then writes them as one packet. It works over any `PacketWriter`.
 ///
-/// Dropping it writes nothing. Its owner flushes it before, or loses the held text.
+/// Dropping a packer writes nothing. If its owner doesn't flush it before, the held text is lost.
 ///
 /// Its calls return `None` after an error and leave the error in `fault`, as `PacketWriter::write_packet_narrow` does.
 #[derive(Drop)]
@@ -89,7 +89,7 @@ impl<T: PacketWriter, A: Allocator> LineBuffer<T, A> {
 
     /// Writes a line and returns its length. It takes no memory. There are three cases:
     ///
-    /// - The line and its ending fit beside the held text: they are held, and nothing is written. This is so too if
+    /// - The line and its ending fit beside the held text: they are held, and nothing is written. They are also held if
     ///   they fill the capacity exactly. (With an empty ending, the Rust crate writes such a line at once.)
     /// - They fit a packet, but not beside the held text: the held text is flushed, and then the line is held.
     /// - They pass the capacity, so the line is oversize: the held text is flushed, and then the line alone is written
@@ -126,7 +126,7 @@ impl<T: PacketWriter, A: Allocator> LineBuffer<T, A> {
     }
 
     /// Holds a line and its ending if they fit beside the held text, and returns whether they did. Otherwise nothing
-    /// changes. It is what `write` does with most lines. It takes no memory, and can't fail.
+    /// changes. This is what `write` does with most lines. It takes no memory, and can't fail.
     #[inline(always)]
     pub fn hold(&mut self, line: &[u8]) -> bool
         ensures { HoldsLine self.old self.new line.now result }
@@ -147,7 +147,7 @@ impl<T: PacketWriter, A: Allocator> LineBuffer<T, A> {
     ///
     /// After an error the result is `None` and `fault` has the error: the writer's own, or `NothingWritten` if it took
     /// 0 bytes. What the writer didn't take stays held. An interrupted write is an error like any other.
-    // Inlined, so that an oversize line costs no call if nothing is held.
+    // It is inlined, so that an oversize line costs no call of `flush` if nothing is held.
     #[inline(always)]
     pub fn flush(&mut self, fault: &mut SinkError) -> Option<()>
         ensures flushes { FlushesHeld T.kind T.history self.old self.new (ok_or result fault.new) }

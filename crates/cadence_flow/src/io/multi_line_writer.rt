@@ -55,8 +55,8 @@ impl<T: PacketWriter, A: Allocator> MultiLineWriter<T, A> {
     ghost use Rattle.cadence_flow.specs.Packer.{FlushesHeld, ReplacesWriter, WritesLine, with_writer};
     ghost use Rattle.cadence_flow.specs.contracts.io.multi_line_writer.MultiLineWriter.{the_row};
 
-    /// Writes a line and returns its length, or of an oversize line how many bytes the writer took. What it does is
-    /// what `LineBuffer::write` does.
+    /// Writes a line as `LineBuffer::write` does. Returns the line's length, or for an oversize line how many bytes of
+    /// it the writer took.
     ///
     /// The errors are the writer's own, and `NothingWritten` if it took 0 bytes of held text. Nothing of the line is
     /// held after an error. What the writer didn't take of the held text stays held.
@@ -67,7 +67,7 @@ impl<T: PacketWriter, A: Allocator> MultiLineWriter<T, A> {
         self.lines.write(line, &mut fault).ok_or(fault)
     }
 
-    /// Writes the held text. What it does is what `LineBuffer::flush` does.
+    /// Writes the held text as `LineBuffer::flush` does.
     ///
     /// The errors are the writer's own, and `NothingWritten` if it took 0 bytes. What the writer didn't take stays
     /// held.

@@ -1,4 +1,4 @@
-//! A writer that keeps its packets in memory, for tests and for schedules.
+//! A writer that stores its packets in memory, for tests and for schedules.
 use super::{PacketWriter, Refusals};
 use cadence_errors::SinkError;
 use std::alloc::{AllocError, Allocator, Global};
@@ -15,7 +15,7 @@ pub enum Answer {
     Refuse,
 }
 
-/// A writer that keeps the packets that it takes in memory. A script says what it does with each packet; after the
+/// A writer that stores the packets that it takes in memory. A script says what it does with each packet; after the
 /// script's end it takes each packet whole. If there is no memory for a packet, the log refuses it with
 /// `SinkError::OutOfMemory`, and that answer of the script is used up.
 #[derive(Drop)]

@@ -11,9 +11,9 @@ ghost use Rattle.cadence_flow.specs.Writer.{PacketHistory, WriterKind, WritesPac
 
 use cadence_errors::SinkError;
 
-/// A writer that takes packets one by one, as a socket does. It stands in for `std::io::Write`, which takes bytes and
-/// knows no packets. An impl says in proofs which packets it took and how many it refused (`history`), and what no call
-/// changes (`kind`).
+/// A writer that takes packets one by one, as a socket does. It is used in place of `std::io::Write`, which writes
+/// bytes and has no packets. An impl states for proofs which packets it took and how many it refused (`history`), and
+/// what no call changes (`kind`).
 pub trait PacketWriter: Drop {
     /// The packets that the writer took, and the number and total length of those that it refused.
     ghost history: { Self → PacketHistory };
@@ -36,7 +36,7 @@ pub trait PacketWriter: Drop {
         ensures offers { IsOffered (offers self.old) (offers self.new) packet.now result };
 
     /// Offers one packet to the writer as `write_packet` does, with a narrow result: after an error it returns `None`,
-    /// and `fault` has the error. A writer need not define it.
+    /// and `fault` has the error. A writer needn't implement it.
     fn write_packet_narrow(&mut self, packet: &[u8], fault: &mut SinkError) -> Option<usize>
         ensures same_kind { kind self.new ≡ kind self.old }
         ensures writes { WritesPacket (kind self.old)

@@ -124,8 +124,8 @@ impl<T: Drop, A: Allocator + Clone> QueueCore<T, A> {
     }
 
     // Adds a text at the end of a full queue, which drops and frees its oldest text for it. It is a function of its own
-    // and never inlined, because a function clears all its locals when it starts: `offer` is faster without those of
-    // this case.
+    // and never inlined, because a function clears all its local variables when it starts, and `offer` is faster
+    // without the variables of this case.
     #[inline(never)]
     fn replace_oldest(&mut self, text: T)
         requires full { is_full self.old ≡ true }
@@ -216,14 +216,14 @@ impl<T: Drop, A: Allocator> QueueCore<T, A> {
         }
     }
 
-    // Whether the queue is full and has no text to drop for another.
+    // Returns whether the queue is full and has no text to drop for another.
     fn lacks_room(&self) -> bool
         ensures { result ≡ lacks_room self.now }
     {
         self.is_full() && (self.policy == QueuePolicy::Refuse || self.texts.len() == 0)
     }
 
-    // Whether the queue accepts a text if memory allows.
+    // Returns whether the queue accepts a text if memory doesn't run out.
     fn is_open(&self) -> bool
         ensures { result ≡ is_open self.now }
     {

@@ -4,8 +4,8 @@ ghost use Rattle.cadence_flow.specs.Queue.{error_of};
 
 use cadence_errors::SinkError;
 
-/// Why a queue refuses a text. It fits a register, while a `SinkError` has room for an `io::Error`. So the queue
-/// returns this, and its caller turns it into a `SinkError` at the end.
+/// Why a queue refuses a text. This type fits a register, while a `SinkError` has room for an `io::Error`. So the queue
+/// returns this type, and the sink turns it into a `SinkError` at the end.
 #[derive(Clone, Copy, Debug, PartialEq, Eq)]
 pub enum QueueError {
     /// The queue is stopped.
