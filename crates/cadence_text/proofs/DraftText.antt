@@ -39,7 +39,7 @@ draft_with_tag m t =
     ap (λ tags. record { head = head_text m.name m.numbers m.kind; tags = tags; rate = m.rate; container = m.container; time = m.time })
     (added_tag m.tags t)
 
--- How the parts of a draft follow from the metric that it is the draft of.
+-- If a draft is that of a metric, the draft with one more tag is that of the metric with this tag.
 pub tag_of_metric : (old new : Draft) (t : Tag) → new ≡ with_tag_text old t → (m : Metric) → old ≡ draft_of m → new ≡ draft_of (with_tag m t)
 tag_of_metric old new t e m is = e ∙ ap (λ (d : Draft). with_tag_text d t) is ∙ draft_with_tag m t
 
@@ -65,12 +65,12 @@ pub lead_short : (begun : Bool) → (0 < length (lead begun)) × (length (lead b
 lead_short true = (lit< tt, omega arith)
 lead_short false = (lit< tt, omega arith)
 
--- The texts on both sides of the place where the head ends are in UTF-8.
+-- The lemmas that follow show that the texts on both sides of the place where the head ends are in UTF-8.
 
 cut_same : (head : ℕ) (old new : List ℕ) → IsCutAt head old → new ≡ old → IsCutAt head new
 cut_same head old new h e = subst (IsCutAt head) (sym e) h
 
--- A text with a head stays one if more text comes after it.
+-- If a head can end at a place of a text, it can still end there if more text comes after the text.
 cut_more : (head : ℕ) (old new more : List ℕ) → IsCutAt head old → IsUtf8 more → new ≡ old ++ more → IsCutAt head new
 cut_more head old new more h utf8 e =
     let (some, within, sides) = h in
@@ -85,13 +85,14 @@ cut_more head old new more h utf8 e =
           )),
     )
 
--- A text with a head stays one when more text is added after it, also if memory runs out and nothing is added.
+-- If a head can end at a place of a text, it can still end there after more text was added, and also if memory ran out
+-- and nothing was added.
 pub cut_added : {U E : Type 0} (head : ℕ) (old new more : List ℕ) (answer : Result U E) → IsCutAt head old
     → OnOk answer (new ≡ old ++ more) → OnOk answer (IsUtf8 more) → OnErr answer (new ≡ old) → IsCutAt head new
 cut_added head old new more (Ok u) h longer utf8 same = cut_more head old new more h utf8 longer
 cut_added head old new more (Err e) h longer utf8 same = cut_same head old new h same
 
--- The texts on both sides of the place where the head ends.
+-- The texts on both sides of the place where the head ends are in UTF-8.
 pub cut_sides : (head : ℕ) (items : List ℕ) → IsCutAt head items → IsUtf8 (take head items) × IsUtf8 (drop head items)
 cut_sides head items h =
     let (some, within, sides) = h in
@@ -118,7 +119,7 @@ rest_utf8 first rest whole hf hw e =
     subst IsUtf8 (drop-append_seam first rest) (IsUtf8-drop (first ++ rest) (length first) here
     (IsCharBoundary-from_take (first ++ rest) (length first) here (omega (arith, length-append first rest)) front))
 
--- A head, a rate and tags, one after the other, are in UTF-8.
+-- The text is in UTF-8 after the rate was moved between the head and the tags.
 pub rate_utf8 : (head : ℕ) (items rate : List ℕ) → IsCutAt head items → IsUtf8 (items ++ rate)
     → IsUtf8 (rotated_text head (length items - head) (items ++ rate))
 rate_utf8 head items rate cut whole =
@@ -128,7 +129,7 @@ rate_utf8 head items rate cut whole =
     subst IsUtf8 (sym (rate_between head items rate cut)) (IsUtf8-append (take head items) (rate ++ drop head items) a
     (IsUtf8-append rate (drop head items) r b))
 
--- A head and tags, one after the other.
+-- A head that isn't empty can end at the place where tags follow it.
 pub cut_new : (head : ℕ) (first tags items : List ℕ) → head ≡ length first → 0 < length first → IsUtf8 first → IsUtf8 tags
     → items ≡ first ++ tags → IsCutAt head items
 cut_new head first tags items is some hf ht e =

@@ -1,4 +1,4 @@
--- The length of a line: the line of a record has fewer than 2 ^ 126 bytes. And a metric that could be in memory can be represented.
+-- The line of a record has fewer than 2 ^ 126 bytes, and a metric that could be in memory can be represented.
 use Rattle.std.proofs.Common.{ℕ, zero, suc, ◌+◌, ◌*◌, ◌/◌, ◌^◌, ◌<◌, ◌≤◌, ℤ, pos, negsuc, List, [], ◌∷◌, ◌++◌, length, Option, Some, None}
 use Rattle.std.proofs.Common.{ap, arith, unsigned_abs, lit<}
 use Rattle.std.specs.Prelude.{IfSome}
@@ -29,7 +29,7 @@ places_short : (n p : ℕ) → length (places_text n p) ≤ p + 1
 places_short n zero = omega arith
 places_short n (suc p) = omega (arith, ap (λ t. length t) (places_text-suc n p), length-places_of n p)
 
--- A signed number of 128 bits.
+-- The text of a number has at most 71 bytes, because its mantissa fits 128 bits.
 
 number_short : (a : Number) → IsDecimal a → length (number_text a) ≤ 71
 number_short a h =

@@ -23,7 +23,7 @@ joined_texts-joined c text [] = refl
 joined_texts-joined c text (x ∷ []) = append-nil (text x)
 joined_texts-joined c text (x ∷ y ∷ xs) = ap (λ t. text x ++ (c ∷ t)) (joined_texts-joined c text (y ∷ xs))
 
--- The fields of a line, which bars separate.
+-- the fields of a line, which bars separate; `parts_of` has all of them
 abbrev pub rate_part : Option Number → List (List ℕ)
 rate_part (Some rate) = (64 ∷ number_text rate) ∷ []
 rate_part None = []
@@ -49,7 +49,7 @@ last_of m = rate_part m.rate ++ (tags_part m.tags ++ (container_part m.container
 abbrev pub parts_of : Metric → List (List ℕ)
 parts_of m = front_of m ∷ kind_text m.kind ∷ last_of m
 
--- Each field after a bar.
+-- the fields, each with a bar before it
 abbrev barred : List (List ℕ) → List ℕ
 barred parts = flat_map (λ part. 124 ∷ part) parts
 
@@ -91,7 +91,7 @@ line_of-joined m =
     ∙ sym (append_assoc m.name (58 ∷ join_with_byte 58 (map number_text m.numbers)) (124 ∷ (kind_text m.kind ++ barred (last_of m))))
     ∙ sym (joined-barred (front_of m) (kind_text m.kind ∷ last_of m))
 
--- A byte that can be in a field: no bar and no newline.
+-- The byte is no bar and no newline, so it can be in a field.
 abbrev PartByte : ℕ → Type 0
 PartByte b = (b ≢ 124) × (b ≢ 10)
 
@@ -114,7 +114,7 @@ number_plain a =
       λ e. absurd (omega arith),
     )) (number_text a) (number_bytes a)
 
--- The text of a tag: `key:text`, or the text alone.
+-- the text of a tag: `key:text`, or the text alone
 abbrev pub keyed_text : Option (List ℕ) → List ℕ → List ℕ
 keyed_text (Some key) text = key ++ 58 ∷ text
 keyed_text None text = text
@@ -140,7 +140,7 @@ tag_once a b ha hb e =
     ∙ key_text-keyed b.key b.text) in
     λ i. record { key = key i; text = text i }
 
--- A tag's text has no comma, bar or newline.
+-- The byte is no comma, bar or newline, so it can be in a tag's text.
 abbrev TagByte : ℕ → Type 0
 TagByte b = (b ≢ 44) × (b ≢ 124) × (b ≢ 10)
 
@@ -178,7 +178,7 @@ joined_some : (c : ℕ) (x : List ℕ) (xs : List (List ℕ)) → 0 < length x �
 joined_some c x [] some e = absurd (omega (arith, ap (λ t. length t) e))
 joined_some c x (y ∷ xs) some e = absurd (omega (arith, ap (λ t. length t) e, length-append x (c ∷ join_with_byte c (y ∷ xs))))
 
--- Numbers joined by colons.
+-- Two lists of numbers whose texts, joined by colons, are the same text are the same list.
 pub number_lacks : (a : Number) → Lacks 58 (number_text a)
 number_lacks a = each_weaker IsNoSeparator (λ b. b ≢ 58) (λ b p. p.0) (number_text a) (number_plain a)
 
@@ -202,7 +202,7 @@ numbers_once (x ∷ xs) (y ∷ ys) e =
     (join_once 58 (number_text x) (number_text y) (map number_text xs) (map number_text ys)
     (each_image number_text (Lacks 58) number_lacks (x ∷ xs)) (each_image number_text (Lacks 58) number_lacks (y ∷ ys)) e)
 
--- The optional fields, each of which its first byte identifies.
+-- whether a field begins with this byte; each optional field has a first byte of its own
 abbrev pub marked : ℕ → List ℕ → Bool
 marked m part = eqb (get_or part 0 0) m
 

@@ -1,4 +1,4 @@
--- What the sinks of a line end with: the counter of bytes, and the line buffer.
+-- The texts that the sinks of a line end with. The sinks are the counter of bytes and the line buffer.
 use Rattle.std.proofs.Common.{◌≡◌, ℕ, ◌+◌, ◌%◌, ◌^◌, ◌<◌, ◌≤◌, Bool, true, false, ltb, List, [], ◌∷◌, ◌++◌, subst, length, replicate, sym}
 use Rattle.std.proofs.Common.{ap, ◌∙◌, arith}
 use Rattle.std.proofs.lemmas.List.{append-nil, length-append, length-replicate}
@@ -21,7 +21,7 @@ counted_whole count text fits short e =
       length-append text [],
     )
 
--- A line buffer with room for exactly one text, which took that text, has that text.
+-- If a line buffer has room for exactly one text, and took that text, it has that text.
 kept : (longer : Bool) (held text : List ℕ) → 0 < length text → (if longer then [] else held) ≡ text → held ≡ text
 kept true held text some e = absurd (omega (arith, ap (λ t. length t) e))
 kept false held text some e = e
@@ -37,7 +37,7 @@ pub filled_whole : (before after : ℕ) (old new text : List ℕ) → 0 < length
 filled_whole before after old new text some none end e =
     filled_all before after new (old ++ (text ++ [])) text some (omega arith) (ap (λ o. o ++ (text ++ [])) none ∙ append-nil text) e
 
--- A line buffer that reserved room for more text, and took that text, has both texts.
+-- If a line buffer reserved room for more text, and took that text, it has both texts.
 pub filled_more : (before after : ℕ) (old was new more : List ℕ) → 0 < length old + length more → length old + length more ≤ before
     → was ≡ old → text_up_to after (new ++ []) ≡ text_up_to before (was ++ (more ++ [])) → new ≡ old ++ more
 filled_more before after old was new more some fits same e =
@@ -52,7 +52,7 @@ utf8_more old more new h k e = ∣ subst IsUtf8 (sym e) (IsUtf8-append old more 
 pub utf8_byte : (byte : ℕ) → byte < 128 → IsUtf8 (byte ∷ [])
 utf8_byte byte h = IsUtf8-from_ascii (byte ∷ []) (IsAscii-cons byte [] h IsAscii-nil)
 
--- A text that is counted first and then written into room of that length.
+-- If a text is counted first, and then written into room of that length, the buffer has it after its earlier text.
 pub counted_written : (count told before after : ℕ) (old was new text : List ℕ) → count < 2 ^ 128 → length text < 2 ^ 128
     → replicate {A = ℕ} ((count + 0) % 2 ^ 128) 0 ≡ replicate ((0 + length (text ++ [])) % 2 ^ 128) 0
     → told ≡ count → before ≡ length old + told → 0 < length old → was ≡ old → text_up_to after (new ++ []) ≡ text_up_to before (was ++ (text ++ []))

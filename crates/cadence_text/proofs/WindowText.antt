@@ -4,7 +4,7 @@ use Rattle.std.proofs.lemmas.List.{append-nil, append_assoc, take_all, take-appe
 use Rattle.std.proofs.lemmas.Bool.{cases_lt}
 use Rattle.std.proofs.Math.Seq.{drop-append-add, drop-nil, take-add, take-append-add, take-nil}
 
--- A text that is skipped as a whole.
+-- Skipping a text as a whole leaves fewer bytes of the rest to be skipped.
 pub passed : (text rest : List ℕ) (skip : ℕ) → length text ≤ skip → drop (skip - length text) rest ≡ drop skip (text ++ rest)
 passed text rest skip whole =
     let e : length text + (skip - length text) ≡ skip = omega arith in
@@ -50,7 +50,7 @@ alike_whole a b n w before here short =
     let end_b : length b ≤ n + w = omega (arith, ap length here, length-take w (drop n b), length-drop n b) in
     sym (take_all (n + w) a end_a) ∙ more ∙ take_all (n + w) b end_b
 
--- What an empty window has stored at the end.
+-- A window that was empty has stored the first 512 bytes of the line after the skipped ones.
 pub window_whole : (begun shown line : List ℕ) (before after_room skip asked left : ℕ) → begun ≡ [] → before ≡ 0 → skip ≡ asked
     → shown ++ take after_room (drop left []) ≡ begun ++ take (512 - before) (drop skip (line ++ [])) → shown ≡ take 512 (drop asked line)
 window_whole begun shown line before after_room skip asked left none zero same taken =
@@ -59,7 +59,7 @@ window_whole begun shown line before after_room skip asked left none zero same t
     ∙ ap₂ (λ b n. b ++ take (512 - n) (drop skip (line ++ []))) none zero
     ∙ ap₂ (λ k l. take 512 (drop k l)) same (append-nil line)
 
--- Two windows that store the same bytes.
+-- If two windows store the same bytes, the two lines are equal in these bytes.
 pub windows_alike : (a b w v s t : List ℕ) (n : ℕ) → w ≡ take 512 (drop n a) → v ≡ take 512 (drop n b) → s ≡ w → t ≡ v → s ≡ t
     → take 512 (drop n a) ≡ take 512 (drop n b)
 windows_alike a b w v s t n of_a of_b shown_a shown_b same = sym of_a ∙ sym shown_a ∙ same ∙ shown_b ∙ of_b

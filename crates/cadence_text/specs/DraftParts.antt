@@ -1,4 +1,4 @@
--- The draft that the fields of a `DraftLine` are.
+-- The draft that the fields of a `DraftLine` represent.
 use Rattle.std.specs.Prelude.{ℕ, ◌<◌, ◌≤◌, List, ◌++◌, Option, None, All, length, take, drop}
 use Rattle.std.specs.Option.{option_copied}
 use Rattle.std.specs.Str.{IsUtf8}

@@ -1,15 +1,15 @@
--- The metric that an `OwnedMetric` is.
+-- The metric that an `OwnedMetric` represents.
 use Rattle.std.specs.Prelude.{Option, List, map, String, Vec}
 use Rattle.std.specs.Option.{option_map}
 use Rattle.std.specs.String.{string_bytes}
 use Rattle.cadence_text.specs.declared.line.record.owned.OwnedMetric.{OwnedMetric}
 use Rattle.cadence_text.specs.Metric.{Metric, Tag}
 
--- the tag that an `OwnedTag` is
+-- the tag that an `OwnedTag` represents
 abbrev pub tag_of_owned : {Z : Type 0} → Option (String Z) × String Z → Tag
 tag_of_owned tag = record { key = option_map string_bytes tag.0; text = string_bytes tag.1 }
 
--- the metric that an `OwnedMetric` is
+-- the metric that an `OwnedMetric` represents
 abbrev pub metric_of_owned : {Z : Type 0} → OwnedMetric Z → Metric
 metric_of_owned m = record {
   name = string_bytes m.name;

@@ -1,4 +1,4 @@
--- The metric that a `Record` is.
+-- The metric that a `Record` represents.
 use Rattle.std.specs.Prelude.{◌++◌, map}
 use Rattle.std.specs.Option.{option_copied}
 use Rattle.cadence_text.specs.declared.line.tag.Tag.{Tag as TagParts}
@@ -6,11 +6,12 @@ use Rattle.cadence_text.specs.declared.line.record.Record.TheInside.{Inside}
 use Rattle.cadence_text.specs.Metric.{Metric, Tag}
 use Rattle.cadence_value.specs.Values.{numbers_of}
 
--- the tag that a borrowed `Tag` is
+-- the tag that a borrowed `Tag` represents
 abbrev pub tag_of : TagParts → Tag
 tag_of tag = record { key = option_copied tag.key; text = tag.text.now }
 
--- the metric that a `Record` is: the name is the prefix followed by the key, and the Rust type of the numbers makes no difference
+-- the metric that a `Record` represents: the name is the prefix followed by the key, and the Rust type of the numbers
+-- makes no difference
 abbrev pub metric_of : {Z : Type 0} → Inside Z → Metric
 metric_of r = record {
   name = r.head.prefix.now ++ r.head.key.now;

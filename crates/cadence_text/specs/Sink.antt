@@ -8,7 +8,8 @@ use Rattle.cadence_text.specs.declared.line.window.Window.{Window}
 abbrev pub window_text : Window → List ℕ
 window_text w = take w.length w.bytes
 
--- the text that a window ends with if this text still comes: it skips what it has to skip, and stores the rest as far as there is room
+-- the text that a window ends with if this text still comes: it skips the bytes that it has to skip, and stores the
+-- rest as far as there is room
 abbrev pub window_ends : Window → List ℕ → List ℕ
 window_ends w rest = window_text w ++ take (512 - w.length) (drop w.skip rest)
 

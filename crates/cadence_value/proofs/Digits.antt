@@ -93,7 +93,8 @@ pair p = (48 + p / 10) ∷ (48 + p % 10) ∷ []
 pub text_two : (n : ℕ) → 10 ≤ n → n < 100 → decimal_text n ≡ (48 + n / 10) ∷ (48 + n % 10) ∷ []
 text_two n low high = text_step n low ∙ ap (λ t. t ++ ((48 + n % 10) ∷ [])) (text_digit (n / 10) (omega arith))
 
--- Splitting off the last two digits of a number, or the last four.
+-- The digits of a number are those of a hundredth of it and then its last two digits (`text_pair`), or those of a
+-- ten-thousandth of it and then its last four (`text_four`).
 pub text_pair : (n : ℕ) → 100 ≤ n → decimal_text n ≡ decimal_text (n / 100) ++ ((48 + n % 100 / 10) ∷ (48 + n % 100 % 10) ∷ [])
 text_pair n h =
     let front : n / 10 / 10 ≡ n / 100 = omega arith in
@@ -107,7 +108,8 @@ text_four n h =
     let second : n / 100 % 100 ≡ n % 10000 / 100 = omega arith in
     rw (text_pair n (omega arith), text_pair (n / 100) (omega arith), append_assoc, front, second)
 
--- How many digits are left after the last four are split off.
+-- A number below 10 has one digit, and one from 10 to 99 has two. A larger number has two more than a hundredth of it,
+-- and four more than a ten-thousandth of it, if that isn't 0.
 pub length_digit : (n : ℕ) → n < 10 → length (decimal_text n) ≡ 1
 length_digit n h = ap (λ t. length t) (text_digit n h)
 

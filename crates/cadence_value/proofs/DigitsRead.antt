@@ -21,7 +21,7 @@ use Rattle.cadence_value.specs.Finds.{HasNone, PrintsAs, Reads}
 pub digit_byte : (d : ℕ) → digit_value d < 10 → 48 + digit_value d ≡ d
 digit_byte d h = omega (arith, digit_value_digit d (digit_from_value d h))
 
--- More digits after the digits of a number that is not zero.
+-- If more digits come after the digits of a number that is not zero, all of them are the digits of their value.
 text_more : (n : ℕ) (ds : List ℕ) → 0 < n → AllDigits 10 ds → decimal_text (digits_value_after 10 n ds) ≡ decimal_text n ++ ds
 text_more n [] some h = sym (append-nil (decimal_text n))
 text_more n (d ∷ ds) some (h, hs) =
@@ -116,7 +116,7 @@ pub zero_refused : (text : List ℕ) → 1 < length text → get_or text 0 0 ≡
 zero_refused text long zero_first n (small, same) =
     absurd (omega (arith, long, ap (λ t. length t) same, text_plain n (ap (λ t. get_or t 0 0) same ∙ zero_first)))
 
--- A byte that is no digit.
+-- A text with a byte that is no digit is not made of digits.
 pub not_digit : (text : List ℕ) (k : ℕ) → k < length text → IsNotAsciiDigit (get_or text k 0) → AllDigits 10 text → ⊥
 not_digit text k within other digits = absurd (grind (arith, digit_at text k digits within, other))
 

@@ -24,11 +24,11 @@ digits_lack_dot : (ds : List ℕ) → AllDigits 10 ds → Lacks 46 ds
 digits_lack_dot [] h = tt
 digits_lack_dot (d ∷ ds) (h, hs) = ((λ e. absurd (omega (arith, (digit_from_value d h).0))), digits_lack_dot ds hs)
 
--- The text of a number without places.
+-- The text of a magnitude without places is the digits of the whole number.
 pub plain_text : (n : ℕ) → magnitude_text n 0 ≡ decimal_text n
 plain_text n = let one : n / 10 ^ 0 ≡ n = omega arith in append-nil (decimal_text (n / 10 ^ 0)) ∙ ap decimal_text one
 
--- What a text with a dot implies about its number.
+-- The magnitude `n` has `p` places, `w` is the text of its whole part, and `f` has its digits after the dot.
 pub record HasDot (n p : ℕ) (w f : List ℕ) : Type 0 where
   pub some : 0 < p
   pub count : length f ≡ p

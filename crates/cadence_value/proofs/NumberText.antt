@@ -27,7 +27,7 @@ digits_zeros (suc k) ds h = (lit< tt, digits_zeros k ds h)
 pub numeral : (n : ℕ) → IsNumeral 10 (decimal_text n)
 numeral n = (text_numeral n).0
 
--- The digits after the dot.
+-- the digits after the dot
 abbrev pub places_of : ℕ → ℕ → List ℕ
 places_of n p = padded_digits p (decimal_text (n % 10 ^ p))
 
@@ -70,7 +70,7 @@ places_once m n (suc p) (suc q) e =
           ∙ places_value n (suc q),
     )
 
--- The text of a magnitude and its places.
+-- the text of a magnitude and its places
 abbrev pub unsigned_text : ℕ → ℕ → List ℕ
 unsigned_text n p = decimal_text (n / 10 ^ p) ++ places_text n p
 
@@ -85,7 +85,7 @@ unsigned_once m n p q e =
     let scales : 10 ^ p ≡ 10 ^ q = ap (λ k. 10 ^ k) places in
     (sym (div-add-mod m (10 ^ p)) ∙ cc (scales, quotients, rests) ∙ div-add-mod n (10 ^ q), places)
 
--- A minus if the number is below zero.
+-- a minus if the number is below zero, and otherwise nothing
 abbrev pub sign : ℤ → List ℕ
 sign z = if is_negative z then codes "-" else []
 

@@ -27,7 +27,7 @@ use Rattle.cadence_value.proofs.DigitsRead.{text_of_digits, text_plain}
 use Rattle.cadence_value.proofs.NumberRead.{plain_text, has_dot, dot_sum, dotted_text, has_sign, not_below, same_signed}
 use Rattle.cadence_value.proofs.PowersOfTen.{neg_product}
 
--- A magnitude with its sign.
+-- A signed number has the magnitude and the sign that it was made of.
 pub abs_signed : (below : Bool) (n : ℕ) → unsigned_abs (signed_integer below n) ≡ n
 abs_signed false n = refl
 abs_signed true zero = refl
@@ -64,7 +64,7 @@ whole_text (d ∷ ds) (some, digits) first = text_of_digits d ds digits (λ e. o
 size_whole : (w : List ℕ) → joined_digits w [] ≡ digits_value 10 w
 size_whole w = omega arith
 
--- A dot and the digits after it, if there are any.
+-- a dot and the digits after it, or nothing if there are none
 abbrev pub dotted : List ℕ → List ℕ
 dotted [] = []
 dotted (d ∷ ds) = 46 ∷ d ∷ ds
@@ -84,7 +84,7 @@ digits_shown below w f h =
     (abs_signed below (joined_digits w f))
     ∙ ap (λ t. (if below then codes "-" else []) ++ t) (unsigned_shown w f h.plain)
 
--- The digits in a number's text.
+-- A number's text has no needless zero in front.
 numeral_first : (n : ℕ) (w : List ℕ) → decimal_text n ≡ w → 1 < length w → get_or w 0 0 ≢ 48
 numeral_first n w e long zero_first =
     absurd (omega (arith, long, ap (λ t. length t) e, text_plain n (ap (λ t. get_or t 0 0) e ∙ zero_first)))
@@ -140,7 +140,7 @@ whole_le w f = omega (arith, le_scaled (digits_value 10 w) (length f))
     le_scaled a zero = omega arith
     le_scaled a (suc k) = omega (arith, le_scaled a k, ap (λ x. a * x) (pow-succ' 10 k), mul_left_comm a 10 (10 ^ k))
 
--- Zeros at the end of the places.
+-- Zeros at the end of the places are digits.
 zeros_digits : (k : ℕ) → AllDigits 10 (replicate k 48)
 zeros_digits zero = tt
 zeros_digits (suc k) = (lit< tt, zeros_digits k)
@@ -194,7 +194,7 @@ signed_cut below w g k h = record {
   nonzero = λ is. some_factor (joined_digits w g) (10 ^ k) (omega (arith, size_zeros w g k, h.nonzero is));
 }
 
--- A last digit that is not 0.
+-- If the last digit after the dot is not 0, the digits as one whole number are not a multiple of ten.
 last_digit : (w f : List ℕ) → AllDigits 10 f → EndsPlain f → 0 < length f → (joined_digits w f % 10 ≡ 0 → ⊥)
 last_digit w [] digits ends some none = absurd (omega arith)
 last_digit w (d ∷ ds) digits ends some none =

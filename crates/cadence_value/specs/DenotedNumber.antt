@@ -13,8 +13,8 @@ pub record Denotes (text : List ℕ) (n : Number) : Type 0 where
   pub shown : number_text (number mantissa places) ≡ text
   pub lowest : IsLowestForm mantissa places n
 
--- The result is the decimal that the text denotes. Or it is an error that is true: the text denotes no number, or one
--- with more than 30 places, or one with at most 30 places whose mantissa does not fit 128 bits.
+-- The result is the decimal that the text denotes. Otherwise it is the error that says why: the text denotes no number,
+-- or one with more than 30 places, or one with at most 30 places whose mantissa does not fit 128 bits.
 abbrev pub ReadsDecimal : List ℕ → Result Number ParseDecimalError → Type 0
 ReadsDecimal text (Ok n) = IsDecimal n × Denotes text n
 ReadsDecimal text (Err NotANumber) = (n : Number) → Denotes text n → ⊥

@@ -20,7 +20,7 @@ use std::alloc::{Allocator, Global};
 use std::fmt;
 pub use timers::ToTimerValue;
 
-/// The value of a metric: one number or a list of numbers, in the type that the caller has them in.
+/// The value of a metric: one number or a list of numbers, in the type in which the caller has them.
 ///
 /// A line shows only the numbers, not their type: `Signed(5)`, `Unsigned(5)` and a `Decimal` of 5 all print as `5`.
 ///

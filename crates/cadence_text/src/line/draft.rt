@@ -159,8 +159,8 @@ impl<'a, A: Allocator> DraftLine<'a, A> {
         Ok(written(line, first, head, tags, container))
     }
 
-    /// Returns the draft that `new` returns, but writes it into a buffer of the caller's, whose text is lost. It takes
-    /// memory only if the buffer is too short. After an error the buffer is freed.
+    /// Returns the draft that `new` returns, but writes it into a buffer of the caller's, in place of its text. It
+    /// takes memory only if the buffer is too short. After an error the buffer is freed.
     #[inline(always)]
     pub fn in_buffer<B: Allocator>(
         buffer: Vec<u8, A>,
@@ -221,7 +221,7 @@ impl<'a, A: Allocator> DraftLine<'a, A> {
     }
 
     /// Returns the finished line. It takes memory if the buffer has too little room for the rate, the container and the
-    /// time. The only error is that memory ran out; the draft is lost then.
+    /// time. The only error is that memory ran out; the draft is dropped then.
     #[inline(always)]
     #[tactic(auto, using(crate::proofs::DraftText::line_of_metric))]
     pub fn into_text(self) -> Result<String<A>, AllocError>

@@ -1,4 +1,4 @@
-//! The two places where the pieces of a line go: a counter of bytes, which measures a line, and a buffer of the measured
+//! The two sinks for the pieces of a line: a counter of bytes, which measures a line, and a buffer of the measured
 //! length, into which the line is written.
 //!
 //! A `LineSink` can't refuse a piece. So a piece that is too long for the buffer empties the buffer, and the functions that
@@ -65,8 +65,8 @@ impl LineSink for LengthCounter {
     }
 }
 
-/// A `LineSink` that writes the bytes into a buffer of a fixed length. `end` is the length that was reserved: contracts
-/// say of each text that fits in it that it is written, and of a longer one nothing.
+/// A `LineSink` that writes the bytes into a buffer of a fixed length. `end` is the length that was reserved. Contracts
+/// promise that a text that fits into this length is written. They promise nothing of a longer text.
 #[derive(Drop)]
 pub(crate) struct LineBuf<A: Allocator> {
     bytes: Vec<u8, A>,
@@ -78,7 +78,7 @@ pub(crate) struct LineBuf<A: Allocator> {
 impl<A: Allocator> LineBuf<A> {
     ghost use Rattle.cadence_text.specs.Sink.{rotated_text};
 
-    /// Returns an empty buffer of `length` bytes. It takes memory once, and just that much.
+    /// Returns an empty buffer of `length` bytes. It takes memory once, and only that much.
     #[inline]
     pub(crate) fn with_room(alloc: A, length: usize) -> Result<LineBuf<A>, AllocError>
         ensures empty { IfOk result (λ f. f.bytes.items ≡ []) }
@@ -89,8 +89,8 @@ impl<A: Allocator> LineBuf<A> {
         Ok(LineBuf { bytes, end: length })
     }
 
-    /// Empties a buffer of the caller's, and returns it with room for `length` bytes. It takes memory only if the buffer
-    /// is too short, and then just that much.
+    /// Empties a buffer of the caller's, and returns it with room for `length` bytes. It takes memory only if the
+    /// buffer is too short, and then only that much.
     #[inline]
     pub(crate) fn in_buffer(buffer: Vec<u8, A>, length: usize) -> Result<LineBuf<A>, AllocError>
         ensures empty { IfOk result (λ f. f.bytes.items ≡ []) }
@@ -174,7 +174,7 @@ impl<A: Allocator> LineBuf<A> {
         unsafe { String::from_utf8_unchecked(self.bytes) }
     }
 
-    // Empties the buffer. It is inline, so that the buffer's address and length stay in registers.
+    // Empties the buffer. The function is inline, so that the buffer's address and length stay in registers.
     #[inline(always)]
     fn give_up(&mut self)
         ensures bytes { self.new.bytes.items ≡ [] }

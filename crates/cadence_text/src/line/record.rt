@@ -142,7 +142,7 @@ impl<'a, A: Allocator> Record<'a, A> {
         push_last(line, self.container, self.time);
     }
 
-    /// Returns the length of the line in bytes, without making the line. It returns `None` just if the length passes
+    /// Returns the length of the line in bytes, without making the line. It returns `None` only if the length passes
     /// `usize::MAX`. It takes no memory.
     #[inline(always)]
     pub fn line_len(&self) -> Option<usize>
@@ -161,7 +161,7 @@ impl<'a, A: Allocator> Record<'a, A> {
         counter.length()
     }
 
-    // Returns a buffer of just the length of the line.
+    // Returns a buffer of exactly the length of the line.
     #[inline(always)]
     fn reserved<B: Allocator>(&self, alloc: B) -> Result<LineBuf<B>, AllocError>
         ensures empty { IfOk result (λ f. f.bytes.items ≡ []) }
@@ -175,7 +175,7 @@ impl<'a, A: Allocator> Record<'a, A> {
     }
 
     /// Returns the line of the record's metric, which is never empty. Its fields have this order: name, numbers, type
-    /// text, rate, tags, container, time. It takes memory once, just the length of the line (`line_len`).
+    /// text, rate, tags, container, time. It takes memory once, as many bytes as the line has (`line_len`).
     ///
     /// The only error is `SinkError::OutOfMemory`: memory ran out, or the length passes `usize::MAX`.
     #[tactic(auto, using(crate::proofs::LineText::line_is_not_empty, crate::proofs::LineLength::record_said))]

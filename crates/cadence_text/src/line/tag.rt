@@ -7,8 +7,8 @@ use std::alloc::{AllocError, Allocator, Global};
 
 /// A tag: a label of a metric, such as `route:home`, by which a server can group and filter. Tags are DogStatsD's.
 ///
-/// A line shows it as `key:text`, or as the text alone if it has no key. Neither is escaped or checked: with a comma, a
-/// bar or a newline in it, a server reads the line differently.
+/// A line shows it as `key:text`, or as the text alone if it has no key. Neither is escaped or checked: if one has a
+/// comma, a bar or a newline in it, a server reads the line differently.
 #[derive(Clone, Copy, Debug)]
 pub struct Tag<'a> {
     /// The key, if the tag has one.

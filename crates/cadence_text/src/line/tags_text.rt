@@ -47,8 +47,9 @@ pub(crate) fn add_to<A: Allocator>(
     Ok(())
 }
 
-/// The tags of a line as text, with the `|#` before the first one. A client keeps its default tags in this form, so that
-/// it copies them to each line as they are. Contracts see the value as its text. The Rust crate has no such type.
+/// The tags of a line as text, with the `|#` before the first one. A client stores its default tags in this form, so
+/// that it can copy them to each line as they are. Contracts see the value as its text. The Rust crate has no such
+/// type.
 #[derive(Drop)]
 pub struct TagsText<A: Allocator = Global> {
     line: LineBuf<A>,

@@ -89,7 +89,7 @@ fn read_short(text: &[u8]) -> Option<u64>
     Some(value)
 }
 
-// Does the same as `read_long`, and reads short texts, which are the most frequent, faster.
+// Returns what `read_long` returns, but reads short texts, which are the most frequent, faster.
 fn read_digits(text: &[u8]) -> Option<u128>
     ensures { SomeIff result (IsNumeral 10 text.now × (digits_value 10 text.now < 2 ^ 128))
         (digits_value 10 text.now) }
@@ -287,7 +287,7 @@ fn read(text: &[u8]) -> Result<Decimal, ParseDecimalError>
 
 /// Reads the number exactly. Zeros at the end of the places are accepted: `"1.50"` is read as 1.5. Takes no memory.
 ///
-/// If the text can't be read, the error is the first variant of `ParseDecimalError` that is true of it.
+/// If the text can't be read, the error is the first variant of `ParseDecimalError` that is true of the text.
 impl FromStr for Decimal {
     type Err = ParseDecimalError;
 

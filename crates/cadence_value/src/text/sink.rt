@@ -1,5 +1,5 @@
-//! The traits of what a line is written to, piece by piece: a buffer, a counter of bytes, or a window on a part of the
-//! line. A sink here has nothing to do with the sinks that send metrics.
+//! The traits of a sink for pieces of a line: a buffer, a counter of bytes, or a window on a part of the line. These
+//! sinks are not the sinks that send metrics.
 ghost use Rattle.std.specs.Prelude.{◌<◌, List, ℕ, ◌∷◌, []};
 ghost use Rattle.cadence_value.specs.Number.{decimal_text};
 ghost use Rattle.cadence_value.specs.Takes.{IsTextInMemory, Takes};

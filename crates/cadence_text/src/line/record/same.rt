@@ -22,8 +22,8 @@ fn window_of<A: Allocator>(metric: &Record<'_, A>, skip: u128) -> Window
 impl<'a, A: Allocator> Record<'a, A> {
     /// Returns whether both records have the same line. Takes no memory.
     ///
-    /// It writes both lines into windows of 512 bytes. Lines of up to 511 bytes are written once, and longer ones once
-    /// more for every further 512 bytes.
+    /// Both lines are written into windows of 512 bytes. Lines of up to 511 bytes are written once, and longer ones
+    /// once more for every further 512 bytes.
     pub fn same_line<B: Allocator>(&self, other: &Record<'_, B>) -> bool
         ensures lines { IsTrue result ↔ (line_of self.now ≡ line_of other.now) }
         ensures metrics { IsFreeOfSeparators self.now → IsFreeOfSeparators other.now →
