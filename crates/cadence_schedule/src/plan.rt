@@ -24,7 +24,7 @@ fn room_after(group: &[usize], capacity: usize) -> Option<usize>
     Some(room)
 }
 
-// Returns whether no mark lies strictly between the two places.
+// Returns whether no mark lies between the two places. A mark at one of them doesn't count.
 fn none_between(marks: &[usize], start: usize, end: usize) -> bool
     ensures { IsTrue result ↔ All (λ mark. start < mark → end ≤ mark) marks.now }
 {
@@ -38,7 +38,8 @@ fn is_mark(marks: &[usize], place: usize) -> bool
     marks.contains(&place)
 }
 
-// Returns whether the next `count` sizes from `start` on may share a packet and one more could not be in it.
+// Returns whether the next `count` sizes from `start` on may be a packet, and are as many as the capacity and the marks
+// allow.
 fn is_tight_group(
     sizes: &[usize],
     capacity: usize,

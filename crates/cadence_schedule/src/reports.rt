@@ -33,7 +33,8 @@ impl<W, A: Allocator> Report<W, A> {
     }
 
     /// Returns how many lines each packet has that the writer took, in order. If the packer still holds text, the last
-    /// number is that of the lines held. For a writer that takes a part of a packet, nothing is promised of it.
+    /// number is that of the lines held. For a writer that may take only a part of a packet, nothing is promised of
+    /// this list.
     pub fn cut(&self) -> &[usize]
         ensures { result.now ≡ (outcome_of self.now).cut }
     {

@@ -23,7 +23,8 @@ use cadence_flow::queue::{QueueCore, QueuePolicy};
 use cadence_text::laws::no_line_is_empty;
 use std::alloc::Allocator;
 
-// Makes the lists of a run of `steps` steps: room for the replies and for the cut, and the queue.
+// Makes what a run of `steps` steps needs: a list with room for the replies, a list with room for the cut, and the
+// queue.
 fn own_lists<A: Allocator + Clone>(
     alloc: &A,
     steps: usize,
@@ -154,7 +155,7 @@ pub fn run_schedule_with<W: PacketWriter, A: Allocator + Clone>(
         × IsAccounted W.history given (outcome_of report)) }
     ensures returned { IfErr result (λ back. back ≡ writer) }
 {
-    // Laws, for the proof alone: no code comes of them.
+    // Laws, which only the proof needs. The calls compile to no code.
     no_line_is_empty();
     tight_is_fewest();
     packets_read_one_way();

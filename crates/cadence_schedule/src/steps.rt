@@ -17,7 +17,7 @@ pub enum Step<A: Allocator = Global> {
     Hand,
     /// The packer sends the text that it holds, as one packet.
     Flush,
-    /// The queue is stopped: it takes no more lines, and those that wait may still be taken.
+    /// The queue is stopped: it accepts no more lines, but the lines that wait may still be taken.
     Stop,
 }
 

@@ -3,12 +3,12 @@ use Rattle.std.proofs.Common.{◌≡◌, ◌≢◌, ℕ, List, [], ◌∷◌, �
 use Rattle.std.proofs.lemmas.Grind.{common_steps}
 use Rattle.cadence_schedule.specs.Settings.{before_kept, without_dots}
 
--- a dot at the end changes nothing
+-- A text with one more dot at its end has the same text without trailing dots.
 pub without_dots-snoc : (xs : List ℕ) → without_dots (xs ++ (46 ∷ [])) ≡ without_dots xs
 without_dots-snoc [] = refl
 without_dots-snoc (c ∷ cs) = ap (before_kept c) (without_dots-snoc cs)
 
--- a text that ends in no dot stays
+-- A text that doesn't end in a dot stays the same without trailing dots.
 pub without_dots-same : (xs : List ℕ) → ((front : List ℕ) → xs ≢ front ++ (46 ∷ [])) → without_dots xs ≡ xs
 without_dots-same [] h = refl
 without_dots-same (c ∷ []) h =

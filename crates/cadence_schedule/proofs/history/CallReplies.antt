@@ -4,7 +4,8 @@ use Rattle.cadence_schedule.specs.declared.steps.Reply.{Reply}
 use Rattle.cadence_schedule.specs.declared.steps.Reply.TheVariants as reply
 use Rattle.cadence_schedule.specs.Replies.{CallReplies}
 
--- what the reply to an accepted call says of the call and the queue
+-- If a call was accepted, it has a line, the queue was neither stopped nor full, and the reply is the length of the
+-- line.
 pub call_accepts : (o : Option (List ℕ)) (stopped full : Bool) (drops : Option (List ℕ)) (n : ℕ)
     → CallReplies o stopped full drops (reply.Called (Ok n))
     → (line : List ℕ) × (o ≡ Some line) × (stopped ≡ false) × (full ≡ false) × (n ≡ length line)
@@ -28,7 +29,8 @@ call_accepts (Some line) false false drops n r = (
       good in let equal : n ≡ length line = cc in equal) (λ bad. absurd (let no : ◌≡◌ {A = Reply} (reply.Called (Ok n)) _ = bad in cc)) r,
 )
 
--- what the reply to a call says of the queue, if another line was dropped for it
+-- If a call was accepted and another line was dropped for it, the call has a line, and the queue dropped its oldest
+-- line.
 pub call_drops : (o : Option (List ℕ)) (stopped full : Bool) (drops : Option (List ℕ)) (n m : ℕ)
     → CallReplies o stopped full drops (reply.CallDropped n m)
     → (line : List ℕ) × (oldest : List ℕ) × (o ≡ Some line) × (drops ≡ Some oldest)

@@ -1,4 +1,4 @@
--- The kept lines after one turn more.
+-- What one turn more does to the kept lines.
 use Rattle.std.proofs.Common.{◌≡◌, ◌≢◌, ℕ, zero, suc, zero-le, ◌≤◌, List, [], ◌∷◌, ◌++◌, Option, Some, None, Ok, Err, length, drop, refl}
 use Rattle.std.proofs.Common.{sym, ap, ◌∙◌, arith, subst}
 use Rattle.std.specs.Prelude.{slice_get}
@@ -24,7 +24,7 @@ each_get P (y ∷ xs) zero x (h, hs) e = let same : y ≡ x = cc in subst P same
 each_get P (y ∷ xs) (suc i) x (h, hs) e = each_get P xs i x hs e
 
 module _ {A : Type 0} (line_of : Call A → Option (List ℕ)) where
-  -- a turn that hands on no line does not change the kept lines
+  -- A turn that hands on no line does not change the kept lines.
   pub counts_same : (h : List (Turn A)) (t : Turn A) → outcome_by t ≡ [] → handed_count h ≤ taken_count h → left_count h ≤ length (accepted line_of h)
       → kept_counts line_of (h ++ t ∷ []) ≡ kept_counts line_of h
   counts_same h t b handed within =
@@ -35,7 +35,7 @@ module _ {A : Type 0} (line_of : Call A → Option (List ℕ)) where
       ∙ sym (with_answers-longer (out line_of h) (drop (left_count h) (accepted line_of h)) (outcomes h) few)
       ∙ ap (λ l. with_answers l (outcomes h)) (sym (undropped_lines_is line_of h))
 
-  -- a turn that accepts no line, and in which no line leaves the queue, does not change the undropped lines
+  -- A turn that accepts no line, and in which no line leaves the queue, does not change the undropped lines.
   pub undropped_lines_same : (h : List (Turn A)) (t : Turn A) → accepted_by line_of t ≡ [] → exit_by t ≡ []
       → undropped_lines line_of (h ++ t ∷ []) ≡ undropped_lines line_of h
   undropped_lines_same h t a e = λ i.
@@ -43,7 +43,7 @@ module _ {A : Type 0} (line_of : Call A → Option (List ℕ)) where
       ((accepted-push line_of h t ∙ ap (λ l. accepted line_of h ++ l) a ∙ append-nil (accepted line_of h)) i)
       ((exits-push h t ∙ ap (λ l. exits h ++ l) e ∙ append-nil (exits h)) i)
 
-  -- the kept lines after a hand
+  -- After a hand that returned `Ok`, the kept lines have one more: the line that was in hand.
   pub counts_more : (h : List (Turn A)) (n : ℕ) (line : List ℕ) → slice_get (undropped_lines line_of h) (handed_count h) ≡ Some line
       → kept_counts line_of (h ++ (step.Hand, reply.Handed (Ok n)) ∷ []) ≡ kept_counts line_of h ++ (line, n) ∷ []
   counts_more h n line text =
@@ -76,7 +76,7 @@ module _ {A : Type 0} (line_of : Call A → Option (List ℕ)) where
   length-outcomes [] = zero-le
   length-outcomes (t ∷ h) = omega (arith, length-append (outcome_by t) (outcomes h), outcome_one t, length-outcomes h)
 
-  -- no more lines are kept than there were turns
+  -- No more lines are kept than there were turns.
   pub length-kept : (h : List (Turn A)) → length (kept line_of h) ≤ length h
   length-kept h =
       omega (
@@ -100,7 +100,7 @@ module _ {A : Type 0} (line_of : Call A → Option (List ℕ)) where
     accepted_each [] = tt
     accepted_each (t ∷ h) = each_append (λ l. l ≢ []) (accepted_by line_of t) (accepted line_of h) (by_turn t) (accepted_each h)
 
-    -- no undropped line is empty
+    -- No undropped line is empty.
     pub undropped_lines_filled : (line : List ℕ) (h : List (Turn A)) (i : ℕ) → slice_get (undropped_lines line_of h) i ≡ Some line → line ≢ []
     undropped_lines_filled line h i e =
         each_get (λ l. l ≢ []) (undropped_lines line_of h) i line (each_undropped (λ l. l ≢ []) (accepted line_of h) (exits h) (accepted_each h)) e

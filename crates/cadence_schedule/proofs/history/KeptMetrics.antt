@@ -1,4 +1,4 @@
--- The kept lines are the lines of the kept metrics, and what holds for each accepted metric holds for each kept one.
+-- The kept lines are the lines of the kept metrics, and what is true of each accepted metric is true of each kept one.
 use Rattle.std.proofs.Common.{◌≡◌, ℕ, List, [], ◌∷◌, ◌++◌, Option, Some, None, Ok, refl, sym, ap, ◌∙◌, map}
 use Rattle.std.specs.Prelude.{All, IfSome}
 use Rattle.std.specs.List.{AllByRecursion}
@@ -51,7 +51,7 @@ module _ {X Y : Type 0} (f : X → Y) where
         ∙ firsts_mapped (with_answers (undropped_lines of h) (outcomes h))
 
 module _ {X : Type 0} (P : X → Type 0) where
-  -- what holds for a metric, if there is one, holds for each element of the list of it
+  -- What is true of a metric, if there is one, is true of each element of the list of that metric.
   pub all_of_option : (o : Option X) → IfSome o P → All P (option_to_list o)
   all_of_option (Some x) h = All-cons P x [] h (All-nil P)
   all_of_option None h = All-nil P
@@ -63,7 +63,7 @@ module _ {X : Type 0} (P : X → Type 0) where
   each_answered (x ∷ xs) (Some n ∷ answers) (h, hs) = (h, each_answered xs answers hs)
   each_answered (x ∷ xs) (None ∷ answers) (h, hs) = each_answered xs answers hs
 
-  -- what holds for each element holds for each undropped one
+  -- What is true of each element is true of each one that was not dropped.
   pub each_undropped : (xs : List X) (exits : List Exit) → AllByRecursion P xs → AllByRecursion P (without_dropped xs exits)
   each_undropped [] exits h = tt
   each_undropped (x ∷ xs) [] h = h

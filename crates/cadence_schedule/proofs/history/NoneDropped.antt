@@ -11,7 +11,7 @@ use Rattle.cadence_schedule.specs.RunHistory.{Turn, dropped_count, drops_text}
 use Rattle.cadence_schedule.specs.Replies.{MayReply, MayReplyAfter}
 use Rattle.cadence_schedule.proofs.history.CallReplies.{call_drops}
 
--- what holds for the value of an `Ok` result, from what is known of it
+-- If P implies Q, and P is true of the value of a result that is `Ok`, then so is Q.
 pub on_ok : {X Y : Type 0} (P Q : X → Type 0) (result : Result X Y) → ((x : X) → P x → Q x) → IfOk result P → IfOk result Q
 on_ok P Q (Ok x) more p = more x p
 on_ok P Q (Err y) more p = tt

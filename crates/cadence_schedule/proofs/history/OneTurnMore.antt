@@ -19,7 +19,7 @@ pub or_no : (b : Bool) → (b || false) ≡ b
 or_no true = refl
 or_no false = refl
 
--- elements after those that got an answer do not matter
+-- Elements after those that got an answer make no difference.
 pub with_answers-longer : {X Y : Type 0} (xs more : List X) (answers : List (Option Y)) → length answers ≤ length xs
     → with_answers (xs ++ more) answers ≡ with_answers xs answers
 with_answers-longer [] [] answers h = refl
@@ -33,7 +33,7 @@ with_answers-nil : {X Y : Type 0} (xs : List X) → with_answers {X = X} {Y = Y}
 with_answers-nil [] = refl
 with_answers-nil (x ∷ xs) = refl
 
--- the next element gets an answer, or none
+-- If the next element gets an answer, it is one more element with an answer.
 pub with_answers-some : {X Y : Type 0} (xs : List X) (answers : List (Option Y)) (x : X) (y : Y) → slice_get xs (length answers) ≡ Some x
     → with_answers xs (answers ++ Some y ∷ []) ≡ with_answers xs answers ++ (x, y) ∷ []
 with_answers-some [] answers x y e = absurd cc
@@ -47,7 +47,7 @@ with_answers-none (x ∷ xs) [] = with_answers-nil xs
 with_answers-none (x ∷ xs) (Some y ∷ answers) = ap (λ l. (x, y) ∷ l) (with_answers-none xs answers)
 with_answers-none (x ∷ xs) (None ∷ answers) = with_answers-none xs answers
 
--- no more elements have an answer than there are answers
+-- No more elements have an answer than there are answers.
 pub length-with_answers : {X Y : Type 0} (xs : List X) (answers : List (Option Y)) → length (with_answers xs answers) ≤ length answers
 length-with_answers [] answers = zero-le
 length-with_answers (x ∷ xs) [] = zero-le

@@ -1,4 +1,4 @@
--- The queue and the hand after any turns, as the history says.
+-- The queue and the hand after any turns are those that the history says.
 use Rattle.std.proofs.Common.{◌≡◌, ℕ, zero, suc, zero-le, ◌+◌, ◌%◌, ◌^◌, ◌<◌, ◌≤◌, List, [], ◌∷◌, ◌++◌, Option, Some, None, Ok, Err, Bool}
 use Rattle.std.proofs.Common.{true, false, length, drop, refl, sym, ap, ◌∙◌, arith, subst, cond, ◌||◌, ⊎_elim}
 use Rattle.std.specs.Prelude.{slice_get, ◌==◌}
@@ -49,24 +49,24 @@ drop-is (y ∷ xs) (suc i) x rest e = let (short, tail) = drop-is xs i x rest e 
     suc_add : (i : ℕ) → suc i + 1 ≡ suc (i + 1)
     suc_add i = omega arith
 
--- a line that is dropped is the oldest one
+-- A line that is dropped is the oldest one.
 drops_first : (policy : QueuePolicy) (waiting : List (List ℕ)) (oldest : List ℕ) → drops_for_room policy waiting ≡ Some oldest
     → waiting ≡ oldest ∷ drop 1 waiting
 drops_first Refuse waiting oldest e = absurd cc
 drops_first DropOldest [] oldest e = absurd cc
 drops_first DropOldest (x ∷ waiting) oldest e = let same : x ≡ oldest = cc in ap (λ y. y ∷ waiting) same
 
--- an element of a front part does not depend on what comes after that part
+-- An element of the first part of a list does not depend on what comes after that part.
 same_front : {X : Type 0} (xs ys zs : List X) (i : ℕ) → i < length xs → slice_get (xs ++ ys) i ≡ slice_get (xs ++ zs) i
 same_front xs ys zs i h = slice_get_front xs ys i h ∙ sym (slice_get_front xs zs i h)
 
--- a queue that is not full is within its capacity with one line more
+-- A queue that is not full is still within its capacity with one line more.
 within_more : (queue : Option ℕ) (waiting : List (List ℕ)) (line : List ℕ) → IsWithin queue waiting → at_capacity queue waiting ≡ false
     → IsWithin queue (waiting ++ line ∷ [])
 within_more None waiting line within room = tt
 within_more (Some capacity) waiting line within room = omega (arith, leb-false capacity (length waiting) room, length-append waiting (line ∷ []))
 
--- a queue is within its capacity with one line in place of another
+-- A queue is still within its capacity with one line in place of another.
 within_other : (queue : Option ℕ) (line oldest : List ℕ) (rest : List (List ℕ)) → IsWithin queue (oldest ∷ rest) → IsWithin queue (rest ++ line ∷ [])
 within_other None line oldest rest within = tt
 within_other (Some capacity) line oldest rest within = omega (arith, within, length-append rest (line ∷ []))
@@ -101,8 +101,8 @@ module _ {A : Type 0} (line_of : Call A → Option (List ℕ)) (queue : Option �
     pub dropped_is : s.dropped ≡ dropped_count h % 2 ^ 64
     pub room : IsWithin queue s.waiting
 
-  -- The second history says this much more than the first: it accepts these lines, hands on, takes and drops so many, and
-  -- stops the queue if `stop` is true.
+  -- The second history says this much more than the first: these lines are accepted, `handed` lines are handed on,
+  -- `taken` lines are taken, `dropped` lines are dropped, and the queue is stopped if `stop` is true.
   record Grows (h h' : List (Turn A)) (lines : List (List ℕ)) (handed taken dropped : ℕ) (stop : Bool) : Type 0 where
     accepted_is : accepted line_of h' ≡ accepted line_of h ++ lines
     length_is : length (accepted line_of h') ≡ length (accepted line_of h) + length lines
@@ -130,7 +130,7 @@ module _ {A : Type 0} (line_of : Call A → Option (List ℕ)) (queue : Option �
         stopped_is = stopped-push h t ∙ ap (λ v. is_stopped h || v) z;
       }
 
-  -- at least as many lines were not dropped as were taken
+  -- At least as many lines were not dropped as were taken.
   long : (h : List (Turn A)) → left_count h ≤ length (accepted line_of h) → taken_count h ≤ length (undropped_lines line_of h)
   long h within =
       omega (
@@ -141,7 +141,7 @@ module _ {A : Type 0} (line_of : Call A → Option (List ℕ)) (queue : Option �
             (drop (left_count h) (accepted line_of h)),
       )
 
-  -- if one more line was taken than handed on, the next undropped line is in hand
+  -- If one more line was taken than handed on, the next undropped line is in hand.
   hand_when : (h : List (Turn A)) → taken_count h ≡ handed_count h + 1 → in_hand line_of h ≡ slice_get (undropped_lines line_of h) (handed_count h)
   hand_when h e =
       cond-true (taken_count h == handed_count h + 1) (slice_get (undropped_lines line_of h) (handed_count h)) None
@@ -152,7 +152,7 @@ module _ {A : Type 0} (line_of : Call A → Option (List ℕ)) (queue : Option �
       cond-false (taken_count h == handed_count h + 1) (slice_get (undropped_lines line_of h) (handed_count h)) None
       (ne_eqb (taken_count h) (handed_count h + 1) (λ e. absurd (omega arith)))
 
-  -- a turn by which nothing is taken or handed on leaves the hand
+  -- A turn by which nothing is taken or handed on leaves the hand as it is.
   hand_same : (h : List (Turn A)) (t : Turn A) → taken_count h ≤ handed_count h + 1 → left_count h ≤ length (accepted line_of h)
       → taken_count (h ++ t ∷ []) ≡ taken_count h → handed_count (h ++ t ∷ []) ≡ handed_count h
       → in_hand line_of h ≡ in_hand line_of (h ++ t ∷ [])
@@ -166,7 +166,7 @@ module _ {A : Type 0} (line_of : Call A → Option (List ℕ)) (queue : Option �
       (λ (none : taken_count h ≤ handed_count h). hand_else h none ∙ sym (hand_else (h ++ t ∷ []) (omega (arith, same, handed))))
       (cases_lt (handed_count h) (taken_count h))
 
-  -- with an empty hand, as many were handed on as were taken
+  -- If the hand is empty, as many lines were handed on as were taken.
   pub empty_hand : (h : List (Turn A)) (s : State) → QueueAfter h s → s.in_hand ≡ None → taken_count h ≡ handed_count h
   empty_hand h s q e =
       ⊎_elim
@@ -176,7 +176,7 @@ module _ {A : Type 0} (line_of : Call A → Option (List ℕ)) (queue : Option �
       (λ (none : taken_count h ≤ handed_count h). let goal : taken_count h ≡ handed_count h = omega (arith, q.handed_le) in goal)
       (cases_lt (handed_count h) (taken_count h))
 
-  -- a line in hand is the next undropped line after those that were handed on
+  -- If a line is in hand, it is the next undropped line after those that were handed on.
   pub full_hand : (h : List (Turn A)) (s : State) (line : List ℕ) → QueueAfter h s → s.in_hand ≡ Some line
       → (taken_count h ≡ handed_count h + 1) × (slice_get (undropped_lines line_of h) (handed_count h) ≡ Some line)
   full_hand h s line q e =
@@ -190,7 +190,7 @@ module _ {A : Type 0} (line_of : Call A → Option (List ℕ)) (queue : Option �
       ∙ sym q.hand_is ∙ e in cc))
       (cases_lt (handed_count h) (taken_count h))
 
-  -- a turn that accepts, takes, drops, hands on and stops nothing
+  -- The queue and the hand stay right after a turn that accepts, takes, drops, hands on and stops nothing.
   pub quiet : (h : List (Turn A)) (t : Turn A) (s s' : State) → SameQueue s s' → s'.in_hand ≡ s.in_hand → accepted_by line_of t ≡ []
       → takes_text t ≡ false → drops_text t ≡ false → outcome_by t ≡ [] → stops t ≡ false → QueueAfter h s → QueueAfter (h ++ t ∷ []) s'
   quiet h t s s' same hand a k d b z q =
@@ -210,7 +210,7 @@ module _ {A : Type 0} (line_of : Call A → Option (List ℕ)) (queue : Option �
         room = subst (λ w. IsWithin queue w) (sym same.waiting) q.room;
       }
 
-  -- a call that is accepted by a queue that is not full
+  -- The queue and the hand stay right after a call that is accepted by a queue that is not full.
   pub queue_call : (h : List (Turn A)) (call : Call A) (n : ℕ) (line : List ℕ) (s : State) → line_of call ≡ Some line
       → at_capacity queue s.waiting ≡ false → QueueAfter h s
       → QueueAfter (h ++ (step.Call call, reply.Called (Ok n)) ∷ []) (record
@@ -235,7 +235,7 @@ module _ {A : Type 0} (line_of : Call A → Option (List ℕ)) (queue : Option �
         room = subst (λ w. IsWithin queue (s.waiting ++ w)) (sym one) (within_more queue s.waiting line q.room free);
       }
 
-  -- a call that is accepted by a full queue, which drops its oldest line
+  -- The queue and the hand stay right after a call that is accepted by a full queue, which drops its oldest line.
   pub queue_drop : (policy : QueuePolicy) (h : List (Turn A)) (call : Call A) (n m : ℕ) (line oldest : List ℕ) (s : State)
       → line_of call ≡ Some line → drops_for_room policy s.waiting ≡ Some oldest → QueueAfter h s
       → QueueAfter (h ++ (step.Call call, reply.CallDropped n m) ∷ [])
@@ -270,7 +270,7 @@ module _ {A : Type 0} (line_of : Call A → Option (List ℕ)) (queue : Option �
             (within_other queue line oldest (drop 1 s.waiting) (subst (λ w. IsWithin queue w) front q.room));
       }
 
-  -- a line that was taken with an empty hand is the next one to be handed on
+  -- A line that was taken with an empty hand is the next one to be handed on.
   text_taken : (h : List (Turn A)) (n : ℕ) (line : List ℕ) (rest : List (List ℕ)) → left_count h ≤ length (accepted line_of h)
       → drop (left_count h) (accepted line_of h) ≡ line ∷ rest → taken_count h ≡ handed_count h
       → slice_get (undropped_lines line_of (h ++ (step.Take, reply.Text n) ∷ [])) (handed_count h) ≡ Some line
@@ -282,7 +282,7 @@ module _ {A : Type 0} (line_of : Call A → Option (List ℕ)) (queue : Option �
       ∙ slice_get-is (out line_of h ++ line ∷ rest) (length (out line_of h)) line rest
       (drop_at (out line_of h) (line ∷ rest) (length (out line_of h)) refl)
 
-  -- a take that gets a line
+  -- The queue and the hand stay right after a take that gets a line.
   pub queue_take : (h : List (Turn A)) (n : ℕ) (line : List ℕ) (rest : List (List ℕ)) (s : State) → QueueAfter h s → s.in_hand ≡ None
       → s.waiting ≡ line ∷ rest
       → QueueAfter (h ++ (step.Take, reply.Text n) ∷ []) (record s { waiting = rest; drained = (s.drained + 1) % 2 ^ 64; in_hand = Some line })
@@ -311,7 +311,7 @@ module _ {A : Type 0} (line_of : Call A → Option (List ℕ)) (queue : Option �
         room = within_less queue line rest (subst (λ w. IsWithin queue w) front q.room);
       }
 
-  -- a turn that hands on one line
+  -- The queue and the hand stay right after a turn that hands on one line.
   pub queue_hand : (h : List (Turn A)) (t : Turn A) (o : Option ℕ) (line : List ℕ) (s s' : State) → SameQueue s s' → s'.in_hand ≡ None
       → accepted_by line_of t ≡ [] → takes_text t ≡ false → drops_text t ≡ false → outcome_by t ≡ o ∷ [] → stops t ≡ false → QueueAfter h s
       → s.in_hand ≡ Some line → QueueAfter (h ++ t ∷ []) s'
@@ -333,7 +333,7 @@ module _ {A : Type 0} (line_of : Call A → Option (List ℕ)) (queue : Option �
         room = subst (λ w. IsWithin queue w) (sym same.waiting) q.room;
       }
 
-  -- a stop
+  -- The queue and the hand stay right after a stop.
   pub queue_stop : (h : List (Turn A)) (s : State) → QueueAfter h s → QueueAfter (h ++ (step.Stop, reply.Stopped) ∷ []) (record s { stopped = true })
   queue_stop h s q =
       let w : Grows h (h ++ (step.Stop, reply.Stopped) ∷ []) [] 0 0 0 true =

@@ -18,7 +18,7 @@ taken_of (x ∷ xs) [] = []
 taken_of (x ∷ xs) (by_take ∷ es) = x ∷ taken_of xs es
 taken_of (x ∷ xs) (by_drop ∷ es) = taken_of xs es
 
--- the elements that were not dropped are those that were taken, and then the rest
+-- The elements that were not dropped are those that were taken, and then the rest.
 without_dropped_is : {X : Type 0} (xs : List X) (es : List Exit) → without_dropped xs es ≡ taken_of xs es ++ drop (length es) xs
 without_dropped_is [] [] = refl
 without_dropped_is [] (e ∷ es) = refl
@@ -30,14 +30,14 @@ without_dropped-none : {X : Type 0} (xs : List X) → without_dropped xs [] ≡ 
 without_dropped-none [] = refl
 without_dropped-none (x ∷ xs) = refl
 
--- a take drops no element
+-- A take drops no element.
 without_dropped-take : {X : Type 0} (xs : List X) (es : List Exit) → without_dropped xs (es ++ by_take ∷ []) ≡ without_dropped xs es
 without_dropped-take [] es = refl
 without_dropped-take (x ∷ xs) [] = ap (λ l. x ∷ l) (without_dropped-none xs)
 without_dropped-take (x ∷ xs) (by_take ∷ es) = ap (λ l. x ∷ l) (without_dropped-take xs es)
 without_dropped-take (x ∷ xs) (by_drop ∷ es) = without_dropped-take xs es
 
--- more elements and more exits add to the elements that were taken
+-- If there are more elements and more exits, the elements that they take are added to those that were taken.
 taken_of-more : {X : Type 0} (xs ys : List X) (es fs : List Exit) → length es ≤ length xs
     → taken_of (xs ++ ys) (es ++ fs) ≡ taken_of xs es ++ taken_of (drop (length es) xs ++ ys) fs
 taken_of-more [] ys [] fs h = refl
@@ -46,7 +46,7 @@ taken_of-more (x ∷ xs) ys [] fs h = refl
 taken_of-more (x ∷ xs) ys (by_take ∷ es) fs h = ap (λ l. x ∷ l) (taken_of-more xs ys es fs (omega arith))
 taken_of-more (x ∷ xs) ys (by_drop ∷ es) fs h = taken_of-more xs ys es fs (omega arith)
 
--- as many elements were taken as there are exits by a take
+-- As many elements were taken as there are exits by a take.
 length-taken_of : {X : Type 0} (xs : List X) (es : List Exit) → length es ≤ length xs → length (taken_of xs es) ≡ count_by is_take es
 length-taken_of [] [] h = refl
 length-taken_of [] (e ∷ es) h = absurd (omega arith)
@@ -80,7 +80,7 @@ module _ {A : Type 0} where
             (λ u. cond (takes_text u) 1 0) t h,
       )
 
-  -- there are as many exits as lines that were taken or dropped
+  -- There are as many exits as lines that were taken or dropped.
   pub exits_left : (h : List (Turn A)) → length (exits h) ≡ left_count h
   exits_left [] = refl
   exits_left (t ∷ h) =
@@ -101,18 +101,18 @@ module _ {A : Type 0} (line_of : Call A → Option (List ℕ)) where
   pub length-out : (h : List (Turn A)) → left_count h ≤ length (accepted line_of h) → length (out h) ≡ taken_count h
   length-out h within = length-taken_of (accepted line_of h) (exits h) (omega (arith, exits_left h)) ∙ exits_taken h
 
-  -- the undropped lines are those that were taken, and then those that wait
+  -- The undropped lines are those that were taken, and then those that wait.
   pub undropped_lines_is : (h : List (Turn A)) → undropped_lines line_of h ≡ out h ++ drop (left_count h) (accepted line_of h)
   undropped_lines_is h = without_dropped_is (accepted line_of h) (exits h) ∙ ap (λ n. out h ++ drop n (accepted line_of h)) (exits_left h)
 
-  -- a take does not change the undropped lines
+  -- A take does not change the undropped lines.
   pub undropped_lines-take : (h : List (Turn A)) (n : ℕ) → undropped_lines line_of (h ++ (step.Take, reply.Text n) ∷ []) ≡ undropped_lines line_of h
   undropped_lines-take h n =
       (λ i. without_dropped ((accepted-push line_of h (step.Take, reply.Text n)
       ∙ append-nil (accepted line_of h)) i) (exits-push h (step.Take, reply.Text n) i))
       ∙ without_dropped-take (accepted line_of h) (exits h)
 
-  -- after one turn more, the lines that were taken still come first
+  -- After one turn more, the lines that were taken still come first.
   pub undropped_lines-push : (h : List (Turn A)) (t : Turn A) → left_count h ≤ length (accepted line_of h)
       → (more : List (List ℕ)) × (undropped_lines line_of (h ++ t ∷ []) ≡ out h ++ more)
   undropped_lines-push h t within =

@@ -12,7 +12,7 @@ use Rattle.cadence_schedule.specs.Packets.{ArePacketsOf}
 use Rattle.cadence_schedule.proofs.packets.ListEnds.{joined, groups_of-lengths}
 use Rattle.cadence_schedule.proofs.packets.CutSoFar.{IsCutSoFar}
 
--- a map of the list is cut as the list is
+-- If a function is applied to each element of a list, the list is cut at the same places.
 groups_of-map : {X Y : Type 0} (f : X → Y) (plan : List ℕ) (xs : List X) → groups_of plan (map f xs) ≡ map (map f) (groups_of plan xs)
 groups_of-map f [] xs = refl
 groups_of-map f (count ∷ plan) xs = λ i. take-map f count xs i ∷ (ap (groups_of plan) (drop-map f count xs) ∙ groups_of-map f plan (drop count xs)) i
@@ -26,7 +26,7 @@ each_mapped : {X Y : Type 0} (f : X → Y) (P : Y → Type 0) (xs : List X) → 
 each_mapped f P [] h = tt
 each_mapped f P (x ∷ xs) (h, hs) = (h, each_mapped f P xs hs)
 
--- the first groups' lengths, one after the other, are those of the front
+-- The lengths of the first groups add up to the number of elements in these groups.
 take_lengths : {X : Type 0} (front back : List (List X)) → sum (take (length front) (map length (front ++ back))) ≡ length (joined front)
 take_lengths [] back = refl
 take_lengths (group ∷ front) back =
@@ -38,7 +38,7 @@ take_lengths (group ∷ front) back =
       take_lengths front back,
     )
 
--- neighbours in a map come from neighbours
+-- If two results of a function are neighbours in a list, then so are the elements to which the function was applied.
 from_map : {X Y : Type 0} (f : X → Y) (xs : List X) (before after : List Y) (y z : Y) → map f xs ≡ before ++ (y ∷ z ∷ after)
     → (front : List X) × (back : List X) × (x : X) × (w : X) × (xs ≡ front ++ (x ∷ w ∷ back)) × (map f front ≡ before) × (f x ≡ y) × (f w ≡ z)
 from_map f [] [] after y z e = absurd cc
@@ -51,7 +51,7 @@ from_map f (a ∷ xs) (c ∷ before) after y z e =
     let (front, back, x, w, xs_are, fronts, first, second) = from_map f xs before after y z tail in
     (a ∷ front, back, x, w, ap (λ l. a ∷ l) xs_are, (λ i. head i ∷ fronts i), first, second)
 
--- as many sizes as lines
+-- The groups have as many sizes as lines.
 length_sizes : (format : Format) (groups : List (List (List ℕ))) → length (concat (map (map (size_of format)) groups)) ≡ length (joined groups)
 length_sizes format [] = refl
 length_sizes format (group ∷ groups) =

@@ -21,8 +21,8 @@ LateLines format marks refusals groups =
     → ¬ Contains marks (length (joined (before ++ group ∷ []))) → ¬ Contains refusals (length (joined (before ++ group ∷ [])))
     → PassesWithNext format.capacity (map (size_of format) group) (map (size_of format) next)
 
--- The groups are a cut of the lines, the packets and then the held text are theirs, and no group could have ended
--- later.
+-- The groups are a cut of the lines, the packets and then the held text are the frames of the groups, and no group
+-- could have ended later.
 pub record IsCutSoFar (format : Format) (marks refusals : List ℕ) (lines : List (List ℕ)) (groups : List (List (List ℕ)))
     (packets : List (List ℕ)) (held : List ℕ) : Type 0 where
   pub all : joined groups ≡ lines
@@ -59,7 +59,7 @@ pub frame_past : (format : Format) (line : List ℕ) → format.capacity < size_
 frame_past format line h =
     cond-true (ltb format.capacity (size_of format line)) line (line ++ format.ending) (lt-ltb format.capacity (size_of format line) h)
 
--- the frames of a group within the capacity are as long as its sizes say
+-- The frames of a group within the capacity are as long as its sizes say.
 length-stream : (format : Format) (group : List (List ℕ)) → sum (map (size_of format) group) ≤ format.capacity
     → length (stream format group) ≡ sum (map (size_of format) group)
 length-stream format [] h = refl
@@ -71,7 +71,7 @@ length-stream format (line ∷ group) h =
     let rest : length (stream format group) ≡ sum (map (size_of format) group) = length-stream format group (omega arith) in
     omega (arith, length-append (frame format line) (stream format group))
 
--- a group that fits a packet, and whose last line isn't oversize, is within the capacity
+-- A group that fits a packet, and whose last line isn't oversize, is within the capacity.
 within_last : (format : Format) (front : List (List ℕ)) (line : List ℕ)
     → FitsPacket format.capacity (map (size_of format) (front ++ line ∷ [])) → size_of format line ≤ format.capacity
     → sum (map (size_of format) (front ++ line ∷ [])) ≤ format.capacity
@@ -80,7 +80,7 @@ within_last format (x ∷ front) line (inl one) small =
     absurd (omega (arith, length-map (front ++ line ∷ []) (size_of format), length-append front (line ∷ [])))
 within_last format (x ∷ front) line (inr within) small = within
 
--- the last of some sizes is within their sum
+-- The last of some sizes is at most their sum.
 last_within : (format : Format) (front : List (List ℕ)) (line : List ℕ) → size_of format line ≤ sum (map (size_of format) (front ++ line ∷ []))
 last_within format [] line = omega (arith, sum-cons (size_of format line) [])
 last_within format (x ∷ front) line =
@@ -113,7 +113,7 @@ none_in xs none some = absurd (omega (arith, ap (λ l. length l) none))
 
 module _ (format : Format) (marks refusals : List ℕ) (lines : List (List ℕ)) (groups : List (List (List ℕ))) (packets : List (List ℕ))
     (held : List ℕ) (cut : IsCutSoFar format marks refusals lines groups packets held) where
-  -- the last group ends in a line, which is the last of all
+  -- The last group ends in a line, which is the last of all.
   last_line : (init : List (List (List ℕ))) (group : List (List ℕ)) → groups ≡ init ++ group ∷ []
       → (front : List (List ℕ)) × (line : List ℕ) × (group ≡ front ++ line ∷ []) × (lines ≡ (joined init ++ front) ++ line ∷ [])
   last_line init group e =
@@ -130,7 +130,7 @@ module _ (format : Format) (marks refusals : List ℕ) (lines : List (List ℕ))
             )
       ]
 
-  -- a last group that is within the capacity is held, if no mark and no refusal follows it
+  -- A last group that is within the capacity is held, if no mark and no refusal follows it.
   pub last_held : (init : List (List (List ℕ))) (group : List (List ℕ)) → groups ≡ init ++ group ∷ [] → ¬ Contains marks (length lines)
       → ¬ Contains refusals (length lines) → sum (map (size_of format) group) ≤ format.capacity → held ≢ []
   last_held init group e unmarked unrefused within =
@@ -159,7 +159,7 @@ module _ (format : Format) (marks refusals : List ℕ) (lines : List (List ℕ))
       ) in goal)
       (cases_lt format.capacity (size_of format line))
 
-  -- held text is the last group's, which is within the capacity
+  -- If text is held, it is the frames of the last group, whose sizes are within the capacity.
   pub held_last : held ≢ []
       → (init : List (List (List ℕ))) × (group : List (List ℕ)) × (groups ≡ init ++ group ∷ []) × (packets ≡ map (stream format) init)
       × (held ≡ stream format group) × (sum (map (size_of format) group) ≤ format.capacity)
@@ -183,7 +183,7 @@ module _ (format : Format) (marks refusals : List ℕ) (lines : List (List ℕ))
             (init, group, e, fronts, texts, within, ap (λ t. length t) texts ∙ length-stream format group within)
       ]
 
-  -- no mark is past the end of the lines
+  -- No mark is past the end of the lines.
   mark_within : (p : ℕ) → Contains marks p → p ≤ length lines
   mark_within p has =
       let (front, back, e, at) = cut.marked p has in
@@ -213,7 +213,7 @@ module _ (format : Format) (marks refusals : List ℕ) (lines : List (List ℕ))
         | inr earlier ↦ let (rest, groups_are) = earlier in cut.late before rest group next groups_are unmarked unrefused
       ]
 
-  -- a line begins a group of its own
+  -- The cut grows by a group with one line, if a line begins a packet of its own.
   pub new_group : (line : List ℕ) (new_packets : List (List ℕ)) (new_held : List ℕ)
       → new_packets ++ held_packet new_held ≡ (packets ++ held_packet held) ++ frame format line ∷ []
       → (format.capacity < size_of format line → new_held ≡ []) → (size_of format line ≤ format.capacity → new_held ≢ [])
@@ -288,7 +288,7 @@ module _ (format : Format) (marks refusals : List ℕ) (lines : List (List ℕ))
             ∙ append_assoc before (g ∷ next ∷ rest) (group ∷ [])) unmarked unrefused
       ]
 
-  -- a line joins the held text
+  -- The last group grows by a line that joins the held text.
   pub joins_group : (line : List ℕ) → held ≢ [] → length held + size_of format line ≤ format.capacity
       → (init : List (List (List ℕ))) × (group : List (List ℕ)) × (groups ≡ init ++ group ∷ [])
       × IsCutSoFar format marks refusals (lines ++ line ∷ []) (init ++ (group ++ line ∷ []) ∷ []) packets (held ++ frame format line)
@@ -324,7 +324,7 @@ module _ (format : Format) (marks refusals : List ℕ) (lines : List (List ℕ))
         },
       )
 
-  -- a flush sends the held text as a packet, and adds a mark
+  -- The groups stay a cut after a flush, which sends the held text as a packet and adds a mark.
   pub marks_flush : (new_packets : List (List ℕ)) → new_packets ≡ packets ++ held_packet held
       → IsCutSoFar format (marks ++ length lines ∷ []) refusals lines groups new_packets []
   marks_flush new_packets e = record {
@@ -344,7 +344,7 @@ module _ (format : Format) (marks refusals : List ℕ) (lines : List (List ℕ))
     holds = λ before line f within unmarked unrefused. absurd (unmarked (Contains-push marks (length lines)));
   }
 
-  -- a line is refused, after the held text was sent or before it
+  -- The groups stay a cut after a line was refused, whether the held text was sent before that or not.
   pub refuses_line : (new_packets : List (List ℕ)) (new_held : List ℕ) → new_packets ++ held_packet new_held ≡ packets ++ held_packet held
       → (held ≡ [] → new_held ≡ []) → IsCutSoFar format marks (refusals ++ length lines ∷ []) lines groups new_packets new_held
   refuses_line new_packets new_held e none = record {
@@ -361,7 +361,7 @@ module _ (format : Format) (marks refusals : List ℕ) (lines : List (List ℕ))
     holds = λ before line f within unmarked unrefused. absurd (unrefused (Contains-push refusals (length lines)));
   }
 
--- the cut before any line is kept
+-- Before any line is kept, the empty list of groups is a cut.
 pub no_lines : (format : Format) → IsCutSoFar format [] [] [] [] [] []
 no_lines format = record {
   all = refl;

@@ -4,7 +4,7 @@ use Rattle.std.specs.List.{flat_map}
 use Rattle.std.proofs.lemmas.List.{take_at, drop_at, append-nil, append_assoc, same_from_push}
 use Rattle.cadence_schedule.specs.Plan.{groups_of}
 
--- a list is empty, or ends in an element
+-- A list is empty, or it has a last element.
 pub ends : {X : Type 0} (xs : List X) → (xs ≡ []) ⊎ ((front : List X) × (last : X) × (xs ≡ front ++ last ∷ []))
 ends [] = inl refl
 ends (x ∷ xs) =
@@ -13,7 +13,7 @@ ends (x ∷ xs) =
       | inr f ↦ let (front, last, e) = f in inr (x ∷ front, last, ap (λ l. x ∷ l) e)
     ]
 
--- two parts of a list that ends in z: the second is empty, or ends in z
+-- If a list that ends in z is cut in two, the second part is empty or ends in z.
 pub split_end : {X : Type 0} (front back xs : List X) (z : X) → front ++ back ≡ xs ++ z ∷ []
     → ((back ≡ []) × (front ≡ xs ++ z ∷ [])) ⊎ ((rest : List X) × (back ≡ rest ++ z ∷ []) × (xs ≡ front ++ rest))
 split_end front back xs z e =
@@ -26,7 +26,7 @@ split_end front back xs z e =
           inr (rest, f ∙ ap (λ l. rest ++ l ∷ []) lasts, sym fronts)
     ]
 
--- the groups of a cut are those of their lengths
+-- the elements of all groups, in order; the list is cut by the lengths of its groups into these groups
 abbrev pub joined : {X : Type 0} → List (List X) → List X
 joined groups = flat_map (λ group. group) groups
 
@@ -36,7 +36,7 @@ groups_of-lengths (group ∷ groups) =
     λ i. take_at group (joined groups) (length group) refl i ∷ (ap (groups_of (map length groups)) (drop_at group (joined groups) (length group) refl)
     ∙ groups_of-lengths groups) i
 
--- two neighbours in a list that ends in z: the second is z, or both come before it
+-- Of two neighbours in a list that ends in z, the second is that z, or both come before it.
 pub neighbours_end : {X : Type 0} (xs : List X) (z : X) (before after : List X) (x y : X) → xs ++ z ∷ [] ≡ before ++ (x ∷ y ∷ after)
     → ((y ≡ z) × (xs ≡ before ++ x ∷ [])) ⊎ ((rest : List X) × (xs ≡ before ++ (x ∷ y ∷ rest)))
 neighbours_end {X} xs z before after x y e =

@@ -24,18 +24,18 @@ Written format line plan packets held plan' packets' held' =
     × (plan' ≡ plan ++ 1 ∷ []) × (packets' ≡ packets ++ held_packet held) × (held' ≡ line ++ format.ending))
     ⊎ ((format.capacity < size_of format line) × (plan' ≡ plan ++ 1 ∷ []) × (packets' ≡ (packets ++ held_packet held) ++ line ∷ []) × (held' ≡ []))
 
--- A line was refused: the held text is held still, or was sent.
+-- A line was refused: the held text is still held, or it was sent.
 abbrev pub Refused : List ℕ → List (List ℕ) → List ℕ → List ℕ → List (List ℕ) → List ℕ → Type 0
 Refused plan packets held plan' packets' held' =
     (plan' ≡ plan) × (((packets' ≡ packets) × (held' ≡ held)) ⊎ ((packets' ≡ packets ++ held_packet held) × (held' ≡ [])))
 
--- the packets since the start, with the one that sending the held text adds
+-- If sending the held text added a packet, the packets since the start of the run have that one at the end.
 closed_after : (start packets old new : List (List ℕ)) (held : List ℕ) → old ≡ start ++ packets → new ≡ old ++ held_packet held
     → new ≡ start ++ (packets ++ held_packet held)
 closed_after start packets old new held o n = n ∙ ap (λ p. p ++ held_packet held) o ∙ append_assoc start packets (held_packet held)
 
 module _ (kind : WriterKind) (format : Format) (tells : kind.tells ≡ true) (whole : kind.takes_whole ≡ true) (start : List (List ℕ)) where
-  -- the three ways in which a line is kept, by its size and by what is held
+  -- These lemmas are about the three ways in which a line is kept, by its size and by what is held.
   kept_nothing_held : (old new : PacketHistory) (packets : List (List ℕ)) (rest line plan plan' : List ℕ) (n : ℕ)
       → old.packets ≡ start ++ packets → size_of format line ≤ format.capacity
       → Writes kind format old new [] rest line (Ok n) → CountsLine format [] line (Ok n) plan plan'

@@ -13,11 +13,11 @@ use Rattle.cadence_text.specs.OneReading.{lines_of, IsFreeOfSeparators, IsPacket
 use Rattle.cadence_flow.specs.Frame.{Format, size_of, frame, stream}
 use Rattle.cadence_schedule.specs.Packets.{ArePacketsOf, IsPacketOfOnly, ReadsAs}
 
--- the newline as ending
+-- the format with this capacity and the newline as ending
 abbrev newline : ℕ → Format
 newline capacity = record { capacity = capacity; ending = 10 ∷ [] }
 
--- within the capacity, a group's packet has each line with its newline
+-- If a group is within the capacity, its packet has each line with its newline.
 lines_within : (capacity : ℕ) (metrics : List Metric) → sum (map (size_of (newline capacity)) (map line_of metrics)) ≤ capacity
     → stream (newline capacity) (map line_of metrics) ≡ lines_of metrics
 lines_within capacity [] h = refl

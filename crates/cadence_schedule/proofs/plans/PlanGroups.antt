@@ -18,14 +18,14 @@ LateGroups capacity marks start [] xs = Unit {0}
 LateGroups capacity marks start (count ∷ plan) xs =
     EndsLate capacity marks start count xs × LateGroups capacity marks (start + count) plan (drop count xs)
 
--- what the marks ask of a plan from `start` on
+-- The plan from `start` on has the end of a group at each mark.
 abbrev pub Marked : List ℕ → ℕ → List ℕ → ℕ → Type 0
 Marked marks start plan len = (p : ℕ) → Contains marks p → start ≤ p → p ≤ start + len → (k : ℕ) × (start + sum (take k plan) ≡ p)
 
 pub sum-cons : (x : ℕ) (xs : List ℕ) → sum (x ∷ xs) ≡ x + sum xs
 sum-cons x xs = sum_by-cons (λ y. y) x xs
 
--- a place that a plan ends at, past the first group
+-- A place after `start` at which a group of a plan ends is also an end of a group of the plan without its first group.
 end_past : (start count : ℕ) (plan : List ℕ) (p : ℕ) → start < p → (k : ℕ) × (start + sum (take k (count ∷ plan)) ≡ p)
     → (k : ℕ) × ((start + count) + sum (take k plan) ≡ p)
 end_past start count plan p after (zero, e) = absurd (omega arith)
@@ -62,7 +62,7 @@ groups_in capacity marks start (count ∷ plan) xs positive whole fit marked =
           (λ p has from to. end_past start count plan p (omega arith) (marked p has (omega arith) (omega arith))),
     )
 
--- the groups of a plan, group by group, make it admissible
+-- A plan whose groups are right one by one is admissible. The lemmas that follow show each part of that.
 pub all_positive : (capacity : ℕ) (marks : List ℕ) (start : ℕ) (plan xs : List ℕ) → Groups capacity marks start plan xs → All (λ n. 0 < n) plan
 all_positive capacity marks start [] xs g = All-nil (λ n. 0 < n)
 all_positive capacity marks start (count ∷ plan) xs (first, rest) =
@@ -95,28 +95,29 @@ all_marked capacity marks start (count ∷ plan) xs (first, rest) p has from to 
     (λ (before : p < start). absurd (omega arith)))
     (cases_order start p)
 
--- the first of a group is within what the group adds up to
+-- The first size of a group is at most the sum of the group.
 first_le_sum : (xs : List ℕ) → 0 < length xs → get_or xs 0 0 ≤ sum xs
 first_le_sum xs some = get_or-le-sum_by (λ y. y) xs 0 0 some
 
--- a group that begins within the capacity is within it
+-- If a group fits a packet, and its first size is within the capacity, then its sum is within the capacity.
 sum_within : (capacity : ℕ) (group : List ℕ) → FitsPacket capacity group → get_or group 0 0 ≤ capacity → sum group ≤ capacity
 sum_within capacity [] fits first = zero-le
 sum_within capacity (x ∷ []) fits first = omega (arith, sum-cons x [])
 sum_within capacity (x ∷ y ∷ group) (inl one) first = absurd (omega arith)
 sum_within capacity (x ∷ y ∷ group) (inr together) first = together
 
--- a place that equals one without a mark has none
+-- If a place has no mark, an equal place has none.
 pub not_at : (marks : List ℕ) (p q : ℕ) → p ≡ q → ¬ Contains marks p → ¬ Contains marks q
 not_at marks p q e none has = none (subst (λ r. Contains marks r) (sym e) has)
 
--- `no_later` of `IsTight`, from `start` on
+-- No group from `start` on could have had one size more, except where it ends at a mark. (`no_later` of `IsTight` says
+-- so of the whole plan.)
 abbrev pub NoLater : ℕ → List ℕ → ℕ → List (List ℕ) → Type 0
 NoLater capacity marks start groups =
     (before after : List (List ℕ)) (group next : List ℕ) → groups ≡ before ++ (group ∷ next ∷ after)
     → ¬ Contains marks (start + length (concat (before ++ group ∷ []))) → PassesWithNext capacity group next
 
--- the first size of the second group comes after the first group
+-- The first size of the second group is the one after the first group.
 first_of_next : (count n : ℕ) (xs : List ℕ) → 0 < n → get_or (take n (drop count xs)) 0 0 ≡ get_or xs count 0
 first_of_next count n xs some = get_or-take n (drop count xs) 0 0 some ∙ get_or-drop count xs 0 0 ∙ ap (λ i. get_or xs i 0) (omega arith)
 

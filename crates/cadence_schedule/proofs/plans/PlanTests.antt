@@ -4,7 +4,7 @@ use Rattle.cadence_schedule.specs.Plan.{IsGroup, EndsLate}
 use Rattle.cadence_schedule.proofs.plans.PlanGroups.{TightGroups}
 
 module _ (capacity : ℕ) (marks : List ℕ) (start count : ℕ) (left : List ℕ) where
-  -- one group more of a plan
+  -- If the first group of a plan is tight, the plan is tight exactly if the rest of it is, for the sizes that are left.
   pub tight_step : (plan rest rest_left : List ℕ) → plan ≡ count ∷ rest → rest_left ≡ drop count left
       → IsGroup capacity marks start count left × EndsLate capacity marks start count left
       → (TightGroups capacity marks start plan left ↔ TightGroups capacity marks (start + count) rest rest_left)

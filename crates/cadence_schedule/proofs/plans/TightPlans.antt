@@ -11,7 +11,7 @@ use Rattle.cadence_schedule.specs.Plan.{IsTight, IsFewest, FitsPacket, IsGroup, 
 use Rattle.std.proofs.lemmas.List.Elements.{All-contains}
 use Rattle.cadence_schedule.proofs.plans.PlanGroups.{Groups, LateGroups, admissible_in, tight_in}
 
--- a longer group that begins no later adds up to at least this one and its next size
+-- A longer group that begins no later has at least the sum of this group and its next size.
 within_longer : (extra xs : List ℕ) (n k : ℕ) → n < k → k ≤ length xs → sum (take n xs) + get_or xs n 0 ≤ sum (take (length extra + k) (extra ++ xs))
 within_longer extra xs n k more room =
     let whole = extra ++ xs in
@@ -25,12 +25,12 @@ within_longer extra xs n k more room =
     sum_by-take-drop (λ y. y) (take (length extra + k) (extra ++ xs)) (length extra) in
     omega (arith, ap sum cut, ap sum back)
 
--- two or more sizes share a packet only within the capacity
+-- Two or more sizes may share a packet only if their sum is within the capacity.
 together : (capacity : ℕ) (group : List ℕ) → 1 < length group → FitsPacket capacity group → sum group ≤ capacity
 together capacity group more (inl one) = absurd (omega arith)
 together capacity group more (inr within) = within
 
--- no other group that begins as early ends later
+-- No other group that begins at this group's place or before it ends later.
 not_longer : (capacity : ℕ) (marks : List ℕ) (start n m : ℕ) (extra xs : List ℕ) → IsGroup capacity marks (start + length extra) n xs
     → EndsLate capacity marks (start + length extra) n xs → IsGroup capacity marks start m (extra ++ xs) → length extra + n < m → ⊥
 not_longer capacity marks start n m extra xs group late other longer =

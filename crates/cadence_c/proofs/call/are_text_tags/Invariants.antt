@@ -3,6 +3,6 @@ use Rattle.std.specs.List.{All}
 use Rattle.cadence_c.specs.Calls.{IsUtf8Tag}
 use Rattle.cadence_c.proofs.call.are_text_tags.Given as goal
 
--- the texts of the first tags are UTF-8
+-- The texts of the first tags are UTF-8.
 abbrev pub invariant-loop-tag : goal.invariant-loop-tag
 invariant-loop-tag l = All IsUtf8Tag (take l.tag-index l.tags)

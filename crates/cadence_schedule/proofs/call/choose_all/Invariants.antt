@@ -6,6 +6,6 @@ use Rattle.cadence_schedule.specs.Call.{IsDraftOf, chosen}
 use Rattle.cadence_schedule.specs.CallData.{choice_of}
 use Rattle.cadence_schedule.proofs.call.choose_all.Given as goal
 
--- the draft has the first options
+-- The draft has the first options.
 abbrev pub invariant-loop-option : goal.invariant-loop-option
 invariant-loop-option g l = (m : Metric) → IsDraftOf m l.fn.draft → IsDraftOf (fold chosen m (map choice_of (take l.option-index l.options))) l.draft

@@ -2,7 +2,7 @@ use Rattle.std.proofs.Common.{◌≤◌, ◌↔◌, drop, length}
 use Rattle.cadence_schedule.proofs.plans.PlanGroups.{TightGroups}
 use Rattle.cadence_schedule.proofs.plan.check_plan.Given as goal
 
--- the whole plan is tight if and only if the rest of it is, for the sizes that are left
+-- The whole plan is tight if and only if the rest of it is, for the sizes that are left.
 abbrev pub invariant-loop-count : goal.invariant-loop-count
 invariant-loop-count l =
     record {

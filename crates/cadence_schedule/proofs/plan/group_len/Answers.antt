@@ -4,7 +4,8 @@ use Rattle.std.proofs.lemmas.List.Sums.{sum_by_more}
 use Rattle.std.proofs.lemmas.List.Elements.{Contains-get_or}
 use Rattle.cadence_schedule.proofs.plan.group_len.Goals as goal
 
--- no mark up to here, and none here
+-- If no mark lies between the start of a group and its end so far, and none is at that end, then none lies between the
+-- start and the end one size later.
 free_more : (marks : List ℕ) (start count : ℕ) → All (λ mark. start < mark → start + count ≤ mark) marks → ¬ Contains marks (start + count)
     → All (λ mark. start < mark → start + (count + 1) ≤ mark) marks
 free_more marks start count free none = λ k d in_list after.

@@ -2,7 +2,7 @@ use Rattle.std.proofs.Common.{◌-◌, ◌≤◌, ◌++◌, List, ℕ, drop, len
 use Rattle.cadence_schedule.proofs.plans.PlanGroups.{TightGroups}
 use Rattle.cadence_schedule.proofs.plan.plan_packets.Given as goal
 
--- whatever completes the plan for what is left completes it for the whole
+-- A tight plan of the sizes that are left, put after the plan so far, is a tight plan of all sizes.
 abbrev pub invariant-loop-start : goal.invariant-loop-start
 invariant-loop-start g l =
     record {
