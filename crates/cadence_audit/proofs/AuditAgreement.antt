@@ -83,7 +83,7 @@ module _ {Z : Type 0} (events : List (Event Z)) (s : ℕ) where
         at.3,
       )
 
-  -- A seat has just one event with a given count.
+  -- A seat has only one event with a given count.
   same_place : (i j : ℕ) (e r : Event Z) (n : ℕ) → IsAt i e n → IsAt j r n → r ≡ e
   same_place i j e r n at there =
       elim (cases_order i j) [

@@ -37,7 +37,7 @@ abbrev pub held_packet : List ℕ → List (List ℕ)
 held_packet [] = []
 held_packet (byte ∷ rest) = (byte ∷ rest) ∷ []
 
--- The cases of a line that is written while some text is held. Just one of the first three is true of each line.
+-- The cases of a line that is written while some text is held. Exactly one of the first three is true of each line.
 
 -- If the line fits, then P. It fits if with its ending it fits the room that the held text leaves.
 abbrev pub WhenItFits : Format → List ℕ → List ℕ → Type 0 → Type 0

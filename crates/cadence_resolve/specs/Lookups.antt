@@ -49,7 +49,8 @@ IsNoted r (Ok found) fault s = IsNotedList r found.items fault s
 IsNoted r (Err e) fault s = (fault ≡ Some e) × (s ≡ after_failure r)
 
 module _ {A : Type 0} where
-  -- The lookup of an address gives just this address, or runs out of memory. The lookup of a name may give anything, or fail.
+  -- The lookup of an address gives only this address, or memory runs out. The lookup of a name may give any addresses,
+  -- or fail.
   abbrev pub IsLookedUp : {B : Type 0} → Target B → Result (Vec SocketAddr A) SinkError → Type 0
   IsLookedUp (Addr address) result =
       IfOk result (λ found. found.items ≡ address ∷ []) × IfErr result (λ e. e ≡ OutOfMemory)

@@ -62,7 +62,7 @@ LineFails (Some line) e = e ≡ out_of_memory
 
 -- by the line of each call, the writer's kind, the packer's capacity and ending, and the queue's capacity and policy
 module _ {A : Type 0} (line_of : Call A → Option (List ℕ)) (kind : WriterKind) (format : Format) (queue : Option ℕ) (policy : QueuePolicy) where
-  -- The step, answered by this reply, leads from the old state to the new one.
+  -- The step with this reply leads from the old state to the new one.
   abbrev pub Moves : State → Turn A → State → Type 0
   Moves old (step.Call call, reply.Called (Ok n)) new =
       CallReplies (line_of call) old.stopped (at_capacity queue old.waiting) (drops_for_room policy old.waiting) (reply.Called (Ok n))

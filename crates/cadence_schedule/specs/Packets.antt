@@ -24,8 +24,8 @@ pub record IsPacketOfOnly (metrics : List Metric) (packet : List ℕ) : Type 0 w
   pub reads : IsPacketOf metrics packet
   pub only : (others : List Metric) → All IsFreeOfSeparators others → IsPacketOf others packet → others ≡ metrics
 
--- Each packet, and the held text if it is not empty, reads as just one list of metrics, and these lists, joined, are
--- the metrics.
+-- Each packet, and the held text if it is not empty, can be read as exactly one list of metrics, and these lists,
+-- joined, are the metrics.
 abbrev pub ReadsAs : List Metric → List (List ℕ) → List ℕ → Type 0
 ReadsAs metrics packets held =
     (lists : List (List Metric)) × (flat_map (λ list. list) lists ≡ metrics) × AllZip IsPacketOfOnly lists (packets ++ held_packet held)

@@ -86,13 +86,13 @@ module _ {A : Type 0} where
   abbrev pub is_stopped : List (Turn A) → Bool
   is_stopped history = list_any stops history
 
-  -- whether the turn is a hand or a flush that was answered by an error
+  -- whether the turn is a hand or a flush that returned an error
   abbrev pub is_error : Turn A → Bool
   is_error (step.Hand, reply.Handed (Err e)) = true
   is_error (step.Flush, reply.Flushed (Err e)) = true
   is_error _ = false
 
-  -- how many hands and flushes were answered by an error
+  -- how many hands and flushes returned an error
   abbrev pub error_count : List (Turn A) → ℕ
   error_count history = count_by is_error history
 
@@ -105,7 +105,7 @@ module _ {A X : Type 0} (line_of : Call A → Option X) where
   accepted_by (step.Call call, reply.CallDropped n m) = option_to_list (line_of call)
   accepted_by _ = []
 
-  -- the accepted lines: those of the calls that were answered Ok, in order, whether or not another line was dropped for
+  -- the accepted lines: those of the calls that returned Ok, in order, whether or not another line was dropped for
   -- them
   abbrev pub accepted : List (Turn A) → List X
   accepted history = flat_map accepted_by history
@@ -114,11 +114,11 @@ module _ {A X : Type 0} (line_of : Call A → Option X) where
   abbrev pub undropped_lines : List (Turn A) → List X
   undropped_lines history = without_dropped (accepted history) (exits history)
 
-  -- the kept lines: those that were handed on and answered Ok, in order, each with the count that was returned for it
+  -- the kept lines: those that were handed on with the result Ok, in order, each with the count that was returned for it
   abbrev pub kept_counts : List (Turn A) → List (X × ℕ)
   kept_counts history = with_answers (undropped_lines history) (outcomes history)
 
-  -- the kept lines: those that were handed on and answered Ok, in order
+  -- the kept lines: those that were handed on with the result Ok, in order
   abbrev pub kept : List (Turn A) → List X
   kept history = map (λ k. k.0) (kept_counts history)
 
@@ -134,20 +134,20 @@ module _ {A X : Type 0} (line_of : Call A → Option X) where
   places_after at before (turn ∷ rest) =
       at (length (kept before)) turn ++ places_after at (before ++ turn ∷ []) rest
 
-  -- the place of a flush that was answered Ok
+  -- the place of a flush that returned Ok
   abbrev pub mark_at : ℕ → Turn A → List ℕ
   mark_at place (step.Flush, reply.Flushed (Ok done)) = place ∷ []
   mark_at place _ = []
 
-  -- the marks: how many lines were kept before each flush that was answered Ok
+  -- the marks: how many lines were kept before each flush that returned Ok
   abbrev pub marks : List (Turn A) → List ℕ
   marks history = places_after mark_at [] history
 
-  -- the place of a hand that was answered by an error
+  -- the place of a hand that returned an error
   abbrev pub refusal_at : ℕ → Turn A → List ℕ
   refusal_at place (step.Hand, reply.Handed (Err e)) = place ∷ []
   refusal_at place _ = []
 
-  -- the places of refusals: how many lines were kept before each hand that was answered by an error
+  -- the places of refusals: how many lines were kept before each hand that returned an error
   abbrev pub refusals : List (Turn A) → List ℕ
   refusals history = places_after refusal_at [] history

@@ -214,7 +214,7 @@ impl<A: Allocator + Clone> ClientSettings<A> {
     }
 
     /// Returns the line of a call without options, with the prefix and the defaults of these settings. It takes memory
-    /// by one request, of just the length of the line.
+    /// by one request, of exactly the length of the line.
     ///
     /// The only error is that memory ran out.
     pub fn line(

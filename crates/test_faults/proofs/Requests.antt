@@ -1,5 +1,5 @@
--- A call of `refuses`, as the proofs of `allocate` cite it: what the call is passed, and what its caller then knows.
--- Assumes `Logic`.
+-- A call of `refuses`, as the proofs of `allocate` cite it: what is passed to the call, and what its caller can
+-- conclude from the result. Assumes `Logic`.
 use Rattle.std.proofs.Common.{◌≡◌, ℕ, Bool, List, [], ◌∷◌, refl, ap}
 use seplogic.Ra.Ura.{Ura}
 use mir.Val.{Val, vbool, vptr}

@@ -16,7 +16,7 @@ module _ {A : Type 0} (line_of : Call A → Option (List ℕ)) (filled : (call :
   abbrev Holds : List (Turn A) → State → Type 0
   Holds h s = After line_of filled kind format queue policy start h s
 
-  -- a list of turns keeps what holds
+  -- A list of turns keeps what holds.
   runs_after : (before turns : List (Turn A)) (old new : State) → length before + length turns < 2 ^ 64 → Holds before old
       → Runs line_of kind format queue policy old turns new → Holds (before ++ turns) new
   runs_after before [] old new short a same = subst (λ s. Holds (before ++ []) s) (sym same) (subst (λ h. Holds h old) (sym (append-nil before)) a)
@@ -25,7 +25,7 @@ module _ {A : Type 0} (line_of : Call A → Option (List ℕ)) (filled : (call :
       (runs_after (before ++ t ∷ []) turns mid new (omega (arith, length-append before (t ∷ [])))
       (turn line_of filled kind format queue policy start before old t mid (omega arith) a first) rest)
 
-  -- it holds before the first turn
+  -- All of it holds before the first turn.
   after_none : Holds [] (at_start start)
   after_none = record {
     replies = tt;
@@ -38,7 +38,7 @@ module _ {A : Type 0} (line_of : Call A → Option (List ℕ)) (filled : (call :
       zero_more : (n : ℕ) → n ≡ n + 0
       zero_more n = omega arith
 
--- a whole run, from the state that its own lists begin with
+-- After a whole run all of it holds, from the state before the first step.
 pub run_after : {A : Type 0} (line_of : Call A → Option (List ℕ)) (filled : (call : Call A) (line : List ℕ) → line_of call ≡ Some line
     → line ≢ []) (kind kind0 : WriterKind) (format format0 : Format) (queue queue0 : Option ℕ) (policy policy0 : QueuePolicy)
     (start : PacketHistory) (s0 s1 : State) (turns : List (Turn A))

@@ -35,7 +35,8 @@ same_queue s = record { waiting = refl; stopped = refl; submitted = refl; draine
 
 module _ {A : Type 0} (line_of : Call A → Option (List ℕ)) (filled : (call : Call A) (line : List ℕ) → line_of call ≡ Some line → line ≢ [])
     (kind : WriterKind) (format : Format) (queue : Option ℕ) (policy : QueuePolicy) (start : PacketHistory) where
-  -- the cut after these turns: its packets, and its groups of kept lines
+  -- After these turns, the packets and the held text are a cut of the kept lines, and the plan has the lengths of its
+  -- groups.
   pub record CutAfter (h : List (Turn A)) (plan : List ℕ) (history : PacketHistory) (held : List ℕ) : Type 0 where
     pub packets : List (List ℕ)
     pub groups : List (List (List ℕ))
@@ -43,12 +44,12 @@ module _ {A : Type 0} (line_of : Call A → Option (List ℕ)) (filled : (call :
     pub plan_is : plan ≡ map length groups
     pub cut : IsCutSoFar format (marks line_of h) (refusals line_of h) (kept line_of h) groups packets held
 
-  -- the bytes after these turns: the packets, joined, and the held text are what was taken of the kept lines
+  -- After these turns, the packets, joined, and the held text are what was taken of the kept lines.
   pub record TextAfter (h : List (Turn A)) (history : PacketHistory) (held : List ℕ) : Type 0 where
     pub extends : Extends start history
     pub text : whole_text history held ≡ concat start.packets ++ taken_stream format (kept_counts line_of h)
 
-  -- all that holds after these turns
+  -- All of this holds after these turns.
   pub record After (h : List (Turn A)) (s : State) : Type 0 where
     pub replies : MayReplyAfter line_of kind.may_give kind.takes_whole format queue policy [] h
     pub line : QueueAfter line_of queue h s
@@ -62,7 +63,7 @@ module _ {A : Type 0} (line_of : Call A → Option (List ℕ)) (filled : (call :
   errors_more : (h : List (Turn A)) (t : Turn A) → is_error t ≡ true → error_count (h ++ t ∷ []) ≡ error_count h + 1
   errors_more h t is = error_count-push h t ∙ ap (λ v. error_count h + cond v 1 0) is
 
-  -- a turn that is answered by an error, and in which the writer refuses a packet
+  -- If a turn returns an error, and the writer refuses one packet in it, the errors are still as many as the refusals.
   refusals_more : (h : List (Turn A)) (t : Turn A) (old new : ℕ) → is_error t ≡ true → new ≡ (old + 1) % 2 ^ 64
       → old % 2 ^ 64 ≡ (start.refusals + error_count h) % 2 ^ 64 → new % 2 ^ 64 ≡ (start.refusals + error_count (h ++ t ∷ [])) % 2 ^ 64
   refusals_more h t old new is once before =
@@ -85,7 +86,7 @@ module _ {A : Type 0} (line_of : Call A → Option (List ℕ)) (filled : (call :
       → kept line_of (h ++ t ∷ []) ≡ kept line_of h
   kept_same h t e = ap (map (λ (k : List ℕ × ℕ). k.0)) e
 
-  -- a turn that hands on no line and flushes nothing does not change the cut
+  -- A turn that hands on no line and flushes nothing does not change the cut.
   cut_still : (h : List (Turn A)) (t : Turn A) (plan : List ℕ) (history : PacketHistory) (held : List ℕ)
       → kept_counts line_of (h ++ t ∷ []) ≡ kept_counts line_of h → ((n : ℕ) → mark_at line_of n t ≡ [])
       → ((n : ℕ) → refusal_at line_of n t ≡ []) → CutAfter h plan history held → CutAfter (h ++ t ∷ []) plan history held
@@ -108,7 +109,7 @@ module _ {A : Type 0} (line_of : Call A → Option (List ℕ)) (filled : (call :
     text = a.text ∙ ap (λ k. concat start.packets ++ taken_stream format k) (sym e);
   }
 
-  -- a turn that does not change the packer
+  -- What holds is kept by a turn that does not change the packer.
   leaves_packer : (h : List (Turn A)) (t : Turn A) (s s' : State) → After h s
       → MayReply line_of kind.may_give kind.takes_whole format queue policy h t → QueueAfter line_of queue (h ++ t ∷ []) s'
       → s'.cut ≡ s.cut → s'.history ≡ s.history → s'.held ≡ s.held
@@ -130,7 +131,7 @@ module _ {A : Type 0} (line_of : Call A → Option (List ℕ)) (filled : (call :
             (cut_still h t s.cut s.history s.held same m r (a.cut tells whole))));
       }
 
-  -- a turn that changes nothing
+  -- What holds is kept by a turn that changes nothing.
   only_answers : (h : List (Turn A)) (t : Turn A) (s s' : State) → s' ≡ s → After h s
       → MayReply line_of kind.may_give kind.takes_whole format queue policy h t
       → accepted_by line_of t ≡ [] → takes_text t ≡ false → drops_text t ≡ false → outcome_by t ≡ [] → stops t ≡ false
@@ -140,7 +141,7 @@ module _ {A : Type 0} (line_of : Call A → Option (List ℕ)) (filled : (call :
       subst (λ q. After (h ++ t ∷ []) q) (sym same) (leaves_packer h t s s a reply
       (quiet line_of queue h t s s (same_queue s) refl x k d b z a.line) refl refl refl b m r isnt)
 
-  -- if text is held, the cut ends in a packet that can count one line more
+  -- If text is held, the cut ends in a packet that can count one line more.
   has_last : (h : List (Turn A)) (plan : List ℕ) (history : PacketHistory) (held : List ℕ) → CutAfter h plan history held
       → length h + 1 < 2 ^ 64 → held ≢ [] → HasLast plan
   has_last h plan history held a short some =
@@ -183,7 +184,7 @@ module _ {A : Type 0} (line_of : Call A → Option (List ℕ)) (filled : (call :
     text = f.text tells ∙ a.text ∙ ap (λ k. concat start.packets ++ taken_stream format k) (sym same);
   }
 
-  -- a hand that was answered Ok
+  -- What holds is kept by a hand that returned Ok.
   hand_kept : (h : List (Turn A)) (old new : State) (n : ℕ) (line : List ℕ) → length h + 1 < 2 ^ 64 → After h old → old.in_hand ≡ Some line
       → Writes kind format old.history new.history old.held new.held line (Ok n) → CountsLine format old.held line (Ok n) old.cut new.cut
       → After (h ++ (step.Hand, reply.Handed (Ok n)) ∷ []) (record old { in_hand = None; cut = new.cut; history = new.history; held = new.held })
@@ -225,7 +226,7 @@ module _ {A : Type 0} (line_of : Call A → Option (List ℕ)) (filled : (call :
             };
       }
 
-  -- a hand that was answered by an error
+  -- What holds is kept by a hand that returned an error.
   hand_refused : (h : List (Turn A)) (old new : State) (e : SinkError) (line : List ℕ) → After h old → old.in_hand ≡ Some line
       → Writes kind format old.history new.history old.held new.held line (Err e) → CountsLine format old.held line (Err e) old.cut new.cut
       → After (h ++ (step.Hand, reply.Handed (Err e)) ∷ []) (record old { in_hand = None; cut = new.cut; history = new.history; held = new.held })
@@ -262,7 +263,7 @@ module _ {A : Type 0} (line_of : Call A → Option (List ℕ)) (filled : (call :
         };
   }
 
-  -- a flush that was answered Ok
+  -- What holds is kept by a flush that returned Ok.
   flush_done : (h : List (Turn A)) (old new : State) (done : Unit) → After h old
       → Flushes {A = Unit} kind old.history new.history old.held new.held (Ok done)
       → After (h ++ (step.Flush, reply.Flushed (Ok done)) ∷ []) (record old { history = new.history; held = new.held })
@@ -299,7 +300,7 @@ module _ {A : Type 0} (line_of : Call A → Option (List ℕ)) (filled : (call :
             };
       }
 
-  -- a flush that was answered by an error
+  -- What holds is kept by a flush that returned an error.
   flush_failed : (h : List (Turn A)) (old new : State) (e : SinkError) → After h old
       → Flushes {A = Unit} kind old.history new.history old.held new.held (Err e)
       → After (h ++ (step.Flush, reply.Flushed (Err e)) ∷ []) (record old { history = new.history; held = new.held })
@@ -333,7 +334,7 @@ module _ {A : Type 0} (line_of : Call A → Option (List ℕ)) (filled : (call :
             };
       }
 
-  -- each turn keeps what holds
+  -- Each turn keeps what holds.
   pub turn : (h : List (Turn A)) (old : State) (t : Turn A) (new : State) → length h + 1 < 2 ^ 64 → After h old
       → Moves line_of kind format queue policy old t new → After (h ++ t ∷ []) new
   turn h old (step.Call call, reply.Called (Err e)) new short a (answer, same) =

@@ -26,7 +26,7 @@ use Rattle.cadence_schedule.proofs.packets.ListEnds.{joined}
 use Rattle.cadence_schedule.proofs.packets.CutLengths.{shown, shown_late}
 use Rattle.cadence_schedule.proofs.headline.EachTurn.{After}
 
--- the packets joined, then the held text
+-- The packets and then the held text as a packet, joined, are the packets, joined, and then the held text.
 joined_packets : (packets : List (List ℕ)) (held : List ℕ) → concat (packets ++ held_packet held) ≡ concat packets ++ held
 joined_packets [] [] = refl
 joined_packets [] (b ∷ held) = append-nil (b ∷ held)
@@ -37,7 +37,7 @@ joined_groups format [] = refl
 joined_groups format (group ∷ groups) =
     ap (λ t. stream format group ++ t) (joined_groups format groups) ∙ sym (flat_map-append (frame format) group (joined groups))
 
--- equal texts that begin alike end alike
+-- If two equal texts have the same beginning, they have the same rest.
 goes_on : (xs ys zs : List ℕ) → xs ++ ys ≡ xs ++ zs → ys ≡ zs
 goes_on [] ys zs e = e
 goes_on (x ∷ xs) ys zs e = goes_on xs ys zs (let tail : xs ++ ys ≡ xs ++ zs = cc in tail)
@@ -53,7 +53,7 @@ module _ {A : Type 0} (line_of : Call A → Option (List ℕ)) where
   none_here (step.Hand, reply.Handed (Err e)) n h = absurd (omega arith)
   none_here _ n h = refl
 
-  -- with no error there is no place of a refused line
+  -- If no hand and no flush returned an error, there is no place of a refused line.
   no_refusals : (before h : List (Turn A)) → error_count h ≡ 0 → places_after line_of (refusal_at line_of) before h ≡ []
   no_refusals before [] e = refl
   no_refusals before (t ∷ h) e =
@@ -143,14 +143,14 @@ module _ {A : Type 0} (line_of : Call A → Option (List ℕ)) where
     pub run_dropped : length h < 2 ^ 64 → s.dropped ≡ dropped_count h
     run_dropped short = a.line.dropped_is ∙ short_mod (dropped_count h) (length h) (omega (arith, a.line.within, accepted_le h)) short
 
--- the sums of a run that began with none
+-- A sum that began at 0 is what was added to it, modulo 2 to the 64.
 sum_between : (s n0 n1 more : ℕ) → n1 ≡ n0 + more → s < 2 ^ 64 → less s n1 ≡ less 0 n0 → s ≡ more % 2 ^ 64
 sum_between s n0 n1 more e small same = omega arith
 
 drop_between : (s n0 n1 : ℕ) → less s n1 ≡ less 0 n0 → (n0 + s) % 2 ^ 64 ≡ n1 % 2 ^ 64
 drop_between s n0 n1 same = omega arith
 
--- a counting writer that began with no sums
+-- If a counting writer has the kind of one that began with sums of 0, it began with sums of 0 too.
 counted_start : (k0 k1 : WriterKind) (h0 h1 : PacketHistory) (s : SinkStats) → counted_kind k1 h1 s ≡ counted_kind k0 h0 zero_sums
     → k0.tells ≡ true → start_of s h1 ≡ start_of zero_sums h0
 counted_start k0 k1 h0 h1 s same tells =

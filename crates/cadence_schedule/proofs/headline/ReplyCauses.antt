@@ -18,7 +18,7 @@ use Rattle.cadence_schedule.specs.Moves.{State}
 use Rattle.cadence_schedule.proofs.history.QueueAndHand.{QueueAfter}
 
 module _ {A : Type 0} (line_of : Call A → Option (List ℕ)) (kind : WriterKind) (format : Format) (queue : Option ℕ) (policy : QueuePolicy) where
-  -- the reply to a call that the state calls for is one that the history allows
+  -- The reply to a call that the state calls for is one that the history allows.
   pub call_reply : (h : List (Turn A)) (s : State) → QueueAfter line_of queue h s → (call : Call A) (answer : Reply)
       → CallReplies (line_of call) s.stopped (at_capacity queue s.waiting) (drops_for_room policy s.waiting) answer
       → MayReply line_of kind.may_give kind.takes_whole format queue policy h (step.Call call, answer)
@@ -48,7 +48,7 @@ module _ {A : Type 0} (line_of : Call A → Option (List ℕ)) (kind : WriterKin
       → MayReply line_of kind.may_give kind.takes_whole format queue policy h (step.Hand, answer)
   hand_reply h s hand answer a e r = subst (λ o. HandReplies kind.may_give kind.takes_whole format o answer) (sym e ∙ a.hand_is) r
 
-  -- an error of the packer has a cause that its writer allows
+  -- An error of the packer has a cause that its writer allows.
   pub may_fail : (old new : PacketHistory) (before offered : List ℕ) (e : SinkError) → HasCause kind old new before offered e
       → MayFail kind.may_give kind.takes_whole e
   may_fail old new before offered e (inl refusal) = inl refusal.may_give

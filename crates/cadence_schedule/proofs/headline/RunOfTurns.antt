@@ -28,7 +28,7 @@ module _ {A : Type 0} where
   length-zip (a ∷ xs) [] e = absurd (omega arith)
   length-zip (a ∷ xs) (b ∷ ys) e = omega (arith, length-zip xs ys (omega arith))
 
-  -- what holds for the metrics accepted so far and for those of one step more holds for all of them
+  -- What is true of the metrics accepted so far, and of those of one step more, is true of all of them.
   pub accepted_push : {X : Type 0} (P : X → Type 0) (of : Call A → Option X) (xs xs' : List (Step A)) (ys ys' : List Reply) (x : Step A) (y : Reply)
       → length xs ≡ length ys → xs' ≡ xs ++ x ∷ [] → ys' ≡ ys ++ y ∷ []
       → All P (accepted of (zip xs ys)) → All P (accepted_by of (x, y)) → All P (accepted of (zip xs' ys'))
@@ -44,7 +44,7 @@ module _ {A : Type 0} where
     runs_more old mid new [] t same move = (new, subst (λ s. Moves line_of kind format queue policy s t new) same move, refl)
     runs_more old mid new (u ∷ turns) t (next, first, rest) move = (next, first, runs_more next mid new turns t rest move)
 
-    -- a run with one step and its reply more
+    -- A run and one step more with its reply are a run.
     pub runs_push : (old mid new : State) (xs xs' : List (Step A)) (ys ys' : List Reply) (x : Step A) (y : Reply) → length xs ≡ length ys
         → xs' ≡ xs ++ x ∷ [] → ys' ≡ ys ++ y ∷ []
         → Runs line_of kind format queue policy old (zip xs ys) mid → Moves line_of kind format queue policy mid (x, y) new
@@ -53,7 +53,7 @@ module _ {A : Type 0} where
         subst (λ turns. Runs line_of kind format queue policy old turns new) (sym (zip_push xs ys x y short) ∙ (λ i. zip (sym e i) (sym f i)))
         (runs_more old mid new (zip xs ys) (x, y) runs move)
 
-  -- a move, if the kind, the format, the capacity and the policy of the queue are replaced by equal ones
+  -- A move stays one if the kind, the format, the capacity and the policy of the queue are replaced by equal ones.
   pub moves_along : (line_of : Call A → Option (List ℕ)) (kind kind' : WriterKind) (format format' : Format) (queue queue' : Option ℕ)
       (policy policy' : QueuePolicy) (old : State) (t : Turn A) (new : State)
       → kind ≡ kind' → format ≡ format' → queue ≡ queue' → policy ≡ policy' → Moves line_of kind format queue policy old t new

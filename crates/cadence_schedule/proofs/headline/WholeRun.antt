@@ -113,7 +113,7 @@ module _ {W A : Type 0} (kind_of : W → WriterKind) (history_of : W → PacketH
           record { tight = tight; fewest = least _ _ _ _ tight };
     }
 
-    -- what is promised beside it
+    -- What is promised beside the headline.
     pub is_accounted : PacketsReadOneWay → All IsRepresentable (accepted (metric_of_data settings) turns)
         → run.packer.writer.stats.bytes_sent < 2 ^ 64 → run.packer.writer.stats.packets_sent < 2 ^ 64
         → IsAccounted history_of (given_of kind_of history_of settings capacity ending queue policy steps writer) (outcome_after run replies)

@@ -11,7 +11,7 @@ use Rattle.cadence_flow.specs.Writer.{PacketHistory, WriterKind, WritesPacket, a
 use Rattle.cadence_flow.specs.declared.stats.SinkStats.{SinkStats}
 use Rattle.cadence_flow.specs.Sums.{less, start_of, start_if, counted_kind, after_answer, after_refused}
 
--- the difference stays the same with n more on both sides
+-- A difference stays the same if n is added on both sides.
 less_more : (s b n : ℕ) → less ((s + n) % 2 ^ 64) (b + n) ≡ less s b
 less_more s b n = omega arith
 
@@ -19,7 +19,7 @@ length_concat_push : (ps : List (List ℕ)) (p : List ℕ) → length (concat (p
 length_concat_push ps p = ap length (concat-append ps (p ∷ [])) ∙ length-append (concat ps) (p ++ [])
     ∙ ap (λ (l : List ℕ). length (concat ps) + length l) (append-nil p)
 
--- a packet of which n bytes are taken does not change the sums that the writer began with
+-- A packet of which n bytes are taken does not change the sums that the writer began with.
 pub start_stays : (s : SinkStats) (h : PacketHistory) (packet : List ℕ) (n : ℕ) → n ≤ length packet
     → start_of (record s { bytes_sent = (s.bytes_sent + n) % 2 ^ 64; packets_sent = (s.packets_sent + 1) % 2 ^ 64 })
     (after_packet h (take n packet)) ≡ start_of s h
@@ -52,7 +52,7 @@ counted_stays k k' s s' h h' packet n same fits es taken =
 refused_more : (s b n : ℕ) → less ((s + n) % 2 ^ 64) ((b + n) % 2 ^ 64) ≡ less s b
 refused_more s b n = omega arith
 
--- a refused packet does not change the sums that the writer began with
+-- A refused packet does not change the sums that the writer began with.
 refused_stays : (s : SinkStats) (h : PacketHistory) (n : ℕ) → start_of (after_refused s n) (after_refusal h n) ≡ start_of s h
 refused_stays s h n = λ i.
     record {
@@ -62,7 +62,7 @@ refused_stays s h n = λ i.
       packets_dropped = refused_more s.packets_dropped h.refusals 1 i;
     }
 
--- a counting writer stays of the same kind, whatever the inner writer returns for a packet
+-- A counting writer stays of the same kind, whatever the inner writer returns for a packet.
 pub counted_answer : (k k' : WriterKind) (s s' : SinkStats) (h h' : PacketHistory) (packet : List ℕ) (result : Result ℕ SinkError) → k' ≡ k
     → WritesPacket k h h' packet result → s' ≡ after_answer s result (length packet) → counted_kind k' h' s' ≡ counted_kind k h s
 counted_answer k k' s s' h h' packet (Ok n) same w e = counted_stays k k' s s' h h' packet n same w.count e w.taken

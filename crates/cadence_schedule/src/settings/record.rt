@@ -1,4 +1,4 @@
-//! Records of calls, for a caller who wants the fields of a metric and not its line.
+//! Records of calls, for a caller who needs the fields of a metric and not its line.
 ghost use Rattle.std.specs.Prelude.{◌≡◌, OnOk, map};
 ghost use Rattle.std.specs.List.{fold};
 ghost use Rattle.cadence_schedule.specs.Call.{chosen};

@@ -20,7 +20,7 @@ pub fn make_spy<R: Wait + Clone + Drop>(
     Ok(SpyMetricSink::new(rt.clone()?, alloc)?)
 }
 
-/// The error that a test wants, by the name of its variant in `SinkError`.
+/// The error that a test expects, by the name of its variant in `SinkError`.
 #[derive(Clone, Copy, Debug, PartialEq)]
 pub enum WantedError {
     ChannelFull,
