@@ -16,7 +16,7 @@ typedef struct {
     PyObject *prefix, *container, *texts;
     cadence_tag *tags;
     size_t tags_len, capacity, packets;
-    uint8_t *line; /* a line that is made by hand */
+    uint8_t *line; /* the text of the lines that this file puts together itself */
     size_t line_len, line_room;
 } packer;
 
@@ -308,15 +308,15 @@ static PyObject *packer_set_container(packer *self, PyObject *container) {
 
 static PyMethodDef methods[] = {
     { "keep", (PyCFunction)(void (*)(void))packer_keep, METH_FASTCALL,
-      "keep(kind, form, stat, value, rate, tags, container, timestamp): keeps a metric, and says whether that made a packet." },
-    { "line", (PyCFunction)packer_line, METH_O, "Keeps a line as it is, and says whether that made a packet." },
-    { "flush", (PyCFunction)packer_flush, METH_NOARGS, "Makes a packet of what is held, and says whether there was any." },
-    { "take", (PyCFunction)packer_take, METH_NOARGS, "Returns the oldest packet, which then no longer waits, or None." },
-    { "close", (PyCFunction)packer_close, METH_NOARGS, "Closes, and returns the packets that are left." },
-    { "renew", (PyCFunction)packer_renew, METH_NOARGS, "Drops all that is held and that waits, unless it is closed." },
+      "keep(kind, form, stat, value, rate, tags, container, timestamp): keeps a metric, and returns whether that made a packet." },
+    { "line", (PyCFunction)packer_line, METH_O, "Keeps a line as it is, and returns whether that made a packet." },
+    { "flush", (PyCFunction)packer_flush, METH_NOARGS, "Makes a packet of the held text, and returns whether there was any." },
+    { "take", (PyCFunction)packer_take, METH_NOARGS, "Removes and returns the oldest packet, or returns None." },
+    { "close", (PyCFunction)packer_close, METH_NOARGS, "Closes the Packer, and returns the packets that are left." },
+    { "renew", (PyCFunction)packer_renew, METH_NOARGS, "Drops the held text and the packets that wait, unless the Packer is closed." },
     { "counts", (PyCFunction)packer_counts, METH_NOARGS, "Returns held, waiting, made, sent, dropped." },
-    { "add_tag", (PyCFunction)packer_add_tag, METH_O, "Adds a tag of each call that follows." },
-    { "set_container", (PyCFunction)packer_set_container, METH_O, "Sets the container of each call that follows." },
+    { "add_tag", (PyCFunction)packer_add_tag, METH_O, "Adds a tag to each later call." },
+    { "set_container", (PyCFunction)packer_set_container, METH_O, "Sets the container of each later call." },
     { NULL, NULL, 0, NULL },
 };
 

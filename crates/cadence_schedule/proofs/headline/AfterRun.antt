@@ -38,7 +38,7 @@ module _ {A : Type 0} (line_of : Call A → Option (List ℕ)) (filled : (call :
       zero_more : (n : ℕ) → n ≡ n + 0
       zero_more n = omega arith
 
--- After a whole run all of it holds, from the state before the first step.
+-- All of it holds after a whole run that begins in the state before the first step.
 pub run_after : {A : Type 0} (line_of : Call A → Option (List ℕ)) (filled : (call : Call A) (line : List ℕ) → line_of call ≡ Some line
     → line ≢ []) (kind kind0 : WriterKind) (format format0 : Format) (queue queue0 : Option ℕ) (policy policy0 : QueuePolicy)
     (start : PacketHistory) (s0 s1 : State) (turns : List (Turn A))
