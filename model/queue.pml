@@ -300,8 +300,8 @@ inline RELEASE(claim) {
 
 #define IS_TRUE_ANSWER ((answer == STOPPED) == stopped && (answer != FULL || IS_FULL))
 
-/* `SharedQueue::offer`. A try of the lock that fails changes nothing, so `acquire`, which tries it a few times before it
-   sleeps for it, is LOCK here. */
+/* `SharedQueue::offer`. A try of the lock that fails changes nothing, so `acquire`, which tries it a few times before
+   it sleeps for it, is LOCK here. */
 inline OFFER(text) {
 #if FAULT == 5
   was_full = IS_FULL;

@@ -48,8 +48,8 @@ SendsMetric may made (Some m) r = SendsLine may made (line_of m) r
 SendsMetric may made None (Ok m) = ⊥
 SendsMetric may made None (Err e) = IsInvalid e
 
--- A call of this kind, without options, sent the line of its metric and returned it as the metric. The errors are an invalid input if its value
--- has no numbers, out of memory, and those that the sink may return for this line.
+-- A call of this kind, without options, sent the line of its metric and returned it as the metric. The errors are an
+-- invalid input if its value has no numbers, out of memory, and those that the sink may return for this line.
 pub record SendsPlain (settings : Settings) (may : SinkResults) (kind : MetricType) (key : List ℕ) (numbers : Option (List Number))
     (result : Result (List ℕ) MetricError) : Type 0 where
   pub is : SendsMetric may IsLineText (plain_metric_of settings kind key numbers) result
@@ -74,12 +74,14 @@ draft_with_choice d (contained c) = record d { container = Some c }
 draft_with_choice d (timed n) = record d { time = Some n }
 draft_with_choice d (rated r) = record d { rate = Some r }
 
--- An option that requests no memory changed the pending draft `old` to `new`: a draft has the option, and an error stays.
+-- An option that requests no memory changed the pending draft `old` to `new`: a draft has the option, and an error
+-- stays.
 abbrev pub Chooses : Result Draft MetricError → Choice → Result Draft MetricError → Type 0
 Chooses (Err e) o new = new ≡ Err e
 Chooses (Ok d) o new = new ≡ Ok (draft_with_choice d o)
 
--- An option that requests memory changed the pending draft `old` to `new`: a draft has the option, or memory ran out; an error stays.
+-- An option that requests memory changed the pending draft `old` to `new`: a draft has the option, or memory ran out;
+-- an error stays.
 abbrev pub ChoosesOrFails : Result Draft MetricError → Choice → Result Draft MetricError → Type 0
 ChoosesOrFails (Err e) o new = new ≡ Err e
 ChoosesOrFails (Ok d) o (Ok n) = n ≡ draft_with_choice d o

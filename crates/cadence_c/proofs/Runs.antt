@@ -1,4 +1,5 @@
--- Many calls of a client, one after the other: no line is lost, and a queue that refuses packets if it is full drops none.
+-- Many calls of a client, one after the other: no line is lost, and a queue that refuses packets if it is full drops
+-- none.
 use Rattle.std.proofs.Common.{◌≡◌, ℕ, ◌+◌, ◌<◌, ◌≤◌, List, [], ◌∷◌, ◌++◌, length, take, drop, codes, cond, refl, sym, ap, ◌∙◌, ⊎_elim}
 use Rattle.std.proofs.Common.{append_assoc, Bool, true, false}
 use Rattle.std.specs.List.{concat, filter_map}

@@ -40,7 +40,8 @@ AreNumbersOf (d ∷ ds) (n ∷ ns) = IsNumberOf d n × AreNumbersOf ds ns
 abbrev pub millis_of : ℕ → ℕ
 millis_of nanos = nanos / 1_000_000
 
--- the numbers of durations in nanoseconds: milliseconds for a timer, nanoseconds for a histogram, and none for other kinds
+-- the numbers of durations in nanoseconds: milliseconds for a timer, nanoseconds for a histogram, and none for other
+-- kinds
 abbrev pub durations_of : ℕ → List ℕ → Option (List Number)
 durations_of k nanos =
     if k == 1 then Some (map natural (map millis_of nanos)) else if k == 4 then Some (map natural nanos) else None
@@ -54,7 +55,8 @@ IsRateOf o (Some rate) = (o.rated ≡ true) × IsNumberOf o.rate rate
 abbrev pub with_c_tags : Metric → List CTag → Metric
 with_c_tags m tags = record m { tags = m.tags ++ map c_tag tags }
 
--- the metric with options: their tags come after its own, and their rate, container and time replace its own if they have these
+-- the metric with options: their tags come after its own, and their rate, container and time replace its own if they
+-- have these
 abbrev pub with_options : Metric → COptions → Option Number → Metric
 with_options m o rate = record m {
   rate = option_or rate m.rate;

@@ -10,8 +10,8 @@ use Rattle.cadence_c.specs.Status.{CADENCE_TOO_SMALL, IsOkOr}
 use Rattle.cadence_c.specs.declared.call.COptions.{COptions}
 use Rattle.cadence_c.specs.declared.handle.Handle.{Handle}
 
--- If a call doesn't return CADENCE_OK, the client of the handle is as it was. If it returns CADENCE_NO_CLIENT, there is no
--- client.
+-- If a call doesn't return CADENCE_OK, the client of the handle is as it was. If it returns CADENCE_NO_CLIENT, there is
+-- no client.
 pub record UnchangedUnlessOk (s : ℕ) (old new : Handle) : Type 0 where
   pub unchanged : s ≢ CADENCE_OK → client_of new ≡ client_of old
   pub closed : s ≡ CADENCE_NO_CLIENT → client_of old ≡ None

@@ -50,8 +50,8 @@ pub record Drops (s : State) (line : List ℕ) (dropped : List (List ℕ)) : Typ
       → dropped ≡ dropped_for_held s.queue s.held
       ++ dropped_for_packet (queue_with_held s.queue s.held).policy (queue_with_held s.queue s.held)
 
--- The act leads from a state to the next, and these packets leave the client: they are dropped, for room or because they were
--- sent.
+-- The act leads from a state to the next, and these packets leave the client: they are dropped, for room or because
+-- they were sent.
 abbrev pub Does : Act → State → State → List (List ℕ) → Type 0
 Does (keeps line) s t left = KeepsLine s line t × Drops s line left
 Does flushes s t left = (t ≡ after_flush s) × (left ≡ dropped_for_held s.queue s.held)
@@ -64,16 +64,16 @@ Leads [] s t left = (t ≡ s) × (left ≡ [])
 Leads (act ∷ acts) s t left =
     (mid : State) × (first : List (List ℕ)) × (rest : List (List ℕ)) × Does act s mid first × Leads acts mid t rest × (left ≡ first ++ rest)
 
--- After any acts of a new client, the packets that left it, then the packets that wait, and then the held text are, joined, the
--- frames of the lines that it kept, in order.
+-- After any acts of a new client, the packets that left it, then the packets that wait, and then the held text are,
+-- joined, the frames of the lines that it kept, in order.
 abbrev pub NothingIsLost : Type 0
 NothingIsLost =
     (prefix : List ℕ) (capacity most : ℕ) (policy : QueuePolicy) (acts : List Act) (t : State) (left : List (List ℕ))
     → Leads acts (new_state prefix capacity most policy) t left
     → concat left ++ (concat t.queue.waiting ++ t.held) ≡ stream (record { capacity = capacity; ending = codes "\n" }) (filter_map line_of_act acts)
 
--- After any acts of a new client whose queue refuses packets if it is full, the packets that left it are those that the host
--- sent.
+-- After any acts of a new client whose queue refuses packets if it is full, the packets that left it are those that the
+-- host sent.
 abbrev pub NothingIsDropped : Type 0
 NothingIsDropped =
     (prefix : List ℕ) (capacity most : ℕ) (acts : List Act) (t : State) (left : List (List ℕ))

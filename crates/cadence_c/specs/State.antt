@@ -13,8 +13,9 @@ use Rattle.cadence_c.specs.Calls.{IsLineOfCall}
 use Rattle.cadence_c.specs.declared.call.COptions.{COptions}
 use Rattle.cadence_c.specs.declared.client.CCounts.{CCounts}
 
--- A client's settings, which it adds to each call; the queue of finished packets, which wait for the host; the held text, which
--- becomes the next packet; and the capacity of a packet in bytes. A handle has a state, or none if it has no client.
+-- A client's settings, which it adds to each call; the queue of finished packets, which wait for the host; the held
+-- text, which becomes the next packet; and the capacity of a packet in bytes. A handle has a state, or none if it has
+-- no client.
 pub record State : Type 0 where
   pub settings : Settings
   pub queue : Queue (List ℕ)
@@ -61,8 +62,9 @@ after_flush s = record s { queue = queue_with_held s.queue s.held; held = [] }
 abbrev pub after_oversize : State → List ℕ → State
 after_oversize s line = record s { queue = queue_with_packet (queue_with_held s.queue s.held) line; held = [] }
 
--- What a client does with a line that it keeps. If the line fits beside the held text, it is held with its newline. Otherwise
--- the held text first becomes a packet. An oversize line then becomes a packet of its own, without its newline.
+-- What a client does with a line that it keeps. If the line fits beside the held text, it is held with its newline.
+-- Otherwise the held text first becomes a packet. An oversize line then becomes a packet of its own, without its
+-- newline.
 pub record KeepsLine (old : State) (line : List ℕ) (new : State) : Type 0 where
   pub fits : length old.held + (length line + 1) ≤ old.capacity → new ≡ record old { held = old.held ++ line_with_newline line }
   pub flushes_first : old.capacity < length old.held + (length line + 1)
@@ -74,7 +76,8 @@ pub record LacksRoom (q : Queue (List ℕ)) (n : ℕ) : Type 0 where
   pub refuses : q.policy ≡ Refuse
   pub few : IfSome q.capacity (λ most. most < length q.waiting + n)
 
--- the packets that are made if a line doesn't fit beside the held text: the held text, and the line too if it is oversize
+-- the packets that are made if a line doesn't fit beside the held text: the held text, and the line too if it is
+-- oversize
 abbrev pub packets_for_line : State → List ℕ → List (List ℕ)
 packets_for_line s line = held_packet s.held ++ (if nat_lt s.capacity (length line + 1) then line ∷ [] else [])
 

@@ -30,7 +30,8 @@ module _ {A : Type 0} where
   abbrev pub texts_of : Outcome LogState A → List (List ℕ)
   texts_of outcome = outcome.writer.packets ++ outcome.held ∷ []
 
-  -- the metrics of the kept calls, in order: the calls that were accepted, and whose lines were handed on and not refused
+  -- the metrics of the kept calls, in order: the calls that were accepted, and whose lines were handed on and not
+  -- refused
   abbrev pub kept_metrics : Given A → Outcome LogState A → List Metric
   kept_metrics given outcome = kept given.metric_of (turns_of log_history given outcome)
 

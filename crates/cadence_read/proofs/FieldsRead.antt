@@ -90,7 +90,8 @@ fails_at NotMetrics Good shown before left later all piece seen t so_far next cu
     λ ys is. refused_at Good shown ys before left later all piece so_far next none is.0 (cut ys is.0 is.1)
 fails_at OutOfMemory Good shown before left later all piece seen t so_far next cut none = tt
 
--- If good values print as one text exactly if they print as another, then a reading of the one is a reading of the other.
+-- If good values print as one text exactly if they print as another, then a reading of the one is a reading of the
+-- other.
 pub reads_through : {X Y S T : Type 0} (Good : Y → Type 0) (shown : Y → S) (s : S) (seen : Y → T) (t : T) (view : X → Y) (r : Result X ReadFault)
     → ((y : Y) → Good y → shown y ≡ s → seen y ≡ t) → ((y : Y) → Good y → seen y ≡ t → shown y ≡ s) → ReadsOrFails Good shown s view r
     → ReadsOrFails Good seen t view r

@@ -53,8 +53,8 @@ abbrev pub pieces_left : ℕ → Option (List ℕ) → List (List ℕ)
 pieces_left mark None = []
 pieces_left mark (Some text) = slice_split (λ byte. byte == mark) text
 
--- If the first part begins with the mark, the text is the rest of that part, and the parts after it are left. Otherwise there is no text, and all
--- parts are left.
+-- If the first part begins with the mark, the text is the rest of that part, and the parts after it are left. Otherwise
+-- there is no text, and all parts are left.
 abbrev pub IsMarked : List ℕ → List (List ℕ) → Option (List ℕ) → List (List ℕ) → Type 0
 IsMarked mark parts (Some text) rest = parts ≡ (mark ++ text) ∷ rest
 IsMarked mark parts None rest = (rest ≡ parts) × ((text : List ℕ) (more : List (List ℕ)) → parts ≡ (mark ++ text) ∷ more → ⊥)

@@ -33,7 +33,8 @@ pub record IsListOf (packet : List ℕ) (metrics : List Metric) : Type 0 where
   pub listed : All IsListed metrics
   pub whole : IsPacketOf metrics packet
 
--- If the error is `NotMetrics`, no list of metrics has this packet. If memory ran out, nothing is known about the packet.
+-- If the error is `NotMetrics`, no list of metrics has this packet. If memory ran out, nothing is known about the
+-- packet.
 abbrev pub FailsPacket : List ℕ → ReadFault → Type 0
 FailsPacket packet NotMetrics = (metrics : List Metric) → IsListOf packet metrics → ⊥
 FailsPacket packet OutOfMemory = ⊤

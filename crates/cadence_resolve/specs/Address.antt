@@ -21,8 +21,8 @@ abbrev pub gave_any : List SocketAddr → Bool
 gave_any [] = false
 gave_any (address ∷ others) = true
 
--- a resolver as contracts see it: its address, and how many lookups after the first one gave an address and how many gave none, both modulo
--- 2 to the 64
+-- a resolver as contracts see it: its address, and how many lookups after the first one gave an address and how many
+-- gave none, both modulo 2 to the 64
 pub record Resolved : Type 0 where
   pub address : SocketAddr
   pub successes : ℕ

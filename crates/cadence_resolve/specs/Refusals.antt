@@ -15,12 +15,14 @@ IsLookupFault (Io e) = Unit {0}
 IsLookupFault OutOfMemory = Unit {0}
 IsLookupFault _ = ⊥
 
--- A sink is not made because the lookup or the start of a thread failed, because memory ran out, or because the name has no address.
+-- A sink is not made because the lookup or the start of a thread failed, because memory ran out, or because the name
+-- has no address.
 abbrev pub IsSocketRefusal : MetricError → Type 0
 IsSocketRefusal (Sink e) = IsLookupFault e
 IsSocketRefusal (Described kind text) = kind ≡ InvalidInput
 
--- A sink that looks its target up once is not made: for an address, because memory ran out; for a name, for any of the reasons above.
+-- A sink that looks its target up once is not made: for an address, because memory ran out; for a name, for any of the
+-- reasons above.
 abbrev pub IsTargetRefusal : {A : Type 0} → Target A → MetricError → Type 0
 IsTargetRefusal (Addr address) e = e ≡ out_of_memory
 IsTargetRefusal _ e = IsSocketRefusal e

@@ -3,8 +3,8 @@
 use std::io;
 use std::net::{Ipv4Addr, Ipv6Addr, Net, SocketAddr, UdpSocket};
 
-/// Binds a UDP socket of the family of an address, IPv4 or IPv6, at a port that the system picks. Such a socket can send
-/// to the address. The error is the system's.
+/// Binds a UDP socket of the family of an address, IPv4 or IPv6, at a port that the system picks. Such a socket can
+/// send to the address. The error is the system's.
 pub fn bind_socket(net: &impl Net, address: SocketAddr) -> io::Result<UdpSocket> {
     let any = if address.is_ipv4() {
         SocketAddr::from((Ipv4Addr::UNSPECIFIED, 0))

@@ -114,7 +114,8 @@ module _ {A X : Type 0} (line_of : Call A → Option X) where
   abbrev pub undropped_lines : List (Turn A) → List X
   undropped_lines history = without_dropped (accepted history) (exits history)
 
-  -- the kept lines: those that were handed on with the result Ok, in order, each with the count that was returned for it
+  -- the kept lines: those that were handed on with the result Ok, in order, each with the count that was returned for
+  -- it
   abbrev pub kept_counts : List (Turn A) → List (X × ℕ)
   kept_counts history = with_answers (undropped_lines history) (outcomes history)
 

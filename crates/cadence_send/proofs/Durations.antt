@@ -43,7 +43,8 @@ rest_stops : (rest : List ℕ) → 57 < get_or rest 0 0 → Stops up_to_digits r
 rest_stops [] h = tt
 rest_stops (b ∷ rest) h = le-ltb b 58 (omega (arith, h))
 
--- If a word is a number and a unit, then they are the two parts of the word before and after the first byte above the digits.
+-- If a word is a number and a unit, then they are the two parts of the word before and after the first byte above the
+-- digits.
 pub parts_once : (digits : List ℕ) (n : Number) (u : Unit) (front rest word : List ℕ) → All (λ b. b ≤ 57) front → 57 < get_or rest 0 0
     → word ≡ front ++ rest → Denotes digits n → digits ++ unit_text u ≡ word → (digits ≡ front) × (unit_text u ≡ rest)
 parts_once digits n u front rest word low high cut says text =

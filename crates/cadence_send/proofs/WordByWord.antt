@@ -167,7 +167,8 @@ module _ {Z : Type 0} (d : Defaults Z) (k n v : List ℕ) (others words : List (
   asked : (line : List ℕ) → IsLineOfWords d words line → IsLineOfWords d (k ∷ n ∷ v ∷ others) line
   asked line h = subst (λ ws. IsLineOfWords d ws line) are h
 
-  -- If the words of a line ask for a metric, then the first three have its kind, its name and its value, and the others its tags.
+  -- If the words of a line ask for a metric, then the first three have its kind, its name and its value, and the others
+  -- its tags.
   pub head_asked : (line : List ℕ) → IsLineOfWords d words line → (h : MetricType × List Number) × AreHead k n v h.0 h.1
   head_asked line l =
       let h = asked line l in

@@ -14,7 +14,8 @@ IsOneText text = All (λ byte. byte ≢ 10) text
 abbrev pub with_newlines : List (List ℕ) → List ℕ
 with_newlines texts = flat_map (λ text. text ++ 10 ∷ []) texts
 
--- Bytes waited, and more bytes arrived. Each text that a newline then ended was taken, and the bytes after the last newline wait.
+-- Bytes waited, and more bytes arrived. Each text that a newline then ended was taken, and the bytes after the last
+-- newline wait.
 pub record Feeds {W Z : Type 0} (d : Defaults Z) (kind : W → WriterKind) (history : W → PacketHistory) (old new : Packer W)
     (before bytes after : List ℕ) : Type 0 where
   pub texts : List (List ℕ)

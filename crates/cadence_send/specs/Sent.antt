@@ -11,7 +11,8 @@ use Rattle.cadence_send.specs.declared.options.Defaults.{Defaults}
 use Rattle.cadence_text.specs.Line.{line_of}
 use Rattle.cadence_text.specs.Metric.{Metric}
 
--- the metric that words ask for, with the default tags before its own, and with the rate and the time of the command line
+-- the metric that words ask for, with the default tags before its own, and with the rate and the time of the command
+-- line
 abbrev pub asked_metric : {Z : Type 0} → Defaults Z → Asked → Metric
 asked_metric d a =
     let m = metric_of_call d.settings (plain_call a.kind a.name a.numbers) in
@@ -42,8 +43,8 @@ texts_of input = slice_split (λ b. b == 10) input
 abbrev pub AreLinesOf : {Z : Type 0} → Defaults Z → List (List ℕ) → List (List ℕ) → Type 0
 AreLinesOf d texts lines = (given : List (Option (List ℕ))) × AllZip (Gives d) texts given × (lines ≡ filter_map (λ o. o) given)
 
--- The packer took these lines. If its writer tells its packets and takes each of them whole, then the packets and the held text, joined, grew by
--- the stream of the lines.
+-- The packer took these lines. If its writer tells its packets and takes each of them whole, then the packets and the
+-- held text, joined, grew by the stream of the lines.
 pub record TakesLines {W : Type 0} (kind : W → WriterKind) (history : W → PacketHistory) (old new : Packer W) (lines : List (List ℕ)) : Type 0 where
   pub same_kind : kind new.writer ≡ kind old.writer
   pub same_format : new.format ≡ old.format

@@ -13,6 +13,7 @@ IsQueueAnswer text answer = MatchResult answer (λ n. n ≡ length text) IsQueue
 abbrev pub IsQueueFlush : Result (Unit {0}) SinkError → Type 0
 IsQueueFlush answer = MatchResult answer (λ _. Unit {0}) IsQueueRefusal
 
--- a queue as a writer of packets: it has the errors of a queue, takes each packet whole, and contracts don't see its packets
+-- a queue as a writer of packets: it has the errors of a queue, takes each packet whole, and contracts don't see its
+-- packets
 abbrev pub queue_kind : WriterKind
 queue_kind = record { may_give = is_queue_refusal; tells = false; takes_whole = true; start = zero_sums }

@@ -28,8 +28,8 @@ wrapped_sink q = (arc_value q.shared).sink
 abbrev pub queue_capacity : {S R A : Type 0} → QueuingMetricSink S R A → Option ℕ
 queue_capacity q = bound_of (arc_value q.shared).queue
 
--- The result of an `emit` into a queue of this capacity is the length of the line, or an error of a queue. A queue without a capacity is never
--- full.
+-- The result of an `emit` into a queue of this capacity is the length of the line, or an error of a queue. A queue
+-- without a capacity is never full.
 pub record IsQueuingAnswer (bound : Option ℕ) (line : List ℕ) (answer : Result ℕ SinkError) : Type 0 where
   pub queue : IsQueueAnswer line answer
   pub unbounded : bound ≡ None → answer ≢ Err ChannelFull

@@ -18,8 +18,8 @@ IsSocketAnswer may_give text answer = MatchResult answer (λ n. n ≤ length tex
 abbrev pub IsBufferedError : (SinkError → Bool) → SinkError → Type 0
 IsBufferedError may_give e = (may_give e ≡ true) ⊎ (e ≡ NothingWritten)
 
--- The result of a buffered sink is a number of bytes of at most the text's length, an error that the socket may return, or `NothingWritten`. If
--- the text with a newline fits into an empty buffer, the number is the text's length.
+-- The result of a buffered sink is a number of bytes of at most the text's length, an error that the socket may return,
+-- or `NothingWritten`. If the text with a newline fits into an empty buffer, the number is the text's length.
 abbrev pub IsBufferedAnswer : (SinkError → Bool) → ℕ → List ℕ → Result ℕ SinkError → Type 0
 IsBufferedAnswer may_give buffer text answer =
     MatchResult answer
@@ -30,6 +30,7 @@ IsBufferedAnswer may_give buffer text answer =
 abbrev pub IsBufferedFlush : (SinkError → Bool) → Result (Unit {0}) SinkError → Type 0
 IsBufferedFlush may_give answer = IfErr answer (IsBufferedError may_give)
 
--- a socket as a writer of packets: it has these errors, contracts don't see its packets, and it may take only the first bytes of a packet
+-- a socket as a writer of packets: it has these errors, contracts don't see its packets, and it may take only the first
+-- bytes of a packet
 abbrev pub socket_kind : (SinkError → Bool) → WriterKind
 socket_kind may_give = record { may_give = may_give; tells = false; takes_whole = false; start = zero_sums }

@@ -1,6 +1,6 @@
--- Metrics that could be in memory as a `Record`: the texts are in UTF-8, each number could be a `Decimal`, and no text and no list is
--- longer than memory allows. `IsRepresentable` says the same without the limits of length. The limits show that a line has fewer than 2 ^ 126
--- bytes, so that its length can be counted in 128 bits.
+-- Metrics that could be in memory as a `Record`: the texts are in UTF-8, each number could be a `Decimal`, and no text
+-- and no list is longer than memory allows. `IsRepresentable` says the same without the limits of length. The limits
+-- show that a line has fewer than 2 ^ 126 bytes, so that its length can be counted in 128 bits.
 use Rattle.std.specs.Prelude.{ℕ, ◌<◌, ◌^◌, Option, List, All, IfSome, length}
 use Rattle.std.specs.Str.{IsUtf8}
 use Rattle.cadence_text.specs.Metric.{Metric, Tag}
@@ -12,7 +12,8 @@ pub record IsTagInMemory (tag : Tag) : Type 0 where
   pub key : IfSome tag.key IsTextInMemory
   pub text : IsTextInMemory tag.text
 
--- the number of tags that no list in memory reaches, because each `Tag` has at least 8 bytes: `memory_limit` divided by 8
+-- the number of tags that no list in memory reaches, because each `Tag` has at least 8 bytes: `memory_limit` divided by
+-- 8
 abbrev pub tags_limit : ℕ
 tags_limit = 2 ^ 60
 
@@ -25,7 +26,8 @@ pub record AreTagsInMemory (tags : List Tag) : Type 0 where
 abbrev pub IsTimestamp : Option ℕ → Type 0
 IsTimestamp time = IfSome time (λ t. t < 2 ^ 64)
 
--- The metric could be a `Record`. The name is made of two texts, the prefix and the key, so it can be twice as long as one text.
+-- The metric could be a `Record`. The name is made of two texts, the prefix and the key, so it can be twice as long as
+-- one text.
 pub record IsMetricInMemory (metric : Metric) : Type 0 where
   pub name : length metric.name < 2 ^ 64
   pub utf8 : IsUtf8 metric.name

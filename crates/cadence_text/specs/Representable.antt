@@ -1,4 +1,5 @@
--- Metrics that Rust values can represent: the texts are in UTF-8, each number could be a `Decimal`, and the time fits 64 bits.
+-- Metrics that Rust values can represent: the texts are in UTF-8, each number could be a `Decimal`, and the time fits
+-- 64 bits.
 use Rattle.std.specs.Prelude.{◌<◌, ◌^◌, All, IfSome}
 use Rattle.std.specs.Str.{IsUtf8}
 use Rattle.cadence_text.specs.Metric.{Metric, Tag}

@@ -1,4 +1,5 @@
--- What a line is written to, piece by piece: a window, a buffer or a counter of bytes. For each, the text that it ends with.
+-- What a line is written to, piece by piece: a window, a buffer or a counter of bytes. For each, the text that it ends
+-- with.
 use Rattle.std.specs.Prelude.{ℕ, ◌+◌, ◌-◌, ◌%◌, ◌^◌, nat_lt, if◌then◌else◌, List, [], ◌++◌, length, take, drop, replicate}
 use Rattle.cadence_text.specs.declared.line.line_buf.LengthCounter.{LengthCounter}
 use Rattle.cadence_text.specs.declared.line.line_buf.LineBuf.{LineBuf}
@@ -17,11 +18,13 @@ window_ends w rest = window_text w ++ take (512 - w.length) (drop w.skip rest)
 abbrev pub text_up_to : ℕ → List ℕ → List ℕ
 text_up_to end text = if nat_lt end (length text) then [] else text
 
--- the text that a line buffer ends with if this text still comes: all of it if it fits the reserved room, and otherwise nothing
+-- the text that a line buffer ends with if this text still comes: all of it if it fits the reserved room, and otherwise
+-- nothing
 abbrev pub line_buf_ends : {Z : Type 0} → LineBuf Z → List ℕ → List ℕ
 line_buf_ends f rest = text_up_to f.end (f.bytes.items ++ rest)
 
--- a text as long as a counter's count if this text still comes. A counter stores no text, so it counts modulo 2 ^ 128 and shows zeros.
+-- a text as long as a counter's count if this text still comes. A counter stores no text, so it counts modulo 2 ^ 128
+-- and shows zeros.
 abbrev pub counter_ends : LengthCounter → List ℕ → List ℕ
 counter_ends c rest = replicate ((c.length + length rest) % 2 ^ 128) 0
 

@@ -36,7 +36,8 @@ pub text_step : (n : ℕ) → 10 ≤ n → decimal_text n ≡ decimal_text (n / 
 text_step n big =
     text_some n (omega arith) ∙ digits_step n (omega arith) ∙ ap (λ t. t ++ ((48 + n % 10) ∷ [])) (sym (text_some (n / 10) (omega arith)))
 
--- Induction over digits: what is true of one digit, and stays true with one more digit, is true of the digits of every number.
+-- Induction over digits: what is true of one digit, and stays true with one more digit, is true of the digits of every
+-- number.
 module _ (P : ℕ → List ℕ → Type 0) (one : (n : ℕ) → n < 10 → P n ((48 + n) ∷ []))
     (more : (n : ℕ) (ds : List ℕ) → 10 ≤ n → P (n / 10) ds → P n (ds ++ ((48 + n % 10) ∷ []))) where
   within : (turns n : ℕ) → n ≤ turns → P n (decimal_text n)

@@ -1,4 +1,5 @@
--- Texts that split in one way only: at the first element that fails a test, at the first separator, or at every separator.
+-- Texts that split in one way only: at the first element that fails a test, at the first separator, or at every
+-- separator.
 use Rattle.std.proofs.Common.{◌≡◌, ◌≢◌, ℕ, List, [], ◌∷◌, ◌++◌, Bool, true, false, refl, sym, ap, ◌∙◌, eqb, not, map}
 use Rattle.std.specs.List.{AllByRecursion, join_with_byte}
 use Rattle.std.proofs.lemmas.List.{append-nil}

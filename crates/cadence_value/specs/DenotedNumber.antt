@@ -6,7 +6,8 @@ use Rattle.cadence_value.specs.Number.{Number, number, number_text, IsDecimal, I
 use Rattle.cadence_value.specs.declared.decimal.read.ParseDecimalError.{ParseDecimalError}
 use Rattle.cadence_value.specs.declared.decimal.read.ParseDecimalError.TheVariants.{NotANumber, TooManyPlaces, TooLarge}
 
--- The text denotes the number `n`: it is the text of `mantissa` divided by 10 to the power of `places`, and `n` is the lowest form of that.
+-- The text denotes the number `n`: it is the text of `mantissa` divided by 10 to the power of `places`, and `n` is the
+-- lowest form of that.
 pub record Denotes (text : List ℕ) (n : Number) : Type 0 where
   pub mantissa : ℤ
   pub places : ℕ

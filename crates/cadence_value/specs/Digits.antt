@@ -1,4 +1,5 @@
--- The number that a sign and the digits on each side of a dot denote. `w` are the digits before the dot, `f` those after it.
+-- The number that a sign and the digits on each side of a dot denote. `w` are the digits before the dot, `f` those
+-- after it.
 use Rattle.std.specs.Prelude.{◌≡◌, ◌≢◌, ℕ, ◌+◌, ◌-◌, ◌*◌, ◌^◌, ◌<◌, ◌≤◌, Bool, true, if◌then◌else◌, List, length, slice_index, ℤ, pos}
 use Rattle.std.specs.Prelude.{neg_ℤ, Result, Ok, Err}
 use Rattle.std.specs.Int.RustNames.{FitsSigned}

@@ -14,6 +14,7 @@ Finds Has None = HasNone Has
 abbrev pub PrintsAs : {X Y : Type 0} → (X → Type 0) → (X → Y) → Y → X → Type 0
 PrintsAs Good shown y x = Good x × (shown x ≡ y)
 
--- If the reading returns a value, that value is a good one that prints as this text. If it returns none, no good value does.
+-- If the reading returns a value, that value is a good one that prints as this text. If it returns none, no good value
+-- does.
 abbrev pub Reads : {X Y : Type 0} → (X → Type 0) → (X → Y) → Y → Option X → Type 0
 Reads Good shown y r = Finds (PrintsAs Good shown y) r

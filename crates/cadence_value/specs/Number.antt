@@ -52,7 +52,8 @@ padded_digits p digits = replicate (p - length digits) 48 ++ digits
 abbrev pub places_text : ℕ → ℕ → List ℕ
 places_text n p = if p == 0 then [] else codes "." ++ padded_digits p (decimal_text (n % 10 ^ p))
 
--- the text of a number: a minus if it is below zero, the digits of the whole part, and then a dot and the places, if there are any
+-- the text of a number: a minus if it is below zero, the digits of the whole part, and then a dot and the places, if
+-- there are any
 abbrev pub number_text : Number → List ℕ
 number_text n =
     (if is_negative n.mantissa then codes "-" else []) ++ (decimal_text (unsigned_abs n.mantissa / 10 ^ n.places) ++ places_text

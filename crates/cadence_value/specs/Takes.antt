@@ -3,8 +3,9 @@ use Rattle.std.specs.Prelude.{◌≡◌, ℕ, ◌<◌, ◌^◌, List, All, ◌++
 use Rattle.std.specs.Str.{IsUtf8}
 use Rattle.cadence_value.specs.Number.{Number, IsDecimal}
 
--- The sink took the text. `ends_as sink rest` is the text that the sink ends with if `rest` still comes. Whatever comes later, the new
--- sink ends as the old one would have ended with the text and then the rest: after `ab` was taken, ends_as new "c" = ends_as old "abc".
+-- The sink took the text. `ends_as sink rest` is the text that the sink ends with if `rest` still comes. Whatever comes
+-- later, the new sink ends as the old one would have ended with the text and then the rest: after `ab` was taken,
+-- ends_as new "c" = ends_as old "abc".
 abbrev pub Takes : {S : Type 0} → (S → List ℕ → List ℕ) → S → List ℕ → S → Type 0
 Takes ends_as old text new = (rest : List ℕ) → ends_as new rest ≡ ends_as old (text ++ rest)
 
@@ -16,7 +17,8 @@ memory_limit = 2 ^ 63
 abbrev pub IsTextInMemory : List ℕ → Type 0
 IsTextInMemory text = (length text < memory_limit) × IsUtf8 text
 
--- The numbers could be those of a `MetricValue`: each could be a `Decimal`, and a list in memory has fewer than 2 ^ 64 elements.
+-- The numbers could be those of a `MetricValue`: each could be a `Decimal`, and a list in memory has fewer than 2 ^ 64
+-- elements.
 pub record AreNumbersInMemory (numbers : List Number) : Type 0 where
   pub each : All IsDecimal numbers
   pub few : length numbers < 2 ^ 64

@@ -37,16 +37,18 @@ count_in Nanosecond d = nanos_of d
 abbrev pub numbers_in_u64 : List ℕ → Option (List Number)
 numbers_in_u64 ns = if list_all (λ n. nat_lt n (2 ^ 64)) ns then Some (map natural ns) else None
 
--- What a conversion may return, given the numbers that the value has, or `None` for a value that is refused. If it has numbers, the
--- result has exactly these, or memory ran out. If it is refused, the result is an error of kind `InvalidInput`.
+-- What a conversion may return, given the numbers that the value has, or `None` for a value that is refused. If it has
+-- numbers, the result has exactly these, or memory ran out. If it is refused, the result is an error of kind
+-- `InvalidInput`.
 abbrev pub Converts : {Z : Type 0} → Option (List Number) → Result (MetricValue Z) MetricError → Type 0
 Converts (Some numbers) (Ok v) = numbers_of v ≡ numbers
 Converts (Some numbers) (Err e) = e ≡ out_of_memory
 Converts None (Ok v) = ⊥
 Converts None (Err e) = IsInvalid e
 
--- What a conversion that takes no memory may return, given the numbers that the value has, or `None` for a value that is refused. If it
--- has numbers, the result has exactly these. If it is refused, the result is an error of kind `InvalidInput`.
+-- What a conversion that takes no memory may return, given the numbers that the value has, or `None` for a value that
+-- is refused. If it has numbers, the result has exactly these. If it is refused, the result is an error of kind
+-- `InvalidInput`.
 abbrev pub ConvertsInPlace : {Z : Type 0} → Option (List Number) → Result (MetricValue Z) MetricError → Type 0
 ConvertsInPlace (Some numbers) (Ok v) = numbers_of v ≡ numbers
 ConvertsInPlace (Some numbers) (Err e) = ⊥

@@ -264,8 +264,8 @@ impl Maker {
         }
     }
 
-    // Returns whether there was memory for the constructor, and for a line and a flush after it. If the constructor fails
-    // with `OutOfMemory`, there was none.
+    // Returns whether there was memory for the constructor, and for a line and a flush after it. If the constructor
+    // fails with `OutOfMemory`, there was none.
     fn makes<R: ResolverRuntime>(
         self,
         rt: &R,

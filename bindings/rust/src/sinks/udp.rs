@@ -58,8 +58,8 @@ impl UdpMetricSinkBuilder {
     /// Makes the sink. It sends to the first address that the host has now, and after a later lookup to the first
     /// address that this lookup found. The socket keeps its settings, such as whether it blocks.
     ///
-    /// It fails with `IoError` if the host can't be looked up or no thread can be started, and with `InvalidInput` if the
-    /// host has no address.
+    /// It fails with `IoError` if the host can't be looked up or no thread can be started, and with `InvalidInput` if
+    /// the host has no address.
     pub fn build<A>(self, to_addr: A, socket: UdpSocket) -> MetricResult<UdpMetricSink>
     where
         A: ToSocketAddrs + fmt::Debug + Send + Sync + RefUnwindSafe + 'static,

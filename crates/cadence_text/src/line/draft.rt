@@ -1,7 +1,7 @@
 //! The draft of a line: the line of a metric while tags and options are added to it.
 //!
-//! Every line that the library makes is made by a draft: the line of a plain call, of a builder, of a call in a schedule,
-//! of a C call and of the words of a command line.
+//! Every line that the library makes is made by a draft: the line of a plain call, of a builder, of a call in a
+//! schedule, of a C call and of the words of a command line.
 ghost use Rattle.std.specs.Prelude.{◌≡◌, ◌+◌, ◌++◌, ◌<◌, ◌≤◌, [], IfOk, OnErr, OnOk, length};
 ghost use Rattle.std.specs.Prelude.{◌^◌, IfSome, IsUtf8, drop, take, string_bytes};
 ghost use Rattle.std.specs.Option.{option_copied};
@@ -232,8 +232,8 @@ impl<'a, A: Allocator> DraftLine<'a, A> {
         Ok(self.finish()?.into_text())
     }
 
-    /// Returns the finished line as bytes, so that a caller can use their buffer for the next line. The error is the one
-    /// of `into_text`.
+    /// Returns the finished line as bytes, so that a caller can use their buffer for the next line. The error is the
+    /// one of `into_text`.
     #[inline(always)]
     #[tactic(auto, using(crate::proofs::DraftText::line_of_metric))]
     pub fn into_bytes(self) -> Result<Vec<u8, A>, AllocError>

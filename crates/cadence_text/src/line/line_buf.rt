@@ -1,8 +1,8 @@
 //! The two sinks for the pieces of a line: a counter of bytes, which measures a line, and a buffer of the measured
 //! length, into which the line is written.
 //!
-//! A `LineSink` can't refuse a piece. So a piece that is too long for the buffer empties the buffer, and the functions that
-//! reserve its room prove that this never happens.
+//! A `LineSink` can't refuse a piece. So a piece that is too long for the buffer empties the buffer, and the functions
+//! that reserve its room prove that this never happens.
 ghost use Rattle.std.specs.Prelude.{◌≡◌, ◌≤◌, ◌+◌, ◌%◌, ◌^◌, [], IfOk, IsUtf8, OnOk, length, string_bytes};
 ghost use Rattle.std.specs.Vec.{vec_capacity};
 
