@@ -12,9 +12,9 @@ pub use cadence_text::laws::{line_reads_one_way, no_line_is_empty, packet_reads_
 pub use cadence_value::laws::decimals_equal_by_number;
 use std::alloc::Allocator;
 
-/// If a builder has the draft of a call's metric, then after one more option it has the draft of the metric of this
-/// call with the option. If the option ran out of memory, the builder has an error instead, which is right for any
-/// call.
+/// States that a builder that has the draft of a call's metric has, after one more option, the draft of the metric of
+/// this call with the option. If memory ran out for the option, the builder has an error instead, which is right for
+/// any call.
 pub fn choosing_stands_for_more()
     ensures chosen { (old new : Result Draft MetricError) (option : Choice) →
         Chooses old option new → StandsForMore old option new }
@@ -24,7 +24,7 @@ pub fn choosing_stands_for_more()
     an_option_is_chosen();
 }
 
-/// Two metrics of one kind are equal if and only if their texts are equal.
+/// States that two metrics of one kind are equal if and only if their texts are equal.
 pub fn metrics_equal_by_text<K, A: Allocator>()
     ensures { (a b : List ℕ) → IsTrue (⟦<MetricText<K, A> as PartialEq>⟧.eq a b) ↔ (a ≡ b) }
 {}

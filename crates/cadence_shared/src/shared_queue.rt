@@ -124,9 +124,9 @@ impl<T: Drop, A: Allocator + Clone> SharedQueue<T, A> {
         }
     }
 
-    // The error for a caller if the queue under the lock said that it is full. A queue without a capacity never says
-    // so. But a contract can't speak of the capacity under the lock, so this looks at the copy of it outside the lock:
-    // that is how the contracts above can promise that an unbounded queue is never full.
+    // Returns the error for a caller if the queue under the lock said that it is full. A queue without a capacity never
+    // says so. But a contract can't speak of the capacity under the lock, so this looks at the copy of it outside the
+    // lock: that is how the contracts above can promise that an unbounded queue is never full.
     #[inline(always)]
     fn fullness(&self) -> QueueError
         ensures refusal { IsQueueRefusal (error_of result) }

@@ -10,7 +10,7 @@ pub struct WorkerEnd {
     marked: Condvar,
 }
 
-// A function of its own, because the contract of `mark` can't speak of the value under the lock.
+// Sets the mark. It is a function of its own, because the contract of `mark` can't name the value under the lock.
 fn set(mark: &mut bool)
     ensures { mark.new ≡ true }
 {

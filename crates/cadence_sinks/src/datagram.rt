@@ -148,8 +148,9 @@ impl<D: DatagramSocket, R: Wait + Drop, A: Allocator> PackedSocket<D, R, A> {
     //   the same with some 20 instructions more, because it asks for free room first.
     // - They fit into an empty buffer, but `hold` still refuses them. This never happens, but no contract excludes it,
     //   because a clause of a lock can't name the capacity of the packer under it. Then `write` takes the line.
-    // - They don't fit into an empty buffer. Then `write` flushes, and sends the line alone. The function is never
-    //   inline, so that the first case of `emit` is short.
+    // - They don't fit into an empty buffer. Then `write` flushes, and sends the line alone.
+    //
+    // The function is never inline, so that the first case of `emit` is short.
     #[inline(never)]
     fn write_out(
         &self,

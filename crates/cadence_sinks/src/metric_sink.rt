@@ -8,8 +8,8 @@ use std::alloc::Allocator;
 
 /// Takes lines and sends them somewhere. A line has no newline at its end.
 ///
-/// An impl states which results a line may get and which results a flush may get. Among these there has to be `Ok(())`
-/// for a flush.
+/// An impl states which results a line may get and which results a flush may get. The results of a flush have to
+/// include `Ok(())`.
 ///
 /// ```text
 /// impl MetricSink for MySink {

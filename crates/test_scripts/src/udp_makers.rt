@@ -27,7 +27,7 @@ pub enum UdpMaker {
     QueuedClient,
 }
 
-// A period that doesn't end while the program runs, so that no later lookup takes memory.
+// Returns a period that doesn't end while the program runs, so that no later lookup takes memory.
 fn long_period() -> Duration {
     Duration::from_secs(3600)
 }

@@ -67,7 +67,7 @@ impl UdpMetricSinkBuilder {
         Ok(UdpMetricSink { outlet: UdpOutlet::new(Resolver::new(to_addr, self.period, self.errors)?, socket) })
     }
 
-    /// Has a thread look the host up again, each time that the period has passed. It ends with the sink's drop.
+    /// Lets a thread look the host up again after each period. The drop of the sink ends the thread.
     pub fn with_resolver_period(mut self, duration: Duration) -> Self {
         self.period = Some(duration);
         self
@@ -173,7 +173,7 @@ impl BufferedUdpMetricSinkBuilder {
         self
     }
 
-    /// Has a thread look the host up again, each time that the period has passed. It ends with the sink's drop.
+    /// Lets a thread look the host up again after each period. The drop of the sink ends the thread.
     pub fn with_resolver_period(mut self, duration: Duration) -> Self {
         self.outlet = self.outlet.with_resolver_period(duration);
         self

@@ -13,7 +13,7 @@ use std::hash::{DefaultHasher, Hash, Hasher};
 use std::test::Fail;
 use test_faults::{RefusingAllocator, each_refused};
 
-// A law of copies: a copy of a metric has the same text.
+// Returns a copy of a metric. Its contract is a law of copies: the copy has the same text.
 fn copy_of<K, A: Allocator + Clone>(
     metric: &MetricText<K, A>,
 ) -> Result<MetricText<K, A>, AllocError>
@@ -22,7 +22,7 @@ fn copy_of<K, A: Allocator + Clone>(
     metric.clone()
 }
 
-// A law of hashing: equal metrics leave equal hashers equal.
+// Hashes two metrics. Its contract is a law of hashing: equal metrics leave equal hashers equal.
 fn hash_both<K, A: Allocator, H: Hasher>(
     one: &MetricText<K, A>,
     other: &MetricText<K, A>,

@@ -10,14 +10,15 @@ use std::alloc::Global;
 use std::hash::{DefaultHasher, Hash, Hasher};
 use std::test::Fail;
 
-// A law of `==`: two decimals are equal if their lowest forms are.
+// Returns whether two decimals are equal. Its contract is a law of `==`: two are equal if and only if they are
+// the same number.
 fn is_same(one: &Decimal, other: &Decimal) -> bool
     ensures { IsTrue result ↔ (one.now ≡ other.now) }
 {
     one == other
 }
 
-// A law of hashing: equal decimals leave equal hashers equal.
+// Hashes two decimals. Its contract is a law of hashing: equal decimals leave equal hashers equal.
 fn hash_both<H: Hasher>(one: &Decimal, other: &Decimal, first: &mut H, second: &mut H)
     ensures { one.now ≡ other.now → first.old ≡ second.old → first.new ≡ second.new }
 {

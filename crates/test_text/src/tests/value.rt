@@ -10,7 +10,7 @@ use std::test::Fail;
 use std::time::Duration;
 use test_faults::RefusingAllocator;
 
-// A law of copies: a copy has the same numbers.
+// Returns a copy of a value. Its contract is a law of copies: the copy has the same numbers.
 fn copy_of<A: Allocator + Clone>(value: &MetricValue<A>) -> Result<MetricValue<A>, AllocError>
     ensures { IfOk result (λ copy. numbers_of copy ≡ numbers_of value.now) }
 {
