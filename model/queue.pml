@@ -74,9 +74,9 @@ byte handles = CALLERS;
 chan lent = [ROOM] of { byte };
 bool ended;
 
-/* Only the checks read these: the accepted texts that were neither handed on nor dropped, in the order in which they
-   were accepted; how many offers returned that their text was accepted; how many texts were handed on; and how many
-   calls have changed the queue and not returned yet. */
+/* What only the checks read: the accepted texts that were neither handed on nor dropped, in the order in which they were
+   accepted; how many offers answered that they were accepted; how many texts were handed on; and how many calls have
+   changed the queue and not returned yet. */
 chan owed = [TEXTS] of { byte };
 byte accepted, handed, under_way;
 
@@ -222,8 +222,7 @@ hidden byte each;
 #define NOTIFICATIONS(condvar) notifications[condvar - CHANGED]
 #define SLEEPERS(condvar) sleepers[condvar - CHANGED]
 
-/* The thread doesn't fall asleep if there was a notification after it read the number of notifications, which it did
-   under the lock. */
+/* The thread doesn't fall asleep if there was a notification since it noted their number, which it did under the lock. */
 inline WAIT(condvar, lock) {
 #if FAULT == 9
   UNLOCK(lock);

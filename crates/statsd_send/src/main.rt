@@ -129,7 +129,7 @@ fn send(rt: &HostRuntime, options: &Options<'_, Global>, words: &[&str]) -> Exit
     }
 }
 
-// Returns the pace of the option `--flush-every`, if it is set. The error is that memory ran out for a clock.
+// Returns the pace of the option `--flush-every`, if it is set. A clock takes memory.
 fn asked_pace(
     rt: &HostRuntime,
     options: &Options<'_, Global>,
