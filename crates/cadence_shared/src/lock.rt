@@ -4,12 +4,12 @@
 //! are three ways to take one:
 //!
 //! - `acquire` tries the lock, and spins and tries again, before it sleeps. The calls that a service makes for each
-//!   metric take the lock in this way (a sink's `emit`, the queue's `submit`, `offer` and `try_take`, and the counts of
-//!   a socket), because a sleeper has to be woken by the thread that holds the lock, which costs both of them more than
-//!   a short wait.
-//! - `lock.lock(rt)` sleeps at once if the lock is held. The calls that are not in a hurry take it in this way: a
-//!   flush, a stop, a change of the handles, a reading of the queue's counts, and a worker that is about to sleep
-//!   anyway.
+//!   metric take the lock in this way (the `emit` of a buffered sink over a socket, the queue's `submit`, `offer` and
+//!   `try_take`, and the counts of a socket), because a sleeper has to be woken by the thread that has the lock, which
+//!   costs both of them more than a short wait.
+//! - `lock.lock(rt)` sleeps at once if another thread has the lock. The calls that are not in a hurry take it in this
+//!   way: a flush, a stop, a change of the handles, a reading of the queue's counts, a worker that is about to sleep
+//!   anyway, and the buffered sink for tests.
 //! - `lock.try_lock()` alone is how the worker looks for texts: it never sleeps for the lock (`SharedQueue::look`).
 //!
 //! The numbers here were chosen by measurement, and no contract speaks of them.

@@ -121,16 +121,14 @@ impl<D: DatagramSocket, R: Wait + Drop, A: Allocator> PackedSocket<D, R, A> {
     /// Buffers or sends the line of a metric, under the lock. There are three cases:
     ///
     /// 1. The line and its newline fit into the free room of the buffer. They are held, and nothing is sent.
-    /// 2. They don't fit into the free room, but they fit into an empty buffer. The held text is sent, and then they
-    ///    are held.
+    /// 2. They fit into an empty buffer, but not into the free room. The held text is sent, and then they are held.
     /// 3. They don't fit into an empty buffer. The held text is sent, and then the line alone, without the newline.
     ///
     /// Returns the line's length, or in the third case how many bytes of the line the socket took. After an error the
     /// result is `None`, and nothing of the line is held. The error in `fault` is the socket's, or `NothingWritten` if
     /// the socket took 0 bytes of the held text.
     // The function is forced inline, because most lines are the first case, and a call would take some 23 instructions
-    // more. A wide result would take 17 more, even though the function is inline, because the sink's own `emit` copies
-    // it.
+    // more. A wide result would take 17 more even then, because the sink's own `emit` copies it.
     #[inline(always)]
     pub fn emit(&self, metric: &str, fault: &mut SinkError) -> Option<usize>
         ensures { IsBufferedAnswer D.may_give (buffer_of self.now)
@@ -143,14 +141,13 @@ impl<D: DatagramSocket, R: Wait + Drop, A: Allocator> PackedSocket<D, R, A> {
         self.write_out(lines, metric, fault)
     }
 
-    // Takes a line that doesn't fit into the free room of the buffer, and then frees the lock. There are three cases:
+    // Takes a line that doesn't fit into the free room of the buffer, and then frees the lock. The function is never
+    // inline, so that the first case of `emit` is short. There are three cases:
     // - The line and its newline fit into an empty buffer, and after the flush they are held. `write` alone would do
     //   the same with some 20 instructions more, because it asks for free room first.
     // - They fit into an empty buffer, but `hold` still refuses them. This never happens, but no contract excludes it,
     //   because a clause of a lock can't name the capacity of the packer under it. Then `write` takes the line.
     // - They don't fit into an empty buffer. Then `write` flushes, and sends the line alone.
-    //
-    // The function is never inline, so that the first case of `emit` is short.
     #[inline(never)]
     fn write_out(
         &self,
