@@ -91,7 +91,7 @@ module _ {W A : Type 0} (kind_of : W → WriterKind) (history_of : W → PacketH
         run_after lines filled kind _ format _ queue _ policy _ before (state_of inner begun) ended turns kind_is
         (ap (λ p. p.format) start.packer_is) (ap (λ q. q.capacity) start.queue_is) (ap (λ q. q.policy) start.queue_is) began short runs
 
-    -- The headline holds of a whole run.
+    -- the headline
     pub has_headline : LeastPackets
         → HasHeadline history_of (given_of kind_of history_of settings capacity ending queue policy steps writer) (outcome_after run replies)
     has_headline least = record {
@@ -113,7 +113,7 @@ module _ {W A : Type 0} (kind_of : W → WriterKind) (history_of : W → PacketH
           record { tight = tight; fewest = least _ _ _ _ tight };
     }
 
-    -- What is promised beside the headline holds of a whole run.
+    -- what is promised beside it
     pub is_accounted : PacketsReadOneWay → All IsRepresentable (accepted (metric_of_data settings) turns)
         → run.packer.writer.stats.bytes_sent < 2 ^ 64 → run.packer.writer.stats.packets_sent < 2 ^ 64
         → IsAccounted history_of (given_of kind_of history_of settings capacity ending queue policy steps writer) (outcome_after run replies)
