@@ -6,7 +6,7 @@ use Rattle.std.specs.List.{concat}
 use Rattle.cadence_errors.specs.declared.SinkError.{SinkError}
 use Rattle.cadence_flow.specs.Writer.{PacketHistory, WriterKind, RefusedNothing, Sends, Extends}
 use Rattle.cadence_flow.specs.Frame.{held_packet}
-use Rattle.cadence_flow.specs.Packer.{Flushes, HasCause, whole_text}
+use Rattle.cadence_flow.specs.Packer.{Flushes, HasCause, PackerState, whole_text}
 use Rattle.cadence_flow.proofs.Histories.{Sends-joined, SendsThen-joined, Sends-Extends, SendsThen-Extends}
 
 -- If the first `sent` bytes are taken, the length of the text minus that of the rest is `sent`.
@@ -14,8 +14,16 @@ taken_is : (held : List ℕ) (sent : ℕ) → sent ≤ length held → length he
 taken_is held sent h = omega (arith, length-drop sent held)
 
 module _ (kind : WriterKind) (old new : PacketHistory) (held : List ℕ) (sent : ℕ) where
+  -- the packer before the flush
+  abbrev before : PackerState
+  before = record { history = old; held = held }
+
+  -- the packer after it
+  abbrev after : PackerState
+  after = record { history = new; held = drop sent held }
+
   -- The packets afterwards and the rest together are the packets before and the held text.
-  joined_text : concat new.packets ≡ concat old.packets ++ take sent held → whole_text new (drop sent held) ≡ whole_text old held
+  joined_text : concat new.packets ≡ concat old.packets ++ take sent held → whole_text after ≡ whole_text before
   joined_text e =
       ap (λ (l : List ℕ). l ++ drop sent held) e ∙ append_assoc (concat old.packets) (take sent held) (drop sent held)
       ∙ ap (λ (l : List ℕ). concat old.packets ++ l) (take-append-drop sent held)
@@ -37,7 +45,7 @@ module _ (kind : WriterKind) (old new : PacketHistory) (held : List ℕ) (sent :
       → OnOk r (RefusedNothing old new) → (kind.tells ≡ true → OnOk r (Sends old new held))
       → IfErr r (HasCause kind old new (take sent held) (drop sent held))
       → (kind.tells ≡ true → kind.takes_whole ≡ true → 0 < length held → OnOk r (new.packets ≡ old.packets ++ held ∷ []))
-      → (kind.takes_whole ≡ true → OnErr r ((sent ≡ 0) × (new.packets ≡ old.packets))) → Flushes kind old new held (drop sent held) r
+      → (kind.takes_whole ≡ true → OnErr r ((sent ≡ 0) × (new.packets ≡ old.packets))) → Flushes kind before after r
   Flushes-sent (Ok u) some all left kept sends cause one none =
       record {
         empties = drop_all sent held (omega arith);

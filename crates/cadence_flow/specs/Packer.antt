@@ -48,9 +48,18 @@ Fits p line = length p.held + size_of p.format line ≤ p.format.capacity
 abbrev pub with_line_held : {W : Type 0} → Packer W → List ℕ → Packer W
 with_line_held p line = with_held p (p.held ++ (line ++ p.format.ending))
 
+-- what the calls of a packer change: the history of its writer, and the held text
+pub record PackerState : Type 0 where
+  pub history : PacketHistory
+  pub held : List ℕ
+
+-- the state of a packer, if this is how a writer shows its history
+abbrev pub state_of : {W : Type 0} → (W → PacketHistory) → Packer W → PackerState
+state_of history p = record { history = history p.writer; held = p.held }
+
 -- all text that a packer was given: the packets that its writer took, joined, and then the held text
-abbrev pub whole_text : PacketHistory → List ℕ → List ℕ
-whole_text h held = concat h.packets ++ held
+abbrev pub whole_text : PackerState → List ℕ
+whole_text s = concat s.history.packets ++ s.held
 
 -- what a write with this result adds to that text: the line's frame, as far as it was accepted, or nothing after an
 -- error
@@ -89,60 +98,79 @@ pub record IsNotWritten (kind : WriterKind) (old new : PacketHistory) (before : 
 abbrev pub HasCause : WriterKind → PacketHistory → PacketHistory → List ℕ → List ℕ → SinkError → Type 0
 HasCause kind old new before offered e = IsRefused kind old new before offered e ⊎ IsNotWritten kind old new before e
 
--- What a flush does. `old` and `new` are the writer's history before and after it; `held` is the held text before it,
--- and `rest` the held text after it.
-pub record Flushes {A : Type 0} (kind : WriterKind) (old new : PacketHistory) (held rest : List ℕ) (result : Result A SinkError) : Type 0 where
+-- What a flush does, by the state of the packer before and after it.
+pub record Flushes {A : Type 0} (kind : WriterKind) (old new : PackerState) (result : Result A SinkError) : Type 0 where
   -- after `Ok` nothing is held; after an error an end of the held text is left, which isn't empty
-  pub empties : OnOk result (rest ≡ [])
-  pub keeps_end : OnErr result ((0 < length rest) × IsEndOf held rest)
+  pub empties : OnOk result (new.held ≡ [])
+  pub keeps_end : OnErr result ((0 < length new.held) × IsEndOf old.held new.held)
   -- if nothing is held, nothing is written
-  pub idle : held ≡ [] → IsOk result × (new ≡ old)
+  pub idle : old.held ≡ [] → IsOk result × (new.history ≡ old.history)
   -- after `Ok` nothing was refused, and an error has a cause
-  pub none_refused : OnOk result (RefusedNothing old new)
-  pub cause : IfErr result (HasCause kind old new (taken_of held rest) rest)
+  pub none_refused : OnOk result (RefusedNothing old.history new.history)
+  pub cause : IfErr result (HasCause kind old.history new.history (taken_of old.held new.held) new.held)
   -- no byte is lost, added or moved, and no packet is empty
-  pub text : WhenItTells kind (whole_text new rest ≡ whole_text old held)
-  pub extends : WhenItTells kind (Extends old new)
-  pub sent : WhenItTells kind (OnOk result (Sends old new held))
+  pub text : WhenItTells kind (whole_text new ≡ whole_text old)
+  pub extends : WhenItTells kind (Extends old.history new.history)
+  pub sent : WhenItTells kind (OnOk result (Sends old.history new.history old.held))
   -- a writer that takes whole gets the held text as one packet, or refuses it, and then nothing has changed
-  pub one_packet : WhenItTells kind (WhenItTakesWhole kind (OnOk result (new.packets ≡ old.packets ++ held_packet held)))
-  pub unchanged : WhenItTakesWhole kind (OnErr result ((rest ≡ held) × (new.packets ≡ old.packets)))
+  pub one_packet : WhenItTells kind (WhenItTakesWhole kind
+      (OnOk result (new.history.packets ≡ old.history.packets ++ held_packet old.held)))
+  pub unchanged : WhenItTakesWhole kind
+      (OnErr result ((new.held ≡ old.held) × (new.history.packets ≡ old.history.packets)))
 
--- What writing a line does. A line that fits is held. If it doesn't fit, the held text goes first: the call flushes,
--- and then holds the line. An oversize line goes out alone: the call flushes, and then offers the line once, without
--- its ending. `old` and `new` are the writer's history before and after the call; `held` is the held text before it,
--- and `rest` the held text after it.
-pub record Writes (kind : WriterKind) (format : Format) (old new : PacketHistory) (held rest line : List ℕ)
-    (result : Result ℕ SinkError) : Type 0 where
-  -- the result is the line's length; of an oversize line it is how many of its first bytes the writer took
-  pub count : IfOk result (λ n. n ≤ length line)
-  pub counts_line : WhenNotOversize format line (IfOk result (λ n. n ≡ length line))
-  pub counts_whole : WhenItTakesWhole kind (IfOk result (λ n. n ≡ length line))
-  -- a line that fits is held with its ending, and nothing is written
-  pub fits : WhenItFits format held line
-      ((result ≡ Ok (length line)) × (new ≡ old) × (rest ≡ held ++ (line ++ format.ending)))
-  -- what is held afterwards if the held text went first, after an oversize line, and after an error
-  pub begins : WhenHeldGoesFirst format held line (OnOk result (rest ≡ line ++ format.ending))
-  pub empties : WhenOversize format line (OnOk result (rest ≡ []))
-  pub keeps_end : OnErr result (IsEndOf held rest)
-  pub keeps_some : WhenNotOversize format line (OnErr result (0 < length rest))
-  -- after `Ok` nothing was refused, and an error has a cause
-  pub none_refused : OnOk result (RefusedNothing old new)
-  pub cause : IfErr result (HasCause kind old new (taken_of held rest) (rest_or rest line))
+-- What a write returns: the length of the line, or how many first bytes of an oversize line the writer took.
+pub record ReturnsCount (kind : WriterKind) (format : Format) (line : List ℕ) (result : Result ℕ SinkError) : Type 0 where
+  pub within : IfOk result (λ n. n ≤ length line)
+  pub not_oversize : WhenNotOversize format line (IfOk result (λ n. n ≡ length line))
+  pub takes_whole : WhenItTakesWhole kind (IfOk result (λ n. n ≡ length line))
+
+-- The line is held with its ending, behind the held text. Nothing is written.
+pub record HoldsBehind (format : Format) (old new : PackerState) (line : List ℕ) (result : Result ℕ SinkError) : Type 0 where
+  pub count : result ≡ Ok (length line)
+  pub history : new.history ≡ old.history
+  pub held : new.held ≡ old.held ++ (line ++ format.ending)
+
+-- The held text is sent, and then the line is held with its ending. A writer that takes whole gets one packet.
+pub record SendsHeld (kind : WriterKind) (format : Format) (old new : PackerState) (line : List ℕ) : Type 0 where
+  pub held : new.held ≡ line ++ format.ending
+  pub sent : WhenItTells kind (Sends old.history new.history old.held)
+  pub one_packet : WhenItTells kind (WhenItTakesWhole kind
+      (new.history.packets ≡ old.history.packets ++ held_packet old.held))
+
+-- The held text is sent, and then the line alone, of which the writer takes the first n bytes. Nothing is held. A writer
+-- that takes whole gets the held text as one packet, and the line as another.
+pub record SendsAlone (kind : WriterKind) (old new : PackerState) (line : List ℕ) (n : ℕ) : Type 0 where
+  pub held : new.held ≡ []
+  pub sent : WhenItTells kind (SendsThen old.history new.history old.held (take n line))
+  pub two_packets : WhenItTells kind (WhenItTakesWhole kind
+      (new.history.packets ≡ (old.history.packets ++ held_packet old.held) ++ line ∷ []))
+
+-- The write failed, and nothing of the line is held. An end of the held text is left; only an oversize line is refused
+-- with nothing held. If the writer takes whole, the held text was sent or it was refused.
+pub record FailsToWrite (kind : WriterKind) (format : Format) (old new : PackerState) (line : List ℕ) (e : SinkError) : Type 0 where
+  pub keeps_end : IsEndOf old.held new.held
+  pub keeps_some : WhenNotOversize format line (0 < length new.held)
+  pub cause : HasCause kind old.history new.history (taken_of old.held new.held) (rest_or new.held line) e
+  pub sent : WhenItTells kind (WhenItTakesWhole kind
+      (new.held ≡ [] → new.history.packets ≡ old.history.packets ++ held_packet old.held))
+  pub refused : WhenItTells kind (WhenItTakesWhole kind
+      (0 < length new.held → (new.held ≡ old.held) × (new.history.packets ≡ old.history.packets)))
+
+-- What writing a line does, by the state of the packer before and after it. A line that fits is held. If it doesn't fit,
+-- the held text goes first: the call flushes, and then holds the line. An oversize line goes out alone: the call
+-- flushes, and then offers the line once, without its ending.
+pub record Writes (kind : WriterKind) (format : Format) (old new : PackerState) (line : List ℕ) (result : Result ℕ SinkError) : Type 0 where
+  pub count : ReturnsCount kind format line result
+  -- the three cases of a line, and an error
+  pub fits : WhenItFits format old.held line (HoldsBehind format old new line result)
+  pub goes_first : WhenHeldGoesFirst format old.held line (OnOk result (SendsHeld kind format old new line))
+  pub alone : WhenOversize format line (IfOk result (SendsAlone kind old new line))
+  pub fails : IfErr result (FailsToWrite kind format old new line)
+  -- after `Ok` nothing was refused
+  pub none_refused : OnOk result (RefusedNothing old.history new.history)
   -- the text grows by the line's frame, as far as it was accepted, or by nothing after an error
-  pub text : WhenItTells kind (whole_text new rest ≡ whole_text old held ++ given_by format line result)
-  pub extends : WhenItTells kind (Extends old new)
-  -- what goes out: the held text, and after it an oversize line as one packet
-  pub sent : WhenItTells kind (WhenHeldGoesFirst format held line (OnOk result (Sends old new held)))
-  pub last : WhenItTells kind (WhenOversize format line (IfOk result (λ n. SendsThen old new held (take n line))))
-  -- a writer that takes whole gets the held text as one packet, and an oversize line as another
-  pub closes : WhenItTells kind (WhenItTakesWhole kind (WhenHeldGoesFirst format held line
-      (OnOk result (new.packets ≡ old.packets ++ held_packet held))))
-  pub alone : WhenItTells kind (WhenItTakesWhole kind (WhenOversize format line
-      (OnOk result (new.packets ≡ (old.packets ++ held_packet held) ++ line ∷ []))))
-  -- an error of such a writer: the held text went out and the line was refused, or the held text was refused
-  pub refused : WhenItTells kind (WhenItTakesWhole kind (OnErr result
-      ((rest ≡ [] → new.packets ≡ old.packets ++ held_packet held) × (0 < length rest → (rest ≡ held) × (new.packets ≡ old.packets)))))
+  pub text : WhenItTells kind (whole_text new ≡ whole_text old ++ given_by format line result)
+  pub extends : WhenItTells kind (Extends old.history new.history)
 
 -- Making a packer returns one that holds nothing, or gives the writer back.
 pub record MakesPacker {W : Type 0} (writer : W) (capacity : ℕ) (ending : List ℕ) (result : Result (Packer W) W) : Type 0 where
@@ -156,7 +184,7 @@ pub record WritesLine {W : Type 0} (kind : W → WriterKind) (history : W → Pa
   pub same_format : new.format ≡ old.format
   -- a line that fits is held, and nothing else changes
   pub only_held : Fits old line → new ≡ with_line_held old line
-  pub writes : Writes (kind old.writer) old.format (history old.writer) (history new.writer) old.held new.held line result
+  pub writes : Writes (kind old.writer) old.format (state_of history old) (state_of history new) line result
 
 -- How a packer holds a line: it returns whether the line fits, and holds a line that does.
 pub record HoldsLine {W : Type 0} (old new : Packer W) (line : List ℕ) (result : Bool) : Type 0 where
@@ -171,7 +199,7 @@ pub record FlushesHeld {W : Type 0} {A : Type 0} (kind : W → WriterKind) (hist
   pub same_format : new.format ≡ old.format
   -- if nothing is held, nothing changes
   pub untouched : old.held ≡ [] → new ≡ old
-  pub flushes : Flushes (kind old.writer) (history old.writer) (history new.writer) old.held new.held result
+  pub flushes : Flushes (kind old.writer) (state_of history old) (state_of history new) result
 
 -- Replacing the writer returns the old writer and the held text; or it gives the new writer back, and nothing changed.
 pub record ReplacesWriter {W Z : Type 0} (old new : Packer W) (writer : W) (result : Result (W × Vec ℕ Z) W) : Type 0 where

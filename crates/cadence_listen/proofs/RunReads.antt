@@ -1,14 +1,13 @@
 -- The packets of a run over a new log are those of the metrics of its kept calls.
-use Rattle.std.proofs.Common.{◌≡◌, ℕ, true, List, [], ◌∷◌, ◌++◌, Option, Some, None, refl, sym, ap, ◌∙◌, subst, inl}
-use Rattle.std.specs.Prelude.{All, IfSome}
+use Rattle.std.proofs.Common.{◌≡◌, ℕ, true, List, [], ◌∷◌, ◌++◌, refl, sym, ap, ◌∙◌, subst, inl}
+use Rattle.std.specs.Prelude.{All}
 use Rattle.std.specs.List.{AllByRecursion, AllZip, flat_map}
-use Rattle.std.specs.Str.{IsUtf8}
 use Rattle.std.proofs.lemmas.List.{append-nil}
 use Rattle.std.proofs.lemmas.List.Concat.{flat_map-append}
 use Rattle.std.proofs.lemmas.List.Elements.{All-nil, All-from_recursion, recursion_from_All}
-use Rattle.cadence_text.specs.Metric.{Metric, Tag}
-use Rattle.cadence_text.specs.OneReading.{IsFreeOfSeparators, IsFreeTag, IsFreeText}
-use Rattle.cadence_text.specs.Representable.{IsRepresentable, IsRepresentableTag}
+use Rattle.cadence_text.specs.Metric.{Metric}
+use Rattle.cadence_text.specs.OneReading.{IsFreeOfSeparators}
+use Rattle.cadence_text.specs.Representable.{IsRepresentable}
 use Rattle.cadence_flow.specs.Frame.{held_packet}
 use Rattle.cadence_flow.specs.Log.{LogState, log_history, log_kind, new_log, has_no_short}
 use Rattle.cadence_schedule.specs.declared.steps.Step.{Step}
@@ -16,34 +15,12 @@ use Rattle.cadence_schedule.specs.Headline.{TellsWhole, packets_of}
 use Rattle.cadence_schedule.specs.Packets.{IsPacketOfOnly, ReadsAs}
 use Rattle.cadence_schedule.specs.Report.{Outcome}
 use Rattle.cadence_schedule.specs.Settings.{Settings}
-use Rattle.cadence_read.specs.Listed.{AreListed, IsListed, IsListedTag, IsListOf, IsText}
+use Rattle.cadence_read.specs.Listed.{AreListed, IsListed, IsListOf}
 use Rattle.cadence_listen.specs.RunRead.{IsNewWhole, IsRun, given_to, kept_metrics, texts_of}
-
-text_listed : (o : Option (List ℕ)) → IfSome o IsFreeText → IfSome o IsUtf8 → IfSome o IsText
-text_listed (Some t) free said = (free, said)
-text_listed None free said = tt
-
-tags_listed : (tags : List Tag) → AllByRecursion IsFreeTag tags → AllByRecursion IsRepresentableTag tags → AllByRecursion IsListedTag tags
-tags_listed [] free said = tt
-tags_listed (tag ∷ tags) (free, frees) (said, saids) =
-    (record { key = text_listed tag.key free.key said.key; text = (free.text, said.text) }, tags_listed tags frees saids)
-
--- A metric that a record can represent, and that has no separators, can be read.
-listed : (m : Metric) → IsFreeOfSeparators m → IsRepresentable m → IsListed m
-listed m free said = record {
-  name = (free.name, said.name);
-  numbers = said.numbers;
-  rate = said.rate;
-  tags =
-      All-from_recursion IsListedTag m.tags (tags_listed m.tags (recursion_from_All IsFreeTag m.tags free.tags)
-      (recursion_from_All IsRepresentableTag m.tags said.tags));
-  container = text_listed m.container free.container said.container;
-  time = said.time;
-}
 
 each_listed : (ms : List Metric) → AllByRecursion IsFreeOfSeparators ms → AllByRecursion IsRepresentable ms → AllByRecursion IsListed ms
 each_listed [] free said = tt
-each_listed (m ∷ ms) (free, frees) (said, saids) = (listed m free said, each_listed ms frees saids)
+each_listed (m ∷ ms) (free, frees) (said, saids) = (record { representable = said; free = free }, each_listed ms frees saids)
 
 split_append : {X : Type 0} (P : X → Type 0) (xs ys : List X) → AllByRecursion P (xs ++ ys) → AllByRecursion P xs × AllByRecursion P ys
 split_append P [] ys h = (tt, h)

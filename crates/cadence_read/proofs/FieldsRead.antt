@@ -18,7 +18,7 @@ use Rattle.cadence_read.specs.declared.fault.ReadFault.TheVariants.{NotMetrics, 
 use Rattle.cadence_read.specs.LineTexts.{pieces_left, tags_text}
 use Rattle.cadence_read.specs.Listed.{IsListedTag, IsText}
 use Rattle.cadence_read.specs.Reads.{FailsAs, ReadsOrFails}
-use Rattle.cadence_read.proofs.LineParts.{free_tag}
+use Rattle.cadence_read.proofs.LineParts.{key_listed, text_listed}
 use Rattle.cadence_read.proofs.Pieces.{pieces, pieces-joined, refused_at}
 
 -- If each good whole has a good part, and the part can't be read, then the whole can't be read.
@@ -35,7 +35,7 @@ hands_on Whole seen t view r e is none = rw is none
 -- A tag whose text has a colon has a key, which is the text before the first colon.
 pub tag_cut : (tag : Tag) (key text whole : List ℕ) → IsListedTag tag → All (λ b. b ≢ 58) key → whole ≡ key ++ 58 ∷ text
     → tag_text tag ≡ whole → (tag.key ≡ Some key) × (tag.text ≡ text)
-tag_cut tag key text whole good plain cut e = by_key tag.key tag.text good.key good.text (sym (key_text-keyed tag.key tag.text) ∙ e ∙ cut)
+tag_cut tag key text whole good plain cut e = by_key tag.key tag.text (key_listed tag good) (text_listed tag good) (sym (key_text-keyed tag.key tag.text) ∙ e ∙ cut)
   where
     by_key : (k : Option (List ℕ)) (s : List ℕ) → IfSome k IsText → IsText s → keyed_text k s ≡ key ++ (58 ∷ text) → (k ≡ Some key) × (s ≡ text)
     by_key (Some k) s hk hs e =
@@ -69,7 +69,7 @@ tags_pieces [] (Some text) good e = absurd cc
 tags_pieces (tag ∷ tags) None good e = absurd cc
 tags_pieces (tag ∷ tags) (Some text) good e =
     let lack =
-    each_mapped tag_text IsListedTag (Lacks 44) (λ tag g. tag_lacks tag (free_tag tag g)) (tag ∷ tags)
+    each_mapped tag_text IsListedTag (Lacks 44) (λ tag g. tag_lacks tag g.free) (tag ∷ tags)
     (recursion_from_All IsListedTag (tag ∷ tags) good) in
     let same : joined_texts (44 ∷ []) tag_text (tag ∷ tags) ≡ text = cc e in
     sym (pieces-joined 44 (tag_text tag) (map tag_text tags) lack) ∙ ap (pieces 44) (sym (joined_texts-joined 44 tag_text (tag ∷ tags)) ∙ same)

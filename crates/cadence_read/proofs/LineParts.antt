@@ -1,9 +1,10 @@
 -- The parts of a line, and the texts of its fields in them.
 use Rattle.std.proofs.Common.{◌≡◌, ◌≢◌, ℕ, List, [], ◌∷◌, ◌++◌, length, take, drop, refl, sym, ap, ap₂, ◌∙◌, subst, arith, eqb, true, false}
-use Rattle.std.proofs.Common.{Option, Some, None, codes, get_or, ◌<◌, ◌≤◌, ◌⊎◌, inl, inr}
+use Rattle.std.proofs.Common.{Option, Some, None, codes, get_or, ◌<◌, ◌^◌, ◌≤◌, ◌⊎◌, inl, inr}
 use Rattle.std.specs.Prelude.{All, IfSome}
 use Rattle.std.specs.List.{join_with_byte}
 use Rattle.std.specs.Option.{option_map}
+use Rattle.std.specs.Str.{IsUtf8}
 use lib.Pointwise.{pointwise}
 use Rattle.std.proofs.lemmas.Bool.{eq-eqb, cases_lt}
 use Rattle.std.proofs.lemmas.Bool.Decides.{Decides-eqb}
@@ -14,8 +15,9 @@ use Rattle.std.proofs.lemmas.List.Splits.{join_with_byte-slice_split, length-sli
 use Rattle.std.proofs.Math.Seq.{get_or-append_seam}
 use Rattle.cadence_text.specs.Line.{kind_text, tag_text, line_of}
 use Rattle.cadence_text.specs.Metric.{Metric, Tag}
-use Rattle.cadence_value.specs.Number.{Number, decimal_text, number_text, numbers_text}
-use Rattle.cadence_text.specs.OneReading.{IsFreeOfSeparators, IsFreeText, IsFreeTag, IsNoSeparator}
+use Rattle.cadence_value.specs.Number.{IsDecimal, Number, decimal_text, number_text, numbers_text}
+use Rattle.cadence_text.specs.OneReading.{IsFreeText, IsFreeTag, IsNoSeparator}
+use Rattle.cadence_text.specs.Representable.{IsRepresentableTag}
 use Rattle.cadence_value.proofs.SplitTexts.{Lacks, Stops, cut_at}
 use Rattle.cadence_text.proofs.LineText.{marked, parts_of, front_of, last_of, rate_part, tags_part, container_part, time_part}
 use Rattle.cadence_text.proofs.LineText.{joined_texts-joined, line_of-joined, lacks_bars}
@@ -165,20 +167,57 @@ parts_same m =
     let last : field_parts (texts_of m) ≡ last_of m = ap₂ (λ a b. a ++ b) (rate_same m.rate) (ap₂ (λ a b. a ++ b) (tags_same m.tags) later) in
     ap₂ (λ a b. a ∷ kind_text m.kind ∷ b) front last
 
--- The texts of a metric that can be read have no separators.
+-- A text that may be missing is in UTF-8 and has no separators exactly if it is both.
 free_some : (o : Option (List ℕ)) → IfSome o IsText → IfSome o IsFreeText
 free_some (Some t) h = h.0
 free_some None h = tt
 
-pub free_tag : (tag : Tag) → IsListedTag tag → IsFreeTag tag
-free_tag tag h = record { key = free_some tag.key h.key; text = h.text.0 }
+utf8_some : (o : Option (List ℕ)) → IfSome o IsText → IfSome o IsUtf8
+utf8_some (Some t) h = h.1
+utf8_some None h = tt
 
-pub free : (m : Metric) → IsListed m → IsFreeOfSeparators m
-free m h = record { name = h.name.0; tags = All-weaker IsListedTag IsFreeTag free_tag m.tags h.tags; container = free_some m.container h.container }
+text_some : (o : Option (List ℕ)) → IfSome o IsFreeText → IfSome o IsUtf8 → IfSome o IsText
+text_some (Some t) free utf8 = (free, utf8)
+text_some None free utf8 = tt
+
+-- A metric can be read if its parts can be read, and only then.
+pub listed : (m : Metric) → IsText m.name → All IsDecimal m.numbers → IfSome m.rate IsDecimal → All IsListedTag m.tags
+    → IfSome m.container IsText → IfSome m.time (λ time. time < 2 ^ 64) → IsListed m
+listed m name numbers rate tags container time = record {
+  representable = record {
+    name = name.1;
+    numbers = numbers;
+    rate = rate;
+    tags = All-weaker IsListedTag IsRepresentableTag (λ tag h. h.representable) m.tags tags;
+    container = utf8_some m.container container;
+    time = time;
+  };
+  free = record {
+    name = name.0;
+    tags = All-weaker IsListedTag IsFreeTag (λ tag h. h.free) m.tags tags;
+    container = free_some m.container container;
+  };
+}
+
+pub name_listed : (m : Metric) → IsListed m → IsText m.name
+name_listed m h = (h.free.name, h.representable.name)
+
+pub tags_listed : (m : Metric) → IsListed m → All IsListedTag m.tags
+tags_listed m h = λ k d less. record { representable = h.representable.tags k d less; free = h.free.tags k d less }
+
+pub container_listed : (m : Metric) → IsListed m → IfSome m.container IsText
+container_listed m h = text_some m.container h.free.container h.representable.container
+
+-- The key and the text of a tag that can be read.
+pub key_listed : (tag : Tag) → IsListedTag tag → IfSome tag.key IsText
+key_listed tag h = text_some tag.key h.free.key h.representable.key
+
+pub text_listed : (tag : Tag) → IsListedTag tag → IsText tag.text
+text_listed tag h = (h.free.text, h.representable.text)
 
 pub line_cut : (m : Metric) (line : List ℕ) → IsListed m → line_of m ≡ line → parts_of_texts (texts_of m) ≡ pieces 124 line
 line_cut m line h e =
-    parts_same m ∙ sym (pieces-joined 124 (front_of m) (kind_text m.kind ∷ last_of m) (lacks_bars m (free m h)))
+    parts_same m ∙ sym (pieces-joined 124 (front_of m) (kind_text m.kind ∷ last_of m) (lacks_bars m h.free))
     ∙ ap (pieces 124) (sym (line_of-joined m) ∙ e)
 
 pub line_found : (m : Metric) (line : List ℕ) → parts_of_texts (texts_of m) ≡ pieces 124 line → line_of m ≡ line
@@ -186,7 +225,7 @@ line_found m line e = line_of-joined m ∙ ap (join_with_byte 124) (sym (parts_s
 
 -- The name of a metric that can be read has no colon.
 pub name_plain : (m : Metric) → IsListed m → All (λ byte. byte ≢ 58) m.name
-name_plain m h = All-weaker IsNoSeparator (λ byte. byte ≢ 58) (λ b p. p.0) m.name h.name.0
+name_plain m h = All-weaker IsNoSeparator (λ byte. byte ≢ 58) (λ b p. p.0) m.name h.free.name
 
 -- A metric that can be read has this line exactly if its fields have these texts.
 pub line_from_texts : (m : Metric) (line : List ℕ) (t : LineTexts) → parts_of_texts t ≡ pieces 124 line → texts_of m ≡ t → line_of m ≡ line

@@ -21,7 +21,6 @@ use Rattle.cadence_read.specs.declared.fault.ReadFault.{ReadFault}
 use Rattle.cadence_read.specs.declared.fault.ReadFault.TheVariants.{NotMetrics, OutOfMemory}
 use Rattle.cadence_read.specs.Listed.{IsListed, IsListOf, ReadsPacket}
 use Rattle.cadence_read.specs.Reads.{FailsAs, ReadsOrFails}
-use Rattle.cadence_read.proofs.LineParts.{free}
 use Rattle.cadence_read.proofs.Pieces.{pieces, pieces-joined}
 
 -- Lines that each end in a newline are lines with a newline between each two, and one more newline.
@@ -45,11 +44,11 @@ packet_lines [] lines packet good whole (inl e) =
 packet_lines (m ∷ ms) lines packet good whole (inl e) =
     let same : lines ≡ join_with_byte 10 (map line_of (m ∷ ms)) = cut_last lines (join_with_byte 10 (map line_of (m ∷ ms))) (sym whole ∙ e
     ∙ lines_joined m ms) in
-    let lack = each_mapped line_of IsListed (Lacks 10) (λ m g. line_lacks m (free m g)) (m ∷ ms) (recursion_from_All IsListed (m ∷ ms) good) in
+    let lack = each_mapped line_of IsListed (Lacks 10) (λ m g. line_lacks m g.free) (m ∷ ms) (recursion_from_All IsListed (m ∷ ms) good) in
     sym (pieces-joined 10 (line_of m) (map line_of ms) lack) ∙ ap (pieces 10) (sym same)
 packet_lines ms lines packet good whole (inr (m, only, e)) =
     absurd (lacks_no 10 lines [] (subst (Lacks 10) (sym e
-    ∙ whole) (line_lacks m (free m (All-head IsListed m [] (subst (λ l. All IsListed l) only good))))))
+    ∙ whole) (line_lacks m (All-head IsListed m [] (subst (λ l. All IsListed l) only good)).free)))
 
 pub packet_found : (ms : List Metric) (lines packet : List ℕ) → packet ≡ lines ++ 10 ∷ [] → map line_of ms ≡ pieces 10 lines → IsPacketOf ms packet
 packet_found [] lines packet whole e = absurd (omega (arith, ap (λ ps. length ps) e, length-slice_split (λ b. eqb b 10) lines))
@@ -66,8 +65,8 @@ packet_alone ms packet some open_end (inr h) = h
 -- There is at most one list of metrics with this packet.
 pub list_once : (packet : List ℕ) (xs ys : List Metric) → IsListOf packet xs → IsListOf packet ys → xs ≡ ys
 list_once packet xs ys hx hy =
-    packet_once xs ys packet (All-weaker IsListed IsFreeOfSeparators free xs hx.listed)
-    (All-weaker IsListed IsFreeOfSeparators free ys hy.listed) hx.whole hy.whole
+    packet_once xs ys packet (All-weaker IsListed IsFreeOfSeparators (λ m h. h.free) xs hx.listed)
+    (All-weaker IsListed IsFreeOfSeparators (λ m h. h.free) ys hy.listed) hx.whole hy.whole
 
 -- A packet from which an end was stripped has that end. One from which it was not stripped doesn't have it.
 pub suffix_found : (packet lines mark : List ℕ) → pointwise eqb (drop (length packet - length mark) packet) mark ≡ true

@@ -1,12 +1,12 @@
 -- The metrics that can be read from a packet, and the lists of metrics of packets.
-use Rattle.std.specs.Prelude.{◌≡◌, ◌<◌, ◌^◌, ⊤, ℕ, List, All, IfSome, Result, Ok, Err, Vec}
+use Rattle.std.specs.Prelude.{◌≡◌, ⊤, ℕ, List, All, Result, Ok, Err, Vec}
 use Rattle.std.specs.List.{AllZip, flat_map}
 use Rattle.std.specs.Str.{IsUtf8}
 use Rattle.cadence_text.specs.declared.line.record.owned.OwnedMetric.{OwnedMetric}
 use Rattle.cadence_text.specs.Metric.{Metric, Tag}
-use Rattle.cadence_text.specs.OneReading.{IsFreeText, IsPacketOf}
+use Rattle.cadence_text.specs.OneReading.{IsFreeOfSeparators, IsFreeTag, IsFreeText, IsPacketOf}
 use Rattle.cadence_text.specs.Owned.{metrics_of}
-use Rattle.cadence_value.specs.Number.{IsDecimal}
+use Rattle.cadence_text.specs.Representable.{IsRepresentable, IsRepresentableTag}
 use Rattle.cadence_read.specs.declared.fault.ReadFault.{ReadFault}
 use Rattle.cadence_read.specs.declared.fault.ReadFault.TheVariants.{NotMetrics, OutOfMemory}
 
@@ -14,19 +14,15 @@ use Rattle.cadence_read.specs.declared.fault.ReadFault.TheVariants.{NotMetrics, 
 abbrev pub IsText : List ℕ → Type 0
 IsText text = IsFreeText text × IsUtf8 text
 
--- The key and the text of the tag are in UTF-8 and have no separators.
+-- Rust values can represent the tag, and its texts have no separators.
 pub record IsListedTag (tag : Tag) : Type 0 where
-  pub key : IfSome tag.key IsText
-  pub text : IsText tag.text
+  pub representable : IsRepresentableTag tag
+  pub free : IsFreeTag tag
 
--- The texts of the metric are in UTF-8 and have no separators, its numbers fit a `Decimal`, and its time fits 64 bits.
+-- Rust values can represent the metric, and its texts have no separators.
 pub record IsListed (metric : Metric) : Type 0 where
-  pub name : IsText metric.name
-  pub numbers : All IsDecimal metric.numbers
-  pub rate : IfSome metric.rate IsDecimal
-  pub tags : All IsListedTag metric.tags
-  pub container : IfSome metric.container IsText
-  pub time : IfSome metric.time (λ time. time < 2 ^ 64)
+  pub representable : IsRepresentable metric
+  pub free : IsFreeOfSeparators metric
 
 -- The metrics can be read from a packet, and this is their packet.
 pub record IsListOf (packet : List ℕ) (metrics : List Metric) : Type 0 where

@@ -17,6 +17,7 @@ use std::alloc::Allocator;
 
 // Reads the metric whose fields have these texts.
 #[inline(always)]
+#[tactic(auto, using(crate::proofs::LineParts::name_listed, crate::proofs::LineParts::tags_listed))]
 fn read_texts<A: Allocator + Clone>(
     alloc: &A,
     texts: TextsOfLine<'_>,

@@ -4,7 +4,7 @@ use Rattle.std.specs.Prelude.{◌≡◌, ◌≢◌, ℕ, ◌+◌, ◌%◌, ◌^�
 use Rattle.std.specs.Prelude.{false, length, drop}
 use Rattle.std.specs.Option.{option_to_list}
 use Rattle.cadence_flow.specs.Frame.{Format, size_of}
-use Rattle.cadence_flow.specs.Packer.{Writes, Flushes}
+use Rattle.cadence_flow.specs.Packer.{PackerState, Writes, Flushes}
 use Rattle.cadence_flow.specs.Queue.{at_capacity, drops_for_room}
 use Rattle.cadence_flow.specs.declared.queue.policy.QueuePolicy.{QueuePolicy}
 use Rattle.cadence_flow.specs.Writer.{PacketHistory, WriterKind}
@@ -35,6 +35,10 @@ pub record State : Type 0 where
   pub history : PacketHistory
   -- the text that the packer holds
   pub held : List ℕ
+
+-- the state of the packer
+abbrev pub packer_of : State → PackerState
+packer_of s = record { history = s.history; held = s.held }
 
 -- whether the packer holds text that has room for the line and its ending
 abbrev pub joins_held : Format → List ℕ → List ℕ → Bool
@@ -85,11 +89,11 @@ module _ {A : Type 0} (line_of : Call A → Option (List ℕ)) (kind : WriterKin
   Moves old (step.Take, reply.Empty) new = (old.in_hand ≡ None) × (old.waiting ≡ []) × (old.stopped ≡ false) × (new ≡ old)
   Moves old (step.Hand, reply.Nothing) new = (old.in_hand ≡ None) × (new ≡ old)
   Moves old (step.Hand, reply.Handed result) new =
-      (line : List ℕ) × (old.in_hand ≡ Some line) × Writes kind format old.history new.history old.held new.held line result
+      (line : List ℕ) × (old.in_hand ≡ Some line) × Writes kind format (packer_of old) (packer_of new) line result
       × CountsLine format old.held line result old.cut new.cut
       × (new ≡ record old { in_hand = None; cut = new.cut; history = new.history; held = new.held })
   Moves old (step.Flush, reply.Flushed result) new =
-      Flushes kind old.history new.history old.held new.held result × (new ≡ record old { history = new.history; held = new.held })
+      Flushes kind (packer_of old) (packer_of new) result × (new ≡ record old { history = new.history; held = new.held })
   Moves old (step.Stop, reply.Stopped) new = new ≡ record old { stopped = true }
   Moves old _ new = ⊥
 

@@ -11,7 +11,7 @@ use Rattle.std.proofs.lemmas.List.Elements.{All-append, All-nil, All-cons, recur
 use Rattle.std.proofs.lemmas.List.Splits.{slice_split_none, slice_split_at}
 use Rattle.cadence_errors.specs.declared.SinkError.{SinkError}
 use Rattle.cadence_flow.specs.Frame.{Format, frame, frame_of, is_oversize, stream}
-use Rattle.cadence_flow.specs.Packer.{FlushesHeld, Packer, WritesLine, given_by, whole_text}
+use Rattle.cadence_flow.specs.Packer.{FlushesHeld, Packer, WritesLine, given_by, state_of, whole_text}
 use Rattle.cadence_flow.specs.Writer.{PacketHistory, WriterKind}
 use Rattle.cadence_send.specs.Fed.{Feeds, IsOneText, with_newlines}
 use Rattle.cadence_send.specs.Sent.{AreLinesOf, Gives, SendsTexts, TakesLines, TakesTexts, texts_of}
@@ -53,7 +53,7 @@ lines_more d texts more lines others (given, zip, are) (given', zip', are') = (
 module _ {W : Type 0} (kind : W → WriterKind) (history : W → PacketHistory) where
   -- A packer that takes lines and then more lines takes all of them.
   pub takes_none : (p : Packer W) → TakesLines kind history p p []
-  takes_none p = record { same_kind = refl; same_format = refl; text = λ tells whole. sym (append-nil (whole_text (history p.writer) p.held)) }
+  takes_none p = record { same_kind = refl; same_format = refl; text = λ tells whole. sym (append-nil (whole_text (state_of history p))) }
 
   pub takes_more : (p q r : Packer W) (lines others : List (List ℕ)) → TakesLines kind history p q lines
       → TakesLines kind history q r others → TakesLines kind history p r (lines ++ others)
@@ -63,8 +63,8 @@ module _ {W : Type 0} (kind : W → WriterKind) (history : W → PacketHistory) 
     text = λ tells whole.
         k.text (ap (λ (x : WriterKind). x.tells) h.same_kind ∙ tells) (ap (λ (x : WriterKind). x.takes_whole) h.same_kind ∙ whole)
         ∙ ap₂ (λ t f. t ++ stream f others) (h.text tells whole) h.same_format
-        ∙ append_assoc (whole_text (history p.writer) p.held) (stream p.format lines) (stream p.format others)
-        ∙ ap (λ s. whole_text (history p.writer) p.held ++ s) (sym (flat_map-append (frame p.format) lines others));
+        ∙ append_assoc (whole_text (state_of history p)) (stream p.format lines) (stream p.format others)
+        ∙ ap (λ s. whole_text (state_of history p) ++ s) (sym (flat_map-append (frame p.format) lines others));
   }
 
   frame_whole : (f : Format) (line : List ℕ) (n : ℕ) → n ≡ length line → frame_of f line n ≡ frame f line
@@ -81,9 +81,9 @@ module _ {W : Type 0} (kind : W → WriterKind) (history : W → PacketHistory) 
     same_kind = h.same_kind;
     same_format = h.same_format;
     text = λ tells whole.
-        let count : n ≡ length line = subst (λ a. IfOk a (λ m. m ≡ length line)) e (h.writes.counts_whole whole) in
-        h.writes.text tells ∙ ap (λ a. whole_text (history p.writer) p.held ++ given_by p.format line a) e
-        ∙ ap (λ t. whole_text (history p.writer) p.held ++ t) (frame_whole p.format line n count ∙ sym (append-nil (frame p.format line)));
+        let count : n ≡ length line = subst (λ a. IfOk a (λ m. m ≡ length line)) e (h.writes.count.takes_whole whole) in
+        h.writes.text tells ∙ ap (λ a. whole_text (state_of history p) ++ given_by p.format line a) e
+        ∙ ap (λ t. whole_text (state_of history p) ++ t) (frame_whole p.format line n count ∙ sym (append-nil (frame p.format line)));
   }
 
   -- A flush takes no lines.
@@ -91,7 +91,7 @@ module _ {W : Type 0} (kind : W → WriterKind) (history : W → PacketHistory) 
   flush_takes p q r h = record {
     same_kind = h.same_kind;
     same_format = h.same_format;
-    text = λ tells whole. h.flushes.text tells ∙ sym (append-nil (whole_text (history p.writer) p.held));
+    text = λ tells whole. h.flushes.text tells ∙ sym (append-nil (whole_text (state_of history p)));
   }
 
   module _ {Z : Type 0} (d : Defaults Z) where

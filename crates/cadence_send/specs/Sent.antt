@@ -3,7 +3,7 @@ use Rattle.std.specs.Prelude.{[], ◌∷◌, ◌≡◌, ℕ, ◌==◌, Option, N
 use Rattle.std.specs.List.{AllZip, filter_map, slice_split}
 use Rattle.std.specs.Str.{IsUtf8}
 use Rattle.cadence_flow.specs.Frame.{stream}
-use Rattle.cadence_flow.specs.Packer.{Packer, whole_text}
+use Rattle.cadence_flow.specs.Packer.{Packer, state_of, whole_text}
 use Rattle.cadence_flow.specs.Writer.{PacketHistory, WriterKind}
 use Rattle.cadence_schedule.specs.Call.{metric_of_call, plain_call}
 use Rattle.cadence_send.specs.Asked.{AskFor, Asked, words_of}
@@ -49,7 +49,7 @@ pub record TakesLines {W : Type 0} (kind : W → WriterKind) (history : W → Pa
   pub same_kind : kind new.writer ≡ kind old.writer
   pub same_format : new.format ≡ old.format
   pub text : (kind old.writer).tells ≡ true → (kind old.writer).takes_whole ≡ true
-      → whole_text (history new.writer) new.held ≡ whole_text (history old.writer) old.held ++ stream old.format lines
+      → whole_text (state_of history new) ≡ whole_text (state_of history old) ++ stream old.format lines
 
 -- The packer took the lines of the texts that ask for a metric.
 pub record TakesTexts {W Z : Type 0} (d : Defaults Z) (kind : W → WriterKind) (history : W → PacketHistory) (old new : Packer W)

@@ -55,8 +55,8 @@ module _ {W : Type 0} (kind : W → WriterKind) (history : W → PacketHistory) 
         → MatchResult r (λ n. PackerCut new (accepted ++ (line, n) ∷ [])) (λ e. PackerCut new accepted)
     written (Ok n) w offered true over cut =
         in_format (accepted ++ (line, n) ∷ []) w.same_format
-        (write_alone old.format (offers_of old.writer) (offers_of new.writer) accepted old.held new.held line cut n over w.writes.count
-        (offered.alone over) (w.writes.empties over) (w.writes.text refl))
+        (write_alone old.format (offers_of old.writer) (offers_of new.writer) accepted old.held new.held line cut n over w.writes.count.within
+        (offered.alone over) (w.writes.alone over).held (w.writes.text refl))
     written (Err e) w offered true over cut =
         in_format accepted w.same_format
         (write_fails old.format (offers_of old.writer) (offers_of new.writer) accepted old.held new.held line cut (offered.refused over)
@@ -65,7 +65,7 @@ module _ {W : Type 0} (kind : W → WriterKind) (history : W → PacketHistory) 
         (λ more.
         in_format (accepted ++ (line, n) ∷ []) w.same_format
         (write_closes old.format (offers_of old.writer) (offers_of new.writer) accepted old.held new.held line cut n within
-        (offered.closes more within) (w.writes.begins more within) (w.writes.text refl)))
+        (offered.closes more within) (w.writes.goes_first more within).held (w.writes.text refl)))
         (λ fits.
         let is = w.only_held fits in
         in_format (accepted ++ (line, n) ∷ []) w.same_format
@@ -78,7 +78,7 @@ module _ {W : Type 0} (kind : W → WriterKind) (history : W → PacketHistory) 
         (cut_flush old.format (offers_of old.writer) (offers_of new.writer) accepted old.held new.held false cut
         (offered.closes more within) (λ no. absurd cc) (w.writes.text refl
         ∙ append-nil _)))
-        (λ fits. absurd (let no = (w.writes.fits fits).0 in cc))
+        (λ fits. absurd (let no = (w.writes.fits fits).count in cc))
         (cases_lt old.format.capacity (length old.held + size_of old.format line))
 
     module _ (r : Result ℕ SinkError) (w : WritesLine (recorded_kind kind) (recorded_history history) old new line r)

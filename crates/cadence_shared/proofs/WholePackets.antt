@@ -100,13 +100,13 @@ module _ {W : Type 0} (kind : W → WriterKind) (history : W → PacketHistory) 
     accepts : (n : ℕ) → WritesLine (recorded_kind kind) (recorded_history history) old new line (Ok n) → (over : Bool)
         → is_oversize old.format line ≡ over → PackerWhole old accepted → PackerWhole new (accepted ++ (line, n) ∷ [])
     accepts n w true over cut =
-        becomes _ _ [] w.same_format (w.writes.alone refl takes over) (w.writes.empties over)
-        (whole_alone old.format _ accepted line n over (w.writes.counts_whole takes) (whole_out old.format _ accepted old.held cut))
+        becomes _ _ [] w.same_format ((w.writes.alone over).two_packets refl takes) (w.writes.alone over).held
+        (whole_alone old.format _ accepted line n over (w.writes.count.takes_whole takes) (whole_out old.format _ accepted old.held cut))
     accepts n w false within cut =
         let frame : frame_of old.format line n ≡ line ++ old.format.ending =
         ap (λ (b : Bool). if b then take n line else line ++ old.format.ending) within in
         ⊎_elim
-        (λ more. becomes _ _ (frame_of old.format line n) w.same_format (w.writes.closes refl takes more within) (w.writes.begins more within
+        (λ more. becomes _ _ (frame_of old.format line n) w.same_format ((w.writes.goes_first more within).one_packet refl takes) ((w.writes.goes_first more within).held
         ∙ sym frame) (whole_held old.format _ accepted [] (whole_out old.format _ accepted old.held cut) line n))
         (λ fits.
         let is = w.only_held fits in
@@ -116,9 +116,9 @@ module _ {W : Type 0} (kind : W → WriterKind) (history : W → PacketHistory) 
 
     refuses : (e : SinkError) → WritesLine (recorded_kind kind) (recorded_history history) old new line (Err e) → (rest : List ℕ)
         → new.held ≡ rest → PackerWhole old accepted → PackerWhole new accepted
-    refuses e w [] is cut = becomes _ accepted [] w.same_format ((w.writes.refused refl takes).0 is) is (whole_out old.format _ accepted old.held cut)
+    refuses e w [] is cut = becomes _ accepted [] w.same_format (w.writes.fails.sent refl takes is) is (whole_out old.format _ accepted old.held cut)
     refuses e w (b ∷ rest) is cut =
-        let same = (w.writes.refused refl takes).1 (omega (arith, ap length is)) in
+        let same = w.writes.fails.refused refl takes (omega (arith, ap length is)) in
         becomes _ accepted old.held w.same_format same.1 same.0 cut
 
     wrote : (r : Result ℕ SinkError) → WritesLine (recorded_kind kind) (recorded_history history) old new line r

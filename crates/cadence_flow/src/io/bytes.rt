@@ -162,8 +162,9 @@ pub(super) fn send_held<T: PacketWriter, A: Allocator>(
 ) -> Option<()>
     requires { start.old < vec_len held.old }
     ensures same_kind { T.kind to.new ≡ T.kind to.old }
-    ensures flushes { Flushes (T.kind to.old) (T.history to.old) (T.history to.new)
-        (drop start.old held.old.items) (drop start.new held.new.items)
+    ensures flushes { Flushes (T.kind to.old)
+        (record { history = T.history to.old; held = drop start.old held.old.items })
+        (record { history = T.history to.new; held = drop start.new held.new.items })
         (ok_or result fault.new) }
     ensures offers { FlushesOffers (T.offers to.old) (T.offers to.new)
         (drop start.old held.old.items) (is_ok (ok_or result fault.new)) }

@@ -16,7 +16,7 @@ use Rattle.cadence_schedule.specs.declared.call.Call.{Call}
 use Rattle.cadence_schedule.specs.RunHistory.{Turn, takes_text, drops_text, left_count, outcome_by, handed_count, stops, is_stopped, error_count}
 use Rattle.cadence_schedule.specs.RunHistory.{is_error, accepted, accepted_by, kept, kept_counts, marks, mark_at, refusals, refusal_at}
 use Rattle.cadence_schedule.specs.Replies.{MayReply, MayReplyAfter}
-use Rattle.cadence_schedule.specs.Moves.{State, Moves, HasLast, CountsLine}
+use Rattle.cadence_schedule.specs.Moves.{State, Moves, HasLast, CountsLine, packer_of}
 use Rattle.cadence_flow.proofs.Histories.{Extends-trans}
 use Rattle.cadence_schedule.proofs.packets.ListEnds.{joined}
 use Rattle.cadence_schedule.proofs.history.OneTurnMore.{marks-push, refusals-push, replies-push, error_count-push}
@@ -26,7 +26,7 @@ use Rattle.cadence_schedule.proofs.history.QueueAndHand.{QueueAfter, SameQueue, 
 use Rattle.cadence_schedule.proofs.history.QueueAndHand.{full_hand, slice_get-is}
 use Rattle.cadence_schedule.proofs.history.CallReplies.{call_accepts, call_drops}
 use Rattle.cadence_schedule.proofs.headline.ReplyCauses.{call_reply, nothing_waits, take_reply, hand_reply, may_fail, refused_once}
-use Rattle.cadence_schedule.proofs.packets.PackerSteps.{written, refused, cut_written, cut_refused}
+use Rattle.cadence_schedule.proofs.packets.PackerSteps.{packer, written, refused, cut_written, cut_refused}
 use Rattle.cadence_schedule.specs.declared.steps.Step.TheVariants as step
 use Rattle.cadence_schedule.specs.declared.steps.Reply.TheVariants as reply
 
@@ -47,7 +47,7 @@ module _ {A : Type 0} (line_of : Call A → Option (List ℕ)) (filled : (call :
   -- After these turns, the packets, joined, and the held text are what was taken of the kept lines.
   pub record TextAfter (h : List (Turn A)) (history : PacketHistory) (held : List ℕ) : Type 0 where
     pub extends : Extends start history
-    pub text : whole_text history held ≡ concat start.packets ++ taken_stream format (kept_counts line_of h)
+    pub text : whole_text (packer history held) ≡ concat start.packets ++ taken_stream format (kept_counts line_of h)
 
   -- All of this holds after these turns.
   pub record After (h : List (Turn A)) (s : State) : Type 0 where
@@ -158,7 +158,7 @@ module _ {A : Type 0} (line_of : Call A → Option (List ℕ)) (filled : (call :
 
   text_written : (h : List (Turn A)) (line held rest : List ℕ) (n : ℕ) (old new : PacketHistory)
       → kept_counts line_of (h ++ (step.Hand, reply.Handed (Ok n)) ∷ []) ≡ kept_counts line_of h ++ (line, n) ∷ [] → kind.tells ≡ true
-      → Writes kind format old new held rest line (Ok n) → TextAfter h old held → TextAfter (h ++ (step.Hand, reply.Handed (Ok n)) ∷ []) new rest
+      → Writes kind format (packer old held) (packer new rest) line (Ok n) → TextAfter h old held → TextAfter (h ++ (step.Hand, reply.Handed (Ok n)) ∷ []) new rest
   text_written h line held rest n old new more tells w a = record {
     extends = Extends-trans start old new a.extends (w.extends tells);
     text = w.text tells ∙ ap (λ t. t ++ frame_of format line n) a.text
@@ -169,16 +169,16 @@ module _ {A : Type 0} (line_of : Call A → Option (List ℕ)) (filled : (call :
   }
 
   text_refused : (h : List (Turn A)) (line held rest : List ℕ) (e : SinkError) (old new : PacketHistory) → kind.tells ≡ true
-      → Writes kind format old new held rest line (Err e) → TextAfter h old held → TextAfter (h ++ (step.Hand, reply.Handed (Err e)) ∷ []) new rest
+      → Writes kind format (packer old held) (packer new rest) line (Err e) → TextAfter h old held → TextAfter (h ++ (step.Hand, reply.Handed (Err e)) ∷ []) new rest
   text_refused h line held rest e old new tells w a = record {
     extends = Extends-trans start old new a.extends (w.extends tells);
-    text = w.text tells ∙ append-nil (whole_text old held) ∙ a.text
+    text = w.text tells ∙ append-nil (whole_text (packer old held)) ∙ a.text
         ∙ ap (λ k. concat start.packets ++ taken_stream format k) (sym (counts_refused line_of h e));
   }
 
   text_flushed : (h : List (Turn A)) (result : Result Unit SinkError) (held rest : List ℕ) (old new : PacketHistory) → kind.tells ≡ true
       → kept_counts line_of (h ++ (step.Flush, reply.Flushed result) ∷ []) ≡ kept_counts line_of h
-      → Flushes kind old new held rest result → TextAfter h old held → TextAfter (h ++ (step.Flush, reply.Flushed result) ∷ []) new rest
+      → Flushes kind (packer old held) (packer new rest) result → TextAfter h old held → TextAfter (h ++ (step.Flush, reply.Flushed result) ∷ []) new rest
   text_flushed h result held rest old new tells same f a = record {
     extends = Extends-trans start old new a.extends (f.extends tells);
     text = f.text tells ∙ a.text ∙ ap (λ k. concat start.packets ++ taken_stream format k) (sym same);
@@ -186,7 +186,7 @@ module _ {A : Type 0} (line_of : Call A → Option (List ℕ)) (filled : (call :
 
   -- What holds is kept by a hand that returned Ok.
   hand_kept : (h : List (Turn A)) (old new : State) (n : ℕ) (line : List ℕ) → length h + 1 < 2 ^ 64 → After h old → old.in_hand ≡ Some line
-      → Writes kind format old.history new.history old.held new.held line (Ok n) → CountsLine format old.held line (Ok n) old.cut new.cut
+      → Writes kind format (packer_of old) (packer_of new) line (Ok n) → CountsLine format old.held line (Ok n) old.cut new.cut
       → After (h ++ (step.Hand, reply.Handed (Ok n)) ∷ []) (record old { in_hand = None; cut = new.cut; history = new.history; held = new.held })
   hand_kept h old new n line short a some w counts =
       let (next, text) = full_hand line_of queue h old line a.line some in
@@ -195,7 +195,7 @@ module _ {A : Type 0} (line_of : Call A → Option (List ℕ)) (filled : (call :
       record {
         replies = replies-push line_of kind.may_give kind.takes_whole format queue policy h (step.Hand, reply.Handed (Ok n)) a.replies
             (hand_reply line_of kind format queue policy h old (Some line) (reply.Handed (Ok n)) a.line some
-            (inl (n, record { within = w.count; fits = w.counts_line; whole = w.counts_whole }, refl)));
+            (inl (n, record { within = w.count.within; fits = w.count.not_oversize; whole = w.count.takes_whole }, refl)));
         line =
             queue_hand line_of queue h (step.Hand, reply.Handed (Ok n)) (Some n) line old
             (record old { in_hand = None; cut = new.cut; history = new.history; held = new.held })
@@ -228,12 +228,12 @@ module _ {A : Type 0} (line_of : Call A → Option (List ℕ)) (filled : (call :
 
   -- What holds is kept by a hand that returned an error.
   hand_refused : (h : List (Turn A)) (old new : State) (e : SinkError) (line : List ℕ) → After h old → old.in_hand ≡ Some line
-      → Writes kind format old.history new.history old.held new.held line (Err e) → CountsLine format old.held line (Err e) old.cut new.cut
+      → Writes kind format (packer_of old) (packer_of new) line (Err e) → CountsLine format old.held line (Err e) old.cut new.cut
       → After (h ++ (step.Hand, reply.Handed (Err e)) ∷ []) (record old { in_hand = None; cut = new.cut; history = new.history; held = new.held })
   hand_refused h old new e line a some w counts = record {
     replies = replies-push line_of kind.may_give kind.takes_whole format queue policy h (step.Hand, reply.Handed (Err e)) a.replies
         (hand_reply line_of kind format queue policy h old (Some line) (reply.Handed (Err e)) a.line some
-        (inr (e, may_fail line_of kind format queue policy old.history new.history _ _ e w.cause, refl)));
+        (inr (e, may_fail line_of kind format queue policy old.history new.history _ _ e w.fails.cause, refl)));
     line =
         queue_hand line_of queue h (step.Hand, reply.Handed (Err e)) None line old
         (record old { in_hand = None; cut = new.cut; history = new.history; held = new.held })
@@ -241,7 +241,7 @@ module _ {A : Type 0} (line_of : Call A → Option (List ℕ)) (filled : (call :
     text = λ tells. text_refused h line old.held new.held e old.history new.history tells w (a.text tells);
     refusals = λ whole.
         refusals_more h (step.Hand, reply.Handed (Err e)) old.history.refusals new.history.refusals refl
-        (refused_once line_of kind format queue policy old.history new.history _ _ e whole w.cause) (a.refusals whole);
+        (refused_once line_of kind format queue policy old.history new.history _ _ e whole w.fails.cause) (a.refusals whole);
     cut = λ tells whole.
         let b = a.cut tells whole in
         let (packets', since', way) =
@@ -265,7 +265,7 @@ module _ {A : Type 0} (line_of : Call A → Option (List ℕ)) (filled : (call :
 
   -- What holds is kept by a flush that returned Ok.
   flush_done : (h : List (Turn A)) (old new : State) (done : Unit) → After h old
-      → Flushes {A = Unit} kind old.history new.history old.held new.held (Ok done)
+      → Flushes {A = Unit} kind (packer_of old) (packer_of new) (Ok done)
       → After (h ++ (step.Flush, reply.Flushed (Ok done)) ∷ []) (record old { history = new.history; held = new.held })
   flush_done h old new done a f =
       let same : kept_counts line_of (h ++ (step.Flush, reply.Flushed (Ok done)) ∷ []) ≡ kept_counts line_of h =
@@ -302,7 +302,7 @@ module _ {A : Type 0} (line_of : Call A → Option (List ℕ)) (filled : (call :
 
   -- What holds is kept by a flush that returned an error.
   flush_failed : (h : List (Turn A)) (old new : State) (e : SinkError) → After h old
-      → Flushes {A = Unit} kind old.history new.history old.held new.held (Err e)
+      → Flushes {A = Unit} kind (packer_of old) (packer_of new) (Err e)
       → After (h ++ (step.Flush, reply.Flushed (Err e)) ∷ []) (record old { history = new.history; held = new.held })
   flush_failed h old new e a f =
       let same : kept_counts line_of (h ++ (step.Flush, reply.Flushed (Err e)) ∷ []) ≡ kept_counts line_of h =

@@ -6,12 +6,16 @@ use Rattle.std.proofs.lemmas.List.{append-nil, append_assoc, length-append, map-
 use Rattle.std.proofs.lemmas.Bool.{cases_lt, lt-ltb, le-ltb, le-leb, lt-leb}
 use Rattle.cadence_errors.specs.declared.SinkError.{SinkError}
 use Rattle.cadence_flow.specs.Frame.{Format, size_of, is_oversize, frame, held_packet}
-use Rattle.cadence_flow.specs.Packer.{Writes}
+use Rattle.cadence_flow.specs.Packer.{PackerState, Writes}
 use Rattle.cadence_flow.specs.Writer.{PacketHistory, WriterKind}
 use Rattle.cadence_schedule.specs.Plan.{PassesWithNext}
 use Rattle.cadence_schedule.specs.Moves.{HasLast, Counted, CountsLine, joins_held}
 use Rattle.cadence_schedule.proofs.packets.CutSoFar.{IsCutSoFar, new_group, joins_group, refuses_line, last_held, held_last, frame_within}
 use Rattle.cadence_schedule.proofs.packets.CutSoFar.{frame_past, held_packet_is, nil_front}
+
+-- the state of a packer
+abbrev pub packer : PacketHistory → List ℕ → PackerState
+packer history held = record { history = history; held = held }
 
 -- A line was written: it joins the held text; or the held text is sent first, and the line is held; or the line is
 -- oversize, and is sent after the held text.
@@ -38,19 +42,19 @@ module _ (kind : WriterKind) (format : Format) (tells : kind.tells ≡ true) (wh
   -- These lemmas are about the three ways in which a line is kept, by its size and by what is held.
   kept_nothing_held : (old new : PacketHistory) (packets : List (List ℕ)) (rest line plan plan' : List ℕ) (n : ℕ)
       → old.packets ≡ start ++ packets → size_of format line ≤ format.capacity
-      → Writes kind format old new [] rest line (Ok n) → CountsLine format [] line (Ok n) plan plan'
+      → Writes kind format (packer old []) (packer new rest) line (Ok n) → CountsLine format [] line (Ok n) plan plan'
       → (packets' : List (List ℕ)) × (new.packets ≡ start ++ packets') × Written format line plan packets [] plan' packets' rest
   kept_nothing_held old new packets rest line plan plan' n o small w counts =
-      let (answer, same, held_is) = w.fits (omega arith) in (
+      let fits = w.fits (omega arith) in (
         packets ++ [],
-        ap (λ h. h.packets) same ∙ o
+        ap (λ h. h.packets) fits.history ∙ o
             ∙ ap (λ p. start ++ p) (sym (append-nil packets)),
-        inr (inl (small, inl refl, counts (λ some. absurd (some refl)), refl, held_is)),
+        inr (inl (small, inl refl, counts (λ some. absurd (some refl)), refl, fits.held)),
       )
 
   kept_held : (old new : PacketHistory) (packets : List (List ℕ)) (b : ℕ) (bs rest line plan plan' : List ℕ) (n : ℕ)
       → old.packets ≡ start ++ packets → size_of format line ≤ format.capacity → HasLast plan
-      → Writes kind format old new (b ∷ bs) rest line (Ok n) → CountsLine format (b ∷ bs) line (Ok n) plan plan'
+      → Writes kind format (packer old (b ∷ bs)) (packer new rest) line (Ok n) → CountsLine format (b ∷ bs) line (Ok n) plan plan'
       → (packets' : List (List ℕ)) × (new.packets ≡ start ++ packets') × Written format line plan packets (b ∷ bs) plan' packets' rest
   kept_held old new packets b bs rest line plan plan' n o small last w counts =
       ⊎_elim
@@ -60,16 +64,16 @@ module _ (kind : WriterKind) (format : Format) (tells : kind.tells ≡ true) (wh
       lt-leb (length (b ∷ bs) + size_of format line) format.capacity full in
       let plan_is : plan' ≡ plan ++ 1 ∷ [] = subst (λ j. Counted j plan plan') begins (counts (λ some. last)) in (
         packets ++ held_packet (b ∷ bs),
-        closed_after start packets old.packets new.packets (b ∷ bs) o (w.closes tells whole full short),
+        closed_after start packets old.packets new.packets (b ∷ bs) o ((w.goes_first full short).one_packet tells whole),
         inr
-            (inl (small, inr full, plan_is, refl, w.begins full short)),
+            (inl (small, inr full, plan_is, refl, (w.goes_first full short).held)),
       ))
       (λ (room : length (b ∷ bs) + size_of format line ≤ format.capacity).
-      let (answer, same, held_is) = w.fits room in
+      let fits = w.fits room in
       let joins : nat_le (length (b ∷ bs) + size_of format line) format.capacity ≡ true =
       le-leb (length (b ∷ bs) + size_of format line) format.capacity room in
       let plan_is : Counted true plan plan' = subst (λ j. Counted j plan plan') joins (counts (λ some. last)) in
-      (packets, ap (λ h. h.packets) same ∙ o, inl (room, (λ none. absurd cc), plan_is, refl, held_is)))
+      (packets, ap (λ h. h.packets) fits.history ∙ o, inl (room, (λ none. absurd cc), plan_is, refl, fits.held)))
       (cases_lt format.capacity (length (b ∷ bs) + size_of format line))
 
   not_joined : (held line : List ℕ) → format.capacity < size_of format line → joins_held format held line ≡ false
@@ -78,7 +82,7 @@ module _ (kind : WriterKind) (format : Format) (tells : kind.tells ≡ true) (wh
 
   kept_oversize : (old new : PacketHistory) (packets : List (List ℕ)) (held rest line plan plan' : List ℕ) (n : ℕ)
       → old.packets ≡ start ++ packets → format.capacity < size_of format line → (held ≢ [] → HasLast plan)
-      → Writes kind format old new held rest line (Ok n) → CountsLine format held line (Ok n) plan plan'
+      → Writes kind format (packer old held) (packer new rest) line (Ok n) → CountsLine format held line (Ok n) plan plan'
       → (packets' : List (List ℕ)) × (new.packets ≡ start ++ packets') × Written format line plan packets held plan' packets' rest
   kept_oversize old new packets held rest line plan plan' n o large last w counts =
       let over : is_oversize format line ≡ true = lt-ltb format.capacity (size_of format line) large in
@@ -86,13 +90,13 @@ module _ (kind : WriterKind) (format : Format) (tells : kind.tells ≡ true) (wh
       let closed : old.packets ++ held_packet held ≡ start ++ (packets ++ held_packet held) =
       closed_after start packets old.packets (old.packets ++ held_packet held) held o refl in (
         (packets ++ held_packet held) ++ line ∷ [],
-        w.alone tells whole over ∙ ap (λ p. p ++ line ∷ []) closed ∙ append_assoc start (packets ++ held_packet held) (line ∷ []),
-        inr (inr (large, plan_is, refl, w.empties over)),
+        (w.alone over).two_packets tells whole ∙ ap (λ p. p ++ line ∷ []) closed ∙ append_assoc start (packets ++ held_packet held) (line ∷ []),
+        inr (inr (large, plan_is, refl, (w.alone over).held)),
       )
 
   pub written : (old new : PacketHistory) (packets : List (List ℕ)) (held rest line plan plan' : List ℕ) (n : ℕ)
       → old.packets ≡ start ++ packets → (held ≢ [] → HasLast plan)
-      → Writes kind format old new held rest line (Ok n) → CountsLine format held line (Ok n) plan plan'
+      → Writes kind format (packer old held) (packer new rest) line (Ok n) → CountsLine format held line (Ok n) plan plan'
       → (packets' : List (List ℕ)) × (new.packets ≡ start ++ packets') × Written format line plan packets held plan' packets' rest
   written old new packets [] rest line plan plan' n o last w counts =
       ⊎_elim
@@ -108,15 +112,15 @@ module _ (kind : WriterKind) (format : Format) (tells : kind.tells ≡ true) (wh
 
   pub refused : (old new : PacketHistory) (packets : List (List ℕ)) (held rest line plan plan' : List ℕ) (e : SinkError)
       → old.packets ≡ start ++ packets
-      → Writes kind format old new held rest line (Err e) → CountsLine format held line (Err e) plan plan'
+      → Writes kind format (packer old held) (packer new rest) line (Err e) → CountsLine format held line (Err e) plan plan'
       → (packets' : List (List ℕ)) × (new.packets ≡ start ++ packets') × Refused plan packets held plan' packets' rest
   refused old new packets held [] line plan plan' e o w counts = (
     packets ++ held_packet held,
-    closed_after start packets old.packets new.packets held o ((w.refused tells whole).0 refl),
+    closed_after start packets old.packets new.packets held o (w.fails.sent tells whole refl),
     (counts, inr (refl, refl)),
   )
   refused old new packets held (b ∷ bs) line plan plan' e o w counts =
-      let (rest_is, same) = (w.refused tells whole).1 (omega arith) in
+      let (rest_is, same) = w.fails.refused tells whole (omega arith) in
       (packets, same ∙ o, (counts, inl (refl, rest_is)))
 
 map-push : {X Y : Type 0} (f : X → Y) (xs : List X) (x : X) → map f (xs ++ x ∷ []) ≡ map f xs ++ f x ∷ []

@@ -7,7 +7,7 @@ use Rattle.cadence_read.proofs.LineParts.{line_named}
 use Rattle.cadence_read.proofs.line.read_line.Goals as goal
 
 pub returns-in_default : goal.returns-in_default
-returns-in_default g c m (good, e) = c.in_default.ensures.none m.name _ good.name.0 (line_named m c.args.line.now good e)
+returns-in_default g c m (good, e) = c.in_default.ensures.none m.name _ good.free.name (line_named m c.args.line.now good e)
 
 pub returns : goal.returns
 returns g c =

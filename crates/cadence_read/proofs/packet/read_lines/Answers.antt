@@ -22,7 +22,7 @@ returns-in_default-cut_name g c = λ metrics is.
     refused_at IsListed line_of metrics (map line_of (map metric_of_owned c.loop-left.metrics.items)) (pieces_left 10 left) later
     (pieces 10 c.args.lines.now) piece
     c.loop-left.invariant.read (ap (pieces_left 10) some ∙ first)
-    (λ m has. c.in_default-cut_name.ensures.none m.name _ has.0.name.0 (named_front 10 text m.name _ later (first
+    (λ m has. c.in_default-cut_name.ensures.none m.name _ has.0.free.name (named_front 10 text m.name _ later (first
     ∙ ap (λ p. p ∷ later) (line_named m piece has.0 has.1))))
     is.0 is.1
 

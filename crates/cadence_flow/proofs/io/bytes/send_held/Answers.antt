@@ -1,7 +1,7 @@
 use Rattle.std.proofs.Common.{◌≡◌, subst, sym, ap, ◌∙◌, ◌<◌, ◌-◌, length, length-drop, take, take_all, drop, List, ℕ, is_ok, arith, rules}
 use Rattle.std.specs.Option.{ok_or}
 use Rattle.cadence_flow.specs.Offers.{FlushesOffers}
-use Rattle.cadence_flow.specs.Packer.{Flushes}
+use Rattle.cadence_flow.specs.Packer.{Flushes, PackerState}
 use Rattle.cadence_flow.proofs.FlushOutcome.{Flushes-sent}
 use Rattle.cadence_flow.proofs.OfferedText.{offered_held}
 use Rattle.cadence_flow.proofs.io.bytes.send_held.Goals as goal
@@ -25,7 +25,9 @@ returns g c =
     let begins : begun < length c.args.held.now.items = search rules in
     let some : 0 < length offered_now = omega (arith, ap length same, length-drop begun c.args.held.now.items) in
     let sent = Flushes-sent (kind writer) old new offered_now c.send-sent.result.0 r some s.all s.left s.ok s.sent s.cause s.one_packet s.no_packet in
-    let named = subst (λ (l : List ℕ). Flushes (kind writer) old new l (drop c.send-sent.result.0 l) r) same sent in
+    let before : List ℕ → PackerState = λ l. record { history = old; held = l } in
+    let now : List ℕ → PackerState = λ l. record { history = new; held = l } in
+    let named = subst (λ (l : List ℕ). Flushes (kind writer) (before l) (now (drop c.send-sent.result.0 l)) r) same sent in
     let rest = drop c.skip_front.new.start c.skip_front.new.bytes.items in
     let untaken = drop c.send-sent.result.0 text in
     let after = offers c.send-sent.new.to in
@@ -33,7 +35,7 @@ returns g c =
     record {
       same_kind = search rules;
       flushes =
-          subst (λ (l : List ℕ). Flushes (kind writer) old new text l r) {x = untaken} {y = rest}
+          subst (λ (l : List ℕ). Flushes (kind writer) (before text) (now l) r) {x = untaken} {y = rest}
           (sym {A = List ℕ} {a = rest} {b = untaken} c.skip_front.ensures.rest) named;
       offers = subst (λ (l : List ℕ). FlushesOffers (offers writer) after l (is_ok r)) same offered;
       start = search rules;
