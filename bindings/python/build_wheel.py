@@ -28,7 +28,7 @@ def library():
             return path
     told = f"CADENCE_LIB is {named}" if named else "CADENCE_LIB is not set"
     sys.exit(f"statsd-proved: libcadence_c.a is not in ../../lib, and {told}: set CADENCE_LIB to the folder that it is in, "
-             "as in CADENCE_LIB=/opt/cadence_c-1.8.0/lib")
+             "as in CADENCE_LIB=/opt/cadence_c-0.7.0/lib")
 
 
 def header():

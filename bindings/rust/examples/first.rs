@@ -1,4 +1,4 @@
-// Cargo.toml: cadence = { path = "cadence_c-1.8.0/bindings/rust" } (the build finds the library in the same archive)
+// Cargo.toml: cadence = { path = "cadence_c-0.7.0/bindings/rust" } (the build finds the library in the same archive)
 use cadence::prelude::*;
 use cadence::{BufferedUdpMetricSink, StatsdClient};
 

@@ -40,7 +40,7 @@ Status: 0 sent, 1 input or sending failed, 2 words or lines that can't be read, 
 As in: tail -f log | statsd_send --flush-every 0
 ";
 
-const VERSION: &str = "statsd_send 1.8.0\n";
+const VERSION: &str = "statsd_send 0.7.0\n";
 
 fn main(rt: HostRuntime) -> ExitCode {
     let mut words = Vec::new(rt.alloc());
