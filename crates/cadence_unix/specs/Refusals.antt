@@ -1,7 +1,7 @@
 -- Why a packet is not sent to a path, and why a Unix socket, or a sink or a client over one, is not made.
 use Rattle.std.specs.Prelude.{◌≡◌, ℕ, List, None, IsSome}
 use Rattle.std.specs.IoError.{error_kind, raw_os_error}
-use Rattle.std.specs.declared.io.kind.ErrorKind.TheVariants as io_kind
+use Rattle.std.specs.declared.io.ErrorKind.TheVariants as io_kind
 use Rattle.cadence_errors.specs.declared.ErrorKind.TheVariants as kind
 use Rattle.cadence_errors.specs.declared.MetricError.{MetricError}
 use Rattle.cadence_errors.specs.declared.MetricError.TheVariants.{Sink, Described}
