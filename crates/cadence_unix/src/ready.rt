@@ -1,4 +1,5 @@
-//! Clients and sinks over a Unix socket of their own, made from a runtime, an allocator and a path.
+//! Clients and sinks over a Unix socket of their own, made from a runtime, an allocator and a path. Each function tests the
+//! path before it asks for memory.
 ghost use Rattle.std.specs.Prelude.{◌≡◌, IfOk, IfErr};
 ghost use Rattle.cadence.specs.Shown.{settings_of_client, sink_of_client};
 ghost use Rattle.cadence_schedule.specs.Settings.{settings_of};
@@ -98,6 +99,7 @@ pub fn queued_unix_sink_with<
     ensures fits { IfOk result (λ _. IsPath path.now) }
     ensures refused { IfErr result (IsUnixRefusal path.now) }
 {
+    check_path(path)?;
     let sink = buffered_unix_sink(rt, alloc.clone()?, path, capacity)?;
     settings.build(rt.clone()?, alloc, sink)
 }
@@ -142,6 +144,7 @@ pub fn unix_client<R: Net + Wait + Clone + Drop, A: Allocator + Clone>(
     ensures fits { IfOk result (λ _. IsPath path.now) }
     ensures refused { IfErr result (IsUnixRefusal path.now) }
 {
+    check_path(path)?;
     let sink = unix_sink(rt, alloc.clone()?, path)?;
     StatsdClient::from_sink(alloc, prefix, sink)
 }
@@ -160,6 +163,7 @@ pub fn buffered_unix_client<R: Net + Wait + Clone + Drop, A: Allocator + Clone>(
     ensures fits { IfOk result (λ _. IsPath path.now) }
     ensures refused { IfErr result (IsUnixRefusal path.now) }
 {
+    check_path(path)?;
     let sink = buffered_unix_sink(rt, alloc.clone()?, path, capacity)?;
     StatsdClient::from_sink(alloc, prefix, sink)
 }
@@ -185,6 +189,7 @@ pub fn queued_unix_client<
     ensures fits { IfOk result (λ _. IsPath path.now) }
     ensures refused { IfErr result (IsUnixRefusal path.now) }
 {
+    check_path(path)?;
     let sink = queued_unix_sink(rt, alloc.clone()?, path, capacity, lines)?;
     StatsdClient::from_sink(alloc, prefix, sink)
 }
