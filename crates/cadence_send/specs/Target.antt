@@ -30,7 +30,7 @@ IsPlace (Unix path) = 0 < length path.now
 
 -- The text says this place: a host and a port, or `unix:` and a path that is not empty.
 abbrev pub SaysDestination : List ℕ → Destination → Type 0
-SaysDestination text (Host host) = (host.now ≡ text) × IsTarget text
+SaysDestination text (Host host) = (host.now ≡ text) × IsTarget host.now
 SaysDestination text (Unix path) = (text ≡ codes "unix:" ++ path.now) × (0 < length path.now)
 
 -- If the options have a place, it is a host and a port, or a path that is not empty.

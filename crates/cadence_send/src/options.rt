@@ -137,7 +137,8 @@ pub fn read_port(text: &str) -> Option<u16>
 
 // Reads HOST:PORT.
 fn read_target(value: &str) -> Option<&str>
-    ensures { IfSome result (λ text. IsTarget text.now) }
+    ensures target { IfSome result (λ text. IsTarget text.now) }
+    ensures same { IfSome result (λ text. text.now ≡ value.now) }
 {
     if let Some((host, port)) = value.rsplit_once(':') {
         if !host.is_empty() && read_port(port).is_some() {
