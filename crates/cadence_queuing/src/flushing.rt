@@ -131,11 +131,7 @@ fn start_flushes<
     let flushes = Flushes {
         rt: rt.clone()?,
         shared: shared.clone()?,
-        period: if period < shortest {
-            shortest
-        } else {
-            period
-        },
+        period: if period < shortest { shortest } else { period },
     };
     start(&rt, flushes, handler)?;
     Ok(FlushingMetricSink { rt, shared })

@@ -43,12 +43,9 @@ impl WorkerEnd {
     /// Waits until the mark is set, but at most for this time. Returns whether the mark is set. If the clock can't be
     /// read, it doesn't wait.
     pub fn wait_within<R: Wait + Clock>(&self, rt: &R, time: Duration) -> bool {
-        let (_ended, outcome) = self.marked.wait_timeout_while(
-            rt,
-            self.ended.lock(rt),
-            time,
-            |ended| !*ended,
-        );
+        let (_ended, outcome) = self
+            .marked
+            .wait_timeout_while(rt, self.ended.lock(rt), time, |ended| !*ended);
         !outcome.timed_out()
     }
 }

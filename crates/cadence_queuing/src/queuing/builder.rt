@@ -190,9 +190,11 @@ impl<A: Allocator + Clone + Send + Sync + 'static> FlushingQueueBuilder<A> {
         ensures refused { IfErr result IsQueuingRefusal }
     {
         let FlushingQueueBuilder { settings, period } = self;
-        let sink = make_sink(rt, alloc, sink, (settings.capacity, settings.policy, Some(period)))?;
+        let wanted = (settings.capacity, settings.policy, Some(period));
+        let sink = make_sink(rt, alloc, sink, wanted)?;
         let worker = make_worker(&sink)?;
-        start(&sink.rt, FlushingWorker { worker, period }, settings.handler)?;
+        let worker = FlushingWorker { worker, period };
+        start(&sink.rt, worker, settings.handler)?;
         Ok(sink)
     }
 }

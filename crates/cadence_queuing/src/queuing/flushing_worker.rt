@@ -20,7 +20,12 @@ struct FlushingWorklist<'a, S: MetricSink, R: Wait + Clock + Drop, A: Allocator>
     timer: FlushTimer,
 }
 
-impl<'a, S: MetricSink, R: Wait + Clock + Drop, A: Allocator + Clone> FlushingWorklist<'a, S, R, A> {
+impl<'a, S: MetricSink, R: Wait + Clock + Drop, A: Allocator + Clone> FlushingWorklist<
+    'a,
+    S,
+    R,
+    A,
+> {
     // Flushes the sink, and gives an error to the handler. The held text stays in the sink after an error, and the
     // flush is still owed.
     fn flush(&mut self)
