@@ -20,12 +20,7 @@ struct FlushingWorklist<'a, S: MetricSink, R: Wait + Clock + Drop, A: Allocator>
     timer: FlushTimer,
 }
 
-impl<'a, S: MetricSink, R: Wait + Clock + Drop, A: Allocator + Clone> FlushingWorklist<
-    'a,
-    S,
-    R,
-    A,
-> {
+impl<S: MetricSink, R: Wait + Clock + Drop, A: Allocator + Clone> FlushingWorklist<'_, S, R, A> {
     // Flushes the sink, and gives an error to the handler. The held text stays in the sink after an error, and the
     // flush is still owed.
     fn flush(&mut self)
@@ -81,8 +76,8 @@ impl<'a, S: MetricSink, R: Wait + Clock + Drop, A: Allocator + Clone> FlushingWo
     }
 }
 
-impl<'a, S: MetricSink, R: Wait + Clock + Drop, A: Allocator + Clone> Worklist
-    for FlushingWorklist<'a, S, R, A> {
+impl<S: MetricSink, R: Wait + Clock + Drop, A: Allocator + Clone> Worklist
+    for FlushingWorklist<'_, S, R, A> {
     type Text = String<A>;
 
     ghost given = { λ w. given_by w.lines.taker };

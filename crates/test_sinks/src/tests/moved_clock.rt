@@ -22,6 +22,8 @@ pub struct Stage {
     pub now: AtomicU64,
     /// How often the clock was read.
     pub readings: AtomicU64,
+    /// How often it had been read when the sink was last flushed.
+    pub readings_at_flush: AtomicU64,
     /// Whether the clock can't be read.
     pub is_broken: AtomicBool,
     /// By how many milliseconds each line moves the clock.
@@ -84,8 +86,13 @@ impl<R: Wait + Drop> MetricSink for NotingSink<R> {
     }
 
     fn flush(&self) -> Result<(), SinkError> {
+        let refuses = self.stage.refuses.load(Ordering::SeqCst);
+        let readings = self.stage.readings.load(Ordering::SeqCst);
+        self.stage
+            .readings_at_flush
+            .store(readings, Ordering::SeqCst);
         let _ = self.notes.emit("flush");
-        if self.stage.refuses.load(Ordering::SeqCst) {
+        if refuses {
             return Err(SinkError::PacketRefused);
         }
         Ok(())
@@ -115,6 +122,7 @@ fn new_stage() -> Stage {
     Stage {
         now: AtomicU64::new(0),
         readings: AtomicU64::new(0),
+        readings_at_flush: AtomicU64::new(0),
         is_broken: AtomicBool::new(false),
         step: AtomicU64::new(0),
         refuses: AtomicBool::new(false),
@@ -219,17 +227,19 @@ impl<R: Runtime + Clock> Watch<R> {
         Ok(())
     }
 
-    /// Asserts that in 60 milliseconds nothing is noted, and that the clock is read once at most, after 20 more.
+    /// Waits until the worker has read the clock after its last flush. Asserts that it doesn't read it again, and that
+    /// nothing is noted, for 60 milliseconds.
     pub fn assert_rests(&self) -> Result<(), Fail> {
-        self.sleep(20);
-        let readings = self.stage.readings.load(Ordering::SeqCst);
-        self.sleep(60);
-        let more = self
+        let wanted = self
             .stage
-            .readings
+            .readings_at_flush
             .load(Ordering::SeqCst)
-            .wrapping_sub(readings);
-        if more > 1 || !self.notes.is_empty() {
+            .wrapping_add(1);
+        if !self.reaches(&self.stage.readings, wanted) {
+            return Err(Fail::new("it doesn't read the clock after a flush"));
+        }
+        self.sleep(60);
+        if self.stage.readings.load(Ordering::SeqCst) != wanted || !self.notes.is_empty() {
             return Err(Fail::new("it doesn't rest"));
         }
         Ok(())
