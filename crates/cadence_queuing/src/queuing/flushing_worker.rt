@@ -1,12 +1,12 @@
 //! The worker thread of a queue with a period. It also flushes the wrapped sink.
-ghost use Rattle.std.specs.Prelude.{◌≡◌, true};
-ghost use Rattle.cadence_queuing.specs.Flushes.{OwesAfterFlush};
+ghost use Rattle.std.specs.Prelude.{◌≡◌, false, true, IfErr, IfOk};
 ghost use Rattle.cadence_shared.specs.Taker.{given_by, has_ended};
 
 use super::worker::{Passed, QueueWorklist, Shared, Worker};
 use crate::flush_timer::FlushTimer;
 use crate::worklist::{Worklist, work};
 use crate::{Handler, MetricSink};
+use cadence_errors::SinkError;
 use cadence_resolve::thread::Job;
 use cadence_shared::TakerRoom;
 use std::alloc::Allocator;
@@ -21,16 +21,15 @@ struct FlushingWorklist<'a, S: MetricSink, R: Wait + Clock + Drop, A: Allocator>
 }
 
 impl<S: MetricSink, R: Wait + Clock + Drop, A: Allocator + Clone> FlushingWorklist<'_, S, R, A> {
-    // Flushes the sink, and gives an error to the handler. The held text stays in the sink after an error, and the
-    // flush is still owed.
-    fn flush(&mut self)
+    // Notes the result of a flush, and gives an error to the handler. After an error the flush is still owed.
+    fn note_flush(&mut self, answer: Result<(), SinkError>)
         ensures given { given_by self.new.lines.taker ≡ given_by self.old.lines.taker }
         ensures ended { has_ended self.new.lines.taker ≡ has_ended self.old.lines.taker }
         ensures handed { self.new.lines.handed ≡ self.old.lines.handed }
-        ensures owed { OwesAfterFlush S.may_flush self.old.lines.sink.now
-            self.old.timer self.new.timer }
+        ensures done { IfOk answer (λ _. self.new.timer.owes_flush ≡ false) }
+        ensures failed { IfErr answer (λ _.
+            self.new.timer.owes_flush ≡ self.old.timer.owes_flush) }
     {
-        let answer = self.lines.sink.flush();
         let has_succeeded = answer.is_ok();
         if let Err(fault) = answer {
             if let Some(handler) = self.lines.handler {
@@ -39,6 +38,16 @@ impl<S: MetricSink, R: Wait + Clock + Drop, A: Allocator + Clone> FlushingWorkli
         }
         let now = Instant::now(self.lines.rt).ok();
         self.timer.note_flush(now, has_succeeded);
+    }
+
+    // Flushes the sink. After an error the held text stays in the sink.
+    fn flush(&mut self)
+        ensures given { given_by self.new.lines.taker ≡ given_by self.old.lines.taker }
+        ensures ended { has_ended self.new.lines.taker ≡ has_ended self.old.lines.taker }
+        ensures handed { self.new.lines.handed ≡ self.old.lines.handed }
+    {
+        let answer = self.lines.sink.flush();
+        self.note_flush(answer);
     }
 
     // Waits for a text until the next flush is due. Returns false if it is due.
