@@ -4,7 +4,7 @@ ghost use Rattle.std.specs.Prelude.{◌≡◌, IfOk, IfErr};
 ghost use Rattle.cadence.specs.Shown.{settings_of_client, sink_of_client};
 ghost use Rattle.cadence_schedule.specs.Settings.{settings_of};
 ghost use Rattle.cadence_sinks.specs.Buffers.{unix_buffer};
-ghost use Rattle.cadence_sinks.specs.Queuing.{capacity_of, policy_of, queue_capacity, queue_policy, wrapped_sink};
+ghost use Rattle.cadence_queuing.specs.Queuing.{capacity_of, policy_of, queue_capacity, queue_policy, wrapped_sink};
 ghost use Rattle.cadence_sinks.specs.Unix.{unix_path};
 ghost use Rattle.cadence_unix.specs.Paths.{IsPath};
 ghost use Rattle.cadence_unix.specs.Refusals.{IsUnixRefusal};

@@ -1,5 +1,5 @@
 use Rattle.std.proofs.Common.{◌≡◌, List, ◌++◌, true}
-use Rattle.cadence_sinks.proofs.worklist.work.Given as goal
+use Rattle.cadence_queuing.proofs.worklist.work.Given as goal
 
 abbrev pub invariant-loop : goal.invariant-loop
 invariant-loop g l =

@@ -1,5 +1,5 @@
 use Rattle.std.proofs.Common.{◌≡◌, ◌∙◌, List, [], ◌∷◌, ◌++◌, ap, append_assoc, sym}
-use Rattle.cadence_sinks.proofs.worklist.work.Goals as goal
+use Rattle.cadence_queuing.proofs.worklist.work.Goals as goal
 
 -- If all texts that were given have been handed on, this is still so after one more text.
 one_more : {T : Type 0} {g h g1 h1 g2 h2 : List T} (g0 h0 : List T) (text : T)

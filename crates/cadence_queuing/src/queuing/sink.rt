@@ -1,7 +1,7 @@
 //! The queuing sink, as callers see it: a handle of the queue.
 ghost use Rattle.std.specs.Prelude.{◌≡◌, IfOk, string_bytes};
 ghost use Rattle.std.specs.Arc.{arc_value};
-ghost use Rattle.cadence_sinks.specs.Queuing.{IsQueuingAnswer, queue_capacity, wrapped_sink};
+ghost use Rattle.cadence_queuing.specs.Queuing.{IsQueuingAnswer, queue_capacity, wrapped_sink};
 
 use super::worker::Shared;
 use crate::MetricSink;

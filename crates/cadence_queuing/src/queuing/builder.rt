@@ -1,9 +1,10 @@
 //! The builder of a queuing sink, which starts its worker.
 ghost use Rattle.std.specs.Prelude.{◌≡◌, IfOk, IfErr, Some, None};
-ghost use Rattle.cadence_sinks.specs.Queuing.{IsQueuingRefusal, wrapped_sink, queue_capacity, queue_policy, capacity_of, policy_of, handler_of};
+ghost use Rattle.cadence_queuing.specs.Queuing.{IsQueuingRefusal, wrapped_sink, queue_capacity, queue_policy, flush_period, capacity_of, policy_of, handler_of, flush_period_of, settings_of};
 ghost use Rattle.cadence_flow.specs.declared.queue.policy.QueuePolicy.TheVariants.{Refuse};
 
 use super::QueuingMetricSink;
+use super::flushing_worker::FlushingWorker;
 use super::worker::{Shared, Worker};
 use crate::{Handler, MetricSink, SinkErrorHandler};
 use cadence_errors::MetricResult;
@@ -13,6 +14,7 @@ use cadence_shared::{SharedQueue, WorkerEnd};
 use std::alloc::{Allocator, Global};
 use std::sync::{Arc, Wait};
 use std::thread::Threads;
+use std::time::{Clock, Duration};
 
 /// Makes a `QueuingMetricSink`. Without a capacity its queue has no bound. Without a policy a full queue refuses lines.
 /// Without a handler the errors of the wrapped sink are dropped.
@@ -79,6 +81,60 @@ impl<A: Allocator> QueuingMetricSinkBuilder<A> {
     }
 }
 
+impl<A: Allocator> QueuingMetricSinkBuilder<A> {
+    /// Sets a period. The worker flushes the wrapped sink if this time has passed since its last flush and it has
+    /// handed on a line since, so no line waits longer in a buffer, also if no more lines come. This is the last
+    /// setting. The runtime of such a queue needs a clock.
+    pub fn with_flush_period(self, period: Duration) -> FlushingQueueBuilder<A>
+        ensures period { flush_period_of result ≡ period }
+        ensures settings { settings_of result ≡ self }
+    {
+        FlushingQueueBuilder {
+            settings: self,
+            period,
+        }
+    }
+}
+
+// Makes a sink whose worker is not started yet. If the sink is dropped, its queue is stopped.
+fn make_sink<S: MetricSink, R: Wait + Drop, A: Allocator + Clone>(
+    rt: R,
+    alloc: A,
+    sink: S,
+    settings: (Option<usize>, QueuePolicy, Option<Duration>),
+) -> MetricResult<QueuingMetricSink<S, R, A>>
+    ensures wrapped { IfOk result (λ q. wrapped_sink q ≡ sink) }
+    ensures capacity { IfOk result (λ q. queue_capacity q ≡ settings.0) }
+    ensures policy { IfOk result (λ q. queue_policy q ≡ settings.1) }
+    ensures period { IfOk result (λ q. flush_period q ≡ settings.2) }
+    ensures refused { IfErr result IsQueuingRefusal }
+{
+    let (capacity, policy, period) = settings;
+    let queue = SharedQueue::with_policy(alloc.clone()?, capacity, policy)?;
+    let shared = Shared {
+        sink,
+        queue,
+        end: WorkerEnd::new(),
+        period,
+    };
+    let shared = Arc::new(alloc.clone()?, shared)?;
+    Ok(QueuingMetricSink { rt, alloc, shared })
+}
+
+// Makes what the worker of this sink needs.
+fn make_worker<S: MetricSink, R: Wait + Clone + Drop, A: Allocator + Clone>(
+    sink: &QueuingMetricSink<S, R, A>,
+) -> MetricResult<Worker<S, R, A>>
+    ensures { IfErr result IsQueuingRefusal }
+{
+    let room = sink.shared.queue.room_of_taker(sink.alloc.clone()?)?;
+    Ok(Worker {
+        rt: sink.rt.clone()?,
+        shared: sink.shared.clone()?,
+        room,
+    })
+}
+
 impl<A: Allocator + Clone + Send + Sync + 'static> QueuingMetricSinkBuilder<A> {
     /// Makes the sink and starts its worker thread. The errors are `OutOfMemory`, and `Io` if the thread can't be
     /// started. The wrapped sink is dropped then.
@@ -89,19 +145,57 @@ impl<A: Allocator + Clone + Send + Sync + 'static> QueuingMetricSinkBuilder<A> {
         ensures wrapped { IfOk result (λ q. wrapped_sink q ≡ sink) }
         ensures capacity { IfOk result (λ q. queue_capacity q ≡ capacity_of self) }
         ensures policy { IfOk result (λ q. queue_policy q ≡ policy_of self) }
+        ensures period { IfOk result (λ q. flush_period q ≡ None) }
         ensures refused { IfErr result IsQueuingRefusal }
     {
-        let queue = SharedQueue::with_policy(alloc.clone()?, self.capacity, self.policy)?;
-        let room = queue.room_of_taker(alloc.clone()?)?;
-        let end = WorkerEnd::new();
-        let shared = Arc::new(alloc.clone()?, Shared { sink, queue, end })?;
-        let worker = Worker {
-            rt: rt.clone()?,
-            shared: shared.clone()?,
-            room,
-        };
-        start(&rt, worker, self.handler)?;
-        Ok(QueuingMetricSink { rt, alloc, shared })
+        let sink = make_sink(rt, alloc, sink, (self.capacity, self.policy, None))?;
+        let worker = make_worker(&sink)?;
+        start(&sink.rt, worker, self.handler)?;
+        Ok(sink)
+    }
+}
+
+/// Makes a `QueuingMetricSink` whose worker flushes the wrapped sink by time.
+/// `QueuingMetricSinkBuilder::with_flush_period` makes it.
+///
+/// ```text
+/// let builder = QueuingMetricSinkBuilder::new()
+///     .with_capacity(1000)
+///     .with_flush_period(Duration::from_secs(1));
+/// let sink = builder.build(rt.clone()?, alloc, inner)?;
+/// ```
+#[derive(Drop)]
+pub struct FlushingQueueBuilder<A: Allocator = Global> {
+    settings: QueuingMetricSinkBuilder<A>,
+    period: Duration,
+}
+
+impl<A: Allocator + Clone + Send + Sync + 'static> FlushingQueueBuilder<A> {
+    /// Makes the sink and starts its worker thread. The errors are `OutOfMemory`, and `Io` if the thread can't be
+    /// started. The wrapped sink is dropped then.
+    ///
+    /// The worker flushes the wrapped sink between two lines. It looks for a due flush before it takes more lines out of
+    /// the queue, at most 32 at a time. While a line that it has handed on was not flushed yet, it sleeps at most until
+    /// the flush is due; otherwise it sleeps until a line comes. It also flushes the sink at its end. The error of a
+    /// failed flush goes to the error handler, and the flush is tried again after one more period. With a period of 0
+    /// it flushes the sink whenever it has no more lines in hand.
+    pub fn build<
+        S: MetricSink + Send + Sync + 'static,
+        R: Wait + Clock + Threads + Clone + Drop + Send + Sync + 'static,
+    >(self, rt: R, alloc: A, sink: S) -> MetricResult<QueuingMetricSink<S, R, A>>
+        ensures wrapped { IfOk result (λ q. wrapped_sink q ≡ sink) }
+        ensures capacity { IfOk result (λ q. queue_capacity q ≡ capacity_of (settings_of self)) }
+        ensures policy { IfOk result (λ q. queue_policy q ≡ policy_of (settings_of self)) }
+        ensures period { IfOk result (λ q. flush_period q ≡ Some (flush_period_of self)) }
+        ensures refused { IfErr result IsQueuingRefusal }
+    {
+        let FlushingQueueBuilder { settings, period } = self;
+        let wanted = (settings.capacity, settings.policy, Some(period));
+        let sink = make_sink(rt, alloc, sink, wanted)?;
+        let worker = make_worker(&sink)?;
+        let worker = FlushingWorker { worker, period };
+        start(&sink.rt, worker, settings.handler)?;
+        Ok(sink)
     }
 }
 
@@ -116,6 +210,7 @@ impl<
         ensures wrapped { IfOk result (λ q. wrapped_sink q ≡ sink) }
         ensures capacity { IfOk result (λ q. queue_capacity q ≡ None) }
         ensures policy { IfOk result (λ q. queue_policy q ≡ Refuse) }
+        ensures period { IfOk result (λ q. flush_period q ≡ None) }
         ensures refused { IfErr result IsQueuingRefusal }
     {
         QueuingMetricSinkBuilder::new().build(rt, alloc, sink)
@@ -127,6 +222,7 @@ impl<
         ensures wrapped { IfOk result (λ q. wrapped_sink q ≡ sink) }
         ensures capacity { IfOk result (λ q. queue_capacity q ≡ Some capacity) }
         ensures policy { IfOk result (λ q. queue_policy q ≡ Refuse) }
+        ensures period { IfOk result (λ q. flush_period q ≡ None) }
         ensures refused { IfErr result IsQueuingRefusal }
     {
         let builder = QueuingMetricSinkBuilder::new().with_capacity(capacity);
