@@ -31,6 +31,12 @@
 #ifndef LOOKS
 #define LOOKS 1         /* how often the worker looks before it sleeps */
 #endif
+#ifndef PERIOD
+#define PERIOD 0        /* 1: the worker flushes the wrapped sink by time; how much time has passed is left open */
+#endif
+#ifndef FAILURES
+#define FAILURES 0      /* how many flushes may fail, in all */
+#endif
 #ifndef NO_MEMORY
 #define NO_MEMORY 0     /* 1: memory may be refused for any text */
 #endif
@@ -73,6 +79,10 @@ byte handles = CALLERS;
 /* The texts that the worker has taken and not yet handed on, and the end mark, which has a lock of its own. */
 chan lent = [ROOM] of { byte };
 bool ended;
+
+/* If PERIOD is 1: whether a text was handed on since the last flush that succeeded; and how many flushes may still fail. */
+bool owes;
+byte failures = FAILURES;
 
 /* What only the checks read: the accepted texts that were neither handed on nor dropped, in the order in which they were
    accepted; how many offers answered that they were accepted; how many texts were handed on; and how many calls have
@@ -223,7 +233,7 @@ hidden byte each;
 #define SLEEPERS(condvar) sleepers[condvar - CHANGED]
 
 /* The thread doesn't fall asleep if there was a notification since it noted their number, which it did under the lock. */
-inline WAIT(condvar, lock) {
+inline FALL_ASLEEP(condvar, lock) {
 #if FAULT == 9
   UNLOCK(lock);
   noted = NOTIFICATIONS(condvar);
@@ -236,7 +246,11 @@ inline WAIT(condvar, lock) {
     if :: NOTIFICATIONS(condvar) == noted -> sleeps_at[_pid] = condvar :: else fi;
     noted = 0;
     assert(!IS_NEGLECTED)
-  };
+  }
+}
+
+inline WAIT(condvar, lock) {
+  FALL_ASLEEP(condvar, lock);
 #if STOPPERS == 0 && !LAST_HANDLE
   /* if nobody stops the queue, the worker may sleep for ever */
 end_asleep:
@@ -250,6 +264,19 @@ end_asleep:
   SLEEPERS(condvar)--;
   LOCK(lock)
 }
+
+#if PERIOD
+/* A wait with a time: the time may be over at any moment. */
+inline WAIT_WITHIN(condvar, lock) {
+  FALL_ASLEEP(condvar, lock);
+  if
+  :: sleeps_at[_pid] == NOWHERE
+  :: atomic { sleeps_at[_pid] != NOWHERE -> sleeps_at[_pid] = NOWHERE }
+  fi;
+  SLEEPERS(condvar)--;
+  LOCK(lock)
+}
+#endif
 
 inline NOTIFY_ALL(condvar) {
   NOTIFICATIONS(condvar)++;
@@ -390,15 +417,36 @@ inline MOVE() {
   od
 }
 
-/* `Taker::next` and `SharedQueue::take_some`, for each text until the end, and then `WorkerEnd::mark`. */
+#if PERIOD
+/* Flushes the wrapped sink. If the flush fails, it is still owed. */
+inline FLUSH() {
+  atomic {
+    if
+    :: owes = false
+    :: failures > 0 -> failures--
+    fi
+  }
+}
+#endif
+
+/* `Taker::next` and `SharedQueue::take_some`, for each text until the end, and then `WorkerEnd::mark`. If PERIOD is 1, also
+   `Taker::fetch_within` and `SharedQueue::take_some_within`, while a flush is owed. */
 proctype Worker() {
-  LOCALS; byte text, looks; bool idle;
+  LOCALS; byte text, looks; bool idle, timed;
   assert(_pid == WORKER);
 next:
   if
   :: len(lent) > 0 -> goto give
   :: else
   fi;
+#if PERIOD
+  timed = owes;
+  if
+  :: timed
+  :: timed -> goto flush
+  :: !timed
+  fi;
+#endif
 look:
   if
   :: looks == LOOKS -> looks = 0; goto sleep
@@ -429,9 +477,21 @@ sleep:
   od;
 #else
   LOCK(QUEUE);
+#if FAULT == 11
+  if
+  :: handed > 0 && !timed -> FALL_ASLEEP(CHANGED, QUEUE); sleeps_at[_pid] == NOWHERE; SLEEPERS(CHANGED)--; LOCK(QUEUE)
+  :: else
+  fi;
+#endif
   do
   :: !IS_IDLE -> break
+#if PERIOD && FAULT != 10
+  :: IS_IDLE && timed -> RELEASE(true); goto flush
+  :: IS_IDLE && timed -> WAIT_WITHIN(CHANGED, QUEUE)
+  :: IS_IDLE && !timed -> WAIT(CHANGED, QUEUE)
+#else
   :: else -> WAIT(CHANGED, QUEUE)
+#endif
   od;
 #endif
   MOVE();
@@ -443,9 +503,18 @@ moved:
   fi;
 give:
   /* the wrapped sink works here, and the worker holds no lock */
-  atomic { lent ? text; assert(owed ? [eval(text)]); owed ? eval(text); handed++; text = 0 };
+  atomic { lent ? text; assert(owed ? [eval(text)]); owed ? eval(text); handed++; text = 0; owes = PERIOD };
   goto next;
+#if PERIOD
+flush:
+  /* the flush is due, and the worker holds no lock */
+  FLUSH();
+  goto next;
+#endif
 finish:
+#if PERIOD && FAULT != 12
+  if :: owes -> FLUSH() :: else fi;
+#endif
   assert(stopped && len(ring) == 0 && len(owed) == 0);
   LOCK(END);
   ended = true;
@@ -468,10 +537,12 @@ init {
   /* wait until no thread can go on: then the worker sleeps */
   timeout;
   assert(!stopped && !ended && sleeps_at[WORKER] == CHANGED);
+  assert(!owes);
 #else
   /* wait until each thread has ended */
   _nr_pr == 1;
   assert(stopped && ended);
+  assert(!owes || failures < FAILURES);
 #endif
   assert(len(ring) == 0 && len(lent) == 0 && len(owed) == 0);
   assert(accepted == submitted && handed == drained && accepted == handed + dropped);

@@ -31,8 +31,9 @@ pub use prelude::{
 };
 pub use sinks::{
     BufferedSpyMetricSink, BufferedUdpMetricSink, BufferedUdpMetricSinkBuilder,
-    BufferedUnixMetricSink, MetricSink, NopMetricSink, QueuingMetricSink, QueuingMetricSinkBuilder,
-    SpyMetricSink, UdpMetricSink, UdpMetricSinkBuilder, UnixMetricSink,
+    BufferedUnixMetricSink, FlushingMetricSink, FlushingQueueBuilder, MetricSink, NopMetricSink,
+    QueuingMetricSink, QueuingMetricSinkBuilder, SpyMetricSink, UdpMetricSink,
+    UdpMetricSinkBuilder, UnixMetricSink,
 };
 pub use stats::SinkStats;
 pub use types::{

@@ -4,7 +4,7 @@ ghost use Rattle.cadence.specs.Shown.{settings_of_client, sink_of_client};
 ghost use Rattle.cadence_resolve.specs.Refusals.{IsSocketRefusal};
 ghost use Rattle.cadence_schedule.specs.Settings.{settings_of};
 ghost use Rattle.cadence_sinks.specs.Buffers.{udp_buffer};
-ghost use Rattle.cadence_sinks.specs.Queuing.{queue_capacity, wrapped_sink};
+ghost use Rattle.cadence_queuing.specs.Queuing.{queue_capacity, wrapped_sink};
 
 mod sinks;
 

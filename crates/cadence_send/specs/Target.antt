@@ -1,6 +1,8 @@
--- The addresses to which packets are sent, as texts.
-use Rattle.std.specs.Prelude.{◌≡◌, ◌<◌, ◌^◌, ⊤, ◌∷◌, ◌++◌, ℕ, List, length, IfSome}
+-- The places to which packets are sent, as texts.
+use Rattle.std.specs.Prelude.{◌≡◌, ◌<◌, ◌^◌, ⊤, ◌∷◌, ◌++◌, ℕ, List, length, IfSome, codes}
 use Rattle.std.specs.Str.Parse.{IsNumeral, digits_value, without_leading_plus}
+use Rattle.cadence_send.specs.declared.options.Destination.{Destination}
+use Rattle.cadence_send.specs.declared.options.Destination.TheVariants.{Host, Unix}
 use Rattle.cadence_send.specs.declared.options.Options.{Options}
 use Rattle.cadence_send.specs.declared.options.Request.{Request}
 use Rattle.cadence_send.specs.declared.options.Request.TheVariants.{Help, Version, Send}
@@ -21,11 +23,21 @@ pub record IsTarget (text : List ℕ) : Type 0 where
   pub some : 0 < length host
   pub is : IsPort rest port
 
--- If the options have an address, it is a host and a port.
-abbrev pub SaysWhere : {Z : Type 0} → Options Z → Type 0
-SaysWhere options = IfSome options.to (λ text. IsTarget text.now)
+-- The place is a host and a port, or a path that is not empty.
+abbrev pub IsPlace : Destination → Type 0
+IsPlace (Host text) = IsTarget text.now
+IsPlace (Unix path) = 0 < length path.now
 
--- If the request is to send, and its options have an address, it is a host and a port.
+-- The text says this place: a host and a port, or `unix:` and a path that is not empty.
+abbrev pub SaysDestination : List ℕ → Destination → Type 0
+SaysDestination text (Host host) = (host.now ≡ text) × IsTarget host.now
+SaysDestination text (Unix path) = (text ≡ codes "unix:" ++ path.now) × (0 < length path.now)
+
+-- If the options have a place, it is a host and a port, or a path that is not empty.
+abbrev pub SaysWhere : {Z : Type 0} → Options Z → Type 0
+SaysWhere options = IfSome options.to IsPlace
+
+-- If the request is to send, and its options have a place, it is a host and a port, or a path that is not empty.
 abbrev pub AsksWhere : {Z : Type 0} → Request Z → Type 0
 AsksWhere Help = ⊤
 AsksWhere Version = ⊤

@@ -27,7 +27,7 @@ mod words;
 
 pub use engine::{RunError, TextCounts, take_input};
 pub use line::{write_line_of_text, write_line_of_words};
-pub use options::{Defaults, OptionError, Options, Request, read_options, read_port};
+pub use options::{Defaults, Destination, OptionError, Options, Request, read_options, read_port};
 pub use pace::{Pace, Unhurried};
 pub use packets::{DatagramWriter, PacketPrinter};
 pub use run::{run_input, run_words, send_input, send_words};

@@ -1,7 +1,7 @@
 //! Reads the options of the command line.
 ghost use Rattle.std.specs.Prelude.{◌≡◌, IfOk, IfSome, None, OnOk};
 ghost use Rattle.cadence_value.specs.Finds.{Finds};
-ghost use Rattle.cadence_send.specs.Target.{AsksWhere, IsPort, IsTarget, SaysWhere};
+ghost use Rattle.cadence_send.specs.Target.{AsksWhere, IsPort, IsTarget, SaysDestination, SaysWhere};
 
 use crate::decimal::read_decimal;
 use crate::words::{is_word, read_tag};
@@ -25,11 +25,20 @@ pub enum Request<'a, A: Allocator> {
     Send(Options<'a, A>, &'a [&'a str]),
 }
 
+/// The place to which packets are sent.
+#[derive(Clone, Copy, Debug, PartialEq, Eq)]
+pub enum Destination<'a> {
+    /// A host and a port, as HOST:PORT.
+    Host(&'a str),
+    /// The path of a Unix socket. It is not empty. It was not tested otherwise.
+    Unix(&'a str),
+}
+
 /// The options of the command line.
 #[derive(Drop)]
 pub struct Options<'a, A: Allocator> {
-    /// The host and the port to which packets are sent, as HOST:PORT.
-    pub to: Option<&'a str>,
+    /// The place to which packets are sent.
+    pub to: Option<Destination<'a>>,
     /// The prefix of all names.
     pub prefix: &'a str,
     /// The default tags, in order.
@@ -74,7 +83,7 @@ pub struct Defaults<A: Allocator = Global> {
 // Returns what the value of an option has to be, with an example.
 fn example(option: &str) -> &'static str {
     match option {
-        "--to" => "HOST:PORT, as in --to 127.0.0.1:8125",
+        "--to" => "HOST:PORT or unix:PATH, as in --to 127.0.0.1:8125",
         "--prefix" => "a name without colons, commas and bars, as in --prefix my.service",
         "--tag" => "K:V or V, as in --tag env:live",
         "--container" => "an id, as in --container 9f2c",
@@ -129,7 +138,8 @@ pub fn read_port(text: &str) -> Option<u16>
 
 // Reads HOST:PORT.
 fn read_target(value: &str) -> Option<&str>
-    ensures { IfSome result (λ text. IsTarget text.now) }
+    ensures target { IfSome result (λ text. IsTarget text.now) }
+    ensures same { IfSome result (λ text. text.now ≡ value.now) }
 {
     if let Some((host, port)) = value.rsplit_once(':') {
         if !host.is_empty() && read_port(port).is_some() {
@@ -137,6 +147,20 @@ fn read_target(value: &str) -> Option<&str>
         }
     }
     None
+}
+
+// Reads HOST:PORT or unix:PATH.
+fn read_destination(value: &str) -> Option<Destination<'_>>
+    ensures { IfSome result (SaysDestination value.now) }
+{
+    let Some(path) = value.strip_prefix("unix:") else {
+        let target = read_target(value)?;
+        return Some(Destination::Host(target));
+    };
+    if path.is_empty() {
+        return None;
+    }
+    Some(Destination::Unix(path))
 }
 
 impl<'a, A: Allocator> Options<'a, A> {
@@ -163,8 +187,8 @@ impl<'a, A: Allocator> Options<'a, A> {
     {
         let refused = ReadError::Unreadable(OptionError::Value(option, value));
         match option {
-            "--to" => match read_target(value) {
-                Some(target) => self.to = Some(target),
+            "--to" => match read_destination(value) {
+                Some(place) => self.to = Some(place),
                 None => return Err(refused),
             },
             "--prefix" => self.prefix = read_word(value).ok_or(refused)?,

@@ -18,6 +18,7 @@ use cadence_errors::{MetricResult, SinkError};
 use cadence_flow::queue::{QueueError, QueuePolicy, Taken, TextRing};
 use std::alloc::{AllocError, Allocator, Global};
 use std::sync::{Condvar, Mutex, Wait};
+use std::time::{Clock, Duration};
 
 /// A queue of texts under a lock, which threads share by reference. Each call takes the lock and does one step of a
 /// `QueueCore`; a `Taker` does several takes in a row. What lies under the lock is a `RecordedQueue`, so whenever the
@@ -174,11 +175,8 @@ impl<T: Drop, A: Allocator + Clone> SharedQueue<T, A> {
         requires { texts.old.items ≡ [] }
         ensures { taken.new.items ≡ taken.old.items ++ texts.new.items }
     {
-        for _ in 0..LOOKS {
-            if self.look(texts, taken, done) {
-                return;
-            }
-            wait_for_texts(texts.room());
+        if self.look_often(texts, taken, done) {
+            return;
         }
         let mut state = self.changed.wait_while(
             rt,
@@ -187,6 +185,60 @@ impl<T: Drop, A: Allocator + Clone> SharedQueue<T, A> {
         );
         state.take_back(done);
         state.queue.take_some(texts, taken);
+    }
+
+    /// Moves the oldest texts out of the queue, as `take_some` does, but sleeps at most for this time. Returns false if
+    /// the time has passed, or if the clock can't be read. The ring is still empty then.
+    #[inline(never)]
+    pub(super) fn take_some_within<R: Wait + Clock>(
+        &self,
+        rt: &R,
+        time: Duration,
+        texts: &mut TextRing<T, A>,
+        taken: &mut GhostList<T>,
+        done: &mut TextRing<T, A>,
+    ) -> bool
+        requires { texts.old.items ≡ [] }
+        ensures noted { taken.new.items ≡ taken.old.items ++ texts.new.items }
+        ensures none { result ≡ false → texts.new.items ≡ [] }
+    {
+        if self.look_often(texts, taken, done) {
+            return true;
+        }
+        let (mut state, outcome) = self.changed.wait_timeout_while(
+            rt,
+            self.state.lock(rt),
+            time,
+            |state| state.queue.core().is_idle(),
+        );
+        if outcome.timed_out() {
+            return false;
+        }
+        state.take_back(done);
+        state.queue.take_some(texts, taken);
+        true
+    }
+
+    // Looks at the queue several times, and lets other threads run in between. Moves its oldest texts into an empty
+    // ring if it finds some. Returns whether the worker need not wait, as `look` does.
+    #[inline(always)]
+    fn look_often(
+        &self,
+        texts: &mut TextRing<T, A>,
+        taken: &mut GhostList<T>,
+        done: &mut TextRing<T, A>,
+    ) -> bool
+        requires { texts.old.items ≡ [] }
+        ensures noted { taken.new.items ≡ taken.old.items ++ texts.new.items }
+        ensures none { result ≡ false → texts.new.items ≡ [] }
+    {
+        for _ in 0..LOOKS {
+            if self.look(texts, taken, done) {
+                return true;
+            }
+            wait_for_texts(texts.room());
+        }
+        false
     }
 
     // Moves the oldest texts out of the queue into an empty ring, if there are any. Returns whether the worker need not

@@ -6,6 +6,7 @@ use super::shared_queue::SharedQueue;
 use cadence_flow::queue::TextRing;
 use std::alloc::{AllocError, Allocator, Global};
 use std::sync::Wait;
+use std::time::{Clock, Duration};
 
 /// How many texts a taker moves out of the queue at once, at most, and how many used ones it keeps for reuse.
 const MOST_AT_ONCE: usize = 32;
@@ -106,6 +107,28 @@ impl<'a, T: Drop, A: Allocator + Clone> Taker<'a, T, A> {
         };
         self.given = self.given.and(&text);
         Some(text)
+    }
+
+    /// Returns whether the taker has no text, so that `next` has to look at the queue.
+    pub fn is_empty(&self) -> bool
+        ensures { result ≡ true → taken_by self.now ≡ given_by self.now }
+    {
+        self.texts.len() == 0
+    }
+
+    /// Moves texts out of the queue if the taker has none, so that `next` needs no wait. If the queue is empty and not
+    /// stopped, it waits for a text, but it sleeps at most for this time. Returns false if the time has passed, or if
+    /// the clock can't be read. The taker has no text then.
+    pub fn fetch_within<R: Wait + Clock>(&mut self, rt: &R, time: Duration) -> bool
+        ensures same { (given_by self.new ≡ given_by self.old)
+            × (has_ended self.new ≡ has_ended self.old) }
+        ensures none { result ≡ false → taken_by self.new ≡ given_by self.new }
+    {
+        if self.has_ended || self.texts.len() > 0 {
+            return true;
+        }
+        self.queue
+            .take_some_within(rt, time, &mut self.texts, &mut self.taken, &mut self.done)
     }
 
     /// Keeps a text that the worker is done with, so that a caller can make its next text in the same memory. It takes

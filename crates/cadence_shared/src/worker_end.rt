@@ -2,8 +2,10 @@
 ghost use Rattle.std.specs.Prelude.{◌≡◌, true};
 
 use std::sync::{Condvar, Mutex, Wait};
+use std::time::{Clock, Duration};
 
-/// A mark that a worker sets at its end and that other threads can wait for. It has a lock of its own.
+/// A mark that a worker sets at its end and that other threads can wait for. Or its owner sets it, and a worker that
+/// waits for it then ends. It has a lock of its own.
 #[derive(Drop)]
 pub struct WorkerEnd {
     ended: Mutex<bool>,
@@ -36,5 +38,14 @@ impl WorkerEnd {
     pub fn wait(&self, rt: &impl Wait) {
         self.marked
             .wait_while(rt, self.ended.lock(rt), |ended| !*ended);
+    }
+
+    /// Waits until the mark is set, but at most for this time. Returns whether the mark is set. If the clock can't be
+    /// read, it doesn't wait.
+    pub fn wait_within<R: Wait + Clock>(&self, rt: &R, time: Duration) -> bool {
+        let (_ended, outcome) = self
+            .marked
+            .wait_timeout_while(rt, self.ended.lock(rt), time, |ended| !*ended);
+        !outcome.timed_out()
     }
 }

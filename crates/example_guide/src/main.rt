@@ -14,6 +14,7 @@
 //! - `capacities`: how many packets some lines need.
 //! - `runtime`: the bounds of a runtime that makes sinks.
 //! - `lines`, `numbers`, `round_trip`: these blocks run, and what they send as a text.
+//! - `unix`: clients over a Unix socket, and what a server receives.
 #![tactic(auto)]
 
 mod capacities;
@@ -27,11 +28,13 @@ mod round_trip;
 mod runtime;
 mod shop;
 mod sinks;
+mod unix;
 
 use cadence::client::BoxedHandler;
 use cadence::{MetricError, MetricResult, NopMetricSink, StatsdClient};
 use runtime::Runtime;
 use std::alloc::Global;
+use std::process;
 
 // Runs the blocks, and returns what they send and count.
 fn report<R: Runtime>(rt: &R, alloc: Global) -> MetricResult<String> {
@@ -44,6 +47,9 @@ fn report<R: Runtime>(rt: &R, alloc: Global) -> MetricResult<String> {
 fn main(rt: HostRuntime) -> MetricResult<()> {
     let alloc = rt.alloc();
     print!(rt; "{}", report(&rt, alloc)?)?;
+    let id = process::id(rt.process());
+    let path = format!(in alloc; "/tmp/statsd-{id}.sock")?;
+    print!(rt; "{}", unix::report(&rt, alloc, &path)?)?;
     ported::send_over_re_resolving_sink(&rt, alloc)?;
 
     let printer = rt.clone()?;

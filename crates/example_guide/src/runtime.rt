@@ -3,8 +3,9 @@
 use std::net::Net;
 use std::sync::Wait;
 use std::thread::Threads;
+use std::time::Clock;
 
 /// What the sinks of a service ask of a runtime.
-pub trait Runtime: Net + Wait + Threads + Clone + Drop + Send + Sync + 'static {}
+pub trait Runtime: Net + Wait + Threads + Clock + Clone + Drop + Send + Sync + 'static {}
 
-impl<R: Net + Wait + Threads + Clone + Drop + Send + Sync + 'static> Runtime for R {}
+impl<R: Net + Wait + Threads + Clock + Clone + Drop + Send + Sync + 'static> Runtime for R {}

@@ -2,19 +2,23 @@
 //!
 //! - `environment`: finds the address to which packets are sent.
 //! - `pace`: a pace that follows the clock.
+//! - `unix`: sends packets to the path of a Unix socket.
 #![tactic(auto)]
 
 mod environment;
 mod pace;
+mod unix;
 
 use crate::environment::find_address;
 use crate::pace::Every;
+use crate::unix::PathWriter;
 use cadence_flow::io::{LineBuffer, PacketWriter};
 use cadence_resolve::bind_socket;
 use cadence_send::{
-    DatagramWriter, Defaults, Options, PacketPrinter, Request, RunError, Unhurried, read_options,
-    run_input, run_words,
+    DatagramWriter, Defaults, Destination, Options, PacketPrinter, Request, RunError, Unhurried,
+    read_options, run_input, run_words,
 };
+use cadence_unix::{PathError, UnixSocket, check_path};
 use std::alloc::{AllocError, Global};
 use std::io::{ErrorKind, Read};
 use std::process::ExitCode;
@@ -29,6 +33,7 @@ VALUE        a number, as 1 or 0.75, or of ms and h a duration, as 1250ms or 1.2
              of ms, h and d several, as 12,250
 TAG          K:V or V
 --to HOST:PORT      where to (127.0.0.1:8125; STATSD_HOST, STATSD_PORT)
+--to unix:PATH      or to a Unix datagram socket
 --prefix NAME  --tag TAG  --container ID  --time SECONDS  --rate NUMBER
 --capacity BYTES    how much a packet holds (512)
 --flush-every MS    sends what is held before more is read, where so long has passed;
@@ -96,11 +101,27 @@ fn print_text(rt: &HostRuntime, text: &str) -> ExitCode {
     }
 }
 
+// The path of a Unix socket that the options name can't be used.
+#[derive(Drop)]
+struct UnusablePath<'a>(&'a str, PathError);
+
+impl fmt::Display for UnusablePath<'_> {
+    fn fmt<W: fmt::Write>(&self, f: &mut fmt::Formatter<W>) -> fmt::Result {
+        let (path, fault) = (self.0, self.1);
+        write!(f, "--to unix:{path}: {fault}")
+    }
+}
+
 // Sends the metric of the words, or those of the input if there are no words. Returns the exit status.
 fn send(rt: &HostRuntime, options: &Options<'_, Global>, words: &[&str]) -> ExitCode {
     let Ok(defaults) = options.defaults(rt.alloc()) else {
         return exit_with_error(rt, 3, "out of memory");
     };
+    if let Some(Destination::Unix(path)) = options.to {
+        if let Err(fault) = check_path(path) {
+            return exit_with_error(rt, 2, UnusablePath(path, fault));
+        }
+    }
     if options.is_printing {
         return match PacketPrinter::new(rt.alloc(), rt.stdout()) {
             Ok(writer) => send_with(rt, options, words, &defaults, writer),
@@ -113,20 +134,52 @@ fn send(rt: &HostRuntime, options: &Options<'_, Global>, words: &[&str]) -> Exit
     if words.is_empty() && rt.stdin().read(&mut [0u8; 0]).is_err() {
         return exit_with_error(rt, 1, RunError::Input);
     }
-    let address = match find_address(rt, options.to) {
+    match options.to {
+        Some(Destination::Unix(path)) => send_to_path(rt, options, words, &defaults, path),
+        Some(Destination::Host(host)) => send_to_host(rt, options, words, &defaults, Some(host)),
+        None => send_to_host(rt, options, words, &defaults, None),
+    }
+}
+
+// Sends to this host, or to that of the environment. Returns the exit status.
+fn send_to_host(
+    rt: &HostRuntime,
+    options: &Options<'_, Global>,
+    words: &[&str],
+    defaults: &Defaults,
+    host: Option<&str>,
+) -> ExitCode {
+    let address = match find_address(rt, host) {
         Ok(address) => address,
         Err(error) => return exit_with_error(rt, error.status(), error),
     };
     match bind_socket(rt, address) {
         Ok(socket) => {
             let writer = DatagramWriter::new(socket, address);
-            send_with(rt, options, words, &defaults, writer)
+            send_with(rt, options, words, defaults, writer)
         }
-        Err(error) => {
-            let _ = eprintln!(rt; "statsd_send: socket: {error}");
-            ExitCode::from(1)
-        }
+        Err(error) => exit_without_socket(rt, error),
     }
+}
+
+// Sends to the path of a Unix socket. Returns the exit status.
+fn send_to_path(
+    rt: &HostRuntime,
+    options: &Options<'_, Global>,
+    words: &[&str],
+    defaults: &Defaults,
+    path: &str,
+) -> ExitCode {
+    match UnixSocket::new(rt) {
+        Ok(socket) => send_with(rt, options, words, defaults, PathWriter::new(socket, path)),
+        Err(error) => exit_without_socket(rt, error),
+    }
+}
+
+// Prints to the standard error why there is no socket, and returns the exit status.
+fn exit_without_socket<T: fmt::Display + Drop>(rt: &HostRuntime, why: T) -> ExitCode {
+    let _ = eprintln!(rt; "statsd_send: socket: {why}");
+    ExitCode::from(1)
 }
 
 // Returns the pace of the option `--flush-every`, if it is set. A clock takes memory.

@@ -3,7 +3,7 @@ ghost use Rattle.std.specs.Prelude.{◌≡◌, false, IfOk, IfErr};
 ghost use Rattle.cadence_resolve.specs.Refusals.{IsSocketRefusal};
 ghost use Rattle.cadence.specs.Host.{IsHost};
 ghost use Rattle.cadence_sinks.specs.Buffers.{udp_buffer};
-ghost use Rattle.cadence_sinks.specs.Queuing.{capacity_of, policy_of, queue_capacity, queue_policy, wrapped_sink};
+ghost use Rattle.cadence_queuing.specs.Queuing.{capacity_of, policy_of, queue_capacity, queue_policy, wrapped_sink};
 ghost use Rattle.cadence_sinks.specs.Udp.{looks_up_again};
 
 use cadence_errors::MetricResult;

@@ -2,7 +2,7 @@
 ghost use Rattle.std.specs.Prelude.{◌≡◌, [], IfOk, unwrap_or};
 ghost use Rattle.cadence_errors.specs.Errors.{MayOnlyRunOutOfMemory};
 ghost use Rattle.cadence_flow.specs.Writer.{history_of};
-ghost use Rattle.cadence_sinks.specs.Answers.{IsQueueAnswer, IsQueueFlush, queue_kind};
+ghost use Rattle.cadence_queuing.specs.Answers.{IsQueueAnswer, IsQueueFlush, queue_kind};
 ghost use Rattle.cadence_sinks.specs.Buffers.{spy_buffer};
 
 use super::channel::{Sender, SpyReceiver, new_channel};

@@ -1,6 +1,6 @@
 //! The queue between a spy and its receiver, and its two ends.
 ghost use Rattle.cadence_errors.specs.Errors.{MayOnlyRunOutOfMemory};
-ghost use Rattle.cadence_sinks.specs.Answers.{IsQueueAnswer};
+ghost use Rattle.cadence_queuing.specs.Answers.{IsQueueAnswer};
 
 use cadence_errors::{MetricResult, SinkError};
 use cadence_flow::queue::Taken;

@@ -1,6 +1,6 @@
 //! A sink for tests that makes each line a message of its receiver.
 ghost use Rattle.cadence_errors.specs.Errors.{MayOnlyRunOutOfMemory};
-ghost use Rattle.cadence_sinks.specs.Answers.{IsQueueAnswer};
+ghost use Rattle.cadence_queuing.specs.Answers.{IsQueueAnswer};
 
 use super::channel::{Sender, SpyReceiver, new_channel};
 use crate::MetricSink;

@@ -343,3 +343,19 @@ fn end_mark_is_waited_for(rt: HostRuntime) -> Result<(), Fail> {
     end.wait(&rt);
     Ok(())
 }
+
+#[test]
+fn an_end_mark_is_waited_for_within_a_time(rt: HostRuntime) -> Result<(), Fail> {
+    let (end, time) = (WorkerEnd::new(), Duration::from_millis(2));
+    assert!(rt; !end.wait_within(&rt, time));
+    let (is_marked, _) = thread::join(
+        &rt,
+        || end.wait_within(&rt, Duration::from_secs(3600)),
+        || {
+            sleep_a_while(&rt);
+            end.mark(&rt);
+        },
+    );
+    assert!(rt; is_marked && end.wait_within(&rt, time));
+    Ok(())
+}

@@ -8,6 +8,7 @@ use std::sync::Wait;
 use std::sync::atomic::{AtomicBool, AtomicU64, Ordering};
 use std::test::Fail;
 use std::thread::{self, Threads};
+use std::time::{Clock, Duration};
 
 // How many texts each caller submits to a queue with room for one of each caller.
 const TURNS: u64 = 300;
@@ -64,6 +65,9 @@ enum Step {
     Drop(char, char),
     // The taker's next texts are these, in this order.
     Next(&'static str),
+    // A wait for a text ends with or without one, as the first word says, after two milliseconds at most. The taker is
+    // empty afterwards or not, as the second word says.
+    Fetch(bool, bool),
     // A text is refused, because the queue is full.
     Full,
     // A text is refused, because the queue is stopped.
@@ -76,7 +80,7 @@ enum Step {
 }
 
 // Takes a step, and returns whether it has the result that it says.
-fn runs_step<R: Wait>(
+fn runs_step<R: Wait + Clock>(
     rt: &R,
     queue: &SharedQueue<char>,
     taker: &mut Taker<'_, char>,
@@ -86,6 +90,10 @@ fn runs_step<R: Wait>(
         Step::Submit(texts) => submit_all(rt, queue, texts),
         Step::Drop(text, oldest) => submit_and_drop(rt, queue, text, oldest),
         Step::Next(texts) => are_next(rt, taker, texts),
+        Step::Fetch(comes, is_empty) => {
+            let has_come = taker.fetch_within(rt, Duration::from_millis(2));
+            has_come == comes && taker.is_empty() == is_empty
+        }
         Step::Full => both_calls_refuse(rt, queue, true),
         Step::Stopped => both_calls_refuse(rt, queue, false),
         Step::Stop => {
@@ -116,7 +124,7 @@ fn rest_of<R: Wait>(rt: &R, mut taker: Taker<'_, char>) -> u64 {
 
 // Takes the steps over a new queue and its taker, and then stops the queue. Asserts that each step has its result, and
 // that this number of texts is left.
-fn run_steps<R: Wait + Abort + AllocGlobal>(
+fn run_steps<R: Wait + Clock + Abort + AllocGlobal>(
     rt: &R,
     bound: Option<usize>,
     policy: QueuePolicy,
@@ -182,6 +190,28 @@ const DROPPING: [Step; 6] = [
     Step::Next("CD"),
     Step::Dropped(1),
 ];
+
+// A taker of two texts at once that waits for a time. A text that it has already, or the stop, ends the wait at once.
+const WITHIN_A_TIME: [Step; 13] = [
+    Step::Fetch(false, true),
+    Step::Submit("ABC"),
+    Step::Counts(3, 0, 3),
+    Step::Fetch(true, false),
+    Step::Counts(3, 2, 1),
+    Step::Fetch(true, false),
+    Step::Counts(3, 2, 1),
+    Step::Next("AB"),
+    Step::Fetch(true, false),
+    Step::Next("C"),
+    Step::Fetch(false, true),
+    Step::Stop,
+    Step::Fetch(true, true),
+];
+
+#[test]
+fn a_fetch_waits_for_a_time(rt: HostRuntime) -> Result<(), Fail> {
+    run_steps(&rt, Some(64), QueuePolicy::Refuse, &WITHIN_A_TIME, 0)
+}
 
 #[test]
 fn taker_takes_in_order(rt: HostRuntime) -> Result<(), Fail> {

@@ -1,0 +1,71 @@
+-- What contracts show of a queuing sink, of its builders and of a flushing sink, whose fields are private.
+use Rattle.std.specs.Prelude.{◌≡◌, ◌≢◌, ℕ, List, Option, None, Result, Err}
+use Rattle.std.specs.Arc.{arc_value}
+use Rattle.std.specs.Option.{option_map}
+use Rattle.std.specs.declared.time.Duration.{Duration}
+use Rattle.std.specs.declared.dyn_box.DynBox.{DynBox}
+use Rattle.cadence_errors.specs.declared.SinkError.{SinkError}
+use Rattle.cadence_errors.specs.declared.SinkError.TheVariants.{ChannelFull, Io, OutOfMemory}
+use Rattle.cadence_queuing.specs.Answers.{IsQueueAnswer}
+use Rattle.cadence_errors.specs.declared.MetricError.{MetricError}
+use Rattle.cadence_errors.specs.declared.MetricError.TheVariants.{Sink}
+use Rattle.cadence_flow.specs.declared.queue.policy.QueuePolicy.{QueuePolicy}
+use Rattle.cadence_shared.specs.SharedQueue.{bound_of, rule_of}
+use Rattle.cadence_resolve.specs.Handler.{closure_of}
+use Rattle.cadence_queuing.specs.declared.flushing.FlushingMetricSink.{FlushingMetricSink}
+use Rattle.cadence_queuing.specs.declared.queuing.sink.QueuingMetricSink.{QueuingMetricSink}
+use Rattle.cadence_queuing.specs.declared.queuing.builder.QueuingMetricSinkBuilder.{QueuingMetricSinkBuilder}
+use Rattle.cadence_queuing.specs.declared.queuing.builder.FlushingQueueBuilder.{FlushingQueueBuilder}
+
+-- A queuing or a flushing sink is not made because memory ran out, or because the thread could not be started.
+abbrev pub IsQueuingRefusal : MetricError → Type 0
+IsQueuingRefusal (Sink OutOfMemory) = Unit {0}
+IsQueuingRefusal (Sink (Io e)) = Unit {0}
+IsQueuingRefusal _ = ⊥
+
+-- the sink that a queuing sink wraps
+abbrev pub wrapped_sink : {S R A : Type 0} → QueuingMetricSink S R A → S
+wrapped_sink q = (arc_value q.shared).sink
+
+-- the sink that a flushing sink wraps
+abbrev pub flushed_sink : {S R A : Type 0} → FlushingMetricSink S R A → S
+flushed_sink f = (arc_value f.shared).sink
+
+-- the capacity of a queuing sink's queue in lines, or none if it has no bound
+abbrev pub queue_capacity : {S R A : Type 0} → QueuingMetricSink S R A → Option ℕ
+queue_capacity q = bound_of (arc_value q.shared).queue
+
+-- The result of an `emit` into a queue of this capacity is the length of the line, or an error of a queue. A queue
+-- without a capacity is never full.
+pub record IsQueuingAnswer (bound : Option ℕ) (line : List ℕ) (answer : Result ℕ SinkError) : Type 0 where
+  pub queue : IsQueueAnswer line answer
+  pub unbounded : bound ≡ None → answer ≢ Err ChannelFull
+
+-- what a queuing sink's queue does with a line when it is full
+abbrev pub queue_policy : {S R A : Type 0} → QueuingMetricSink S R A → QueuePolicy
+queue_policy q = rule_of (arc_value q.shared).queue
+
+-- after which time the worker of a queuing sink flushes the wrapped sink, or none if it never does
+abbrev pub flush_period : {S R A : Type 0} → QueuingMetricSink S R A → Option Duration
+flush_period q = (arc_value q.shared).period
+
+module _ {A Y : Type 0} {G : Y → Type 0} {g : _} where
+  -- the capacity in lines that a builder has, or none
+  abbrev pub capacity_of : QueuingMetricSinkBuilder A Y G g → Option ℕ
+  capacity_of b = b.capacity
+
+  -- what the queue that a builder makes does with a line when it is full
+  abbrev pub policy_of : QueuingMetricSinkBuilder A Y G g → QueuePolicy
+  policy_of b = b.policy
+
+  -- the closure that receives the errors of the wrapped sink, if a builder has one
+  abbrev pub handler_of : QueuingMetricSinkBuilder A Y G g → Option (DynBox Y A G)
+  handler_of b = option_map closure_of b.handler
+
+  -- the settings of a builder with a period, beside its period
+  abbrev pub settings_of : FlushingQueueBuilder A Y G g → QueuingMetricSinkBuilder A Y G g
+  settings_of b = b.settings
+
+  -- the period of such a builder
+  abbrev pub flush_period_of : FlushingQueueBuilder A Y G g → Duration
+  flush_period_of b = b.period

@@ -1,0 +1,83 @@
+//! When a worker that flushes by time has to flush.
+ghost use Rattle.std.specs.Prelude.{◌≡◌, ◌+◌, ◌-◌, ◌≤◌, ◌<◌, false, true, IfNone, IfSome};
+ghost use Rattle.std.specs.Duration.{as_nanos};
+ghost use Rattle.std.specs.Time.{instant_nanos};
+ghost use Rattle.cadence_queuing.specs.Flushes.{IsTimeLeft};
+
+use std::time::{Duration, Instant};
+
+/// The period of a worker that flushes its sink by time, when it last did so, and whether it has handed on a line
+/// since. It reads no clock: each call is given the time, or `None` if the clock couldn't be read.
+#[derive(Drop)]
+pub struct FlushTimer {
+    /// The longest time between two flushes, if lines come.
+    pub period: Duration,
+    /// When the sink was last flushed, or else when the worker began. `None` if the clock couldn't be read then.
+    pub last: Option<Instant>,
+    /// Whether a line was handed on since the last flush that succeeded.
+    pub owes_flush: bool,
+}
+
+// Returns how much of the period is left, or `None` if nothing is left.
+fn time_left(period: Duration, last: Instant, now: Instant) -> Option<Duration>
+    ensures left { IfSome result (λ left.
+        as_nanos left + (instant_nanos now - instant_nanos last) ≡ as_nanos period) }
+    ensures some { IfSome result (λ left. 0 < as_nanos left) }
+    ensures due { IfNone result (as_nanos period ≤ instant_nanos now - instant_nanos last) }
+{
+    let left = period.checked_sub(now.duration_since(last))?;
+    if left.is_zero() { None } else { Some(left) }
+}
+
+impl FlushTimer {
+    /// Starts a period at this time. No line was handed on yet.
+    pub fn start(period: Duration, now: Option<Instant>) -> FlushTimer
+        ensures period { result.period ≡ period }
+        ensures last { result.last ≡ now }
+        ensures owes { result.owes_flush ≡ false }
+    {
+        FlushTimer {
+            period,
+            last: now,
+            owes_flush: false,
+        }
+    }
+
+    /// Notes that a line was handed on.
+    pub fn note_line(&mut self)
+        ensures owes { self.new.owes_flush ≡ true }
+        ensures same { (self.new.period ≡ self.old.period) × (self.new.last ≡ self.old.last) }
+    {
+        self.owes_flush = true;
+    }
+
+    /// Notes that the sink was flushed at this time. If the flush failed, the next one is still owed.
+    pub fn note_flush(&mut self, now: Option<Instant>, has_succeeded: bool)
+        ensures last { self.new.last ≡ now }
+        ensures period { self.new.period ≡ self.old.period }
+        ensures done { has_succeeded ≡ true → self.new.owes_flush ≡ false }
+        ensures failed { has_succeeded ≡ false → self.new.owes_flush ≡ self.old.owes_flush }
+    {
+        self.last = now;
+        if has_succeeded {
+            self.owes_flush = false;
+        }
+    }
+
+    /// Returns how much of the period since the last flush is left at this time. `None` means that nothing is left, or
+    /// that the clock couldn't be read.
+    pub fn left(&self, now: Option<Instant>) -> Option<Duration>
+        ensures { IsTimeLeft self.now.period self.now.last now result }
+    {
+        match (self.last, now) {
+            (Some(last), Some(now)) => time_left(self.period, last, now),
+            _ => None,
+        }
+    }
+
+    /// Returns whether some time of a period is left right after a flush. It isn't if the period is 0, or if the clock
+    /// couldn't be read.
+    pub fn can_wait(&self) -> bool {
+        self.last.is_some() && !self.period.is_zero()
+    }
+}

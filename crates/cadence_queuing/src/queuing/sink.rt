@@ -1,0 +1,151 @@
+//! The queuing sink, as callers see it: a handle of the queue.
+ghost use Rattle.std.specs.Prelude.{◌≡◌, IfOk, string_bytes};
+ghost use Rattle.std.specs.Arc.{arc_value};
+ghost use Rattle.cadence_queuing.specs.Queuing.{IsQueuingAnswer, queue_capacity, wrapped_sink};
+
+use super::worker::Shared;
+use crate::MetricSink;
+use cadence_errors::SinkError;
+use cadence_flow::stats::SinkStats;
+use std::alloc::{AllocError, Allocator, Global};
+use std::sync::{Arc, Wait};
+
+/// A sink that queues each line for a worker thread, which hands the lines to the wrapped sink, in order.
+///
+/// It is a handle: a clone is one more handle of the same queue. The drop of the last handle stops the queue and
+/// doesn't wait. The worker then still hands on the queued lines, and drops the wrapped sink, so that a buffered one
+/// sends its held text. Each handle keeps the runtime `R`, whose locks it takes.
+///
+/// ```text
+/// let sink = QueuingMetricSink::with_capacity(rt.clone()?, alloc, inner, 1000)?;
+/// let client = StatsdClient::from_sink(alloc, "my.service", sink)?;
+/// client.incr("visits")?;
+/// client.sink().stop_and_wait();
+/// client.flush()?;
+/// ```
+pub struct QueuingMetricSink<S: MetricSink, R: Wait + Drop, A: Allocator = Global> {
+    pub(super) rt: R,
+    pub(super) alloc: A,
+    pub(super) shared: Arc<Shared<S, A>, A>,
+}
+
+impl<S: MetricSink, R: Wait + Drop, A: Allocator> QueuingMetricSink<S, R, A> {
+    /// Stops the queue for all handles, and waits until the worker has handed on the queued lines and has ended.
+    /// Neither the wrapped sink nor the error handler may call this: they run in the worker, which would wait for
+    /// itself.
+    pub fn stop_and_wait(&self) {
+        self.shared.queue.stop(&self.rt);
+        self.shared.end.wait(&self.rt);
+    }
+
+    /// Returns the number of lines that wait in the queue. Lines that the worker has taken, at most 32 at a time,
+    /// aren't counted, even if it hasn't handed them on yet.
+    pub fn queued(&self) -> u64 {
+        self.shared.queue.waiting(&self.rt) as u64
+    }
+
+    /// Returns the number of accepted lines, modulo 2 to the 64.
+    pub fn submitted(&self) -> u64 {
+        self.shared.queue.submitted(&self.rt)
+    }
+
+    /// Returns the number of lines that the worker took out of the queue, modulo 2 to the 64. It takes several at a
+    /// time. After `stop_and_wait` each of them has been handed on.
+    pub fn drained(&self) -> u64 {
+        self.shared.queue.drained(&self.rt)
+    }
+
+    /// Returns the number of lines that were dropped to make room for later ones, modulo 2 to the 64. It is 0 if the
+    /// queue has no bound, or refuses lines when it is full.
+    pub fn dropped(&self) -> u64 {
+        self.shared.queue.dropped(&self.rt)
+    }
+
+    /// Returns how often the worker panicked. A proved worker can't panic, so this is always 0.
+    pub fn panics(&self) -> u64
+        ensures { result ≡ 0 }
+    {
+        0
+    }
+}
+
+// Copies a line, into the memory of an older one if that is wide enough.
+fn copy_line<A: Allocator + Clone>(
+    older: Option<String<A>>,
+    alloc: &A,
+    metric: &str,
+) -> Result<String<A>, AllocError>
+    ensures { IfOk result (λ copy. string_bytes copy ≡ metric.now) }
+{
+    match older {
+        Some(mut line) if line.capacity() >= metric.len() => {
+            line.clear();
+            line.push_str(metric)?;
+            Ok(line)
+        }
+        _ => String::from_str(alloc.clone()?, metric),
+    }
+}
+
+/// `emit` puts a copy of the line last in the queue, and returns the line's length.
+///
+/// The errors are `ChannelDisconnected` if the queue is stopped, `ChannelFull` if as many lines wait as its capacity,
+/// and `OutOfMemory`, in this order; nothing is queued then. Under `DropOldest`, a full queue with a capacity above 0
+/// drops its oldest line instead of returning an error, and doesn't call the handler.
+///
+/// An accepted line requests memory at most once, apart from the growth of an unbounded queue: if the worker has handed
+/// on a line with enough memory, the new line is copied into that. The first two errors request no memory. `flush`
+/// flushes the wrapped sink and doesn't wait for the queue. `stats` returns the counts of the wrapped sink.
+impl<S: MetricSink, R: Wait + Drop, A: Allocator + Clone> MetricSink
+    for QueuingMetricSink<S, R, A> {
+    ghost may_answer = { λ q metric answer. IsQueuingAnswer (queue_capacity q) metric answer };
+
+    ghost may_flush = { λ q answer. S.may_flush (arc_value q.shared).sink answer };
+
+    fn emit(&self, metric: &str) -> Result<usize, SinkError> {
+        let alloc = &self.alloc;
+        let queue = &self.shared.queue;
+        let answer = queue.offer(&self.rt, |older| copy_line(older, alloc, metric));
+        // The refusal is small, so the wide `SinkError` is made here, at the end. A wide one would be copied on the
+        // way.
+        match answer {
+            Ok(()) => Ok(metric.len()),
+            Err(refusal) => Err(refusal.into()),
+        }
+    }
+
+    fn flush(&self) -> Result<(), SinkError> {
+        self.shared.sink.flush()
+    }
+
+    fn stats(&self) -> SinkStats {
+        self.shared.sink.stats()
+    }
+
+    ghost flush_may_succeed = { λ q. S.flush_may_succeed (arc_value q.shared).sink };
+}
+
+/// A clone is one more handle of the same queue.
+impl<S: MetricSink, R: Wait + Clone + Drop, A: Allocator + Clone> Clone
+    for QueuingMetricSink<S, R, A> {
+    ghost is_clone = { λ q copy. wrapped_sink copy ≡ wrapped_sink q };
+
+    fn clone(&self) -> Result<Self, AllocError> {
+        let rt = self.rt.clone()?;
+        let alloc = self.alloc.clone()?;
+        let shared = self.shared.clone()?;
+        shared.queue.add_handle(&rt);
+        Ok(QueuingMetricSink { rt, alloc, shared })
+    }
+}
+
+impl<S: MetricSink, R: Wait + Drop, A: Allocator> Drop for QueuingMetricSink<S, R, A> {
+    fn drop(self) {
+        self.shared.queue.drop_handle(&self.rt);
+        let QueuingMetricSink {
+            rt: _,
+            alloc: _,
+            shared: _,
+        } = self;
+    }
+}

@@ -1,8 +1,0 @@
-//! A sink that queues its lines for a worker thread, which hands them to another sink.
-
-mod builder;
-mod sink;
-mod worker;
-
-pub use builder::QueuingMetricSinkBuilder;
-pub use sink::QueuingMetricSink;

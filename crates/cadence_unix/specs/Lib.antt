@@ -1,0 +1,3 @@
+pub mod Address
+pub mod Paths
+pub mod Refusals

@@ -1,0 +1,34 @@
+-- Why a packet is not sent to a path, and why a Unix socket, or a sink or a client over one, is not made.
+use Rattle.std.specs.Prelude.{◌≡◌, ℕ, List, None, IsSome}
+use Rattle.std.specs.IoError.{error_kind, raw_os_error}
+use Rattle.std.specs.declared.io.ErrorKind.TheVariants as io_kind
+use Rattle.cadence_errors.specs.declared.ErrorKind.TheVariants as kind
+use Rattle.cadence_errors.specs.declared.MetricError.{MetricError}
+use Rattle.cadence_errors.specs.declared.MetricError.TheVariants.{Sink, Described}
+use Rattle.cadence_errors.specs.declared.SinkError.{SinkError}
+use Rattle.cadence_errors.specs.declared.SinkError.TheVariants.{Io, OutOfMemory}
+use Rattle.cadence_unix.specs.Paths.{IsFault, IsPath}
+use Rattle.cadence_unix.specs.declared.path.PathError.{PathError}
+
+-- The error is one of the system: it has a code of the system.
+abbrev pub IsOfSystem : SinkError → Type 0
+IsOfSystem (Io e) = IsSome (raw_os_error e)
+IsOfSystem _ = ⊥
+
+-- The error says that a path can't be used: it has the kind `InvalidInput`, and no code of the system.
+abbrev pub IsOfPath : SinkError → Type 0
+IsOfPath (Io e) = (error_kind e ≡ io_kind.InvalidInput) × (raw_os_error e ≡ None)
+IsOfPath _ = ⊥
+
+-- The call failed with an error of the system.
+abbrev pub IsSystemRefusal : MetricError → Type 0
+IsSystemRefusal (Sink e) = IsOfSystem e
+IsSystemRefusal _ = ⊥
+
+-- A sink or a client is not made because its path has a fault, and then the kind is `InvalidInput`. If the path has none, then the system refused
+-- the socket or the thread, or memory ran out.
+abbrev pub IsUnixRefusal : List ℕ → MetricError → Type 0
+IsUnixRefusal path (Described k text) = (k ≡ kind.InvalidInput) × ((fault : PathError) × IsFault path fault)
+IsUnixRefusal path (Sink (Io e)) = IsPath path
+IsUnixRefusal path (Sink OutOfMemory) = IsPath path
+IsUnixRefusal path _ = ⊥

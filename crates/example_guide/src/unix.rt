@@ -1,0 +1,70 @@
+//! A service that sends to a Unix socket, and the server that receives its datagrams. The server is another one after
+//! half of the lines, as an agent is that restarts.
+
+use crate::runtime::Runtime;
+use cadence::prelude::*;
+use cadence::{MetricResult, MetricSink};
+use cadence_unix::{
+    BufferedUnixClient, UnixClient, UnixSocket, buffered_unix_client, queued_unix_client,
+    unix_client,
+};
+use std::alloc::Global;
+use std::fs;
+use std::fs::Files;
+use std::io::Read;
+use std::net::Net;
+use std::os::fd::{AsFd, OwnedFd};
+use std::os::unix::net::{SocketAddr, UnixStream};
+
+pub fn send_to_agent<R: Runtime>(rt: &R, alloc: Global, path: &str) -> MetricResult<()> {
+    let client = queued_unix_client(rt, alloc, "my.service", path, 1432, Some(1000))?;
+    client.incr("visits")?;
+    client.sink().stop_and_wait();
+    client.flush()?;
+    Ok(())
+}
+
+// Sends a line over each of two clients.
+fn send_two<R: Runtime>(plain: &UnixClient<R>, packed: &BufferedUnixClient<R>) -> MetricResult<()> {
+    plain.gauge("load", 17)?;
+    packed.count("logins", 2)?;
+    packed.flush()?;
+    Ok(())
+}
+
+// Binds a socket to the path, and returns it as a stream, since a read from a stream takes the next datagram too.
+fn bind_server<R: Net + Files>(rt: &R, path: &str) -> MetricResult<UnixStream> {
+    let server = OwnedFd::from(UnixSocket::new(rt)?);
+    rt.bind_unix(server.as_fd(), &SocketAddr::from_pathname(path)?)?;
+    Ok(UnixStream::from(server))
+}
+
+// Adds the datagrams that wait, each with its length.
+fn receive_all(alloc: Global, mut server: &UnixStream, text: &mut String) -> MetricResult<()> {
+    let mut bytes = [0u8; 64];
+    for _ in 0..u64::MAX {
+        let Ok(length) = server.read(&mut bytes) else {
+            break;
+        };
+        let datagram = String::from_utf8_lossy(alloc, &bytes[..length])?;
+        writeln!(text, "Unix datagram of {length} bytes: {datagram:?}")?;
+    }
+    Ok(())
+}
+
+/// Returns the datagrams that two servers receive, one after the other at the same path.
+pub fn report<R: Runtime + Files>(rt: &R, alloc: Global, path: &str) -> MetricResult<String> {
+    let plain = unix_client(rt, alloc, "my.service", path)?;
+    let packed = buffered_unix_client(rt, alloc, "my.service", path, 512)?;
+    let mut text = String::new(alloc);
+    for _ in 0..2 {
+        let server = bind_server(rt, path)?;
+        send_two(&plain, &packed)?;
+        send_to_agent(rt, alloc, path)?;
+        fs::remove_file(rt, path)?;
+        receive_all(alloc, &server, &mut text)?;
+    }
+    let sent = plain.sink().stats().packets_sent;
+    writeln!(&mut text, "{sent} packets over one client")?;
+    Ok(text)
+}

@@ -1,0 +1,146 @@
+//! Clients that send to a server, and what they return if it restarts, is gone or doesn't read.
+use super::server::{bind_server, unlink};
+use cadence::prelude::*;
+use cadence::types::SinkError;
+use cadence::{MetricError, MetricResult, MetricSink};
+use cadence_unix::{UnixClient, buffered_unix_client, queued_unix_client, unix_client};
+use std::alloc::Global;
+use std::fs::Files;
+use std::io::ErrorKind;
+use std::net::Net;
+use std::process;
+use std::sync::Wait;
+use std::test::Fail;
+
+// Returns a path of this process and this test.
+fn path_of(rt: &HostRuntime, name: &str) -> Result<String, Fail> {
+    let id = process::id(rt.process());
+    Ok(format!(in rt.alloc(); "/tmp/cadence-{id}-{name}")?)
+}
+
+// Returns the kind of the system's error, if the call failed with one.
+pub fn io_kind<T: Drop>(answer: MetricResult<T>) -> Option<ErrorKind> {
+    match answer {
+        Err(MetricError::Sink(SinkError::Io(error))) => Some(error.kind()),
+        _ => None,
+    }
+}
+
+#[test]
+fn a_client_sends_each_line(rt: HostRuntime) -> Result<(), Fail> {
+    let path = path_of(&rt, "each")?;
+    let server = bind_server(&rt, &path)?;
+    let client = unix_client(&rt, rt.alloc(), "p", &path)?;
+    client.incr("a")?;
+    client.gauge("b", 7)?;
+    unlink(&rt, &path)?;
+    server.assert_datagrams(&["p.a:1|c", "p.b:7|g"])
+}
+
+#[test]
+fn a_buffered_client_packs_lines(rt: HostRuntime) -> Result<(), Fail> {
+    let path = path_of(&rt, "packed")?;
+    let server = bind_server(&rt, &path)?;
+    let client = buffered_unix_client(&rt, rt.alloc(), "p", &path, 16)?;
+    client.incr("a")?;
+    client.incr("b")?;
+    client.incr("c")?;
+    client.flush()?;
+    unlink(&rt, &path)?;
+    server.assert_datagrams(&["p.a:1|c\np.b:1|c\n", "p.c:1|c\n"])
+}
+
+#[test]
+fn a_queued_client_sends_at_its_stop(rt: HostRuntime) -> Result<(), Fail> {
+    let path = path_of(&rt, "queued")?;
+    let server = bind_server(&rt, &path)?;
+    let client = queued_unix_client(&rt, rt.alloc(), "p", &path, 16, Some(9))?;
+    client.incr("a")?;
+    client.incr("b")?;
+    client.incr("c")?;
+    client.sink().stop_and_wait();
+    client.flush()?;
+    unlink(&rt, &path)?;
+    server.assert_datagrams(&["p.a:1|c\np.b:1|c\n", "p.c:1|c\n"])
+}
+
+// Sends a line to a server that is bound to the path now, and closes the server.
+fn assert_reaches<R: Files + Net + Wait + Drop>(
+    rt: &R,
+    client: &UnixClient<R>,
+    path: &str,
+) -> Result<(), Fail> {
+    let server = bind_server(rt, path)?;
+    client.incr("a")?;
+    server.assert_datagrams(&["p.a:1|c"])
+}
+
+#[test]
+fn a_server_that_restarts_is_found_again(rt: HostRuntime) -> Result<(), Fail> {
+    let path = path_of(&rt, "restarts")?;
+    let client = unix_client(&rt, rt.alloc(), "p", &path)?;
+    let unbound = io_kind(client.incr("a"));
+    assert_reaches(&rt, &client, &path)?;
+    let closed = io_kind(client.incr("a"));
+    unlink(&rt, &path)?;
+    let gone = io_kind(client.incr("a"));
+    assert_reaches(&rt, &client, &path)?;
+    unlink(&rt, &path)?;
+    if unbound != Some(ErrorKind::NotFound) || gone != Some(ErrorKind::NotFound) {
+        return Err(Fail::new("a path without a file is an error of another kind"));
+    }
+    if closed != Some(ErrorKind::ConnectionRefused) {
+        return Err(Fail::new("a closed server is an error of another kind"));
+    }
+    let stats = client.sink().stats();
+    if stats.packets_sent != 2 || stats.packets_dropped != 3 {
+        return Err(Fail::new("other counts"));
+    }
+    Ok(())
+}
+
+// Sends lines until one is refused, and returns the kind of its error.
+fn first_refusal<R: Wait + Drop>(client: &UnixClient<R>) -> Option<ErrorKind> {
+    for _ in 0..1_000_000 {
+        let sent = client.incr("a");
+        if sent.is_err() {
+            return io_kind(sent);
+        }
+    }
+    None
+}
+
+#[test]
+fn a_server_that_does_not_read_is_not_waited_for(rt: HostRuntime) -> Result<(), Fail> {
+    let path = path_of(&rt, "full")?;
+    let _server = bind_server(&rt, &path)?;
+    let client = unix_client(&rt, rt.alloc(), "p", &path)?;
+    let refused = first_refusal(&client);
+    unlink(&rt, &path)?;
+    if refused != Some(ErrorKind::WouldBlock) {
+        return Err(Fail::new("a full queue is an error of another kind"));
+    }
+    Ok(())
+}
+
+// Makes and drops sockets, and returns the number of the last one's file descriptor.
+fn last_descriptor(net: &impl Net) -> MetricResult<i32> {
+    let mut last = 0;
+    for _ in 0..5000 {
+        last = descriptor_of(cadence_unix::UnixSocket::new(net)?);
+    }
+    Ok(last)
+}
+
+fn descriptor_of(socket: cadence_unix::UnixSocket) -> i32 {
+    use std::os::fd::{AsRawFd, OwnedFd};
+    OwnedFd::from(socket).as_raw_fd()
+}
+
+#[test]
+fn a_dropped_socket_is_closed(rt: HostRuntime) -> Result<(), Fail> {
+    if last_descriptor(&rt)? >= 1000 {
+        return Err(Fail::new("dropped sockets stay open"));
+    }
+    Ok(())
+}

@@ -1,0 +1,260 @@
+//! Sinks that are flushed by time: the queue with a period, and the flushing sink. Most tests move the clock
+//! themselves; a worker with a period of five milliseconds looks at it after as many milliseconds of real time.
+use super::moved_clock::{MovedClock, NotingSink, Watch, make_noting_sink};
+use super::steps::{
+    Runtime, WantedError, assert_accepts, assert_counts, assert_flushes, assert_last_message,
+    assert_next_message, assert_refuses_flush,
+};
+use cadence_errors::{MetricError, MetricResult, SinkError};
+use cadence_sinks::{
+    BufferedSpyMetricSink, FlushingMetricSink, MetricSink, NopMetricSink, QueuingMetricSink,
+    QueuingMetricSinkBuilder, SinkErrorHandler,
+};
+use std::alloc::Global;
+use std::sync::Arc;
+use std::sync::atomic::Ordering;
+use std::test::Fail;
+use std::time::{Clock, Duration};
+use test_faults::{RefusingAllocator, each_refused};
+
+type NotedQueue<R> = QueuingMetricSink<NotingSink<R>, MovedClock<R>>;
+
+type NotedFlushes<R> = FlushingMetricSink<NotingSink<R>, MovedClock<R>>;
+
+// Makes a handler that counts the errors `PacketRefused`.
+fn make_counter<R: Runtime>(alloc: Global, watch: &Watch<R>) -> Result<SinkErrorHandler, Fail> {
+    let stage = watch.stage.clone()?;
+    let handler: SinkErrorHandler = Box::new(alloc, move |error| {
+        if matches!(error, SinkError::PacketRefused) {
+            stage.errors.fetch_add(1, Ordering::SeqCst);
+        }
+    })?;
+    Ok(handler)
+}
+
+// Makes a queue over a noting sink, whose worker flushes it after this many milliseconds of the moved clock.
+fn make_queue<R: Runtime + Clock>(
+    rt: &R,
+    alloc: Global,
+    period: u64,
+) -> Result<(Watch<R>, NotedQueue<R>), Fail> {
+    let (watch, noting) = make_noting_sink(rt, alloc)?;
+    let builder = QueuingMetricSinkBuilder::new()
+        .with_capacity(32)
+        .with_error_handler(make_counter(alloc, &watch)?)
+        .with_flush_period(Duration::from_millis(period));
+    let sink = builder.build(watch.moved_clock()?, alloc, noting)?;
+    Ok((watch, sink))
+}
+
+// Emits a line, and asserts that the worker hands it on.
+fn assert_passes<R: Runtime + Clock>(watch: &Watch<R>, sink: &NotedQueue<R>) -> Result<(), Fail> {
+    assert_accepts(sink, &[("a:1|c", 5)])?;
+    watch.assert_notes(&["a:1|c"])
+}
+
+#[test]
+fn a_queue_is_flushed_after_the_period(rt: HostRuntime) -> Result<(), Fail> {
+    let (watch, sink) = make_queue(&rt, rt.alloc(), 5)?;
+    assert_passes(&watch, &sink)?;
+    watch.move_to(4);
+    watch.assert_reads(6)?;
+    watch.move_to(5);
+    watch.assert_notes(&["flush"])?;
+    watch.assert_rests()
+}
+
+#[test]
+fn a_late_line_is_flushed_at_once(rt: HostRuntime) -> Result<(), Fail> {
+    let (watch, sink) = make_queue(&rt, rt.alloc(), 5)?;
+    assert_passes(&watch, &sink)?;
+    watch.move_to(5);
+    watch.assert_notes(&["flush"])?;
+    watch.assert_rests()?;
+    watch.move_to(1000);
+    assert_passes(&watch, &sink)?;
+    watch.assert_notes(&["flush"])?;
+    assert_passes(&watch, &sink)?;
+    watch.assert_reads(6)
+}
+
+#[test]
+fn a_busy_worker_flushes_between_lines(rt: HostRuntime) -> Result<(), Fail> {
+    let (watch, sink) = make_queue(&rt, rt.alloc(), 3)?;
+    watch.stage.step.store(1, Ordering::SeqCst);
+    for line in [
+        "a:1|c", "b:1|c", "c:1|c", "d:1|c", "e:1|c", "f:1|c", "g:1|c",
+    ] {
+        assert_accepts(&sink, &[(line, 5)])?;
+    }
+    watch.assert_notes(&["a:1|c", "b:1|c", "c:1|c", "flush"])?;
+    watch.assert_notes(&["d:1|c", "e:1|c", "f:1|c", "flush", "g:1|c"])?;
+    watch.assert_reads(6)
+}
+
+#[test]
+fn a_failed_flush_is_tried_again(rt: HostRuntime) -> Result<(), Fail> {
+    let (watch, sink) = make_queue(&rt, rt.alloc(), 5)?;
+    watch.set_refuses(true);
+    assert_passes(&watch, &sink)?;
+    for failed in 1..3 {
+        watch.move_to(5 * failed);
+        watch.assert_notes(&["flush"])?;
+        watch.assert_errors(failed)?;
+        watch.assert_reads(6)?;
+    }
+    watch.set_refuses(false);
+    watch.move_to(15);
+    watch.assert_notes(&["flush"])?;
+    watch.assert_rests()?;
+    watch.assert_errors(2)
+}
+
+#[test]
+fn the_end_of_a_worker_is_a_flush(rt: HostRuntime) -> Result<(), Fail> {
+    let (receiver, spy) = BufferedSpyMetricSink::new(rt.clone()?, rt.alloc())?;
+    let sink = QueuingMetricSinkBuilder::new()
+        .with_flush_period(Duration::from_secs(3600))
+        .build(rt.clone()?, rt.alloc(), spy)?;
+    assert_accepts(&sink, &[("a:1|c", 5), ("b:1|c", 5)])?;
+    sink.stop_and_wait();
+    assert!(rt; !receiver.is_empty());
+    assert_next_message(&receiver, "a:1|c\nb:1|c\n")
+}
+
+// Asserts that each line is flushed when the worker has no more, and that a failed flush is tried again after the next
+// line and not before it.
+fn assert_flushes_each<R: Runtime + Clock>(
+    watch: &Watch<R>,
+    sink: &NotedQueue<R>,
+) -> Result<(), Fail> {
+    for refuses in [false, true, false] {
+        watch.set_refuses(refuses);
+        assert_passes(watch, sink)?;
+        watch.assert_notes(&["flush"])?;
+        watch.assert_rests()?;
+    }
+    watch.assert_errors(1)
+}
+
+#[test]
+fn a_period_of_0_flushes_each_line(rt: HostRuntime) -> Result<(), Fail> {
+    let (watch, sink) = make_queue(&rt, rt.alloc(), 0)?;
+    assert_flushes_each(&watch, &sink)
+}
+
+#[test]
+fn without_a_clock_each_line_is_flushed(rt: HostRuntime) -> Result<(), Fail> {
+    let (watch, sink) = make_queue(&rt, rt.alloc(), 5)?;
+    watch.stage.is_broken.store(true, Ordering::SeqCst);
+    assert_flushes_each(&watch, &sink)
+}
+
+#[test]
+fn a_queue_is_flushed_by_the_real_clock(rt: HostRuntime) -> Result<(), Fail> {
+    let (receiver, spy) = BufferedSpyMetricSink::new(rt.clone()?, rt.alloc())?;
+    let sink = QueuingMetricSinkBuilder::new()
+        .with_flush_period(Duration::from_millis(2))
+        .build(rt.clone()?, rt.alloc(), spy)?;
+    for line in ["a:1|c", "b:2|c", "c:3|c"] {
+        assert_accepts(&sink, &[(line, 5)])?;
+        assert_next_message(&receiver, format!(in rt.alloc(); "{line}\n")?.as_str())?;
+    }
+    Ok(())
+}
+
+// Returns whether a sink was made. If it wasn't, the error has to be `OutOfMemory`.
+fn is_made<S: MetricSink>(made: MetricResult<S>) -> Result<bool, Fail> {
+    match made {
+        Ok(sink) => Ok(sink.emit("a:1|c").is_ok()),
+        Err(MetricError::Sink(SinkError::OutOfMemory)) => Ok(false),
+        Err(_) => Err(Fail::new("another error")),
+    }
+}
+
+// Makes a queue with a period, with memory from this heap.
+fn build_queue<R: Runtime + Clock>(rt: &R, heap: RefusingAllocator<Global>) -> Result<bool, Fail> {
+    let builder = QueuingMetricSinkBuilder::new()
+        .with_capacity(32)
+        .with_flush_period(Duration::from_secs(1));
+    is_made(builder.build(rt.clone()?, heap, NopMetricSink))
+}
+
+// Makes a flushing sink, with memory from this heap.
+fn make_flushing_sink<R: Runtime + Clock>(
+    rt: &R,
+    heap: RefusingAllocator<Global>,
+) -> Result<bool, Fail> {
+    let second = Duration::from_secs(1);
+    is_made(FlushingMetricSink::new(rt.clone()?, heap, NopMetricSink, second))
+}
+
+#[test]
+fn each_request_is_refused_in_turn(rt: HostRuntime) -> Result<(), Fail> {
+    let queue: Result<Option<u64>, Fail> = each_refused(rt.alloc(), |heap| build_queue(&rt, heap));
+    assert!(rt; queue? > Some(2));
+    let sink: Result<Option<u64>, Fail> = each_refused(
+        rt.alloc(),
+        |heap| make_flushing_sink(&rt, heap),
+    );
+    assert!(rt; sink? > Some(0));
+    Ok(())
+}
+
+// Makes a flushing sink over a noting one, with a period of five milliseconds of the moved clock.
+fn make_flushes<R: Runtime + Clock>(
+    rt: &R,
+    alloc: Global,
+) -> Result<(Watch<R>, NotedFlushes<R>), Fail> {
+    let (watch, noting) = make_noting_sink(rt, alloc)?;
+    let handler = make_counter(alloc, &watch)?;
+    let (clock, period) = (watch.moved_clock()?, Duration::from_millis(5));
+    let sink = FlushingMetricSink::with_error_handler(clock, alloc, noting, period, handler)?;
+    Ok((watch, sink))
+}
+
+#[test]
+fn a_sink_is_flushed_after_each_period(rt: HostRuntime) -> Result<(), Fail> {
+    let (watch, sink) = make_flushes(&rt, rt.alloc())?;
+    assert_accepts(&sink, &[("a:1|c", 5)])?;
+    watch.assert_notes(&["a:1|c"])?;
+    for flushes in 1..4 {
+        watch.assert_reads(6)?;
+        watch.set_refuses(flushes == 2);
+        watch.move_to(5 * flushes);
+        watch.assert_notes(&["flush"])?;
+    }
+    watch.assert_errors(1)
+}
+
+#[test]
+fn a_flushing_sink_passes_calls_on(rt: HostRuntime) -> Result<(), Fail> {
+    let (watch, sink) = make_flushes(&rt, rt.alloc())?;
+    assert_flushes(&sink)?;
+    assert_counts(&sink, [1, 2, 3, 4])?;
+    watch.set_refuses(true);
+    assert_refuses_flush(&sink, WantedError::PacketRefused)?;
+    watch.assert_notes(&["flush", "flush"])
+}
+
+#[test]
+fn the_drop_of_a_flushing_sink_flushes_and_ends_its_thread(rt: HostRuntime) -> Result<(), Fail> {
+    let (receiver, spy) = BufferedSpyMetricSink::new(rt.clone()?, rt.alloc())?;
+    let hour = Duration::from_secs(3600);
+    let sink = FlushingMetricSink::new(rt.clone()?, rt.alloc(), spy, hour)?;
+    assert_accepts(&sink, &[("a:1|c", 5), ("b:1|c", 5)])?;
+    drop(sink);
+    assert!(rt; !receiver.is_empty());
+    assert_last_message(&receiver, "a:1|c\nb:1|c\n")
+}
+
+#[test]
+fn a_sink_is_flushed_by_the_real_clock(rt: HostRuntime) -> Result<(), Fail> {
+    let (receiver, spy) = BufferedSpyMetricSink::new(rt.clone()?, rt.alloc())?;
+    let sink = FlushingMetricSink::new(rt.clone()?, rt.alloc(), spy, Duration::from_millis(2))?;
+    for line in ["a:1|c", "b:2|c", "c:3|c"] {
+        assert_accepts(&sink, &[(line, 5)])?;
+        assert_next_message(&receiver, format!(in rt.alloc(); "{line}\n")?.as_str())?;
+    }
+    Ok(())
+}

@@ -1,0 +1,247 @@
+//! A runtime whose clock stands still until a test moves it, and a sink that notes its lines and its flushes.
+use super::steps::{Runtime, make_spy};
+use cadence_errors::SinkError;
+use cadence_flow::stats::SinkStats;
+use cadence_sinks::{MetricSink, SpyMetricSink, SpyReceiver};
+use std::alloc::{AllocError, Global};
+use std::io;
+use std::io::ErrorKind;
+use std::sync::atomic::{AtomicBool, AtomicU64, Ordering};
+use std::sync::{Arc, Wait};
+use std::test::Fail;
+use std::thread::{self, Threads};
+use std::time::{Clock, Duration};
+
+// How many milliseconds a test waits for something that has to happen.
+const PATIENCE: u32 = 10_000;
+
+/// What a test sets and sees of a clock and of a noting sink.
+#[derive(Drop)]
+pub struct Stage {
+    /// The time that the clock shows, in milliseconds.
+    pub now: AtomicU64,
+    /// How often the clock was read.
+    pub readings: AtomicU64,
+    /// How often it had been read when the sink was last flushed.
+    pub readings_at_flush: AtomicU64,
+    /// Whether the clock can't be read.
+    pub is_broken: AtomicBool,
+    /// By how many milliseconds each line moves the clock.
+    pub step: AtomicU64,
+    /// Whether the sink refuses flushes.
+    pub refuses: AtomicBool,
+    /// How many errors the handler got.
+    pub errors: AtomicU64,
+}
+
+/// A runtime with a clock that a test moves.
+#[derive(Drop)]
+pub struct MovedClock<R: Wait + Threads + Drop> {
+    rt: R,
+    stage: Arc<Stage>,
+}
+
+impl<R: Wait + Threads + Drop> Wait for MovedClock<R> {}
+
+impl<R: Wait + Threads + Drop> Threads for MovedClock<R> {}
+
+impl<R: Wait + Threads + Clone + Drop> Clone for MovedClock<R> {
+    fn clone(&self) -> Result<MovedClock<R>, AllocError> {
+        let rt = self.rt.clone()?;
+        let stage = self.stage.clone()?;
+        Ok(MovedClock { rt, stage })
+    }
+}
+
+impl<R: Wait + Threads + Drop> Clock for MovedClock<R> {
+    fn monotonic(&self) -> io::Result<Duration> {
+        self.stage.readings.fetch_add(1, Ordering::SeqCst);
+        if self.stage.is_broken.load(Ordering::SeqCst) {
+            return Err(io::Error::from(ErrorKind::Unsupported));
+        }
+        Ok(Duration::from_millis(self.stage.now.load(Ordering::SeqCst)))
+    }
+
+    fn since_1970(&self) -> io::Result<Duration> {
+        self.monotonic()
+    }
+}
+
+/// A sink that notes each line, and each flush as `flush`, in a spy.
+#[derive(Drop)]
+pub struct NotingSink<R: Wait + Drop> {
+    stage: Arc<Stage>,
+    notes: SpyMetricSink<R>,
+}
+
+impl<R: Wait + Drop> MetricSink for NotingSink<R> {
+    ghost may_answer = { λ _ _ _. Unit {0} };
+
+    ghost may_flush = { λ _ _. Unit {0} };
+
+    fn emit(&self, metric: &str) -> Result<usize, SinkError> {
+        let step = self.stage.step.load(Ordering::SeqCst);
+        self.stage.now.fetch_add(step, Ordering::SeqCst);
+        self.notes.emit(metric)
+    }
+
+    fn flush(&self) -> Result<(), SinkError> {
+        let refuses = self.stage.refuses.load(Ordering::SeqCst);
+        let readings = self.stage.readings.load(Ordering::SeqCst);
+        self.stage
+            .readings_at_flush
+            .store(readings, Ordering::SeqCst);
+        let _ = self.notes.emit("flush");
+        if refuses {
+            return Err(SinkError::PacketRefused);
+        }
+        Ok(())
+    }
+
+    fn stats(&self) -> SinkStats {
+        SinkStats {
+            bytes_sent: 1,
+            packets_sent: 2,
+            bytes_dropped: 3,
+            packets_dropped: 4,
+        }
+    }
+
+    ghost flush_may_succeed = { λ _. tt };
+}
+
+/// What a test sees of a noting sink, and the test's own runtime.
+#[derive(Drop)]
+pub struct Watch<R: Runtime> {
+    pub rt: R,
+    pub stage: Arc<Stage>,
+    pub notes: SpyReceiver<R>,
+}
+
+fn new_stage() -> Stage {
+    Stage {
+        now: AtomicU64::new(0),
+        readings: AtomicU64::new(0),
+        readings_at_flush: AtomicU64::new(0),
+        is_broken: AtomicBool::new(false),
+        step: AtomicU64::new(0),
+        refuses: AtomicBool::new(false),
+        errors: AtomicU64::new(0),
+    }
+}
+
+/// Makes a noting sink, and what a test sees of it.
+pub fn make_noting_sink<R: Runtime>(
+    rt: &R,
+    alloc: Global,
+) -> Result<(Watch<R>, NotingSink<R>), Fail> {
+    let (notes, spy) = make_spy(rt, alloc)?;
+    let stage = Arc::new(alloc, new_stage())?;
+    let sink = NotingSink {
+        stage: stage.clone()?,
+        notes: spy,
+    };
+    let watch = Watch {
+        rt: rt.clone()?,
+        stage,
+        notes,
+    };
+    Ok((watch, sink))
+}
+
+impl<R: Runtime + Clock> Watch<R> {
+    /// Returns a runtime with the clock of the stage.
+    pub fn moved_clock(&self) -> Result<MovedClock<R>, Fail> {
+        Ok(MovedClock {
+            rt: self.rt.clone()?,
+            stage: self.stage.clone()?,
+        })
+    }
+
+    /// Moves the clock to this time, in milliseconds.
+    pub fn move_to(&self, now: u64) {
+        self.stage.now.store(now, Ordering::SeqCst);
+    }
+
+    /// Sets whether the sink refuses flushes.
+    pub fn set_refuses(&self, refuses: bool) {
+        self.stage.refuses.store(refuses, Ordering::SeqCst);
+    }
+
+    fn sleep(&self, milliseconds: u64) {
+        thread::sleep(&self.rt, Duration::from_millis(milliseconds));
+    }
+
+    // Waits for a note, but not for ever.
+    fn next_note(&self) -> Option<Vec<u8>> {
+        for _ in 0..PATIENCE {
+            if let Some(note) = self.notes.try_recv() {
+                return Some(note);
+            }
+            self.sleep(1);
+        }
+        None
+    }
+
+    /// Waits for these notes, and asserts that they come in this order.
+    pub fn assert_notes(&self, wanted: &[&str]) -> Result<(), Fail> {
+        for text in wanted {
+            let note = self.next_note().ok_or("no note")?;
+            if note.as_slice() != text.as_bytes() {
+                return Err(Fail::new("another note"));
+            }
+        }
+        Ok(())
+    }
+
+    // Waits until a number is at least as large as wanted, but not for ever. Returns whether it is.
+    fn reaches(&self, number: &AtomicU64, wanted: u64) -> bool {
+        for _ in 0..PATIENCE {
+            if number.load(Ordering::SeqCst) >= wanted {
+                return true;
+            }
+            self.sleep(1);
+        }
+        false
+    }
+
+    /// Waits until the handler has got this many errors, and asserts that it gets no more.
+    pub fn assert_errors(&self, wanted: u64) -> Result<(), Fail> {
+        let comes = self.reaches(&self.stage.errors, wanted);
+        if !comes || self.stage.errors.load(Ordering::SeqCst) != wanted {
+            return Err(Fail::new("another number of errors"));
+        }
+        Ok(())
+    }
+
+    /// Waits until the clock was read this often more, and asserts that nothing was noted.
+    pub fn assert_reads(&self, more: u64) -> Result<(), Fail> {
+        let wanted = self
+            .stage
+            .readings
+            .load(Ordering::SeqCst)
+            .wrapping_add(more);
+        if !self.reaches(&self.stage.readings, wanted) || !self.notes.is_empty() {
+            return Err(Fail::new("it doesn't wait for the clock"));
+        }
+        Ok(())
+    }
+
+    /// Waits until the worker has read the clock after its last flush. Asserts that it doesn't read it again, and that
+    /// nothing is noted, for 60 milliseconds.
+    pub fn assert_rests(&self) -> Result<(), Fail> {
+        let wanted = self
+            .stage
+            .readings_at_flush
+            .load(Ordering::SeqCst)
+            .wrapping_add(1);
+        if !self.reaches(&self.stage.readings, wanted) {
+            return Err(Fail::new("it doesn't read the clock after a flush"));
+        }
+        self.sleep(60);
+        if self.stage.readings.load(Ordering::SeqCst) != wanted || !self.notes.is_empty() {
+            return Err(Fail::new("it doesn't rest"));
+        }
+        Ok(())
+    }
+}
