@@ -10,7 +10,7 @@
 //! - Each line of `plans` is a plan, and whether `check_plan` accepts it and `plan_packets` makes it.
 //!
 //! Then each script is run again and again, and in each turn one thing fails: a request for memory, an answer of the
-//! writer, a read or a write. A report that then differs has to be one that `test_model` allows. The program prints how
+//! writer, a read or a write. A report that then differs has to be one that `test_tools::model` allows. The program prints how
 //! many turns ended in which way; the last number, of wrong ends, has to be 0. At last each request for memory of each
 //! constructor of a sink, a queue or a client is refused in turn.
 //!

@@ -13,7 +13,7 @@ use cadence::{
 use std::alloc::Global;
 use std::net::SocketAddr;
 use std::sync::Wait;
-use test_faults::each_refused;
+use test_tools::each_refused;
 
 // How a spy is made.
 #[derive(Clone, Copy)]

@@ -2,7 +2,7 @@
 use cadence::types::SinkError;
 use cadence::{MetricError, MetricResult, MetricSink};
 use std::alloc::Global;
-use test_faults::RefusingAllocator;
+use test_tools::RefusingAllocator;
 
 /// An allocator that refuses one request.
 pub type Heap = RefusingAllocator<Global>;

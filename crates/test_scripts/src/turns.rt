@@ -3,15 +3,15 @@
 //!
 //! A turn has to end in one of these ways: as the run without a failure does, if the failure didn't happen or changed
 //! nothing; with the status and the message of the failure, and with no output or a first part of the report; or with a
-//! report that `test_model` allows.
+//! report that `test_tools::model` allows.
 use crate::scripts::{Outcome, outcome_of};
 use cadence_script::run_script;
 use std::alloc::{AllocError, Global};
 use std::fmt;
-use test_faults::RefusingAllocator;
-use test_faults::reader::{ByteReader, FailingReader};
-use test_faults::writer::{ByteWriter, FailingWriter};
-use test_model::is_right_report;
+use test_tools::RefusingAllocator;
+use test_tools::reader::{ByteReader, FailingReader};
+use test_tools::writer::{ByteWriter, FailingWriter};
+use test_tools::model::is_right_report;
 
 // More than the requests, answers, reads or writes of any run.
 const MOST_TURNS: u64 = 20_000;

@@ -11,7 +11,7 @@ use cadence::types::{
 use std::alloc::{AllocError, Allocator, Global};
 use std::hash::{DefaultHasher, Hash, Hasher};
 use std::test::Fail;
-use test_faults::{RefusingAllocator, each_refused};
+use test_tools::{RefusingAllocator, each_refused};
 
 // Returns a copy of a metric. Its contract is a law of copies: the copy has the same text.
 fn copy_of<K, A: Allocator + Clone>(

@@ -2,7 +2,7 @@
 use cadence::schedule::plan_packets;
 use cadence::types::{MetricError, SinkError};
 use std::test::Fail;
-use test_faults::each_refused;
+use test_tools::each_refused;
 
 // The lengths of lines, the marks before which a packet ends, and how many lines each packet of at most 10 bytes has.
 // For example, lines of 4 and 4 bytes fit a packet, and another line of 4 bytes doesn't fit beside them; lines of 9 and

@@ -5,7 +5,7 @@ use cadence_errors::SinkError;
 use cadence_flow::io::{Answer, LineBuffer, MultiLineWriter, PacketLog, PacketWriter};
 use std::alloc::Global;
 use std::test::Fail;
-use test_faults::{RefusingAllocator, each_refused};
+use test_tools::{RefusingAllocator, each_refused};
 
 // Makes a packer over a log with these answers.
 fn make_packer(

@@ -10,7 +10,7 @@ use std::sync::atomic::{AtomicBool, Ordering};
 use std::test::Fail;
 use std::thread;
 use std::time::{Clock, Duration};
-use test_faults::RefusingAllocator;
+use test_tools::RefusingAllocator;
 
 // Returns whether the text comes back, because the queue is stopped.
 fn is_refused_as_stopped(answer: Result<Option<char>, (SinkError, char)>, text: char) -> bool {

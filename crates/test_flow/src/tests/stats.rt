@@ -4,7 +4,7 @@ use cadence_flow::stats::SinkStats;
 use cadence_shared::SocketStats;
 use std::test::Fail;
 use std::thread;
-use test_faults::RefusingAllocator;
+use test_tools::RefusingAllocator;
 
 #[test]
 fn clones_share_their_counts(rt: HostRuntime) -> Result<(), Fail> {

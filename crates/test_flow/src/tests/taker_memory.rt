@@ -4,7 +4,7 @@ use cadence_shared::{SharedQueue, Taker};
 use std::alloc::Global;
 use std::sync::Wait;
 use std::test::Fail;
-use test_faults::{RefusingAllocator, each_refused};
+use test_tools::{RefusingAllocator, each_refused};
 
 type Line = String<RefusingAllocator<Global>>;
 

@@ -3,9 +3,9 @@
 use cadence_listen::run_listen;
 use std::alloc::Global;
 use std::test::Fail;
-use test_faults::reader::{ByteReader, FailingReader};
-use test_faults::writer::{ByteWriter, FailingWriter};
-use test_faults::{RefusingAllocator, each_refused};
+use test_tools::reader::{ByteReader, FailingReader};
+use test_tools::writer::{ByteWriter, FailingWriter};
+use test_tools::{RefusingAllocator, each_refused};
 
 // Two metrics, the first with every field.
 const PACKET: &[u8] = b"a:1:2.5|ms|@0.5|#k:v,w|c:id|T7\nb:3|c\n";

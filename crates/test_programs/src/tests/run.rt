@@ -5,7 +5,7 @@ use cadence_schedule::{Call, CallValue, ClientSettings, Step};
 use cadence_text::line::{MetricType, OwnedMetric};
 use std::alloc::{Allocator, Global};
 use std::test::Fail;
-use test_faults::{RefusingAllocator, each_refused};
+use test_tools::{RefusingAllocator, each_refused};
 
 // Returns whether the metric has this line.
 fn has_line(alloc: Global, metric: &OwnedMetric, line: &str) -> Result<bool, Fail> {

@@ -5,9 +5,9 @@ use cadence_send::{PacketPrinter, Request, Unhurried, read_options, run_input, r
 use std::alloc::{Allocator, Global};
 use std::io::{Read, Write};
 use std::test::Fail;
-use test_faults::reader::{ByteReader, FailingReader};
-use test_faults::writer::{ByteWriter, FailingWriter};
-use test_faults::{RefusingAllocator, each_refused};
+use test_tools::reader::{ByteReader, FailingReader};
+use test_tools::writer::{ByteWriter, FailingWriter};
+use test_tools::{RefusingAllocator, each_refused};
 
 // Three lines of input, what is sent for them, and what is sent for the first two.
 const TEXT: &[u8] = b"c a 1 k:v\nms b 12,250\ng c 0.5\n";

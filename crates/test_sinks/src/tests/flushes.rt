@@ -15,7 +15,7 @@ use std::sync::Arc;
 use std::sync::atomic::Ordering;
 use std::test::Fail;
 use std::time::{Clock, Duration};
-use test_faults::{RefusingAllocator, each_refused};
+use test_tools::{RefusingAllocator, each_refused};
 
 type NotedQueue<R> = QueuingMetricSink<NotingSink<R>, MovedClock<R>>;
 

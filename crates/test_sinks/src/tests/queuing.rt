@@ -16,7 +16,7 @@ use std::sync::atomic::{AtomicU64, Ordering};
 use std::sync::{Arc, OnceLock, Wait};
 use std::test::Fail;
 use std::thread::{self, Threads};
-use test_faults::RefusingAllocator;
+use test_tools::RefusingAllocator;
 
 type SpiedSink<R> = QueuingMetricSink<SpyMetricSink<R>, R>;
 

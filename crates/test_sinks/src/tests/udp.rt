@@ -15,7 +15,7 @@ use std::sync::{Arc, Wait};
 use std::test::Fail;
 use std::thread;
 use std::time::{Clock, Duration};
-use test_faults::{RefusingAllocator, each_refused};
+use test_tools::{RefusingAllocator, each_refused};
 
 // Makes a server, and a sink that sends each line to it.
 fn make_sink<R: Net + Wait + Clone + Drop>(

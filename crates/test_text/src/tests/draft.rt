@@ -5,7 +5,7 @@ use cadence_value::decimal::Decimal;
 use cadence_value::value::MetricValue;
 use std::alloc::{AllocError, Allocator, Global};
 use std::test::Fail;
-use test_faults::{RefusingAllocator, each_refused};
+use test_tools::{RefusingAllocator, each_refused};
 
 // An option that is set in a draft. A tag has no key here, and the rate is 0.5.
 #[derive(Clone, Copy)]

@@ -6,7 +6,7 @@ use cadence_value::decimal::Decimal;
 use cadence_value::value::MetricValue;
 use std::alloc::{AllocError, Global};
 use std::test::Fail;
-use test_faults::{RefusingAllocator, each_refused};
+use test_tools::{RefusingAllocator, each_refused};
 
 // Returns the record of a counter.
 fn counter_record<'a>(alloc: Global, prefix: &'a str, key: &'a str, count: i64) -> Record<'a> {

@@ -8,7 +8,7 @@ use cadence_value::value::{MetricValue, ToTimerValue};
 use std::alloc::{AllocError, Allocator, Global};
 use std::test::Fail;
 use std::time::Duration;
-use test_faults::RefusingAllocator;
+use test_tools::RefusingAllocator;
 
 // Returns a copy of a value. Its contract is a law of copies: the copy has the same numbers.
 fn copy_of<A: Allocator + Clone>(value: &MetricValue<A>) -> Result<MetricValue<A>, AllocError>

@@ -9,7 +9,7 @@ use cadence::types::{ErrorKind, Metric, MetricError, MetricResult, SinkError};
 use std::alloc::{AllocError, Allocator, Global};
 use std::test::Fail;
 use std::time::Duration;
-use test_faults::{RefusingAllocator, each_refused};
+use test_tools::{RefusingAllocator, each_refused};
 
 // The client of these tests, whose sink takes every line and does nothing.
 type Client = StatsdClient<RefusingAllocator<Global>, NopMetricSink>;

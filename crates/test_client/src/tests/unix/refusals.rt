@@ -12,7 +12,7 @@ use std::io;
 use std::net::Net;
 use std::sync::Wait;
 use std::test::Fail;
-use test_faults::each_refused;
+use test_tools::each_refused;
 
 // A text of 107 bytes, which is a path, and one of 108 bytes, which is none.
 const LONGEST: &str =
@@ -98,7 +98,7 @@ fn the_longest_path_is_a_path(rt: HostRuntime) -> Result<(), Fail> {
 // Returns whether there was memory for each of the three clients and for a line.
 fn clients_have_memory<R: cadence::sinks::ResolverRuntime>(
     rt: &R,
-    heap: test_faults::RefusingAllocator<Global>,
+    heap: test_tools::RefusingAllocator<Global>,
 ) -> MetricResult<bool> {
     let plain = unix_client(rt, heap.clone()?, "p", LONGEST)?;
     let _buffered = buffered_unix_client(rt, heap.clone()?, "p", LONGEST, 16)?;
@@ -109,7 +109,7 @@ fn clients_have_memory<R: cadence::sinks::ResolverRuntime>(
 // Returns whether there was memory. Only a refused request may be why there was none.
 fn clients_are_made<R: cadence::sinks::ResolverRuntime>(
     rt: &R,
-    heap: test_faults::RefusingAllocator<Global>,
+    heap: test_tools::RefusingAllocator<Global>,
 ) -> MetricResult<bool> {
     match clients_have_memory(rt, heap) {
         Err(MetricError::Sink(SinkError::OutOfMemory)) => Ok(false),

@@ -39,11 +39,11 @@ use denote.RawPtr.{Ptr, block_ptr, null_ptr, ptr_val, rawptr_vals, rawptr_Tells}
 use denote.Builtin.{usize, RawPtr, RefOf}
 use denote.Triple.Call.{calls_at}
 use Rattle.std.proofs.alloc.Calls.{Al, α, seen, token, gives_key, Gives, at_gives, Gives-goes, Gives-Gives}
-use Rattle.test_faults.specs.contracts.memory.RefusingAllocator as wrapper
-use Rattle.test_faults.specs.contracts.memory.RefusingAllocatorAllocator.deallocate as F
-use Rattle.test_faults.specs.contracts.memory.RefusingAllocatorAllocator.deallocate.Key as key
-use Rattle.test_faults.proofs.memory.RefusingAllocatorAllocator.deallocate.Statement as stated
-use Rattle.test_faults.proofs.memory.RefusingAllocatorAllocator.deallocate.Code as code
+use Rattle.test_tools.specs.contracts.memory.RefusingAllocator as wrapper
+use Rattle.test_tools.specs.contracts.memory.RefusingAllocatorAllocator.deallocate as F
+use Rattle.test_tools.specs.contracts.memory.RefusingAllocatorAllocator.deallocate.Key as key
+use Rattle.test_tools.proofs.memory.RefusingAllocatorAllocator.deallocate.Statement as stated
+use Rattle.test_tools.proofs.memory.RefusingAllocatorAllocator.deallocate.Code as code
 
 module _ (Z : Al) where
   abbrev args : Args

@@ -38,14 +38,14 @@ use denote.Triple.Call.{calls_at}
 use Rattle.std.proofs.alloc.Calls.{Al, α, seen, Answer, answer_val, Answer-typed, Answer-Ok, Answer-err, takes_key, Takes, at_takes}
 use Rattle.std.proofs.alloc.Calls.{Answered, Takes-goes, Takes-gives, answers}
 use Rattle.std.proofs.Shapes.{after}
-use Rattle.test_faults.proofs.Requests.{Refuses, at_refuses, Refuses-goes, Refuses-gives}
-use Rattle.test_faults.proofs.memory.refuses.Symbol as c_sym
-use Rattle.test_faults.proofs.memory.refuses.Met as c_met
-use Rattle.test_faults.specs.contracts.memory.RefusingAllocator as wrapper
-use Rattle.test_faults.specs.contracts.memory.RefusingAllocatorAllocator.allocate as F
-use Rattle.test_faults.specs.contracts.memory.RefusingAllocatorAllocator.allocate.Key as key
-use Rattle.test_faults.proofs.memory.RefusingAllocatorAllocator.allocate.Statement as stated
-use Rattle.test_faults.proofs.memory.RefusingAllocatorAllocator.allocate.Code as code
+use Rattle.test_tools.proofs.Requests.{Refuses, at_refuses, Refuses-goes, Refuses-gives}
+use Rattle.test_tools.proofs.memory.refuses.Symbol as c_sym
+use Rattle.test_tools.proofs.memory.refuses.Met as c_met
+use Rattle.test_tools.specs.contracts.memory.RefusingAllocator as wrapper
+use Rattle.test_tools.specs.contracts.memory.RefusingAllocatorAllocator.allocate as F
+use Rattle.test_tools.specs.contracts.memory.RefusingAllocatorAllocator.allocate.Key as key
+use Rattle.test_tools.proofs.memory.RefusingAllocatorAllocator.allocate.Statement as stated
+use Rattle.test_tools.proofs.memory.RefusingAllocatorAllocator.allocate.Code as code
 
 module _ (Z : Al) where
   abbrev args : Args
@@ -146,4 +146,4 @@ allocate_spec 𝓤 𝓛 𝓜 𝓡 wired Y L g d d' met _ =
     (λ κs. ((λ r vs s. s.0), (uint_Tells w64, (uint_Tells w64, tt))))
     (λ κs qs bounds a τ are. walk Z 𝓛 𝓜.mem 𝓡.returns 𝓣 (met.allocate d')
     (cited 𝓤 𝓛.H _ 𝓜 𝓡 𝓡.env c_sym.name (𝓡.env c_sym.name) refl (c_met.met 𝓤 𝓛 𝓜 𝓡
-    (code.calls-test_faults::memory::refuses 𝓡.env wired))) κs.0 κs.1.0 qs.0 qs.1.0 bounds.0 a.0 a.1.0 a.1.1.0 τ are.1.0.1 are.1.1.0.1)))
+    (code.calls-test_tools::memory::refuses 𝓡.env wired))) κs.0 κs.1.0 qs.0 qs.1.0 bounds.0 a.0 a.1.0 a.1.1.0 τ are.1.0.1 are.1.1.0.1)))

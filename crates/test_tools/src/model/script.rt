@@ -1,5 +1,5 @@
 //! The settings and the steps of a script.
-use crate::text::{push_tag, push_tag_value, text_of};
+use crate::model::text::{push_tag, push_tag_value, text_of};
 use std::alloc::{AllocError, Global};
 
 /// The settings of a script. A later one replaces an earlier one, but tags are added.

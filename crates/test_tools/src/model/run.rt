@@ -1,9 +1,9 @@
 //! The run of a script, and its report.
-use crate::line::line_of;
-use crate::packer::Packer;
-use crate::queue::Queue;
-use crate::script::{Settings, read_script};
-use crate::text::{push_number, push_shown};
+use crate::model::line::line_of;
+use crate::model::packer::Packer;
+use crate::model::queue::Queue;
+use crate::model::script::{Settings, read_script};
+use crate::model::text::{push_number, push_shown};
 use std::alloc::{AllocError, Global};
 
 /// The one place at which memory runs out in a run, or none. Steps and writes are each counted from 0.

@@ -21,7 +21,7 @@ use Rattle.std.specs.contracts.sync.Arc as AR
 use Rattle.std.specs.contracts.sync.atomic.AtomicU64 as AE
 use Rattle.std.specs.contracts.alloc.Global as GL
 use Rattle.std.specs.contracts.impls.GlobalAllocator.TheImpl as GI
-use Rattle.test_faults.specs.contracts.memory.refuses as RF
+use Rattle.test_tools.specs.contracts.memory.refuses as RF
 
 abbrev pub Countdown : RattleType
 Countdown = AR.the_row AE.the_row GL.the_row GI.ghosts

@@ -1,6 +1,6 @@
 //! The line of a call, made from the words of the script.
-use crate::script::Settings;
-use crate::text::{push_all, push_tag, push_tag_value, text_of};
+use crate::model::script::Settings;
+use crate::model::text::{push_all, push_tag, push_tag_value, text_of};
 use std::alloc::{AllocError, Global};
 use std::str::Split;
 

@@ -11,8 +11,6 @@
 //! - `packer`: the packer and its writer.
 //! - `run`: the run and its report, and whether a report is one that the script may have.
 //! - `text`: the texts of a script, and bytes as a report prints them.
-#![tactic(auto)]
-
 mod line;
 mod packer;
 mod queue;

@@ -3,7 +3,7 @@ use mir.Syntax.{Dict}
 use denote.RattleType.{RattleType}
 use denote.Param.Send.{Frees}
 use Rattle.std.specs.declared.alloc.Allocator.{Ghosts}
-use Rattle.test_faults.specs.contracts.memory.RefusingAllocatorAllocator.TheImpl.{ghosts}
+use Rattle.test_tools.specs.contracts.memory.RefusingAllocatorAllocator.TheImpl.{ghosts}
 
 pub frees : (A : RattleType) (g : Ghosts A.Denot) (d e : Dict) → Frees g g.dealloc_token → Frees (ghosts A g d e) (ghosts A g d e).dealloc_token
 frees A g d e f = record { frees = λ a. f.frees a.inner }

@@ -1,5 +1,5 @@
 //! The packer, and the writer that answers as the script says.
-use crate::script::Settings;
+use crate::model::script::Settings;
 use std::alloc::{AllocError, Global};
 use std::str::Split;
 
