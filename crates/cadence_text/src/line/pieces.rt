@@ -38,29 +38,8 @@ pub(crate) fn push_tag<S: LineSink>(line: &mut S, tag: &Tag<'_>)
     line.take_piece(tag.text);
 }
 
-#[inline(always)]
-fn line_with_tag<S: LineSink>(line: S, next: (bool, &Tag<'_>)) -> (S, ())
-    ensures taken { Takes S.ends_as line
-        (lead next.entry.0 ++ tag_text (tag_of next.entry.1.now)) result.0 }
-    ensures sized { IsTagInMemory (tag_of next.entry.1.now) }
-{
-    let mut line = line;
-    push_lead(&mut line, next.0);
-    push_tag(&mut line, next.1);
-    (line, ())
-}
-
-// Writes one tag and what stands before it. `mem::replace_with` moves the line into a local variable and back, so that
-// the compiler keeps the line's length in a register. It takes a function that returns a pair, hence the unit.
-#[inline(always)]
-pub(crate) fn push_next_tag<S: LineSink>(line: &mut S, begun: bool, tag: &Tag<'_>)
-    ensures taken { Takes S.ends_as line.old (lead begun ++ tag_text (tag_of tag.now)) line.new }
-    ensures sized { IsTagInMemory (tag_of tag.now) }
-{
-    mem::replace_with(line, (begun, tag), line_with_tag);
-}
-
-// Returns the line with tags at its end, for `mem::replace_with`, as `line_with_tag` does for one tag.
+// Returns the line with tags at its end. `mem::replace_with` moves the line into a local variable and back, so that the
+// compiler keeps the line's length in a register. It takes a function that returns a pair, hence the unit.
 fn line_with_tags<S: LineSink>(line: S, tags: &[Tag<'_>]) -> (S, ())
     ensures taken { Takes S.ends_as line (tags_field (map tag_of tags.now)) result.0 }
     ensures sized { AreTagsInMemory (map tag_of tags.now) }

@@ -6,7 +6,7 @@ ghost use Rattle.cadence_text.specs.Record.{tag_of};
 ghost use Rattle.cadence_text.specs.Representable.{IsRepresentableTag};
 
 use crate::line::line_buf::LineBuf;
-use crate::line::pieces::push_next_tag;
+use crate::line::pieces::{push_lead, push_tag};
 use crate::line::tag::Tag;
 use std::alloc::{AllocError, Allocator, Global};
 use std::marker::Model;
@@ -42,7 +42,8 @@ pub(crate) fn add_to<A: Allocator>(
         return Err(AllocError);
     };
     line.reserve(room)?;
-    push_next_tag(line, begun, tag);
+    push_lead(line, begun);
+    push_tag(line, tag);
     Ok(())
 }
 
