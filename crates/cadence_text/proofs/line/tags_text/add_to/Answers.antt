@@ -1,7 +1,8 @@
-use Rattle.std.proofs.Common.{◌≡◌, ◌+◌, ◌≤◌, [], ◌++◌, arith, length, rules, length-append}
+use Rattle.std.proofs.Common.{◌≡◌, ◌+◌, ◌≤◌, ◌∙◌, [], ◌++◌, ap, arith, length, rules, length-append, append_assoc, sym}
 use Rattle.cadence_text.specs.Draft.{lead}
 use Rattle.cadence_text.specs.Line.{tag_text}
 use Rattle.cadence_text.specs.Record.{tag_of}
+use Rattle.cadence_text.specs.Sink.{text_up_to}
 use Rattle.cadence_text.proofs.DraftText.{lead_short, tag_utf8}
 use Rattle.cadence_text.proofs.LineLength.{said_tag}
 use Rattle.cadence_text.proofs.SinkEnds.{filled_more}
@@ -15,13 +16,14 @@ returns-clause-ok g c =
     let (some, few) = lead_short c.args.begun in
     let room : length text + 2 ≤ c.in-Some.room = search rules in
     let end : c.reserve.new.self.end ≡ length old + c.in-Some.room = search rules in
-    filled_more c.reserve.new.self.end c.push_next_tag.new.line.end old c.reserve.new.self.bytes.items
-    c.push_next_tag.new.line.bytes.items (before ++ text)
+    filled_more c.reserve.new.self.end c.push_tag.new.line.end old c.reserve.new.self.bytes.items
+    c.push_tag.new.line.bytes.items (before ++ text)
     (omega (arith, some, length-append before text)) (omega (arith, few, room, end, length-append before text)) c.reserve.ensures.text
-    (c.push_next_tag.ensures.taken [])
+    (c.push_tag.ensures.taken [] ∙ c.push_lead.ensures (text ++ [])
+    ∙ ap (λ m. text_up_to c.reserve.new.self.end (c.reserve.new.self.bytes.items ++ m)) (sym (append_assoc before text [])))
 
 pub returns-clause-utf8 : goal.returns-clause-utf8
-returns-clause-utf8 g c = tag_utf8 c.args.begun (tag_of c.args.tag.now) c.push_next_tag.ensures.sized
+returns-clause-utf8 g c = tag_utf8 c.args.begun (tag_of c.args.tag.now) c.push_tag.ensures.sized
 
 pub returns-clause-said : goal.returns-clause-said
-returns-clause-said g c = said_tag (tag_of c.args.tag.now) c.push_next_tag.ensures.sized
+returns-clause-said g c = said_tag (tag_of c.args.tag.now) c.push_tag.ensures.sized
