@@ -1,24 +1,28 @@
 //! Facts that follow from the definitions, for proofs to cite. The functions do nothing when they run.
-ghost use Rattle.std.specs.Prelude.{◌≡◌, ◌↔◌, ℕ, List, IsTrue, Result};
+ghost use Rattle.std.specs.Prelude.{◌≡◌, ◌↔◌, ℕ, Bool, List, IsTrue, Result};
 ghost use Rattle.cadence_errors.specs.declared.MetricError.{MetricError};
 ghost use Rattle.cadence_text.specs.Draft.{Draft};
 ghost use Rattle.cadence_schedule.specs.Call.{Choice};
-ghost use Rattle.cadence.specs.Sending.{Chooses, ChoosesOrFails, StandsForMore};
+ghost use Rattle.cadence.specs.Sending.{Chooses, ChoosesIf, ChoosesOrFails, StandsForMore};
 
 use crate::types::MetricText;
 use cadence_schedule::an_option_is_chosen;
-pub use cadence_schedule::{packets_read_one_way, tight_is_fewest};
+pub use cadence_schedule::{
+    free_texts_pass, packets_read_one_way, strict_calls_are_free, tight_is_fewest,
+};
 pub use cadence_text::laws::{line_reads_one_way, no_line_is_empty, packet_reads_one_way};
 pub use cadence_value::laws::decimals_equal_by_number;
 use std::alloc::Allocator;
 
 /// If a builder has the draft of a call, then after one more option it has the draft of this call with the option. An
-/// option that ran out of memory leaves an error, which stands for any call.
+/// option that was refused or ran out of memory leaves an error, which stands for any call.
 pub fn choosing_stands_for_more()
     ensures chosen { (old new : Result Draft MetricError) (option : Choice) →
         Chooses old option new → StandsForMore old option new }
-    ensures held { (old new : Result Draft MetricError) (option : Choice) →
-        ChoosesOrFails old option new → StandsForMore old option new }
+    ensures tested { (old new : Result Draft MetricError) (allowed : Bool) (option : Choice) →
+        ChoosesIf old allowed option new → StandsForMore old option new }
+    ensures held { (old new : Result Draft MetricError) (allowed : Bool) (option : Choice) →
+        ChoosesOrFails old allowed option new → StandsForMore old option new }
 {
     an_option_is_chosen();
 }
