@@ -1,6 +1,7 @@
 -- What a builder of a metric stores, and what the calls that send a metric may return. A pending draft is the draft
 -- that a builder stores, or the error that it stores instead.
-use Rattle.std.specs.Prelude.{◌≡◌, ℕ, ◌⊎◌, List, Option, Some, None, Result, Ok, Err, IfOk, String, string_bytes}
+use Rattle.std.specs.Prelude.{◌≡◌, ℕ, ◌⊎◌, List, [], Option, Some, None, Result, Ok, Err, IfOk, String, string_bytes}
+use Rattle.std.specs.Prelude.{Bool, true, false, IsTrue}
 use Rattle.std.specs.Option.{option_map}
 use Rattle.cadence_text.specs.declared.line.MetricType.{MetricType}
 use Rattle.cadence_errors.specs.declared.MetricError.{MetricError}
@@ -9,10 +10,11 @@ use Rattle.cadence_errors.specs.declared.SinkError.{SinkError}
 use Rattle.cadence_errors.specs.Errors.{IsInvalid, out_of_memory}
 use Rattle.cadence_text.specs.Draft.{Draft, draft_line, draft_of, with_tag_text}
 use Rattle.cadence_text.specs.Line.{line_of}
-use Rattle.cadence_text.specs.Metric.{Metric}
+use Rattle.cadence_text.specs.Metric.{Metric, Tag}
 use Rattle.cadence_value.specs.Number.{Number}
 use Rattle.cadence_schedule.specs.Call.{Choice, tagged, contained, timed, rated, MetricCall, metric_of_call, plain_call, with_choice}
-use Rattle.cadence_schedule.specs.Settings.{Settings}
+use Rattle.cadence_schedule.specs.Call.{allows_choice, numbers_if_allowed}
+use Rattle.cadence_schedule.specs.Settings.{Settings, FailsFor}
 
 -- for each text, which results a sink may return for it
 abbrev pub SinkResults : Type 1
@@ -38,18 +40,20 @@ IsLineText line text = text ≡ line
 abbrev pub IsMadeFrom : {M Z : Type 0} → (String Z → M → Type 0) → List ℕ → M → Type 0
 IsMadeFrom {M} {Z} gives line m = (s : String Z) × (string_bytes s ≡ line) × gives s m
 
--- the metric of a call without options, if its value has numbers
+-- the metric of a call without options, if its value has numbers and the settings allow the call
 abbrev pub plain_metric_of : Settings → MetricType → List ℕ → Option (List Number) → Option Metric
-plain_metric_of settings kind key numbers = option_map (λ ns. metric_of_call settings (plain_call kind key ns)) numbers
+plain_metric_of settings kind key numbers =
+    option_map (λ ns. metric_of_call settings (plain_call kind key ns)) (numbers_if_allowed settings (plain_call kind key []) numbers)
 
--- A call sent the line of its metric. If its value has no numbers, it returned an invalid input instead.
+-- A call sent the line of its metric. If there is no metric, it returned an invalid input instead.
 abbrev pub SendsMetric : {M : Type 0} → SinkResults → (List ℕ → M → Type 0) → Option Metric → Result M MetricError → Type 0
 SendsMetric may made (Some m) r = SendsLine may made (line_of m) r
 SendsMetric may made None (Ok m) = ⊥
 SendsMetric may made None (Err e) = IsInvalid e
 
 -- A call of this kind, without options, sent the line of its metric and returned it as the metric. The errors are an
--- invalid input if its value has no numbers, out of memory, and those that the sink may return for this line.
+-- invalid input if its value has no numbers or the settings don't allow the call, out of memory, and those that the
+-- sink may return for this line.
 pub record SendsPlain (settings : Settings) (may : SinkResults) (kind : MetricType) (key : List ℕ) (numbers : Option (List Number))
     (result : Result (List ℕ) MetricError) : Type 0 where
   pub is : SendsMetric may IsLineText (plain_metric_of settings kind key numbers) result
@@ -62,7 +66,7 @@ MakesDraft None (Ok d) = ⊥
 MakesDraft None (Err e) = IsInvalid e
 
 -- A builder of this kind starts with the draft of the call without options, or with the error that memory ran out. If
--- the call's value has no numbers, it starts with an invalid input.
+-- the call's value has no numbers or the settings don't allow the call, it starts with an invalid input.
 pub record StartsPlain (settings : Settings) (kind : MetricType) (key : List ℕ) (numbers : Option (List Number))
     (pending : Result Draft MetricError) : Type 0 where
   pub is : MakesDraft (plain_metric_of settings kind key numbers) pending
@@ -80,21 +84,36 @@ abbrev pub Chooses : Result Draft MetricError → Choice → Result Draft Metric
 Chooses (Err e) o new = new ≡ Err e
 Chooses (Ok d) o new = new ≡ Ok (draft_with_choice d o)
 
--- An option that requests memory changed the pending draft `old` to `new`: a draft has the option, or memory ran out;
--- an error stays.
-abbrev pub ChoosesOrFails : Result Draft MetricError → Choice → Result Draft MetricError → Type 0
-ChoosesOrFails (Err e) o new = new ≡ Err e
-ChoosesOrFails (Ok d) o (Ok n) = n ≡ draft_with_choice d o
-ChoosesOrFails (Ok d) o (Err e) = e ≡ out_of_memory
+-- An option that requests no memory changed the pending draft `old` to `new`. A draft has the option if it is allowed
+-- (`true`), and otherwise there is an invalid input. An error stays.
+abbrev pub ChoosesIf : Result Draft MetricError → Bool → Choice → Result Draft MetricError → Type 0
+ChoosesIf (Err e) allowed o new = new ≡ Err e
+ChoosesIf (Ok d) true o new = new ≡ Ok (draft_with_choice d o)
+ChoosesIf (Ok d) false o (Ok n) = ⊥
+ChoosesIf (Ok d) false o (Err e) = IsInvalid e
 
--- `HasChosen` is `Chooses` as a record, and `HasChosenOrFailed` is `ChoosesOrFails` as a record. The contracts of a
--- builder's calls name the records, so that a proof about a chain of calls has one fact for each call and doesn't split
--- it into cases.
+-- An option that requests memory changed the pending draft `old` to `new`. If the option is allowed (`true`), a draft
+-- has the option or memory ran out, and otherwise there is an invalid input. An error stays.
+abbrev pub ChoosesOrFails : Result Draft MetricError → Bool → Choice → Result Draft MetricError → Type 0
+ChoosesOrFails (Err e) allowed o new = new ≡ Err e
+ChoosesOrFails (Ok d) allowed o (Ok n) = IsTrue allowed × (n ≡ draft_with_choice d o)
+ChoosesOrFails (Ok d) allowed o (Err e) = FailsFor allowed e
+
+-- A tag was added to the pending draft, if the settings allow the tag.
+abbrev pub TagsOrFails : Settings → Result Draft MetricError → Tag → Result Draft MetricError → Type 0
+TagsOrFails settings old tag new = ChoosesOrFails old (allows_choice settings (tagged tag)) (tagged tag) new
+
+-- `HasChosen`, `HasChosenIf` and `HasChosenOrFailed` are the facts `Chooses`, `ChoosesIf` and `ChoosesOrFails` as
+-- records; in the last two, the settings say what is allowed. The contracts of a builder's calls name the records, so
+-- that a proof about a chain of calls has one fact for each call and doesn't split it into cases.
 pub record HasChosen (old : Result Draft MetricError) (o : Choice) (new : Result Draft MetricError) : Type 0 where
   pub is : Chooses old o new
 
-pub record HasChosenOrFailed (old : Result Draft MetricError) (o : Choice) (new : Result Draft MetricError) : Type 0 where
-  pub is : ChoosesOrFails old o new
+pub record HasChosenIf (settings : Settings) (old : Result Draft MetricError) (o : Choice) (new : Result Draft MetricError) : Type 0 where
+  pub is : ChoosesIf old (allows_choice settings o) o new
+
+pub record HasChosenOrFailed (settings : Settings) (old : Result Draft MetricError) (o : Choice) (new : Result Draft MetricError) : Type 0 where
+  pub is : ChoosesOrFails old (allows_choice settings o) o new
 
 -- A builder sent the line of its draft. If it stored an error, it returned this error instead.
 abbrev pub SendsPending : {M : Type 0} → SinkResults → (List ℕ → M → Type 0) → Result Draft MetricError → Result M MetricError → Type 0

@@ -1,13 +1,21 @@
 -- What contracts show of a client, of its builder and of the builder of a metric, whose fields are private.
-use Rattle.std.specs.Prelude.{◌≡◌, Option, Some, Result}
+use Rattle.std.specs.Prelude.{◌≡◌, Bool, IsTrue, Result, Ok, Err}
 use Rattle.std.specs.declared.dyn_box.DynBox.{DynBox}
 use Rattle.cadence_errors.specs.declared.MetricError.{MetricError}
 use Rattle.cadence_text.specs.Draft.{Draft}
+use Rattle.cadence_text.specs.Metric.{Tag}
 use Rattle.cadence.specs.declared.client.builder.MetricBuilder.{MetricBuilder}
 use Rattle.cadence.specs.declared.client.handler.BoxedErrorHandler.{BoxedErrorHandler}
 use Rattle.cadence.specs.declared.client.statsd_client.StatsdClient.{StatsdClient}
 use Rattle.cadence.specs.declared.client.client_builder.StatsdClientBuilder.{StatsdClientBuilder}
-use Rattle.cadence_schedule.specs.Settings.{Settings, Changes}
+use Rattle.cadence_schedule.specs.Settings.{Settings, FailsFor, allows_tag, with_default_tag}
+
+-- Settings, or the first error of the calls that made them, are changed. An error stays. If the settings allow the change, they are the changed
+-- ones, or memory ran out; otherwise there is an invalid input.
+abbrev pub Changes : Result Settings MetricError → (Settings → Bool) → (Settings → Settings) → Result Settings MetricError → Type 0
+Changes (Err e) allows change new = new ≡ Err e
+Changes (Ok s) allows change (Ok t) = IsTrue (allows s) × (t ≡ change s)
+Changes (Ok s) allows change (Err e) = FailsFor (allows s) e
 
 module _ {T C Z : Type 0} where
   -- the pending draft of a metric's builder: the draft of the metric so far, or an error
@@ -36,8 +44,8 @@ module _ {Z S H : Type 0} where
   abbrev pub handler_of_client : StatsdClient Z S H → H
   handler_of_client c = c.handler
 
-  -- the settings that a client's builder has so far, or none if memory ran out
-  abbrev pub settings_of_builder : StatsdClientBuilder Z S H → Option Settings
+  -- the settings that a client's builder has so far, or the first error of its calls
+  abbrev pub settings_of_builder : StatsdClientBuilder Z S H → Result Settings MetricError
   settings_of_builder b = b.settings
 
   -- the sink of a client's builder
@@ -48,15 +56,19 @@ module _ {Z S H : Type 0} where
   abbrev pub handler_of_builder : StatsdClientBuilder Z S H → H
   handler_of_builder b = b.handler
 
-  -- The builder's settings were changed by `change`, unless memory ran out, and its sink and its handler stayed the
-  -- same.
-  pub record AddsDefault (change : Settings → Settings) (old new : StatsdClientBuilder Z S H) : Type 0 where
-    pub settings : Changes (settings_of_builder old) change (settings_of_builder new)
+  -- The builder's settings were changed by `change`, unless they don't allow the change or memory ran out. Its sink and
+  -- its handler stayed the same.
+  pub record AddsDefault (allows : Settings → Bool) (change : Settings → Settings) (old new : StatsdClientBuilder Z S H) : Type 0 where
+    pub settings : Changes (settings_of_builder old) allows change (settings_of_builder new)
     pub sink : sink_of_builder new ≡ sink_of_builder old
     pub handler : handler_of_builder new ≡ handler_of_builder old
 
+  -- The builder added a default tag, or has an error.
+  abbrev pub AddsDefaultTag : Tag → StatsdClientBuilder Z S H → StatsdClientBuilder Z S H → Type 0
+  AddsDefaultTag tag old new = AddsDefault (λ s. allows_tag s tag) (λ s. with_default_tag s tag) old new
+
   -- The client has the builder's settings, sink and handler.
   pub record IsBuiltFrom (b : StatsdClientBuilder Z S H) (c : StatsdClient Z S H) : Type 0 where
-    pub settings : settings_of_builder b ≡ Some (settings_of_client c)
+    pub settings : settings_of_builder b ≡ Ok (settings_of_client c)
     pub sink : sink_of_client c ≡ sink_of_builder b
     pub handler : handler_of_client c ≡ handler_of_builder b

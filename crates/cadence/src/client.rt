@@ -12,7 +12,7 @@ mod traits;
 
 pub use backend::MetricBackend;
 pub use builder::MetricBuilder;
-pub use cadence_schedule::ClientSettings;
+pub use cadence_schedule::{ClientSettings, DraftError};
 pub use client_builder::StatsdClientBuilder;
 pub use handler::{BoxedErrorHandler, BoxedHandler, ErrorHandler, NopErrorHandler};
 pub use metric_client::MetricClient;

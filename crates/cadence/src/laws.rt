@@ -1,25 +1,29 @@
 //! Facts that follow from the definitions, for proofs to cite. The functions do nothing when they run.
-ghost use Rattle.std.specs.Prelude.{◌≡◌, ◌↔◌, ℕ, List, IsTrue, Result};
+ghost use Rattle.std.specs.Prelude.{◌≡◌, ◌↔◌, ℕ, Bool, List, IsTrue, Result};
 ghost use Rattle.cadence_errors.specs.declared.MetricError.{MetricError};
 ghost use Rattle.cadence_text.specs.Draft.{Draft};
 ghost use Rattle.cadence_schedule.specs.Call.{Choice};
-ghost use Rattle.cadence.specs.Sending.{Chooses, ChoosesOrFails, StandsForMore};
+ghost use Rattle.cadence.specs.Sending.{Chooses, ChoosesIf, ChoosesOrFails, StandsForMore};
 
 use crate::types::MetricText;
 use cadence_schedule::an_option_is_chosen;
-pub use cadence_schedule::{packets_read_one_way, tight_is_fewest};
+pub use cadence_schedule::{
+    free_texts_pass, packets_read_one_way, strict_calls_are_free, tight_is_fewest,
+};
 pub use cadence_text::laws::{line_reads_one_way, no_line_is_empty, packet_reads_one_way};
 pub use cadence_value::laws::decimals_equal_by_number;
 use std::alloc::Allocator;
 
 /// States that a builder that has the draft of a call's metric has, after one more option, the draft of the metric of
-/// this call with the option. If memory ran out for the option, the builder has an error instead, which is right for
-/// any call.
+/// this call with the option. If the option was refused or memory ran out, the builder has an error instead, which is
+/// right for any call.
 pub fn choosing_stands_for_more()
     ensures chosen { (old new : Result Draft MetricError) (option : Choice) →
         Chooses old option new → StandsForMore old option new }
-    ensures held { (old new : Result Draft MetricError) (option : Choice) →
-        ChoosesOrFails old option new → StandsForMore old option new }
+    ensures tested { (old new : Result Draft MetricError) (allowed : Bool) (option : Choice) →
+        ChoosesIf old allowed option new → StandsForMore old option new }
+    ensures held { (old new : Result Draft MetricError) (allowed : Bool) (option : Choice) →
+        ChoosesOrFails old allowed option new → StandsForMore old option new }
 {
     an_option_is_chosen();
 }

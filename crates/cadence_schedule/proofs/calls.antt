@@ -1,4 +1,5 @@
 -- Calls: their options and metrics, the drafts of their lines, and the prefix.
 pub mod CallOptions
+pub mod FreeTexts
 pub mod NonemptyLines
 pub mod TrailingDots

@@ -1,7 +1,8 @@
 -- Calls, their options, and the metric that a call makes with the settings of a client.
 use Rattle.std.specs.Prelude.{◌≡◌, ℕ, Option, None, Some, List, [], ◌∷◌, ◌++◌, Result, Ok, Err}
 use Rattle.std.specs.Option.{option_or}
-use Rattle.std.specs.List.{filter_map, fold}
+use Rattle.std.specs.Prelude.{Bool, true, not, ◌&&◌, ◌||◌, if◌then◌else◌}
+use Rattle.std.specs.List.{filter_map, fold, list_all}
 use Rattle.cadence_text.specs.declared.line.MetricType.{MetricType}
 use Rattle.cadence_errors.specs.declared.MetricError.{MetricError}
 use Rattle.cadence_errors.specs.Errors.{IsInvalid, out_of_memory}
@@ -9,6 +10,7 @@ use Rattle.cadence_text.specs.Draft.{Draft, draft_of}
 use Rattle.cadence_text.specs.Metric.{Metric, Tag}
 use Rattle.cadence_text.specs.Representable.{IsRepresentable}
 use Rattle.cadence_value.specs.Number.{Number}
+use Rattle.cadence_schedule.specs.FreeTexts.{is_free_text, is_free_tag}
 use Rattle.cadence_schedule.specs.Settings.{Settings}
 
 -- what one option of a call chooses: a tag, the container, the time or the sampling rate
@@ -65,6 +67,29 @@ plain_call kind key numbers = record { kind = kind; key = key; numbers = numbers
 abbrev pub with_choice : MetricCall → Choice → MetricCall
 with_choice c o = record c { choices = c.choices ++ o ∷ [] }
 
+-- whether no text of the option has a separator
+abbrev pub is_free_choice : Choice → Bool
+is_free_choice (tagged t) = is_free_tag t
+is_free_choice (contained c) = is_free_text c
+is_free_choice (timed n) = true
+is_free_choice (rated r) = true
+
+-- whether no text of the call has a separator: neither its key nor a tag or a container that it sets
+abbrev pub is_free_call : MetricCall → Bool
+is_free_call c = list_all is_free_choice c.choices && is_free_text c.key
+
+-- whether the settings allow the option: each option, or if they are strict, each one without a separator
+abbrev pub allows_choice : Settings → Choice → Bool
+allows_choice s o = not s.strict || is_free_choice o
+
+-- whether the settings allow the call: each call, or if they are strict, each one without a separator
+abbrev pub allows_call : Settings → MetricCall → Bool
+allows_call s c = not s.strict || is_free_call c
+
+-- the numbers of a call, or none if the settings don't allow the call
+abbrev pub numbers_if_allowed : Settings → MetricCall → Option (List Number) → Option (List Number)
+numbers_if_allowed s c numbers = if allows_call s c then numbers else None
+
 -- The metric of a call. Its name is the prefix and the key; its tags are the default tags and then the call's own; its
 -- container is the last one that the call sets, or the default one if there is none; its rate and its time are the last
 -- ones that the call sets.
@@ -91,7 +116,7 @@ abbrev pub IsDraftOf : Metric → Draft → Type 0
 IsDraftOf m draft = (draft ≡ draft_of m) × IsRepresentable m
 
 -- A function returns the metric, or `OutOfMemory`; if there is no metric, because a duration of the call passes 64
--- bits, it returns an error of kind `InvalidInput`.
+-- bits or the settings don't allow the call, it returns an error of kind `InvalidInput`.
 abbrev pub MakesMetric : Option Metric → Result Metric MetricError → Type 0
 MakesMetric (Some m) (Ok r) = r ≡ m
 MakesMetric (Some m) (Err e) = e ≡ out_of_memory

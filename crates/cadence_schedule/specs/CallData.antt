@@ -17,7 +17,7 @@ use Rattle.cadence_schedule.specs.declared.call.CallValue.TheVariants.{Histogram
 use Rattle.cadence_schedule.specs.declared.call.CallValue.TheVariants.{HistogramVecDecimal, HistogramVecDuration, DistributionU64}
 use Rattle.cadence_schedule.specs.declared.call.CallValue.TheVariants.{DistributionDecimal, DistributionVecU64, DistributionVecDecimal}
 use Rattle.cadence_schedule.specs.declared.call.CallValue.TheVariants.{SetI64}
-use Rattle.cadence_schedule.specs.Call.{Choice, tagged, contained, timed, rated, MetricCall, metric_of_call}
+use Rattle.cadence_schedule.specs.Call.{Choice, tagged, contained, timed, rated, MetricCall, metric_of_call, numbers_if_allowed}
 use Rattle.cadence_schedule.specs.Settings.{Settings, keyed, unkeyed}
 
 -- the kind of metric that a value is for
@@ -83,10 +83,14 @@ choice_of (Rate r) = rated r
 abbrev pub call_of : {Z : Type 0} → Call Z → List Number → MetricCall
 call_of c numbers = record { kind = kind_of_value c.value; key = string_bytes c.key; numbers = numbers; choices = map choice_of c.options.items }
 
--- the metric of a call, or none if a duration of it passes 64 bits
-abbrev pub metric_of_data : {Z : Type 0} → Settings → Call Z → Option Metric
-metric_of_data s c = option_map (λ ns. metric_of_call s (call_of c ns)) (numbers_of_value c.value)
+-- the numbers of a call, or none if a duration of it passes 64 bits or the settings don't allow the call
+abbrev pub numbers_of_data : {Z : Type 0} → Settings → Call Z → Option (List Number)
+numbers_of_data s c = numbers_if_allowed s (call_of c []) (numbers_of_value c.value)
 
--- the line of a call, or none if a duration of it passes 64 bits
+-- the metric of a call, or none if a duration of it passes 64 bits or the settings don't allow the call
+abbrev pub metric_of_data : {Z : Type 0} → Settings → Call Z → Option Metric
+metric_of_data s c = option_map (λ ns. metric_of_call s (call_of c ns)) (numbers_of_data s c)
+
+-- the line of a call, or none if a duration of it passes 64 bits or the settings don't allow the call
 abbrev pub line_of_data : {Z : Type 0} → Settings → Call Z → Option (List ℕ)
 line_of_data s c = option_map line_of (metric_of_data s c)

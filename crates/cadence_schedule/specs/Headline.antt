@@ -1,6 +1,6 @@
 -- What is promised of a run: the headline (`HasHeadline`), and more beside it (`IsAccounted`). The contract of
 -- `run_schedule_with` cites both.
-use Rattle.std.specs.Prelude.{◌≡◌, ℕ, ◌+◌, ◌%◌, ◌^◌, List, [], ◌++◌, Option, true, All, codes, length, map, drop, string_bytes}
+use Rattle.std.specs.Prelude.{◌≡◌, ℕ, ◌+◌, ◌%◌, ◌^◌, List, [], ◌++◌, Option, Bool, true, All, codes, length, map, drop, string_bytes}
 use Rattle.std.specs.List.{concat, zip}
 use Rattle.std.specs.Option.{option_map}
 use Rattle.cadence_text.specs.Line.{line_of}
@@ -22,10 +22,11 @@ use Rattle.cadence_schedule.specs.Replies.{MayReplyAfter}
 use Rattle.cadence_schedule.specs.Report.{Outcome}
 use Rattle.cadence_schedule.specs.Settings.{Settings}
 
--- what a run is given: the metric of each call, the writer's kind and its history before the run, the packer's
--- capacity and ending, the queue's capacity and policy, and the steps
+-- what a run is given: the metric of each call, whether the settings are strict, the writer's kind and its history
+-- before the run, the packer's capacity and ending, the queue's capacity and policy, and the steps
 pub record Given (A : Type 0) : Type 0 where
   pub metric_of : Call A → Option Metric
+  pub strict : Bool
   pub kind : WriterKind
   pub before : PacketHistory
   pub format : Format
@@ -39,6 +40,7 @@ abbrev pub given_of : {W A : Type 0} → (W → WriterKind) → (W → PacketHis
 given_of kind history settings capacity ending queue policy steps writer =
     record {
       metric_of = metric_of_data settings;
+      strict = settings.strict;
       kind = kind writer;
       before = history writer;
       format = record { capacity = capacity; ending = ending };
@@ -47,7 +49,7 @@ given_of kind history settings capacity ending queue policy steps writer =
       steps = steps;
     }
 
--- the line of a call, or none if a duration of it passes 64 bits
+-- the line of a call, or none if a duration of it passes 64 bits or the settings don't allow the call
 abbrev pub line_by : {A : Type 0} → Given A → Call A → Option (List ℕ)
 line_by given call = option_map line_of (given.metric_of call)
 
@@ -151,4 +153,10 @@ module _ {W A : Type 0} (history : W → PacketHistory) (given : Given A) (outco
     -- With the newline as ending, and kept metrics that are free of separators: a listener reads the kept metrics, and
     -- no others.
     pub one_reading : TellsWhole given.kind → given.format.ending ≡ codes "\n" → All IsFreeOfSeparators (kept given.metric_of turns_of)
+        → ReadsAs (kept given.metric_of turns_of) packets_of outcome.held
+    -- With strict settings, the kept metrics are free of separators, whatever texts the calls have.
+    pub strict_free : given.strict ≡ true → All IsFreeOfSeparators (kept given.metric_of turns_of)
+    -- With the newline as ending and strict settings, a listener reads the kept metrics, and no others, whatever texts
+    -- the calls have.
+    pub strict_reading : TellsWhole given.kind → given.format.ending ≡ codes "\n" → given.strict ≡ true
         → ReadsAs (kept given.metric_of turns_of) packets_of outcome.held

@@ -1,12 +1,19 @@
 -- The settings of a client: what it adds to each call.
-use Rattle.std.specs.Prelude.{◌≡◌, ℕ, ◌==◌, if◌then◌else◌, Option, None, Some, List, [], ◌∷◌, ◌++◌, IfSome, codes}
+use Rattle.std.specs.Prelude.{◌≡◌, ℕ, ◌==◌, if◌then◌else◌, Option, None, Some, List, [], ◌∷◌, ◌++◌, codes}
+use Rattle.std.specs.Prelude.{Bool, true, false, not, ◌&&◌, ◌||◌}
+use Rattle.std.specs.List.{list_all}
+use Rattle.cadence_errors.specs.Errors.{IsInvalid, out_of_memory}
+use Rattle.cadence_errors.specs.declared.MetricError.{MetricError}
 use Rattle.cadence_text.specs.Metric.{Tag}
+use Rattle.cadence_schedule.specs.FreeTexts.{is_free_text, is_free_if_any, is_free_tag}
 
--- the prefix as each line begins with it, the default tags in their order, and the default container
+-- the prefix as each line begins with it, the default tags in their order, the default container, and whether the
+-- settings are strict: strict settings refuse each text that has a separator
 pub record Settings : Type 0 where
   pub prefix : List ℕ
   pub tags : List Tag
   pub container : Option (List ℕ)
+  pub strict : Bool
 
 -- a tag with a key
 abbrev pub keyed : List ℕ → List ℕ → Tag
@@ -32,9 +39,9 @@ abbrev pub client_prefix : List ℕ → List ℕ
 client_prefix [] = []
 client_prefix (c ∷ cs) = without_dots (c ∷ cs) ++ codes "."
 
--- settings with this prefix and without defaults
+-- settings with this prefix, without defaults and not strict
 abbrev pub settings_of : List ℕ → Settings
-settings_of prefix = record { prefix = client_prefix prefix; tags = []; container = None }
+settings_of prefix = record { prefix = client_prefix prefix; tags = []; container = None; strict = false }
 
 -- the settings with one more default tag, at the end
 abbrev pub with_default_tag : Settings → Tag → Settings
@@ -44,8 +51,24 @@ with_default_tag s tag = record s { tags = s.tags ++ tag ∷ [] }
 abbrev pub with_default_container : Settings → List ℕ → Settings
 with_default_container s container = record s { container = Some container }
 
--- Settings that may be missing, because memory ran out for an earlier change, are changed: they are missing still, or
--- are the changed ones, or are missing now because memory ran out.
-abbrev pub Changes : Option Settings → (Settings → Settings) → Option Settings → Type 0
-Changes None change new = new ≡ None
-Changes (Some s) change new = IfSome new (λ t. t ≡ change s)
+-- the settings as strict ones
+abbrev pub with_strict_texts : Settings → Settings
+with_strict_texts s = record s { strict = true }
+
+-- whether no text of the settings has a separator: neither the prefix nor a default tag nor the default container
+abbrev pub is_free_settings : Settings → Bool
+is_free_settings s = is_free_text s.prefix && (list_all is_free_tag s.tags && is_free_if_any s.container)
+
+-- whether the settings allow the text: each text, or if they are strict, each text without a separator
+abbrev pub allows_text : Settings → List ℕ → Bool
+allows_text s text = not s.strict || is_free_text text
+
+-- whether the settings allow the tag: each tag, or if they are strict, each tag without a separator
+abbrev pub allows_tag : Settings → Tag → Bool
+allows_tag s tag = not s.strict || is_free_tag tag
+
+-- The error says why a text was not taken: memory ran out if the text is allowed (`true`), and otherwise the text has a
+-- separator, which is an invalid input.
+abbrev pub FailsFor : Bool → MetricError → Type 0
+FailsFor true e = e ≡ out_of_memory
+FailsFor false e = IsInvalid e

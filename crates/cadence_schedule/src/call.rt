@@ -1,11 +1,12 @@
 //! Calls that are kept as data: a key, a value and options, from which a client makes the metric later.
-ghost use Rattle.std.specs.Prelude.{◌≡◌, OnOk, map};
+ghost use Rattle.std.specs.Prelude.{◌≡◌, [], OnOk, map};
 ghost use Rattle.std.specs.List.{fold};
 ghost use Rattle.cadence_value.specs.Values.{Converts};
 ghost use Rattle.cadence_text.specs.Metric.{Metric};
-ghost use Rattle.cadence_schedule.specs.Call.{IsDraftOf, chosen};
-ghost use Rattle.cadence_schedule.specs.CallData.{choice_of, kind_of_value, numbers_of_value};
+ghost use Rattle.cadence_schedule.specs.Call.{IsDraftOf, chosen, is_free_call, is_free_choice};
+ghost use Rattle.cadence_schedule.specs.CallData.{call_of, choice_of, kind_of_value, numbers_of_value};
 
+use super::settings::{tag_is_free, text_is_free};
 use cadence_errors::MetricResult;
 use cadence_text::line::{DraftLine, MetricType, Tag};
 use cadence_value::decimal::Decimal;
@@ -129,6 +130,34 @@ impl<A: Allocator + Clone> CallValue<A> {
             CallValue::TimeVecDuration(ds) => ToTimerValue::try_to_value(ds),
             CallValue::HistogramVecDuration(ds) => ToHistogramValue::try_to_value(ds),
         }
+    }
+}
+
+impl<A: Allocator> CallOption<A> {
+    // Returns whether no text of the option has a separator.
+    fn is_free(&self) -> bool
+        ensures { result ≡ is_free_choice (choice_of self.now) }
+    {
+        match self {
+            CallOption::Tag(key, text) => tag_is_free(Some(key.as_str()), text.as_str()),
+            CallOption::TagValue(text) => tag_is_free(None, text.as_str()),
+            CallOption::Container(text) => text_is_free(text.as_str()),
+            CallOption::Time(_) | CallOption::Rate(_) => true,
+        }
+    }
+}
+
+impl<A: Allocator> Call<A> {
+    // Returns whether no text of the call has a separator.
+    pub(crate) fn is_free(&self) -> bool
+        ensures { result ≡ is_free_call (call_of self.now []) }
+    {
+        for option in &self.options {
+            if !option.is_free() {
+                return false;
+            }
+        }
+        text_is_free(&self.key)
     }
 }
 

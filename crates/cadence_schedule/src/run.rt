@@ -12,7 +12,7 @@ ghost use Rattle.cadence_schedule.specs.Running.{IsAtStart, state_of};
 ghost use Rattle.cadence_flow.specs.declared.queue.policy.QueuePolicy.TheVariants.{Refuse};
 
 use super::counting::CountingWriter;
-use super::laws::{packets_read_one_way, tight_is_fewest};
+use super::laws::{packets_read_one_way, strict_calls_are_free, tight_is_fewest};
 use super::reports::Report;
 use super::running::Running;
 use super::settings::ClientSettings;
@@ -109,7 +109,8 @@ fn run_steps<P: PacketWriter, A: Allocator + Clone>(
 /// to a packer, which packs them into packets of at most `capacity` bytes for `writer`.
 ///
 /// - `Call` formats the line of a call with the settings and puts it into the queue. If the queue is full, `policy`
-///   says whether the call is refused or the oldest line is dropped for it.
+///   says whether the call is refused or the oldest line is dropped for it. Strict settings refuse a call that has a
+///   separator in a text, before they look at the queue.
 /// - `Take` moves the oldest line of the queue into the worker's hand, which has one line at most.
 /// - `Hand` gives the line in hand to the packer. The packer appends it and `ending` to the text that it holds. If
 ///   there is no room, it sends the held text as a packet first. A line that with its ending passes the capacity is
@@ -132,6 +133,9 @@ fn run_steps<P: PacketWriter, A: Allocator + Clone>(
 /// 4. As many hands and flushes were answered with an error as the writer refused packets, modulo 2 to the 64.
 /// 5. If the writer refused no packet, no way to pack the same lines that ends a packet at each flush has fewer
 ///    packets.
+///
+/// If the settings are strict and each line ends in a newline, a listener reads from the packets the metrics of the kept
+/// lines and no others, whatever texts the calls have.
 ///
 /// Number 3 holds for every writer, number 4 for one that takes each packet whole or refuses it, and the others for one
 /// that does so and tells which packets it took. The Rust crate has no such function.
@@ -159,6 +163,8 @@ pub fn run_schedule_with<W: PacketWriter, A: Allocator + Clone>(
     no_line_is_empty();
     tight_is_fewest();
     packets_read_one_way();
+    strict_calls_are_free();
+    let _ = settings.is_strict();
     let counting = CountingWriter::new(writer);
     match start(
         &alloc,

@@ -1,25 +1,29 @@
 //! The settings of a client: the prefix, the default tags and the default container that it adds to each call, and the
-//! lines and drafts of calls with them. `record` makes records of calls in place of lines.
+//! lines and drafts of calls with them. `record` makes records of calls in place of lines, and `strict` has the tests of
+//! strict settings.
 mod record;
+mod strict;
 
-ghost use Rattle.std.specs.Prelude.{◌≡◌, IfOk, IfErr, IfSome, OnOk, Some, string_bytes};
+ghost use Rattle.std.specs.Prelude.{◌≡◌, IfOk, IfErr, IfSome, IsTrue, OnErr, OnOk, Some, string_bytes};
 ghost use Rattle.std.specs.Option.{option_copied};
-ghost use Rattle.cadence_errors.specs.Errors.{out_of_memory};
 ghost use Rattle.cadence_text.specs.Draft.{draft_of};
 ghost use Rattle.cadence_text.specs.Line.{line_of};
 ghost use Rattle.cadence_text.specs.Representable.{IsRepresentable};
 ghost use Rattle.cadence_value.specs.Values.{numbers_of};
 ghost use Rattle.cadence_schedule.specs.Settings.{client_prefix, without_dots, settings_of, with_default_tag, with_default_container};
+ghost use Rattle.cadence_schedule.specs.Settings.{FailsFor, allows_tag, allows_text};
 ghost use Rattle.cadence_schedule.specs.Call.{metric_of_call, plain_call};
+ghost use Rattle.cadence_schedule.specs.DraftErrors.{DraftFails};
 ghost use Rattle.cadence_schedule.specs.CallData.{line_of_data, metric_of_data};
 ghost use Rattle.cadence_schedule.specs.Moves.{LineFails};
 
 use super::call::{Call, choose_all};
-use cadence_errors::MetricResult;
+use cadence_errors::{MetricError, MetricResult};
 use cadence_text::line::{DraftLine, Head, MetricType, OwnedTag, TagsText, lend_tag};
 use cadence_value::value::MetricValue;
 use std::alloc::{AllocError, Allocator, Global};
 use std::marker::Model;
+pub use strict::{DraftError, tag_is_free, text_is_free};
 
 // How many bytes a draft reserves for the tags and other options of the call itself.
 const OWN_BYTES: usize = 96;
@@ -49,7 +53,8 @@ fn formatted_prefix<A: Allocator>(alloc: A, prefix: &str) -> Result<String<A>, A
     Ok(text)
 }
 
-/// What a client adds to each call: its prefix, its default tags and its default container.
+/// What a client adds to each call: its prefix, its default tags and its default container. Settings can be strict: then
+/// they refuse each text with a colon, a comma, a bar or a newline, so that no text can change another metric.
 ///
 /// Contracts see the value as a `Settings` of the definitions.
 #[derive(Drop)]
@@ -59,27 +64,25 @@ pub struct ClientSettings<A: Allocator = Global> {
     // The tags as a line has them, so that a call copies one text.
     text: TagsText<A>,
     container: Option<String<A>>,
+    strict: bool,
 }
 
 impl<A: Allocator> Model for ClientSettings<A> {
-    ghost use Rattle.std.specs.Prelude.{◌≡◌, map};
-    ghost use Rattle.cadence_text.specs.Line.{tags_field};
-    ghost use Rattle.cadence_text.specs.Owned.{tag_of_owned};
     ghost use Rattle.cadence_schedule.specs.Settings.{Settings};
 
     ghost Value = { Settings };
 
-    ghost use Rattle.cadence_schedule.specs.SettingsParts.{settings_seen};
+    ghost use Rattle.cadence_schedule.specs.SettingsParts.{IsInOrder, settings_seen};
 
     ghost view = { settings_seen };
 
-    ghost invariant = { λ s. s.text ≡ tags_field (map tag_of_owned s.tags.items) };
+    ghost invariant = { IsInOrder };
 }
 
 impl<A: Allocator + Clone> ClientSettings<A> {
     ghost use Rattle.cadence_errors.specs.Errors.{Makes};
 
-    /// Returns settings with this prefix, without default tags and without a default container.
+    /// Returns settings with this prefix, without default tags and without a default container. They are not strict.
     ///
     /// An empty prefix adds nothing to a name. Any other prefix loses its trailing dots, and then one dot is added. The
     /// Rust crate does so too.
@@ -94,18 +97,27 @@ impl<A: Allocator + Clone> ClientSettings<A> {
             text: TagsText::new(alloc.clone()?),
             tags: Vec::new(alloc),
             container: None,
+            strict: false,
         })
     }
 
     /// Adds a default tag after those that the settings have: `key:text`, or `text` alone if `key` is `None`.
     ///
     /// # Errors
-    /// `SinkError::OutOfMemory`, and no other. After an error the settings are unchanged.
+    /// An error of kind `InvalidInput` (`separator in a text`) if and only if the settings are strict and a text of the
+    /// tag has a separator. Otherwise `SinkError::OutOfMemory`. After an error the settings are unchanged.
     pub fn add_tag(&mut self, key: Option<&str>, text: &str) -> MetricResult<()>
         ensures ok { OnOk result (self.new ≡
             with_default_tag self.old (record { key = option_copied key.entry; text = text.now })) }
-        ensures err { IfErr result (λ e. (e ≡ out_of_memory) × (self.new ≡ self.old)) }
+        ensures allowed { OnOk result (IsTrue
+            (allows_tag self.old (record { key = option_copied key.entry; text = text.now }))) }
+        ensures err { IfErr result (FailsFor
+            (allows_tag self.old (record { key = option_copied key.entry; text = text.now }))) }
+        ensures kept { OnErr result (self.new ≡ self.old) }
     {
+        if !self.allows_tag(key, text) {
+            return Err(MetricError::from(DraftError::Separator));
+        }
         let alloc = self.tags.allocator();
         let key = match key {
             Some(key) => Some(String::from_str(alloc.clone()?, key)?),
@@ -122,11 +134,17 @@ impl<A: Allocator + Clone> ClientSettings<A> {
     /// Sets the default container, which replaces an earlier one.
     ///
     /// # Errors
-    /// `SinkError::OutOfMemory`, and no other. After an error the settings are unchanged.
+    /// An error of kind `InvalidInput` (`separator in a text`) if and only if the settings are strict and the container
+    /// has a separator. Otherwise `SinkError::OutOfMemory`. After an error the settings are unchanged.
     pub fn set_container(&mut self, container: &str) -> MetricResult<()>
         ensures ok { OnOk result (self.new ≡ with_default_container self.old container.now) }
-        ensures err { IfErr result (λ e. (e ≡ out_of_memory) × (self.new ≡ self.old)) }
+        ensures allowed { OnOk result (IsTrue (allows_text self.old container.now)) }
+        ensures err { IfErr result (FailsFor (allows_text self.old container.now)) }
+        ensures kept { OnErr result (self.new ≡ self.old) }
     {
+        if !self.allows_text(container) {
+            return Err(MetricError::from(DraftError::Separator));
+        }
         let alloc = self.tags.allocator().clone()?;
         self.container = Some(String::from_str(alloc, container)?);
         Ok(())
@@ -143,24 +161,31 @@ impl<A: Allocator + Clone> ClientSettings<A> {
     /// Returns the draft of the line of a call without options. The draft begins with the prefix and has the default
     /// tags and the default container, and room for some tags of the call itself. Its buffer is allocated at once.
     ///
-    /// The only error is that memory ran out.
+    /// # Errors
+    /// `DraftError::Separator` if and only if the settings are strict and the key has a separator. Otherwise
+    /// `DraftError::OutOfMemory`.
     #[inline(always)]
     pub fn draft<'a>(
         &'a self,
         key: &str,
         kind: MetricType,
         value: MetricValue<A>,
-    ) -> Result<DraftLine<'a, A>, AllocError>
+    ) -> Result<DraftLine<'a, A>, DraftError>
         ensures draft { IfOk result (λ draft. draft ≡
             draft_of (metric_of_call self.now (plain_call kind key.now (numbers_of value)))) }
         ensures said { OnOk result
             (IsRepresentable
             (metric_of_call self.now (plain_call kind key.now (numbers_of value)))) }
+        ensures allowed { OnOk result (IsTrue (allows_text self.now key.now)) }
+        ensures refused { IfErr result (DraftFails (allows_text self.now key.now)) }
     {
-        self.draft_with(key, kind, value, OWN_BYTES)
+        if !self.allows_text(key) {
+            return Err(DraftError::Separator);
+        }
+        Ok(self.draft_with(key, kind, value, OWN_BYTES)?)
     }
 
-    // Returns what `draft` returns, with room for `room` bytes of options.
+    // Returns the draft of the line of a call without options, with room for `room` bytes of options. It tests no text.
     #[inline(always)]
     fn draft_with<'a>(
         &'a self,
@@ -186,7 +211,7 @@ impl<A: Allocator + Clone> ClientSettings<A> {
     }
 
     /// Returns what `draft` returns, but writes it into a buffer of the caller's, whose text is lost. It takes memory
-    /// only if the buffer is too short. The only error is that memory ran out, and then the buffer is freed.
+    /// only if the buffer is too short. The errors are those of `draft`, and after an error the buffer is freed.
     #[inline(always)]
     pub fn draft_in_buffer<'a>(
         &'a self,
@@ -194,60 +219,71 @@ impl<A: Allocator + Clone> ClientSettings<A> {
         key: &str,
         kind: MetricType,
         value: MetricValue<A>,
-    ) -> Result<DraftLine<'a, A>, AllocError>
-        ensures { IfOk result (λ draft. draft ≡
+    ) -> Result<DraftLine<'a, A>, DraftError>
+        ensures draft { IfOk result (λ draft. draft ≡
             draft_of (metric_of_call self.now (plain_call kind key.now (numbers_of value)))) }
+        ensures allowed { OnOk result (IsTrue (allows_text self.now key.now)) }
+        ensures refused { IfErr result (DraftFails (allows_text self.now key.now)) }
     {
+        if !self.allows_text(key) {
+            return Err(DraftError::Separator);
+        }
         let head = Head {
             prefix: &self.prefix,
             key,
             value,
             kind,
         };
-        DraftLine::in_buffer(
-            buffer,
-            &head,
-            self.text.as_str(),
-            self.container(),
-            OWN_BYTES,
-        )
+        let tags = self.text.as_str();
+        let draft = DraftLine::in_buffer(buffer, &head, tags, self.container(), OWN_BYTES)?;
+        Ok(draft)
     }
 
     /// Returns the line of a call without options, with the prefix and the defaults of these settings. It takes memory
     /// by one request, of exactly the length of the line.
     ///
-    /// The only error is that memory ran out.
+    /// # Errors
+    /// Those of `draft`.
     pub fn line(
         &self,
         key: &str,
         kind: MetricType,
         value: MetricValue<A>,
-    ) -> Result<String<A>, AllocError>
-        ensures { IfOk result (λ text. string_bytes text ≡
+    ) -> Result<String<A>, DraftError>
+        ensures line { IfOk result (λ text. string_bytes text ≡
             line_of (metric_of_call self.now (plain_call kind key.now (numbers_of value)))) }
+        ensures allowed { OnOk result (IsTrue (allows_text self.now key.now)) }
+        ensures refused { IfErr result (DraftFails (allows_text self.now key.now)) }
     {
+        if !self.allows_text(key) {
+            return Err(DraftError::Separator);
+        }
         let room = match &self.container {
             Some(id) => id.len().saturating_add(3),
             None => 0,
         };
-        self.draft_with(key, kind, value, room)?.into_text()
+        Ok(self.draft_with(key, kind, value, room)?.into_text()?)
     }
 
     /// Returns the line of a call that is kept as data, with the prefix and the defaults of these settings and the
     /// options of the call. It is made by the same drafts as the lines of a client's builder.
     ///
     /// # Errors
-    /// An error of kind `InvalidInput` (`u64 overflow`) if and only if a duration of the call passes `u64::MAX` in the
-    /// unit of its kind, which is milliseconds for a timer and nanoseconds for a histogram; no memory is taken then.
-    /// Otherwise the only error is `SinkError::OutOfMemory`.
+    /// An error of kind `InvalidInput` if and only if a duration of the call passes `u64::MAX` in the unit of its kind
+    /// (`u64 overflow`), which is milliseconds for a timer and nanoseconds for a histogram, or the settings are strict
+    /// and a text of the call has a separator (`separator in a text`). The first one counts if both are so. Otherwise the
+    /// only error is `SinkError::OutOfMemory`.
     pub fn line_of<'a>(&'a self, call: &'a Call<A>) -> MetricResult<String<A>>
         ensures line { IfOk result (λ line.
             line_of_data self.now call.now ≡ Some (string_bytes line)) }
         ensures refused { IfErr result (LineFails (line_of_data self.now call.now)) }
         ensures said { OnOk result (IfSome (metric_of_data self.now call.now) IsRepresentable) }
     {
-        let value = call.value.convert()?;
-        let mut draft = self.draft(&call.key, call.value.kind(), value)?;
+        let value = match self.value_of(call) {
+            Ok(value) => value,
+            Err(error) => return Err(error),
+        };
+        let mut draft = self.draft_with(&call.key, call.value.kind(), value, OWN_BYTES)?;
         choose_all(&mut draft, &call.options)?;
         let line = draft.into_text()?;
         Ok(line)

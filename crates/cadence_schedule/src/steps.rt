@@ -25,9 +25,9 @@ pub enum Step<A: Allocator = Global> {
 #[derive(Drop)]
 pub enum Reply {
     /// The reply to a call: the length of its line in bytes, or an error. Its kind is `InvalidInput` if a duration of
-    /// the call passes `u64::MAX` in its unit; otherwise it is `SinkError::ChannelDisconnected` if the queue is
-    /// stopped, `SinkError::ChannelFull` if the queue is full and drops no line, or `SinkError::OutOfMemory`. After an
-    /// error the queue is unchanged.
+    /// the call passes `u64::MAX` in its unit, or if the settings are strict and a text of the call has a separator;
+    /// otherwise it is `SinkError::ChannelDisconnected` if the queue is stopped, `SinkError::ChannelFull` if the queue is
+    /// full and drops no line, or `SinkError::OutOfMemory`. After an error the queue is unchanged.
     Called(MetricResult<usize>),
     /// The reply to a call whose line was accepted by a full queue, which dropped its oldest line for it: the length of
     /// the call's line and the length of the dropped line, in bytes.

@@ -15,7 +15,7 @@ pub trait Sealed {}
 /// Sends metrics to a sink, and errors to a handler. `StatsdClient` implements it, and no other crate can. A service
 /// calls `send_metric` to send a metric of its own type through a client.
 pub trait MetricBackend: Sealed {
-    ghost use Rattle.std.specs.Prelude.{ℕ, List, Result};
+    ghost use Rattle.std.specs.Prelude.{◌≡◌, ℕ, List, Result};
     ghost use Rattle.cadence_errors.specs.declared.SinkError.{SinkError};
     ghost use Rattle.cadence.specs.Sending.{SendsText};
     ghost use Rattle.cadence_schedule.specs.Settings.{Settings};
@@ -33,6 +33,10 @@ pub trait MetricBackend: Sealed {
     /// `MetricError::Sink`.
     fn send_metric<M: Metric>(&self, metric: &M) -> MetricResult<()>
         ensures { SendsText (line_may_get self.now) (M.metric_text metric.now) result };
+
+    /// Returns whether the client refuses each call that has a separator in a text.
+    fn is_strict(&self) -> bool
+        ensures { result ≡ (settings self.now).strict };
 
     /// Gives an error to the handler, or drops it if the client has no handler.
     fn consume_error(&self, err: MetricError);
@@ -63,7 +67,12 @@ pub(crate) fn send_plain<K: MetricKind, C: CallBackend>(
     ensures { (numbers : _) → Converts numbers value → SendsPlain (C.settings client.now)
         (C.line_may_get client.now) K.TYPE key.now numbers result }
 {
-    let text = client.client_settings().line(key, K::TYPE, value?)?;
+    let settings = client.client_settings();
+    let value = match value {
+        Ok(value) => value,
+        Err(error) => return Err(settings.value_error(key, error)),
+    };
+    let text = settings.line(key, K::TYPE, value)?;
     client.emit_line(&text)?;
     Ok(MetricText::from(text))
 }
@@ -79,5 +88,9 @@ pub(crate) fn draft<'a, C: CallBackend>(
     ensures { (numbers : _) → Converts numbers value →
         StartsPlain (C.settings client.now) kind key.now numbers result }
 {
-    Ok(client.client_settings().draft(key, kind, value?)?)
+    let settings = client.client_settings();
+    match value {
+        Ok(value) => Ok(settings.draft(key, kind, value)?),
+        Err(error) => Err(settings.value_error(key, error)),
+    }
 }

@@ -4,7 +4,7 @@ ghost use Rattle.std.specs.Prelude.{◌≡◌};
 ghost use Rattle.cadence_text.specs.Draft.{draft_line};
 ghost use Rattle.cadence_schedule.specs.Call.{tagged, contained, timed, rated};
 ghost use Rattle.cadence_schedule.specs.Settings.{keyed, unkeyed};
-ghost use Rattle.cadence.specs.Sending.{ChoosesOrFails, HasChosen, HasChosenOrFailed, StandsForMore};
+ghost use Rattle.cadence.specs.Sending.{TagsOrFails, HasChosen, HasChosenIf, HasChosenOrFailed, StandsForMore};
 ghost use Rattle.cadence.specs.Sending.{HasLineOfCall, HasSentPending, IsMadeFrom, SendsLine};
 
 use crate::client::backend::MetricBackend;
@@ -12,6 +12,7 @@ use crate::client::statsd_client::StatsdClient;
 use crate::laws::choosing_stands_for_more;
 use crate::types::Metric;
 use cadence_errors::{MetricError, MetricResult};
+use cadence_schedule::{DraftError, tag_is_free, text_is_free};
 use cadence_text::line::{DraftLine, Tag};
 use cadence_value::decimal::Decimal;
 use std::alloc::AllocError;
@@ -63,7 +64,7 @@ pub struct MetricBuilder<
 > {
     draft: MetricResult<DraftLine<'m, C::Memory>>,
     client: &'c C,
-    of: PhantomData<T>,
+    _of: PhantomData<T>,
 }
 
 // Each option calls `choosing_stands_for_more`, a law that only the proof needs. The call compiles to no code.
@@ -78,32 +79,33 @@ impl<'m, 'c, T: Metric + From<String<C::Memory>>, C: MetricBackend> MetricBuilde
         MetricBuilder {
             draft: pending,
             client,
-            of: PhantomData,
+            _of: PhantomData,
         }
     }
 
-    // Adds a tag to the draft. If memory runs out, the builder keeps this error in place of the draft.
+    // Adds a tag to the draft. The builder keeps an error in place of the draft.
     #[inline(always)]
     fn add_tag(&mut self, key: Option<&'m str>, text: &'m str)
-        ensures pending { ChoosesOrFails (pending_of self.old)
-            (tagged (record { key = option_copied key.entry; text = text.now }))
-            (pending_of self.new) }
+        ensures pending { TagsOrFails (C.settings (backend_of self.old)) (pending_of self.old)
+            (record { key = option_copied key.entry; text = text.now }) (pending_of self.new) }
         ensures client { backend_of self.new ≡ backend_of self.old }
     {
         let Ok(draft) = &mut self.draft else {
             return;
         };
-        if draft.add_tag(Tag { key, text }).is_err() {
+        if self.client.is_strict() && !tag_is_free(key, text) {
+            self.draft = Err(MetricError::from(DraftError::Separator));
+        } else if draft.add_tag(Tag { key, text }).is_err() {
             self.draft = Err(MetricError::from(AllocError));
         }
     }
 
-    /// Adds a tag with a key, after the default tags and the earlier ones. If memory runs out, `try_send` returns the
-    /// error.
+    /// Adds a tag with a key, after the default tags and the earlier ones. `try_send` returns an error if memory runs out,
+    /// or a strict client finds a separator in the tag.
     #[inline(always)]
     pub fn with_tag(mut self, key: &'m str, value: &'m str) -> Self
-        ensures pending { HasChosenOrFailed (pending_of self.entry)
-            (tagged (keyed key.now value.now)) (pending_of result) }
+        ensures pending { HasChosenOrFailed (C.settings (backend_of self.entry))
+            (pending_of self.entry) (tagged (keyed key.now value.now)) (pending_of result) }
         ensures call { StandsForMore (pending_of self.entry)
             (tagged (keyed key.now value.now)) (pending_of result) }
         ensures client { backend_of result ≡ backend_of self.entry }
@@ -113,12 +115,11 @@ impl<'m, 'c, T: Metric + From<String<C::Memory>>, C: MetricBackend> MetricBuilde
         self
     }
 
-    /// Adds a tag without a key, after the default tags and the earlier ones. If memory runs out, `try_send` returns
-    /// the error.
+    /// Adds a tag without a key, after the default tags and the earlier ones. The errors are those of `with_tag`.
     #[inline(always)]
     pub fn with_tag_value(mut self, value: &'m str) -> Self
-        ensures pending { HasChosenOrFailed (pending_of self.entry)
-            (tagged (unkeyed value.now)) (pending_of result) }
+        ensures pending { HasChosenOrFailed (C.settings (backend_of self.entry))
+            (pending_of self.entry) (tagged (unkeyed value.now)) (pending_of result) }
         ensures call { StandsForMore (pending_of self.entry)
             (tagged (unkeyed value.now)) (pending_of result) }
         ensures client { backend_of result ≡ backend_of self.entry }
@@ -128,18 +129,24 @@ impl<'m, 'c, T: Metric + From<String<C::Memory>>, C: MetricBackend> MetricBuilde
         self
     }
 
-    /// Sets the container, in place of the default one or an earlier one.
+    /// Sets the container, in place of the default one or an earlier one. `try_send` returns an error if a strict client
+    /// finds a separator in it.
     #[inline(always)]
     pub fn with_container_id(mut self, container_id: &'m str) -> Self
-        ensures pending { HasChosen (pending_of self.entry)
+        ensures pending { HasChosenIf (C.settings (backend_of self.entry)) (pending_of self.entry)
             (contained container_id.now) (pending_of result) }
         ensures call { StandsForMore (pending_of self.entry)
             (contained container_id.now) (pending_of result) }
         ensures client { backend_of result ≡ backend_of self.entry }
     {
         choosing_stands_for_more();
+        let allowed = !self.client.is_strict() || text_is_free(container_id);
         if let Ok(draft) = &mut self.draft {
-            draft.set_container(container_id);
+            if allowed {
+                draft.set_container(container_id);
+            } else {
+                self.draft = Err(MetricError::from(DraftError::Separator));
+            }
         }
         self
     }
@@ -177,18 +184,14 @@ impl<'m, 'c, T: Metric + From<String<C::Memory>>, C: MetricBackend> MetricBuilde
     /// Sends the metric's line, and returns a metric with this text.
     ///
     /// If the builder keeps an error, it returns this error and doesn't call the sink: the kind is `InvalidInput` if
-    /// the value had no numbers, and `OutOfMemory` if memory ran out. Otherwise the error is the sink's, as
-    /// `MetricError::Sink`, or has the kind `OutOfMemory`.
+    /// the value had no numbers or a strict client found a separator in a text, and `OutOfMemory` if memory ran out.
+    /// Otherwise the error is the sink's, as `MetricError::Sink`, or has the kind `OutOfMemory`.
     pub fn try_send(self) -> MetricResult<T>
         ensures answers { HasSentPending (C.line_may_get (backend_of self.entry))
             (IsMadeFrom T.from_gives) (pending_of self.entry) result }
         ensures line { HasLineOfCall (IsMadeFrom T.from_gives) (pending_of self.entry) result }
     {
-        let MetricBuilder {
-            draft,
-            client,
-            of: _,
-        } = self;
+        let MetricBuilder { draft, client, _of } = self;
         match draft {
             Ok(draft) => send_line(client, draft),
             Err(e) => Err(e),
@@ -198,11 +201,7 @@ impl<'m, 'c, T: Metric + From<String<C::Memory>>, C: MetricBackend> MetricBuilde
     /// Sends the metric's line, and gives an error to the client's handler. The errors are those of `try_send`. If the
     /// client has no handler, the error is dropped.
     pub fn send(self) {
-        let MetricBuilder {
-            draft,
-            client,
-            of: _,
-        } = self;
+        let MetricBuilder { draft, client, _of } = self;
         let sent = match draft {
             Ok(draft) => send_line::<C, String<C::Memory>>(client, draft),
             Err(e) => Err(e),

@@ -1,17 +1,17 @@
 //! The builder of a client, and the client's constructors.
-ghost use Rattle.std.specs.Prelude.{◌≡◌, Some, None, IfOk, OnErr};
+ghost use Rattle.std.specs.Prelude.{◌≡◌, Err, IfErr, IfOk};
 ghost use Rattle.std.specs.Option.{option_copied};
-ghost use Rattle.cadence_errors.specs.Errors.{MayOnlyRunOutOfMemory};
-ghost use Rattle.cadence_schedule.specs.Settings.{keyed, unkeyed, with_default_tag, with_default_container};
+ghost use Rattle.cadence_errors.specs.Errors.{Makes, MayOnlyRunOutOfMemory};
+ghost use Rattle.cadence_schedule.specs.Settings.{allows_text, is_free_settings, keyed, unkeyed, with_default_container, with_strict_texts};
 
 use crate::client::handler::{BoxedErrorHandler, BoxedHandler, ErrorHandler, NopErrorHandler};
 use crate::client::statsd_client::{BoxedSink, StatsdClient};
-use cadence_errors::{MetricError, MetricResult};
+use cadence_errors::MetricResult;
 use cadence_schedule::ClientSettings;
 use cadence_sinks::MetricSink;
-use std::alloc::{AllocError, Allocator, Global};
+use std::alloc::{Allocator, Global};
 
-/// Makes a client. If memory runs out, the later calls change nothing, and `build` returns the error.
+/// Makes a client. After an error the later calls change nothing, and `build` returns the error.
 ///
 /// ```text
 /// let client = StatsdClient::builder(alloc, "my.service", sink)
@@ -25,24 +25,22 @@ pub struct StatsdClientBuilder<
     S: MetricSink = BoxedSink<A>,
     H: ErrorHandler = NopErrorHandler,
 > {
-    pub(crate) settings: Option<ClientSettings<A>>,
+    pub(crate) settings: MetricResult<ClientSettings<A>>,
     pub(crate) sink: S,
     pub(crate) handler: H,
 }
 
 impl<A: Allocator + Clone, S: MetricSink, H: ErrorHandler> StatsdClientBuilder<A, S, H> {
-    ghost use Rattle.cadence.specs.Shown.{settings_of_builder, sink_of_builder, handler_of_builder, box_of_handler, AddsDefault, IsBuiltFrom};
+    ghost use Rattle.cadence.specs.Shown.{settings_of_builder, sink_of_builder, handler_of_builder, box_of_handler, AddsDefault, AddsDefaultTag, IsBuiltFrom};
 
-    // Adds a default tag. If memory runs out, there are no settings from then on.
+    // Adds a default tag. After an error there are no settings.
     fn add_tag(&mut self, key: Option<&str>, text: &str)
-        ensures { AddsDefault (λ s. with_default_tag s (record {
-          key = option_copied key.entry;
-          text = text.now;
-        })) self.old self.new }
+        ensures { AddsDefaultTag (record { key = option_copied key.entry; text = text.now })
+            self.old self.new }
     {
-        if let Some(settings) = &mut self.settings {
-            if settings.add_tag(key, text).is_err() {
-                self.settings = None;
+        if let Ok(settings) = &mut self.settings {
+            if let Err(error) = settings.add_tag(key, text) {
+                self.settings = Err(error);
             }
         }
     }
@@ -76,7 +74,7 @@ impl<A: Allocator + Clone, S: MetricSink, H: ErrorHandler> StatsdClientBuilder<A
 
     /// Adds a tag with a key to each call, after the earlier default tags.
     pub fn with_tag(mut self, key: &str, value: &str) -> Self
-        ensures { AddsDefault (λ s. with_default_tag s (keyed key.now value.now)) self result }
+        ensures { AddsDefaultTag (keyed key.now value.now) self result }
     {
         self.add_tag(Some(key), value);
         self
@@ -84,7 +82,7 @@ impl<A: Allocator + Clone, S: MetricSink, H: ErrorHandler> StatsdClientBuilder<A
 
     /// Adds a tag without a key to each call, after the earlier default tags.
     pub fn with_tag_value(mut self, value: &str) -> Self
-        ensures { AddsDefault (λ s. with_default_tag s (unkeyed value.now)) self result }
+        ensures { AddsDefaultTag (unkeyed value.now) self result }
     {
         self.add_tag(None, value);
         self
@@ -92,41 +90,46 @@ impl<A: Allocator + Clone, S: MetricSink, H: ErrorHandler> StatsdClientBuilder<A
 
     /// Sets the container of each call that doesn't set its own, in place of an earlier default.
     pub fn with_container_id(mut self, container_id: &str) -> Self
-        ensures { AddsDefault (λ s. with_default_container s container_id.now) self result }
+        ensures { AddsDefault (λ s. allows_text s container_id.now)
+            (λ s. with_default_container s container_id.now) self result }
     {
-        if let Some(settings) = &mut self.settings {
-            if settings.set_container(container_id).is_err() {
-                self.settings = None;
+        if let Ok(settings) = &mut self.settings {
+            if let Err(error) = settings.set_container(container_id) {
+                self.settings = Err(error);
             }
         }
         self
     }
 
-    /// Makes the client. The only error has the kind `OutOfMemory`, and comes if memory ran out in an earlier call. The
-    /// sink and the handler are dropped then.
+    /// Makes the client strict: each call with a colon, a comma, a bar or a newline in its key, in a tag or in its
+    /// container is refused with the kind `InvalidInput`. So no text can make or change another metric. If the prefix or
+    /// a default, earlier or later, has one, `build` returns this error.
+    pub fn with_strict_texts(mut self) -> Self
+        ensures { AddsDefault is_free_settings with_strict_texts self result }
+    {
+        if let Ok(settings) = &mut self.settings {
+            if let Err(error) = settings.set_strict() {
+                self.settings = Err(error);
+            }
+        }
+        self
+    }
+
+    /// Makes the client, or returns the first error of the earlier calls. Its kind is `OutOfMemory`, or `InvalidInput` if
+    /// a strict client got a separator in a text. The sink and the handler are dropped then.
     pub fn build(self) -> MetricResult<StatsdClient<A, S, H>>
         ensures ok { IfOk result (IsBuiltFrom self) }
-        ensures refused { MayOnlyRunOutOfMemory result }
-        ensures missing { OnErr result (settings_of_builder self ≡ None) }
+        ensures refused { IfErr result (λ e. settings_of_builder self ≡ Err e) }
     {
-        let StatsdClientBuilder {
-            settings,
-            sink,
-            handler,
-        } = self;
-        let Some(settings) = settings else {
-            return Err(MetricError::from(AllocError));
-        };
         Ok(StatsdClient {
-            settings,
-            sink,
-            handler,
+            settings: self.settings?,
+            sink: self.sink,
+            handler: self.handler,
         })
     }
 }
 
 impl<A: Allocator + Clone, S: MetricSink> StatsdClient<A, S> {
-    ghost use Rattle.std.specs.Prelude.{IfSome};
     ghost use Rattle.cadence.specs.Shown.{settings_of_client, sink_of_client, settings_of_builder, sink_of_builder};
     ghost use Rattle.cadence_schedule.specs.Settings.{settings_of};
 
@@ -143,11 +146,11 @@ impl<A: Allocator + Clone, S: MetricSink> StatsdClient<A, S> {
     /// Returns the builder of a client with a prefix and a sink. Each key gets the prefix and a dot in front; dots at
     /// the end of the prefix are dropped. An empty prefix adds nothing.
     pub fn builder(alloc: A, prefix: &str, sink: S) -> StatsdClientBuilder<A, S>
-        ensures settings { IfSome (settings_of_builder result) (λ s. s ≡ settings_of prefix.now) }
+        ensures settings { Makes (settings_of prefix.now) (settings_of_builder result) }
         ensures sink { sink_of_builder result ≡ sink }
     {
         StatsdClientBuilder {
-            settings: ClientSettings::new(alloc, prefix).ok(),
+            settings: ClientSettings::new(alloc, prefix),
             sink,
             handler: NopErrorHandler,
         }

@@ -67,6 +67,11 @@ impl<A: Allocator + Clone, S: MetricSink, H: ErrorHandler> MetricBackend for Sta
         Ok(())
     }
 
+    #[inline(always)]
+    fn is_strict(&self) -> bool {
+        self.settings.is_strict()
+    }
+
     fn consume_error(&self, err: MetricError) {
         self.handler.handle(err);
     }

@@ -42,10 +42,8 @@ pub trait Counted<T: ToCounterValue<Self::Memory>>: CallBackend {
             MetricType.Counter key.now (T.numbers value) (pending_of result) }
         ensures client { backend_of result ≡ self.now }
     {
-        MetricBuilder::new(
-            self,
-            draft(self, key, MetricType::Counter, value.try_to_value()),
-        )
+        let pending = draft(self, key, MetricType::Counter, value.try_to_value());
+        MetricBuilder::new(self, pending)
     }
 }
 
@@ -119,10 +117,8 @@ pub trait Timed<T: ToTimerValue<Self::Memory>>: CallBackend {
             MetricType.Timer key.now (T.numbers value) (pending_of result) }
         ensures client { backend_of result ≡ self.now }
     {
-        MetricBuilder::new(
-            self,
-            draft(self, key, MetricType::Timer, value.try_to_value()),
-        )
+        let pending = draft(self, key, MetricType::Timer, value.try_to_value());
+        MetricBuilder::new(self, pending)
     }
 }
 
@@ -150,10 +146,8 @@ pub trait Gauged<T: ToGaugeValue<Self::Memory>>: CallBackend {
             MetricType.Gauge key.now (T.numbers value) (pending_of result) }
         ensures client { backend_of result ≡ self.now }
     {
-        MetricBuilder::new(
-            self,
-            draft(self, key, MetricType::Gauge, value.try_to_value()),
-        )
+        let pending = draft(self, key, MetricType::Gauge, value.try_to_value());
+        MetricBuilder::new(self, pending)
     }
 }
 
@@ -181,10 +175,8 @@ pub trait Metered<T: ToMeterValue<Self::Memory>>: CallBackend {
             MetricType.Meter key.now (T.numbers value) (pending_of result) }
         ensures client { backend_of result ≡ self.now }
     {
-        MetricBuilder::new(
-            self,
-            draft(self, key, MetricType::Meter, value.try_to_value()),
-        )
+        let pending = draft(self, key, MetricType::Meter, value.try_to_value());
+        MetricBuilder::new(self, pending)
     }
 }
 
@@ -213,10 +205,8 @@ pub trait Histogrammed<T: ToHistogramValue<Self::Memory>>: CallBackend {
             MetricType.Histogram key.now (T.numbers value) (pending_of result) }
         ensures client { backend_of result ≡ self.now }
     {
-        MetricBuilder::new(
-            self,
-            draft(self, key, MetricType::Histogram, value.try_to_value()),
-        )
+        let pending = draft(self, key, MetricType::Histogram, value.try_to_value());
+        MetricBuilder::new(self, pending)
     }
 }
 
@@ -245,10 +235,8 @@ pub trait Distributed<T: ToDistributionValue<Self::Memory>>: CallBackend {
             MetricType.Distribution key.now (T.numbers value) (pending_of result) }
         ensures client { backend_of result ≡ self.now }
     {
-        MetricBuilder::new(
-            self,
-            draft(self, key, MetricType::Distribution, value.try_to_value()),
-        )
+        let pending = draft(self, key, MetricType::Distribution, value.try_to_value());
+        MetricBuilder::new(self, pending)
     }
 }
 
@@ -276,10 +264,8 @@ pub trait Setted<T: ToSetValue<Self::Memory>>: CallBackend {
             MetricType.Set key.now (T.numbers value) (pending_of result) }
         ensures client { backend_of result ≡ self.now }
     {
-        MetricBuilder::new(
-            self,
-            draft(self, key, MetricType::Set, value.try_to_value()),
-        )
+        let pending = draft(self, key, MetricType::Set, value.try_to_value());
+        MetricBuilder::new(self, pending)
     }
 }
 

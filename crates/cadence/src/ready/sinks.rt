@@ -68,13 +68,8 @@ pub fn buffered_udp_sink<R: Net + Wait + Clone + Drop, A: Allocator + Clone>(
     ensures refused { IfErr result (λ e. IsSocketRefusal e) }
 {
     let (address, socket) = socket_to(rt, &alloc, target)?;
-    BufferedUdpMetricSink::with_capacity(
-        rt.clone()?,
-        alloc,
-        Target::Addr(address),
-        socket,
-        capacity,
-    )
+    let target = Target::Addr(address);
+    BufferedUdpMetricSink::with_capacity(rt.clone()?, alloc, target, socket, capacity)
 }
 
 /// Makes a queuing sink with these settings over a buffered UDP sink with a buffer of `capacity` bytes, and starts its

@@ -172,10 +172,8 @@ impl<K, A: Allocator> From<String<A>> for MetricText<K, A> {
     ghost from_gives = { λ line text. text ≡ string_bytes line };
 
     fn from(line: String<A>) -> MetricText<K, A> {
-        MetricText {
-            line,
-            kind: PhantomData,
-        }
+        let kind = PhantomData;
+        MetricText { line, kind }
     }
 }
 

@@ -1,5 +1,5 @@
 -- The metric of a call and its options: what each option adds, and the drafts of lines that they lead to.
-use Rattle.std.proofs.Common.{◌≡◌, ℕ, ◌<◌, ◌^◌, List, [], ◌∷◌, ◌++◌, Option, Some, None, Ok, ap, ap₂, ◌∙◌, subst, sym, append_assoc}
+use Rattle.std.proofs.Common.{◌≡◌, ℕ, ◌<◌, ◌^◌, List, [], ◌∷◌, ◌++◌, Option, Some, None, Result, Ok, Err, ap, ap₂, ◌∙◌, subst, sym, append_assoc}
 use Rattle.std.proofs.lemmas.List.{append-nil, map-append}
 use Rattle.std.proofs.lemmas.List.Elements.{All-map, filter_map-append}
 use Rattle.std.proofs.lemmas.List.Sums.{fold-append}
@@ -13,7 +13,9 @@ use Rattle.std.proofs.lemmas.Str.{IsUtf8-string_bytes}
 use Rattle.cadence_text.specs.Owned.{tag_of_owned}
 use Rattle.cadence_schedule.specs.declared.settings.ClientSettings.TheInside.{Inside}
 use Rattle.cadence_schedule.specs.SettingsParts.{settings_seen}
-use Rattle.cadence_text.specs.Line.{tags_field}
+use Rattle.cadence_text.specs.Line.{line_of, tags_field}
+use Rattle.cadence_errors.specs.declared.MetricError.{MetricError}
+use Rattle.cadence_schedule.specs.Moves.{LineFails}
 use Rattle.cadence_text.specs.Representable.{IsRepresentable, IsRepresentableTag}
 use Rattle.cadence_text.specs.Metric.{Metric, Tag}
 use Rattle.cadence_value.specs.Number.{IsDecimal, Number}
@@ -21,7 +23,7 @@ use Rattle.cadence_value.specs.Values.{Converts, numbers_of}
 use Rattle.cadence_schedule.specs.Settings.{Settings}
 use Rattle.cadence_schedule.specs.Call.{Choice, tagged, contained, timed, rated, IsDraftOf, MetricCall, plain_call, with_choice, chosen}
 use Rattle.cadence_schedule.specs.Call.{metric_of_call, MakesMetric}
-use Rattle.cadence_schedule.specs.CallData.{choice_of, kind_of_value, metric_of_data, numbers_of_value}
+use Rattle.cadence_schedule.specs.CallData.{choice_of, kind_of_value, metric_of_data, numbers_of_data}
 use Rattle.cadence_schedule.specs.declared.call.Call.{Call}
 use Rattle.cadence_schedule.specs.declared.call.CallOption.{CallOption}
 
@@ -100,11 +102,11 @@ draft_of_call s kind prefix key tags container ns p t c =
     })
     ∙ draft_of_plain s kind key ns
 
--- a call that is kept as data has a metric, if its value converts; and applying its options to the draft of the call
+-- a call that is kept as data has a metric, if its value converts and the settings allow it; and applying its options to the draft of the call
 -- without options gives the draft of this metric
 pub drafted_call : {Z : Type 0} (s : Settings) (call : Call Z) (v : MetricValue Z) (kind : MetricType) (key : List ℕ)
     (options : List (CallOption Z)) (old new : Draft)
-    → Converts (numbers_of_value call.value) (Ok v)
+    → Converts (numbers_of_data s call) (Ok v)
     → kind ≡ kind_of_value call.value → key ≡ string_bytes call.key → options ≡ call.options.items
     → IsDraftOf (metric_of_call s (plain_call kind key (numbers_of v))) old
     → ((m : Metric) → IsDraftOf m old → IsDraftOf (fold chosen m (map choice_of options)) new)
@@ -112,7 +114,7 @@ pub drafted_call : {Z : Type 0} (s : Settings) (call : Call Z) (v : MetricValue 
 drafted_call s call v kind key options old new converts k n o begun grows =
     let first : Metric = metric_of_call s (plain_call kind key (numbers_of v)) in
     found (metric_of_data s call) (fold chosen first (map choice_of options))
-    (makes_metric-fold s (kind_of_value call.value) (string_bytes call.key) (map choice_of call.options.items) (numbers_of_value call.value)
+    (makes_metric-fold s (kind_of_value call.value) (string_bytes call.key) (map choice_of call.options.items) (numbers_of_data s call)
     v first (fold chosen first (map choice_of options)) converts (ap₂ (λ k n. metric_of_call s (plain_call k n (numbers_of v))) k n)
     (ap (λ (os : List (CallOption _)). fold chosen first (map choice_of os)) o))
     (grows first begun)
@@ -120,6 +122,17 @@ drafted_call s call v kind key options old new converts k n o begun grows =
     found : (o : Option Metric) (m : Metric) → MakesMetric o (Ok m) → IsDraftOf m new → (m : Metric) × (o ≡ Some m) × IsDraftOf m new
     found (Some x) m h is = (m, ap Some (sym h), is)
     found None m h is = absurd h
+
+-- the error of a value is that of the metric and of the line
+pub metric_fails : {Z : Type 0} (f : List Number → Metric) (numbers : Option (List Number)) (r : Result (MetricValue Z) MetricError)
+    (e : MetricError) → r ≡ Err e → Converts numbers r → MakesMetric (option_map f numbers) (Err e)
+metric_fails f (Some ns) r e is h = subst (λ r. Converts (Some ns) r) is h
+metric_fails f None r e is h = subst (λ r. Converts None r) is h
+
+pub line_fails : {Z : Type 0} (f : List Number → Metric) (numbers : Option (List Number)) (r : Result (MetricValue Z) MetricError)
+    (e : MetricError) → r ≡ Err e → Converts numbers r → LineFails (option_map line_of (option_map f numbers)) e
+line_fails f (Some ns) r e is h = subst (λ r. Converts (Some ns) r) is h
+line_fails f None r e is h = subst (λ r. Converts None r) is h
 
 -- a draft after it gets a container
 pub contained_draft : (m : Metric) (old new : Draft) (text : List ℕ) → new ≡ record old { container = Some text } → IsUtf8 text

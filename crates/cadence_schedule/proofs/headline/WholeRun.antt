@@ -1,7 +1,7 @@
 -- The headline of a whole run, from its first state, its steps and its outcome.
-use Rattle.std.proofs.Common.{◌≡◌, ℕ, ◌^◌, ◌<◌, List, [], length, sym, ap, ◌∙◌, ◌≢◌, arith, subst, Some, Option, Vec, map}
+use Rattle.std.proofs.Common.{◌≡◌, ℕ, ◌^◌, ◌<◌, List, [], length, sym, ap, ◌∙◌, ◌≢◌, arith, subst, Some, Option, Vec, map, true}
 use Rattle.std.specs.List.{zip}
-use Rattle.std.specs.Prelude.{All, string_bytes}
+use Rattle.std.specs.Prelude.{All, IsTrue, codes, string_bytes}
 use Rattle.std.specs.Option.{option_map}
 use Rattle.cadence_flow.specs.Frame.{Format}
 use Rattle.cadence_flow.specs.Sums.{counted_kind, zero_sums}
@@ -9,6 +9,7 @@ use Rattle.cadence_flow.specs.Writer.{PacketHistory, WriterKind}
 use Rattle.cadence_flow.specs.declared.queue.policy.QueuePolicy.{QueuePolicy}
 use Rattle.cadence_text.specs.Line.{line_of}
 use Rattle.cadence_text.specs.Metric.{Metric}
+use Rattle.cadence_text.specs.OneReading.{IsFreeOfSeparators}
 use Rattle.cadence_text.specs.Representable.{IsRepresentable}
 use Rattle.cadence_schedule.specs.declared.call.Call.{Call}
 use Rattle.cadence_schedule.specs.declared.counting.CountingWriter.{CountingWriter}
@@ -16,15 +17,16 @@ use Rattle.cadence_schedule.specs.declared.running.Running.{Running}
 use Rattle.cadence_schedule.specs.declared.steps.Reply.{Reply}
 use Rattle.cadence_schedule.specs.declared.steps.Step.{Step}
 use Rattle.cadence_schedule.specs.CallData.{line_of_data, metric_of_data}
-use Rattle.cadence_schedule.specs.Headline.{given_of, packets_between, HasHeadline, IsAccounted}
+use Rattle.cadence_schedule.specs.Headline.{given_of, packets_between, HasHeadline, IsAccounted, TellsWhole}
 use Rattle.cadence_schedule.specs.RunHistory.{Turn, accepted, kept, marks, refusals}
-use Rattle.cadence_schedule.specs.Laws.{LeastPackets, PacketsReadOneWay}
+use Rattle.cadence_schedule.specs.Laws.{LeastPackets, PacketsReadOneWay, StrictCallsAreFree}
 use Rattle.cadence_schedule.specs.Moves.{State, Runs}
-use Rattle.cadence_schedule.specs.Packets.{ArePacketsOf}
+use Rattle.cadence_schedule.specs.Packets.{ArePacketsOf, ReadsAs}
 use Rattle.cadence_schedule.specs.RunOutcome.{outcome_after}
 use Rattle.cadence_schedule.specs.Running.{IsAtStart, state_of}
-use Rattle.cadence_schedule.specs.Settings.{Settings}
-use Rattle.cadence_schedule.proofs.history.KeptMetrics.{all_kept, kept_mapped}
+use Rattle.cadence_schedule.specs.Settings.{Settings, is_free_settings}
+use Rattle.cadence_schedule.proofs.history.KeptMetrics.{all_accepted, all_kept, kept_mapped}
+use Rattle.cadence_schedule.proofs.calls.FreeTexts.{strict_data_free}
 use Rattle.cadence_schedule.proofs.calls.NonemptyLines.{line_filled}
 use Rattle.cadence_schedule.proofs.headline.AfterRun.{run_after}
 use Rattle.cadence_schedule.proofs.headline.FinishedRun.{run_taken, run_stream, run_cut, run_late, run_tight, run_submitted, run_drained}
@@ -113,11 +115,32 @@ module _ {W A : Type 0} (kind_of : W → WriterKind) (history_of : W → PacketH
           record { tight = tight; fewest = least _ _ _ _ tight };
     }
 
+    -- a listener reads the kept metrics, if they are free of separators
+    reading : PacketsReadOneWay → TellsWhole (kind_of writer) → ending ≡ codes "\n"
+        → All IsFreeOfSeparators (kept (metric_of_data settings) turns)
+        → ReadsAs (kept (metric_of_data settings) turns) (packets_between before ended.history) run.packer.held
+    reading reads whole newline free =
+        reads capacity (marks lines turns) (refusals lines turns) run.cut.items (kept (metric_of_data settings) turns)
+        (packets_between before ended.history) run.packer.held free
+        (subst (λ e. ArePacketsOf record { capacity = capacity; ending = e } (marks lines turns) (refusals lines turns)
+        (map line_of (kept (metric_of_data settings) turns)) run.cut.items (packets_between before ended.history) run.packer.held) newline
+        (subst (λ ls. ArePacketsOf format (marks lines turns) (refusals lines turns) ls run.cut.items
+        (packets_between before ended.history) run.packer.held) (kept_mapped line_of (metric_of_data settings) turns)
+        (run_cut lines filled kind format queue policy before turns ended after whole.0 whole.1)))
+
+    -- of strict settings without a separator, the kept metrics are free of separators
+    free_kept : StrictCallsAreFree → (IsTrue settings.strict → IsTrue (is_free_settings settings)) → settings.strict ≡ true
+        → All IsFreeOfSeparators (kept (metric_of_data settings) turns)
+    free_kept law free strict =
+        all_kept IsFreeOfSeparators (metric_of_data settings) turns
+        (all_accepted IsFreeOfSeparators (metric_of_data settings) (strict_data_free settings law strict (free strict)) turns)
+
     -- what is promised beside it
-    pub is_accounted : PacketsReadOneWay → All IsRepresentable (accepted (metric_of_data settings) turns)
+    pub is_accounted : PacketsReadOneWay → StrictCallsAreFree → (IsTrue settings.strict → IsTrue (is_free_settings settings))
+        → All IsRepresentable (accepted (metric_of_data settings) turns)
         → run.packer.writer.stats.bytes_sent < 2 ^ 64 → run.packer.writer.stats.packets_sent < 2 ^ 64
         → IsAccounted history_of (given_of kind_of history_of settings capacity ending queue policy steps writer) (outcome_after run replies)
-    is_accounted reads each bytes packets = record {
+    is_accounted reads law free each bytes packets = record {
       late = λ whole. run_late lines filled kind format queue policy before turns ended after whole.0 whole.1;
       taken = λ tells. run_taken lines filled kind format queue policy before turns ended after tells;
       stats = λ tells.
@@ -125,12 +148,7 @@ module _ {W A : Type 0} (kind_of : W → WriterKind) (history_of : W → PacketH
           (same_kind ∙ kind_is) tells (after.text tells).extends bytes packets;
       earlier = λ tells. (after.text tells).extends;
       said = all_kept IsRepresentable (metric_of_data settings) turns each;
-      one_reading = λ whole newline free.
-          reads capacity (marks lines turns) (refusals lines turns) run.cut.items (kept (metric_of_data settings) turns)
-          (packets_between before ended.history) run.packer.held free
-          (subst (λ e. ArePacketsOf record { capacity = capacity; ending = e } (marks lines turns) (refusals lines turns)
-          (map line_of (kept (metric_of_data settings) turns)) run.cut.items (packets_between before ended.history) run.packer.held) newline
-          (subst (λ ls. ArePacketsOf format (marks lines turns) (refusals lines turns) ls run.cut.items
-          (packets_between before ended.history) run.packer.held) (kept_mapped line_of (metric_of_data settings) turns)
-          (run_cut lines filled kind format queue policy before turns ended after whole.0 whole.1)));
+      one_reading = λ whole newline plain. reading reads whole newline plain;
+      strict_free = λ strict. free_kept law free strict;
+      strict_reading = λ whole newline strict. reading reads whole newline (free_kept law free strict);
     }

@@ -1,7 +1,9 @@
 -- What the reply to a call says of the call and of the queue before it.
-use Rattle.std.proofs.Common.{◌≡◌, ℕ, List, Option, Some, None, Ok, Err, Bool, true, false, length, refl, ⊎_elim}
+use Rattle.std.proofs.Common.{◌≡◌, ℕ, List, Option, Some, None, Ok, Err, Bool, true, false, length, ap, inr, refl, ⊎_elim}
 use Rattle.cadence_schedule.specs.declared.steps.Reply.{Reply}
 use Rattle.cadence_schedule.specs.declared.steps.Reply.TheVariants as reply
+use Rattle.cadence_errors.specs.declared.MetricError.{MetricError}
+use Rattle.cadence_schedule.specs.Moves.{LineFails}
 use Rattle.cadence_schedule.specs.Replies.{CallReplies}
 
 -- If a call was accepted, it has a line, the queue was neither stopped nor full, and the reply is the length of the
@@ -46,3 +48,12 @@ call_drops (Some line) false true None n m r =
 call_drops (Some line) false false drops n m r =
     ⊎_elim (λ bad. absurd (let no : ◌≡◌ {A = Reply} (reply.CallDropped n m) _ = bad in cc))
     (λ bad. absurd (let no : ◌≡◌ {A = Reply} (reply.CallDropped n m) _ = bad in cc)) r
+
+-- the error of a call that has no line to submit is a reply to the call
+pub call_fails : (o : Option (List ℕ)) (stopped full : Bool) (drops : Option (List ℕ)) (e : MetricError) → LineFails o e
+    → CallReplies o stopped full drops (reply.Called (Err e))
+call_fails None stopped full drops e h = (e, h, refl)
+call_fails (Some line) true full drops e h = inr (ap (λ (x : MetricError). reply.Called (Err x)) h)
+call_fails (Some line) false true (Some oldest) e h = inr (ap (λ (x : MetricError). reply.Called (Err x)) h)
+call_fails (Some line) false true None e h = inr (ap (λ (x : MetricError). reply.Called (Err x)) h)
+call_fails (Some line) false false drops e h = inr (ap (λ (x : MetricError). reply.Called (Err x)) h)

@@ -4,7 +4,7 @@ use Rattle.std.specs.Prelude.{All, IfSome}
 use Rattle.std.specs.List.{AllByRecursion}
 use Rattle.std.specs.Option.{option_map, option_to_list}
 use Rattle.std.proofs.lemmas.List.{map-append}
-use Rattle.std.proofs.lemmas.List.Elements.{All-nil, All-cons, All-from_recursion, recursion_from_All}
+use Rattle.std.proofs.lemmas.List.Elements.{All-append, All-nil, All-cons, All-from_recursion, recursion_from_All}
 use Rattle.cadence_flow.specs.QueueModel.{Exit, by_take, by_drop}
 use Rattle.cadence_schedule.specs.declared.call.Call.{Call}
 use Rattle.cadence_schedule.specs.declared.steps.Step.TheVariants as step
@@ -74,3 +74,14 @@ module _ {X : Type 0} (P : X → Type 0) where
   all_kept of h all =
       All-from_recursion P (kept of h) (each_answered (undropped_lines of h) (outcomes h)
       (each_undropped (accepted of h) (exits h) (recursion_from_All P (accepted of h) all)))
+
+  -- what holds for the metric of each call, if it has one, holds for each accepted metric
+  turn_accepts : {A : Type 0} (of : Call A → Option X) → ((c : Call A) → IfSome (of c) P) → (t : Turn A) → All P (accepted_by of t)
+  turn_accepts of each (step.Call call, reply.Called (Ok n)) = all_of_option (of call) (each call)
+  turn_accepts of each (step.Call call, reply.CallDropped n m) = all_of_option (of call) (each call)
+  turn_accepts of each _ = All-nil P
+
+  pub all_accepted : {A : Type 0} (of : Call A → Option X) → ((c : Call A) → IfSome (of c) P) → (h : List (Turn A)) → All P (accepted of h)
+  all_accepted of each [] = All-nil P
+  all_accepted of each (t ∷ h) =
+      All-append P (accepted_by of t) (accepted of h) (turn_accepts of each t) (all_accepted of each h)

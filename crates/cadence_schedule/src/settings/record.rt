@@ -4,15 +4,17 @@ ghost use Rattle.std.specs.List.{fold};
 ghost use Rattle.cadence_schedule.specs.Call.{chosen};
 ghost use Rattle.cadence_schedule.specs.CallData.{choice_of};
 
-use super::ClientSettings;
+use super::{ClientSettings, DraftError};
 use crate::call::{Call, CallOption};
-use cadence_errors::MetricResult;
+use cadence_errors::{MetricError, MetricResult};
 use cadence_text::line::{MetricType, Record, Tag, lend_tags};
 use cadence_value::value::MetricValue;
 use std::alloc::{AllocError, Allocator};
 
 impl<A: Allocator + Clone> ClientSettings<A> {
-    ghost use Rattle.cadence_errors.specs.Errors.{Makes};
+    ghost use Rattle.std.specs.Prelude.{IsErrAnd, IsFalse, IsTrue};
+    ghost use Rattle.cadence_errors.specs.Errors.{IsInvalid, Makes};
+    ghost use Rattle.cadence_schedule.specs.Settings.{allows_text};
     ghost use Rattle.cadence_value.specs.Values.{numbers_of};
     ghost use Rattle.cadence_schedule.specs.Call.{MakesMetric, metric_of_call, plain_call};
     ghost use Rattle.cadence_schedule.specs.CallData.{metric_of_data};
@@ -20,8 +22,27 @@ impl<A: Allocator + Clone> ClientSettings<A> {
     /// Returns the record of a call without options, to which the prefix and the defaults of these settings are added.
     ///
     /// # Errors
-    /// `SinkError::OutOfMemory`, and no other.
+    /// An error of kind `InvalidInput` (`separator in a text`) if and only if the settings are strict and the key has a
+    /// separator. Otherwise `SinkError::OutOfMemory`.
     pub fn record<'a>(
+        &'a self,
+        key: &'a str,
+        kind: MetricType,
+        value: MetricValue<A>,
+    ) -> MetricResult<Record<'a, A>>
+        ensures allowed { IsTrue (allows_text self.now key.now) →
+            Makes (metric_of_call self.now (plain_call kind key.now (numbers_of value))) result }
+        ensures refused { IsFalse (allows_text self.now key.now) →
+            IsErrAnd result IsInvalid }
+    {
+        if !self.allows_text(key) {
+            return Err(MetricError::from(DraftError::Separator));
+        }
+        self.record_with(key, kind, value)
+    }
+
+    // Returns the record of a call without options. It tests no text.
+    fn record_with<'a>(
         &'a self,
         key: &'a str,
         kind: MetricType,
@@ -38,14 +59,15 @@ impl<A: Allocator + Clone> ClientSettings<A> {
     /// the options of the call are added.
     ///
     /// # Errors
-    /// An error of kind `InvalidInput` (`u64 overflow`) if and only if a duration of the call passes `u64::MAX` in the
-    /// unit of its kind, which is milliseconds for a timer and nanoseconds for a histogram; no memory is taken then.
-    /// Otherwise the only error is `SinkError::OutOfMemory`.
+    /// Those of [`ClientSettings::line_of`].
     pub fn record_of<'a>(&'a self, call: &'a Call<A>) -> MetricResult<Record<'a, A>>
         ensures { MakesMetric (metric_of_data self.now call.now) result }
     {
-        let value = call.value.convert()?;
-        let mut metric = self.record(&call.key, call.value.kind(), value)?;
+        let value = match self.value_of(call) {
+            Ok(value) => value,
+            Err(error) => return Err(error),
+        };
+        let mut metric = self.record_with(&call.key, call.value.kind(), value)?;
         set_all(&mut metric, &call.options)?;
         Ok(metric)
     }

@@ -7,7 +7,7 @@ use Rattle.cadence_schedule.specs.Call.{metric_of_call, plain_call}
 use Rattle.cadence_schedule.specs.Settings.{Settings}
 use Rattle.cadence_schedule.specs.SettingsParts.{settings_seen}
 use Rattle.cadence_schedule.proofs.calls.CallOptions.{metric_of_plain}
-use Rattle.cadence_schedule.proofs.settings.ClientSettings.record.Goals as goal
+use Rattle.cadence_schedule.proofs.settings.ClientSettings.record_with.Goals as goal
 
 pub returns : goal.returns
 returns g c =
