@@ -4,7 +4,7 @@ use Rattle.std.specs.Option.{option_map}
 use Rattle.cadence_text.specs.declared.line.MetricType.{MetricType}
 use Rattle.cadence_text.specs.declared.line.MetricType.TheVariants.{Counter, Timer, Gauge, Meter, Histogram, Set, Distribution}
 use Rattle.cadence_text.specs.Line.{line_of}
-use Rattle.cadence_text.specs.Metric.{Metric}
+use Rattle.cadence_text.specs.Metric.{Metric, keyed, unkeyed}
 use Rattle.cadence_value.specs.Number.{Number, whole, natural}
 use Rattle.cadence_value.specs.Values.{millis_of, nanos_of, numbers_in_u64}
 use Rattle.cadence_schedule.specs.declared.call.Call.{Call}
@@ -18,7 +18,7 @@ use Rattle.cadence_schedule.specs.declared.call.CallValue.TheVariants.{Histogram
 use Rattle.cadence_schedule.specs.declared.call.CallValue.TheVariants.{DistributionDecimal, DistributionVecU64, DistributionVecDecimal}
 use Rattle.cadence_schedule.specs.declared.call.CallValue.TheVariants.{SetI64}
 use Rattle.cadence_schedule.specs.Call.{Choice, tagged, contained, timed, rated, MetricCall, metric_of_call, numbers_if_allowed}
-use Rattle.cadence_schedule.specs.Settings.{Settings, keyed, unkeyed}
+use Rattle.cadence_schedule.specs.Settings.{Settings}
 
 -- the kind of metric that a value is for
 abbrev pub kind_of_value : {Z : Type 0} → CallValue Z → MetricType

@@ -15,14 +15,6 @@ pub record Settings : Type 0 where
   pub container : Option (List ℕ)
   pub strict : Bool
 
--- a tag with a key
-abbrev pub keyed : List ℕ → List ℕ → Tag
-keyed key text = record { key = Some key; text = text }
-
--- a tag without a key
-abbrev pub unkeyed : List ℕ → Tag
-unkeyed text = record { key = None; text = text }
-
 -- the byte `c` put before a text without trailing dots, unless the text is empty and the byte is a dot (46)
 abbrev pub before_kept : ℕ → List ℕ → List ℕ
 before_kept c [] = if c == 46 then [] else c ∷ []

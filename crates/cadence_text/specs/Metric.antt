@@ -1,5 +1,5 @@
 -- A metric, as data.
-use Rattle.std.specs.Prelude.{ℕ, Option, None, List, [], ◌∷◌, ◌++◌}
+use Rattle.std.specs.Prelude.{ℕ, Option, None, Some, List, [], ◌∷◌, ◌++◌}
 use Rattle.cadence_text.specs.declared.line.MetricType.{MetricType}
 use Rattle.cadence_value.specs.Number.{Number}
 
@@ -7,6 +7,14 @@ use Rattle.cadence_value.specs.Number.{Number}
 pub record Tag : Type 0 where
   pub key : Option (List ℕ)
   pub text : List ℕ
+
+-- a tag with a key
+abbrev pub keyed : List ℕ → List ℕ → Tag
+keyed key text = record { key = Some key; text = text }
+
+-- a tag without a key
+abbrev pub unkeyed : List ℕ → Tag
+unkeyed text = record { key = None; text = text }
 
 -- a metric: the name with its prefix, the numbers, the kind, and the optional fields of a line
 pub record Metric : Type 0 where

@@ -3,7 +3,7 @@ ghost use Rattle.std.specs.Option.{option_copied};
 ghost use Rattle.std.specs.Prelude.{◌≡◌};
 ghost use Rattle.cadence_text.specs.Draft.{draft_line};
 ghost use Rattle.cadence_schedule.specs.Call.{tagged, contained, timed, rated};
-ghost use Rattle.cadence_schedule.specs.Settings.{keyed, unkeyed};
+ghost use Rattle.cadence_text.specs.Metric.{keyed, unkeyed};
 ghost use Rattle.cadence.specs.Sending.{TagsOrFails, HasChosen, HasChosenIf, HasChosenOrFailed, StandsForMore};
 ghost use Rattle.cadence.specs.Sending.{HasLineOfCall, HasSentPending, IsMadeFrom, SendsLine};
 

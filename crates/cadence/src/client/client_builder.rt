@@ -2,7 +2,8 @@
 ghost use Rattle.std.specs.Prelude.{◌≡◌, Err, IfErr, IfOk};
 ghost use Rattle.std.specs.Option.{option_copied};
 ghost use Rattle.cadence_errors.specs.Errors.{Makes, MayOnlyRunOutOfMemory};
-ghost use Rattle.cadence_schedule.specs.Settings.{allows_text, is_free_settings, keyed, unkeyed, with_default_container, with_strict_texts};
+ghost use Rattle.cadence_text.specs.Metric.{keyed, unkeyed};
+ghost use Rattle.cadence_schedule.specs.Settings.{allows_text, is_free_settings, with_default_container, with_strict_texts};
 
 use crate::client::handler::{BoxedErrorHandler, BoxedHandler, ErrorHandler, NopErrorHandler};
 use crate::client::statsd_client::{BoxedSink, StatsdClient};
