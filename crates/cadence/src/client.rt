@@ -1,6 +1,5 @@
-//! The client (`statsd_client`), its builder (`client_builder`), the traits of its metrics (`traits`, and all of them
-//! as one bound in `metric_client`), the builder of a metric (`builder`), the traits of what sends a metric (`backend`)
-//! and the receivers of errors (`handler`).
+//! The client (`statsd_client`) and its builder (`client_builder`), the traits of its metrics (`traits`, all as one in
+//! `metric_client`) and their builder (`builder`), how a metric is sent (`backend`), receivers of errors (`handler`).
 
 mod backend;
 mod builder;

@@ -14,9 +14,8 @@ pub use cadence_text::laws::{line_reads_one_way, no_line_is_empty, packet_reads_
 pub use cadence_value::laws::decimals_equal_by_number;
 use std::alloc::Allocator;
 
-/// States that a builder that has the draft of a call's metric has, after one more option, the draft of the metric of
-/// this call with the option. If the option was refused or memory ran out, the builder has an error instead, which is
-/// right for any call.
+/// States that if a builder has the draft of a call's metric, then after one more option it has the draft of the metric
+/// of this call with the option, or an error, which is right for any call.
 pub fn choosing_stands_for_more()
     ensures chosen { (old new : Result Draft MetricError) (option : Choice) →
         Chooses old option new → StandsForMore old option new }

@@ -25,18 +25,21 @@ pub use cadence_resolve::DEFAULT_PORT;
 pub use cadence_sinks as sinks;
 pub use cadence_text::line;
 pub use cadence_value::value;
-pub use client::{MetricBuilder, StatsdClient, StatsdClientBuilder};
+pub use client::{BoxedHandler, ErrorHandler, MetricBuilder, StatsdClient, StatsdClientBuilder};
+pub use decimal::Decimal;
 pub use prelude::{
     Counted, CountedExt, Distributed, Gauged, Histogrammed, Metered, MetricClient, Setted, Timed,
 };
+pub use queue::QueuePolicy;
+pub use ready::host;
 pub use sinks::{
     BufferedSpyMetricSink, BufferedUdpMetricSink, BufferedUdpMetricSinkBuilder,
     BufferedUnixMetricSink, FlushingMetricSink, FlushingQueueBuilder, MetricSink, NopMetricSink,
-    QueuingMetricSink, QueuingMetricSinkBuilder, SpyMetricSink, UdpMetricSink,
+    QueuingMetricSink, QueuingMetricSinkBuilder, SpyMetricSink, Target, UdpMetricSink,
     UdpMetricSinkBuilder, UnixMetricSink,
 };
 pub use stats::SinkStats;
 pub use types::{
     Counter, Distribution, ErrorKind, Gauge, Histogram, Meter, Metric, MetricError, MetricResult,
-    Set, Timer,
+    Set, SinkError, Timer,
 };

@@ -59,10 +59,9 @@ pub fn buffered_udp_client<R: Net + Wait + Clone + Drop, A: Allocator + Clone>(
     StatsdClient::from_sink(alloc, prefix, sink)
 }
 
-/// Makes a client that puts its lines into a queue, in which at most `lines` lines wait; `None` means that any number
-/// may wait. A worker thread takes the lines out and packs them into datagrams of at most `capacity` bytes. Before a
-/// service ends, it should call `sink().stop_and_wait()` and then `flush()`, which send the queued lines. The errors
-/// are those of `queued_udp_sink`.
+/// Makes a client whose worker thread packs its lines into datagrams of at most `capacity` bytes. At most `lines` lines
+/// wait for it, or any number if that is `None`. Before a service ends, it should call `sink().stop_and_wait()` and
+/// then `flush()`, which send the lines that wait. The errors are those of `queued_udp_sink`.
 pub fn queued_udp_client<
     R: Net + Wait + Threads + Clone + Drop + Send + Sync + 'static,
     A: Allocator + Clone + Send + Sync + 'static,

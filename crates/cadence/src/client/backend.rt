@@ -56,8 +56,8 @@ pub trait CallBackend: MetricBackend {
         ensures { Self.line_may_get self.now line.now result };
 }
 
-// Sends the line of a call without options, and returns the metric. It makes no builder, and it is one function,
-// because each function between would copy the wide result once more.
+// Sends the line of a call without options, and returns the metric. It makes no builder and has no function between,
+// because each would copy the wide result once more.
 #[inline]
 pub(crate) fn send_plain<K: MetricKind, C: CallBackend>(
     client: &C,

@@ -102,9 +102,9 @@ impl<A: Allocator + Clone, S: MetricSink, H: ErrorHandler> StatsdClientBuilder<A
         self
     }
 
-    /// Makes the client strict: each call with a colon, a comma, a bar or a newline in its key, in a tag or in its
-    /// container is refused with the kind `InvalidInput`. So no text can make or change another metric. If the prefix or
-    /// a default, earlier or later, has one, `build` returns this error.
+    /// Makes the client strict: it refuses each call that has a colon, a comma, a bar or a newline in its key, a tag or
+    /// the container, with the kind `InvalidInput`. So no text can make or change another metric. If the prefix or a
+    /// default has one, `build` returns this error.
     pub fn with_strict_texts(mut self) -> Self
         ensures { AddsDefault is_free_settings with_strict_texts self result }
     {
@@ -116,8 +116,8 @@ impl<A: Allocator + Clone, S: MetricSink, H: ErrorHandler> StatsdClientBuilder<A
         self
     }
 
-    /// Makes the client, or returns the first error of the earlier calls. Its kind is `OutOfMemory`, or `InvalidInput` if
-    /// a strict client got a separator in a text. The sink and the handler are dropped then.
+    /// Makes the client, or returns the first error of the earlier calls: `OutOfMemory`, or `InvalidInput` if a strict
+    /// client got a separator. The sink and the handler are dropped then.
     pub fn build(self) -> MetricResult<StatsdClient<A, S, H>>
         ensures ok { IfOk result (IsBuiltFrom self) }
         ensures refused { IfErr result (λ e. settings_of_builder self ≡ Err e) }

@@ -23,8 +23,7 @@ pub type BoxedSink<A = Global> = Box<dyn MetricSink + Send + Sync, A>;
 /// client.count("visits", 1)?;
 /// client.flush()?;
 /// ```
-// A client has its sink and its handler as fields of their own types, because a function may return a client only if
-// the client's type has no `dyn`.
+// The sink and the handler are not in boxes, because a function may return a client only if its type has no `dyn`.
 #[derive(Drop)]
 pub struct StatsdClient<
     A: Allocator = Global,

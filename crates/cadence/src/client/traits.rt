@@ -1,10 +1,9 @@
 //! The metrics that a client sends: a trait for each kind. `MetricType` in `cadence_text` explains the kinds.
 //!
-//! Each trait has two calls. One sends a metric at once, and the other returns its builder. Both convert the value
-//! first. If the value is refused, nothing is sent, and the error has the kind `InvalidInput`. If memory runs out for
-//! the value or for the line, nothing is sent either, and the error has the kind `OutOfMemory`. Any other error is the
-//! sink's, as `MetricError::Sink`. The first call returns the metric with the text that was sent; the errors of the
-//! second call come from the builder, when it is sent.
+//! Each trait has two calls. One sends a metric at once and returns it with the text that was sent, and the other
+//! returns its builder. Both convert the value first. If the value is refused, or a strict client refuses a text, the
+//! error has the kind `InvalidInput`; if memory runs out, it has the kind `OutOfMemory`. Nothing is sent then. Any other
+//! error is the sink's, as `MetricError::Sink`. The errors of the second call come from the builder, when it is sent.
 ghost use Rattle.std.specs.Prelude.{◌≡◌, Some, ◌∷◌, [], pos, negsuc};
 ghost use Rattle.cadence_value.specs.Number.{whole};
 ghost use Rattle.cadence.specs.Sending.{SendsPlain, StartsPlain};

@@ -39,8 +39,7 @@ fn socket_to<A: Allocator + Clone>(
     Ok((address, bind_socket(net, address)?))
 }
 
-/// Makes a `UdpMetricSink` with a socket of its own. The target is looked up once, now, and the sink sends to its first
-/// address.
+/// Makes a `UdpMetricSink` with a socket of its own. It sends to the first address of one lookup, which is made now.
 ///
 /// The errors are `SinkError::Io` if the lookup fails or the socket can't be made, the kind `InvalidInput` if the name
 /// has no address, and `SinkError::OutOfMemory`.
@@ -93,9 +92,8 @@ pub fn queued_udp_sink_with<
     settings.build(rt.clone()?, alloc, sink)
 }
 
-/// Makes a queuing sink over a buffered UDP sink, and starts its worker thread. At most `lines` lines wait in its
-/// queue; `None` means that any number may wait. The errors are those of `udp_sink`, and `SinkError::Io` if the thread
-/// can't be started.
+/// Makes a queuing sink, as `queued_udp_sink_with` does. At most `lines` lines wait in its queue, or any number if that
+/// is `None`, and a full queue refuses lines.
 pub fn queued_udp_sink<
     R: Net + Wait + Threads + Clone + Drop + Send + Sync + 'static,
     A: Allocator + Clone + Send + Sync + 'static,
