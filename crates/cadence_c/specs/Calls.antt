@@ -89,7 +89,7 @@ IsLineLength size s k key numbers o = (line : List ℕ) × IsLineOfCall s k key 
 
 -- settings that print a prefix as it is, without a dot after it, and add nothing else
 abbrev pub prefix_alone : List ℕ → Settings
-prefix_alone prefix = record { prefix = prefix; tags = []; container = None }
+prefix_alone prefix = record { prefix = prefix; tags = []; container = None; strict = false }
 
 -- The text of a tag is UTF-8, and so is its key if it has one.
 pub record IsUtf8Tag (tag : CTag) : Type 0 where

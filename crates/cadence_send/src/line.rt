@@ -125,9 +125,10 @@ fn draft_in_buffer<'a, A: Allocator + Clone>(
     ensures { IfOk result (λ draft. draft ≡ draft_of (with_rate_and_time defaults.now
         (metric_of_call defaults.now.settings (plain_call kind name.now (numbers_of value))))) }
 {
-    let mut draft = defaults
-        .settings
-        .draft_in_buffer(buffer, name, kind, value)?;
+    // The name has no separator, because `read_head` tested it. So an error says that memory ran out.
+    let Ok(mut draft) = defaults.settings.draft_in_buffer(buffer, name, kind, value) else {
+        return Err(AllocError);
+    };
     set_rate_and_time(&mut draft, defaults.rate, defaults.time);
     Ok(draft)
 }

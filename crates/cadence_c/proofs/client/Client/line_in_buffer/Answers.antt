@@ -11,5 +11,5 @@ returns c =
     let call = plain_call c.args.call.kind c.args.call.key.now (numbers_of c.args.value) in
     let seen : (draft_of (metric_of_call c.self.inside.settings call)) ≡ draft_of (metric_of_call c.args.self.now.settings call) =
     ap (λ (s : State). draft_of (metric_of_call s.settings call)) c.self.view_is in
-    IfOk-weaker c.finish_line.result _ _ (λ line shows. shows (metric_of_call c.args.self.now.settings call) (c.in-Ok.ensures
+    IfOk-weaker c.finish_line.result _ _ (λ line shows. shows (metric_of_call c.args.self.now.settings call) (c.in-Ok.ensures.draft
     ∙ seen)) c.finish_line.ensures
