@@ -8,7 +8,7 @@ ghost use Rattle.cadence_flow.specs.declared.queue.queue_error.QueueError.TheVar
 ghost use Rattle.cadence_shared.specs.SharedQueue.{bound_of, rule_of};
 ghost use Rattle.cadence_shared.specs.Taker.{given_by, has_ended};
 
-use super::backoff::{LOOKS, TRIES, wait_for_lock, wait_for_texts};
+use super::backoff::{LOOKS, TRIES, wait_for_lock};
 use super::ghost_list::GhostList;
 use super::lock::acquire;
 use super::recorded_queue::RecordedQueue;
@@ -18,6 +18,7 @@ use cadence_errors::{MetricResult, SinkError};
 use cadence_flow::queue::{QueueError, QueuePolicy, Taken, TextRing};
 use std::alloc::{AllocError, Allocator, Global};
 use std::sync::{Condvar, Mutex, Wait};
+use std::thread;
 use std::time::{Clock, Duration};
 
 /// A queue of texts under a lock, which threads share by reference. Each call takes the lock and does one step of a
@@ -236,7 +237,7 @@ impl<T: Drop, A: Allocator + Clone> SharedQueue<T, A> {
             if self.look(texts, taken, done) {
                 return true;
             }
-            wait_for_texts(texts.room());
+            thread::yield_now();
         }
         false
     }
