@@ -47,7 +47,8 @@ fn make_queue<R: Runtime + Clock>(
     Ok((watch, sink))
 }
 
-// Emits a line, and asserts that the worker hands it on.
+// Emits a line, and asserts that the worker hands it on. Before a test then moves the clock, it has to wait until the
+// worker has read it, by `assert_reads`.
 fn assert_passes<R: Runtime + Clock>(watch: &Watch<R>, sink: &NotedQueue<R>) -> Result<(), Fail> {
     assert_accepts(sink, &[("a:1|c", 5)])?;
     watch.assert_notes(&["a:1|c"])
@@ -57,6 +58,7 @@ fn assert_passes<R: Runtime + Clock>(watch: &Watch<R>, sink: &NotedQueue<R>) -> 
 fn a_queue_is_flushed_after_the_period(rt: HostRuntime) -> Result<(), Fail> {
     let (watch, sink) = make_queue(&rt, rt.alloc(), 5)?;
     assert_passes(&watch, &sink)?;
+    watch.assert_reads(6)?;
     watch.move_to(4);
     watch.assert_reads(6)?;
     watch.move_to(5);
@@ -68,6 +70,7 @@ fn a_queue_is_flushed_after_the_period(rt: HostRuntime) -> Result<(), Fail> {
 fn a_late_line_is_flushed_at_once(rt: HostRuntime) -> Result<(), Fail> {
     let (watch, sink) = make_queue(&rt, rt.alloc(), 5)?;
     assert_passes(&watch, &sink)?;
+    watch.assert_reads(6)?;
     watch.move_to(5);
     watch.assert_notes(&["flush"])?;
     watch.assert_rests()?;
@@ -97,6 +100,7 @@ fn a_failed_flush_is_tried_again(rt: HostRuntime) -> Result<(), Fail> {
     let (watch, sink) = make_queue(&rt, rt.alloc(), 5)?;
     watch.set_refuses(true);
     assert_passes(&watch, &sink)?;
+    watch.assert_reads(6)?;
     for failed in 1..3 {
         watch.move_to(5 * failed);
         watch.assert_notes(&["flush"])?;

@@ -186,9 +186,11 @@ impl<R: Runtime + Clock> Watch<R> {
     /// Waits for these notes, and asserts that they come in this order.
     pub fn assert_notes(&self, wanted: &[&str]) -> Result<(), Fail> {
         for text in wanted {
-            let note = self.next_note().ok_or("no note")?;
+            let Some(note) = self.next_note() else {
+                return Err(Fail::new(format_args!("no note {text}")));
+            };
             if note.as_slice() != text.as_bytes() {
-                return Err(Fail::new("another note"));
+                return Err(Fail::new(format_args!("another note than {text}")));
             }
         }
         Ok(())
