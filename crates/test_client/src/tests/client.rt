@@ -1,7 +1,8 @@
 //! Tests of the client: `lines` of values, `sending` with the calls of sinks and handlers counted, `memory` refused,
-//! and `threads` that share a client.
+//! `threads` that share a client, and `strict` clients.
 
 mod lines;
 mod memory;
 mod sending;
+mod strict;
 mod threads;
