@@ -4,10 +4,19 @@ ghost use Rattle.std.specs.Prelude.{◌≤◌};
 use crate::print::report_text;
 use crate::script::{ScriptError, read_script};
 use cadence_cli::{ReportError, print_report, read_all};
+use cadence_errors::{ErrorKind, MetricError};
 use cadence_flow::io::PacketLog;
 use cadence_schedule::run_schedule_with;
 use std::alloc::Allocator;
 use std::io::{Read, Write};
+
+// Returns why a script has no settings.
+fn settings_error(error: &MetricError) -> ReportError<ScriptError> {
+    match error.kind() {
+        ErrorKind::InvalidInput => ReportError::Unusable(ScriptError::Separator),
+        _ => ReportError::OutOfMemory,
+    }
+}
 
 // Reads a script from the input, runs it, and returns the text of its report.
 fn report_of<A: Allocator + Clone, I: Read>(
@@ -19,8 +28,9 @@ fn report_of<A: Allocator + Clone, I: Read>(
         return Err(ReportError::Unusable(ScriptError::NotUtf8));
     };
     let script = read_script(alloc.clone()?, text)?;
-    let Ok(settings) = script.settings() else {
-        return Err(ReportError::OutOfMemory);
+    let settings = match script.settings() {
+        Ok(settings) => settings,
+        Err(error) => return Err(settings_error(&error)),
     };
     let answers = script.answers.clone()?;
     let log = PacketLog::new(alloc.clone()?, answers);
@@ -45,7 +55,8 @@ fn report_of<A: Allocator + Clone, I: Read>(
 ///
 /// - 0 if the report was printed,
 /// - 1 if writing to `output` failed; nothing is written to `errors` then,
-/// - 2 if the input can't be read, is not UTF-8, or has a line that can't be read,
+/// - 2 if the input can't be read, is not UTF-8, or has a line that can't be read, or is strict and has a separator in
+///   its prefix, a default tag or the default container,
 /// - 3 if memory ran out.
 ///
 /// With the status 2 or 3 nothing is printed to `output`, and one line is written to `errors`. An error of `errors` is

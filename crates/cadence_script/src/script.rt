@@ -19,6 +19,9 @@ pub enum ScriptError {
     /// The text is not UTF-8.
     #[error("input: not UTF-8")]
     NotUtf8,
+    /// The script is strict, and its prefix, a default tag or the default container has a separator.
+    #[error("settings: separator in a text")]
+    Separator,
 }
 
 /// The settings and the steps of a script.
@@ -31,6 +34,8 @@ pub struct Script<A: Allocator> {
     pub tags: Vec<(Option<String<A>>, String<A>), A>,
     /// The default container.
     pub container: Option<String<A>>,
+    /// Whether calls with a separator in a text are refused.
+    pub strict: bool,
     /// The packer's capacity, in bytes.
     pub capacity: usize,
     /// The text that follows each line in a packet.
@@ -68,6 +73,7 @@ impl<A: Allocator + Clone> Script<A> {
             prefix,
             tags,
             container: None,
+            strict: false,
             capacity: DEFAULT_CAPACITY,
             ending,
             queue: None,
@@ -79,7 +85,9 @@ impl<A: Allocator + Clone> Script<A> {
 
     /// Returns the settings of the client.
     ///
-    /// # Errors The only error is that memory ran out.
+    /// # Errors
+    /// An error of kind `InvalidInput` if the script is strict and its prefix, a default tag or the default container has
+    /// a separator, and `SinkError::OutOfMemory`.
     pub fn settings(&self) -> Result<ClientSettings<A>, MetricError> {
         let mut settings = ClientSettings::new(self.alloc.clone()?, &self.prefix)?;
         for (key, text) in &self.tags {
@@ -91,6 +99,9 @@ impl<A: Allocator + Clone> Script<A> {
         }
         if let Some(container) = &self.container {
             settings.set_container(container)?;
+        }
+        if self.strict {
+            settings.set_strict()?;
         }
         Ok(settings)
     }
@@ -130,6 +141,7 @@ impl<A: Allocator + Clone> Script<A> {
             "tag" => self.read_tag(true, words)?,
             "tagvalue" => self.read_tag(false, words)?,
             "container" => self.container = Some(self.next_text(words)?),
+            "strict" => self.strict = true,
             "capacity" => self.capacity = number(words.word()?)?,
             "ending" => self.ending = self.next_text(words)?,
             "queue" => self.queue = Some(number(words.word()?)?),
