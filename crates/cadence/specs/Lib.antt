@@ -1,4 +1,3 @@
-pub mod Host
 pub mod Metrics
 pub mod Own
 pub mod Sending

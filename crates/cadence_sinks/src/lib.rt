@@ -2,12 +2,14 @@
 //! a thread, are those of `cadence_queuing`, which this crate passes on.
 //!
 //! - `datagram`: what the sinks over UDP and over Unix sockets share: the counts, the buffer and its lock
+//! - `ready`: sinks over UDP, ready made
 //! - `spy`: sinks for tests, whose lines a receiver reads back
 //! - `udp`: sinks over a UDP socket
 //! - `unix`: sinks over a datagram socket that sends to a path
 #![tactic(auto)]
 
 mod datagram;
+pub mod ready;
 mod spy;
 mod udp;
 mod unix;

@@ -1,6 +1,7 @@
 //! A metric that is being built.
 ghost use Rattle.std.specs.Option.{option_copied};
-ghost use Rattle.std.specs.Prelude.{◌≡◌};
+ghost use Rattle.std.specs.Prelude.{◌≡◌, IfErr, IsErr};
+ghost use Rattle.cadence_schedule.specs.DraftErrors.{IsSameError};
 ghost use Rattle.cadence_text.specs.Draft.{draft_line};
 ghost use Rattle.cadence_schedule.specs.Call.{tagged, contained, timed, rated};
 ghost use Rattle.cadence_text.specs.Metric.{keyed, unkeyed};
@@ -15,7 +16,6 @@ use cadence_errors::{MetricError, MetricResult};
 use cadence_schedule::{DraftError, tag_is_free, text_is_free};
 use cadence_text::line::{DraftLine, Tag};
 use cadence_value::decimal::Decimal;
-use std::alloc::AllocError;
 use std::marker::PhantomData;
 
 // A line, as a metric that can be sent.
@@ -83,7 +83,17 @@ impl<'m, 'c, T: Metric + From<String<C::Memory>>, C: MetricBackend> MetricBuilde
         }
     }
 
-    // Adds a tag to the draft. The builder keeps an error in place of the draft.
+    // Stores an error in place of the draft. It is cold, so that a tag that is added passes no code of errors.
+    #[cold]
+    fn fail(&mut self, error: DraftError)
+        ensures pending { IfErr (pending_of self.new) (IsSameError error) }
+        ensures failed { IsErr (pending_of self.new) }
+        ensures client { backend_of self.new ≡ backend_of self.old }
+    {
+        self.draft = Err(MetricError::from(error));
+    }
+
+    // Adds a tag to the draft. The builder stores an error in place of the draft.
     #[inline(always)]
     fn add_tag(&mut self, key: Option<&'m str>, text: &'m str)
         ensures pending { TagsOrFails (C.settings (backend_of self.old)) (pending_of self.old)
@@ -94,9 +104,10 @@ impl<'m, 'c, T: Metric + From<String<C::Memory>>, C: MetricBackend> MetricBuilde
             return;
         };
         if self.client.is_strict() && !tag_is_free(key, text) {
-            self.draft = Err(MetricError::from(DraftError::Separator));
-        } else if draft.add_tag(Tag { key, text }).is_err() {
-            self.draft = Err(MetricError::from(AllocError));
+            return self.fail(DraftError::Separator);
+        }
+        if draft.add_tag(Tag { key, text }).is_err() {
+            self.fail(DraftError::OutOfMemory);
         }
     }
 
@@ -145,7 +156,7 @@ impl<'m, 'c, T: Metric + From<String<C::Memory>>, C: MetricBackend> MetricBuilde
             if allowed {
                 draft.set_container(container_id);
             } else {
-                self.draft = Err(MetricError::from(DraftError::Separator));
+                self.fail(DraftError::Separator);
             }
         }
         self

@@ -22,13 +22,9 @@ use cadence_value::value::{
 /// Sends counts of events, which the server adds up. No value of a built-in type is refused.
 pub trait Counted<T: ToCounterValue<Self::Memory>>: CallBackend {
     /// Sends a count, and returns the counter that was sent.
-    #[inline]
     fn count(&self, key: &str, value: T) -> MetricResult<Counter<Self::Memory>>
         ensures { SendsPlain (Self.settings self.now) (Self.line_may_get self.now)
-            MetricType.Counter key.now (T.numbers value) result }
-    {
-        send_plain(self, key, value.try_to_value())
-    }
+            MetricType.Counter key.now (T.numbers value) result };
 
     /// Returns the builder of a count, to which tags and other options can be added before it is sent.
     #[inline]
@@ -46,7 +42,12 @@ pub trait Counted<T: ToCounterValue<Self::Memory>>: CallBackend {
     }
 }
 
-impl<T: ToCounterValue<C::Memory>, C: CallBackend> Counted<T> for C {}
+impl<T: ToCounterValue<C::Memory>, C: CallBackend> Counted<T> for C {
+    #[inline]
+    fn count(&self, key: &str, value: T) -> MetricResult<Counter<C::Memory>> {
+        send_plain(self, key, value.try_to_value())
+    }
+}
 
 /// Sends a count of 1 or -1. The errors are those of `Counted`, except that the value itself is never refused.
 pub trait CountedExt: Counted<i64> {
@@ -97,13 +98,9 @@ impl<C: CallBackend> CountedExt for C {}
 /// if they pass `u64::MAX`.
 pub trait Timed<T: ToTimerValue<Self::Memory>>: CallBackend {
     /// Sends a time, and returns the timer that was sent.
-    #[inline]
     fn time(&self, key: &str, value: T) -> MetricResult<Timer<Self::Memory>>
         ensures { SendsPlain (Self.settings self.now) (Self.line_may_get self.now)
-            MetricType.Timer key.now (T.numbers value) result }
-    {
-        send_plain(self, key, value.try_to_value())
-    }
+            MetricType.Timer key.now (T.numbers value) result };
 
     /// Returns the builder of a time, to which tags and other options can be added before it is sent.
     #[inline]
@@ -121,18 +118,19 @@ pub trait Timed<T: ToTimerValue<Self::Memory>>: CallBackend {
     }
 }
 
-impl<T: ToTimerValue<C::Memory>, C: CallBackend> Timed<T> for C {}
+impl<T: ToTimerValue<C::Memory>, C: CallBackend> Timed<T> for C {
+    #[inline]
+    fn time(&self, key: &str, value: T) -> MetricResult<Timer<C::Memory>> {
+        send_plain(self, key, value.try_to_value())
+    }
+}
 
 /// Sends values of a gauge. The server keeps the last one. No value of a built-in type is refused.
 pub trait Gauged<T: ToGaugeValue<Self::Memory>>: CallBackend {
     /// Sends a value of a gauge, and returns the gauge that was sent.
-    #[inline]
     fn gauge(&self, key: &str, value: T) -> MetricResult<Gauge<Self::Memory>>
         ensures { SendsPlain (Self.settings self.now) (Self.line_may_get self.now)
-            MetricType.Gauge key.now (T.numbers value) result }
-    {
-        send_plain(self, key, value.try_to_value())
-    }
+            MetricType.Gauge key.now (T.numbers value) result };
 
     /// Returns the builder of a value of a gauge, to which tags and other options can be added before it is sent.
     #[inline]
@@ -150,18 +148,19 @@ pub trait Gauged<T: ToGaugeValue<Self::Memory>>: CallBackend {
     }
 }
 
-impl<T: ToGaugeValue<C::Memory>, C: CallBackend> Gauged<T> for C {}
+impl<T: ToGaugeValue<C::Memory>, C: CallBackend> Gauged<T> for C {
+    #[inline]
+    fn gauge(&self, key: &str, value: T) -> MetricResult<Gauge<C::Memory>> {
+        send_plain(self, key, value.try_to_value())
+    }
+}
 
 /// Sends counts of events, from which the server computes a rate. No value of a built-in type is refused.
 pub trait Metered<T: ToMeterValue<Self::Memory>>: CallBackend {
     /// Sends a count for a meter, and returns the meter that was sent.
-    #[inline]
     fn meter(&self, key: &str, value: T) -> MetricResult<Meter<Self::Memory>>
         ensures { SendsPlain (Self.settings self.now) (Self.line_may_get self.now)
-            MetricType.Meter key.now (T.numbers value) result }
-    {
-        send_plain(self, key, value.try_to_value())
-    }
+            MetricType.Meter key.now (T.numbers value) result };
 
     /// Returns the builder of a count for a meter, to which tags and other options can be added before it is sent.
     #[inline]
@@ -179,19 +178,20 @@ pub trait Metered<T: ToMeterValue<Self::Memory>>: CallBackend {
     }
 }
 
-impl<T: ToMeterValue<C::Memory>, C: CallBackend> Metered<T> for C {}
+impl<T: ToMeterValue<C::Memory>, C: CallBackend> Metered<T> for C {
+    #[inline]
+    fn meter(&self, key: &str, value: T) -> MetricResult<Meter<C::Memory>> {
+        send_plain(self, key, value.try_to_value())
+    }
+}
 
 /// Sends values whose distribution each server computes. A `Duration` is cut off to whole nanoseconds, and refused with
 /// the kind `InvalidInput` if they pass `u64::MAX`.
 pub trait Histogrammed<T: ToHistogramValue<Self::Memory>>: CallBackend {
     /// Sends a value for a histogram, and returns the histogram that was sent.
-    #[inline]
     fn histogram(&self, key: &str, value: T) -> MetricResult<Histogram<Self::Memory>>
         ensures { SendsPlain (Self.settings self.now) (Self.line_may_get self.now)
-            MetricType.Histogram key.now (T.numbers value) result }
-    {
-        send_plain(self, key, value.try_to_value())
-    }
+            MetricType.Histogram key.now (T.numbers value) result };
 
     /// Returns the builder of a value for a histogram, to which tags and other options can be added before it is sent.
     #[inline]
@@ -209,18 +209,19 @@ pub trait Histogrammed<T: ToHistogramValue<Self::Memory>>: CallBackend {
     }
 }
 
-impl<T: ToHistogramValue<C::Memory>, C: CallBackend> Histogrammed<T> for C {}
+impl<T: ToHistogramValue<C::Memory>, C: CallBackend> Histogrammed<T> for C {
+    #[inline]
+    fn histogram(&self, key: &str, value: T) -> MetricResult<Histogram<C::Memory>> {
+        send_plain(self, key, value.try_to_value())
+    }
+}
 
 /// Sends values whose distribution over all servers is computed. No value of a built-in type is refused.
 pub trait Distributed<T: ToDistributionValue<Self::Memory>>: CallBackend {
     /// Sends a value for a distribution, and returns the distribution that was sent.
-    #[inline]
     fn distribution(&self, key: &str, value: T) -> MetricResult<Distribution<Self::Memory>>
         ensures { SendsPlain (Self.settings self.now) (Self.line_may_get self.now)
-            MetricType.Distribution key.now (T.numbers value) result }
-    {
-        send_plain(self, key, value.try_to_value())
-    }
+            MetricType.Distribution key.now (T.numbers value) result };
 
     /// Returns the builder of a value for a distribution, to which tags and other options can be added before it is
     /// sent.
@@ -239,18 +240,19 @@ pub trait Distributed<T: ToDistributionValue<Self::Memory>>: CallBackend {
     }
 }
 
-impl<T: ToDistributionValue<C::Memory>, C: CallBackend> Distributed<T> for C {}
+impl<T: ToDistributionValue<C::Memory>, C: CallBackend> Distributed<T> for C {
+    #[inline]
+    fn distribution(&self, key: &str, value: T) -> MetricResult<Distribution<C::Memory>> {
+        send_plain(self, key, value.try_to_value())
+    }
+}
 
 /// Sends members of a set. The server counts the distinct ones. No value of a built-in type is refused.
 pub trait Setted<T: ToSetValue<Self::Memory>>: CallBackend {
     /// Sends a member of a set, and returns the set that was sent.
-    #[inline]
     fn set(&self, key: &str, value: T) -> MetricResult<Set<Self::Memory>>
         ensures { SendsPlain (Self.settings self.now) (Self.line_may_get self.now)
-            MetricType.Set key.now (T.numbers value) result }
-    {
-        send_plain(self, key, value.try_to_value())
-    }
+            MetricType.Set key.now (T.numbers value) result };
 
     /// Returns the builder of a member of a set, to which tags and other options can be added before it is sent.
     #[inline]
@@ -268,4 +270,9 @@ pub trait Setted<T: ToSetValue<Self::Memory>>: CallBackend {
     }
 }
 
-impl<T: ToSetValue<C::Memory>, C: CallBackend> Setted<T> for C {}
+impl<T: ToSetValue<C::Memory>, C: CallBackend> Setted<T> for C {
+    #[inline]
+    fn set(&self, key: &str, value: T) -> MetricResult<Set<C::Memory>> {
+        send_plain(self, key, value.try_to_value())
+    }
+}

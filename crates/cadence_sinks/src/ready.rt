@@ -1,20 +1,20 @@
 //! Sinks over UDP with sockets of their own, made from a runtime, an allocator and a target.
-ghost use Rattle.std.specs.Prelude.{◌≡◌, false, IfOk, IfErr};
+ghost use Rattle.std.specs.Prelude.{◌≡◌, false, IfOk, IfErr, Some};
 ghost use Rattle.cadence_resolve.specs.Refusals.{IsSocketRefusal};
-ghost use Rattle.cadence.specs.Host.{IsHost};
+ghost use Rattle.cadence_sinks.specs.Host.{IsHost};
 ghost use Rattle.cadence_sinks.specs.Buffers.{udp_buffer};
-ghost use Rattle.cadence_queuing.specs.Queuing.{capacity_of, policy_of, queue_capacity, queue_policy, wrapped_sink};
+ghost use Rattle.cadence_queuing.specs.Queuing.{capacity_of, flush_period, flush_period_of, policy_of, queue_capacity, queue_policy, settings_of, wrapped_sink};
 ghost use Rattle.cadence_sinks.specs.Udp.{looks_up_again};
 
+use crate::{BufferedUdpMetricSink, UdpMetricSink};
 use cadence_errors::MetricResult;
+use cadence_queuing::{FlushingQueueBuilder, QueuingMetricSink, QueuingMetricSinkBuilder};
 use cadence_resolve::{StaticResolver, Target, bind_socket};
-use cadence_sinks::{
-    BufferedUdpMetricSink, QueuingMetricSink, QueuingMetricSinkBuilder, UdpMetricSink,
-};
 use std::alloc::{AllocError, Allocator, Global};
 use std::net::{Net, SocketAddr, UdpSocket};
 use std::sync::Wait;
 use std::thread::Threads;
+use std::time::Clock;
 
 /// A queuing sink that hands its lines to a buffered UDP sink.
 pub type QueuedUdpSink<R, A = Global> = QueuingMetricSink<BufferedUdpMetricSink<R, A>, R, A>;
@@ -86,6 +86,27 @@ pub fn queued_udp_sink_with<
     ensures buffer { IfOk result (λ q. udp_buffer (wrapped_sink q) ≡ capacity) }
     ensures lines { IfOk result (λ q. queue_capacity q ≡ capacity_of settings) }
     ensures policy { IfOk result (λ q. queue_policy q ≡ policy_of settings) }
+    ensures refused { IfErr result (λ e. IsSocketRefusal e) }
+{
+    let sink = buffered_udp_sink(rt, alloc.clone()?, target, capacity)?;
+    settings.build(rt.clone()?, alloc, sink)
+}
+
+/// Makes a queuing sink, as `queued_udp_sink_with` does, whose worker also flushes the buffered sink by time.
+pub fn flushing_udp_sink_with<
+    R: Net + Wait + Clock + Threads + Clone + Drop + Send + Sync + 'static,
+    A: Allocator + Clone + Send + Sync + 'static,
+>(
+    rt: &R,
+    alloc: A,
+    target: Target<A>,
+    capacity: usize,
+    settings: FlushingQueueBuilder<A>,
+) -> MetricResult<QueuedUdpSink<R, A>>
+    ensures buffer { IfOk result (λ q. udp_buffer (wrapped_sink q) ≡ capacity) }
+    ensures lines { IfOk result (λ q. queue_capacity q ≡ capacity_of (settings_of settings)) }
+    ensures policy { IfOk result (λ q. queue_policy q ≡ policy_of (settings_of settings)) }
+    ensures period { IfOk result (λ q. flush_period q ≡ Some (flush_period_of settings)) }
     ensures refused { IfErr result (λ e. IsSocketRefusal e) }
 {
     let sink = buffered_udp_sink(rt, alloc.clone()?, target, capacity)?;
