@@ -1,8 +1,8 @@
 //! The traits of what sends a metric, and the functions that send a metric or begin its draft.
 ghost use Rattle.cadence_value.specs.Values.{Converts};
-ghost use Rattle.cadence.specs.Sending.{SendsPlain, StartsPlain};
+ghost use Rattle.cadence.specs.Sending.{StartsPlain};
 
-use crate::types::{Metric, MetricKind, MetricText};
+use crate::types::Metric;
 use cadence_errors::{MetricError, MetricResult, SinkError};
 use cadence_schedule::ClientSettings;
 use cadence_text::line::{DraftLine, MetricType};
@@ -42,39 +42,14 @@ pub trait MetricBackend: Sealed {
     fn consume_error(&self, err: MetricError);
 }
 
-/// What the calls of a client need. These are no methods of `MetricBackend`, so that no other crate can call them. They
-/// don't name the allocator except behind a reference, because the checker can't state an `impl` whose methods do.
+/// What the calls of a client need. It is no method of `MetricBackend`, so that no other crate can call it. It doesn't name
+/// the allocator except behind a reference, because the checker can't state an `impl` whose methods do.
 pub trait CallBackend: MetricBackend {
     ghost use Rattle.std.specs.Prelude.{◌≡◌};
 
     /// Returns the prefix and the defaults.
     fn client_settings(&self) -> &ClientSettings<Self::Memory>
         ensures { result.now ≡ Self.settings self.now };
-
-    /// Gives a line to the sink, and returns the sink's result.
-    fn emit_line(&self, line: &str) -> Result<usize, SinkError>
-        ensures { Self.line_may_get self.now line.now result };
-}
-
-// Sends the line of a call without options, and returns the metric. It makes no builder and has no function between,
-// because each would copy the wide result once more.
-#[inline]
-pub(crate) fn send_plain<K: MetricKind, C: CallBackend>(
-    client: &C,
-    key: &str,
-    value: MetricResult<MetricValue<C::Memory>>,
-) -> MetricResult<MetricText<K, C::Memory>>
-    ensures { (numbers : _) → Converts numbers value → SendsPlain (C.settings client.now)
-        (C.line_may_get client.now) K.TYPE key.now numbers result }
-{
-    let settings = client.client_settings();
-    let value = match value {
-        Ok(value) => value,
-        Err(error) => return Err(settings.value_error(key, error)),
-    };
-    let text = settings.line(key, K::TYPE, value)?;
-    client.emit_line(&text)?;
-    Ok(MetricText::from(text))
 }
 
 // Drafts the line of a call without options, or returns the error of its value.

@@ -1,6 +1,6 @@
 //! The traits of all metrics as one bound.
 
-use crate::client::backend::{CallBackend, MetricBackend};
+use crate::client::backend::MetricBackend;
 use crate::client::traits::{
     Counted, CountedExt, Distributed, Gauged, Histogrammed, Metered, Setted, Timed,
 };
@@ -43,16 +43,31 @@ pub trait MetricClient: MetricBackend
     + Distributed<Vec<Decimal, <Self as MetricBackend>::Memory>>
     + Setted<i64> {}
 
-// The bounds with a list are repeated here. Without them the check "cannot state an item with such a type in a
-// bound yet"; for the others it finds the impls of the traits.
+// The bounds are repeated here, because the check finds no impl of such a trait for a type parameter.
 impl<C> MetricClient for C
 where
-    C: CallBackend
+    C: MetricBackend
+        + Counted<i64>
+        + Counted<i32>
+        + Counted<u64>
+        + Counted<u32>
+        + CountedExt
+        + Timed<u64>
+        + Timed<Duration>
         + Timed<Vec<u64, <C as MetricBackend>::Memory>>
         + Timed<Vec<Duration, <C as MetricBackend>::Memory>>
+        + Gauged<u64>
+        + Gauged<Decimal>
+        + Metered<u64>
+        + Histogrammed<u64>
+        + Histogrammed<Decimal>
+        + Histogrammed<Duration>
         + Histogrammed<Vec<u64, <C as MetricBackend>::Memory>>
         + Histogrammed<Vec<Decimal, <C as MetricBackend>::Memory>>
         + Histogrammed<Vec<Duration, <C as MetricBackend>::Memory>>
+        + Distributed<u64>
+        + Distributed<Decimal>
         + Distributed<Vec<u64, <C as MetricBackend>::Memory>>
-        + Distributed<Vec<Decimal, <C as MetricBackend>::Memory>>,
+        + Distributed<Vec<Decimal, <C as MetricBackend>::Memory>>
+        + Setted<i64>,
 {}

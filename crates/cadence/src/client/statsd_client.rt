@@ -1,15 +1,16 @@
 //! The client.
 ghost use Rattle.std.specs.Prelude.{◌≡◌};
 ghost use Rattle.cadence_value.specs.Values.{Converts};
-ghost use Rattle.cadence.specs.Sending.{Flushes, SendsPlain, StartsPlain};
+ghost use Rattle.cadence.specs.Sending.{Flushes, SendsPlain};
 ghost use Rattle.cadence.specs.Shown.{settings_of_client, sink_of_client};
 
 use crate::client::backend::{CallBackend, MetricBackend, Sealed};
 use crate::client::handler::{ErrorHandler, NopErrorHandler};
-use crate::types::Metric;
-use cadence_errors::{MetricError, MetricResult, SinkError};
+use crate::types::{Metric, MetricKind, MetricText};
+use cadence_errors::{MetricError, MetricResult};
 use cadence_schedule::ClientSettings;
 use cadence_sinks::MetricSink;
+use cadence_value::value::MetricValue;
 use std::alloc::{Allocator, Global};
 
 /// A sink that the caller made, in a box.
@@ -50,6 +51,27 @@ impl<A: Allocator + Clone, S: MetricSink, H: ErrorHandler> StatsdClient<A, S, H>
         self.sink.flush()?;
         Ok(())
     }
+
+    // Sends the line of a call without options, and returns the metric. It makes no builder and has no function between,
+    // because each would copy the wide result once more.
+    #[inline]
+    pub(crate) fn send_plain<K: MetricKind>(
+        &self,
+        key: &str,
+        value: MetricResult<MetricValue<A>>,
+    ) -> MetricResult<MetricText<K, A>>
+        ensures { (numbers : _) → Converts numbers value → SendsPlain
+            (settings_of_client self.now) (S.may_answer (sink_of_client self.now)) K.TYPE key.now
+            numbers result }
+    {
+        let value = match value {
+            Ok(value) => value,
+            Err(error) => return Err(self.settings.value_error(key, error)),
+        };
+        let text = self.settings.line(key, K::TYPE, value)?;
+        self.sink.emit(&text)?;
+        Ok(MetricText::from(text))
+    }
 }
 
 impl<A: Allocator + Clone, S: MetricSink, H: ErrorHandler> Sealed for StatsdClient<A, S, H> {}
@@ -80,10 +102,5 @@ impl<A: Allocator + Clone, S: MetricSink, H: ErrorHandler> CallBackend for Stats
     #[inline(always)]
     fn client_settings(&self) -> &ClientSettings<A> {
         &self.settings
-    }
-
-    #[inline(always)]
-    fn emit_line(&self, line: &str) -> Result<usize, SinkError> {
-        self.sink.emit(line)
     }
 }

@@ -9,15 +9,19 @@ ghost use Rattle.cadence_value.specs.Number.{whole};
 ghost use Rattle.cadence.specs.Sending.{SendsPlain, StartsPlain};
 ghost use Rattle.cadence.specs.Shown.{backend_of, pending_of};
 
-use crate::client::backend::{CallBackend, draft, send_plain};
+use crate::client::backend::{CallBackend, draft};
 use crate::client::builder::MetricBuilder;
+use crate::client::handler::ErrorHandler;
+use crate::client::statsd_client::StatsdClient;
 use crate::types::{Counter, Distribution, Gauge, Histogram, Meter, Set, Timer};
 use cadence_errors::MetricResult;
+use cadence_sinks::MetricSink;
 use cadence_text::line::MetricType;
 use cadence_value::value::{
     ToCounterValue, ToDistributionValue, ToGaugeValue, ToHistogramValue, ToMeterValue, ToSetValue,
     ToTimerValue,
 };
+use std::alloc::Allocator;
 
 /// Sends counts of events, which the server adds up. No value of a built-in type is refused.
 pub trait Counted<T: ToCounterValue<Self::Memory>>: CallBackend {
@@ -42,10 +46,11 @@ pub trait Counted<T: ToCounterValue<Self::Memory>>: CallBackend {
     }
 }
 
-impl<T: ToCounterValue<C::Memory>, C: CallBackend> Counted<T> for C {
+impl<A: Allocator + Clone, S: MetricSink, H: ErrorHandler, T: ToCounterValue<A>> Counted<T>
+    for StatsdClient<A, S, H> {
     #[inline]
-    fn count(&self, key: &str, value: T) -> MetricResult<Counter<C::Memory>> {
-        send_plain(self, key, value.try_to_value())
+    fn count(&self, key: &str, value: T) -> MetricResult<Counter<A>> {
+        self.send_plain(key, value.try_to_value())
     }
 }
 
@@ -92,7 +97,7 @@ pub trait CountedExt: Counted<i64> {
     }
 }
 
-impl<C: CallBackend> CountedExt for C {}
+impl<A: Allocator + Clone, S: MetricSink, H: ErrorHandler> CountedExt for StatsdClient<A, S, H> {}
 
 /// Sends times in milliseconds. A `Duration` is cut off to whole milliseconds, and refused with the kind `InvalidInput`
 /// if they pass `u64::MAX`.
@@ -118,10 +123,11 @@ pub trait Timed<T: ToTimerValue<Self::Memory>>: CallBackend {
     }
 }
 
-impl<T: ToTimerValue<C::Memory>, C: CallBackend> Timed<T> for C {
+impl<A: Allocator + Clone, S: MetricSink, H: ErrorHandler, T: ToTimerValue<A>> Timed<T>
+    for StatsdClient<A, S, H> {
     #[inline]
-    fn time(&self, key: &str, value: T) -> MetricResult<Timer<C::Memory>> {
-        send_plain(self, key, value.try_to_value())
+    fn time(&self, key: &str, value: T) -> MetricResult<Timer<A>> {
+        self.send_plain(key, value.try_to_value())
     }
 }
 
@@ -148,10 +154,11 @@ pub trait Gauged<T: ToGaugeValue<Self::Memory>>: CallBackend {
     }
 }
 
-impl<T: ToGaugeValue<C::Memory>, C: CallBackend> Gauged<T> for C {
+impl<A: Allocator + Clone, S: MetricSink, H: ErrorHandler, T: ToGaugeValue<A>> Gauged<T>
+    for StatsdClient<A, S, H> {
     #[inline]
-    fn gauge(&self, key: &str, value: T) -> MetricResult<Gauge<C::Memory>> {
-        send_plain(self, key, value.try_to_value())
+    fn gauge(&self, key: &str, value: T) -> MetricResult<Gauge<A>> {
+        self.send_plain(key, value.try_to_value())
     }
 }
 
@@ -178,10 +185,11 @@ pub trait Metered<T: ToMeterValue<Self::Memory>>: CallBackend {
     }
 }
 
-impl<T: ToMeterValue<C::Memory>, C: CallBackend> Metered<T> for C {
+impl<A: Allocator + Clone, S: MetricSink, H: ErrorHandler, T: ToMeterValue<A>> Metered<T>
+    for StatsdClient<A, S, H> {
     #[inline]
-    fn meter(&self, key: &str, value: T) -> MetricResult<Meter<C::Memory>> {
-        send_plain(self, key, value.try_to_value())
+    fn meter(&self, key: &str, value: T) -> MetricResult<Meter<A>> {
+        self.send_plain(key, value.try_to_value())
     }
 }
 
@@ -209,10 +217,11 @@ pub trait Histogrammed<T: ToHistogramValue<Self::Memory>>: CallBackend {
     }
 }
 
-impl<T: ToHistogramValue<C::Memory>, C: CallBackend> Histogrammed<T> for C {
+impl<A: Allocator + Clone, S: MetricSink, H: ErrorHandler, T: ToHistogramValue<A>> Histogrammed<T>
+    for StatsdClient<A, S, H> {
     #[inline]
-    fn histogram(&self, key: &str, value: T) -> MetricResult<Histogram<C::Memory>> {
-        send_plain(self, key, value.try_to_value())
+    fn histogram(&self, key: &str, value: T) -> MetricResult<Histogram<A>> {
+        self.send_plain(key, value.try_to_value())
     }
 }
 
@@ -240,10 +249,11 @@ pub trait Distributed<T: ToDistributionValue<Self::Memory>>: CallBackend {
     }
 }
 
-impl<T: ToDistributionValue<C::Memory>, C: CallBackend> Distributed<T> for C {
+impl<A: Allocator + Clone, S: MetricSink, H: ErrorHandler, T: ToDistributionValue<A>> Distributed<T>
+    for StatsdClient<A, S, H> {
     #[inline]
-    fn distribution(&self, key: &str, value: T) -> MetricResult<Distribution<C::Memory>> {
-        send_plain(self, key, value.try_to_value())
+    fn distribution(&self, key: &str, value: T) -> MetricResult<Distribution<A>> {
+        self.send_plain(key, value.try_to_value())
     }
 }
 
@@ -270,9 +280,10 @@ pub trait Setted<T: ToSetValue<Self::Memory>>: CallBackend {
     }
 }
 
-impl<T: ToSetValue<C::Memory>, C: CallBackend> Setted<T> for C {
+impl<A: Allocator + Clone, S: MetricSink, H: ErrorHandler, T: ToSetValue<A>> Setted<T>
+    for StatsdClient<A, S, H> {
     #[inline]
-    fn set(&self, key: &str, value: T) -> MetricResult<Set<C::Memory>> {
-        send_plain(self, key, value.try_to_value())
+    fn set(&self, key: &str, value: T) -> MetricResult<Set<A>> {
+        self.send_plain(key, value.try_to_value())
     }
 }
