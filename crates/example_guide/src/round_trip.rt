@@ -4,7 +4,7 @@
 
 use crate::runtime::Runtime;
 use cadence::prelude::*;
-use cadence::ready::queued_udp_client;
+use cadence::ready::{flushing_udp_client, queued_udp_client};
 use cadence::sinks::Target;
 use cadence::{MetricResult, MetricSink};
 use std::alloc::Global;
@@ -36,10 +36,24 @@ fn receive(alloc: Global, server: &UdpSocket, count: u64) -> MetricResult<String
     Ok(text)
 }
 
+// Sends a line over a client that flushes by time, and returns the datagram. The client is neither flushed nor stopped
+// before the datagram has come.
+fn receive_by_time<R: Runtime>(rt: &R, alloc: Global, server: &UdpSocket) -> MetricResult<String> {
+    let target = Target::Addr(server.local_addr()?);
+    let period = Duration::from_millis(20);
+    let client = flushing_udp_client(rt, alloc, "my.service", target, 64, Some(10), period)?;
+    client.incr("alive")?;
+    let text = receive(alloc, server, 1)?;
+    client.sink().stop_and_wait();
+    Ok(text)
+}
+
 /// Returns the datagrams that a server of its own receives. The server waits for each five seconds at most.
 pub fn report<R: Runtime>(rt: &R, alloc: Global) -> MetricResult<String> {
     let server = UdpSocket::bind(rt, SocketAddr::from((Ipv4Addr::LOCALHOST, 0)))?;
     server.set_read_timeout(Some(Duration::from_secs(5)))?;
     let count = send_three(rt, alloc, server.local_addr()?)?;
-    receive(alloc, &server, count)
+    let mut text = receive(alloc, &server, count)?;
+    text.push_str(&receive_by_time(rt, alloc, &server)?)?;
+    Ok(text)
 }
