@@ -5,8 +5,8 @@
 #include <stdio.h>
 #include <sys/socket.h>
 
-/* Sends the packets that wait. A packet that is too long for a datagram is dropped. A packet that the socket refuses
- * for another reason still waits. */
+/* Sends the packets that wait. A packet that is too long for a datagram is dropped. One that the socket refuses for
+ * another reason still waits. */
 static void send_waiting(cadence_handle *client, int fd) {
     static uint8_t packet[65507];
     size_t length;
@@ -18,14 +18,14 @@ static void send_waiting(cadence_handle *client, int fd) {
 }
 
 int main(int argc, char **argv) {
-    const char *name = argc > 1 ? argv[1] : "visits";
     const struct sockaddr_in to = { .sin_family = AF_INET, .sin_port = htons(8125), .sin_addr = { htonl(INADDR_LOOPBACK) } };
     const int fd = socket(AF_INET, SOCK_DGRAM, 0);
     if (connect(fd, (const struct sockaddr *)&to, sizeof to)) return 1;
 
     cadence_handle client = CADENCE_CLOSED;
     uint32_t status = cadence_open(&client, "my.service", 512, 8, CADENCE_DROP_OLDEST);
-    if (status == CADENCE_OK) status = cadence_count(&client, name, 1, NULL);
+    for (int i = 1; i < argc && status == CADENCE_OK; i++) status = cadence_count(&client, argv[i], 1, NULL);
+    if (status == CADENCE_OK) status = cadence_count(&client, "visits", 1, NULL);
     if (status == CADENCE_OK) status = cadence_flush(&client);
     if (status != CADENCE_OK) fprintf(stderr, "%s\n", cadence_status_text(status));
     send_waiting(&client, fd);

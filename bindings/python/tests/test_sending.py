@@ -10,6 +10,21 @@ from receiver import ClientTest, Receiver, Recorder
 from statsd_proved import StatsClient
 
 
+class NoMemory:
+    """Takes the place of a client's packer. It finds no memory for a packet, until `finds` is set."""
+
+    def __init__(self, packer):
+        self.packer, self.finds = packer, False
+
+    def __getattr__(self, name):
+        return getattr(self.packer, name)
+
+    def take(self):
+        if not self.finds:
+            raise MemoryError
+        return self.packer.take()
+
+
 class When(ClientTest):
     def test_a_full_packet(self):
         client = self.client(maxudpsize=16)
@@ -85,7 +100,9 @@ class Where(ClientTest):
             lines = receiver.lines()
             while len(lines) < 1500:
                 client.flush()
-                lines += receiver.lines(30)
+                more = receiver.lines(30)
+                self.assertNotEqual(more, [])
+                lines += more
             self.assertEqual(lines, [f"a:{number}|g" for number in range(1500)])
             receiver.socket.close()
 
@@ -153,6 +170,31 @@ class Refusals(ClientTest):
         client._socket.fault = None
         client.flush()
         self.assertEqual(client._socket.lines(), ["a:1|c"])
+
+    def test_a_call_that_raises_for_a_packet_keeps_its_line(self):
+        client = self.refusing(raises=True, maxudpsize=8)
+        client.incr("a")
+        for name in "bc":
+            self.assertRaises(OSError, client.incr, name)
+        client._socket.fault = None
+        client.flush()
+        self.assertEqual(client._socket.lines(), ["a:1|c", "b:1|c", "c:1|c"])
+
+    def test_packets_for_which_there_is_no_memory_wait(self):
+        client = self.client(maxudpsize=8)
+        pipe = client.pipeline()
+        for metrics in (client, pipe):
+            metrics._packer = NoMemory(metrics._packer)
+            for name in "abc":
+                metrics.incr(name)
+        client.flush()
+        pipe.send()
+        self.assertEqual({type(fault) for fault in self.faults}, {MemoryError})
+        self.assertEqual((self.receiver.lines(), client.counts()["bad"]), ([], 0))
+        client._packer.finds = pipe._packer.finds = True
+        client.flush()
+        pipe.send()
+        self.assertEqual(self.receiver.lines(), ["a:1|c", "b:1|c", "c:1|c"] * 2)
 
     def test_the_thread_never_raises(self):
         client = self.refusing(raises=True, flush_every=0.01)

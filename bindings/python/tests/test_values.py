@@ -1,4 +1,5 @@
 """Values, texts and tags of which no line can be made."""
+import decimal
 import math
 import pathlib
 import re
@@ -62,6 +63,11 @@ class Values(ClientTest):
         self.refuses(TypeError, lambda c: c.incr("x", None), lambda c: c.decr("x", "5"), lambda c: c.gauge("x", "5"),
                      lambda c: c.set("x", None), lambda c: c.timing("x", object()), lambda c: c.incr(5),
                      lambda c: c.incr("x", rate="1"), lambda c: c.raw(b"x:1|c"), lambda c: c.incr("x", timestamp="now"))
+
+    def test_decimals_that_are_no_numbers(self):
+        for text in ("NaN", "sNaN", "Infinity"):
+            self.refuses(ValueError, lambda c: c.incr("x", decimal.Decimal(text)), lambda c: c.gauge("x", decimal.Decimal(text)))
+        self.refuses(decimal.InvalidOperation, lambda c: c.decr("x", decimal.Decimal("sNaN")))
 
     def test_tags_that_are_none(self):
         self.refuses(TypeError, *(lambda c, tags=tags: c.incr("x", tags=tags)

@@ -53,6 +53,12 @@ fn each_kind_has_its_values() {
 }
 
 #[test]
+fn the_prelude_has_the_trait_of_all_calls() {
+    let boxed: Box<dyn MetricClient> = Box::new(client());
+    assert_eq!("p.k:1|c", line(boxed.incr("k")));
+}
+
+#[test]
 fn each_constructor_prints_its_prefix_as_it_stands() {
     let found = [
         (Counter::new("a.", "k", 4).as_metric_str().to_string(), "a.k:4|c"),

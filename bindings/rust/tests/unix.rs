@@ -3,6 +3,7 @@
 use cadence::prelude::*;
 use cadence::{BufferedUnixMetricSink, MetricSink, StatsdClient, UnixMetricSink};
 use std::fs;
+use std::io;
 use std::os::unix::net::UnixDatagram;
 use std::path::{Path, PathBuf};
 use std::sync::atomic::{AtomicU32, Ordering};
@@ -56,6 +57,26 @@ fn a_line_is_a_datagram() {
     assert_eq!("buz:1|m", packet(&server));
     StatsdClient::from_sink("p", sink).incr("k").unwrap();
     assert_eq!("p.k:1|c", packet(&server));
+}
+
+#[test]
+fn a_socket_that_does_not_block_refuses_what_its_server_has_no_room_for() {
+    let folder = Folder::new();
+    let server = server(&folder.path());
+    let socket = socket();
+    socket.set_nonblocking(true).unwrap();
+    let sink = UnixMetricSink::from(folder.path(), socket);
+    let mut sent = 0;
+    let refused = loop {
+        match sink.emit("buz:1|m") {
+            Ok(size) => sent += size / 7,
+            Err(error) => break error,
+        }
+    };
+    assert_eq!(io::ErrorKind::WouldBlock, refused.kind());
+    (0..sent).for_each(|_| assert_eq!("buz:1|m", packet(&server)));
+    assert_eq!(7, sink.emit("baz:1|m").unwrap());
+    assert_eq!("baz:1|m", packet(&server));
 }
 
 #[test]

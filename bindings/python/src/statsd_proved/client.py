@@ -66,7 +66,8 @@ class StatsClient(Metrics):
     is counted, and waits until it is offered again with the next packet. If `packets` packets already wait behind it,
     the oldest of them is dropped and counted. A packet that is too long for the socket is dropped and counted.
     `on_error` receives each of these errors: a TypeError, ValueError, OverflowError, MemoryError or StatusError of a
-    call, or an OSError of a packet. If `raises` is set, the call raises the error too.
+    call, or an OSError of a packet. If `raises` is set, the call raises the error too. If that is an OSError, the line
+    of the call is kept, so the caller must not make the call again.
     """
 
     def __init__(self, host: str = "localhost", port: int = 8125, prefix: str | None = None, maxudpsize: int = 512,
@@ -243,7 +244,10 @@ class StatsClient(Metrics):
         long for the socket: then it is dropped, and the next packets are sent."""
         faults: list[Exception] = []
         while True:
-            packet = self._packer.take() if self._refused is None else self._refused
+            try:
+                packet = self._packer.take() if self._refused is None else self._refused
+            except MemoryError as no_room:
+                return [*faults, no_room]
             self._refused = None
             if packet is None:
                 return faults

@@ -39,7 +39,7 @@ class Metrics(abc.ABC):
         """Subtracts `count` from a counter."""
         try:
             count = -count
-        except TypeError as fault:
+        except Exception as fault:
             return self._bad(fault)
         self._keep(COUNTER, PLAIN, stat, count, rate, tags, container, timestamp)
 

@@ -29,9 +29,9 @@ class Pipeline(Metrics):
         """Sends the metrics that are held."""
         try:
             self._packer.flush()
-            self._take()
         except MemoryError as fault:
-            self._client._bad(fault)
+            self._client._tell([fault])
+        self._take()
         packets, self._packets = self._packets, []
         self._client._send_packets(packets)
 
@@ -44,8 +44,11 @@ class Pipeline(Metrics):
             self._take()
 
     def _take(self) -> None:
-        while (packet := self._packer.take()) is not None:
-            self._packets.append(packet)
+        try:
+            while (packet := self._packer.take()) is not None:
+                self._packets.append(packet)
+        except MemoryError as fault:
+            self._client._tell([fault])
 
     def _renew(self) -> None:
         """Drops, in the child of a fork, the metrics that the parent has too."""
