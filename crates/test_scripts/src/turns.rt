@@ -9,9 +9,9 @@ use cadence_script::run_script;
 use std::alloc::{AllocError, Global};
 use std::fmt;
 use test_tools::RefusingAllocator;
+use test_tools::model::is_right_report;
 use test_tools::reader::{ByteReader, FailingReader};
 use test_tools::writer::{ByteWriter, FailingWriter};
-use test_tools::model::is_right_report;
 
 // More than the requests, answers, reads or writes of any run.
 const MOST_TURNS: u64 = 20_000;
