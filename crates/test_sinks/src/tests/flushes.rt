@@ -1,6 +1,6 @@
 //! Sinks that are flushed by time: the queue with a period, and the flushing sink. Most tests move the clock
 //! themselves; a worker with a period of five milliseconds looks at it after as many milliseconds of real time.
-use super::moved_clock::{MovedClock, NotingSink, Watch, make_noting_sink};
+use super::moved_clock::{MovedClock, NotingSink, Stage, Watch, make_noting_sink};
 use super::steps::{
     Runtime, WantedError, assert_accepts, assert_counts, assert_flushes, assert_last_message,
     assert_next_message, assert_refuses_flush,
@@ -8,7 +8,7 @@ use super::steps::{
 use cadence_errors::{MetricError, MetricResult, SinkError};
 use cadence_sinks::{
     BufferedSpyMetricSink, FlushingMetricSink, MetricSink, NopMetricSink, QueuingMetricSink,
-    QueuingMetricSinkBuilder, SinkErrorHandler,
+    QueuingMetricSinkBuilder,
 };
 use std::alloc::Global;
 use std::sync::Arc;
@@ -21,15 +21,11 @@ type NotedQueue<R> = QueuingMetricSink<NotingSink<R>, MovedClock<R>>;
 
 type NotedFlushes<R> = FlushingMetricSink<NotingSink<R>, MovedClock<R>>;
 
-// Makes a handler that counts the errors `PacketRefused`.
-fn make_counter<R: Runtime>(alloc: Global, watch: &Watch<R>) -> Result<SinkErrorHandler, Fail> {
-    let stage = watch.stage.clone()?;
-    let handler: SinkErrorHandler = Box::new(alloc, move |error| {
-        if matches!(error, SinkError::PacketRefused) {
-            stage.errors.fetch_add(1, Ordering::SeqCst);
-        }
-    })?;
-    Ok(handler)
+// Counts an error, if it is `PacketRefused`.
+fn count_refusal(stage: &Stage, error: &SinkError) {
+    if matches!(error, SinkError::PacketRefused) {
+        stage.errors.fetch_add(1, Ordering::SeqCst);
+    }
 }
 
 // Makes a queue over a noting sink, whose worker flushes it after this many milliseconds of the moved clock.
@@ -39,9 +35,11 @@ fn make_queue<R: Runtime + Clock>(
     period: u64,
 ) -> Result<(Watch<R>, NotedQueue<R>), Fail> {
     let (watch, noting) = make_noting_sink(rt, alloc)?;
+    let stage = watch.stage.clone()?;
+    let handler = Box::new(alloc, move |error: SinkError| count_refusal(&stage, &error))?;
     let builder = QueuingMetricSinkBuilder::new()
         .with_capacity(32)
-        .with_error_handler(make_counter(alloc, &watch)?)
+        .with_error_handler(handler)
         .with_flush_period(Duration::from_millis(period));
     let sink = builder.build(watch.moved_clock()?, alloc, noting)?;
     Ok((watch, sink))
@@ -211,7 +209,8 @@ fn make_flushes<R: Runtime + Clock>(
     alloc: Global,
 ) -> Result<(Watch<R>, NotedFlushes<R>), Fail> {
     let (watch, noting) = make_noting_sink(rt, alloc)?;
-    let handler = make_counter(alloc, &watch)?;
+    let stage = watch.stage.clone()?;
+    let handler = Box::new(alloc, move |error: SinkError| count_refusal(&stage, &error))?;
     let (clock, period) = (watch.moved_clock()?, Duration::from_millis(5));
     let sink = FlushingMetricSink::with_error_handler(clock, alloc, noting, period, handler)?;
     Ok((watch, sink))
