@@ -219,15 +219,13 @@ struct Numbers {
 }
 
 impl Numbers {
-    // Returns a number below `bound`, which is not 0.
-    fn below(&mut self, bound: u64) -> u64
-        requires { 0 < bound }
-    {
+    // Returns a number below `bound`, or 0 if that is 0.
+    fn below(&mut self, bound: u64) -> u64 {
         self.state = self
             .state
             .wrapping_mul(6364136223846793005)
             .wrapping_add(1442695040888963407);
-        (self.state >> 33) % bound
+        (self.state >> 33).checked_rem(bound).unwrap_or(0)
     }
 
     // Returns a text of one to four characters. One of six is a separator.
@@ -238,7 +236,8 @@ impl Numbers {
         ];
         let mut text = String::new(alloc);
         for _ in 0..=self.below(4) {
-            text.push(CHARS[self.below(24) as usize])?;
+            let at = self.below(24) as usize;
+            text.push(CHARS.get(at).copied().unwrap_or('a'))?;
         }
         Ok(text)
     }
