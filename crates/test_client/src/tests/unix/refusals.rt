@@ -12,7 +12,8 @@ use std::io;
 use std::net::Net;
 use std::sync::Wait;
 use std::test::Fail;
-use test_tools::each_refused;
+use std::thread::Threads;
+use test_tools::RefusingAllocator;
 
 // A text of 107 bytes, which is a path, and one of 108 bytes, which is none.
 const LONGEST: &str =
@@ -96,9 +97,9 @@ fn the_longest_path_is_a_path(rt: HostRuntime) -> Result<(), Fail> {
 }
 
 // Returns whether there was memory for each of the three clients and for a line.
-fn clients_have_memory<R: cadence::sinks::ResolverRuntime>(
+fn clients_have_memory<R: Net + Wait + Threads + Clone + Drop + Send + Sync + 'static>(
     rt: &R,
-    heap: test_tools::RefusingAllocator<Global>,
+    heap: RefusingAllocator<Global>,
 ) -> MetricResult<bool> {
     let plain = unix_client(rt, heap.clone()?, "p", LONGEST)?;
     let _buffered = buffered_unix_client(rt, heap.clone()?, "p", LONGEST, 16)?;
@@ -107,21 +108,24 @@ fn clients_have_memory<R: cadence::sinks::ResolverRuntime>(
 }
 
 // Returns whether there was memory. Only a refused request may be why there was none.
-fn clients_are_made<R: cadence::sinks::ResolverRuntime>(
+fn clients_are_made<R: Net + Wait + Threads + Clone + Drop + Send + Sync + 'static>(
     rt: &R,
-    heap: test_tools::RefusingAllocator<Global>,
-) -> MetricResult<bool> {
+    heap: RefusingAllocator<Global>,
+) -> Result<bool, Fail> {
     match clients_have_memory(rt, heap) {
         Err(MetricError::Sink(SinkError::OutOfMemory)) => Ok(false),
-        answer => answer,
+        answer => Ok(answer?),
     }
 }
 
+// Each attempt has one request refused, until an attempt needs fewer requests than were granted.
 #[test]
 fn each_request_for_memory_may_be_refused(rt: HostRuntime) -> Result<(), Fail> {
-    let requests = each_refused(rt.alloc(), |heap| clients_are_made(&rt, heap))?;
-    if requests.is_none() {
-        return Err(Fail::new("the clients are never made"));
+    for granted in 0..100 {
+        let heap = RefusingAllocator::after(rt.alloc(), rt.alloc(), granted)?;
+        if clients_are_made(&rt, heap)? {
+            return Ok(());
+        }
     }
-    Ok(())
+    Err(Fail::new("the clients are never made"))
 }

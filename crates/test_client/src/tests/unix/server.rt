@@ -1,4 +1,6 @@
 //! A server that receives datagrams at a path.
+ghost use Rattle.std.specs.Prelude.{◌≤◌, IfSome};
+
 use cadence_unix::UnixSocket;
 use std::fs;
 use std::fs::Files;
@@ -44,7 +46,9 @@ impl Server {
 
     fn assert_datagram(&self, text: &str) -> Result<(), Fail> {
         let mut bytes = [0u8; 64];
-        let count = self.receive(&mut bytes).ok_or("no datagram")?;
+        let Some(count) = self.receive(&mut bytes) else {
+            return Err(Fail::new("no datagram"));
+        };
         if &bytes[..count] != text.as_bytes() {
             return Err(Fail::new("another datagram"));
         }
@@ -52,7 +56,9 @@ impl Server {
     }
 
     // Receives a datagram, if one waits.
-    fn receive(&self, bytes: &mut [u8; 64]) -> Option<usize> {
+    fn receive(&self, bytes: &mut [u8; 64]) -> Option<usize>
+        ensures { IfSome result (λ count. count ≤ 64) }
+    {
         let mut socket = &self.socket;
         match socket.read(bytes) {
             Ok(count) if count <= 64 => Some(count),
