@@ -4,7 +4,7 @@
 use crate::runtime::Runtime;
 use cadence::prelude::*;
 use cadence::{MetricResult, MetricSink};
-use cadence_unix::{
+use cadence_agent::{
     BufferedUnixClient, UnixClient, UnixSocket, buffered_unix_client, queued_unix_client,
     unix_client,
 };

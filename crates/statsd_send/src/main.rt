@@ -12,13 +12,13 @@ mod unix;
 use crate::environment::find_address;
 use crate::pace::Every;
 use crate::unix::PathWriter;
+use cadence_agent::{PathError, UnixSocket, check_path};
 use cadence_flow::io::{LineBuffer, PacketWriter};
 use cadence_resolve::bind_socket;
 use cadence_send::{
     DatagramWriter, Defaults, Destination, Options, PacketPrinter, Request, RunError, Unhurried,
     read_options, run_input, run_words,
 };
-use cadence_unix::{PathError, UnixSocket, check_path};
 use std::alloc::{AllocError, Global};
 use std::io::{ErrorKind, Read};
 use std::process::ExitCode;

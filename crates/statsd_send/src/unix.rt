@@ -3,10 +3,10 @@ ghost use Rattle.std.specs.Prelude.{[]};
 ghost use Rattle.cadence_flow.specs.Writer.{history_of};
 ghost use Rattle.cadence_send.specs.Writers.{packet_writer_kind};
 
+use cadence_agent::UnixSocket;
 use cadence_errors::SinkError;
 use cadence_flow::io::{PacketWriter, Refusals};
 use cadence_sinks::PathSocket;
-use cadence_unix::UnixSocket;
 
 /// A writer that sends each packet as a datagram to a path.
 #[derive(Drop)]

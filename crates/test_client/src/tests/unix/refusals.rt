@@ -3,10 +3,10 @@ use super::sending::io_kind;
 use cadence::prelude::*;
 use cadence::types::SinkError;
 use cadence::{ErrorKind, MetricError, MetricResult};
-use cadence_sinks::PathSocket;
-use cadence_unix::{
+use cadence_agent::{
     PathError, UnixSocket, buffered_unix_client, check_path, queued_unix_client, unix_client,
 };
+use cadence_sinks::PathSocket;
 use std::alloc::Global;
 use std::io;
 use std::net::Net;

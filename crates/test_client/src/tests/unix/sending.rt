@@ -3,7 +3,7 @@ use super::server::{bind_server, unlink};
 use cadence::prelude::*;
 use cadence::types::SinkError;
 use cadence::{MetricError, MetricResult, MetricSink};
-use cadence_unix::{UnixClient, buffered_unix_client, queued_unix_client, unix_client};
+use cadence_agent::{UnixClient, buffered_unix_client, queued_unix_client, unix_client};
 use std::alloc::Global;
 use std::fs::Files;
 use std::io::ErrorKind;
@@ -127,12 +127,12 @@ fn a_server_that_does_not_read_is_not_waited_for(rt: HostRuntime) -> Result<(), 
 fn last_descriptor(net: &impl Net) -> MetricResult<i32> {
     let mut last = 0;
     for _ in 0..5000 {
-        last = descriptor_of(cadence_unix::UnixSocket::new(net)?);
+        last = descriptor_of(cadence_agent::UnixSocket::new(net)?);
     }
     Ok(last)
 }
 
-fn descriptor_of(socket: cadence_unix::UnixSocket) -> i32 {
+fn descriptor_of(socket: cadence_agent::UnixSocket) -> i32 {
     use std::os::fd::{AsRawFd, OwnedFd};
     OwnedFd::from(socket).as_raw_fd()
 }

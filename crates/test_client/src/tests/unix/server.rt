@@ -1,7 +1,7 @@
 //! A server that receives datagrams at a path.
 ghost use Rattle.std.specs.Prelude.{◌≤◌, IfSome};
 
-use cadence_unix::UnixSocket;
+use cadence_agent::UnixSocket;
 use std::fs;
 use std::fs::Files;
 use std::io::Read;

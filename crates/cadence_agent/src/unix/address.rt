@@ -1,6 +1,6 @@
 //! The address of a Unix socket, as the system reads it.
 ghost use Rattle.std.specs.Prelude.{◌≡◌, ◌+◌, ◌≤◌, length};
-ghost use Rattle.cadence_unix.specs.Address.{sockaddr_un};
+ghost use Rattle.cadence_agent.specs.Address.{sockaddr_un};
 
 use libc::net::{_SS_SIZE, AF_UNIX};
 

@@ -1,10 +1,4 @@
 //! Unix datagrams: a socket that sends to a path, and sinks and clients over it, ready made.
-//!
-//! - `address`: the bytes of a path's address, as the system reads them
-//! - `path`: which texts can be the path of a Unix socket
-//! - `ready`: clients and sinks, made from a runtime, an allocator and a path
-//! - `socket`: the socket. This is the one module of the library that calls the C library by itself.
-#![tactic(auto)]
 
 mod address;
 mod path;

@@ -1,7 +1,7 @@
 //! Which texts can be the path of a Unix socket.
 ghost use Rattle.std.specs.Prelude.{IfErr, IfOk};
 ghost use Rattle.cadence_errors.specs.Errors.{IsInvalid};
-ghost use Rattle.cadence_unix.specs.Paths.{IsFault, IsPath};
+ghost use Rattle.cadence_agent.specs.Paths.{IsFault, IsPath};
 
 use cadence_errors::{ErrorKind, MetricError};
 use std::fmt;

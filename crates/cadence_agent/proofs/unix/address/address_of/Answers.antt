@@ -1,7 +1,7 @@
 use Rattle.std.proofs.Common.{◌≡◌, ℕ, ◌+◌, ◌-◌, ◌∷◌, ◌++◌, length, replicate, drop, ap, ◌∙◌, arith}
 use Rattle.std.proofs.lemmas.List.{drop-replicate}
 use borrow.Rule.Slice.PartMut.{Post-is}
-use Rattle.cadence_unix.proofs.address.address_of.Goals as goal
+use Rattle.cadence_agent.proofs.unix.address.address_of.Goals as goal
 
 -- the zeros after the first bytes of a buffer of zeros
 zeros_left : (n : ℕ) → drop {A = ℕ} (2 + n) (replicate {A = ℕ} 128 0) ≡ replicate {A = ℕ} (126 - n) 0

@@ -1,5 +1,8 @@
 //! The tests.
 //!
+//! - `error`: texts and kinds of errors.
+//! - `decimal`, `value`: numbers and values, and their texts.
+//! - `line`: records of metrics. `draft`: lines that are made in a buffer.
 //! - `io`: packers of lines and their writers.
 //! - `queue`: the core of a queue, the shared queue, and the end mark of its worker.
 //! - `taker`: the taker of a shared queue. `taker_memory`: the memory of texts that it gives back.
@@ -9,9 +12,14 @@
 
 mod audited;
 mod audited_callers;
+mod decimal;
+mod draft;
+mod error;
 mod io;
+mod line;
 mod queue;
 mod record_sizes;
 mod stats;
 mod taker;
 mod taker_memory;
+mod value;

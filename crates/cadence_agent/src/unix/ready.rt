@@ -6,11 +6,11 @@ ghost use Rattle.cadence_schedule.specs.Settings.{settings_of};
 ghost use Rattle.cadence_sinks.specs.Buffers.{unix_buffer};
 ghost use Rattle.cadence_queuing.specs.Queuing.{capacity_of, policy_of, queue_capacity, queue_policy, wrapped_sink};
 ghost use Rattle.cadence_sinks.specs.Unix.{unix_path};
-ghost use Rattle.cadence_unix.specs.Paths.{IsPath};
-ghost use Rattle.cadence_unix.specs.Refusals.{IsUnixRefusal};
+ghost use Rattle.cadence_agent.specs.Paths.{IsPath};
+ghost use Rattle.cadence_agent.specs.Refusals.{IsUnixRefusal};
 
-use crate::path::check_path;
-use crate::socket::UnixSocket;
+use super::path::check_path;
+use super::socket::UnixSocket;
 use cadence::StatsdClient;
 use cadence_errors::MetricResult;
 use cadence_sinks::{
