@@ -14,7 +14,11 @@ use std::alloc::Allocator;
 /// ```text
 /// impl MetricSink for MySink {
 ///     ghost may_answer = { λ _ line answer. answer ≡ Ok (length line) };
-///     fn emit(&self, metric: &str) -> Result<usize, SinkError> { Ok(metric.len()) }
+///
+///     fn emit(&self, metric: &str) -> Result<usize, SinkError> {
+///         Ok(metric.len())
+///     }
+///
 ///     ghost flush_may_succeed = { λ _. tt };
 /// }
 /// ```

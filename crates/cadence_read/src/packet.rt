@@ -70,6 +70,10 @@ fn read_list<A: Allocator + Clone>(
 /// Reads the metrics of a packet: lines that each end in a newline, or one line without a newline. There is at most one
 /// list of metrics with this packet.
 ///
+/// ```
+/// let metrics = read_packet(alloc, b"app.visits:1|c\napp.load:0.5|g\n")?;
+/// ```
+///
 /// The metrics own their texts and lists, in memory of `alloc`. If `alloc` is an arena that is emptied after each
 /// packet, reading takes no memory from the heap once the arena has room.
 ///
@@ -90,8 +94,8 @@ pub fn read_packet<A: Allocator + Clone>(
 
 /// Reads the metrics of the packets of a run, and then the metrics of the held text, into one list.
 ///
-/// # Errors `NotMetrics` if no list of metrics has one of the packets, or the held text, as its packet, and
-/// `OutOfMemory`.
+/// # Errors
+/// `NotMetrics` if no list of metrics has one of the packets, or the held text, as its packet, and `OutOfMemory`.
 pub fn read_run<A: Allocator + Clone>(
     alloc: A,
     packets: &[Vec<u8, A>],

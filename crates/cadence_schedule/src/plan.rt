@@ -110,6 +110,11 @@ fn group_len(sizes: &[usize], capacity: usize, marks: &[usize], start: usize) ->
 /// Sizes and the capacity are in bytes. A mark `p` asks that a packet ends after the first `p` sizes. The Rust crate
 /// has no such function.
 ///
+/// ```
+/// let sizes = [300, 200, 100];
+/// let plan = plan_packets(alloc, &sizes, 512, &[])?; // 2 sizes in the first packet, 1 in the second
+/// ```
+///
 /// # Errors
 /// `SinkError::OutOfMemory` if memory for the plan runs out, and no other.
 pub fn plan_packets<A: Allocator>(

@@ -13,11 +13,13 @@
 //! - `ported`: a program of the Rust crate.
 //! - `capacities`: how many packets some lines need.
 //! - `runtime`: the bounds of a runtime that makes sinks.
+//! - `documented`: the examples of the library's documentation.
 //! - `lines`, `numbers`, `round_trip`: these blocks run, and what they send as a text.
 //! - `unix`: clients over a Unix socket, and what a server receives.
 #![tactic(auto)]
 
 mod capacities;
+mod documented;
 mod errors;
 mod kinds;
 mod lines;
@@ -47,6 +49,7 @@ fn report<R: Runtime>(rt: &R, alloc: Global) -> MetricResult<String> {
 fn main(rt: HostRuntime) -> MetricResult<()> {
     let alloc = rt.alloc();
     print!(rt; "{}", report(&rt, alloc)?)?;
+    print!(rt; "{}", documented::report(&rt, alloc)?)?;
     let id = process::id(rt.process());
     let path = format!(in alloc; "/tmp/statsd-{id}.sock")?;
     print!(rt; "{}", unix::report(&rt, alloc, &path)?)?;

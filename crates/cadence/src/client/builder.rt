@@ -50,10 +50,11 @@ fn send_line<C: MetricBackend, T: From<String<C::Memory>>>(
 /// error the options change nothing. A builder has to be sent: code that drops one doesn't compile.
 ///
 /// ```text
+/// let tenth = Decimal::new(1, 1)?;
 /// client
 ///     .count_with_tags("visits", 1)
 ///     .with_tag("page", "home")
-///     .with_sampling_rate(Decimal::new(1, 1)?)
+///     .with_sampling_rate(tenth)
 ///     .try_send()?;
 /// ```
 pub struct MetricBuilder<

@@ -17,7 +17,7 @@ use std::alloc::{Allocator, Global};
 /// ```text
 /// let client = StatsdClient::builder(alloc, "my.service", sink)
 ///     .with_tag("env", "prod")
-///     .with_error_handler(handler)
+///     .with_handler(handler)
 ///     .build()?;
 /// ```
 #[derive(Drop)]

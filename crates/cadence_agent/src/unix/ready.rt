@@ -131,7 +131,7 @@ pub fn queued_unix_sink<
 /// Makes a client that sends each line as a datagram to the path. The errors are those of `unix_sink`.
 ///
 /// ```text
-/// let client = unix_client(&rt, alloc, "my.service", "/run/statsd.sock")?;
+/// let client = unix_client(rt, alloc, "my.service", "/run/statsd.sock")?;
 /// ```
 pub fn unix_client<R: Net + Wait + Clone + Drop, A: Allocator + Clone>(
     rt: &R,

@@ -24,7 +24,7 @@ use std::os::fd::{AsFd, AsRawFd, BorrowedFd, OwnedFd};
 /// get it.
 ///
 /// ```text
-/// let socket = UnixSocket::new(&rt)?;
+/// let socket = UnixSocket::new(rt)?;
 /// let sink = UnixMetricSink::from(rt.clone()?, alloc, "/run/statsd.sock", socket)?;
 /// ```
 #[derive(Debug, Drop)]

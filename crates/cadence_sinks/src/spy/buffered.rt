@@ -43,6 +43,10 @@ impl<R: Wait + Drop, A: Allocator + Clone> PacketWriter for MessageWriter<R, A> 
 ///
 /// ```text
 /// let (receiver, sink) = BufferedSpyMetricSink::new(rt.clone()?, alloc)?;
+/// let client = StatsdClient::from_sink(alloc, "p", sink)?;
+/// client.incr("visits")?;
+/// client.flush()?;
+/// let message = receiver.try_recv(); // p.visits:1|c and a newline
 /// ```
 pub struct BufferedSpyMetricSink<R: Wait + Drop, A: Allocator + Clone = Global> {
     rt: R,

@@ -21,8 +21,11 @@ use std::time::Duration;
 /// sink keeps the runtime `R`, whose locks it takes. Its drop stops the lookups, and doesn't wait for them.
 ///
 /// ```text
-/// let socket = UdpSocket::bind(&rt, SocketAddr::from((Ipv4Addr::UNSPECIFIED, 0)))?;
-/// let target = Target::Name { host: String::from_str(alloc, "localhost")?, port: 8125 };
+/// let socket = UdpSocket::bind(rt, SocketAddr::from((Ipv4Addr::UNSPECIFIED, 0)))?;
+/// let target = Target::Name {
+///     host: String::from_str(alloc, "localhost")?,
+///     port: DEFAULT_PORT,
+/// };
 /// let sink = UdpMetricSink::from(rt.clone()?, alloc, target, socket)?;
 /// ```
 #[derive(Drop)]

@@ -20,8 +20,12 @@ use std::marker::Model;
 /// its metric, whose name is the prefix and then the key. The Rust crate has no such type.
 ///
 /// ```
-/// let mut record = Record::new(alloc, "app.", "visits", MetricType::Counter, MetricValue::Signed(1));
-/// record.add_tag(Tag { key: Some("page"), text: "home" })?;
+/// let one = MetricValue::Signed(1);
+/// let mut record = Record::new(alloc, "app.", "visits", MetricType::Counter, one);
+/// record.add_tag(Tag {
+///     key: Some("page"),
+///     text: "home",
+/// })?;
 /// let line = record.format(alloc)?; // app.visits:1|c|#page:home
 /// ```
 #[derive(Drop)]
