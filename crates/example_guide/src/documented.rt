@@ -8,9 +8,8 @@ use cadence::line::{MetricType, Record, Tag};
 use cadence::prelude::*;
 use cadence::queue::QueuePolicy;
 use cadence::ready::host;
-use cadence::resolve::ResolverRuntime;
 use cadence::schedule::plan_packets;
-use cadence::sinks::{PathSocket, SpyReceiver};
+use cadence::sinks::{PathSocket, ResolverRuntime, SpyReceiver};
 use cadence::value::MetricValue;
 use cadence::{
     BufferedSpyMetricSink, BufferedUdpMetricSink, BufferedUnixMetricSink, DEFAULT_PORT,
