@@ -1,6 +1,6 @@
 -- The state of a client of C, and what each call does to it.
 use Rattle.std.specs.Prelude.{◌≡◌, ℕ, ◌+◌, ◌%◌, ◌^◌, ◌≤◌, ◌<◌, ◌==◌, if◌then◌else◌, nat_lt, List, [], ◌∷◌, ◌++◌, length, codes, slice_get}
-use Rattle.std.specs.Prelude.{Option, Some, None, IfSome}
+use Rattle.std.specs.Prelude.{Option, Some, None, IfSome, Bool, IsTrue, IsFalse, not, nat_le, ◌||◌, OnErr, OnOk, Result}
 use Rattle.cadence_text.specs.Metric.{Tag}
 use Rattle.cadence_value.specs.Number.{Number}
 use Rattle.cadence_flow.specs.Frame.{held_packet}
@@ -9,9 +9,12 @@ use Rattle.cadence_flow.specs.QueueState.{Queue}
 use Rattle.cadence_flow.specs.declared.queue.policy.QueuePolicy.{QueuePolicy}
 use Rattle.cadence_flow.specs.declared.queue.policy.QueuePolicy.TheVariants.{Refuse, DropOldest}
 use Rattle.cadence_schedule.specs.Settings.{Settings, settings_of, with_default_tag, with_default_container}
-use Rattle.cadence_c.specs.Calls.{IsLineOfCall}
+use Rattle.cadence_schedule.specs.Settings.{allows_tag, allows_text, is_free_settings}
+use Rattle.cadence_c.specs.Calls.{IsLineOfCall, allows_call_of_c}
 use Rattle.cadence_c.specs.declared.call.COptions.{COptions}
+use Rattle.cadence_c.specs.Status.{CADENCE_FULL, CADENCE_NO_MEMORY, IsOkOr, status}
 use Rattle.cadence_c.specs.declared.client.CCounts.{CCounts}
+use Rattle.cadence_c.specs.declared.status.StatusError.{StatusError}
 
 -- A client's settings, which it adds to each call; the queue of finished packets, which wait for the host; the held
 -- text, which becomes the next packet; and the capacity of a packet in bytes. A handle has a state, or none if it has
@@ -22,19 +25,39 @@ pub record State : Type 0 where
   pub held : List ℕ
   pub capacity : ℕ
 
+-- the settings of a new client with this prefix, which is strict or not
+abbrev pub new_settings : List ℕ → Bool → Settings
+new_settings prefix strict = record (settings_of prefix) { strict = strict }
+
+-- whether a new client may have this prefix: any client, or if it is strict, one whose prefix has no separator
+abbrev pub allows_prefix : List ℕ → Bool → Bool
+allows_prefix prefix strict = not strict || is_free_settings (settings_of prefix)
+
 -- a new client, which holds no text and no packet; `most` is how many packets may wait
-abbrev pub new_state : List ℕ → ℕ → ℕ → QueuePolicy → State
-new_state prefix capacity most policy =
-    record { settings = settings_of prefix; queue = new_queue (Some most) policy; held = []; capacity = capacity }
+abbrev pub new_state : Settings → ℕ → ℕ → QueuePolicy → State
+new_state settings capacity most policy =
+    record { settings = settings; queue = new_queue (Some most) policy; held = []; capacity = capacity }
 
--- the policy that has this number in C
+-- what is added to the number of a policy for a strict client
+abbrev pub CADENCE_STRICT : ℕ
+CADENCE_STRICT = 256
+
+-- the policy that has this number in C, with or without CADENCE_STRICT
 abbrev pub policy_named : ℕ → Option QueuePolicy
-policy_named n = if n == 0 then Some Refuse else if n == 1 then Some DropOldest else None
+policy_named n =
+    if n == 0 then Some Refuse else if n == 1 then Some DropOldest else if n == 256 then Some Refuse
+    else if n == 257 then Some DropOldest else None
 
--- The handle has a new client with the policy of the number n, and at least two packets may wait.
+-- whether CADENCE_STRICT was added to the number of a policy
+abbrev pub strict_named : ℕ → Bool
+strict_named n = nat_le CADENCE_STRICT n
+
+-- The handle has a new client with the policy of the number n, strict if that says so, and at least two packets may
+-- wait.
 abbrev pub IsNew : List ℕ → ℕ → ℕ → ℕ → Option State → Type 0
 IsNew prefix capacity most n client =
-    (2 ≤ most) × ((policy : QueuePolicy) × (policy_named n ≡ Some policy) × (client ≡ Some (new_state prefix capacity most policy)))
+    (2 ≤ most) × ((policy : QueuePolicy) × (policy_named n ≡ Some policy)
+    × (client ≡ Some (new_state (new_settings prefix (strict_named n)) capacity most policy)))
 
 -- a line with its newline
 abbrev pub line_with_newline : List ℕ → List ℕ
@@ -86,6 +109,13 @@ pub record LacksRoomForLine (s : State) (line : List ℕ) : Type 0 where
   pub flushes_first : s.capacity < length s.held + (length line + 1)
   pub lacks : LacksRoom s.queue (length (packets_for_line s line))
 
+-- What an attempt to keep a line returns and does.
+pub record Packs {A : Type 0} (result : Result A StatusError) (old : State) (line : List ℕ) (new : State) : Type 0 where
+  pub packed : OnOk result (KeepsLine old line new)
+  pub refused : OnErr result (new ≡ old)
+  pub full : status result ≡ CADENCE_FULL → LacksRoomForLine old line
+  pub statuses : IsOkOr (CADENCE_NO_MEMORY ∷ CADENCE_FULL ∷ []) (status result)
+
 -- The queue has no room for the held text as a packet.
 abbrev pub LacksRoomForHeld : State → Type 0
 LacksRoomForHeld s = LacksRoom s.queue (length (held_packet s.held))
@@ -107,6 +137,14 @@ pub record AreCountsOf (s : State) (c : CCounts) : Type 0 where
 abbrev pub KeepsCall : ℕ → List ℕ → List Number → COptions → State → State → Type 0
 KeepsCall k key numbers o old new = (line : List ℕ) × IsLineOfCall old.settings k key numbers o line × KeepsLine old line new
 
+-- The client allows the texts of a call: it is not strict, or none of them has a separator.
+abbrev pub AllowsCall : List ℕ → COptions → State → Type 0
+AllowsCall key o s = IsTrue (allows_call_of_c s.settings key o)
+
+-- The client is strict, and a text of a call has a separator.
+abbrev pub ForbidsCall : List ℕ → COptions → State → Type 0
+ForbidsCall key o s = IsFalse (allows_call_of_c s.settings key o)
+
 -- The client has no room for the line of the metric that a call means.
 abbrev pub LacksRoomForCall : ℕ → List ℕ → List Number → COptions → State → Type 0
 LacksRoomForCall k key numbers o s = (line : List ℕ) × IsLineOfCall s.settings k key numbers o line × LacksRoomForLine s line
@@ -115,9 +153,25 @@ LacksRoomForCall k key numbers o s = (line : List ℕ) × IsLineOfCall s.setting
 abbrev pub AddsDefaultTag : Tag → State → State → Type 0
 AddsDefaultTag tag old new = new ≡ record old { settings = with_default_tag old.settings tag }
 
+-- The client allows a tag: it is not strict, or the tag has no separator.
+abbrev pub AllowsTag : Tag → State → Type 0
+AllowsTag tag s = IsTrue (allows_tag s.settings tag)
+
+-- The client is strict, and a tag has a separator.
+abbrev pub ForbidsTag : Tag → State → Type 0
+ForbidsTag tag s = IsFalse (allows_tag s.settings tag)
+
 -- The client sets its default container.
 abbrev pub SetsDefaultContainer : List ℕ → State → State → Type 0
 SetsDefaultContainer container old new = new ≡ record old { settings = with_default_container old.settings container }
+
+-- The client allows a text: it is not strict, or the text has no separator.
+abbrev pub AllowsText : List ℕ → State → Type 0
+AllowsText text s = IsTrue (allows_text s.settings text)
+
+-- The client is strict, and a text has a separator.
+abbrev pub ForbidsText : List ℕ → State → Type 0
+ForbidsText text s = IsFalse (allows_text s.settings text)
 
 -- The client makes a packet of its held text, if there is any.
 abbrev pub Flushes : State → State → Type 0
