@@ -36,6 +36,10 @@
 //! line without it, and this crate inserts its text. NaN and infinities are refused with [`ErrorKind::InvalidInput`],
 //! as values and as sampling rates, because no server reads them.
 //!
+//! # What the crate `cadence` doesn't have
+//!
+//! [`StatsdClientBuilder::with_strict_texts`] makes a client that refuses texts with separators.
+//!
 //! # The library
 //!
 //! The build takes `libcadence_c.a` from `../../lib`, where an archive with both has it, and otherwise from the folder
@@ -71,6 +75,7 @@ mod line;
 pub mod prelude;
 #[allow(unsafe_code)]
 mod raw;
+mod separators;
 mod sinks;
 mod sync;
 mod types;
