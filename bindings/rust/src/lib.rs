@@ -38,7 +38,8 @@
 //!
 //! # What the crate `cadence` doesn't have
 //!
-//! [`StatsdClientBuilder::with_strict_texts`] makes a client that refuses texts with separators.
+//! [`StatsdClientBuilder::with_strict_texts`] makes a client that refuses texts with separators. [`Environment`] is what
+//! the variables of the process, such as `DD_AGENT_HOST`, say about a client.
 //!
 //! # The library
 //!
@@ -55,6 +56,7 @@ pub use self::client::{
     Counted, CountedExt, Distributed, Gauged, Histogrammed, Metered, MetricClient, Setted, StatsdClient, StatsdClientBuilder,
     Timed,
 };
+pub use self::environment::{Environment, EnvironmentError, Target};
 pub use self::sinks::{
     BufferedSpyMetricSink, BufferedUdpMetricSink, BufferedUdpMetricSinkBuilder, MetricSink, NopMetricSink, QueuingMetricSink,
     QueuingMetricSinkBuilder, SinkStats, SpyMetricSink, UdpMetricSink, UdpMetricSinkBuilder,
@@ -68,6 +70,7 @@ pub use self::types::{
 mod builder;
 mod client;
 mod decimal;
+mod environment;
 pub mod ext;
 mod io;
 mod layout;
