@@ -42,6 +42,11 @@ def _open(host: str, port: int, ipv6: bool) -> tuple[socket.socket, Any]:
     return socket.socket(family, socket.SOCK_DGRAM), found[0][4]
 
 
+def _listed(tags: Tags | None) -> list[Any]:
+    """Returns the tags of a dict or a list as a list."""
+    return list(tags.items() if isinstance(tags, Mapping) else tags or ())
+
+
 def _flush_often(client: weakref.ref[StatsClient], seconds: float, ended: threading.Event) -> None:
     """Flushes the client after each period, until it is closed or no longer referenced."""
     while not ended.wait(seconds):
@@ -68,14 +73,19 @@ class StatsClient(Metrics):
     `on_error` receives each of these errors: a TypeError, ValueError, OverflowError, MemoryError or StatusError of a
     call, or an OSError of a packet. If `raises` is set, the call raises the error too. If that is an OSError, the line
     of the call is kept, so the caller must not make the call again.
+
+    If `strict` is set, a call with a colon, a comma, a bar or a newline in its name, in a tag, in the container or in the
+    text of a set is refused with a StatusError of the status SEPARATOR, and no line of it is kept. So no text can make,
+    change or split a metric. Tags with keys are then dicts or pairs, because a text as "page:home" has a colon. The
+    constructor raises this error if the prefix, a tag or the container of the client has such a character.
     """
 
     def __init__(self, host: str = "localhost", port: int = 8125, prefix: str | None = None, maxudpsize: int = 512,
                  ipv6: bool = False, *, tags: Tags | None = None, container: str | None = None, packets: int = 64,
                  flush_every: float | None = 1.0, on_error: Callable[[Exception], object] | None = None,
-                 raises: bool = False) -> None:
-        self._settings = (prefix.rstrip(".") + "." if prefix else "", maxudpsize, packets)
-        self._tags = list(tags.items() if isinstance(tags, Mapping) else tags or ())
+                 raises: bool = False, strict: bool = False) -> None:
+        self._settings = (prefix.rstrip(".") + "." if prefix else "", maxudpsize, packets, strict)
+        self._tags = _listed(tags)
         self._container = container
         self._packer = self._new_packer()
         self._socket, self._address = _open(host, port, ipv6)
