@@ -3,19 +3,20 @@ from __future__ import annotations
 
 import errno
 import logging
+import os
 import socket
 import threading
 import weakref
 from collections.abc import Callable, Mapping
-from typing import Any, TypedDict
+from typing import Any, Self, TypedDict
 
-from . import process
+from . import environment, process
 from ._core import Packer
+from .environment import UNIX
 from .metrics import Metrics, Tags
 from .pipeline import Pipeline
 
 _log = logging.getLogger("statsd_proved")
-UNIX = "unix://"
 
 
 class Counts(TypedDict):
@@ -97,6 +98,28 @@ class StatsClient(Metrics):
         self._pipelines: weakref.WeakSet[Pipeline] = weakref.WeakSet()
         self._begin()
         process.watch(self)
+
+    @classmethod
+    def from_environment(cls, prefix: str | None = None, **arguments: Any) -> Self:
+        """Makes a client that sends to the address and has the tags of the variables of the environment. An empty variable
+        counts as not set, and a variable that another one overrides isn't read.
+
+        The address is that of DD_DOGSTATSD_URL (udp://HOST, udp://HOST:PORT or unix:///PATH); otherwise of DD_AGENT_HOST and
+        DD_DOGSTATSD_PORT; otherwise of STATSD_HOST and STATSD_PORT. Of a host and a port, one alone leaves the other as it
+        is by default: 127.0.0.1 and 8125.
+
+        The tags are `env`, `service` and `version` of DD_ENV, DD_SERVICE and DD_VERSION; then those of DD_TAGS, separated by
+        commas, or by spaces if it has no comma; and then `dd.internal.entity_id` of DD_ENTITY_ID. A tag of DD_TAGS with the
+        key `env`, `service` or `version` is left out if the variable of that key is set.
+
+        `arguments` are those of the constructor. With `host` or `port` no variable of an address is read. `tags` come after
+        those of the variables. A host that is an IPv6 address sets `ipv6`. The call raises a VariableError if a variable
+        can't be used, before it makes anything, and what the constructor raises."""
+        if not {"host", "port"} & arguments.keys():
+            host, port = environment.address(os.environb)
+            arguments = {"ipv6": ":" in host, **arguments, "host": host, "port": port}
+        tags = [*environment.tags(os.environb), *_listed(arguments.pop("tags", None))]
+        return cls(prefix=prefix, tags=tags, **arguments)
 
     def __enter__(self) -> StatsClient:
         return self
