@@ -30,7 +30,7 @@ def shown(given):
     """Returns what is read from variables, as a row has it."""
     host, port = environment.address(given)
     target = f"unix {host.removeprefix('unix://')}" if host.startswith("unix://") else f"udp {host} {port}"
-    tags = [tag if isinstance(tag, str) else ":".join(tag) for tag in environment.tags(given)]
+    tags = [tag if isinstance(tag, str) else "=".join(tag) for tag in environment.tags(given)]
     return " | ".join([target, *tags]).encode()
 
 

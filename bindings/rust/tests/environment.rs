@@ -7,6 +7,8 @@ use std::net::UdpSocket;
 use std::os::unix::ffi::OsStringExt;
 use std::os::unix::net::UnixDatagram;
 use std::process::Command;
+use std::sync::mpsc;
+use std::thread;
 use std::time::Duration;
 
 /// Returns the bytes of a value in a row.
@@ -38,7 +40,7 @@ fn shown(environment: &Environment) -> Vec<u8> {
     };
     for (key, value) in environment.tags() {
         text += " | ";
-        text += &key.as_ref().map_or(value.clone(), |key| format!("{key}:{value}"));
+        text += &key.as_ref().map_or(value.clone(), |key| format!("{key}={value}"));
     }
     text.into_bytes()
 }
@@ -126,8 +128,9 @@ fn a_client_sends_to_a_unix_socket_and_never_waits_for_it() {
     client.flush().unwrap();
     assert_eq!("p.a:1|c\n", packet!(server));
     // nobody receives, so the queue of the socket becomes full, and then a flush fails
-    let refused = (0..1_000_000).find_map(|_| client.incr("a").and_then(|_| client.flush()).err());
-    assert_eq!(ErrorKind::IoError, refused.unwrap().kind());
+    let (told, heard) = mpsc::channel();
+    thread::spawn(move || told.send((0..1_000_000).find_map(|_| client.incr("a").and_then(|_| client.flush()).err())));
+    assert_eq!(Some(ErrorKind::IoError), heard.recv_timeout(Duration::from_secs(60)).unwrap().map(|error| error.kind()));
     std::fs::remove_dir_all(&folder).unwrap();
 }
 
@@ -142,7 +145,7 @@ fn a_host_that_has_no_address_is_an_error() {
 fn in_a_process_with_variables() {
     if std::env::var_os("CADENCE_TEST_OF_VARIABLES").is_some() {
         let environment = Environment::read().unwrap();
-        assert_eq!("udp agent 9125 | env:prod", String::from_utf8(shown(&environment)).unwrap());
+        assert_eq!("udp agent 9125 | env=prod", String::from_utf8(shown(&environment)).unwrap());
     }
 }
 
