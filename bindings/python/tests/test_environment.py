@@ -53,7 +53,7 @@ class Rows(unittest.TestCase):
     def test_an_error_says_what_its_variable_has_to_be(self):
         for given, text in (("STATSD_PORT=0", "STATSD_PORT has to be a port from 1 to 65535"),
                             ("DD_TAGS=:v", "DD_TAGS has to be tags K:V or V, separated by commas or spaces, without a bar, a newline "
-                                           "and an empty key"),
+                                           "or an empty key"),
                             ("DD_ENV=\\xff", "DD_ENV has to be UTF-8")):
             with self.assertRaises(VariableError) as raised:
                 shown(variables(given))

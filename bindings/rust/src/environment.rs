@@ -15,6 +15,9 @@ use std::{env, error, fmt};
 /// The host to which a client sends if no variable names one.
 const DEFAULT_HOST: &str = "127.0.0.1";
 
+/// What the variable of one tag has to be.
+const TEXT: &str = "a text without a comma, a bar or a newline";
+
 /// Where a client sends.
 #[derive(Clone, Debug, PartialEq, Eq)]
 pub enum Target {
@@ -119,16 +122,14 @@ impl<F: Fn(&str) -> Option<OsString>> Variables<F> {
     /// Returns the default tags.
     fn tags(&self) -> Result<Vec<(Option<String>, String)>, EnvironmentError> {
         let mut tags = Vec::new();
-        let wants = "a text without a comma, a bar and a newline";
         for (variable, key) in [("DD_ENV", "env"), ("DD_SERVICE", "service"), ("DD_VERSION", "version")] {
-            tags.extend(self.read(variable, wants, |text| tags::tag_of_value(key, text))?);
+            tags.extend(self.read(variable, TEXT, |text| tags::tag_of_value(key, text))?);
         }
         let set: Vec<Option<String>> = tags.iter().map(|(key, _)| key.clone()).collect();
-        let wants = "tags K:V or V, separated by commas or spaces, without a bar, a newline and an empty key";
+        let wants = "tags K:V or V, separated by commas or spaces, without a bar, a newline or an empty key";
         let more = self.read("DD_TAGS", wants, tags::tags_of_list)?.unwrap_or_default();
         tags.extend(more.into_iter().filter(|(key, _)| key.is_none() || !set.contains(key)));
-        let wants = "a text without a comma, a bar and a newline";
-        tags.extend(self.read("DD_ENTITY_ID", wants, |text| tags::tag_of_value("dd.internal.entity_id", text))?);
+        tags.extend(self.read("DD_ENTITY_ID", TEXT, |text| tags::tag_of_value("dd.internal.entity_id", text))?);
         Ok(tags)
     }
 }

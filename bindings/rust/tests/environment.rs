@@ -69,7 +69,7 @@ fn an_error_says_what_its_variable_has_to_be() {
     let port = read("STATSD_PORT=0").unwrap_err();
     assert_eq!("STATSD_PORT has to be a port from 1 to 65535", port.to_string());
     let tags = read("DD_TAGS=:v").unwrap_err();
-    let wanted = "DD_TAGS has to be tags K:V or V, separated by commas or spaces, without a bar, a newline and an empty key";
+    let wanted = "DD_TAGS has to be tags K:V or V, separated by commas or spaces, without a bar, a newline or an empty key";
     assert_eq!(wanted, tags.to_string());
     assert_eq!("DD_ENV has to be UTF-8", read("DD_ENV=\\xff").unwrap_err().to_string());
 }
@@ -119,9 +119,7 @@ fn a_client_sends_to_an_address_of_ipv6() {
 
 #[test]
 fn a_client_sends_to_a_unix_socket_and_never_waits_for_it() {
-    let folder = std::env::temp_dir().join(format!("cadence-environment-{}", std::process::id()));
-    std::fs::create_dir_all(&folder).unwrap();
-    let path = folder.join("statsd.sock");
+    let path = std::env::temp_dir().join(format!("cadence-environment-{}", std::process::id()));
     let server = UnixDatagram::bind(&path).unwrap();
     let client = read(&format!("DD_DOGSTATSD_URL=unix://{}", path.display())).unwrap().client("p").unwrap();
     client.incr("a").unwrap();
@@ -131,7 +129,7 @@ fn a_client_sends_to_a_unix_socket_and_never_waits_for_it() {
     let (told, heard) = mpsc::channel();
     thread::spawn(move || told.send((0..1_000_000).find_map(|_| client.incr("a").and_then(|_| client.flush()).err())));
     assert_eq!(Some(ErrorKind::IoError), heard.recv_timeout(Duration::from_secs(60)).unwrap().map(|error| error.kind()));
-    std::fs::remove_dir_all(&folder).unwrap();
+    std::fs::remove_file(&path).unwrap();
 }
 
 #[test]

@@ -39,7 +39,7 @@ def address(variables: Variables) -> tuple[str, int]:
 
 def tags(variables: Variables) -> list[Tag]:
     """Returns the tags, in their order: pairs of a key and a text, and texts."""
-    wants = "a text without a comma, a bar and a newline"
+    wants = "a text without a comma, a bar or a newline"
     names = {"env": "DD_ENV", "service": "DD_SERVICE", "version": "DD_VERSION"}
     found: list[Tag] = []
     for key, name in names.items():
@@ -47,7 +47,7 @@ def tags(variables: Variables) -> list[Tag]:
         if text is not None:
             found.append((key, text))
     keys = {tag[0] for tag in found}
-    wants_tags = "tags K:V or V, separated by commas or spaces, without a bar, a newline and an empty key"
+    wants_tags = "tags K:V or V, separated by commas or spaces, without a bar, a newline or an empty key"
     more = _read(variables, "DD_TAGS", wants_tags, _tags_of_list) or []
     found += [tag for tag in more if isinstance(tag, str) or tag[0] not in keys]
     entity = _read(variables, "DD_ENTITY_ID", wants, _value)
