@@ -16,20 +16,22 @@
  *
  * Each call of a client except cadence_free returns a status. If the status is not CADENCE_OK, the client is as it was
  * before the call. If several statuses apply, a call returns the first one in this list:
- * - cadence_new: CADENCE_NOT_UTF8, CADENCE_INVALID, CADENCE_NO_MEMORY.
- * - cadence_add_tag, cadence_set_container: CADENCE_NOT_UTF8, CADENCE_NO_CLIENT, CADENCE_NO_MEMORY.
+ * - cadence_new: CADENCE_NOT_UTF8, CADENCE_INVALID, CADENCE_NO_MEMORY for the prefix, CADENCE_SEPARATOR,
+ *   CADENCE_NO_MEMORY.
+ * - cadence_add_tag, cadence_set_container: CADENCE_NOT_UTF8, CADENCE_NO_CLIENT, CADENCE_SEPARATOR, CADENCE_NO_MEMORY.
  * - cadence_signed, cadence_unsigned, cadence_decimal, cadence_duration:
  *   - for the values, CADENCE_INVALID if the call is cadence_duration and the kind has no durations, CADENCE_NO_MEMORY
  *     if there is not exactly one value and memory runs out, CADENCE_INVALID if a decimal has over 30 places;
  *   - CADENCE_NO_CLIENT;
  *   - for the rest of the call, CADENCE_NOT_UTF8 for the key, CADENCE_INVALID for the kind, CADENCE_NOT_UTF8 for the
- *     container or a tag, CADENCE_INVALID for the rate, CADENCE_NO_MEMORY for the line;
+ *     container or a tag, CADENCE_INVALID for the rate, CADENCE_SEPARATOR, CADENCE_NO_MEMORY for the line;
  *   - CADENCE_FULL, CADENCE_NO_MEMORY for the packet.
  * - cadence_line, cadence_flush: CADENCE_NO_CLIENT, CADENCE_FULL, CADENCE_NO_MEMORY.
  * - cadence_next: CADENCE_NO_CLIENT, CADENCE_NO_PACKET, CADENCE_TOO_SMALL. cadence_sent: the first two.
  * - cadence_counts: CADENCE_NO_CLIENT.
  * - cadence_format_signed, cadence_format_unsigned, cadence_format_decimal, cadence_format_duration: the above for the
- *   values, CADENCE_NOT_UTF8 for the prefix, the above for the rest of the call, CADENCE_TOO_SMALL.
+ *   values, CADENCE_NOT_UTF8 for the prefix, the above for the rest of the call without CADENCE_SEPARATOR,
+ *   CADENCE_TOO_SMALL.
  *
  * Link with libcadence_c.a, which needs only the C library besides, or with libcadence_c.so, which exports only these
  * calls. Both are for Linux on x86-64 with the instructions of x86-64-v2 (SSE4.2).
@@ -68,13 +70,19 @@ enum {
     CADENCE_INVALID = 4,   /* no such kind or policy, fewer than 2 packets, over 30 places, no durations in this kind */
     CADENCE_NOT_UTF8 = 5,  /* a text is not UTF-8 */
     CADENCE_NO_PACKET = 6, /* no packet waits */
-    CADENCE_TOO_SMALL = 7  /* the buffer is too small: *length is the size that is needed, in bytes */
+    CADENCE_TOO_SMALL = 7, /* the buffer is too small: *length is the size that is needed, in bytes */
+    CADENCE_SEPARATOR = 8  /* the client is strict, and a text has a ':', a ',', a '|' or a newline */
 };
 
 /* What a client does if as many packets wait as may wait, and a call makes one more. */
 enum {
     CADENCE_REFUSE = 0,     /* the call returns CADENCE_FULL */
-    CADENCE_DROP_OLDEST = 1 /* the client drops its oldest packet and counts it; no call returns CADENCE_FULL */
+    CADENCE_DROP_OLDEST = 1, /* the client drops its oldest packet and counts it; no call returns CADENCE_FULL */
+    /* One of the two or-ed with this makes a strict client. It refuses each call with a ':', a ',', a '|' or a newline
+     * in the key, in the key or the text of a tag, or in the container, and keeps no line of it. The prefix, a default
+     * tag and the default container are tested when they are set. So no text can make, change or split a metric. Texts
+     * that are `known` are tested too. The line of cadence_line is not tested. */
+    CADENCE_STRICT = 256
 };
 
 /* The kinds of metrics. */
@@ -108,9 +116,9 @@ typedef struct cadence_tag {
 /* What a call adds to its metric. The tags come after the client's. If `contained` is set, the container replaces the
  * client's. If `rated` is set, the metric has a sampling rate. If `timed` is set, it has a time, in the unit that the
  * server reads (seconds for DogStatsD). No call samples: each one keeps its line, and the server scales by the rate.
- * Texts are printed as they are, with any separators in them. If `known` is set, the host must ensure that all texts of
- * the call are UTF-8: its key, those of the options, and the prefix of a line without a client. They are then not
- * tested. Otherwise each is tested once. */
+ * Texts are printed as they are, with any separators in them, unless the client is strict. If `known` is set, the host
+ * must ensure that all texts of the call are UTF-8: its key, those of the options, and the prefix of a line without a
+ * client. They are then not tested for that. Otherwise each is tested once. */
 typedef struct cadence_options {
     const cadence_tag *tags;
     size_t tags_len;
@@ -141,20 +149,20 @@ typedef struct cadence_counts_of {
  * other prefix is printed with exactly one dot at its end. `capacity` is how many bytes a packet holds. `packets` is
  * how many packets may wait, at least 2. The call allocates 24 bytes for each of `packets`, and `capacity` bytes for
  * the packet that is being filled; each packet that waits has its own memory. Returns CADENCE_OK, CADENCE_NOT_UTF8 for
- * the prefix, CADENCE_INVALID for the policy or for `packets`, or CADENCE_NO_MEMORY; after these three the handle is as
- * it was. */
+ * the prefix, CADENCE_INVALID for the policy or for `packets`, CADENCE_SEPARATOR for the prefix if the policy has
+ * CADENCE_STRICT, or CADENCE_NO_MEMORY; after these four the handle is as it was. */
 uint32_t cadence_new(cadence_handle *handle, const uint8_t *prefix, size_t prefix_len, size_t capacity, size_t packets,
                      uint32_t policy);
 
 /* Frees the client with its held text and its packets, and closes the handle. A closed handle stays closed. */
 void cadence_free(cadence_handle *handle);
 
-/* Adds a default tag after the others. Later calls print it. Returns CADENCE_OK, CADENCE_NO_CLIENT, CADENCE_NOT_UTF8 or
- * CADENCE_NO_MEMORY. */
+/* Adds a default tag after the others. Later calls print it. Returns CADENCE_OK, CADENCE_NO_CLIENT, CADENCE_NOT_UTF8,
+ * CADENCE_SEPARATOR if the client is strict, or CADENCE_NO_MEMORY. */
 uint32_t cadence_add_tag(cadence_handle *handle, const cadence_tag *tag);
 
 /* Sets the default container, in place of an earlier one. Later calls print it. Returns CADENCE_OK, CADENCE_NO_CLIENT,
- * CADENCE_NOT_UTF8 or CADENCE_NO_MEMORY. */
+ * CADENCE_NOT_UTF8, CADENCE_SEPARATOR if the client is strict, or CADENCE_NO_MEMORY. */
 uint32_t cadence_set_container(cadence_handle *handle, const uint8_t *container, size_t container_len);
 
 /* These four calls keep the line of a metric: the client's prefix and the key, the values with a colon between each
@@ -162,7 +170,8 @@ uint32_t cadence_set_container(cadence_handle *handle, const uint8_t *container,
  * Otherwise the held text becomes a packet first. A line that is longer than the capacity with its newline then becomes
  * a packet of its own, without the newline. The client keeps the buffer of the longest line that these calls made, so
  * most calls allocate nothing. They return CADENCE_OK, CADENCE_NO_CLIENT, CADENCE_NOT_UTF8 for the key, a tag or the
- * container, CADENCE_INVALID for the kind, a value or the rate, CADENCE_NO_MEMORY or CADENCE_FULL. */
+ * container, CADENCE_INVALID for the kind, a value or the rate, CADENCE_SEPARATOR for the key, a tag or the container
+ * if the client is strict, CADENCE_NO_MEMORY or CADENCE_FULL. */
 uint32_t cadence_signed(cadence_handle *handle, uint32_t kind, const uint8_t *key, size_t key_len,
                         const int64_t *values, size_t values_len, const cadence_options *options);
 uint32_t cadence_unsigned(cadence_handle *handle, uint32_t kind, const uint8_t *key, size_t key_len,
@@ -230,6 +239,7 @@ static inline const char *cadence_status_text(uint32_t status) {
     case CADENCE_NOT_UTF8: return "a text is no UTF-8 (CADENCE_NOT_UTF8)";
     case CADENCE_NO_PACKET: return "no packet waits (CADENCE_NO_PACKET)";
     case CADENCE_TOO_SMALL: return "the buffer is too small (CADENCE_TOO_SMALL)";
+    case CADENCE_SEPARATOR: return "a text has a separator, and the client is strict (CADENCE_SEPARATOR)";
     default: return "no status of cadence.h";
     }
 }

@@ -43,13 +43,13 @@ static void texts(void) {
     snprintf(version, sizeof version, "%d.%d.%d", CADENCE_VERSION_MAJOR, CADENCE_VERSION_MINOR, CADENCE_VERSION_PATCH);
     CHECK(strcmp(version, CADENCE_VERSION) == 0);
     CHECK(strcmp(version, cadence_version()) == 0);
-    for (uint32_t status = 0; status <= 8; status++) {
+    for (uint32_t status = 0; status <= 9; status++) {
         CHECK(strlen(cadence_status_text(status)) != 0);
         for (uint32_t other = 0; other < status; other++)
             CHECK(strcmp(cadence_status_text(status), cadence_status_text(other)) != 0);
     }
     CHECK(strstr(cadence_status_text(CADENCE_FULL), "(CADENCE_FULL)") != NULL);
-    CHECK(strcmp(cadence_status_text(8), cadence_status_text(UINT32_MAX)) == 0);
+    CHECK(strcmp(cadence_status_text(9), cadence_status_text(UINT32_MAX)) == 0);
 }
 
 static void helpers(void) {
@@ -121,6 +121,83 @@ static void order_of_a_line(void) {
     CHECK(length == 6);
 }
 
+/* Returns whether a strict client refuses this text in each place of a call, known or not, and in its own texts. */
+static bool refuses(const char *text) {
+    static uint8_t packet[256];
+    cadence_handle handle = CADENCE_CLOSED;
+    const cadence_tag tags[] = { cadence_tag_of("k", "v"), cadence_tag_of(text, "v"), cadence_tag_of("k", text),
+                                 cadence_tag_of(NULL, text) };
+    size_t length;
+    bool all = cadence_open(&handle, "p", 64, 2, CADENCE_REFUSE | CADENCE_STRICT) == CADENCE_OK;
+    for (int known = 0; known <= 1; known++) {
+        cadence_options options = CADENCE_NO_OPTIONS;
+        options.known = known;
+        all = all && cadence_count(&handle, text, 1, &options) == CADENCE_SEPARATOR;
+        all = all && cadence_parts(&handle, CADENCE_GAUGE, text, 25, 1, &options) == CADENCE_SEPARATOR;
+        options.tags = tags;
+        for (options.tags_len = 2; options.tags_len <= 4; options.tags_len++)
+            all = all && cadence_count(&handle, "c", 1, &options) == CADENCE_SEPARATOR;
+        options.tags++;
+        for (options.tags_len = 1; options.tags_len <= 3; options.tags_len++)
+            all = all && cadence_count(&handle, "c", 1, &options) == CADENCE_SEPARATOR;
+        options.tags_len = 0, options.contained = true;
+        options.container = (const uint8_t *)text, options.container_len = strlen(text);
+        all = all && cadence_count(&handle, "c", 1, &options) == CADENCE_SEPARATOR;
+    }
+    for (int i = 1; i <= 3; i++) all = all && cadence_add_tag(&handle, &tags[i]) == CADENCE_SEPARATOR;
+    all = all && cadence_default_container(&handle, text) == CADENCE_SEPARATOR;
+    all = all && cadence_open(&handle, text, 64, 2, CADENCE_DROP_OLDEST | CADENCE_STRICT) == CADENCE_SEPARATOR;
+    all = all && cadence_flush(&handle) == CADENCE_OK;
+    all = all && cadence_next(&handle, packet, sizeof packet, &length) == CADENCE_NO_PACKET;
+    all = all && cadence_count(&handle, "c", 1, NULL) == CADENCE_OK && sends(&handle, "p.c:1|c\n");
+    cadence_free(&handle);
+    return all;
+}
+
+static void strict(void) {
+    cadence_handle handle = CADENCE_CLOSED;
+    const cadence_tag free_tags[] = { cadence_tag_of("k e", "\xc3\xa9#@"), cadence_tag_of(NULL, ""),
+                                      { BYTES(","), BYTES("w"), false } };
+    const cadence_tag unfree = cadence_tag_of("k", ":"), bad = { NULL, 0, BAD, false };
+    cadence_options options = cadence_options_of(free_tags, 3), two = options;
+    const cadence_tag both[] = { unfree, bad };
+    CHECK(refuses(":") && refuses(",") && refuses("|") && refuses("\n"));
+    CHECK(refuses("a:1|c") && refuses(",x") && refuses("x\n") && refuses("\xc3\xa9|"));
+    CHECK(cadence_open(&handle, "p", 64, 2, CADENCE_REFUSE | CADENCE_STRICT) == CADENCE_OK);
+    CHECK(cadence_default_tag(&handle, "env", "prod") == CADENCE_OK);
+    CHECK(cadence_default_container(&handle, "id") == CADENCE_OK);
+    options.container = (const uint8_t *)"|", options.container_len = 1; /* it is not read, since it is not set */
+    CHECK(cadence_count(&handle, "c", 1, &options) == CADENCE_OK);
+    CHECK(sends(&handle, "p.c:1|c|#env:prod,k e:\xc3\xa9#@,,w|c:id\n"));
+    CHECK(cadence_raw(&handle, "own:1|c|#a,b") == CADENCE_OK && sends(&handle, "own:1|c|#a,b\n"));
+
+    /* the order: what doesn't fit and what is no UTF-8 first, then this, then the queue */
+    two.tags = both, two.tags_len = 2;
+    CHECK(cadence_count(&handle, ":", 1, &two) == CADENCE_NOT_UTF8);
+    CHECK(cadence_whole(&handle, 9, ":", 1, NULL) == CADENCE_INVALID);
+    two.tags_len = 1, two.rated = true, two.rate = many_places;
+    CHECK(cadence_count(&handle, "c", 1, &two) == CADENCE_INVALID);
+    CHECK(cadence_parts(&handle, CADENCE_GAUGE, ":", 1, 31, NULL) == CADENCE_INVALID);
+    CHECK(cadence_raw(&handle, "a") == CADENCE_OK && cadence_flush(&handle) == CADENCE_OK);
+    CHECK(cadence_raw(&handle, "b") == CADENCE_OK && cadence_flush(&handle) == CADENCE_OK);
+    for (int i = 0; i < 30; i++) cadence_raw(&handle, "c");
+    CHECK(cadence_count(&handle, "a.key.that.does.not.fit.beside.the.held.text", 1, NULL) == CADENCE_FULL);
+    CHECK(cadence_count(&handle, "a.key.that.does.not.fit.beside.the.held.text|", 1, NULL) == CADENCE_SEPARATOR);
+
+    /* the numbers of policies, and a client that is not strict */
+    cadence_free(&handle);
+    CHECK(cadence_open(&handle, "|", 64, 1, CADENCE_STRICT) == CADENCE_INVALID);
+    for (uint32_t policy = 0; policy < 600; policy++) {
+        const bool known = policy == 0 || policy == 1 || policy == CADENCE_STRICT || policy == CADENCE_STRICT + 1;
+        CHECK((cadence_open(&handle, "p", 64, 2, policy) == CADENCE_OK) == known);
+    }
+    CHECK(cadence_open(&handle, "|", 64, 2, CADENCE_DROP_OLDEST) == CADENCE_OK);
+    CHECK(cadence_default_tag(&handle, ",", "\n") == CADENCE_OK);
+    CHECK(cadence_default_container(&handle, ":") == CADENCE_OK);
+    CHECK(cadence_count(&handle, "a:1", 1, NULL) == CADENCE_OK && sends(&handle, "|.a:1:1|c|#,:\n|c::\n"));
+    cadence_free(&handle);
+}
+
 static void what_stays(void) {
     cadence_handle handle = CADENCE_CLOSED;
     const cadence_tag unkeyed = { BAD, BYTES("w"), false };
@@ -146,6 +223,7 @@ int main(void) {
     order_of_a_client();
     order_of_a_call();
     order_of_a_line();
+    strict();
     what_stays();
     return failures != 0;
 }

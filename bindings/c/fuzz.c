@@ -1,6 +1,7 @@
 /* fuzz SEQUENCES [SEED]: makes random calls with a heap that fails at random. It compares what is sent with the frames of
  * the lines whose calls returned CADENCE_OK. If a call returns another status, the counts must be as they were before
- * it. It prints the first fault, and its exit status is then 1. */
+ * it. A strict client must refuse just the texts with a separator. It prints the first fault, and its exit status is
+ * then 1. */
 #include "cadence.h"
 #include <stdio.h>
 #include <stdlib.h>
@@ -53,7 +54,7 @@ typedef struct {
     uint8_t stream[ROOM]; /* the frames of all lines that were kept */
     size_t kept, fetched;
     size_t capacity;
-    bool drops;
+    bool drops, strict;
 } host;
 
 /* Texts are pieces of these bytes. A piece that ends or begins inside the last bytes may not be UTF-8. */
@@ -74,6 +75,30 @@ static text some_text(void) {
     if (end != PLAIN) all_plain = false;
     if (below(8) == 0) t = (text){ NULL, 0 };
     return t;
+}
+
+static bool is_free(const uint8_t *at, size_t length) {
+    for (size_t i = 0; i < length; i++)
+        if (at[i] == ':' || at[i] == ',' || at[i] == '|' || at[i] == '\n') return false;
+    return true;
+}
+
+static bool is_free_tag(const cadence_tag *tag) {
+    return is_free(tag->text, tag->text_len) && (!tag->keyed || is_free(tag->key, tag->key_len));
+}
+
+static bool is_free_call(text key, const cadence_options *options) {
+    bool all = is_free(key.at, key.length);
+    for (size_t i = 0; i < options->tags_len; i++) all = all && is_free_tag(&options->tags[i]);
+    return all && (!options->contained || is_free(options->container, options->container_len));
+}
+
+/* Compares a status with whether the texts have no separator. A strict client refuses the others, before it looks for
+ * room. */
+static uint32_t strictly(bool strict, bool free_texts, uint32_t status) {
+    if (status == CADENCE_SEPARATOR && (!strict || free_texts)) fail("a call without a separator is refused", status);
+    if ((status == CADENCE_OK || status == CADENCE_FULL) && strict && !free_texts) fail("a separator is kept", status);
+    return status;
 }
 
 static cadence_tag some_tag(void) {
@@ -125,11 +150,13 @@ static void fetch(host *h) {
 static void opens(host *h) {
     text prefix = some_text();
     size_t capacity = below(4) == 0 ? below(8) : below(200), packets = below(12) == 0 ? below(2) : 2 + below(3);
-    uint32_t policy = below(12) == 0 ? 2 : below(2), status = cadence_new(&h->handle, prefix.at, prefix.length, capacity, packets, policy);
+    uint32_t policy = below(12) == 0 ? 2 : below(2), strict = below(3) == 0 ? CADENCE_STRICT : 0, status;
+    status = cadence_new(&h->handle, prefix.at, prefix.length, capacity, packets, policy | strict);
+    strictly(strict != 0, is_free(prefix.at, prefix.length), status);
     if (status == CADENCE_OK && (packets < 2 || policy > 1)) fail("a client of nothing", status);
     if (status != CADENCE_OK) return;
     h->kept = h->fetched = 0;
-    h->capacity = capacity, h->drops = policy == CADENCE_DROP_OLDEST;
+    h->capacity = capacity, h->drops = policy == CADENCE_DROP_OLDEST, h->strict = strict != 0;
 }
 
 /* Writes a line without a client, with any kind of value. */
@@ -162,17 +189,12 @@ static uint32_t keeps_line(host *h) {
     return status;
 }
 
-/* Makes a call that keeps the line of a value. This program doesn't know that line, so it can't compare the packets.
- * Therefore it makes the call only for a client that drops packets, whose packets aren't compared. */
-static uint32_t keeps_value(host *h) {
-    all_plain = true;
-    text key = some_text();
-    cadence_options options = some_options();
+/* Makes a call that keeps the line of a value. */
+static uint32_t keeps_value_of(host *h, text key, cadence_options options) {
     uint64_t whole[3] = { below(5), UINT64_MAX, (uint64_t)below(1u << 31) << below(33) };
     cadence_decimal_number numbers[3] = { { -25, 1 }, { INT64_MIN, (uint8_t)below(33) }, { (int64_t)below(100), 30 } };
     size_t n = below(4);
     uint32_t kind = below(12) == 0 ? 7 : below(7);
-    if (!h->drops) return keeps_line(h);
     switch (below(4)) {
     case 0: return cadence_unsigned(&h->handle, kind, key.at, key.length, n != 0 ? whole : NULL, n, &options);
     case 1: return cadence_decimal(&h->handle, kind, key.at, key.length, numbers, n, &options);
@@ -181,13 +203,32 @@ static uint32_t keeps_value(host *h) {
     }
 }
 
-static uint32_t acts(host *h) {
+/* Makes a call that keeps the line of a value. This program doesn't know that line, so it can't compare the packets.
+ * Therefore it makes the call only for a client that drops packets, whose packets aren't compared. */
+static uint32_t keeps_value(host *h) {
+    all_plain = true;
+    text key = some_text();
+    cadence_options options = some_options();
+    if (!h->drops) return keeps_line(h);
+    return strictly(h->strict, is_free_call(key, &options), keeps_value_of(h, key, options));
+}
+
+static uint32_t adds_tag(host *h) {
     cadence_tag tag = some_tag();
+    return strictly(h->strict, is_free_tag(&tag), cadence_add_tag(&h->handle, &tag));
+}
+
+static uint32_t sets_container(host *h) {
     text container = some_text();
+    return strictly(h->strict, is_free(container.at, container.length),
+                    cadence_set_container(&h->handle, container.at, container.length));
+}
+
+static uint32_t acts(host *h) {
     switch (below(6)) {
     case 0: return cadence_flush(&h->handle);
-    case 1: return cadence_add_tag(&h->handle, &tag);
-    case 2: return cadence_set_container(&h->handle, container.at, container.length);
+    case 1: return adds_tag(h);
+    case 2: return sets_container(h);
     case 3: return keeps_line(h);
     default: return keeps_value(h);
     }

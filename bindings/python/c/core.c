@@ -16,6 +16,7 @@ typedef struct {
     PyObject *prefix, *container, *texts;
     cadence_tag *tags;
     size_t tags_len, capacity, packets;
+    int strict; /* whether each text with a separator is refused */
     uint8_t *line; /* the text of the lines that this file puts together itself */
     size_t line_len, line_room;
 } packer;
@@ -56,16 +57,18 @@ static uint32_t renew(packer *self) {
     size_t len;
     if (!text_of(self->prefix, NULL, &prefix, &len)) return CADENCE_NOT_UTF8;
     memset(&self->counts, 0, sizeof self->counts);
-    return cadence_new(&self->handle, prefix, len, self->capacity, self->packets, CADENCE_DROP_OLDEST);
+    return cadence_new(&self->handle, prefix, len, self->capacity, self->packets,
+                       CADENCE_DROP_OLDEST | (self->strict ? CADENCE_STRICT : 0));
 }
 
 static int packer_init(packer *self, PyObject *args, PyObject *named) {
-    static char *names[] = { "prefix", "capacity", "packets", NULL };
+    static char *names[] = { "prefix", "capacity", "packets", "strict", NULL };
     PyObject *prefix;
     Py_ssize_t capacity, packets;
+    int strict = 0;
     const uint8_t *at;
     size_t len;
-    if (!PyArg_ParseTupleAndKeywords(args, named, "Unn", names, &prefix, &capacity, &packets)) return -1;
+    if (!PyArg_ParseTupleAndKeywords(args, named, "Unn|p", names, &prefix, &capacity, &packets, &strict)) return -1;
     if (self->prefix != NULL || capacity < 0 || packets < 0) {
         PyErr_SetString(PyExc_ValueError, "a Packer is made once, of a capacity and packets from 0 on");
         return -1;
@@ -74,6 +77,7 @@ static int packer_init(packer *self, PyObject *args, PyObject *named) {
     self->prefix = Py_NewRef(prefix);
     self->capacity = (size_t)capacity;
     self->packets = (size_t)packets;
+    self->strict = strict;
     self->texts = PyList_New(0);
     if (self->texts == NULL) return -1;
     const uint32_t status = renew(self);
@@ -155,8 +159,18 @@ static bool has_room(packer *self, size_t room) {
     return true;
 }
 
-/* Appends the line of a call to the text in self->line. */
+/* Returns whether no text of a call has a separator. The prefix isn't tested, because the library has tested it. */
+static bool is_free(const call *c) {
+    for (size_t i = 0; i < c->options.tags_len; i++)
+        if (!tag_is_free(&c->options.tags[i])) return false;
+    return text_is_free(c->key, c->key_len) && text_is_free(c->text, c->text_len)
+        && (!c->options.contained || text_is_free(c->options.container, c->options.container_len));
+}
+
+/* Appends the line of a call to the text in self->line. The library makes it without the client, so the texts of a
+ * strict client are tested here. */
 static uint32_t put_line(packer *self, const call *c) {
+    if (self->strict && !is_free(c)) return CADENCE_SEPARATOR;
     for (;;) {
         size_t len = 0;
         uint8_t *out = self->line + self->line_len;
@@ -289,6 +303,7 @@ static PyObject *packer_counts(packer *self, PyObject *unused) {
 static PyObject *packer_add_tag(packer *self, PyObject *item) {
     cadence_tag tag;
     if (PyList_Append(self->texts, item) < 0 || !tag_of(item, self->texts, &tag)) return NULL;
+    if (self->strict && !tag_is_free(&tag)) return refused(CADENCE_SEPARATOR);
     cadence_tag *tags = PyMem_Realloc(self->tags, (self->tags_len + 1) * sizeof tag);
     if (tags == NULL) return PyErr_NoMemory();
     self->tags = tags;
@@ -300,6 +315,7 @@ static PyObject *packer_set_container(packer *self, PyObject *container) {
     const uint8_t *at;
     size_t len;
     if (!text_of(container, self->texts, &at, &len)) return NULL;
+    if (self->strict && !text_is_free(at, len)) return refused(CADENCE_SEPARATOR);
     PyObject *earlier = self->container;
     self->container = Py_NewRef(container);
     Py_XDECREF(earlier);
@@ -321,7 +337,7 @@ static PyMethodDef methods[] = {
 };
 
 static PyType_Slot slots[] = {
-    { Py_tp_doc, "Packer(prefix, capacity, packets): makes lines and packs them into packets." },
+    { Py_tp_doc, "Packer(prefix, capacity, packets, strict=False): makes lines and packs them into packets." },
     { Py_tp_init, packer_init },
     { Py_tp_dealloc, packer_dealloc },
     { Py_tp_methods, methods },

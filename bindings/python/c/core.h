@@ -31,4 +31,8 @@ bool tag_of(PyObject *item, PyObject *texts, cadence_tag *to);
 bool tags_begin(tags_of_call *tags, const cadence_tag *defaults, size_t defaults_len, PyObject *given);
 void tags_end(tags_of_call *tags);
 
+/* These return whether a text, or both texts of a tag, have no separator: no colon, comma, bar or newline. */
+bool text_is_free(const uint8_t *text, size_t len);
+bool tag_is_free(const cadence_tag *tag);
+
 #endif

@@ -74,3 +74,13 @@ void tags_end(tags_of_call *tags) {
     Py_XDECREF(tags->items);
     Py_XDECREF(tags->texts);
 }
+
+bool text_is_free(const uint8_t *text, size_t len) {
+    for (size_t i = 0; i < len; i++)
+        if (memchr(":,|\n", text[i], 4) != NULL) return false;
+    return true;
+}
+
+bool tag_is_free(const cadence_tag *tag) {
+    return (!tag->keyed || text_is_free(tag->key, tag->key_len)) && text_is_free(tag->text, tag->text_len);
+}

@@ -8,7 +8,8 @@ use std::marker::PhantomData;
 /// A metric before it is sent. Options can be added to it: tags, a container, a time and a sampling rate.
 ///
 /// The calls of a client that end in `_with_tags` make a builder, and [`try_send`](Self::try_send) or
-/// [`send`](Self::send) sends its metric. Texts are printed as they are, with any separators in them.
+/// [`send`](Self::send) sends its metric. Texts are printed as they are, with any separators in them, unless the client is
+/// [strict](crate::StatsdClientBuilder::with_strict_texts).
 ///
 /// ```
 /// use cadence::prelude::*;
@@ -83,14 +84,16 @@ where
 
     /// Sends the metric, and returns it.
     ///
-    /// It fails with `InvalidInput` if the value doesn't fit or a number is NaN or infinite, and with `IoError` if the
-    /// sink fails or memory runs out. The client can be used after an error.
+    /// It fails with `InvalidInput` if the value doesn't fit, if a number is NaN or infinite, or if the client is
+    /// [strict](crate::StatsdClientBuilder::with_strict_texts) and a text has a separator, and with `IoError` if the sink
+    /// fails or memory runs out. The client can be used after an error.
     pub fn try_send(self) -> MetricResult<T> {
         let record = match self.record {
             Ok(ref record) => record,
             Err(error) => return Err(error),
         };
         record.check()?;
+        self.client.check_texts(record)?;
         let mut line = String::new();
         record.write(&mut line)?;
         let metric = T::from(line);

@@ -3,6 +3,7 @@ use crate::builder::MetricBuilder;
 use crate::layout::{Kind, Tag};
 use crate::line::Record;
 use crate::sealed::Sealed;
+use crate::separators::{is_free, separator_error};
 use crate::sinks::MetricSink;
 use crate::types::{Counter, Distribution, Gauge, Histogram, Meter, Metric, MetricError, MetricResult, Set, Timer};
 use crate::value::{
@@ -36,7 +37,8 @@ impl StatsdClientBuilder {
         S: MetricSink + Sync + Send + RefUnwindSafe + 'static,
     {
         let prefix = if prefix.is_empty() { String::new() } else { format!("{}.", prefix.trim_end_matches('.')) };
-        let client = StatsdClient { prefix, sink: Box::new(sink), errors: Box::new(|_| ()), tags: Vec::new(), container: None };
+        let (sink, errors) = (Box::new(sink), Box::new(|_| ()));
+        let client = StatsdClient { prefix, sink, errors, tags: Vec::new(), container: None, texts: Texts::Any };
         StatsdClientBuilder { client }
     }
 
@@ -78,10 +80,56 @@ impl StatsdClientBuilder {
         self
     }
 
+    /// Makes the client strict: it refuses each call with a `:`, a `,`, a `|` or a newline in its key, in the key or the
+    /// value of a tag, or in the container, with [`ErrorKind::InvalidInput`](crate::ErrorKind::InvalidInput)
+    /// (`separator in a text`). Then nothing is sent, so no text can make, change or split a metric. A value that can't be
+    /// sent is refused first. The crate `cadence` doesn't have this call.
+    ///
+    /// If the prefix, a default tag or the default container has one of these characters, the client refuses each call,
+    /// and [`try_build`](Self::try_build) returns the error at once.
+    ///
+    /// ```
+    /// use cadence::prelude::*;
+    /// use cadence::{NopMetricSink, StatsdClient};
+    ///
+    /// let client = StatsdClient::builder("my.service", NopMetricSink).with_strict_texts().build();
+    /// assert!(client.incr("visits").is_ok());
+    /// assert!(client.incr("visits:1|c\nforged").is_err());
+    /// assert!(client.incr_with_tags("visits").with_tag("page", "home,admin:true").try_send().is_err());
+    /// ```
+    pub fn with_strict_texts(mut self) -> Self {
+        self.client.texts = Texts::Free;
+        self
+    }
+
     /// Makes the client.
-    pub fn build(self) -> StatsdClient {
+    pub fn build(mut self) -> StatsdClient {
+        if self.client.texts == Texts::Free && !self.client.has_free_texts() {
+            self.client.texts = Texts::Refused;
+        }
         self.client
     }
+
+    /// Makes the client as [`build`](Self::build) does. It fails with `InvalidInput` if the client is strict and its
+    /// prefix, a default tag or the default container has a separator. The crate `cadence` doesn't have this call.
+    pub fn try_build(self) -> MetricResult<StatsdClient> {
+        let client = self.build();
+        if client.texts == Texts::Refused {
+            return Err(separator_error());
+        }
+        Ok(client)
+    }
+}
+
+/// Which texts a client takes.
+#[derive(Clone, Copy, Debug, PartialEq, Eq)]
+enum Texts {
+    /// Each text, with any separators in it.
+    Any,
+    /// Texts without a separator.
+    Free,
+    /// None, because the client is strict and has a separator in its own texts.
+    Refused,
 }
 
 /// Makes metrics whose names begin with a prefix, and passes the line of each to a sink.
@@ -106,6 +154,7 @@ pub struct StatsdClient {
     errors: Box<dyn Fn(MetricError) + Sync + Send + RefUnwindSafe>,
     tags: Vec<(Option<String>, String)>,
     container: Option<String>,
+    texts: Texts,
 }
 
 impl StatsdClient {
@@ -131,6 +180,25 @@ impl StatsdClient {
     /// It fails with `IoError` if the sink does. A buffered sink of this crate keeps the lines that it couldn't send.
     pub fn flush(&self) -> MetricResult<()> {
         Ok(self.sink.flush()?)
+    }
+
+    /// Returns whether no text of the client has a separator.
+    fn has_free_texts(&self) -> bool {
+        let tags = self.tags.iter().all(|(key, text)| key.as_deref().is_none_or(is_free) && is_free(text));
+        tags && is_free(&self.prefix) && self.container.as_deref().is_none_or(is_free)
+    }
+
+    /// Returns an error if the client is strict and a text has a separator. The default tags are the first ones of the
+    /// record, and are tested when the client is made.
+    #[inline]
+    pub(crate) fn check_texts(&self, record: &Record<'_>) -> MetricResult<()> {
+        if self.texts == Texts::Any {
+            return Ok(());
+        }
+        if self.texts == Texts::Free && record.has_free_texts(self.tags.len()) {
+            return Ok(());
+        }
+        Err(separator_error())
     }
 
     #[inline]

@@ -51,6 +51,11 @@ impl<'a> Tag<'a> {
         Tag { key: key.as_ptr(), key_len: key.len(), text: text.as_ptr(), text_len: text.len(), keyed, of: PhantomData }
     }
 
+    /// Returns where its texts are, and their lengths in bytes: the key, which is empty if it is missing, and the text.
+    pub(crate) fn texts(&self) -> [(*const u8, usize); 2] {
+        [(self.key, self.key_len), (self.text, self.text_len)]
+    }
+
     /// Returns how many bytes the tag has in a line, at most.
     #[inline]
     pub(crate) fn size(&self) -> usize {

@@ -36,6 +36,11 @@
 //! line without it, and this crate inserts its text. NaN and infinities are refused with [`ErrorKind::InvalidInput`],
 //! as values and as sampling rates, because no server reads them.
 //!
+//! # What the crate `cadence` doesn't have
+//!
+//! [`StatsdClientBuilder::with_strict_texts`] makes a client that refuses texts with separators. [`Environment`] is what
+//! the variables of the process, such as `DD_AGENT_HOST`, say about a client.
+//!
 //! # The library
 //!
 //! The build takes `libcadence_c.a` from `../../lib`, where an archive with both has it, and otherwise from the folder
@@ -51,6 +56,7 @@ pub use self::client::{
     Counted, CountedExt, Distributed, Gauged, Histogrammed, Metered, MetricClient, Setted, StatsdClient, StatsdClientBuilder,
     Timed,
 };
+pub use self::environment::{Environment, EnvironmentError, Target};
 pub use self::sinks::{
     BufferedSpyMetricSink, BufferedUdpMetricSink, BufferedUdpMetricSinkBuilder, MetricSink, NopMetricSink, QueuingMetricSink,
     QueuingMetricSinkBuilder, SinkStats, SpyMetricSink, UdpMetricSink, UdpMetricSinkBuilder,
@@ -64,6 +70,7 @@ pub use self::types::{
 mod builder;
 mod client;
 mod decimal;
+mod environment;
 pub mod ext;
 mod io;
 mod layout;
@@ -71,6 +78,7 @@ mod line;
 pub mod prelude;
 #[allow(unsafe_code)]
 mod raw;
+mod separators;
 mod sinks;
 mod sync;
 mod types;

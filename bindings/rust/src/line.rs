@@ -1,7 +1,8 @@
 //! The line of a metric.
 use crate::decimal::{decimal_of, with_decimals};
 use crate::layout::{Decimal, Kind, Options, Tag};
-use crate::raw::{append_line, Numbers};
+use crate::raw::{append_line, is_free_tag, Numbers};
+use crate::separators::is_free;
 use crate::types::{ErrorKind, MetricError, MetricResult};
 use crate::value::MetricValue;
 use std::io;
@@ -42,6 +43,12 @@ impl<'a> Record<'a> {
             return Ok(());
         }
         Err(MetricError::from((ErrorKind::InvalidInput, "a number is NaN or infinite")))
+    }
+
+    /// Returns whether no text has a separator, except for the prefix and the first `tested` tags, which aren't tested.
+    pub(crate) fn has_free_texts(&self, tested: usize) -> bool {
+        let tags = self.tags[tested..].iter().all(is_free_tag);
+        tags && is_free(self.key) && self.container.is_none_or(is_free)
     }
 
     /// Writes the line in place of a text, whatever its numbers are.

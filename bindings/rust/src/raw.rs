@@ -3,6 +3,7 @@
 //! Each block is safe if the declarations fit `cadence.h` (a test of `layout.rs` compares the layouts), if each pointer
 //! comes with the length of the memory that it points to, and if only one call at a time uses a handle.
 use crate::layout::{Counts, Decimal, Handle, Kind, Options, Tag};
+use crate::separators::is_free_bytes;
 use std::cell::{Cell, UnsafeCell};
 use std::ffi::c_void;
 use std::io;
@@ -13,6 +14,12 @@ use std::{ptr, slice};
 unsafe impl Send for Tag<'_> {}
 // SAFETY: a tag is two `&str`s in another layout, and threads may share a `&str`.
 unsafe impl Sync for Tag<'_> {}
+
+/// Returns whether neither the key of a tag nor its text has a separator.
+pub(crate) fn is_free_tag(tag: &Tag<'_>) -> bool {
+    // SAFETY: both texts are those of a `&str` that the tag borrows.
+    tag.texts().iter().all(|(at, len)| is_free_bytes(unsafe { slice::from_raw_parts(*at, *len) }))
+}
 
 const OK: u32 = 0;
 const NO_MEMORY: u32 = 2;

@@ -1,6 +1,7 @@
 -- The arguments of a call of C, and the metric that the call means.
 use Rattle.std.specs.Prelude.{◌≡◌, ◌⊎◌, ◌<◌, ◌≤◌, All, ℕ, ◌/◌, ◌==◌, if◌then◌else◌, ⊤, true, false, List, [], ◌∷◌, ◌++◌, map, Option, Some}
-use Rattle.std.specs.Prelude.{None, length}
+use Rattle.std.specs.Prelude.{None, length, Bool, not, ◌&&◌, ◌||◌}
+use Rattle.std.specs.List.{list_all}
 use Rattle.std.specs.Option.{option_or}
 use Rattle.std.specs.Str.{IsUtf8}
 use Rattle.cadence_text.specs.declared.line.MetricType.{MetricType}
@@ -9,6 +10,7 @@ use Rattle.cadence_text.specs.Line.{line_of}
 use Rattle.cadence_text.specs.Metric.{Metric, Tag}
 use Rattle.cadence_value.specs.Number.{Number, IsLowestForm, natural}
 use Rattle.cadence_schedule.specs.Call.{metric_of_call, plain_call}
+use Rattle.cadence_schedule.specs.FreeTexts.{is_free_tag, is_free_text}
 use Rattle.cadence_schedule.specs.Settings.{Settings}
 use Rattle.cadence_c.specs.declared.call.CTag.{CTag}
 use Rattle.cadence_c.specs.declared.call.CDecimal.{CDecimal}
@@ -117,6 +119,19 @@ IsUtf8IfKnown key o = o.known ≡ true → IsUtf8Call key o
 -- No kind has the number k, or the rate has too many decimal places.
 abbrev pub IsInvalidCall : ℕ → COptions → Type 0
 IsInvalidCall k o = (kind_named k ≡ None) ⊎ HasInvalidRate o
+
+-- whether the container of the options, if they have one, has no separator
+abbrev pub is_free_container : COptions → Bool
+is_free_container o = if o.contained then is_free_text o.container.now else true
+
+-- whether no text of a call has a separator: neither its key nor a tag or the container of its options
+abbrev pub is_free_call : List ℕ → COptions → Bool
+is_free_call key o = list_all is_free_tag (map c_tag o.tags.now) && (is_free_container o && is_free_text key)
+
+-- whether a client with these settings allows the texts of a call: all texts, or if the settings are strict, those
+-- without a separator
+abbrev pub allows_call_of_c : Settings → List ℕ → COptions → Bool
+allows_call_of_c s key o = not s.strict || is_free_call key o
 
 -- Each of the numbers has at most 30 decimal places.
 abbrev pub AreValidDecimals : List CDecimal → Type 0

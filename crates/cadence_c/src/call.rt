@@ -3,9 +3,10 @@ ghost use Rattle.std.specs.Prelude.{◌≡◌, ◌<◌, All, IfOk, IfErr, IfSome
 ghost use Rattle.std.specs.Str.{IsUtf8};
 ghost use Rattle.cadence_text.specs.Record.{tag_of as record_tag};
 ghost use Rattle.cadence_c.specs.declared.status.StatusError.TheVariants.{Invalid};
-ghost use Rattle.cadence_c.specs.Calls.{IsUtf8Options, c_tag, kind_named, HasInvalidRate, IsNumberOf, IsRateOf, IsUtf8Tag};
+ghost use Rattle.cadence_c.specs.Calls.{IsUtf8Options, c_tag, kind_named, HasInvalidRate, IsNumberOf, IsRateOf, IsUtf8Tag, is_free_call};
 
 use crate::status::StatusError;
+use cadence_schedule::{tag_is_free, text_is_free};
 use cadence_text::line::{MetricType, Tag};
 use cadence_value::decimal::Decimal;
 use std::str;
@@ -104,15 +105,11 @@ pub fn tag_of<'a>(tag: &CTag<'a>) -> Option<Tag<'a>>
     ensures texts { IfSome result (λ _. IsUtf8Tag tag.now) }
     ensures none { IfNone result (IsUtf8Tag tag.now → ⊥) }
 {
-    let text = text_of(tag.text)?;
-    if !tag.keyed {
-        return Some(Tag { key: None, text });
+    text_of(tag.text)?;
+    if tag.keyed {
+        text_of(tag.key)?;
     }
-    let key = text_of(tag.key)?;
-    Some(Tag {
-        key: Some(key),
-        text,
-    })
+    Some(known_tag(tag))
 }
 
 /// Returns a tag whose texts are UTF-8, without testing them.
@@ -131,20 +128,6 @@ pub fn known_tag<'a>(tag: &CTag<'a>) -> Tag<'a>
     }
 }
 
-// Returns whether the texts of the tags are UTF-8.
-#[inline]
-fn are_text_tags(tags: &[CTag<'_>]) -> bool
-    ensures yes { result ≡ true → All IsUtf8Tag tags.now }
-    ensures no { result ≡ false → All IsUtf8Tag tags.now → ⊥ }
-{
-    for tag in tags {
-        let Some(_tag) = tag_of(tag) else {
-            return false;
-        };
-    }
-    true
-}
-
 /// Returns whether the texts of the options are UTF-8. If the host knows that they are, they are not tested.
 #[inline]
 pub fn are_texts(options: &COptions<'_>) -> bool
@@ -155,10 +138,31 @@ pub fn are_texts(options: &COptions<'_>) -> bool
     if options.known {
         return true;
     }
-    if options.contained && text_of(options.container).is_none() {
+    for tag in options.tags {
+        let Some(_tag) = tag_of(tag) else {
+            return false;
+        };
+    }
+    !options.contained || text_of(options.container).is_some()
+}
+
+/// Returns whether no text of a call has a separator: neither its key nor a tag or the container of its options. It isn't
+/// inlined, because only strict clients call it.
+#[inline(never)]
+pub fn is_free_call(key: &str, options: &COptions<'_>) -> bool
+    requires { IsUtf8Options options.now }
+    ensures { result ≡ is_free_call key.now options.now }
+{
+    for tag in options.tags {
+        let tag = known_tag(tag);
+        if !tag_is_free(tag.key, tag.text) {
+            return false;
+        }
+    }
+    if options.contained && !text_is_free(unsafe { str::from_utf8_unchecked(options.container) }) {
         return false;
     }
-    are_text_tags(options.tags)
+    text_is_free(key)
 }
 
 /// Returns the sampling rate of the options, if they have one. The error is `Invalid` if it has more than 30 places.

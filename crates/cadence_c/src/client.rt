@@ -1,7 +1,7 @@
 //! A client of C: its settings, its held text and its queue of packets.
 ghost use Rattle.std.specs.Prelude.{◌≡◌};
 
-use crate::call::COptions;
+use crate::call::{COptions, is_free_call};
 use crate::line::{TestedCall, finish_line, test_call};
 use crate::packet::Packet;
 use crate::status::{StatusError, copy_out};
@@ -9,6 +9,7 @@ use cadence_errors::SinkError;
 use cadence_flow::io::{LineBuffer, PacketWriter};
 use cadence_flow::queue::{QueueCore, QueuePolicy, Taken};
 use cadence_schedule::ClientSettings;
+use cadence_text::line::Tag;
 use cadence_value::value::MetricValue;
 use std::alloc::{AllocError, Global};
 use std::marker::Model;
@@ -76,28 +77,41 @@ impl Model for Client {
 }
 
 impl Client {
-    ghost use Rattle.std.specs.Prelude.{[], ◌∷◌, take, Some, ◌≡◌, ◌<◌, ◌≤◌, ◌+◌, IfOk, OnOk, OnErr, IfSome, IsTrue, true, false, ◌↔◌, length, option_copied, slice_get};
+    ghost use Rattle.std.specs.Prelude.{[], ◌∷◌, take, Some, ◌≡◌, ◌⊎◌, ◌<◌, ◌≤◌, ◌+◌, IfOk, OnOk, OnErr, IsTrue, IsFalse, ◌↔◌, length, option_copied};
+    ghost use Rattle.cadence_text.specs.Record.{tag_of as record_tag};
     ghost use Rattle.cadence_value.specs.Values.{numbers_of};
-    ghost use Rattle.cadence_c.specs.Calls.{IsUtf8Options, IsInvalidCall, IsUtf8Call, IsUtf8IfKnown, line_of_call};
-    ghost use Rattle.cadence_c.specs.Status.{status, CADENCE_FULL, CADENCE_INVALID, CADENCE_NO_MEMORY, CADENCE_NO_PACKET, CADENCE_NOT_UTF8, CADENCE_OK, CADENCE_TOO_SMALL, IsOkOr};
-    ghost use Rattle.cadence_c.specs.State.{new_state, after_oversize, queue_with_packet, AddsDefaultTag, AreCountsOf, DropsOldest, Flushes, HasNoPacket, IsOldest, IsOldestLength, KeepsCall, KeepsLine, LacksRoom, LacksRoomForCall, LacksRoomForHeld, LacksRoomForLine, SetsDefaultContainer};
+    ghost use Rattle.cadence_c.specs.Calls.{IsUtf8Options, IsInvalidCall, IsUtf8Call, IsUtf8IfKnown, allows_call_of_c, line_of_call};
+    ghost use Rattle.cadence_c.specs.Status.{status, CADENCE_FULL, CADENCE_INVALID, CADENCE_NO_MEMORY, CADENCE_NO_PACKET, CADENCE_NOT_UTF8, CADENCE_OK, CADENCE_SEPARATOR, CADENCE_TOO_SMALL, IsOkOr};
+    ghost use Rattle.cadence_c.specs.State.{allows_prefix, new_settings, new_state, queue_with_packet, AddsDefaultTag, AllowsCall, AllowsTag, AllowsText, AreCountsOf, DropsOldest, Flushes, ForbidsCall, ForbidsTag, ForbidsText, HasNoPacket, IsOldest, IsOldestLength, KeepsCall, LacksRoom, LacksRoomForCall, LacksRoomForHeld, Packs, SetsDefaultContainer};
 
-    /// Makes a client without packets: `capacity` is how many bytes a packet holds, and `most` is how many packets may
-    /// wait. Returns `None` if memory runs out.
+    /// Makes a client without packets, strict or not: `capacity` is how many bytes a packet holds, and `most` is how
+    /// many packets may wait. The errors are `Separator`, if the client is strict and the prefix has a separator, and
+    /// `NoMemory`.
     pub fn new(
         alloc: Global,
         prefix: &str,
+        strict: bool,
         capacity: usize,
         most: usize,
         policy: QueuePolicy,
-    ) -> Option<Client>
+    ) -> Result<Client, StatusError>
         requires { 2 ≤ most }
-        ensures { IfSome result (λ p. p ≡ new_state prefix.now capacity most policy) }
+        ensures made { IfOk result
+            (λ p. p ≡ new_state (new_settings prefix.now strict) capacity most policy) }
+        ensures allowed { OnOk result (IsTrue (allows_prefix prefix.now strict)) }
+        ensures forbidden { status result ≡ CADENCE_SEPARATOR →
+            IsFalse (allows_prefix prefix.now strict) }
+        ensures statuses { IsOkOr (CADENCE_NO_MEMORY ∷ CADENCE_SEPARATOR ∷ []) (status result) }
     {
-        let settings = ClientSettings::new(alloc, prefix).ok()?;
-        let lines = LineBuffer::new(alloc, NoWriter, capacity).ok()?;
-        let queue = QueueCore::with_policy(alloc, Some(most), policy).ok()?;
-        Some(Client {
+        let mut settings = ClientSettings::new(alloc, prefix)?;
+        if strict {
+            settings.set_strict()?;
+        }
+        let Ok(lines) = LineBuffer::new(alloc, NoWriter, capacity) else {
+            return Err(StatusError::NoMemory);
+        };
+        let queue = QueueCore::with_policy(alloc, Some(most), policy)?;
+        Ok(Client {
             settings,
             lines,
             queue,
@@ -149,18 +163,13 @@ impl Client {
     // Makes a packet of the held text, if there is any, and then another one of an oversize line, without its newline.
     fn pack_oversize(&mut self, alloc: Global, line: &[u8]) -> Result<(), StatusError>
         requires { self.old.capacity < length line.now + 1 }
-        ensures packed { OnOk result (self.new ≡ after_oversize self.old line.now) }
-        ensures refused { OnErr result (self.new ≡ self.old) }
-        ensures full { status result ≡ CADENCE_FULL → LacksRoomForLine self.old line.now }
-        ensures statuses { IsOkOr (CADENCE_NO_MEMORY ∷ CADENCE_FULL ∷ []) (status result) }
+        ensures { Packs result self.old line.now self.new }
     {
         let packets = if self.lines.held().is_empty() { 1 } else { 2 };
         if self.lacks_room(packets) {
             return Err(StatusError::Full);
         }
-        let Ok(packet) = Vec::from_slice(alloc, line) else {
-            return Err(StatusError::NoMemory);
-        };
+        let packet = Vec::from_slice(alloc, line)?;
         self.flush(alloc)?;
         self.add_packet(Packet::new(packet));
         Ok(())
@@ -170,10 +179,7 @@ impl Client {
     #[inline(never)]
     fn flush_and_pack(&mut self, alloc: Global, line: &[u8]) -> Result<(), StatusError>
         requires { self.old.capacity < length self.old.held + (length line.now + 1) }
-        ensures packed { OnOk result (KeepsLine self.old line.now self.new) }
-        ensures refused { OnErr result (self.new ≡ self.old) }
-        ensures full { status result ≡ CADENCE_FULL → LacksRoomForLine self.old line.now }
-        ensures statuses { IsOkOr (CADENCE_NO_MEMORY ∷ CADENCE_FULL ∷ []) (status result) }
+        ensures { Packs result self.old line.now self.new }
     {
         if line.len() >= self.capacity {
             return self.pack_oversize(alloc, line);
@@ -191,10 +197,7 @@ impl Client {
     /// client is as it was. It is inlined because most lines fit beside the held text.
     #[inline(always)]
     pub fn pack(&mut self, alloc: Global, line: &[u8]) -> Result<(), StatusError>
-        ensures packed { OnOk result (KeepsLine self.old line.now self.new) }
-        ensures refused { OnErr result (self.new ≡ self.old) }
-        ensures full { status result ≡ CADENCE_FULL → LacksRoomForLine self.old line.now }
-        ensures statuses { IsOkOr (CADENCE_NO_MEMORY ∷ CADENCE_FULL ∷ []) (status result) }
+        ensures { Packs result self.old line.now self.new }
     {
         if self.lines.hold(line) {
             return Ok(());
@@ -225,8 +228,17 @@ impl Client {
         finish_line(draft, options, call.rate)
     }
 
+    // Returns whether the client allows the texts of a call: all texts, or if it is strict, those without a separator.
+    #[inline(always)]
+    fn allows(&self, key: &str, options: &COptions<'_>) -> bool
+        requires { IsUtf8Options options.now }
+        ensures { result ≡ allows_call_of_c self.now.settings key.now options.now }
+    {
+        !self.settings.is_strict() || is_free_call(key, options)
+    }
+
     /// Keeps the line of the metric that a call means. The errors are `NotUtf8` for a text of the call, `Invalid` for
-    /// its kind or its rate, `NoMemory` and `Full`. After an error the client is as it was, except for its buffer,
+    /// its kind or its rate, `Separator` for a text if the client is strict, `NoMemory` and `Full`. After an error the client is as it was, except for its buffer,
     /// which contracts don't see: it may have been freed if memory ran out. The next call then asks for a new one.
     pub fn keep(
         &mut self,
@@ -240,17 +252,24 @@ impl Client {
         ensures kept { OnOk result
             (KeepsCall kind key.now (numbers_of value) options.now self.old self.new) }
         ensures refused { OnErr result (self.new ≡ self.old) }
+        ensures allowed { (status result ≡ CADENCE_OK) ⊎ (status result ≡ CADENCE_FULL) →
+            AllowsCall key.now options.now self.old }
+        ensures forbidden { status result ≡ CADENCE_SEPARATOR →
+            ForbidsCall key.now options.now self.old }
         ensures full { status result ≡ CADENCE_FULL →
             LacksRoomForCall kind key.now (numbers_of value) options.now self.old }
         ensures text { status result ≡ CADENCE_NOT_UTF8 → IsUtf8Call key.now options.now → ⊥ }
         ensures invalid { status result ≡ CADENCE_INVALID → IsInvalidCall kind options.now }
         ensures statuses { IsOkOr (CADENCE_NO_MEMORY ∷ CADENCE_FULL ∷ CADENCE_INVALID
-            ∷ CADENCE_NOT_UTF8 ∷ []) (status result) }
+            ∷ CADENCE_NOT_UTF8 ∷ CADENCE_SEPARATOR ∷ []) (status result) }
     {
         let call = match test_call(kind, key, options) {
             Ok(call) => call,
             Err(error) => return Err(error),
         };
+        if !self.allows(call.key, options) {
+            return Err(StatusError::Separator);
+        }
         let buffer = mem::replace(&mut self.line_buffer, Vec::new(alloc));
         let Ok(line) = self.line_in_buffer(buffer, call, value, options) else {
             return Err(StatusError::NoMemory);
@@ -260,40 +279,31 @@ impl Client {
         outcome
     }
 
-    /// Adds a default tag after the others. The only error is `NoMemory`; after it the client is as it was.
-    pub fn add_tag(&mut self, key: Option<&str>, text: &str) -> Result<(), StatusError>
-        ensures added { OnOk result (AddsDefaultTag
-            (record { key = option_copied key.entry; text = text.now }) self.old self.new) }
+    /// Adds a default tag after the others. The errors are `Separator`, if the client is strict and the tag has a
+    /// separator, and `NoMemory`; after them the client is as it was.
+    pub fn add_tag(&mut self, tag: Tag<'_>) -> Result<(), StatusError>
+        ensures added { OnOk result (AddsDefaultTag (record_tag tag.entry) self.old self.new) }
+        ensures allowed { OnOk result (AllowsTag (record_tag tag.entry) self.old) }
+        ensures forbidden { status result ≡ CADENCE_SEPARATOR →
+            ForbidsTag (record_tag tag.entry) self.old }
         ensures refused { OnErr result (self.new ≡ self.old) }
-        ensures statuses { IsOkOr (CADENCE_NO_MEMORY ∷ []) (status result) }
+        ensures statuses { IsOkOr (CADENCE_NO_MEMORY ∷ CADENCE_SEPARATOR ∷ []) (status result) }
     {
-        match self.settings.add_tag(key, text) {
-            Ok(()) => Ok(()),
-            Err(_) => Err(StatusError::NoMemory),
-        }
+        self.settings.add_tag(tag.key, tag.text)?;
+        Ok(())
     }
 
-    /// Sets the default container, in place of an earlier one. The only error is `NoMemory`; after it the client is as
-    /// it was.
+    /// Sets the default container, in place of an earlier one. The errors are `Separator`, if the client is strict and
+    /// the container has a separator, and `NoMemory`; after them the client is as it was.
     pub fn set_container(&mut self, container: &str) -> Result<(), StatusError>
         ensures set { OnOk result (SetsDefaultContainer container.now self.old self.new) }
+        ensures allowed { OnOk result (AllowsText container.now self.old) }
+        ensures forbidden { status result ≡ CADENCE_SEPARATOR → ForbidsText container.now self.old }
         ensures refused { OnErr result (self.new ≡ self.old) }
-        ensures statuses { IsOkOr (CADENCE_NO_MEMORY ∷ []) (status result) }
+        ensures statuses { IsOkOr (CADENCE_NO_MEMORY ∷ CADENCE_SEPARATOR ∷ []) (status result) }
     {
-        match self.settings.set_container(container) {
-            Ok(()) => Ok(()),
-            Err(_) => Err(StatusError::NoMemory),
-        }
-    }
-
-    // Returns the oldest packet that waits, if one waits.
-    fn oldest(&self) -> Option<&[u8]>
-        ensures { option_copied result ≡ slice_get self.now.queue.waiting 0 }
-    {
-        match self.queue.get(0) {
-            Some(packet) => Some(packet.as_slice()),
-            None => None,
-        }
+        self.settings.set_container(container)?;
+        Ok(())
     }
 
     /// Copies the oldest packet that waits into the first bytes of `buf` and writes its length into `size`. The packet
@@ -309,21 +319,22 @@ impl Client {
         ensures small { result ≡ CADENCE_TOO_SMALL → length buf.new < size.new }
         ensures statuses { IsOkOr (CADENCE_NO_PACKET ∷ CADENCE_TOO_SMALL ∷ []) result }
     {
-        let Some(packet) = self.oldest() else {
+        let Some(packet) = self.queue.get(0) else {
             *size = 0;
             return StatusError::NoPacket.code();
         };
-        copy_out(packet, buf, size)
+        copy_out(packet.as_slice(), buf, size)
     }
 
-    /// Drops the oldest packet that waits, and returns whether one waited.
-    pub fn drop_oldest(&mut self) -> bool
-        ensures dropped { result ≡ true → DropsOldest self.old self.new }
-        ensures none { result ≡ false → HasNoPacket self.old × (self.new ≡ self.old) }
+    /// Drops the oldest packet that waits. The error is `NoPacket` if none waits.
+    pub fn drop_oldest(&mut self) -> Result<(), StatusError>
+        ensures dropped { OnOk result (DropsOldest self.old self.new) }
+        ensures none { OnErr result (HasNoPacket self.old × (self.new ≡ self.old)) }
+        ensures statuses { IsOkOr (CADENCE_NO_PACKET ∷ []) (status result) }
     {
         match self.queue.take() {
-            Taken::Text(_packet) => true,
-            Taken::Empty | Taken::Ended => false,
+            Taken::Text(_packet) => Ok(()),
+            Taken::Empty | Taken::Ended => Err(StatusError::NoPacket),
         }
     }
 

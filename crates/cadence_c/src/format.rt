@@ -1,9 +1,10 @@
-//! The calls of C that need no client: each writes one line into a buffer of the caller.
+//! The calls of C that need no client: each writes one line into a buffer of the caller. The prefix is printed as it is.
+//! The calls share nothing, so threads may make them at the same time.
 ghost use Rattle.std.specs.Prelude.{◌≡◌, ◌≢◌, ◌≤◌, ◌<◌, [], ◌∷◌, true, None, IfOk, Some, length, map, take};
 ghost use Rattle.cadence_value.specs.Number.{natural, whole};
 ghost use Rattle.cadence_value.specs.Values.{numbers_of};
 ghost use Rattle.std.specs.Str.{IsUtf8};
-ghost use Rattle.cadence_c.specs.Status.{status, CADENCE_INVALID, CADENCE_NOT_UTF8, CADENCE_NO_MEMORY, CADENCE_OK, CADENCE_TOO_SMALL, IsOkOr};
+ghost use Rattle.cadence_c.specs.Status.{CADENCE_INVALID, CADENCE_NOT_UTF8, CADENCE_NO_MEMORY, CADENCE_OK, CADENCE_TOO_SMALL, IsOkOr};
 ghost use Rattle.cadence_c.specs.Results.{Formats};
 ghost use Rattle.cadence_c.specs.Calls.{AreValidDecimals, AreNumbersOf, IsUtf8Options, IsLineOfCall, IsInvalidCall, IsUtf8Call, IsUtf8IfKnown, IsLineLength, prefix_alone, durations_of, line_of_call};
 
@@ -55,39 +56,8 @@ fn draft_line(
     finish_line(draft, options, call.rate)
 }
 
-// Returns the line of a call, after testing the texts and the numbers of all but its value.
-fn make_line(
-    alloc: Global,
-    prefix: &[u8],
-    kind: u32,
-    key: &[u8],
-    value: MetricValue,
-    options: &COptions<'_>,
-) -> Result<Vec<u8>, StatusError>
-    requires prefix { options.now.known ≡ true → IsUtf8 prefix.now }
-    requires texts { IsUtf8IfKnown key.now options.now }
-    ensures line { IfOk result (λ line. IsLineOfCall (prefix_alone prefix.now) kind key.now
-        (numbers_of value) options.now line.items) }
-    ensures statuses { IsOkOr (CADENCE_NO_MEMORY ∷ CADENCE_INVALID ∷ CADENCE_NOT_UTF8 ∷ [])
-        (status result) }
-    ensures text { status result ≡ CADENCE_NOT_UTF8 →
-        IsUtf8 prefix.now → IsUtf8Call key.now options.now → ⊥ }
-    ensures invalid { status result ≡ CADENCE_INVALID → IsInvalidCall kind options.now }
-{
-    let Some(prefix) = read_text(prefix, options.known) else {
-        return Err(StatusError::NotUtf8);
-    };
-    let call = match test_call(kind, key, options) {
-        Ok(call) => call,
-        Err(error) => return Err(error),
-    };
-    let Ok(line) = draft_line(alloc, prefix, call, value, options) else {
-        return Err(StatusError::NoMemory);
-    };
-    Ok(line)
-}
-
-// Writes the line of a call into the first bytes of `out`, and its length into `size`.
+// Writes the line of a call into the first bytes of `out`, and its length into `size`. It tests the texts and the
+// numbers of all but the value.
 fn write_line(
     alloc: Global,
     prefix: &[u8],
@@ -100,28 +70,24 @@ fn write_line(
 ) -> u32
     requires prefix { options.now.known ≡ true → IsUtf8 prefix.now }
     requires texts { IsUtf8IfKnown key.now options.now }
-    ensures line { result ≡ CADENCE_OK → IsLineOfCall (prefix_alone prefix.now) kind key.now
-        (numbers_of value) options.now (take size.new out.new) }
-    ensures told { result ≡ CADENCE_TOO_SMALL →
-        IsLineLength size.new (prefix_alone prefix.now) kind key.now (numbers_of value)
-        options.now }
-    ensures small { result ≡ CADENCE_TOO_SMALL → length out.new < size.new }
-    ensures nothing { result ≢ CADENCE_OK → result ≢ CADENCE_TOO_SMALL → size.new ≡ size.old }
-    ensures within { result ≡ CADENCE_OK → size.new ≤ length out.new }
-    ensures text { result ≡ CADENCE_NOT_UTF8 →
-        IsUtf8 prefix.now → IsUtf8Call key.now options.now → ⊥ }
-    ensures invalid { result ≡ CADENCE_INVALID → IsInvalidCall kind options.now }
-    ensures statuses { IsOkOr
-        (CADENCE_NO_MEMORY ∷ CADENCE_INVALID ∷ CADENCE_NOT_UTF8 ∷ CADENCE_TOO_SMALL ∷ []) result }
+    requires size { size.old ≡ 0 }
+    ensures { Formats result prefix.now kind key.now (λ ns. ns ≡ numbers_of value) ⊥ options.now
+        out.new size.new }
 {
-    match make_line(alloc, prefix, kind, key, value, options) {
-        Ok(line) => copy_out(&line, out, size),
-        Err(error) => error.code(),
-    }
+    let Some(prefix) = read_text(prefix, options.known) else {
+        return StatusError::NotUtf8.code();
+    };
+    let call = match test_call(kind, key, options) {
+        Ok(call) => call,
+        Err(error) => return error.code(),
+    };
+    let Ok(line) = draft_line(alloc, prefix, call, value, options) else {
+        return StatusError::NoMemory.code();
+    };
+    copy_out(&line, out, size)
 }
 
-/// Writes the line of a metric of signed whole numbers into the first bytes of `out`, and its length into `size`. The
-/// prefix is printed as it is. The call needs no client and shares nothing, so threads may make it at the same time.
+/// Writes the line of a metric of signed whole numbers into the first bytes of `out`, and its length into `size`.
 #[unsafe(no_mangle)]
 pub extern "C" fn cadence_format_signed(
     alloc: Global,
@@ -146,8 +112,6 @@ pub extern "C" fn cadence_format_signed(
 }
 
 /// Writes the line of a metric of unsigned whole numbers into the first bytes of `out`, and its length into `size`.
-/// The prefix is printed as it is. The call needs no client and shares nothing, so threads may make it at the same
-/// time.
 #[unsafe(no_mangle)]
 pub extern "C" fn cadence_format_unsigned(
     alloc: Global,
@@ -171,8 +135,7 @@ pub extern "C" fn cadence_format_unsigned(
     }
 }
 
-/// Writes the line of a metric of decimal numbers into the first bytes of `out`, and its length into `size`. The
-/// prefix is printed as it is. The call needs no client and shares nothing, so threads may make it at the same time.
+/// Writes the line of a metric of decimal numbers into the first bytes of `out`, and its length into `size`.
 #[unsafe(no_mangle)]
 pub extern "C" fn cadence_format_decimal(
     alloc: Global,
@@ -197,8 +160,7 @@ pub extern "C" fn cadence_format_decimal(
 }
 
 /// Writes the line of a metric of durations in nanoseconds into the first bytes of `out`, and its length into `size`.
-/// The prefix is printed as it is. A timer prints whole milliseconds and a histogram nanoseconds. The call needs no
-/// client and shares nothing, so threads may make it at the same time.
+/// A timer prints whole milliseconds and a histogram nanoseconds.
 #[unsafe(no_mangle)]
 pub extern "C" fn cadence_format_duration(
     alloc: Global,

@@ -22,15 +22,15 @@ mod packet;
 mod status;
 mod value;
 
-ghost use Rattle.std.specs.Prelude.{◌≡◌, ◌≢◌, ◌⊎◌, ◌≤◌, ◌<◌, [], ◌∷◌, None, Some, length, map, take};
+ghost use Rattle.std.specs.Prelude.{◌≡◌, ◌≢◌, ◌⊎◌, ◌≤◌, ◌<◌, [], ◌∷◌, IsFalse, IsTrue, None, Some, length, map, take};
 ghost use Rattle.std.specs.Str.{IsUtf8};
 ghost use Rattle.cadence_value.specs.Number.{natural, whole};
 ghost use Rattle.cadence_value.specs.Values.{numbers_of};
 ghost use Rattle.cadence_c.specs.Handle.{client_of, IsOpenAnd, OnOpen};
 ghost use Rattle.cadence_c.specs.Results.{Keeps, UnchangedUnlessOk};
 ghost use Rattle.cadence_c.specs.Calls.{AreValidDecimals, AreNumbersOf, IsInvalidCall, IsUtf8Call, IsUtf8IfKnown, IsUtf8Tag, c_tag, durations_of};
-ghost use Rattle.cadence_c.specs.State.{policy_named, AddsDefaultTag, AreCountsOf, DropsOldest, Flushes, HasNoPacket, IsNew, IsOldest, IsOldestLength, KeepsCall, KeepsLine, LacksRoomForCall, LacksRoomForHeld, LacksRoomForLine, SetsDefaultContainer};
-ghost use Rattle.cadence_c.specs.Status.{CADENCE_FULL, CADENCE_INVALID, CADENCE_NOT_UTF8, CADENCE_NO_CLIENT, CADENCE_NO_MEMORY, CADENCE_NO_PACKET, CADENCE_OK, CADENCE_TOO_SMALL, IsOkOr};
+ghost use Rattle.cadence_c.specs.State.{allows_prefix, policy_named, strict_named, AddsDefaultTag, AllowsCall, AllowsTag, AllowsText, AreCountsOf, DropsOldest, Flushes, ForbidsCall, ForbidsTag, ForbidsText, HasNoPacket, IsNew, IsOldest, IsOldestLength, KeepsCall, KeepsLine, LacksRoomForCall, LacksRoomForHeld, LacksRoomForLine, SetsDefaultContainer};
+ghost use Rattle.cadence_c.specs.Status.{CADENCE_FULL, CADENCE_INVALID, CADENCE_NOT_UTF8, CADENCE_NO_CLIENT, CADENCE_NO_MEMORY, CADENCE_NO_PACKET, CADENCE_OK, CADENCE_SEPARATOR, CADENCE_TOO_SMALL, IsOkOr};
 
 use cadence_flow::queue::QueuePolicy;
 use cadence_value::value::MetricValue;
@@ -41,19 +41,23 @@ use status::{NO_CLIENT, OK, StatusError, status_of};
 use std::alloc::Global;
 use value::{decimal_value, duration_value, signed_value, unsigned_value};
 
-// Returns the policy that has this number in C, if one has it.
+// `CADENCE_STRICT`: what is added to the number of a policy for a strict client.
+const STRICT: u32 = 256;
+
+// Returns the policy that has this number in C, with or without `CADENCE_STRICT`, if one has it.
 fn policy_of(policy: u32) -> Option<QueuePolicy>
     ensures { result ≡ policy_named policy }
 {
     match policy {
-        0 => Some(QueuePolicy::Refuse),
-        1 => Some(QueuePolicy::DropOldest),
+        0 | 256 => Some(QueuePolicy::Refuse),
+        1 | 257 => Some(QueuePolicy::DropOldest),
         _ => None,
     }
 }
 
 /// Makes a client in a handle, and drops an earlier one there. `capacity` is how many bytes a packet holds, `packets`
-/// is how many packets may wait, at least two, and `policy` says what the client does if one more would wait.
+/// is how many packets may wait, at least two, and `policy` says what the client does if one more would wait, and
+/// whether it is strict.
 #[unsafe(no_mangle)]
 pub extern "C" fn cadence_new(
     alloc: Global,
@@ -67,20 +71,27 @@ pub extern "C" fn cadence_new(
         IsNew prefix.now capacity packets policy (client_of handle.new) }
     ensures refused { result ≢ CADENCE_OK → client_of handle.new ≡ client_of handle.old }
     ensures text { result ≡ CADENCE_NOT_UTF8 → IsUtf8 prefix.now → ⊥ }
+    ensures allowed { result ≡ CADENCE_OK →
+        IsTrue (allows_prefix prefix.now (strict_named policy)) }
+    ensures forbidden { result ≡ CADENCE_SEPARATOR →
+        IsFalse (allows_prefix prefix.now (strict_named policy)) }
     ensures invalid { result ≡ CADENCE_INVALID → (policy_named policy ≡ None) ⊎ (packets < 2) }
-    ensures statuses { IsOkOr (CADENCE_NO_MEMORY ∷ CADENCE_INVALID ∷ CADENCE_NOT_UTF8 ∷ []) result }
+    ensures statuses { IsOkOr (CADENCE_NO_MEMORY ∷ CADENCE_INVALID ∷ CADENCE_NOT_UTF8
+        ∷ CADENCE_SEPARATOR ∷ []) result }
 {
     let Some(prefix) = text_of(prefix) else {
         return StatusError::NotUtf8.code();
     };
+    let strict = policy >= STRICT;
     let Some(policy) = policy_of(policy) else {
         return StatusError::Invalid.code();
     };
     if packets < 2 {
         return StatusError::Invalid.code();
     }
-    let Some(client) = Client::new(alloc, prefix, capacity, packets, policy) else {
-        return StatusError::NoMemory.code();
+    let client = match Client::new(alloc, prefix, strict, capacity, packets, policy) {
+        Ok(client) => client,
+        Err(error) => return error.code(),
     };
     let Ok(made) = Handle::new(alloc, client) else {
         return StatusError::NoMemory.code();
@@ -102,10 +113,13 @@ pub extern "C" fn cadence_free(alloc: Global, handle: &mut Handle)
 pub extern "C" fn cadence_add_tag(alloc: Global, handle: &mut Handle, tag: &CTag<'_>) -> u32
     ensures added { result ≡ CADENCE_OK →
         OnOpen (AddsDefaultTag (c_tag tag.now)) handle.old handle.new }
+    ensures allowed { result ≡ CADENCE_OK → IsOpenAnd handle.old (AllowsTag (c_tag tag.now)) }
+    ensures forbidden { result ≡ CADENCE_SEPARATOR →
+        IsOpenAnd handle.old (ForbidsTag (c_tag tag.now)) }
     ensures refused { UnchangedUnlessOk result handle.old handle.new }
     ensures text { result ≡ CADENCE_NOT_UTF8 → IsUtf8Tag tag.now → ⊥ }
-    ensures statuses { IsOkOr
-        (CADENCE_NO_CLIENT ∷ CADENCE_NO_MEMORY ∷ CADENCE_NOT_UTF8 ∷ []) result }
+    ensures statuses { IsOkOr (CADENCE_NO_CLIENT ∷ CADENCE_NO_MEMORY ∷ CADENCE_NOT_UTF8
+        ∷ CADENCE_SEPARATOR ∷ []) result }
 {
     let Some(tag) = tag_of(tag) else {
         return StatusError::NotUtf8.code();
@@ -113,7 +127,7 @@ pub extern "C" fn cadence_add_tag(alloc: Global, handle: &mut Handle, tag: &CTag
     let Some(mut client) = handle.take(alloc) else {
         return NO_CLIENT;
     };
-    let status = status_of(client.add_tag(tag.key, tag.text));
+    let status = status_of(client.add_tag(tag));
     handle.put(client);
     status
 }
@@ -123,10 +137,13 @@ pub extern "C" fn cadence_add_tag(alloc: Global, handle: &mut Handle, tag: &CTag
 pub extern "C" fn cadence_set_container(alloc: Global, handle: &mut Handle, container: &[u8]) -> u32
     ensures set { result ≡ CADENCE_OK →
         OnOpen (SetsDefaultContainer container.now) handle.old handle.new }
+    ensures allowed { result ≡ CADENCE_OK → IsOpenAnd handle.old (AllowsText container.now) }
+    ensures forbidden { result ≡ CADENCE_SEPARATOR →
+        IsOpenAnd handle.old (ForbidsText container.now) }
     ensures refused { UnchangedUnlessOk result handle.old handle.new }
     ensures text { result ≡ CADENCE_NOT_UTF8 → IsUtf8 container.now → ⊥ }
-    ensures statuses { IsOkOr
-        (CADENCE_NO_CLIENT ∷ CADENCE_NO_MEMORY ∷ CADENCE_NOT_UTF8 ∷ []) result }
+    ensures statuses { IsOkOr (CADENCE_NO_CLIENT ∷ CADENCE_NO_MEMORY ∷ CADENCE_NOT_UTF8
+        ∷ CADENCE_SEPARATOR ∷ []) result }
 {
     let Some(container) = text_of(container) else {
         return StatusError::NotUtf8.code();
@@ -150,15 +167,8 @@ fn keep(
     options: &COptions<'_>,
 ) -> u32
     requires { IsUtf8IfKnown key.now options.now }
-    ensures kept { result ≡ CADENCE_OK →
-        OnOpen (KeepsCall kind key.now (numbers_of value) options.now) handle.old handle.new }
-    ensures refused { UnchangedUnlessOk result handle.old handle.new }
-    ensures full { result ≡ CADENCE_FULL →
-        IsOpenAnd handle.old (LacksRoomForCall kind key.now (numbers_of value) options.now) }
-    ensures text { result ≡ CADENCE_NOT_UTF8 → IsUtf8Call key.now options.now → ⊥ }
-    ensures invalid { result ≡ CADENCE_INVALID → IsInvalidCall kind options.now }
-    ensures statuses { IsOkOr (CADENCE_NO_CLIENT ∷ CADENCE_NO_MEMORY ∷ CADENCE_FULL
-        ∷ CADENCE_INVALID ∷ CADENCE_NOT_UTF8 ∷ []) result }
+    ensures { Keeps result kind key.now (λ ns. ns ≡ numbers_of value) ⊥ options.now
+        handle.old handle.new }
 {
     let Some(mut client) = handle.take(alloc) else {
         return NO_CLIENT;
@@ -322,13 +332,9 @@ pub extern "C" fn cadence_sent(alloc: Global, handle: &mut Handle) -> u32
     let Some(mut client) = handle.take(alloc) else {
         return NO_CLIENT;
     };
-    let dropped = client.drop_oldest();
+    let status = status_of(client.drop_oldest());
     handle.put(client);
-    if dropped {
-        OK
-    } else {
-        StatusError::NoPacket.code()
-    }
+    status
 }
 
 /// Writes the counts of a client into `counts`.

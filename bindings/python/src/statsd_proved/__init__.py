@@ -7,9 +7,11 @@
 """
 from ._core import VERSION as __version__
 from .client import Counts, StatsClient
+from .environment import VariableError
 from .errors import Status, StatusError
 from .metrics import Number, Tags
 from .pipeline import Pipeline
 from .timer import Timer
 
-__all__ = ["Counts", "Number", "Pipeline", "StatsClient", "Status", "StatusError", "Tags", "Timer", "__version__"]
+__all__ = ["Counts", "Number", "Pipeline", "StatsClient", "Status", "StatusError", "Tags", "Timer",
+           "VariableError", "__version__"]

@@ -3,19 +3,20 @@ from __future__ import annotations
 
 import errno
 import logging
+import os
 import socket
 import threading
 import weakref
 from collections.abc import Callable, Mapping
-from typing import Any, TypedDict
+from typing import Any, Self, TypedDict
 
-from . import process
+from . import environment, process
 from ._core import Packer
+from .environment import UNIX
 from .metrics import Metrics, Tags
 from .pipeline import Pipeline
 
 _log = logging.getLogger("statsd_proved")
-UNIX = "unix://"
 
 
 class Counts(TypedDict):
@@ -40,6 +41,11 @@ def _open(host: str, port: int, ipv6: bool) -> tuple[socket.socket, Any]:
     family = socket.AF_INET6 if ipv6 else socket.AF_INET
     found = socket.getaddrinfo(host, port, family, socket.SOCK_DGRAM)
     return socket.socket(family, socket.SOCK_DGRAM), found[0][4]
+
+
+def _listed(tags: Tags | None) -> list[Any]:
+    """Returns the tags of a dict or a list as a list."""
+    return list(tags.items() if isinstance(tags, Mapping) else tags or ())
 
 
 def _flush_often(client: weakref.ref[StatsClient], seconds: float, ended: threading.Event) -> None:
@@ -68,14 +74,19 @@ class StatsClient(Metrics):
     `on_error` receives each of these errors: a TypeError, ValueError, OverflowError, MemoryError or StatusError of a
     call, or an OSError of a packet. If `raises` is set, the call raises the error too. If that is an OSError, the line
     of the call is kept, so the caller must not make the call again.
+
+    If `strict` is set, a call with a colon, a comma, a bar or a newline in its name, in a tag, in the container or in the
+    text of a set is refused with a StatusError of the status SEPARATOR, and no line of it is kept. So no text can make,
+    change or split a metric. Tags with keys are then dicts or pairs, because a text as "page:home" has a colon. The
+    constructor raises this error if the prefix, a tag or the container of the client has such a character.
     """
 
     def __init__(self, host: str = "localhost", port: int = 8125, prefix: str | None = None, maxudpsize: int = 512,
                  ipv6: bool = False, *, tags: Tags | None = None, container: str | None = None, packets: int = 64,
                  flush_every: float | None = 1.0, on_error: Callable[[Exception], object] | None = None,
-                 raises: bool = False) -> None:
-        self._settings = (prefix.rstrip(".") + "." if prefix else "", maxudpsize, packets)
-        self._tags = list(tags.items() if isinstance(tags, Mapping) else tags or ())
+                 raises: bool = False, strict: bool = False) -> None:
+        self._settings = (prefix.rstrip(".") + "." if prefix else "", maxudpsize, packets, strict)
+        self._tags = _listed(tags)
         self._container = container
         self._packer = self._new_packer()
         self._socket, self._address = _open(host, port, ipv6)
@@ -87,6 +98,28 @@ class StatsClient(Metrics):
         self._pipelines: weakref.WeakSet[Pipeline] = weakref.WeakSet()
         self._begin()
         process.watch(self)
+
+    @classmethod
+    def from_environment(cls, prefix: str | None = None, **arguments: Any) -> Self:
+        """Makes a client that sends to the address and has the tags of the variables of the environment. An empty variable
+        counts as not set, and a variable that another one overrides isn't read.
+
+        The address is that of DD_DOGSTATSD_URL (udp://HOST, udp://HOST:PORT or unix:///PATH); otherwise of DD_AGENT_HOST and
+        DD_DOGSTATSD_PORT; otherwise of STATSD_HOST and STATSD_PORT. Of a host and a port, one alone leaves the other as it
+        is by default: 127.0.0.1 and 8125.
+
+        The tags are `env`, `service` and `version` of DD_ENV, DD_SERVICE and DD_VERSION; then those of DD_TAGS, separated by
+        commas, or by spaces if it has no comma; and then `dd.internal.entity_id` of DD_ENTITY_ID. A tag of DD_TAGS with the
+        key `env`, `service` or `version` is left out if the variable of that key is set.
+
+        `arguments` are those of the constructor. With `host` or `port` no variable of an address is read. `tags` come after
+        those of the variables. A host that is an IPv6 address sets `ipv6`. The call raises a VariableError if a variable
+        can't be used, before it makes anything, and what the constructor raises."""
+        if not {"host", "port"} & arguments.keys():
+            host, port = environment.address(os.environb)
+            arguments = {"ipv6": ":" in host, **arguments, "host": host, "port": port}
+        tags = [*environment.tags(os.environb), *_listed(arguments.pop("tags", None))]
+        return cls(prefix=prefix, tags=tags, **arguments)
 
     def __enter__(self) -> StatsClient:
         return self

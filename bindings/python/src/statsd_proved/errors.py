@@ -13,6 +13,7 @@ class Status(enum.IntEnum):
     NOT_UTF8 = 5
     NO_PACKET = 6
     TOO_SMALL = 7
+    SEPARATOR = 8
 
 
 class StatusError(ValueError):

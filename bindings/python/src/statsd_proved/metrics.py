@@ -51,7 +51,8 @@ class Metrics(abc.ABC):
 
     def set(self, stat: str, value: Number | str, rate: float = 1, *, tags: Tags | None = None,
             container: str | None = None, timestamp: int | None = None) -> None:
-        """Adds a value, which may be a text, to a set. A text is printed as it is, with any separators in it."""
+        """Adds a value, which may be a text, to a set. A text is printed as it is, with any separators in it, unless the
+        client is strict."""
         self._keep(SET, PLAIN, stat, value, rate, tags, container, timestamp)
 
     def timing(self, stat: str, delta: Number | datetime.timedelta | Sequence[Number], rate: float = 1, *,
@@ -78,7 +79,7 @@ class Metrics(abc.ABC):
         self._keep(METER, PLAIN, stat, value, rate, tags, container, timestamp)
 
     def raw(self, line: str) -> None:
-        """Keeps a line as it is, without the prefix and the tags of the client."""
+        """Keeps a line as it is, without the prefix and the tags of the client. A strict client doesn't test it either."""
         try:
             made_packet = self._packer.line(line)
         except Exception as fault:

@@ -1,0 +1,137 @@
+"""What the variables of the environment say, by the rows of bindings/environment.rows, and clients that are made of it."""
+import os
+import pathlib
+import re
+import socket
+import tempfile
+import unittest
+from unittest import mock
+
+from receiver import ClientTest, Receiver
+from statsd_proved import StatsClient, StatusError, VariableError, environment
+
+ROWS = pathlib.Path(__file__).resolve().parents[2] / "environment.rows"
+
+
+def value(text):
+    """Returns the bytes of a text in a row."""
+    def one(escape):
+        return b"\n" if escape[0] == b"\\n" else bytes([int(escape[1], 16)])
+    return re.sub(rb"\\n|\\x(..)", one, text.encode())
+
+
+def variables(text):
+    """Returns the variables of a row."""
+    pairs = [pair.split("=", 1) for pair in text.split(" & ") if pair]
+    return {name.encode(): value(given) for name, given in pairs}
+
+
+def shown(given):
+    """Returns what is read from variables, as a row has it."""
+    host, port = environment.address(given)
+    target = f"unix {host.removeprefix('unix://')}" if host.startswith("unix://") else f"udp {host} {port}"
+    tags = [tag if isinstance(tag, str) else "=".join(tag) for tag in environment.tags(given)]
+    return " | ".join([target, *tags]).encode()
+
+
+class Rows(unittest.TestCase):
+    def test_each_row_is_read(self):
+        rows = [row for row in ROWS.read_text().splitlines() if row and not row.startswith("#")]
+        self.assertGreater(len(rows), 250)
+        for row in rows:
+            wanted, _, given = row.partition(" <- ")
+            with self.subTest(row=row):
+                if not wanted.startswith("refuses "):
+                    self.assertEqual(shown(variables(given)), value(wanted))
+                    continue
+                with self.assertRaises(VariableError) as raised:
+                    shown(variables(given))
+                variable = wanted.removeprefix("refuses ")
+                self.assertEqual(raised.exception.variable, variable)
+                self.assertTrue(str(raised.exception).startswith(f"{variable} has to be "), raised.exception)
+
+    def test_an_error_says_what_its_variable_has_to_be(self):
+        for given, text in (("STATSD_PORT=0", "STATSD_PORT has to be a port from 1 to 65535"),
+                            ("DD_TAGS=:v", "DD_TAGS has to be tags K:V or V, separated by commas or spaces, without a bar, a newline "
+                                           "or an empty key"),
+                            ("DD_ENV=\\xff", "DD_ENV has to be UTF-8")):
+            with self.assertRaises(VariableError) as raised:
+                shown(variables(given))
+            self.assertEqual(str(raised.exception), text)
+
+
+class Clients(ClientTest):
+    def made(self, given, *arguments, **words):
+        """Returns a client of these variables, and no others."""
+        names = {os.fsdecode(name): os.fsdecode(text) for name, text in variables(given).items()}
+        with mock.patch.dict(os.environ, names, clear=True):
+            client = StatsClient.from_environment(*arguments, flush_every=None, on_error=self.faults.append, **words)
+        self.addCleanup(client.close)
+        return client
+
+    def check(self, client, *lines):
+        client.incr("a")
+        client.close()
+        self.assertEqual((self.receiver.lines(), self.faults), (list(lines), []))
+
+    def test_variables_of_the_process(self):
+        port = self.receiver.address[1]
+        self.check(self.made(f"STATSD_PORT={port} & DD_ENV=prod & DD_TAGS=beta,k:v:w", "p"), "p.a:1|c|#env:prod,beta,k:v:w")
+
+    def test_no_prefix(self):
+        self.check(self.made(f"DD_DOGSTATSD_URL=udp://localhost:{self.receiver.address[1]}"), "a:1|c")
+
+    def test_tags_of_the_caller_come_after_those_of_the_variables(self):
+        port = self.receiver.address[1]
+        self.check(self.made(f"STATSD_PORT={port} & DD_ENV=prod", tags={"k": "v"}), "a:1|c|#env:prod,k:v")
+        self.check(self.made(f"STATSD_PORT={port} & DD_ENV=prod", tags=["beta"], container="id"), "a:1|c|#env:prod,beta|c:id")
+
+    def test_an_address_of_the_caller_is_used_and_no_variable_of_an_address_is_read(self):
+        host, port = self.receiver.address
+        self.check(self.made("DD_DOGSTATSD_URL=tcp://bad & DD_ENV=prod", host=host, port=port), "a:1|c|#env:prod")
+        self.check(self.made("DD_AGENT_HOST=no.such.host.invalid & STATSD_PORT=0", port=port), "a:1|c")
+
+    def test_ipv6(self):
+        try:
+            receiver = Receiver(socket.AF_INET6, ("::1", 0))
+        except OSError as fault:
+            self.skipTest(f"this machine has no IPv6: {fault}")
+        client = self.made(f"DD_AGENT_HOST=[::1] & DD_DOGSTATSD_PORT={receiver.address[1]}")
+        client.incr("a")
+        client.close()
+        self.assertEqual(receiver.packets(), ["a:1|c\n"])
+        receiver.socket.close()
+
+    def test_unix(self):
+        with tempfile.TemporaryDirectory() as folder:
+            receiver = Receiver(socket.AF_UNIX, folder + "/statsd.sock")
+            client = self.made(f"DD_DOGSTATSD_URL=unix://{folder}/statsd.sock & DD_SERVICE=api")
+            client.incr("a")
+            client.close()
+            self.assertEqual(receiver.packets(), ["a:1|c|#service:api\n"])
+            receiver.socket.close()
+
+    def test_a_variable_that_cant_be_used_makes_nothing(self):
+        for given in ("DD_DOGSTATSD_URL=tcp://agent", "DD_AGENT_HOST=a b", "STATSD_PORT=0", "DD_TAGS=a|b", "DD_ENTITY_ID=\\xff"):
+            with self.subTest(given=given), mock.patch.object(StatsClient, "__init__") as made:
+                with self.assertRaises(VariableError):
+                    self.made(given)
+                made.assert_not_called()
+
+    def test_a_strict_client_refuses_a_tag_of_a_variable_that_has_a_separator(self):
+        port = self.receiver.address[1]
+        self.check(self.made(f"STATSD_PORT={port} & DD_TAGS=k:v,beta", strict=True), "a:1|c|#k:v,beta")
+        with self.assertRaises(StatusError):
+            self.made("DD_TAGS=k:v:w", strict=True)
+
+    def test_a_kind_of_ones_own(self):
+        class Own(StatsClient):
+            pass
+        with mock.patch.dict(os.environ, {}, clear=True):
+            with Own.from_environment() as client:
+                self.assertIs(type(client), Own)
+                self.assertEqual(client._address, ("127.0.0.1", 8125))
+
+
+if __name__ == "__main__":
+    unittest.main()

@@ -1,0 +1,159 @@
+//! What the variables of the environment say, by the rows of `bindings/environment.rows`, and clients that are made of it.
+use cadence::prelude::*;
+use cadence::{Environment, ErrorKind, Target};
+use std::collections::HashMap;
+use std::ffi::OsString;
+use std::net::UdpSocket;
+use std::os::unix::ffi::OsStringExt;
+use std::os::unix::net::UnixDatagram;
+use std::process::Command;
+use std::sync::mpsc;
+use std::thread;
+use std::time::Duration;
+
+/// Returns the bytes of a value in a row.
+fn bytes(text: &str) -> Vec<u8> {
+    let mut bytes = Vec::new();
+    let mut rest = text;
+    while let Some((plain, escape)) = rest.split_once('\\') {
+        bytes.extend(plain.bytes());
+        let size = if escape.starts_with('n') { 1 } else { 3 };
+        bytes.push(if size == 1 { b'\n' } else { u8::from_str_radix(&escape[1..3], 16).unwrap() });
+        rest = &escape[size..];
+    }
+    bytes.extend(rest.bytes());
+    bytes
+}
+
+/// Reads the variables of a row.
+fn read(variables: &str) -> Result<Environment, cadence::EnvironmentError> {
+    let pairs = variables.split(" & ").filter(|pair| !pair.is_empty()).map(|pair| pair.split_once('=').unwrap());
+    let set: HashMap<&str, OsString> = pairs.map(|(name, value)| (name, OsString::from_vec(bytes(value)))).collect();
+    Environment::read_from(|name| set.get(name).cloned())
+}
+
+/// Returns what was read, as a row has it.
+fn shown(environment: &Environment) -> Vec<u8> {
+    let mut text = match environment.target() {
+        Target::Udp(host, port) => format!("udp {host} {port}"),
+        Target::Unix(path) => format!("unix {path}"),
+    };
+    for (key, value) in environment.tags() {
+        text += " | ";
+        text += &key.as_ref().map_or(value.clone(), |key| format!("{key}={value}"));
+    }
+    text.into_bytes()
+}
+
+#[test]
+fn each_row_is_read() {
+    let rows = include_str!("../../environment.rows");
+    let mut seen = 0;
+    for row in rows.lines().filter(|row| !row.is_empty() && !row.starts_with('#')) {
+        let (wanted, variables) = row.split_once(" <- ").unwrap_or((row, ""));
+        match (read(variables), wanted.strip_prefix("refuses ")) {
+            (Ok(environment), None) => assert_eq!(bytes(wanted), shown(&environment), "{row}"),
+            (Err(error), Some(variable)) => {
+                assert_eq!(variable, error.variable(), "{row}");
+                assert!(error.to_string().starts_with(&format!("{variable} has to be ")), "{row}: {error}");
+            }
+            (found, _) => panic!("{row}: {found:?}"),
+        }
+        seen += 1;
+    }
+    assert!(seen > 250, "{seen}");
+}
+
+#[test]
+fn an_error_says_what_its_variable_has_to_be() {
+    let port = read("STATSD_PORT=0").unwrap_err();
+    assert_eq!("STATSD_PORT has to be a port from 1 to 65535", port.to_string());
+    let tags = read("DD_TAGS=:v").unwrap_err();
+    let wanted = "DD_TAGS has to be tags K:V or V, separated by commas or spaces, without a bar, a newline or an empty key";
+    assert_eq!(wanted, tags.to_string());
+    assert_eq!("DD_ENV has to be UTF-8", read("DD_ENV=\\xff").unwrap_err().to_string());
+}
+
+/// Returns the next packet of a server.
+macro_rules! packet {
+    ($server:expr) => {{
+        let mut packet = [0; 512];
+        $server.set_read_timeout(Some(Duration::from_secs(60))).unwrap();
+        let size = $server.recv(&mut packet).unwrap();
+        String::from_utf8(packet[..size].to_vec()).unwrap()
+    }};
+}
+
+#[test]
+fn a_client_packs_its_lines_and_has_the_tags() {
+    let server = UdpSocket::bind("127.0.0.1:0").unwrap();
+    let port = server.local_addr().unwrap().port();
+    let client = read(&format!("STATSD_PORT={port} & DD_ENV=prod & DD_TAGS=beta")).unwrap().client("p").unwrap();
+    client.incr("a").unwrap();
+    client.incr_with_tags("b").with_tag("k", "v").send();
+    client.flush().unwrap();
+    assert_eq!("p.a:1|c|#env:prod,beta\np.b:1|c|#env:prod,beta,k:v\n", packet!(server));
+}
+
+#[test]
+fn a_builder_takes_more_tags_after_those_of_the_environment() {
+    let server = UdpSocket::bind("127.0.0.1:0").unwrap();
+    let port = server.local_addr().unwrap().port();
+    let environment = read(&format!("DD_DOGSTATSD_URL=udp://localhost:{port} & DD_ENV=prod")).unwrap();
+    let client = environment.builder("").unwrap().with_tag("k", "v").with_strict_texts().build();
+    client.incr("a").unwrap();
+    assert_eq!(ErrorKind::InvalidInput, client.incr("a|b").unwrap_err().kind());
+    drop(client);
+    assert_eq!("a:1|c|#env:prod,k:v\n", packet!(server));
+}
+
+#[test]
+fn a_client_sends_to_an_address_of_ipv6() {
+    let Ok(server) = UdpSocket::bind("[::1]:0") else { return };
+    let port = server.local_addr().unwrap().port();
+    let client = read(&format!("DD_AGENT_HOST=[::1] & DD_DOGSTATSD_PORT={port}")).unwrap().client("p").unwrap();
+    client.incr("a").unwrap();
+    client.flush().unwrap();
+    assert_eq!("p.a:1|c\n", packet!(server));
+}
+
+#[test]
+fn a_client_sends_to_a_unix_socket_and_never_waits_for_it() {
+    let path = std::env::temp_dir().join(format!("cadence-environment-{}", std::process::id()));
+    let server = UnixDatagram::bind(&path).unwrap();
+    let client = read(&format!("DD_DOGSTATSD_URL=unix://{}", path.display())).unwrap().client("p").unwrap();
+    client.incr("a").unwrap();
+    client.flush().unwrap();
+    assert_eq!("p.a:1|c\n", packet!(server));
+    // nobody receives, so the queue of the socket becomes full, and then a flush fails
+    let (told, heard) = mpsc::channel();
+    thread::spawn(move || told.send((0..1_000_000).find_map(|_| client.incr("a").and_then(|_| client.flush()).err())));
+    assert_eq!(Some(ErrorKind::IoError), heard.recv_timeout(Duration::from_secs(60)).unwrap().map(|error| error.kind()));
+    std::fs::remove_file(&path).unwrap();
+}
+
+#[test]
+fn a_host_that_has_no_address_is_an_error() {
+    let environment = read("DD_AGENT_HOST=no.such.host.invalid").unwrap();
+    assert_eq!(ErrorKind::IoError, environment.client("p").unwrap_err().kind());
+}
+
+/// The test below runs this test in a process of its own, whose variables it sets.
+#[test]
+fn in_a_process_with_variables() {
+    if std::env::var_os("CADENCE_TEST_OF_VARIABLES").is_some() {
+        let environment = Environment::read().unwrap();
+        assert_eq!("udp agent 9125 | env=prod", String::from_utf8(shown(&environment)).unwrap());
+    }
+}
+
+#[test]
+fn the_variables_of_the_process_are_read() {
+    let run = |env: &str| {
+        let mut command = Command::new(std::env::current_exe().unwrap());
+        command.args(["--exact", "in_a_process_with_variables"]).env_clear().env("CADENCE_TEST_OF_VARIABLES", "1");
+        command.env("DD_DOGSTATSD_URL", "udp://agent:9125").env("DD_ENV", env).output().unwrap().status.success()
+    };
+    assert!(run("prod"));
+    assert!(!run("dev"));
+}
