@@ -1,8 +1,9 @@
-//! A service that sends through a queue and a buffered UDP sink, and the server that receives its datagrams.
+//! Services that send through a queue and a buffered UDP sink, and the server that receives their datagrams.
 //!
 //! Datagrams on the loopback address arrive in order here, so the text is the same in each run.
 
 use crate::runtime::Runtime;
+use crate::service;
 use cadence::prelude::*;
 use cadence::ready::{flushing_udp_client, queued_udp_client};
 use cadence::sinks::Target;
@@ -48,6 +49,38 @@ fn receive_by_time<R: Runtime>(rt: &R, alloc: Global, server: &UdpSocket) -> Met
     Ok(text)
 }
 
+// Receives datagrams until this many lines have come, and returns the lines.
+fn receive_lines(alloc: Global, server: &UdpSocket, number: usize) -> MetricResult<String> {
+    let mut text = String::new(alloc);
+    let mut bytes = [0u8; 512];
+    for _ in 0..number {
+        if text.lines().count() >= number {
+            break;
+        }
+        let (length, _from) = server.recv_from(&mut bytes)?;
+        text.push_str(&String::from_utf8_lossy(alloc, &bytes[..length])?)?;
+    }
+    Ok(text)
+}
+
+// Runs the whole service, whose two threads send three lines each, and returns how often each line came. The lines of the
+// two threads may come in any order.
+fn receive_visits<R: Runtime>(rt: &R, alloc: Global, server: &UdpSocket) -> MetricResult<String> {
+    let errors = service::run(rt, alloc, Target::Addr(server.local_addr()?))?;
+    let lines = receive_lines(alloc, server, 6)?;
+    let mut text = String::new(alloc);
+    for page in ["home", "cart"] {
+        let wanted = format!(in alloc; "shop.visits:1|c|#env:prod,page:{page}")?;
+        let times = lines
+            .lines()
+            .filter(|line| *line == wanted.as_str())
+            .count();
+        writeln!(&mut text, "{times} times {wanted}")?;
+    }
+    writeln!(&mut text, "{errors} errors of the service's socket")?;
+    Ok(text)
+}
+
 /// Returns the datagrams that a server of its own receives. The server waits for each five seconds at most.
 pub fn report<R: Runtime>(rt: &R, alloc: Global) -> MetricResult<String> {
     let server = UdpSocket::bind(rt, SocketAddr::from((Ipv4Addr::LOCALHOST, 0)))?;
@@ -55,5 +88,6 @@ pub fn report<R: Runtime>(rt: &R, alloc: Global) -> MetricResult<String> {
     let count = send_three(rt, alloc, server.local_addr()?)?;
     let mut text = receive(alloc, &server, count)?;
     text.push_str(&receive_by_time(rt, alloc, &server)?)?;
+    text.push_str(&receive_visits(rt, alloc, &server)?)?;
     Ok(text)
 }
