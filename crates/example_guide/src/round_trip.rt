@@ -5,9 +5,10 @@
 use crate::runtime::Runtime;
 use crate::service;
 use cadence::prelude::*;
-use cadence::ready::{flushing_udp_client, queued_udp_client};
+use cadence::ready::{buffered_udp_sink, flushing_udp_client, queued_udp_client};
 use cadence::sinks::Target;
-use cadence::{MetricResult, MetricSink};
+use cadence::{MetricResult, MetricSink, StatsdClient};
+use cadence_agent::ReportingMetricSink;
 use std::alloc::Global;
 use std::net::{Ipv4Addr, SocketAddr, UdpSocket};
 use std::time::Duration;
@@ -47,6 +48,20 @@ fn receive_by_time<R: Runtime>(rt: &R, alloc: Global, server: &UdpSocket) -> Met
     let text = receive(alloc, server, 1)?;
     client.sink().stop_and_wait();
     Ok(text)
+}
+
+// Sends a line over a sink that reports its own counts, and then two reports: one that the service asks for, and the last
+// one, which the drop of the client sends. A report counts the datagram of the one before too.
+fn send_counts<R: Runtime>(rt: &R, alloc: Global, server: SocketAddr) -> MetricResult<()> {
+    let inner = buffered_udp_sink(rt, alloc, Target::Addr(server), 512)?;
+    let period = Duration::from_secs(3600);
+    let sink = ReportingMetricSink::new(rt.clone()?, alloc, inner, "my.statsd", period)?;
+    let client = StatsdClient::from_sink(alloc, "my.service", sink)?;
+    client.incr("visits")?;
+    client.flush()?;
+    client.sink().report()?;
+    client.flush()?;
+    Ok(())
 }
 
 // Receives datagrams until this many lines have come, and returns the lines.
@@ -89,5 +104,7 @@ pub fn report<R: Runtime>(rt: &R, alloc: Global) -> MetricResult<String> {
     let mut text = receive(alloc, &server, count)?;
     text.push_str(&receive_by_time(rt, alloc, &server)?)?;
     text.push_str(&receive_visits(rt, alloc, &server)?)?;
+    send_counts(rt, alloc, server.local_addr()?)?;
+    text.push_str(&receive(alloc, &server, 3)?)?;
     Ok(text)
 }
