@@ -1,5 +1,6 @@
 //! What a report has, if a test asks for it.
 use super::stage::{Runtime, Watch, make_counted, report_on};
+use cadence::client::BoxedSink;
 use cadence::sinks::MetricSink;
 use cadence::types::{MetricError, SinkError};
 use cadence_agent::ReportingMetricSink;
@@ -114,6 +115,15 @@ fn a_reporting_sink_passes_calls_on(rt: HostRuntime) -> Result<(), Fail> {
     let Err(SinkError::NothingWritten) = sink.flush() else {
         return Err(Fail::new("another answer of a flush"));
     };
+    Ok(())
+}
+
+#[test]
+fn a_box_passes_the_number_of_dropped_lines_on(rt: HostRuntime) -> Result<(), Fail> {
+    let (watch, counted) = make_counted(&rt, rt.alloc())?;
+    let sink: BoxedSink = Box::new(rt.alloc(), counted)?;
+    watch.stage.set([0, 0, 0, 0, 5]);
+    assert_eq!(rt; sink.dropped_lines(), 5);
     Ok(())
 }
 
