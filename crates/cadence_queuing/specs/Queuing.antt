@@ -1,4 +1,4 @@
--- What contracts show of a queuing sink, of its builders and of a flushing sink, whose fields are private.
+-- What contracts show of a queuing sink, of its builders, of a repeater and of a flushing sink, whose fields are private.
 use Rattle.std.specs.Prelude.{◌≡◌, ◌≢◌, ℕ, List, Option, None, Result, Err}
 use Rattle.std.specs.Arc.{arc_value}
 use Rattle.std.specs.Option.{option_map}
@@ -13,6 +13,7 @@ use Rattle.cadence_flow.specs.declared.queue.policy.QueuePolicy.{QueuePolicy}
 use Rattle.cadence_shared.specs.SharedQueue.{bound_of, rule_of}
 use Rattle.cadence_resolve.specs.Handler.{closure_of}
 use Rattle.cadence_queuing.specs.declared.flushing.FlushingMetricSink.{FlushingMetricSink}
+use Rattle.cadence_queuing.specs.declared.repeater.Repeater.{Repeater}
 use Rattle.cadence_queuing.specs.declared.queuing.sink.QueuingMetricSink.{QueuingMetricSink}
 use Rattle.cadence_queuing.specs.declared.queuing.builder.QueuingMetricSinkBuilder.{QueuingMetricSinkBuilder}
 use Rattle.cadence_queuing.specs.declared.queuing.builder.FlushingQueueBuilder.{FlushingQueueBuilder}
@@ -27,9 +28,13 @@ IsQueuingRefusal _ = ⊥
 abbrev pub wrapped_sink : {S R A : Type 0} → QueuingMetricSink S R A → S
 wrapped_sink q = (arc_value q.shared).sink
 
+-- the work that a repeater shares with its thread
+abbrev pub repeated_work : {W R A : Type 0} → Repeater W R A → W
+repeated_work r = (arc_value r.shared).work
+
 -- the sink that a flushing sink wraps
 abbrev pub flushed_sink : {S R A : Type 0} → FlushingMetricSink S R A → S
-flushed_sink f = (arc_value f.shared).sink
+flushed_sink f = (repeated_work f.repeater).sink
 
 -- the capacity of a queuing sink's queue in lines, or none if it has no bound
 abbrev pub queue_capacity : {S R A : Type 0} → QueuingMetricSink S R A → Option ℕ

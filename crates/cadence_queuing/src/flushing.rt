@@ -1,63 +1,25 @@
 //! A sink that is flushed by a thread again and again.
 ghost use Rattle.std.specs.Prelude.{◌≡◌, IfErr, IfOk};
-ghost use Rattle.std.specs.Arc.{arc_value};
 ghost use Rattle.cadence_queuing.specs.Queuing.{IsQueuingRefusal, flushed_sink};
 
+use crate::repeater::{Repeated, Repeater};
 use crate::{Handler, MetricSink, SinkErrorHandler};
 use cadence_errors::{MetricResult, SinkError};
 use cadence_flow::stats::SinkStats;
-use cadence_resolve::thread::{Job, start};
-use cadence_shared::WorkerEnd;
 use std::alloc::{Allocator, Global};
-use std::sync::{Arc, Wait};
-use std::thread::{self, Threads};
-use std::time::{Clock, Duration, Instant};
+use std::sync::Wait;
+use std::thread::Threads;
+use std::time::{Clock, Duration};
 
-// The shortest period, in milliseconds, so that the thread also sleeps if the period is 0.
-const SHORTEST_PERIOD: u64 = 1;
-
-// What the sink and its thread share. The mark is set when the thread has to end.
+/// The work of flushing a sink.
 #[derive(Drop)]
-struct Flushed<S: MetricSink> {
-    sink: S,
-    end: WorkerEnd,
+pub struct Flushes<S: MetricSink> {
+    pub sink: S,
 }
 
-impl<S: MetricSink> Flushed<S> {
-    // Flushes the sink after each period, until the mark is set. An error goes to the handler.
-    fn run<R: Wait + Clock, A: Allocator>(
-        &self,
-        rt: &R,
-        period: Duration,
-        handler: &Option<Handler<A>>,
-    ) {
-        for _ in rt.forever() {
-            if self.end.wait_within(rt, period) {
-                return;
-            }
-            // the wait is over at once if the clock can't be read
-            if Instant::now(rt).is_err() {
-                thread::sleep(rt, period);
-            }
-            if let (Err(fault), Some(handler)) = (self.sink.flush(), handler) {
-                handler.handle(fault);
-            }
-        }
-    }
-}
-
-// What the thread needs beside the handler.
-#[derive(Drop)]
-struct Flushes<S: MetricSink, R: Wait + Clock + Drop, A: Allocator> {
-    rt: R,
-    shared: Arc<Flushed<S>, A>,
-    period: Duration,
-}
-
-impl<S: MetricSink, R: Wait + Clock + Drop, A: Allocator> Job<Option<Handler<A>>>
-    for Flushes<S, R, A> {
-    fn run(self, handler: Option<Handler<A>>) {
-        self.shared.run(&self.rt, self.period, &handler)
+impl<S: MetricSink> Repeated for Flushes<S> {
+    fn repeat<R: Wait>(&self, _rt: &R) -> Result<(), SinkError> {
+        self.sink.flush()
     }
 }
 
@@ -72,9 +34,9 @@ impl<S: MetricSink, R: Wait + Clock + Drop, A: Allocator> Job<Option<Handler<A>>
 /// let inner = BufferedUdpMetricSink::from(rt.clone()?, alloc, target, socket)?;
 /// let sink = FlushingMetricSink::new(rt.clone()?, alloc, inner, Duration::from_secs(1))?;
 /// ```
+#[derive(Drop)]
 pub struct FlushingMetricSink<S: MetricSink, R: Wait + Drop, A: Allocator = Global> {
-    rt: R,
-    shared: Arc<Flushed<S>, A>,
+    repeater: Repeater<Flushes<S>, R, A>,
 }
 
 impl<
@@ -89,7 +51,8 @@ impl<
         ensures wrapped { IfOk result (λ f. flushed_sink f ≡ sink) }
         ensures refused { IfErr result IsQueuingRefusal }
     {
-        start_flushes(rt, alloc, sink, period, None)
+        let repeater = Repeater::start(rt, alloc, Flushes { sink }, period, None)?;
+        Ok(FlushingMetricSink { repeater })
     }
 
     /// Makes the sink and starts its thread, as `new` does. The handler receives the errors of the thread's flushes. It
@@ -106,35 +69,19 @@ impl<
         ensures wrapped { IfOk result (λ f. flushed_sink f ≡ sink) }
         ensures refused { IfErr result IsQueuingRefusal }
     {
-        start_flushes(rt, alloc, sink, period, Some(Handler::new(handler)))
+        let handler = Some(Handler::new(handler));
+        let repeater = Repeater::start(rt, alloc, Flushes { sink }, period, handler)?;
+        Ok(FlushingMetricSink { repeater })
     }
 }
 
-// Makes the sink and starts its thread.
-fn start_flushes<
-    S: MetricSink + Send + Sync + 'static,
-    R: Wait + Clock + Threads + Clone + Drop + Send + Sync + 'static,
-    A: Allocator + Clone + Send + Sync + 'static,
->(
-    rt: R,
-    alloc: A,
-    sink: S,
-    period: Duration,
-    handler: Option<Handler<A>>,
-) -> MetricResult<FlushingMetricSink<S, R, A>>
-    ensures wrapped { IfOk result (λ f. flushed_sink f ≡ sink) }
-    ensures refused { IfErr result IsQueuingRefusal }
-{
-    let end = WorkerEnd::new();
-    let shortest = Duration::from_millis(SHORTEST_PERIOD);
-    let shared = Arc::new(alloc, Flushed { sink, end })?;
-    let flushes = Flushes {
-        rt: rt.clone()?,
-        shared: shared.clone()?,
-        period: if period < shortest { shortest } else { period },
-    };
-    start(&rt, flushes, handler)?;
-    Ok(FlushingMetricSink { rt, shared })
+impl<S: MetricSink, R: Wait + Drop, A: Allocator> FlushingMetricSink<S, R, A> {
+    // Returns the wrapped sink.
+    fn sink(&self) -> &S
+        ensures { result.now ≡ flushed_sink self.now }
+    {
+        &self.repeater.work().sink
+    }
 }
 
 impl<S: MetricSink, R: Wait + Drop, A: Allocator> MetricSink for FlushingMetricSink<S, R, A> {
@@ -145,22 +92,18 @@ impl<S: MetricSink, R: Wait + Drop, A: Allocator> MetricSink for FlushingMetricS
     ghost flush_may_succeed = { λ f. S.flush_may_succeed (flushed_sink f) };
 
     fn emit(&self, metric: &str) -> Result<usize, SinkError> {
-        self.shared.sink.emit(metric)
+        self.sink().emit(metric)
     }
 
     fn flush(&self) -> Result<(), SinkError> {
-        self.shared.sink.flush()
+        self.sink().flush()
     }
 
     fn stats(&self) -> SinkStats {
-        self.shared.sink.stats()
+        self.sink().stats()
     }
-}
 
-impl<S: MetricSink, R: Wait + Drop, A: Allocator> Drop for FlushingMetricSink<S, R, A> {
-    fn drop(self) {
-        self.shared.end.mark(&self.rt);
-        let _ = self.shared.sink.flush();
-        let FlushingMetricSink { rt: _, shared: _ } = self;
+    fn dropped_lines(&self) -> u64 {
+        self.sink().dropped_lines()
     }
 }

@@ -47,6 +47,12 @@ pub trait MetricSink: Drop {
     fn stats(&self) -> SinkStats {
         SinkStats::default()
     }
+
+    /// Returns how many accepted lines were dropped because a full queue made room for later ones, modulo 2 to the 64.
+    /// It is 0 if the sink has no queue. A sink that wraps another one adds the number of that one.
+    fn dropped_lines(&self) -> u64 {
+        0
+    }
 }
 
 /// A box is a sink that passes each call on to the sink in it.
@@ -67,6 +73,10 @@ impl<A: Allocator> MetricSink for Box<dyn MetricSink + Send + Sync, A> {
 
     fn stats(&self) -> SinkStats {
         (**self).stats()
+    }
+
+    fn dropped_lines(&self) -> u64 {
+        (**self).dropped_lines()
     }
 }
 

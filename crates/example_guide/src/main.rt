@@ -5,6 +5,7 @@
 //! that a server of its own receives. The lines follow from the grammar of Statsd with the DogStatsD fields. Nobody has
 //! to listen at port 8125; what is sent there is counted and not looked at.
 //!
+//! - `service`: one whole service, and its test.
 //! - `shop`: a service that makes its client, and code that sends over any client.
 //! - `kinds`: each kind of metric and each option of a call.
 //! - `sinks`: a client over each sink.
@@ -28,6 +29,7 @@ mod own;
 mod ported;
 mod round_trip;
 mod runtime;
+mod service;
 mod shop;
 mod sinks;
 mod unix;

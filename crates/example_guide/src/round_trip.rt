@@ -1,12 +1,14 @@
-//! A service that sends through a queue and a buffered UDP sink, and the server that receives its datagrams.
+//! Services that send through a queue and a buffered UDP sink, and the server that receives their datagrams.
 //!
 //! Datagrams on the loopback address arrive in order here, so the text is the same in each run.
 
 use crate::runtime::Runtime;
+use crate::service;
 use cadence::prelude::*;
-use cadence::ready::{flushing_udp_client, queued_udp_client};
+use cadence::ready::{buffered_udp_sink, flushing_udp_client, queued_udp_client};
 use cadence::sinks::Target;
-use cadence::{MetricResult, MetricSink};
+use cadence::{MetricResult, MetricSink, StatsdClient};
+use cadence_agent::ReportingMetricSink;
 use std::alloc::Global;
 use std::net::{Ipv4Addr, SocketAddr, UdpSocket};
 use std::time::Duration;
@@ -48,6 +50,52 @@ fn receive_by_time<R: Runtime>(rt: &R, alloc: Global, server: &UdpSocket) -> Met
     Ok(text)
 }
 
+// Sends a line over a sink that reports its own counts, and then two reports: one that the service asks for, and the last
+// one, which the drop of the client sends. A report counts the datagram of the one before too.
+fn send_counts<R: Runtime>(rt: &R, alloc: Global, server: SocketAddr) -> MetricResult<()> {
+    let inner = buffered_udp_sink(rt, alloc, Target::Addr(server), 512)?;
+    let period = Duration::from_secs(3600);
+    let sink = ReportingMetricSink::new(rt.clone()?, alloc, inner, "my.statsd", period)?;
+    let client = StatsdClient::from_sink(alloc, "my.service", sink)?;
+    client.incr("visits")?;
+    client.flush()?;
+    client.sink().report()?;
+    client.flush()?;
+    Ok(())
+}
+
+// Receives datagrams until this many lines have come, and returns the lines.
+fn receive_lines(alloc: Global, server: &UdpSocket, number: usize) -> MetricResult<String> {
+    let mut text = String::new(alloc);
+    let mut bytes = [0u8; 512];
+    for _ in 0..number {
+        if text.lines().count() >= number {
+            break;
+        }
+        let (length, _from) = server.recv_from(&mut bytes)?;
+        text.push_str(&String::from_utf8_lossy(alloc, &bytes[..length])?)?;
+    }
+    Ok(text)
+}
+
+// Runs the whole service, whose two threads send three lines each, and returns how often each line came. The lines of the
+// two threads may come in any order.
+fn receive_visits<R: Runtime>(rt: &R, alloc: Global, server: &UdpSocket) -> MetricResult<String> {
+    let errors = service::run(rt, alloc, Target::Addr(server.local_addr()?))?;
+    let lines = receive_lines(alloc, server, 6)?;
+    let mut text = String::new(alloc);
+    for page in ["home", "cart"] {
+        let wanted = format!(in alloc; "shop.visits:1|c|#env:prod,page:{page}")?;
+        let times = lines
+            .lines()
+            .filter(|line| *line == wanted.as_str())
+            .count();
+        writeln!(&mut text, "{times} times {wanted}")?;
+    }
+    writeln!(&mut text, "{errors} errors of the service's socket")?;
+    Ok(text)
+}
+
 /// Returns the datagrams that a server of its own receives. The server waits for each five seconds at most.
 pub fn report<R: Runtime>(rt: &R, alloc: Global) -> MetricResult<String> {
     let server = UdpSocket::bind(rt, SocketAddr::from((Ipv4Addr::LOCALHOST, 0)))?;
@@ -55,5 +103,8 @@ pub fn report<R: Runtime>(rt: &R, alloc: Global) -> MetricResult<String> {
     let count = send_three(rt, alloc, server.local_addr()?)?;
     let mut text = receive(alloc, &server, count)?;
     text.push_str(&receive_by_time(rt, alloc, &server)?)?;
+    text.push_str(&receive_visits(rt, alloc, &server)?)?;
+    send_counts(rt, alloc, server.local_addr()?)?;
+    text.push_str(&receive(alloc, &server, 3)?)?;
     Ok(text)
 }

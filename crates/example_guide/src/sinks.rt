@@ -46,18 +46,6 @@ pub fn send_over_queue<R: Runtime>(rt: &R, alloc: Global) -> MetricResult<()> {
     Ok(())
 }
 
-pub fn send_within_a_second<R: Runtime>(rt: &R, alloc: Global) -> MetricResult<()> {
-    let inner = buffered_udp_sink(rt, alloc, host(alloc, "localhost", 8125)?, 1432)?;
-    let sink = QueuingMetricSinkBuilder::new()
-        .with_capacity(1000)
-        .with_flush_period(Duration::from_secs(1))
-        .build(rt.clone()?, alloc, inner)?;
-    let client = StatsdClient::from_sink(alloc, "p", sink)?;
-    client.incr("visits")?;
-    client.sink().stop_and_wait();
-    Ok(())
-}
-
 pub fn send_each_second<R: Runtime>(rt: &R, alloc: Global) -> MetricResult<()> {
     let inner = buffered_udp_sink(rt, alloc, host(alloc, "localhost", 8125)?, 512)?;
     let sink = FlushingMetricSink::new(rt.clone()?, alloc, inner, Duration::from_secs(1))?;
@@ -140,7 +128,6 @@ pub fn send_over_each<R: Runtime>(rt: &R, alloc: Global) -> MetricResult<u64> {
     send_over_udp(rt, alloc)?;
     send_over_buffered_udp(rt, alloc)?;
     send_over_queue(rt, alloc)?;
-    send_within_a_second(rt, alloc)?;
     send_each_second(rt, alloc)?;
     send_over_unix(rt, alloc, TakesAll)?;
     send_over_buffered_unix(rt, alloc, TakesAll)?;

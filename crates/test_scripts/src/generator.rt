@@ -30,7 +30,7 @@ impl PseudoRandom {
 }
 
 const LONG_TEXT: &str =
-    "a text that is longer than the others, so that a line of it passes each capacity";
+    "a_text_that_is_longer_than_the_others_so_that_a_line_of_it_passes_each_capacity";
 
 const TEXTS: &[&'static str] = &[
     "\\e",
@@ -88,6 +88,11 @@ const OPTIONS: &[&'static str] = &[
     " time 0",
     " rate 5/1",
     " rate -1/0",
+    " tag a: b",
+    " tag a b,c",
+    " tagvalue \\n",
+    " container x|y",
+    " container , container id",
     " tag k v tagvalue w container x time 9 rate 25/2",
     " time 1 time 2",
 ];
@@ -123,6 +128,15 @@ const SETTINGS: &[&'static str] = &[
     "writer short:1 refuse short:2",
 ];
 
+// Settings with a separator, with which a strict script can't be run unless a later setting takes the place of this one.
+const HOSTILE_SETTINGS: &[&'static str] = &[
+    "prefix a:b",
+    "tag a, b",
+    "tag a b|c",
+    "tagvalue :",
+    "container x\\ny",
+];
+
 const SMALL_QUEUES: &[&'static str] = &["queue 1", "queue 2", "queue 3"];
 
 const STEPS: &[&'static str] = &[
@@ -138,14 +152,30 @@ fn push_call(out: &mut String, random: &mut PseudoRandom) -> Result<(), AllocErr
     writeln!(out, "call {kind} {key} {value}{first}{second}")
 }
 
-/// Returns a script of up to 7 settings and 24 steps. Every fourth one has a small queue that drops its oldest line,
-/// unless a later setting says otherwise.
+// Adds the line `strict` to every third script, and to every eighth one a setting with a separator.
+fn push_strictness(
+    out: &mut String,
+    random: &mut PseudoRandom,
+    seed: u64,
+) -> Result<(), AllocError> {
+    if seed % 3 == 0 {
+        out.push_str("strict\n")?;
+    }
+    if random.below(8) == 0 {
+        writeln!(out, "{}", random.choose(HOSTILE_SETTINGS))?;
+    }
+    Ok(())
+}
+
+/// Returns a script of up to 9 settings and 24 steps. Every fourth one has a small queue that drops its oldest line,
+/// unless a later setting says otherwise. Every third one is strict.
 pub fn generate_script(alloc: Global, seed: u64) -> Result<String, AllocError> {
     let mut random = PseudoRandom::from_seed(seed);
     let mut out = String::new(alloc);
     if seed % 4 == 0 {
         writeln!(&mut out, "{}\npolicy drop", random.choose(SMALL_QUEUES))?;
     }
+    push_strictness(&mut out, &mut random, seed)?;
     for _ in 0..random.below(6) {
         writeln!(&mut out, "{}", random.choose(SETTINGS))?;
     }

@@ -32,7 +32,7 @@ mod udp_makers;
 use cadence::MetricResult;
 use std::fs;
 use std::net::{Ipv4Addr, SocketAddr, UdpSocket};
-use turns::{EndCounts, fail_bytes_in_turn, fail_in_turn};
+use turns::{EndCounts, count_usability, fail_bytes_in_turn, fail_in_turn};
 
 // How many scripts are generated.
 const GENERATED: u64 = 1000;
@@ -104,6 +104,7 @@ fn print_turns_of_generated(rt: &HostRuntime) -> MetricResult<()> {
     let mut ends = EndCounts::zero();
     for seed in 0..GENERATED {
         let script = generator::generate_script(rt.alloc(), seed)?;
+        count_usability(rt.alloc(), &script, &mut ends)?;
         fail_in_turn(rt.alloc(), script.as_bytes(), &mut ends)?;
     }
     println!(rt; "turns of {GENERATED} generated scripts: {ends}")?;

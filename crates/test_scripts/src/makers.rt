@@ -1,14 +1,14 @@
 //! Each constructor that takes memory, with each of its requests refused in turn.
 use crate::memory::{Heap, has_memory_for_a_line};
-use crate::udp_makers::UdpMaker;
+use crate::udp_makers::{UdpMaker, long_period};
 use cadence::prelude::*;
 use cadence::queue::{QueueCore, QueuePolicy};
 use cadence::sinks::{PathSocket, ResolverRuntime, SpyReceiver};
 use cadence::types::SinkError;
 use cadence::{
-    BufferedSpyMetricSink, BufferedUnixMetricSink, Metric, MetricError, MetricResult, MetricSink,
-    NopMetricSink, QueuingMetricSink, QueuingMetricSinkBuilder, SpyMetricSink, StatsdClient,
-    UnixMetricSink,
+    BufferedSpyMetricSink, BufferedUnixMetricSink, FlushingMetricSink, Metric, MetricError,
+    MetricResult, MetricSink, NopMetricSink, QueuingMetricSink, QueuingMetricSinkBuilder,
+    SpyMetricSink, StatsdClient, UnixMetricSink,
 };
 use std::alloc::Global;
 use std::net::SocketAddr;
@@ -32,6 +32,8 @@ enum UnixMaker {
     From,
     Buffered,
     BufferedWithCapacity,
+    // A sink over a Unix socket that a thread flushes.
+    Flushing,
 }
 
 // How a queue is made.
@@ -42,6 +44,7 @@ enum QueueMaker {
     From,
     Bounded,
     Built,
+    BuiltWithPeriod,
 }
 
 // How a sink, a queue or a client is made.
@@ -55,7 +58,7 @@ enum Maker {
 }
 
 // The constructors, each with its name.
-const MAKERS: [(&str, Maker); 24] = [
+const MAKERS: [(&str, Maker); 28] = [
     ("SpyMetricSink::new", Maker::Spy(SpyMaker::New)),
     (
         "SpyMetricSink::with_capacity",
@@ -79,6 +82,7 @@ const MAKERS: [(&str, Maker); 24] = [
         "BufferedUnixMetricSink::with_capacity",
         Maker::Unix(UnixMaker::BufferedWithCapacity),
     ),
+    ("FlushingMetricSink::new", Maker::Unix(UnixMaker::Flushing)),
     ("QueueCore::new", Maker::Queue(QueueMaker::Core)),
     (
         "QueueCore::with_policy",
@@ -92,6 +96,10 @@ const MAKERS: [(&str, Maker); 24] = [
     (
         "QueuingMetricSinkBuilder::build",
         Maker::Queue(QueueMaker::Built),
+    ),
+    (
+        "the same with a flush period",
+        Maker::Queue(QueueMaker::BuiltWithPeriod),
     ),
     ("StatsdClient::from_sink", Maker::Client),
     ("UdpMetricSink::from", Maker::Udp(UdpMaker::From)),
@@ -119,6 +127,8 @@ const MAKERS: [(&str, Maker); 24] = [
     ("udp_client", Maker::Udp(UdpMaker::Client)),
     ("buffered_udp_client", Maker::Udp(UdpMaker::BufferedClient)),
     ("queued_udp_client", Maker::Udp(UdpMaker::QueuedClient)),
+    ("flushing_udp_client", Maker::Udp(UdpMaker::FlushingClient)),
+    ("flushing_udp_sink_with", Maker::Udp(UdpMaker::FlushingSink)),
 ];
 
 // A socket that takes each packet.
@@ -206,6 +216,11 @@ impl UnixMaker {
                     16,
                 )?)
             }
+            UnixMaker::Flushing => {
+                let (own, alloc) = (rt.clone()?, heap.clone()?);
+                let inner = UnixMetricSink::from(own, alloc, "/run/s", AcceptingSocket)?;
+                has_memory_for_a_line(&FlushingMetricSink::new(rt, heap, inner, long_period())?)
+            }
         }
     }
 }
@@ -236,6 +251,11 @@ impl QueueMaker {
             QueueMaker::Built => {
                 let builder = QueuingMetricSinkBuilder::new().with_policy(QueuePolicy::DropOldest);
                 queue_has_memory(builder.with_capacity(1).build(rt, heap, NopMetricSink)?)
+            }
+            QueueMaker::BuiltWithPeriod => {
+                let builder = QueuingMetricSinkBuilder::new().with_policy(QueuePolicy::DropOldest);
+                let builder = builder.with_capacity(1).with_flush_period(long_period());
+                queue_has_memory(builder.build(rt, heap, NopMetricSink)?)
             }
         }
     }

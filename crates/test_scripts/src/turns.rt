@@ -9,7 +9,7 @@ use cadence_script::run_script;
 use std::alloc::{AllocError, Global};
 use std::fmt;
 use test_tools::RefusingAllocator;
-use test_tools::model::is_right_report;
+use test_tools::model::{is_right_report, is_usable};
 use test_tools::reader::{ByteReader, FailingReader};
 use test_tools::writer::{ByteWriter, FailingWriter};
 
@@ -27,6 +27,8 @@ pub struct EndCounts {
     pub out_of_memory: u64,
     /// With status 2, because the input can't be read, and nothing printed.
     pub unread: u64,
+    /// With status 2, because the script is strict and its settings have a separator, and nothing printed.
+    pub unusable: u64,
     /// With status 1, and a first part of the report printed.
     pub unwritten: u64,
     /// In any other way.
@@ -41,6 +43,7 @@ impl EndCounts {
             right: 0,
             out_of_memory: 0,
             unread: 0,
+            unusable: 0,
             unwritten: 0,
             wrong: 0,
         }
@@ -54,6 +57,7 @@ impl EndCounts {
             End::RightReport => &mut self.right,
             End::OutOfMemory => &mut self.out_of_memory,
             End::Unread => &mut self.unread,
+            End::Unusable => &mut self.unusable,
             End::Unwritten => &mut self.unwritten,
         }
     }
@@ -72,6 +76,7 @@ impl fmt::Display for EndCounts {
             right,
             out_of_memory,
             unread,
+            unusable,
             unwritten,
             wrong,
         } = self;
@@ -81,7 +86,7 @@ impl fmt::Display for EndCounts {
         )?;
         write!(
             f,
-            "{unread} unread, {unwritten} unwritten, {wrong} otherwise"
+            "{unread} unread, {unusable} unusable, {unwritten} unwritten, {wrong} otherwise"
         )
     }
 }
@@ -93,6 +98,7 @@ enum End {
     RightReport,
     OutOfMemory,
     Unread,
+    Unusable,
     Unwritten,
 }
 
@@ -282,7 +288,7 @@ pub fn fail_bytes_in_turn(
 }
 
 /// Runs a script, and then lets each request for memory and each answer of the writer be refused in turn. Counts the
-/// ends. A script that can be read must first have, without a failure, the report that the model works out.
+/// ends. A script that can be read and run must first have, without a failure, the report that the model works out.
 pub fn fail_in_turn(alloc: Global, script: &[u8], ends: &mut EndCounts) -> Result<(), AllocError> {
     let plain = outcome_of(alloc, script);
     refuse_memory(alloc, script, &plain, ends)?;
@@ -297,4 +303,25 @@ pub fn fail_in_turn(alloc: Global, script: &[u8], ends: &mut EndCounts) -> Resul
         Ok(text) => refuse_packets(alloc, text, &plain, ends),
         Err(_) => Ok(()),
     }
+}
+
+/// Runs a script that can be read, and counts how the run ends: as unusable just if the model says so, and then with the
+/// message that is due, or as any other run does.
+pub fn count_usability(
+    alloc: Global,
+    script: &str,
+    ends: &mut EndCounts,
+) -> Result<(), AllocError> {
+    let outcome = outcome_of(alloc, script.as_bytes());
+    if is_usable(alloc, script)? {
+        ends.count(outcome.status == 0, End::Same);
+        return Ok(());
+    }
+    let is_reported = outcome.errors.as_slice()
+        == b"statsd_schedule: settings: separator in a text\n".as_slice();
+    ends.count(
+        outcome.status == 2 && is_reported && outcome.output.is_empty(),
+        End::Unusable,
+    );
+    Ok(())
 }

@@ -2,7 +2,7 @@
 //! program.
 //!
 //! The model uses no crate of the library, so a mistake in the library's code can't be in both. It expects a script
-//! that `statsd_schedule` can read, and says nothing about other scripts. It is checked only by comparison: a rule that
+//! that `statsd_schedule` can read, and says nothing about other scripts. Of such a script it also says whether it can be run. It is checked only by comparison: a rule that
 //! is wrong in the model and in the library isn't found.
 //!
 //! - `script`: the settings and the steps of a script.
@@ -18,4 +18,4 @@ mod run;
 mod script;
 mod text;
 
-pub use run::{MemoryError, is_right_report, report_of};
+pub use run::{MemoryError, is_right_report, is_usable, report_of};

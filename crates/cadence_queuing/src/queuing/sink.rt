@@ -95,7 +95,8 @@ fn copy_line<A: Allocator + Clone>(
 ///
 /// An accepted line requests memory at most once, apart from the growth of an unbounded queue: if the worker has handed
 /// on a line with enough memory, the new line is copied into that. The first two errors request no memory. `flush`
-/// flushes the wrapped sink and doesn't wait for the queue. `stats` returns the counts of the wrapped sink.
+/// flushes the wrapped sink and doesn't wait for the queue. `stats` returns the counts of the wrapped sink, and
+/// `dropped_lines` adds `dropped` to the number of the wrapped sink.
 impl<S: MetricSink, R: Wait + Drop, A: Allocator + Clone> MetricSink
     for QueuingMetricSink<S, R, A> {
     ghost may_answer = { λ q metric answer. IsQueuingAnswer (queue_capacity q) metric answer };
@@ -120,6 +121,11 @@ impl<S: MetricSink, R: Wait + Drop, A: Allocator + Clone> MetricSink
 
     fn stats(&self) -> SinkStats {
         self.shared.sink.stats()
+    }
+
+    fn dropped_lines(&self) -> u64 {
+        self.dropped()
+            .wrapping_add(self.shared.sink.dropped_lines())
     }
 
     ghost flush_may_succeed = { λ q. S.flush_may_succeed (arc_value q.shared).sink };

@@ -235,6 +235,7 @@ fn a_flushing_sink_passes_calls_on(rt: HostRuntime) -> Result<(), Fail> {
     let (watch, sink) = make_flushes(&rt, rt.alloc())?;
     assert_flushes(&sink)?;
     assert_counts(&sink, [1, 2, 3, 4])?;
+    assert_eq!(rt; sink.dropped_lines(), 5);
     watch.set_refuses(true);
     assert_refuses_flush(&sink, WantedError::PacketRefused)?;
     watch.assert_notes(&["flush", "flush"])

@@ -32,7 +32,7 @@ pub struct Gate {
 }
 
 /// A sink that sends each line to one spy when it comes, and to another spy once the gate is open. Its four counts are
-/// 1, 2, 3 and 4.
+/// 1, 2, 3 and 4, and it says that 7 lines were dropped.
 #[derive(Drop)]
 pub struct GatedSink<R: Wait + Drop> {
     gate: Arc<Gate>,
@@ -65,6 +65,10 @@ impl<R: Wait + Drop> MetricSink for GatedSink<R> {
             bytes_dropped: 3,
             packets_dropped: 4,
         }
+    }
+
+    fn dropped_lines(&self) -> u64 {
+        7
     }
 
     ghost flush_may_succeed = { λ _. tt };

@@ -107,6 +107,10 @@ impl<R: Wait + Drop> MetricSink for NotingSink<R> {
         }
     }
 
+    fn dropped_lines(&self) -> u64 {
+        5
+    }
+
     ghost flush_may_succeed = { λ _. tt };
 }
 

@@ -203,7 +203,9 @@ fn has_right_end<R: Runtime>(
     assert_refuses(&queue.sink, "fourth:1|c", WantedError::ChannelDisconnected)?;
     let [submitted, dropped, drained, queued] = counts_of(&queue.sink);
     let all = dropped.wrapping_add(drained) == submitted && drained == passed.len() as u64;
-    Ok(all && queued == 0 && heap.left() == left)
+    // the gated sink adds 7
+    let adds_up = queue.sink.dropped_lines() == dropped.wrapping_add(7);
+    Ok(all && adds_up && queued == 0 && heap.left() == left)
 }
 
 // Returns whether the queue of a row does what the row says, and its handler is never called.

@@ -1,6 +1,6 @@
 //! The line of a call, made from the words of the script.
 use crate::model::script::Settings;
-use crate::model::text::{push_all, push_tag, push_tag_value, text_of};
+use crate::model::text::{has_separator, push_all, push_tag, push_tag_value, text_of};
 use std::alloc::{AllocError, Global};
 use std::str::Split;
 
@@ -159,19 +159,49 @@ fn fields_of<'a>(
     Ok(fields)
 }
 
-/// Returns the line of a call, or `None` if a duration doesn't fit 64 bits.
-pub fn line_of(
-    alloc: Global,
-    settings: &Settings<'_>,
-    call: &str,
-) -> Result<Option<String>, AllocError> {
+/// What a call makes.
+#[derive(Drop)]
+pub enum Made {
+    Line(String),
+    /// A duration doesn't fit 64 bits.
+    Overflow,
+    /// The script is strict, and a text of the call has a separator.
+    Separator,
+}
+
+// Returns whether the key of a call, the key or the text of a tag, or a container has a separator.
+fn has_separator_in_text(alloc: Global, call: &str) -> Result<bool, AllocError> {
+    let mut words = call.split(' ');
+    let _kind = words.next();
+    let mut has_any = has_separator(alloc, words.next().unwrap_or(""))?;
+    let _value = words.next();
+    for _ in 0..call.len() {
+        let Some(name) = words.next() else {
+            break;
+        };
+        let word = words.next().unwrap_or("");
+        if name == "tag" {
+            has_any |= has_separator(alloc, words.next().unwrap_or(""))?;
+        }
+        if name == "tag" || name == "tagvalue" || name == "container" {
+            has_any |= has_separator(alloc, word)?;
+        }
+    }
+    Ok(has_any)
+}
+
+/// Returns the line of a call, or why it makes none. A duration that doesn't fit comes before a separator.
+pub fn line_of(alloc: Global, settings: &Settings<'_>, call: &str) -> Result<Made, AllocError> {
     let mut words = call.split(' ');
     let kind = words.next().unwrap_or("");
     let mut line = head_of(alloc, settings, words.next().unwrap_or(""))?;
     if !push_numbers(&mut line, kind, words.next().unwrap_or(""))? {
-        return Ok(None);
+        return Ok(Made::Overflow);
+    }
+    if settings.is_strict && has_separator_in_text(alloc, call)? {
+        return Ok(Made::Separator);
     }
     push_all(&mut line, &["|", kind])?;
     fields_of(alloc, settings, &mut words, call.len())?.push_to(&mut line)?;
-    Ok(Some(line))
+    Ok(Made::Line(line))
 }

@@ -1,5 +1,5 @@
 //! The run of a script, and its report.
-use crate::model::line::line_of;
+use crate::model::line::{Made, line_of};
 use crate::model::packer::Packer;
 use crate::model::queue::Queue;
 use crate::model::script::{Settings, read_script};
@@ -17,17 +17,18 @@ pub enum MemoryError {
     AtWrite(usize),
 }
 
-// Submits the line of a call, and adds the reply of the call.
+// Submits the line of a call if it made one, and adds the reply of the call.
 fn push_call(
     out: &mut String,
     queue: &mut Queue,
-    line: Option<String>,
+    made: Made,
     is_out_of_memory: bool,
 ) -> Result<(), AllocError> {
-    match line {
-        None => out.push_str("call err u64 overflow\n"),
-        Some(_) if is_out_of_memory => out.push_str("call err out of memory\n"),
-        Some(line) => queue.submit(out, line),
+    match made {
+        Made::Overflow => out.push_str("call err u64 overflow\n"),
+        Made::Separator => out.push_str("call err separator in a text\n"),
+        Made::Line(_) if is_out_of_memory => out.push_str("call err out of memory\n"),
+        Made::Line(line) => queue.submit(out, line),
     }
 }
 
@@ -99,6 +100,13 @@ fn push_end(
     writeln!(out, "stats {bytes} {packets} {refused} {refusals}")
 }
 
+/// Returns whether a script that can be read can be run: a strict one with a separator in its prefix, in a default tag or
+/// in its default container can't.
+pub fn is_usable(alloc: Global, script: &str) -> Result<bool, AllocError> {
+    let (settings, _steps) = read_script(alloc, script)?;
+    Ok(settings.is_usable())
+}
+
 /// Returns the report of a script whose run has this error of memory.
 pub fn report_of(alloc: Global, script: &str, error: MemoryError) -> Result<String, AllocError> {
     let (settings, steps) = read_script(alloc, script)?;
@@ -114,8 +122,8 @@ pub fn report_of(alloc: Global, script: &str, error: MemoryError) -> Result<Stri
         match step.strip_prefix("call ") {
             None => push_reply(&mut out, step, &mut queue, &mut packer)?,
             Some(call) => {
-                let line = line_of(alloc, &settings, call)?;
-                push_call(&mut out, &mut queue, line, failing_call == Some(index))?;
+                let made = line_of(alloc, &settings, call)?;
+                push_call(&mut out, &mut queue, made, failing_call == Some(index))?;
             }
         }
     }

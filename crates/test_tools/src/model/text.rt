@@ -24,6 +24,16 @@ pub fn text_of(alloc: Global, word: &str) -> Result<String, AllocError> {
     Ok(text)
 }
 
+/// Returns whether the character separates the parts of a line or of a packet: a colon, a comma, a bar or a newline.
+pub fn is_separator(c: char) -> bool {
+    c == ':' || c == ',' || c == '|' || c == '\n'
+}
+
+/// Returns whether the text that a word stands for has a separator.
+pub fn has_separator(alloc: Global, word: &str) -> Result<bool, AllocError> {
+    Ok(text_of(alloc, word)?.contains(is_separator))
+}
+
 /// Adds the texts, one after another.
 pub fn push_all(out: &mut String, texts: &[&str]) -> Result<(), AllocError> {
     for text in texts {

@@ -1,0 +1,124 @@
+//! A sink that sends its own counts again and again.
+ghost use Rattle.std.specs.Prelude.{◌≡◌, IfErr, IfOk};
+ghost use Rattle.cadence_queuing.specs.Queuing.{IsQueuingRefusal};
+ghost use Rattle.cadence_schedule.specs.Settings.{settings_of};
+ghost use Rattle.cadence_agent.specs.Reports.{report_settings, reported_sink};
+
+use super::reports::Reports;
+use cadence::SinkStats;
+use cadence_errors::{MetricResult, SinkError};
+use cadence_queuing::{Handler, MetricSink, Repeated, Repeater, SinkErrorHandler};
+use std::alloc::{Allocator, Global};
+use std::sync::Wait;
+use std::thread::Threads;
+use std::time::{Clock, Duration};
+
+/// A sink that passes each call on to the wrapped sink, and whose thread sends after each period, over the wrapped sink,
+/// by how much these counts grew since its last report: the counters `bytes_sent`, `packets_sent`, `bytes_dropped`,
+/// `packets_dropped` (of `stats`), `lines_dropped` (of `dropped_lines`) and `lines_refused`, each after the prefix and a
+/// dot. `lines_refused` counts the lines of callers for which the wrapped sink's `emit` returned an error. A counter of 0
+/// isn't sent.
+///
+/// What a counter couldn't report, because the wrapped sink refused it or memory ran out, the next report adds. The bytes
+/// and packets of the reports themselves count too.
+///
+/// The drop stops the thread and doesn't wait for it. It also sends a last report, and drops the error of this one. A
+/// queue below is stopped after that. The sink keeps the runtime `R`, whose locks it takes.
+///
+/// ```text
+/// let queue = queued_udp_sink(&rt, alloc, target, 1432, Some(1000))?;
+/// let period = Duration::from_secs(10);
+/// let sink = ReportingMetricSink::new(rt.clone()?, alloc, queue, "my.service.statsd", period)?;
+/// ```
+#[derive(Drop)]
+pub struct ReportingMetricSink<S: MetricSink, R: Wait + Drop, A: Allocator + Clone = Global> {
+    repeater: Repeater<Reports<S, A>, R, A>,
+}
+
+impl<
+    S: MetricSink + Send + Sync + 'static,
+    R: Wait + Clock + Threads + Clone + Drop + Send + Sync + 'static,
+    A: Allocator + Clone + Send + Sync + 'static,
+> ReportingMetricSink<S, R, A> {
+    /// Makes the sink and starts its thread. What the wrapped sink has counted before isn't reported. A period below one
+    /// millisecond counts as one millisecond. The errors of reports are dropped.
+    ///
+    /// # Errors
+    /// `OutOfMemory`, and `Io` if the thread can't be started. The wrapped sink is dropped then.
+    pub fn new(rt: R, alloc: A, sink: S, prefix: &str, period: Duration) -> MetricResult<Self>
+        ensures wrapped { IfOk result (λ f. reported_sink f ≡ sink) }
+        ensures prefix { IfOk result (λ f. report_settings f ≡ settings_of prefix.now) }
+        ensures refused { IfErr result IsQueuingRefusal }
+    {
+        let reports = Reports::new(alloc.clone()?, sink, prefix)?;
+        let repeater = Repeater::start(rt, alloc, reports, period, None)?;
+        Ok(ReportingMetricSink { repeater })
+    }
+
+    /// Makes the sink and starts its thread, as `new` does. The handler receives the last error of each report that the
+    /// thread sends. It runs in the thread while no lock is held.
+    ///
+    /// # Errors
+    /// Those of `new`.
+    pub fn with_error_handler(
+        rt: R,
+        alloc: A,
+        sink: S,
+        prefix: &str,
+        period: Duration,
+        handler: SinkErrorHandler<A>,
+    ) -> MetricResult<Self>
+        requires { IsAlwaysCallable handler }
+        ensures wrapped { IfOk result (λ f. reported_sink f ≡ sink) }
+        ensures prefix { IfOk result (λ f. report_settings f ≡ settings_of prefix.now) }
+        ensures refused { IfErr result IsQueuingRefusal }
+    {
+        let handler = Some(Handler::new(handler));
+        let reports = Reports::new(alloc.clone()?, sink, prefix)?;
+        let repeater = Repeater::start(rt, alloc, reports, period, handler)?;
+        Ok(ReportingMetricSink { repeater })
+    }
+}
+
+impl<S: MetricSink, R: Wait + Drop, A: Allocator + Clone> ReportingMetricSink<S, R, A> {
+    /// Returns the wrapped sink. Lines that are emitted into it directly aren't counted as refused.
+    pub fn sink(&self) -> &S
+        ensures { result.now ≡ reported_sink self.now }
+    {
+        &self.repeater.work().sink
+    }
+
+    /// Sends a report now, for example before a queue below is stopped. The period goes on.
+    ///
+    /// # Errors
+    /// `OutOfMemory`, and what the wrapped sink returns for a counter. What the report left out, the next one adds.
+    pub fn report(&self) -> MetricResult<()> {
+        self.repeater.work().repeat(self.repeater.runtime())?;
+        Ok(())
+    }
+}
+
+impl<S: MetricSink, R: Wait + Drop, A: Allocator + Clone> MetricSink
+    for ReportingMetricSink<S, R, A> {
+    ghost may_answer = { λ f. S.may_answer (reported_sink f) };
+
+    ghost may_flush = { λ f. S.may_flush (reported_sink f) };
+
+    ghost flush_may_succeed = { λ f. S.flush_may_succeed (reported_sink f) };
+
+    fn emit(&self, metric: &str) -> Result<usize, SinkError> {
+        self.repeater.work().emit(metric)
+    }
+
+    fn flush(&self) -> Result<(), SinkError> {
+        self.sink().flush()
+    }
+
+    fn stats(&self) -> SinkStats {
+        self.sink().stats()
+    }
+
+    fn dropped_lines(&self) -> u64 {
+        self.sink().dropped_lines()
+    }
+}

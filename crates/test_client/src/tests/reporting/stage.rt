@@ -1,0 +1,155 @@
+//! A sink whose counts a test sets, and which notes its lines in a spy.
+use cadence::sinks::{MetricSink, SpyMetricSink, SpyReceiver};
+use cadence::stats::SinkStats;
+use cadence::types::SinkError;
+use cadence_agent::ReportingMetricSink;
+use std::alloc::{Allocator, Global};
+use std::sync::atomic::{AtomicBool, AtomicU64, Ordering};
+use std::sync::{Arc, Wait};
+use std::test::Fail;
+use std::thread::Threads;
+use std::time::{Clock, Duration};
+
+/// What a test sets of a counted sink.
+#[derive(Drop)]
+pub struct Stage {
+    /// The bytes and packets that the sink says it sent and dropped, and the lines that its queue dropped.
+    pub counts: [AtomicU64; 5],
+    /// Whether the sink refuses lines.
+    pub refuses: AtomicBool,
+}
+
+impl Stage {
+    /// Sets the five counts.
+    pub fn set(&self, counts: [u64; 5]) {
+        for (count, number) in self.counts.iter().zip(counts) {
+            count.store(number, Ordering::SeqCst);
+        }
+    }
+
+    fn count(&self, index: usize) -> u64 {
+        match self.counts.get(index) {
+            Some(count) => count.load(Ordering::SeqCst),
+            None => 0,
+        }
+    }
+}
+
+/// A sink whose counts are those of its stage. It notes each line that it takes in a spy. Its flush fails.
+#[derive(Drop)]
+pub struct CountedSink<R: Wait + Drop> {
+    stage: Arc<Stage>,
+    notes: SpyMetricSink<R>,
+}
+
+impl<R: Wait + Drop> MetricSink for CountedSink<R> {
+    ghost may_answer = { λ _ _ _. Unit {0} };
+
+    ghost may_flush = { λ _ _. Unit {0} };
+
+    fn emit(&self, metric: &str) -> Result<usize, SinkError> {
+        if self.stage.refuses.load(Ordering::SeqCst) {
+            return Err(SinkError::ChannelFull);
+        }
+        self.notes.emit(metric)
+    }
+
+    fn flush(&self) -> Result<(), SinkError> {
+        Err(SinkError::NothingWritten)
+    }
+
+    fn stats(&self) -> SinkStats {
+        SinkStats {
+            bytes_sent: self.stage.count(0),
+            packets_sent: self.stage.count(1),
+            bytes_dropped: self.stage.count(2),
+            packets_dropped: self.stage.count(3),
+        }
+    }
+
+    fn dropped_lines(&self) -> u64 {
+        self.stage.count(4)
+    }
+
+    ghost flush_may_succeed = { λ _. tt };
+}
+
+/// What a test has of a counted sink: its stage, and the lines that it took.
+#[derive(Drop)]
+pub struct Watch<R: Wait + Drop> {
+    pub stage: Arc<Stage>,
+    pub notes: SpyReceiver<R>,
+}
+
+fn new_stage() -> Stage {
+    Stage {
+        counts: [
+            AtomicU64::new(0),
+            AtomicU64::new(0),
+            AtomicU64::new(0),
+            AtomicU64::new(0),
+            AtomicU64::new(0),
+        ],
+        refuses: AtomicBool::new(false),
+    }
+}
+
+/// Makes a counted sink, whose counts are 0, and what a test has of it.
+pub fn make_counted<R: Wait + Clone + Drop>(
+    rt: &R,
+    alloc: Global,
+) -> Result<(Watch<R>, CountedSink<R>), Fail> {
+    let (receiver, spy) = SpyMetricSink::new(rt.clone()?, alloc)?;
+    let stage = Arc::new(alloc, new_stage())?;
+    let sink = CountedSink {
+        stage: stage.clone()?,
+        notes: spy,
+    };
+    let watch = Watch {
+        stage,
+        notes: receiver,
+    };
+    Ok((watch, sink))
+}
+
+impl<R: Wait + Drop> Watch<R> {
+    /// Asserts that the sink took these lines and no more since the last time.
+    pub fn assert_lines(&self, wanted: &[&str]) -> Result<(), Fail> {
+        for text in wanted {
+            let Some(line) = self.notes.try_recv() else {
+                return Err(Fail::new(format_args!("no line {text}")));
+            };
+            if line.as_slice() != text.as_bytes() {
+                return Err(Fail::new(format_args!("another line than {text}")));
+            }
+        }
+        if self.notes.try_recv().is_some() {
+            return Err(Fail::new("one line more"));
+        }
+        Ok(())
+    }
+
+    /// Sets whether the sink refuses lines.
+    pub fn set_refuses(&self, refuses: bool) {
+        self.stage.refuses.store(refuses, Ordering::SeqCst);
+    }
+}
+
+/// What the thread of a reporting sink asks of a runtime.
+pub trait Runtime: Wait + Clock + Threads + Clone + Drop + Send + Sync + 'static {}
+
+impl<R: Wait + Clock + Threads + Clone + Drop + Send + Sync + 'static> Runtime for R {}
+
+/// A reporting sink over a counted one.
+pub type Reporting<R, A = Global> = ReportingMetricSink<CountedSink<R>, R, A>;
+
+/// Makes a reporting sink with the prefix `me` over a counted one. Its period is an hour, so the test asks for each
+/// report. Its memory is that of `heap`.
+pub fn report_on<R: Runtime, A: Allocator + Clone + Send + Sync + 'static>(
+    rt: &R,
+    heap: A,
+    counted: CountedSink<R>,
+) -> Result<Reporting<R, A>, Fail> {
+    let hour = Duration::from_secs(3600);
+    Ok(ReportingMetricSink::new(rt.clone()?, heap, counted, "me", hour)?)
+}

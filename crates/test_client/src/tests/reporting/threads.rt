@@ -1,0 +1,78 @@
+//! The thread of a reporting sink, over a real clock and a real socket.
+use super::stage::{Runtime, make_counted};
+use cadence::ready::udp_sink;
+use cadence::sinks::{MetricSink, Target};
+use cadence::types::SinkError;
+use cadence_agent::ReportingMetricSink;
+use std::alloc::Global;
+use std::net::{Ipv4Addr, SocketAddr, UdpSocket};
+use std::sync::Arc;
+use std::sync::atomic::{AtomicU64, Ordering};
+use std::test::Fail;
+use std::thread;
+use std::time::Duration;
+
+// Asserts that the next datagram that the server receives is this text.
+fn assert_receives(server: &UdpSocket, text: &str) -> Result<(), Fail> {
+    let mut bytes = [0u8; 64];
+    let (length, _from) = server.recv_from(&mut bytes)?;
+    if bytes.get(..length) != Some(text.as_bytes()) {
+        return Err(Fail::new(format_args!("another datagram than {text}")));
+    }
+    Ok(())
+}
+
+// A report that comes before the line has nothing to send. The packets of the first report are in the second one.
+#[test]
+fn a_report_comes_over_udp_after_a_period(rt: HostRuntime) -> Result<(), Fail> {
+    let server = UdpSocket::bind(&rt, SocketAddr::from((Ipv4Addr::LOCALHOST, 0)))?;
+    server.set_read_timeout(Some(Duration::from_secs(5)))?;
+    let udp = udp_sink(&rt, rt.alloc(), Target::Addr(server.local_addr()?))?;
+    let period = Duration::from_millis(20);
+    let sink = ReportingMetricSink::new(rt.clone()?, rt.alloc(), udp, "me", period)?;
+    assert_eq!(rt; sink.emit("visits:1|c")?, 10);
+    assert_receives(&server, "visits:1|c")?;
+    assert_receives(&server, "me.bytes_sent:10|c")?;
+    assert_receives(&server, "me.packets_sent:1|c")?;
+    assert_receives(&server, "me.bytes_sent:37|c")?;
+    assert_receives(&server, "me.packets_sent:2|c")
+}
+
+// Waits until a handler has been called, five seconds at most, and returns whether it was.
+fn is_called<R: Runtime>(rt: &R, calls: &AtomicU64) -> bool {
+    for _ in 0..5000u64 {
+        if calls.load(Ordering::SeqCst) > 0 {
+            return true;
+        }
+        thread::sleep(rt, Duration::from_millis(1));
+    }
+    false
+}
+
+// Makes a reporting sink over one that refuses each line, and returns whether its handler is called.
+fn handler_is_called<R: Runtime>(rt: &R, alloc: Global) -> Result<bool, Fail> {
+    let calls = Arc::new(alloc, AtomicU64::new(0))?;
+    let (watch, counted) = make_counted(rt, alloc)?;
+    watch.set_refuses(true);
+    let theirs = calls.clone()?;
+    let handler = Box::new(alloc, move |error: SinkError| {
+        if matches!(error, SinkError::ChannelFull) {
+            theirs.fetch_add(1, Ordering::SeqCst);
+        }
+    })?;
+    let period = Duration::from_millis(1);
+    let mine = rt.clone()?;
+    let sink = ReportingMetricSink::with_error_handler(
+        mine, alloc, counted, "me", period, handler,
+    )?;
+    watch.stage.set([1, 0, 0, 0, 0]);
+    let is_called = is_called(rt, &calls);
+    drop(sink);
+    Ok(is_called)
+}
+
+#[test]
+fn a_handler_receives_the_errors_of_the_thread(rt: HostRuntime) -> Result<(), Fail> {
+    assert!(rt; handler_is_called(&rt, rt.alloc())?);
+    Ok(())
+}
