@@ -26,9 +26,9 @@ use std::time::{Clock, Duration};
 /// queue below is stopped after that. The sink keeps the runtime `R`, whose locks it takes.
 ///
 /// ```text
-/// let queue = queued_udp_sink(&rt, alloc, target, 1432, Some(1000))?;
-/// let period = Duration::from_secs(10);
-/// let sink = ReportingMetricSink::new(rt.clone()?, alloc, queue, "my.service.statsd", period)?;
+/// let period = Duration::from_secs(3600);
+/// let sink = ReportingMetricSink::new(rt.clone()?, alloc, inner, "my.statsd", period)?;
+/// let client = StatsdClient::from_sink(alloc, "my.service", sink)?;
 /// ```
 #[derive(Drop)]
 pub struct ReportingMetricSink<S: MetricSink, R: Wait + Drop, A: Allocator + Clone = Global> {
