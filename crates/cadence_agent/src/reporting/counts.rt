@@ -1,5 +1,6 @@
 //! The counts of a sink at one moment, and by how much they grew between two moments.
 ghost use Rattle.std.specs.Prelude.{◌≡◌, ◌++◌, IfOk, OnOk};
+ghost use Rattle.cadence_flow.specs.Sums.{less};
 ghost use Rattle.cadence_agent.specs.Counts.{growth_if_any, growths_between, name_of, number_of, without_growth};
 
 use cadence::SinkStats;
@@ -58,6 +59,13 @@ pub struct SinkCounts {
     pub lines_refused: u64,
 }
 
+// Returns a count that is less by a number, modulo 2 to the 64.
+fn less(count: u64, number: u64) -> u64
+    ensures { result ≡ less count number }
+{
+    count.wrapping_sub(number)
+}
+
 impl SinkCounts {
     /// Returns the number of this count.
     pub fn number(&self, count: Count) -> u64
@@ -77,15 +85,21 @@ impl SinkCounts {
     pub fn take_back(&mut self, growth: Growth)
         ensures { self.new ≡ without_growth self.old growth }
     {
-        let count = match growth.count {
-            Count::BytesSent => &mut self.stats.bytes_sent,
-            Count::PacketsSent => &mut self.stats.packets_sent,
-            Count::BytesDropped => &mut self.stats.bytes_dropped,
-            Count::PacketsDropped => &mut self.stats.packets_dropped,
-            Count::LinesDropped => &mut self.lines_dropped,
-            Count::LinesRefused => &mut self.lines_refused,
-        };
-        *count = count.wrapping_sub(growth.number);
+        let number = growth.number;
+        match growth.count {
+            Count::BytesSent => self.stats.bytes_sent = less(self.stats.bytes_sent, number),
+            Count::PacketsSent => self.stats.packets_sent = less(self.stats.packets_sent, number),
+            Count::BytesDropped => self.stats.bytes_dropped = less(
+                self.stats.bytes_dropped,
+                number,
+            ),
+            Count::PacketsDropped => self.stats.packets_dropped = less(
+                self.stats.packets_dropped,
+                number,
+            ),
+            Count::LinesDropped => self.lines_dropped = less(self.lines_dropped, number),
+            Count::LinesRefused => self.lines_refused = less(self.lines_refused, number),
+        }
     }
 }
 
@@ -99,7 +113,7 @@ fn push_growth<A: Allocator>(
     ensures { OnOk result (growths.new.items ≡
         growths.old.items ++ growth_if_any last.now now.now count) }
 {
-    let number = now.number(count).wrapping_sub(last.number(count));
+    let number = less(now.number(count), last.number(count));
     if number != 0 {
         growths.push(Growth { count, number })?;
     }
