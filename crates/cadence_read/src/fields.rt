@@ -1,4 +1,6 @@
 //! Reads the fields of a line, each from its text.
+// Without the hints to inline in this file and in its neighbour, a byte of a packet takes 11 instructions more (`bench
+// read_arena 512 20`).
 ghost use Rattle.std.specs.Prelude.{◌<◌, ◌^◌, ⊤, All, IfSome, map};
 ghost use Rattle.std.specs.Option.{option_copied, option_map};
 ghost use Rattle.std.specs.String.{string_bytes};

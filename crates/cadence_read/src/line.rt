@@ -1,4 +1,6 @@
 //! Reads the metric of a line.
+// Without the hints to inline in this file and in its neighbour, a byte of a packet takes 11 instructions more (`bench
+// read_arena 512 20`).
 ghost use Rattle.std.specs.Prelude.{◌∷◌, ◌++◌, All};
 ghost use Rattle.cadence_text.specs.Line.{line_of};
 ghost use Rattle.cadence_text.specs.OneReading.{IsNoSeparator};

@@ -1,6 +1,8 @@
 //! The settings of a client: the prefix, the default tags and the default container that it adds to each call, and the
 //! lines and drafts of calls with them. `record` makes records of calls in place of lines, and `strict` has the tests of
 //! strict settings.
+// Without the hints to inline in this file, and in the others between a builder and its line, a counter with three tags
+// takes 290 instructions more (`bench count_tags`).
 mod record;
 mod strict;
 

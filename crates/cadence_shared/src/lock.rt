@@ -32,7 +32,6 @@ pub(super) fn spin(turns: u32) {
 
 /// Takes a lock that each thread soon releases. If another thread has it, this call spins and tries again several
 /// times, and only then sleeps.
-#[inline(always)]
 pub fn acquire<'a, T>(lock: &'a Mutex<T>, rt: &impl Wait) -> MutexGuard<'a, T> {
     match lock.try_lock() {
         Some(guard) => guard,

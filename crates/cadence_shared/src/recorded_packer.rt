@@ -1,4 +1,6 @@
 //! A packer with a record of its past that only proofs read.
+// Without the hints to inline in this file, and in the others between a buffered sink and its buffer, a line takes 81
+// instructions more (`bench udp 512 20`).
 ghost use Rattle.std.specs.Prelude.{◌≡◌, ◌++◌};
 ghost use Rattle.std.specs.List.{concat};
 ghost use Rattle.cadence_flow.specs.Frame.{taken_stream};

@@ -1,4 +1,6 @@
 //! A writer with a record of its packets that only proofs read.
+// Without the hints to inline in this file and its like, a line alone in its packet takes 15 instructions more (`bench
+// udp 16 20`).
 ghost use Rattle.std.specs.Prelude.{◌≡◌, true};
 
 use super::ghost_texts::GhostTexts;

@@ -105,7 +105,6 @@ impl<T: Drop, A: Allocator + Clone> SharedQueue<T, A> {
     /// Adds the text that `make` makes at the end, as `submit_with` does, with two differences: the error is small, and
     /// `make` gets a text that the worker has handed on already, if there is one. It may make the new text in the
     /// memory of that one.
-    #[inline(always)]
     pub fn offer<F: FnOnce(Option<T>) -> Result<T, AllocError>>(
         &self,
         rt: &impl Wait,
@@ -129,7 +128,6 @@ impl<T: Drop, A: Allocator + Clone> SharedQueue<T, A> {
     // Returns the error for a caller if the queue under the lock said that it is full. A queue without a capacity never
     // says so. But a contract can't speak of the capacity under the lock, so this looks at the copy of it outside the
     // lock: that is how the contracts above can promise that an unbounded queue is never full.
-    #[inline(always)]
     fn fullness(&self) -> QueueError
         ensures refusal { IsQueueRefusal (error_of result) }
         ensures unbounded { bound_of self.now ≡ None → result ≢ Full }
@@ -222,7 +220,6 @@ impl<T: Drop, A: Allocator + Clone> SharedQueue<T, A> {
 
     // Looks at the queue several times, and lets other threads run in between. Moves its oldest texts into an empty
     // ring if it finds some. Returns whether the worker need not wait, as `look` does.
-    #[inline(always)]
     fn look_often(
         &self,
         texts: &mut TextRing<T, A>,
@@ -272,7 +269,6 @@ impl<T: Drop, A: Allocator + Clone> SharedQueue<T, A> {
 
 impl<T: Drop, A: Allocator> SharedQueue<T, A> {
     // Wakes the threads that wait for a text, if one came to an idle queue. While a queue isn't idle, no thread waits.
-    #[inline(always)]
     fn wake(&self, has_come: bool) {
         if has_come {
             self.changed.notify_all();

@@ -1,4 +1,6 @@
 //! Counts of what a socket sent and dropped, which threads share.
+// Without the hints to inline in this file and its like, a line alone in its packet takes 15 instructions more (`bench
+// udp 16 20`).
 ghost use Rattle.std.specs.Prelude.{◌≡◌};
 ghost use Rattle.cadence_errors.specs.Errors.{MayOnlyRunOutOfMemory};
 

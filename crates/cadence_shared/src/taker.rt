@@ -86,7 +86,6 @@ impl<'a, T: Drop, A: Allocator + Clone> Taker<'a, T, A> {
 
     /// Returns the oldest text that the taker has. If it has none, it first moves some out of the queue, and waits if
     /// the queue is empty and not stopped. `None` is the end: the queue is stopped and no text is left.
-    #[inline(always)]
     pub fn next(&mut self, rt: &impl Wait) -> Option<T>
         ensures text { IfSome result (λ text.
             (given_by self.new ≡ given_by self.old ++ text ∷ [])

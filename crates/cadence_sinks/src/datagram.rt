@@ -1,4 +1,6 @@
 //! What the sinks over UDP and over Unix sockets share: the counts of a socket, and a buffer with its lock over one.
+// Without the hints to inline in this file, and in the others between a buffered sink and its buffer, a line takes 81
+// instructions more (`bench udp 512 20`).
 ghost use Rattle.std.specs.Option.{ok_or};
 ghost use Rattle.std.specs.Prelude.{◌≡◌, [], Bool, IfOk};
 ghost use Rattle.cadence_errors.specs.Errors.{MayOnlyRunOutOfMemory};

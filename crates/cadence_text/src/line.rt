@@ -54,7 +54,6 @@ impl MetricType {
     ghost use Rattle.cadence_value.specs.Takes.{Takes};
 
     /// Returns the type text of the kind, which a line has after the numbers.
-    #[inline(always)]
     pub fn text(self) -> &'static str
         ensures { result.now ≡ kind_text self }
     {
@@ -71,7 +70,6 @@ impl MetricType {
 
     // Writes a bar and the type text. It does so byte by byte, because `take_piece` calls the C library to copy a text,
     // and that call takes some 30 instructions even for one or two bytes.
-    #[inline(always)]
     fn push_to<S: LineSink>(self, line: &mut S)
         ensures { Takes S.ends_as line.old (codes "|" ++ kind_text self) line.new }
     {
@@ -84,7 +82,6 @@ impl MetricType {
     }
 
     /// Returns the kind that has this type text, or `None` if no kind has it.
-    #[inline]
     pub fn from_text(text: &[u8]) -> Option<MetricType>
         ensures found { IfSome result (λ kind. kind_text kind ≡ text.now) }
         ensures none { IfNone result ((kind : MetricType) → kind_text kind ≡ text.now → ⊥) }

@@ -1,4 +1,6 @@
 //! A metric that is being built.
+// Without the hints to inline in this file, and in the others between a builder and its line, a counter with three tags
+// takes 290 instructions more (`bench count_tags`).
 ghost use Rattle.std.specs.Option.{option_copied};
 ghost use Rattle.std.specs.Prelude.{◌≡◌, IfErr, IsErr};
 ghost use Rattle.cadence_schedule.specs.DraftErrors.{IsSameError};

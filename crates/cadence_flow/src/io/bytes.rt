@@ -1,5 +1,7 @@
 //! What the packer does to its buffer. The held text begins at `start` in the buffer. The bytes before `start` have
 //! been written already, so a short count moves no bytes.
+// Without the hints to inline in this file and its like, a line alone in its packet takes 15 instructions more (`bench
+// udp 16 20`).
 ghost use Rattle.std.specs.Prelude.{◌≡◌, ◌+◌, ◌-◌, ◌<◌, ◌≤◌, ◌∷◌, ◌++◌, [], length, take, drop, true, is_ok, vec_len, vec_capacity, ◌↔◌, OnOk, OnErr, IfErr, IsTrue};
 ghost use Rattle.std.specs.Option.{ok_or};
 ghost use Rattle.cadence_flow.specs.Offers.{FlushesOffers, SendsOffers};

@@ -1,4 +1,6 @@
 //! The packer: a buffer of lines that wait to be written as one packet.
+// Without the hints to inline in this file, and in the others between a buffered sink and its buffer, a line takes 81
+// instructions more (`bench udp 512 20`).
 use super::PacketWriter;
 use super::bytes::{append, append_ending, make_room, move_to_front, send_held};
 use cadence_errors::SinkError;

@@ -96,7 +96,6 @@ impl<T: Drop, A: Allocator + Clone> QueueCore<T, A> {
     }
 
     // Adds a text at the end of a queue that isn't full, or gives it back if memory ran out.
-    #[inline(always)]
     fn put_last(&mut self, text: T) -> Result<(), T>
         requires { is_full self.old ≡ false }
         ensures pushed { OnOk result (self.new ≡ after_accept self.old text) }
@@ -178,7 +177,6 @@ impl<T: Drop, A: Allocator + Clone> QueueCore<T, A> {
     }
 
     /// Adds the text that `make` makes at the end, as `submit_with` does, but returns a small error.
-    #[inline(always)]
     pub fn offer<F: FnOnce() -> Result<T, AllocError>>(&mut self, make: F) -> Result<(), QueueError>
         requires { F.IsAlwaysCallable make }
         ensures accepted { OnOk result ((text : T) × (dropped : Option T)

@@ -66,7 +66,6 @@ impl<T: Drop, A: Allocator + Clone> TextRing<T, A> {
 
     /// Adds a text at the end. A ring with room left takes no memory. A full ring doubles its room first; if memory
     /// runs out, the text comes back, and the ring has not changed.
-    #[inline(always)]
     pub fn push_back(&mut self, text: T) -> Result<(), T>
         ensures pushed { OnOk result (self.new.items ≡ self.old.items ++ text ∷ []) }
         ensures same { IfErr result (λ back. (back ≡ text) × (self.new ≡ self.old)) }
@@ -123,7 +122,6 @@ impl<T: Drop, A: Allocator> TextRing<T, A> {
     }
 
     // Adds a text at the end, or gives it back if there is no room.
-    #[inline(always)]
     fn put(&mut self, text: T) -> Result<(), T>
         ensures pushed { OnOk result
             (self.new ≡ buffer (self.old.items ++ text ∷ []) self.old.capacity) }

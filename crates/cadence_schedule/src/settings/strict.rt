@@ -48,7 +48,6 @@ impl From<DraftError> for MetricError {
 }
 
 /// Returns whether a text has no colon, comma, bar or newline.
-#[inline]
 pub fn text_is_free(text: &str) -> bool
     ensures { result ≡ is_free_text text.now }
 {
@@ -56,7 +55,6 @@ pub fn text_is_free(text: &str) -> bool
 }
 
 // Returns whether a text has no separator, if there is a text.
-#[inline]
 fn any_is_free(text: Option<&str>) -> bool
     ensures { result ≡ is_free_if_any (option_copied text.entry) }
 {
@@ -67,7 +65,6 @@ fn any_is_free(text: Option<&str>) -> bool
 }
 
 /// Returns whether neither the key of a tag, if it has one, nor its text has a colon, comma, bar or newline.
-#[inline]
 pub fn tag_is_free(key: Option<&str>, text: &str) -> bool
     ensures { result ≡ is_free_tag (record { key = option_copied key.entry; text = text.now }) }
 {
@@ -127,7 +124,6 @@ impl<A: Allocator + Clone> ClientSettings<A> {
     }
 
     /// Returns whether the settings are strict.
-    #[inline]
     pub fn is_strict(&self) -> bool
         ensures strict { result ≡ self.now.strict }
         ensures free { IsTrue result → IsTrue (is_free_settings self.now) }
@@ -146,7 +142,6 @@ impl<A: Allocator + Clone> ClientSettings<A> {
     }
 
     // Returns whether the settings allow a text.
-    #[inline(always)]
     pub(super) fn allows_text(&self, text: &str) -> bool
         ensures { result ≡ allows_text self.now text.now }
     {
@@ -154,7 +149,6 @@ impl<A: Allocator + Clone> ClientSettings<A> {
     }
 
     // Returns whether the settings allow a tag.
-    #[inline(always)]
     pub(super) fn allows_tag(&self, key: Option<&str>, text: &str) -> bool
         ensures { result ≡ allows_tag self.now
             (record { key = option_copied key.entry; text = text.now }) }

@@ -1,4 +1,6 @@
 //! A sink that packs lines into UDP datagrams, and its builder.
+// Without the hints to inline in this file, and in the others between a buffered sink and its buffer, a line takes 81
+// instructions more (`bench udp 512 20`).
 ghost use Rattle.std.specs.Prelude.{◌≡◌, IfOk, IfErr, Some, None, unwrap_or};
 ghost use Rattle.cadence_resolve.specs.Refusals.{IsSocketRefusal, IsTargetRefusal};
 ghost use Rattle.cadence_sinks.specs.Buffers.{udp_buffer};

@@ -2,6 +2,8 @@
 //!
 //! Every line that the library makes is made by a draft: the line of a plain call, of a builder, of a call in a
 //! schedule, of a C call and of the words of a command line.
+// Without the hints to inline in this file and in the client, a counter takes 158 instructions more (the mode `count`
+// of `bench`).
 ghost use Rattle.std.specs.Prelude.{◌≡◌, ◌+◌, ◌++◌, ◌<◌, ◌≤◌, [], IfOk, OnErr, OnOk, length};
 ghost use Rattle.std.specs.Prelude.{◌^◌, IfSome, IsUtf8, drop, take, string_bytes};
 ghost use Rattle.std.specs.Option.{option_copied};

@@ -18,21 +18,18 @@ pub(crate) struct LengthCounter {
 }
 
 impl LengthCounter {
-    #[inline(always)]
     pub(crate) fn new() -> LengthCounter
         ensures { result.length ≡ 0 }
     {
         LengthCounter { length: 0 }
     }
 
-    #[inline(always)]
     pub(crate) fn length(&self) -> u128
         ensures { result ≡ self.now.length }
     {
         self.length
     }
 
-    #[inline(always)]
     fn add(&mut self, count: usize)
         ensures { self.new.length ≡ (self.old.length + count) % 2 ^ 128 }
     {
@@ -45,17 +42,14 @@ impl LineSink for LengthCounter {
 
     ghost ends_as = { counter_ends };
 
-    #[inline(always)]
     fn take_piece(&mut self, piece: &str) {
         self.add(piece.len());
     }
 
-    #[inline(always)]
     fn take_byte(&mut self, _byte: u8) {
         self.add(1);
     }
 
-    #[inline]
     fn take_number(&mut self, number: u64) {
         self.add(number_len(number));
     }
@@ -79,7 +73,6 @@ impl<A: Allocator> LineBuf<A> {
     ghost use Rattle.cadence_text.specs.Sink.{rotated_text};
 
     /// Returns an empty buffer of `length` bytes. It takes memory once, and only that much.
-    #[inline]
     pub(crate) fn with_room(alloc: A, length: usize) -> Result<LineBuf<A>, AllocError>
         ensures empty { IfOk result (λ f. f.bytes.items ≡ []) }
         ensures end { IfOk result (λ f. f.end ≡ length) }
@@ -91,7 +84,6 @@ impl<A: Allocator> LineBuf<A> {
 
     /// Empties a buffer of the caller's, and returns it with room for `length` bytes. It takes memory only if the
     /// buffer is too short, and then only that much.
-    #[inline]
     pub(crate) fn in_buffer(buffer: Vec<u8, A>, length: usize) -> Result<LineBuf<A>, AllocError>
         ensures empty { IfOk result (λ f. f.bytes.items ≡ []) }
         ensures end { IfOk result (λ f. f.end ≡ length) }
@@ -113,7 +105,6 @@ impl<A: Allocator> LineBuf<A> {
     }
 
     /// Makes room for `more` bytes after the text, and ends the room there. The buffer grows by doubling.
-    #[inline(always)]
     pub(crate) fn reserve(&mut self, more: usize) -> Result<(), AllocError>
         ensures text { self.new.bytes.items ≡ self.old.bytes.items }
         ensures end { OnOk result (self.new.end ≡ length self.old.bytes.items + more) }
@@ -136,7 +127,6 @@ impl<A: Allocator> LineBuf<A> {
         Ok(())
     }
 
-    #[inline]
     pub(crate) fn len(&self) -> usize
         ensures { result ≡ length self.now.bytes.items }
     {
@@ -153,29 +143,25 @@ impl<A: Allocator> LineBuf<A> {
         self.bytes[start..].rotate_left(count);
     }
 
-    #[inline]
     pub(crate) fn as_text(&self) -> &str
         ensures { result.now ≡ self.now.bytes.items }
     {
         unsafe { std::str::from_utf8_unchecked(self.bytes.as_slice()) }
     }
 
-    #[inline]
     pub(crate) fn into_bytes(self) -> Vec<u8, A>
         ensures { result.items ≡ self.bytes.items }
     {
         self.bytes
     }
 
-    #[inline]
     pub(crate) fn into_text(self) -> String<A>
         ensures { string_bytes result ≡ self.bytes.items }
     {
         unsafe { String::from_utf8_unchecked(self.bytes) }
     }
 
-    // Empties the buffer. The function is inline, so that the buffer's address and length stay in registers.
-    #[inline(always)]
+    // Empties the buffer.
     fn give_up(&mut self)
         ensures bytes { self.new.bytes.items ≡ [] }
         ensures end { self.new.end ≡ 0 }
@@ -190,7 +176,6 @@ impl<A: Allocator> ByteSink for LineBuf<A> {
 
     ghost ends_as = { line_buf_ends };
 
-    #[inline(always)]
     fn put_byte(&mut self, byte: u8) {
         if self.bytes.len() >= self.bytes.capacity() {
             return self.give_up();
@@ -204,7 +189,6 @@ impl<A: Allocator> LineSink for LineBuf<A> {
 
     ghost ends_as = { line_buf_ends };
 
-    #[inline]
     fn take_piece(&mut self, piece: &str) {
         // A piece that passes the capacity passes the end too. Because of this test the compiler leaves out the growth.
         if piece.len() > self.bytes.capacity() - self.bytes.len() {
@@ -215,12 +199,10 @@ impl<A: Allocator> LineSink for LineBuf<A> {
         };
     }
 
-    #[inline(always)]
     fn take_byte(&mut self, byte: u8) {
         self.put_byte(byte);
     }
 
-    #[inline]
     fn take_number(&mut self, number: u64) {
         push_digits(self, number);
     }

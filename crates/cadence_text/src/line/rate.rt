@@ -35,7 +35,6 @@ impl Model for Rate {
 }
 
 impl Rate {
-    #[inline(always)]
     pub(crate) fn of(rate: Decimal) -> Rate
         ensures rate { result ≡ rate }
         ensures whole { IsDecimal rate }
@@ -48,14 +47,12 @@ impl Rate {
         }
     }
 
-    #[inline]
     fn mantissa(&self) -> i128
         ensures { result ≡ self.now.mantissa }
     {
         (u128::from(self.high) * TWO_64 + u128::from(self.low)).cast_signed()
     }
 
-    #[inline]
     fn places(&self) -> u8
         ensures value { result ≡ self.now.places }
         ensures whole { IsDecimal self.now }
@@ -65,7 +62,6 @@ impl Rate {
 }
 
 /// Writes the field of a stored rate, or nothing if there is none.
-#[inline]
 pub(crate) fn push_kept_rate<S: LineSink>(line: &mut S, rate: &Option<Rate>)
     ensures taken { Takes S.ends_as line.old (rate_field rate.now) line.new }
     ensures sized { IfSome rate.now IsDecimal }

@@ -76,7 +76,6 @@ impl<'a, A: Allocator> Record<'a, A> {
     }
 
     /// Returns a record with tags and a container, without a rate and a time. It takes no memory.
-    #[inline]
     pub fn with_defaults(
         prefix: &'a str,
         key: &'a str,
@@ -104,7 +103,6 @@ impl<'a, A: Allocator> Record<'a, A> {
 
     /// Adds a tag after the tags that the record has. After an error, which says that memory ran out, the record is
     /// unchanged.
-    #[inline]
     pub fn add_tag(&mut self, tag: Tag<'a>) -> Result<(), AllocError>
         ensures ok { OnOk result (self.new ≡ with_tag self.old (tag_of tag.entry)) }
         ensures err { OnErr result (self.new ≡ self.old) }
@@ -134,7 +132,6 @@ impl<'a, A: Allocator> Record<'a, A> {
         self.time = Some(time);
     }
 
-    #[inline]
     #[tactic(auto, using(std::proofs::lemmas::Grind::common_steps), unfolding(crate::specs::Line::line_of))]
     fn push_line<S: LineSink>(&self, line: &mut S)
         ensures taken { Takes S.ends_as line.old (line_of self.now) line.new }
@@ -148,7 +145,6 @@ impl<'a, A: Allocator> Record<'a, A> {
 
     /// Returns the length of the line in bytes, without making the line. It returns `None` only if the length passes
     /// `usize::MAX`. It takes no memory.
-    #[inline(always)]
     pub fn line_len(&self) -> Option<usize>
         ensures { SomeIff result (length (line_of self.now) < 2 ^ 64) (length (line_of self.now)) }
     {
@@ -156,7 +152,6 @@ impl<'a, A: Allocator> Record<'a, A> {
     }
 
     // Returns the length of the line in bytes. The line of every record is shorter than 2 to the 128.
-    #[inline(always)]
     fn counted(&self) -> u128
         ensures { result ≡ length (line_of self.now) }
     {
@@ -166,7 +161,6 @@ impl<'a, A: Allocator> Record<'a, A> {
     }
 
     // Returns a buffer of exactly the length of the line.
-    #[inline(always)]
     fn reserved<B: Allocator>(&self, alloc: B) -> Result<LineBuf<B>, AllocError>
         ensures empty { IfOk result (λ f. f.bytes.items ≡ []) }
         ensures end { IfOk result (λ f. f.end ≡ length (line_of self.now)) }

@@ -21,7 +21,6 @@ pub struct Tag<'a> {
 pub type OwnedTag<A = Global> = (Option<String<A>>, String<A>);
 
 /// Returns the tag that borrows the texts of an owned tag.
-#[inline]
 pub fn lend_tag<A: Allocator>(tag: &OwnedTag<A>) -> Tag<'_>
     ensures { tag_of result ≡ tag_of_owned tag.now }
 {

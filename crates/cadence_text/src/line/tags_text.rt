@@ -1,4 +1,6 @@
 //! The tags of a line as text, and how one more tag is written.
+// Without the hints to inline in this file, and in the others between a builder and its line, a counter with three tags
+// takes 290 instructions more (`bench count_tags`).
 ghost use Rattle.std.specs.Prelude.{◌≡◌, ◌+◌, ◌++◌, ◌≤◌, [], IfSome, IsUtf8, OnErr, OnOk, length};
 ghost use Rattle.cadence_text.specs.Draft.{lead, tags_text_with};
 ghost use Rattle.cadence_text.specs.Line.{tag_text};

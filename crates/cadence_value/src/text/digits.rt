@@ -6,7 +6,6 @@ ghost use Rattle.cadence_value.specs.Takes.{Takes};
 use crate::text::sink::ByteSink;
 
 // Writes one digit.
-#[inline(always)]
 fn push_digit<S: ByteSink>(line: &mut S, digit: u64)
     requires { digit < 10 }
     ensures { Takes S.ends_as line.old ((48 + digit) ∷ []) line.new }
@@ -15,7 +14,6 @@ fn push_digit<S: ByteSink>(line: &mut S, digit: u64)
 }
 
 // Writes two digits, also if the first one is 0.
-#[inline(always)]
 fn push_pair<S: ByteSink>(line: &mut S, pair: u64)
     requires { pair < 100 }
     ensures { Takes S.ends_as line.old ((48 + pair / 10) ∷ (48 + pair % 10) ∷ []) line.new }
@@ -25,7 +23,6 @@ fn push_pair<S: ByteSink>(line: &mut S, pair: u64)
 }
 
 // Writes the one or two digits of a number below 100.
-#[inline(always)]
 fn push_first<S: ByteSink>(line: &mut S, number: u64)
     requires { number < 100 }
     ensures { Takes S.ends_as line.old (decimal_text number) line.new }
@@ -37,7 +34,6 @@ fn push_first<S: ByteSink>(line: &mut S, number: u64)
 }
 
 // Writes the one to four digits of a number below 10,000.
-#[inline(always)]
 fn push_short<S: ByteSink>(line: &mut S, number: u64)
     requires { number < 10000 }
     ensures { Takes S.ends_as line.old (decimal_text number) line.new }
@@ -63,7 +59,6 @@ fn push_long<S: ByteSink>(line: &mut S, number: u64)
 }
 
 /// Writes the digits of a number, without leading zeros.
-#[inline]
 pub fn push_digits<S: ByteSink>(line: &mut S, number: u64)
     ensures { Takes S.ends_as line.old (decimal_text number) line.new }
 {
@@ -85,7 +80,6 @@ pub fn push_wide_digits<S: ByteSink>(line: &mut S, number: u128)
 }
 
 /// Returns how many digits a number has. 0 has one digit.
-#[inline]
 pub fn number_len(number: u64) -> usize
     ensures { result ≡ length (decimal_text number) }
 {
@@ -98,7 +92,6 @@ pub fn number_len(number: u64) -> usize
 }
 
 // Returns how many digits a number below 10,000 has.
-#[inline(always)]
 fn short_len(number: u64) -> usize
     requires { number < 10000 }
     ensures { result ≡ length (decimal_text number) }

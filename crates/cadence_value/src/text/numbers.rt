@@ -25,7 +25,6 @@ impl PushNumber for i64 {
 
     ghost number = { whole };
 
-    #[inline]
     #[tactic(auto, using(crate::proofs::WholeNumberText::whole_text))]
     fn push_to<S: LineSink>(&self, line: &mut S) {
         if *self < 0 {
@@ -40,7 +39,6 @@ impl PushNumber for u64 {
 
     ghost number = { natural };
 
-    #[inline]
     #[tactic(auto, using(crate::proofs::WholeNumberText::whole_text))]
     fn push_to<S: LineSink>(&self, line: &mut S) {
         line.take_number(*self);
@@ -135,7 +133,6 @@ fn push_list<S: LineSink, T: PushNumber>(line: &mut S, numbers: &[T])
 }
 
 /// Writes the numbers of a value, with a colon between each two. An empty list writes nothing.
-#[inline]
 pub fn push_value<S: LineSink, A: Allocator>(line: &mut S, value: &MetricValue<A>)
     ensures taken { Takes S.ends_as line.old (numbers_text (numbers_of value.now)) line.new }
     ensures sized { AreNumbersInMemory (numbers_of value.now) }

@@ -27,7 +27,6 @@ pub trait ToDistributionValue<A: Allocator> {
 impl<A: Allocator> ToDistributionValue<A> for u64 {
     ghost numbers = { λ n. Some (natural n ∷ []) };
 
-    #[inline]
     fn try_to_value(self) -> MetricResult<MetricValue<A>>
         ensures in_place { ConvertsInPlace (Some (natural self ∷ [])) result }
     {
@@ -38,7 +37,6 @@ impl<A: Allocator> ToDistributionValue<A> for u64 {
 impl<A: Allocator> ToDistributionValue<A> for Vec<u64, A> {
     ghost numbers = { λ v. Some (map natural v.items) };
 
-    #[inline]
     fn try_to_value(self) -> MetricResult<MetricValue<A>>
         ensures in_place { ConvertsInPlace (Some (map natural self.items)) result }
     {
@@ -49,7 +47,6 @@ impl<A: Allocator> ToDistributionValue<A> for Vec<u64, A> {
 impl<A: Allocator> ToDistributionValue<A> for Decimal {
     ghost numbers = { λ d. Some (d ∷ []) };
 
-    #[inline]
     fn try_to_value(self) -> MetricResult<MetricValue<A>>
         ensures in_place { ConvertsInPlace (Some (self ∷ [])) result }
     {
@@ -60,7 +57,6 @@ impl<A: Allocator> ToDistributionValue<A> for Decimal {
 impl<A: Allocator> ToDistributionValue<A> for Vec<Decimal, A> {
     ghost numbers = { λ v. Some v.items };
 
-    #[inline]
     fn try_to_value(self) -> MetricResult<MetricValue<A>>
         ensures in_place { ConvertsInPlace (Some self.items) result }
     {

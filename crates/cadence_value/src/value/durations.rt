@@ -16,7 +16,6 @@ pub(crate) enum TimeUnit {
 }
 
 impl TimeUnit {
-    #[inline]
     fn count(self, duration: Duration) -> u128
         ensures { result ≡ count_in self duration }
     {
@@ -35,7 +34,6 @@ fn overflow() -> MetricError
 }
 
 // Returns one duration as a value in this unit, or an `InvalidInput` error if it does not fit 64 bits.
-#[inline]
 pub(crate) fn number_in<A: Allocator>(
     unit: TimeUnit,
     duration: Duration,

@@ -29,7 +29,6 @@ pub trait ToHistogramValue<A: Allocator> {
 impl<A: Allocator> ToHistogramValue<A> for u64 {
     ghost numbers = { λ n. Some (natural n ∷ []) };
 
-    #[inline]
     fn try_to_value(self) -> MetricResult<MetricValue<A>>
         ensures in_place { ConvertsInPlace (Some (natural self ∷ [])) result }
     {
@@ -40,7 +39,6 @@ impl<A: Allocator> ToHistogramValue<A> for u64 {
 impl<A: Allocator> ToHistogramValue<A> for Vec<u64, A> {
     ghost numbers = { λ v. Some (map natural v.items) };
 
-    #[inline]
     fn try_to_value(self) -> MetricResult<MetricValue<A>>
         ensures in_place { ConvertsInPlace (Some (map natural self.items)) result }
     {
@@ -51,7 +49,6 @@ impl<A: Allocator> ToHistogramValue<A> for Vec<u64, A> {
 impl<A: Allocator> ToHistogramValue<A> for Decimal {
     ghost numbers = { λ d. Some (d ∷ []) };
 
-    #[inline]
     fn try_to_value(self) -> MetricResult<MetricValue<A>>
         ensures in_place { ConvertsInPlace (Some (self ∷ [])) result }
     {
@@ -62,7 +59,6 @@ impl<A: Allocator> ToHistogramValue<A> for Decimal {
 impl<A: Allocator> ToHistogramValue<A> for Vec<Decimal, A> {
     ghost numbers = { λ v. Some v.items };
 
-    #[inline]
     fn try_to_value(self) -> MetricResult<MetricValue<A>>
         ensures in_place { ConvertsInPlace (Some self.items) result }
     {
@@ -76,7 +72,6 @@ impl<A: Allocator> ToHistogramValue<A> for Vec<Decimal, A> {
 impl<A: Allocator> ToHistogramValue<A> for Duration {
     ghost numbers = { λ d. numbers_in_u64 (nanos_of d ∷ []) };
 
-    #[inline]
     fn try_to_value(self) -> MetricResult<MetricValue<A>>
         ensures in_place { ConvertsInPlace (numbers_in_u64 (nanos_of self ∷ [])) result }
     {

@@ -40,7 +40,6 @@ pub trait WholeNumber {
 impl<A: Allocator, T: WholeNumber> ToCounterValue<A> for T {
     ghost numbers = { λ n. Some (T.number n ∷ []) };
 
-    #[inline]
     fn try_to_value(self) -> MetricResult<MetricValue<A>>
         ensures in_place { ConvertsInPlace (Some (T.number self ∷ [])) result }
     {
@@ -51,7 +50,6 @@ impl<A: Allocator, T: WholeNumber> ToCounterValue<A> for T {
 impl WholeNumber for i64 {
     ghost number = { whole };
 
-    #[inline]
     fn to_value<A: Allocator>(self) -> MetricValue<A> {
         MetricValue::Signed(self)
     }
@@ -60,7 +58,6 @@ impl WholeNumber for i64 {
 impl WholeNumber for i32 {
     ghost number = { whole };
 
-    #[inline]
     fn to_value<A: Allocator>(self) -> MetricValue<A> {
         MetricValue::Signed(i64::from(self))
     }
@@ -69,7 +66,6 @@ impl WholeNumber for i32 {
 impl WholeNumber for u64 {
     ghost number = { natural };
 
-    #[inline]
     fn to_value<A: Allocator>(self) -> MetricValue<A> {
         MetricValue::Unsigned(self)
     }
@@ -78,7 +74,6 @@ impl WholeNumber for u64 {
 impl WholeNumber for u32 {
     ghost number = { natural };
 
-    #[inline]
     fn to_value<A: Allocator>(self) -> MetricValue<A> {
         MetricValue::Unsigned(u64::from(self))
     }
@@ -103,7 +98,6 @@ pub trait ToGaugeValue<A: Allocator> {
 impl<A: Allocator> ToGaugeValue<A> for u64 {
     ghost numbers = { λ n. Some (natural n ∷ []) };
 
-    #[inline]
     fn try_to_value(self) -> MetricResult<MetricValue<A>>
         ensures in_place { ConvertsInPlace (Some (natural self ∷ [])) result }
     {
@@ -114,7 +108,6 @@ impl<A: Allocator> ToGaugeValue<A> for u64 {
 impl<A: Allocator> ToGaugeValue<A> for Decimal {
     ghost numbers = { λ d. Some (d ∷ []) };
 
-    #[inline]
     fn try_to_value(self) -> MetricResult<MetricValue<A>>
         ensures in_place { ConvertsInPlace (Some (self ∷ [])) result }
     {
@@ -141,7 +134,6 @@ pub trait ToMeterValue<A: Allocator> {
 impl<A: Allocator> ToMeterValue<A> for u64 {
     ghost numbers = { λ n. Some (natural n ∷ []) };
 
-    #[inline]
     fn try_to_value(self) -> MetricResult<MetricValue<A>>
         ensures in_place { ConvertsInPlace (Some (natural self ∷ [])) result }
     {
@@ -168,7 +160,6 @@ pub trait ToSetValue<A: Allocator> {
 impl<A: Allocator> ToSetValue<A> for i64 {
     ghost numbers = { λ n. Some (whole n ∷ []) };
 
-    #[inline]
     fn try_to_value(self) -> MetricResult<MetricValue<A>>
         ensures in_place { ConvertsInPlace (Some (whole self ∷ [])) result }
     {

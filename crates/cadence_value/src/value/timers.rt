@@ -28,7 +28,6 @@ pub trait ToTimerValue<A: Allocator> {
 impl<A: Allocator> ToTimerValue<A> for u64 {
     ghost numbers = { λ n. Some (natural n ∷ []) };
 
-    #[inline]
     fn try_to_value(self) -> MetricResult<MetricValue<A>>
         ensures in_place { ConvertsInPlace (Some (natural self ∷ [])) result }
     {
@@ -39,7 +38,6 @@ impl<A: Allocator> ToTimerValue<A> for u64 {
 impl<A: Allocator> ToTimerValue<A> for Vec<u64, A> {
     ghost numbers = { λ v. Some (map natural v.items) };
 
-    #[inline]
     fn try_to_value(self) -> MetricResult<MetricValue<A>>
         ensures in_place { ConvertsInPlace (Some (map natural self.items)) result }
     {
@@ -53,7 +51,6 @@ impl<A: Allocator> ToTimerValue<A> for Vec<u64, A> {
 impl<A: Allocator> ToTimerValue<A> for Duration {
     ghost numbers = { λ d. numbers_in_u64 (millis_of d ∷ []) };
 
-    #[inline]
     fn try_to_value(self) -> MetricResult<MetricValue<A>>
         ensures in_place { ConvertsInPlace (numbers_in_u64 (millis_of self ∷ [])) result }
     {
