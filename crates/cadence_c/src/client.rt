@@ -77,7 +77,7 @@ impl Model for Client {
 }
 
 impl Client {
-    ghost use Rattle.std.specs.Prelude.{[], ◌∷◌, take, Some, ◌≡◌, ◌⊎◌, ◌<◌, ◌≤◌, ◌+◌, IfOk, OnOk, OnErr, IsTrue, IsFalse, ◌↔◌, length, option_copied};
+    ghost use Rattle.std.specs.Prelude.{[], ◌∷◌, take, Some, ◌≡◌, ◌⊎◌, ◌<◌, ◌≤◌, ◌+◌, IfOk, OnOk, OnErr, IsTrue, IsFalse, ◌↔◌, length};
     ghost use Rattle.cadence_text.specs.Record.{tag_of as record_tag};
     ghost use Rattle.cadence_value.specs.Values.{numbers_of};
     ghost use Rattle.cadence_c.specs.Calls.{IsUtf8Options, IsInvalidCall, IsUtf8Call, IsUtf8IfKnown, allows_call_of_c, line_of_call};

@@ -28,8 +28,8 @@ ghost use Rattle.cadence_value.specs.Number.{natural, whole};
 ghost use Rattle.cadence_value.specs.Values.{numbers_of};
 ghost use Rattle.cadence_c.specs.Handle.{client_of, IsOpenAnd, OnOpen};
 ghost use Rattle.cadence_c.specs.Results.{Keeps, UnchangedUnlessOk};
-ghost use Rattle.cadence_c.specs.Calls.{AreValidDecimals, AreNumbersOf, IsInvalidCall, IsUtf8Call, IsUtf8IfKnown, IsUtf8Tag, c_tag, durations_of};
-ghost use Rattle.cadence_c.specs.State.{allows_prefix, policy_named, strict_named, AddsDefaultTag, AllowsCall, AllowsTag, AllowsText, AreCountsOf, DropsOldest, Flushes, ForbidsCall, ForbidsTag, ForbidsText, HasNoPacket, IsNew, IsOldest, IsOldestLength, KeepsCall, KeepsLine, LacksRoomForCall, LacksRoomForHeld, LacksRoomForLine, SetsDefaultContainer};
+ghost use Rattle.cadence_c.specs.Calls.{AreValidDecimals, AreNumbersOf, IsUtf8IfKnown, IsUtf8Tag, c_tag, durations_of};
+ghost use Rattle.cadence_c.specs.State.{allows_prefix, policy_named, strict_named, AddsDefaultTag, AllowsTag, AllowsText, AreCountsOf, DropsOldest, Flushes, ForbidsTag, ForbidsText, HasNoPacket, IsNew, IsOldest, IsOldestLength, KeepsLine, LacksRoomForHeld, LacksRoomForLine, SetsDefaultContainer};
 ghost use Rattle.cadence_c.specs.Status.{CADENCE_FULL, CADENCE_INVALID, CADENCE_NOT_UTF8, CADENCE_NO_CLIENT, CADENCE_NO_MEMORY, CADENCE_NO_PACKET, CADENCE_OK, CADENCE_SEPARATOR, CADENCE_TOO_SMALL, IsOkOr};
 
 use cadence_flow::queue::QueuePolicy;
