@@ -142,17 +142,29 @@ pub fn is_right_report(
     if report == report_of(alloc, script, MemoryError::Never)?.as_str() {
         return Ok(true);
     }
-    if !was_refused || !report.contains("out of memory") {
+    if !was_refused {
         return Ok(false);
     }
-    // a run has fewer steps and fewer writes than its report has bytes: each step has a line there, and each write has
-    // its packet's line or is the refusal that ends a step
-    for index in 0..report.len() {
-        if report == report_of(alloc, script, MemoryError::AtCall(index))?.as_str()
-            || report == report_of(alloc, script, MemoryError::AtWrite(index))?.as_str()
-        {
-            return Ok(true);
+    is_right_without_memory(alloc, script, report)
+}
+
+// Returns whether a report is the script's if memory runs out at the first place at which the report says so. Each step has
+// one line of the report, in order. A step writes two packets at most.
+fn is_right_without_memory(alloc: Global, script: &str, report: &str) -> Result<bool, AllocError> {
+    for (step, line) in report.lines().enumerate() {
+        if !line.ends_with("err out of memory") {
+            continue;
         }
+        if line.starts_with("call ") {
+            let wanted = report_of(alloc, script, MemoryError::AtCall(step))?;
+            return Ok(report == wanted.as_str());
+        }
+        for index in 0..step.saturating_add(1).saturating_mul(2) {
+            if report == report_of(alloc, script, MemoryError::AtWrite(index))?.as_str() {
+                return Ok(true);
+            }
+        }
+        return Ok(false);
     }
     Ok(false)
 }
