@@ -1,3 +1,3 @@
 pub mod Address
-pub mod Paths
 pub mod Refusals
+pub mod Shown
