@@ -20,7 +20,7 @@ impl PacketWriter for CountingWriter {
 
     ghost kind = { λ _. record {
       may_give = λ _. false;
-      tells = false;
+      reports = false;
       takes_whole = true;
       start = record { bytes_sent = 0; packets_sent = 0; bytes_dropped = 0; packets_dropped = 0 };
     } };

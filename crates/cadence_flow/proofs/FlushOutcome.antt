@@ -29,22 +29,22 @@ module _ (kind : WriterKind) (old new : PacketHistory) (held : List ℕ) (sent :
       ∙ ap (λ (l : List ℕ). concat old.packets ++ l) (take-append-drop sent held)
 
   -- The cause of an error says which bytes the writer took.
-  cause_text : (e : SinkError) → HasCause kind old new (take sent held) (drop sent held) e → kind.tells ≡ true
+  cause_text : (e : SinkError) → HasCause kind old new (take sent held) (drop sent held) e → kind.reports ≡ true
       → concat new.packets ≡ concat old.packets ++ take sent held
   cause_text e (inl refused) t = Sends-joined old new (take sent held) (refused.sent t)
   cause_text e (inr nothing) t =
       SendsThen-joined old new (take sent held) [] (nothing.sent t) ∙ ap (λ (l : List ℕ). concat old.packets ++ l) (append-nil (take sent held))
 
   -- The cause of an error says that the writer's packets only grew.
-  cause_extends : (e : SinkError) → HasCause kind old new (take sent held) (drop sent held) e → kind.tells ≡ true → Extends old new
+  cause_extends : (e : SinkError) → HasCause kind old new (take sent held) (drop sent held) e → kind.reports ≡ true → Extends old new
   cause_extends e (inl refused) t = Sends-Extends old new (take sent held) (refused.sent t)
   cause_extends e (inr nothing) t = SendsThen-Extends old new (take sent held) [] (nothing.sent t)
 
   -- A flush does what `Flushes` says, for each of the two results of sending the held text.
   pub Flushes-sent : {A : Type 0} (r : Result A SinkError) → 0 < length held → OnOk r (sent ≡ length held) → OnErr r (sent < length held)
-      → OnOk r (RefusedNothing old new) → (kind.tells ≡ true → OnOk r (Sends old new held))
+      → OnOk r (RefusedNothing old new) → (kind.reports ≡ true → OnOk r (Sends old new held))
       → IfErr r (HasCause kind old new (take sent held) (drop sent held))
-      → (kind.tells ≡ true → kind.takes_whole ≡ true → 0 < length held → OnOk r (new.packets ≡ old.packets ++ held ∷ []))
+      → (kind.reports ≡ true → kind.takes_whole ≡ true → 0 < length held → OnOk r (new.packets ≡ old.packets ++ held ∷ []))
       → (kind.takes_whole ≡ true → OnErr r ((sent ≡ 0) × (new.packets ≡ old.packets))) → Flushes kind before after r
   Flushes-sent (Ok u) some all left kept sends cause one none =
       record {

@@ -11,9 +11,9 @@ pub record SentSoFar (kind : WriterKind) (old now : PacketHistory) (xs : List �
   pub bound : sent ≤ length xs
   pub untouched : sent ≡ 0 → now ≡ old
   pub none_refused : RefusedNothing old now
-  pub sends : kind.tells ≡ true → Sends old now (take sent xs)
+  pub sends : kind.reports ≡ true → Sends old now (take sent xs)
   pub whole : kind.takes_whole ≡ true → 0 < sent → sent ≡ length xs
-  pub one : kind.tells ≡ true → kind.takes_whole ≡ true → 0 < sent → now.packets ≡ old.packets ++ xs ∷ []
+  pub one : kind.reports ≡ true → kind.takes_whole ≡ true → 0 < sent → now.packets ≡ old.packets ++ xs ∷ []
 
 -- The slice of the text after its first `sent` bytes is the rest of it.
 pub rest_is : (xs : List ℕ) (sent : ℕ) → take (length xs - sent) (drop sent xs) ≡ drop sent xs
@@ -54,7 +54,7 @@ some_taken (suc n) (x ∷ xs) p q = omega arith
 module _ (kind : WriterKind) (old mid new : PacketHistory) (xs : List ℕ) (sent n : ℕ) where
   -- What is true of the first `sent` bytes stays true after one more packet of the text was taken, in part or whole.
   pub SentSoFar-more : SentSoFar kind old mid xs sent → sent < length xs → 0 < n → n ≤ length (drop sent xs)
-      → (kind.takes_whole ≡ true → n ≡ length (drop sent xs)) → (kind.tells ≡ true → new ≡ after_packet mid (take n (drop sent xs)))
+      → (kind.takes_whole ≡ true → n ≡ length (drop sent xs)) → (kind.reports ≡ true → new ≡ after_packet mid (take n (drop sent xs)))
       → RefusedNothing mid new → SentSoFar kind old new xs (sent + n)
   SentSoFar-more before more some count whole taken kept =
       let rest = length-drop sent xs in

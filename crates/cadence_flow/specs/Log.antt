@@ -42,13 +42,13 @@ has_no_short (Refuse ∷ rest) = has_no_short rest
 abbrev pub log_history : LogState → PacketHistory
 log_history l = history_of l.packets l.refusals
 
--- the kind of a log, seen as a writer: it tells its packets, and takes each packet whole if its script has no short
+-- the kind of a log, seen as a writer: it reports its packets, and takes each packet whole if its script has no short
 -- answer
 abbrev pub log_kind : LogState → WriterKind
 log_kind l =
     record {
       may_give = log_may_give;
-      tells = true;
+      reports = true;
       takes_whole = has_no_short l.script;
       start = zero_sums;
     }

@@ -8,7 +8,7 @@ use Rattle.std.proofs.Common.{refl}
 use Rattle.cadence_errors.specs.declared.SinkError.{SinkError}
 use Rattle.cadence_errors.specs.declared.SinkError.TheVariants.{NothingWritten}
 use Rattle.cadence_flow.specs.Frame.{Format, WhenHeldGoesFirst, WhenItFits, WhenNotOversize, WhenOversize, size_of, frame_of, held_packet}
-use Rattle.cadence_flow.specs.Writer.{PacketHistory, WriterKind, WhenItTells, WhenItTakesWhole}
+use Rattle.cadence_flow.specs.Writer.{PacketHistory, WriterKind, WhenItReports, WhenItTakesWhole}
 use Rattle.cadence_flow.specs.Writer.{RefusedNothing, RefusedOne, Extends, Sends, SendsThen}
 
 -- a packer: its writer, the held text, which waits to be written, and the format of a packet
@@ -85,14 +85,14 @@ IsEndOf held rest = rest ≡ drop (length held - length rest) held
 pub record IsRefused (kind : WriterKind) (old new : PacketHistory) (before offered : List ℕ) (e : SinkError) : Type 0 where
   pub may_give : kind.may_give e ≡ true
   pub once : RefusedOne old new (length offered)
-  pub sent : WhenItTells kind (Sends old new before)
+  pub sent : WhenItReports kind (Sends old new before)
 
 -- The writer took some of the held text, and then 0 bytes of the rest.
 pub record IsNotWritten (kind : WriterKind) (old new : PacketHistory) (before : List ℕ) (e : SinkError) : Type 0 where
   pub error : e ≡ NothingWritten
   pub none_refused : RefusedNothing old new
   pub not_whole : kind.takes_whole ≡ false
-  pub sent : WhenItTells kind (SendsThen old new before [])
+  pub sent : WhenItReports kind (SendsThen old new before [])
 
 -- Why a call failed: the writer refused the offered text, or it took 0 bytes of held text.
 abbrev pub HasCause : WriterKind → PacketHistory → PacketHistory → List ℕ → List ℕ → SinkError → Type 0
@@ -109,11 +109,11 @@ pub record Flushes {A : Type 0} (kind : WriterKind) (old new : PackerState) (res
   pub none_refused : OnOk result (RefusedNothing old.history new.history)
   pub cause : IfErr result (HasCause kind old.history new.history (taken_of old.held new.held) new.held)
   -- no byte is lost, added or moved, and no packet is empty
-  pub text : WhenItTells kind (whole_text new ≡ whole_text old)
-  pub extends : WhenItTells kind (Extends old.history new.history)
-  pub sent : WhenItTells kind (OnOk result (Sends old.history new.history old.held))
+  pub text : WhenItReports kind (whole_text new ≡ whole_text old)
+  pub extends : WhenItReports kind (Extends old.history new.history)
+  pub sent : WhenItReports kind (OnOk result (Sends old.history new.history old.held))
   -- a writer that takes whole gets the held text as one packet, or refuses it, and then nothing has changed
-  pub one_packet : WhenItTells kind (WhenItTakesWhole kind
+  pub one_packet : WhenItReports kind (WhenItTakesWhole kind
       (OnOk result (new.history.packets ≡ old.history.packets ++ held_packet old.held)))
   pub unchanged : WhenItTakesWhole kind
       (OnErr result ((new.held ≡ old.held) × (new.history.packets ≡ old.history.packets)))
@@ -133,16 +133,16 @@ pub record HoldsBehind (format : Format) (old new : PackerState) (line : List �
 -- The held text is sent, and then the line is held with its ending. A writer that takes whole gets one packet.
 pub record SendsHeld (kind : WriterKind) (format : Format) (old new : PackerState) (line : List ℕ) : Type 0 where
   pub held : new.held ≡ line ++ format.ending
-  pub sent : WhenItTells kind (Sends old.history new.history old.held)
-  pub one_packet : WhenItTells kind (WhenItTakesWhole kind
+  pub sent : WhenItReports kind (Sends old.history new.history old.held)
+  pub one_packet : WhenItReports kind (WhenItTakesWhole kind
       (new.history.packets ≡ old.history.packets ++ held_packet old.held))
 
 -- The held text is sent, and then the line alone, of which the writer takes the first n bytes. Nothing is held. A writer
 -- that takes whole gets the held text as one packet, and the line as another.
 pub record SendsAlone (kind : WriterKind) (old new : PackerState) (line : List ℕ) (n : ℕ) : Type 0 where
   pub held : new.held ≡ []
-  pub sent : WhenItTells kind (SendsThen old.history new.history old.held (take n line))
-  pub two_packets : WhenItTells kind (WhenItTakesWhole kind
+  pub sent : WhenItReports kind (SendsThen old.history new.history old.held (take n line))
+  pub two_packets : WhenItReports kind (WhenItTakesWhole kind
       (new.history.packets ≡ (old.history.packets ++ held_packet old.held) ++ line ∷ []))
 
 -- The write failed, and nothing of the line is held. An end of the held text is left; only an oversize line is refused
@@ -151,9 +151,9 @@ pub record FailsToWrite (kind : WriterKind) (format : Format) (old new : PackerS
   pub keeps_end : IsEndOf old.held new.held
   pub keeps_some : WhenNotOversize format line (0 < length new.held)
   pub cause : HasCause kind old.history new.history (taken_of old.held new.held) (rest_or new.held line) e
-  pub sent : WhenItTells kind (WhenItTakesWhole kind
+  pub sent : WhenItReports kind (WhenItTakesWhole kind
       (new.held ≡ [] → new.history.packets ≡ old.history.packets ++ held_packet old.held))
-  pub refused : WhenItTells kind (WhenItTakesWhole kind
+  pub refused : WhenItReports kind (WhenItTakesWhole kind
       (0 < length new.held → (new.held ≡ old.held) × (new.history.packets ≡ old.history.packets)))
 
 -- What writing a line does, by the state of the packer before and after it. A line that fits is held. If it doesn't fit,
@@ -169,8 +169,8 @@ pub record Writes (kind : WriterKind) (format : Format) (old new : PackerState) 
   -- after `Ok` nothing was refused
   pub none_refused : OnOk result (RefusedNothing old.history new.history)
   -- the text grows by the line's frame, as far as it was accepted, or by nothing after an error
-  pub text : WhenItTells kind (whole_text new ≡ whole_text old ++ given_by format line result)
-  pub extends : WhenItTells kind (Extends old.history new.history)
+  pub text : WhenItReports kind (whole_text new ≡ whole_text old ++ given_by format line result)
+  pub extends : WhenItReports kind (Extends old.history new.history)
 
 -- Making a packer returns one that holds nothing, or gives the writer back.
 pub record MakesPacker {W : Type 0} (writer : W) (capacity : ℕ) (ending : List ℕ) (result : Result (Packer W) W) : Type 0 where

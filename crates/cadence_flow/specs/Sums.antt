@@ -46,4 +46,4 @@ start_if false sums h = zero_sums
 -- the kind of a counting writer: that of the writer below it, which has this history, with the sums that it began with
 abbrev pub counted_kind : WriterKind → PacketHistory → SinkStats → WriterKind
 counted_kind kind h sums =
-    record { may_give = kind.may_give; tells = kind.tells; takes_whole = kind.takes_whole; start = start_if kind.tells sums h }
+    record { may_give = kind.may_give; reports = kind.reports; takes_whole = kind.takes_whole; start = start_if kind.reports sums h }

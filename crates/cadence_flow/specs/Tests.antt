@@ -9,4 +9,4 @@ no_history = record { packets = []; refusals = 0; refused_bytes = 0 }
 
 -- the kind of such a writer
 abbrev pub silent_kind : WriterKind
-silent_kind = record { may_give = λ _. false; tells = false; takes_whole = true; start = zero_sums }
+silent_kind = record { may_give = λ _. false; reports = false; takes_whole = true; start = zero_sums }

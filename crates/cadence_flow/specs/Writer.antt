@@ -13,17 +13,17 @@ pub record PacketHistory : Type 0 where
   pub refusals : ℕ
   pub refused_bytes : ℕ
 
--- the kind of a writer, which no call changes: the errors that it may return; whether it tells its packets, so that its
+-- the kind of a writer, which no call changes: the errors that it may return; whether it reports its packets, so that its
 -- history has them; whether it takes each packet whole or refuses it; and the sums that a counting writer began with
 pub record WriterKind : Type 0 where
   pub may_give : SinkError → Bool
-  pub tells : Bool
+  pub reports : Bool
   pub takes_whole : Bool
   pub start : SinkStats
 
--- If the writer tells its packets, then P.
-abbrev pub WhenItTells : WriterKind → Type 0 → Type 0
-WhenItTells kind P = kind.tells ≡ true → P
+-- If the writer reports its packets, then P.
+abbrev pub WhenItReports : WriterKind → Type 0 → Type 0
+WhenItReports kind P = kind.reports ≡ true → P
 
 -- If the writer takes each packet whole or refuses it, then P.
 abbrev pub WhenItTakesWhole : WriterKind → Type 0 → Type 0
@@ -77,8 +77,8 @@ pub record WritesPacket (kind : WriterKind) (old new : PacketHistory) (packet : 
   -- the count is how many of the packet's first bytes were taken; a writer that takes whole takes all of them
   pub count : IfOk result (λ n. n ≤ length packet)
   pub whole : WhenItTakesWhole kind (IfOk result (λ n. n ≡ length packet))
-  -- the history of a writer that tells has one more packet: these bytes
-  pub taken : WhenItTells kind (IfOk result (λ n. new ≡ after_packet old (take n packet)))
+  -- the history of a writer that reports has one more packet: these bytes
+  pub taken : WhenItReports kind (IfOk result (λ n. new ≡ after_packet old (take n packet)))
   pub kept : OnOk result (RefusedNothing old new)
   -- an error is one that the writer may return, and counts as one refusal of the whole packet
   pub may_give : IfErr result (λ e. kind.may_give e ≡ true)

@@ -16,4 +16,4 @@ IsQueueFlush answer = MatchResult answer (λ _. Unit {0}) IsQueueRefusal
 -- a queue as a writer of packets: it has the errors of a queue, takes each packet whole, and contracts don't see its
 -- packets
 abbrev pub queue_kind : WriterKind
-queue_kind = record { may_give = is_queue_refusal; tells = false; takes_whole = true; start = zero_sums }
+queue_kind = record { may_give = is_queue_refusal; reports = false; takes_whole = true; start = zero_sums }

@@ -64,9 +64,9 @@ pub record AreSumsBetween (before after : PacketHistory) (sums : SinkStats) : Ty
   pub bytes_dropped : (before.refused_bytes + sums.bytes_dropped) % 2 ^ 64 ≡ after.refused_bytes % 2 ^ 64
   pub packets_dropped : (before.refusals + sums.packets_dropped) % 2 ^ 64 ≡ after.refusals % 2 ^ 64
 
--- The writer tells its packets, and it takes each packet whole or refuses it.
-abbrev pub TellsWhole : WriterKind → Type 0
-TellsWhole kind = (kind.tells ≡ true) × (kind.takes_whole ≡ true)
+-- The writer reports its packets, and it takes each packet whole or refuses it.
+abbrev pub ReportsWhole : WriterKind → Type 0
+ReportsWhole kind = (kind.reports ≡ true) × (kind.takes_whole ≡ true)
 
 module _ {W A : Type 0} (history : W → PacketHistory) (given : Given A) (outcome : Outcome W A) where
   -- the steps, each with its reply
@@ -81,7 +81,7 @@ module _ {W A : Type 0} (history : W → PacketHistory) (given : Given A) (outco
   abbrev pub packets_of : List (List ℕ)
   packets_of = packets_between given.before after_of
 
-  -- the kept lines: those that were handed on and answered Ok
+  -- the kept lines: those that were handed on with the result Ok
   abbrev pub kept_of : List (List ℕ)
   kept_of = kept (line_by given) turns_of
 
@@ -89,7 +89,7 @@ module _ {W A : Type 0} (history : W → PacketHistory) (given : Given A) (outco
   abbrev pub sizes_of : List ℕ
   sizes_of = map (size_of given.format) kept_of
 
-  -- the marks: how many lines were kept before each flush that was answered Ok
+  -- the marks: how many lines were kept before each flush that returned Ok
   abbrev pub marks_of : List ℕ
   marks_of = marks (line_by given) turns_of
 
@@ -110,53 +110,55 @@ module _ {W A : Type 0} (history : W → PacketHistory) (given : Given A) (outco
     pub tight : IsTight given.format.capacity marks_of sizes_of outcome.cut
     pub fewest : IsFewest given.format.capacity marks_of sizes_of outcome.cut
 
-  -- The headline: after any list of metric calls, worker steps, flushes and stops, packets then held text are, in
-  -- acceptance order, the grammar's lines of the accepted calls handed on and taken, each with its ending, oversize
-  -- ones alone without; none is split, a refusal has its stated cause and leaves no byte, and where the writer refused
-  -- nothing, no cut that ends at every flush has fewer packets.
+  -- The headline speaks of any list of metric calls, worker steps, flushes and stops. The packets and then the held
+  -- text are the lines of those accepted calls that were handed on and kept, in the order of acceptance. Each line has
+  -- its ending, except that an oversize line is alone in its packet and has none. No line is split. Each refusal has
+  -- its stated cause and leaves no byte. If the writer refused nothing, no cut that ends at every flush has fewer
+  -- packets.
   pub record HasHeadline : Type 0 where
-    -- Over a writer that tells its packets and takes each whole or refuses it: the packets of the run, joined, and then
-    -- the held text are byte for byte the frames of the kept lines, in order. A kept line is that of an accepted call
-    -- whose hand was answered Ok; its frame is the line and the ending, or the line alone if that passes the capacity.
-    pub stream : TellsWhole given.kind → concat packets_of ++ outcome.held ≡ stream given.format kept_of
+    -- Over a writer that reports its packets and takes each whole or refuses it: the packets of the run, joined, and
+    -- then the held text are byte for byte the frames of the kept lines, in order. A kept line is that of an accepted
+    -- call whose hand returned Ok. Its frame is the line and the ending, or the line alone if that passes the capacity.
+    pub stream : ReportsWhole given.kind → concat packets_of ++ outcome.held ≡ stream given.format kept_of
     -- Over such a writer: packets and held text are those of the report's cut of the kept lines, whole frames in each,
-    -- none beyond the capacity but an oversize line alone, and a packet ends at each flush that was answered Ok.
-    pub cut : TellsWhole given.kind
+    -- none beyond the capacity but an oversize line alone, and a packet ends at each flush that returned Ok.
+    pub cut : ReportsWhole given.kind
         → ArePacketsOf given.format marks_of (refusals (line_by given) turns_of) kept_of outcome.cut packets_of outcome.held
     -- Over every writer: each reply is one that the steps and replies before it allow, what waits are the accepted
     -- lines after the first ones, which were taken or dropped, the queue's counts are the numbers accepted, taken and
     -- dropped, and the line in hand is the one that was taken and not handed on.
     pub replies : HasReplies
-    -- Over a writer that takes each packet whole or refuses it: as many hands and flushes were answered by an error as
-    -- the writer refused packets in the run, modulo 2 to the 64.
+    -- Over a writer that takes each packet whole or refuses it: as many hands and flushes returned an error as the
+    -- writer refused packets in the run, modulo 2 to the 64.
     pub errors : given.kind.takes_whole ≡ true → after_of.refusals % 2 ^ 64 ≡ (given.before.refusals + error_count turns_of) % 2 ^ 64
-    -- Over a writer that tells its packets and takes each whole, if it refused nothing in the run: no cut of the
+    -- Over a writer that reports its packets and takes each whole, if it refused nothing in the run: no cut of the
     -- kept lines that ends at every flush has fewer packets, the held text counted as one if it is not empty.
-    pub fewest : TellsWhole given.kind → after_of.refusals ≡ given.before.refusals → HasFewest
+    pub fewest : ReportsWhole given.kind → after_of.refusals ≡ given.before.refusals → HasFewest
 
   -- What is promised beside the headline, of refusals, short counts, sums, earlier packets, and what a listener reads.
   pub record IsAccounted : Type 0 where
-    -- Over a writer that tells its packets and takes each whole or refuses it, refusals included: no group could have
-    -- had one line more, except where a flush or a refused line came after it.
-    pub late : TellsWhole given.kind
+    -- Over a writer that reports its packets and takes each whole or refuses it, refusals included: no group could have
+    -- had one line more, except one that a flush or a refused line came after.
+    pub late : ReportsWhole given.kind
         → IsCutLate given.format.capacity (marks_of ++ refusals (line_by given) turns_of) (groups_of outcome.cut sizes_of)
-    -- Over a writer that tells its packets, short counts included: the packets of the run, joined, and then the held
-    -- text are the frames of the kept lines, in order; of an oversize line that was answered Ok(n), its first n bytes.
-    -- Over a writer that takes each packet whole, n is the length of the line, and this is `stream` of the headline.
-    pub taken : given.kind.tells ≡ true → concat packets_of ++ outcome.held ≡ taken_stream given.format (kept_counts (line_by given) turns_of)
+    -- Over a writer that reports its packets, short counts included: the packets of the run, joined, and then the held
+    -- text are the frames of the kept lines, in order; of an oversize line whose hand returned Ok(n), its first n
+    -- bytes. Over a writer that takes each packet whole, n is the length of the line, and this is `stream` of the
+    -- headline.
+    pub taken : given.kind.reports ≡ true → concat packets_of ++ outcome.held ≡ taken_stream given.format (kept_counts (line_by given) turns_of)
     -- The sums of the report are those of what the writer took and refused in the run.
-    pub stats : given.kind.tells ≡ true → AreSumsBetween given.before after_of outcome.stats
+    pub stats : given.kind.reports ≡ true → AreSumsBetween given.before after_of outcome.stats
     -- The packets that the writer had taken before the run come first in its history.
-    pub earlier : given.kind.tells ≡ true → Extends given.before after_of
+    pub earlier : given.kind.reports ≡ true → Extends given.before after_of
     -- The kept metrics have texts in UTF-8, numbers that a `Decimal` holds, and times of 64 bits.
     pub said : All IsRepresentable (kept given.metric_of turns_of)
     -- With the newline as ending, and kept metrics that are free of separators: a listener reads the kept metrics, and
     -- no others.
-    pub one_reading : TellsWhole given.kind → given.format.ending ≡ codes "\n" → All IsFreeOfSeparators (kept given.metric_of turns_of)
+    pub one_reading : ReportsWhole given.kind → given.format.ending ≡ codes "\n" → All IsFreeOfSeparators (kept given.metric_of turns_of)
         → ReadsAs (kept given.metric_of turns_of) packets_of outcome.held
     -- With strict settings, the kept metrics are free of separators, whatever texts the calls have.
     pub strict_free : given.strict ≡ true → All IsFreeOfSeparators (kept given.metric_of turns_of)
     -- With the newline as ending and strict settings, a listener reads the kept metrics, and no others, whatever texts
     -- the calls have.
-    pub strict_reading : TellsWhole given.kind → given.format.ending ≡ codes "\n" → given.strict ≡ true
+    pub strict_reading : ReportsWhole given.kind → given.format.ending ≡ codes "\n" → given.strict ≡ true
         → ReadsAs (kept given.metric_of turns_of) packets_of outcome.held

@@ -130,7 +130,7 @@ fn run_steps<P: PacketWriter, A: Allocator + Clone>(
 ///    ends at each flush that returned `Ok`.
 /// 3. Each reply is the one that the steps before it call for, and the queue, its counts and the line in hand are what
 ///    these steps leave; so each refusal has one of its stated causes and leaves nothing behind.
-/// 4. As many hands and flushes were answered with an error as the writer refused packets, modulo 2 to the 64.
+/// 4. As many hands and flushes returned an error as the writer refused packets, modulo 2 to the 64.
 /// 5. If the writer refused no packet, no way to pack the same lines that ends a packet at each flush has fewer
 ///    packets.
 ///
@@ -138,7 +138,7 @@ fn run_steps<P: PacketWriter, A: Allocator + Clone>(
 /// lines and no others, whatever texts the calls have.
 ///
 /// Number 3 holds for every writer, number 4 for one that takes each packet whole or refuses it, and the others for one
-/// that does so and tells which packets it took. The Rust crate has no such function.
+/// that does so and reports its packets to contracts. The Rust crate has no such function.
 ///
 /// # Errors
 /// The writer is returned if memory for the lists of the run or for the buffer of the packer runs out. No step was made

@@ -53,16 +53,16 @@ lines_more d texts more lines others (given, zip, are) (given', zip', are') = (
 module _ {W : Type 0} (kind : W → WriterKind) (history : W → PacketHistory) where
   -- A packer that takes lines and then more lines takes all of them.
   pub takes_none : (p : Packer W) → TakesLines kind history p p []
-  takes_none p = record { same_kind = refl; same_format = refl; text = λ tells whole. sym (append-nil (whole_text (state_of history p))) }
+  takes_none p = record { same_kind = refl; same_format = refl; text = λ reports whole. sym (append-nil (whole_text (state_of history p))) }
 
   pub takes_more : (p q r : Packer W) (lines others : List (List ℕ)) → TakesLines kind history p q lines
       → TakesLines kind history q r others → TakesLines kind history p r (lines ++ others)
   takes_more p q r lines others h k = record {
     same_kind = k.same_kind ∙ h.same_kind;
     same_format = k.same_format ∙ h.same_format;
-    text = λ tells whole.
-        k.text (ap (λ (x : WriterKind). x.tells) h.same_kind ∙ tells) (ap (λ (x : WriterKind). x.takes_whole) h.same_kind ∙ whole)
-        ∙ ap₂ (λ t f. t ++ stream f others) (h.text tells whole) h.same_format
+    text = λ reports whole.
+        k.text (ap (λ (x : WriterKind). x.reports) h.same_kind ∙ reports) (ap (λ (x : WriterKind). x.takes_whole) h.same_kind ∙ whole)
+        ∙ ap₂ (λ t f. t ++ stream f others) (h.text reports whole) h.same_format
         ∙ append_assoc (whole_text (state_of history p)) (stream p.format lines) (stream p.format others)
         ∙ ap (λ s. whole_text (state_of history p) ++ s) (sym (flat_map-append (frame p.format) lines others));
   }
@@ -80,9 +80,9 @@ module _ {W : Type 0} (kind : W → WriterKind) (history : W → PacketHistory) 
   write_takes p q line n r e h = record {
     same_kind = h.same_kind;
     same_format = h.same_format;
-    text = λ tells whole.
+    text = λ reports whole.
         let count : n ≡ length line = subst (λ a. IfOk a (λ m. m ≡ length line)) e (h.writes.count.takes_whole whole) in
-        h.writes.text tells ∙ ap (λ a. whole_text (state_of history p) ++ given_by p.format line a) e
+        h.writes.text reports ∙ ap (λ a. whole_text (state_of history p) ++ given_by p.format line a) e
         ∙ ap (λ t. whole_text (state_of history p) ++ t) (frame_whole p.format line n count ∙ sym (append-nil (frame p.format line)));
   }
 
@@ -91,7 +91,7 @@ module _ {W : Type 0} (kind : W → WriterKind) (history : W → PacketHistory) 
   flush_takes p q r h = record {
     same_kind = h.same_kind;
     same_format = h.same_format;
-    text = λ tells whole. h.flushes.text tells ∙ sym (append-nil (whole_text (state_of history p)));
+    text = λ reports whole. h.flushes.text reports ∙ sym (append-nil (whole_text (state_of history p)));
   }
 
   module _ {Z : Type 0} (d : Defaults Z) where

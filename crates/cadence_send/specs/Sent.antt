@@ -43,12 +43,12 @@ texts_of input = slice_split (λ b. b == 10) input
 abbrev pub AreLinesOf : {Z : Type 0} → Defaults Z → List (List ℕ) → List (List ℕ) → Type 0
 AreLinesOf d texts lines = (given : List (Option (List ℕ))) × AllZip (Gives d) texts given × (lines ≡ filter_map (λ o. o) given)
 
--- The packer took these lines. If its writer tells its packets and takes each of them whole, then the packets and the
+-- The packer took these lines. If its writer reports its packets and takes each of them whole, then the packets and the
 -- held text, joined, grew by the stream of the lines.
 pub record TakesLines {W : Type 0} (kind : W → WriterKind) (history : W → PacketHistory) (old new : Packer W) (lines : List (List ℕ)) : Type 0 where
   pub same_kind : kind new.writer ≡ kind old.writer
   pub same_format : new.format ≡ old.format
-  pub text : (kind old.writer).tells ≡ true → (kind old.writer).takes_whole ≡ true
+  pub text : (kind old.writer).reports ≡ true → (kind old.writer).takes_whole ≡ true
       → whole_text (state_of history new) ≡ whole_text (state_of history old) ++ stream old.format lines
 
 -- The packer took the lines of the texts that ask for a metric.

@@ -13,4 +13,4 @@ is_packet_error _ = false
 
 -- the kind of a writer that doesn't tell its packets
 abbrev pub packet_writer_kind : WriterKind
-packet_writer_kind = record { may_give = is_packet_error; tells = false; takes_whole = false; start = zero_sums }
+packet_writer_kind = record { may_give = is_packet_error; reports = false; takes_whole = false; start = zero_sums }

@@ -22,6 +22,6 @@ module _ {W : Type 0} where
   recorded_history history t =
       record { packets = packets_of t; refusals = (history (writer_of t)).refusals; refused_bytes = (history (writer_of t)).refused_bytes }
 
-  -- the kind of a recorded writer: that of the writer below it, except that it always tells its packets
+  -- the kind of a recorded writer: that of the writer below it, except that it always reports its packets
   abbrev pub recorded_kind : (W → WriterKind) → RecordedWriter W → WriterKind
-  recorded_kind kind t = record (kind (writer_of t)) { tells = true }
+  recorded_kind kind t = record (kind (writer_of t)) { reports = true }

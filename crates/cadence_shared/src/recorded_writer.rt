@@ -50,7 +50,7 @@ impl<W: PacketWriter> PacketWriter for RecordedWriter<W> {
             packet.now result }
         ensures offers { IsOffered (Some (offers_of self.old)) (Some (offers_of self.new))
             packet.now result }
-        ensures ties { (W.kind (writer_of self.old)).tells ≡ true →
+        ensures ties { (W.kind (writer_of self.old)).reports ≡ true →
             packets_of self.old ≡ (W.history (writer_of self.old)).packets →
             packets_of self.new ≡ (W.history (writer_of self.new)).packets }
     {
@@ -66,7 +66,7 @@ impl<W: PacketWriter> PacketWriter for RecordedWriter<W> {
             packet.now (ok_or result fault.new) }
         ensures offers { IsOffered (Some (offers_of self.old)) (Some (offers_of self.new))
             packet.now (ok_or result fault.new) }
-        ensures ties { (W.kind (writer_of self.old)).tells ≡ true →
+        ensures ties { (W.kind (writer_of self.old)).reports ≡ true →
             packets_of self.old ≡ (W.history (writer_of self.old)).packets →
             packets_of self.new ≡ (W.history (writer_of self.new)).packets }
     {

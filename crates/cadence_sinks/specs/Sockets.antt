@@ -33,4 +33,4 @@ IsBufferedFlush may_give answer = IfErr answer (IsBufferedError may_give)
 -- a socket as a writer of packets: it has these errors, contracts don't see its packets, and it may take only the first
 -- bytes of a packet
 abbrev pub socket_kind : (SinkError → Bool) → WriterKind
-socket_kind may_give = record { may_give = may_give; tells = false; takes_whole = false; start = zero_sums }
+socket_kind may_give = record { may_give = may_give; reports = false; takes_whole = false; start = zero_sums }

@@ -125,12 +125,12 @@ pub(super) fn send<T: PacketWriter>(
     ensures unchanged { length bytes.now ≡ 0 → T.history to.new ≡ T.history to.old }
     ensures ok { OnOk (ok_or result.1 fault.new)
         (RefusedNothing (T.history to.old) (T.history to.new)) }
-    ensures sent { (T.kind to.old).tells ≡ true →
+    ensures sent { (T.kind to.old).reports ≡ true →
         OnOk (ok_or result.1 fault.new) (Sends (T.history to.old) (T.history to.new) bytes.now) }
     ensures cause { IfErr (ok_or result.1 fault.new)
         (HasCause (T.kind to.old) (T.history to.old) (T.history to.new)
         (take result.0 bytes.now) (drop result.0 bytes.now)) }
-    ensures one_packet { (T.kind to.old).tells ≡ true → (T.kind to.old).takes_whole ≡ true →
+    ensures one_packet { (T.kind to.old).reports ≡ true → (T.kind to.old).takes_whole ≡ true →
         0 < length bytes.now → OnOk (ok_or result.1 fault.new)
         ((T.history to.new).packets ≡ (T.history to.old).packets ++ bytes.now ∷ []) }
     ensures no_packet { (T.kind to.old).takes_whole ≡ true →

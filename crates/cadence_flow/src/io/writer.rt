@@ -18,7 +18,7 @@ pub trait PacketWriter: Drop {
     /// The packets that the writer took, and the number and total length of those that it refused.
     ghost history: { Self → PacketHistory };
 
-    /// What no call changes: the errors that the writer may return; whether it tells its packets, that is, whether
+    /// What no call changes: the errors that the writer may return; whether it reports its packets, that is, whether
     /// `history` has them; whether it takes each packet whole or refuses it; and the sums that a counting writer began
     /// with.
     ghost kind: { Self → WriterKind };

@@ -95,7 +95,7 @@ impl<S: MetricSink, R: Wait + Clock + Drop, A: Allocator + Clone> Worklist
 
     ghost ended = { λ w. has_ended w.lines.taker };
 
-    ghost tells = { λ _. true };
+    ghost promises = { λ _. true };
 
     fn next(&mut self) -> Option<String<A>> {
         if self.timer.owes_flush && self.lines.taker.is_empty() {

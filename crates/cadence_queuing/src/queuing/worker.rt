@@ -90,7 +90,7 @@ impl<'a, S: MetricSink, R: Wait + Drop, A: Allocator + Clone> Worklist
 
     ghost ended = { λ w. has_ended w.taker };
 
-    ghost tells = { λ _. true };
+    ghost promises = { λ _. true };
 
     fn next(&mut self) -> Option<String<A>> {
         self.taker.next(self.rt)

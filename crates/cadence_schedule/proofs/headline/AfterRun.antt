@@ -30,9 +30,9 @@ module _ {A : Type 0} (line_of : Call A → Option (List ℕ)) (filled : (call :
   after_none = record {
     replies = tt;
     line = queue_none line_of queue start;
-    text = λ tells. record { extends = ([], sym (append-nil start.packets)); text = refl };
+    text = λ reports. record { extends = ([], sym (append-nil start.packets)); text = refl };
     refusals = λ whole. ap (λ n. n % 2 ^ 64) (zero_more start.refusals);
-    cut = λ tells whole. record { packets = []; groups = []; since = sym (append-nil start.packets); plan_is = refl; cut = no_lines format };
+    cut = λ reports whole. record { packets = []; groups = []; since = sym (append-nil start.packets); plan_is = refl; cut = no_lines format };
   }
     where
       zero_more : (n : ℕ) → n ≡ n + 0

@@ -53,9 +53,9 @@ module _ {A : Type 0} (line_of : Call A → Option (List ℕ)) (filled : (call :
   pub record After (h : List (Turn A)) (s : State) : Type 0 where
     pub replies : MayReplyAfter line_of kind.may_give kind.takes_whole format queue policy [] h
     pub line : QueueAfter line_of queue h s
-    pub text : kind.tells ≡ true → TextAfter h s.history s.held
+    pub text : kind.reports ≡ true → TextAfter h s.history s.held
     pub refusals : kind.takes_whole ≡ true → s.history.refusals % 2 ^ 64 ≡ (start.refusals + error_count h) % 2 ^ 64
-    pub cut : kind.tells ≡ true → kind.takes_whole ≡ true → CutAfter h s.cut s.history s.held
+    pub cut : kind.reports ≡ true → kind.takes_whole ≡ true → CutAfter h s.cut s.history s.held
 
   errors_same : (h : List (Turn A)) (t : Turn A) → is_error t ≡ false → error_count (h ++ t ∷ []) ≡ error_count h
   errors_same h t isnt = error_count-push h t ∙ ap (λ v. error_count h + cond v 1 0) isnt ∙ omega arith
@@ -121,14 +121,14 @@ module _ {A : Type 0} (line_of : Call A → Option (List ℕ)) (filled : (call :
         replies = replies-push line_of kind.may_give kind.takes_whole format queue policy h t a.replies reply;
         line = line;
         text =
-            λ tells. subst (λ w. TextAfter (h ++ t ∷ []) w s'.held) (sym history)
-            (subst (λ x. TextAfter (h ++ t ∷ []) s.history x) (sym held) (text_still h t s.history s.held same (a.text tells)));
+            λ reports. subst (λ w. TextAfter (h ++ t ∷ []) w s'.held) (sym history)
+            (subst (λ x. TextAfter (h ++ t ∷ []) s.history x) (sym held) (text_still h t s.history s.held same (a.text reports)));
         refusals = λ whole. ap (λ w. w.refusals % 2 ^ 64) history ∙ a.refusals whole
             ∙ ap (λ n. (start.refusals + n) % 2 ^ 64) (sym (errors_same h t isnt));
         cut =
-            λ tells whole. subst (λ p. CutAfter (h ++ t ∷ []) p s'.history s'.held) (sym plan)
+            λ reports whole. subst (λ p. CutAfter (h ++ t ∷ []) p s'.history s'.held) (sym plan)
             (subst (λ w. CutAfter (h ++ t ∷ []) s.cut w s'.held) (sym history) (subst (λ x. CutAfter (h ++ t ∷ []) s.cut s.history x) (sym held)
-            (cut_still h t s.cut s.history s.held same m r (a.cut tells whole))));
+            (cut_still h t s.cut s.history s.held same m r (a.cut reports whole))));
       }
 
   -- What holds is kept by a turn that changes nothing.
@@ -157,31 +157,31 @@ module _ {A : Type 0} (line_of : Call A → Option (List ℕ)) (filled : (call :
       )
 
   text_written : (h : List (Turn A)) (line held rest : List ℕ) (n : ℕ) (old new : PacketHistory)
-      → kept_counts line_of (h ++ (step.Hand, reply.Handed (Ok n)) ∷ []) ≡ kept_counts line_of h ++ (line, n) ∷ [] → kind.tells ≡ true
+      → kept_counts line_of (h ++ (step.Hand, reply.Handed (Ok n)) ∷ []) ≡ kept_counts line_of h ++ (line, n) ∷ [] → kind.reports ≡ true
       → Writes kind format (packer old held) (packer new rest) line (Ok n) → TextAfter h old held → TextAfter (h ++ (step.Hand, reply.Handed (Ok n)) ∷ []) new rest
-  text_written h line held rest n old new more tells w a = record {
-    extends = Extends-trans start old new a.extends (w.extends tells);
-    text = w.text tells ∙ ap (λ t. t ++ frame_of format line n) a.text
+  text_written h line held rest n old new more reports w a = record {
+    extends = Extends-trans start old new a.extends (w.extends reports);
+    text = w.text reports ∙ ap (λ t. t ++ frame_of format line n) a.text
         ∙ append_assoc (concat start.packets) (taken_stream format (kept_counts line_of h)) (frame_of format line n)
         ∙ ap (λ t. concat start.packets ++ t) (sym (ap (taken_stream format) more
         ∙ flat_map-append (λ (k : List ℕ × ℕ). frame_of format k.0 k.1) (kept_counts line_of h) ((line, n) ∷ [])
         ∙ ap (λ t. taken_stream format (kept_counts line_of h) ++ t) (append-nil (frame_of format line n))));
   }
 
-  text_refused : (h : List (Turn A)) (line held rest : List ℕ) (e : SinkError) (old new : PacketHistory) → kind.tells ≡ true
+  text_refused : (h : List (Turn A)) (line held rest : List ℕ) (e : SinkError) (old new : PacketHistory) → kind.reports ≡ true
       → Writes kind format (packer old held) (packer new rest) line (Err e) → TextAfter h old held → TextAfter (h ++ (step.Hand, reply.Handed (Err e)) ∷ []) new rest
-  text_refused h line held rest e old new tells w a = record {
-    extends = Extends-trans start old new a.extends (w.extends tells);
-    text = w.text tells ∙ append-nil (whole_text (packer old held)) ∙ a.text
+  text_refused h line held rest e old new reports w a = record {
+    extends = Extends-trans start old new a.extends (w.extends reports);
+    text = w.text reports ∙ append-nil (whole_text (packer old held)) ∙ a.text
         ∙ ap (λ k. concat start.packets ++ taken_stream format k) (sym (counts_refused line_of h e));
   }
 
-  text_flushed : (h : List (Turn A)) (result : Result Unit SinkError) (held rest : List ℕ) (old new : PacketHistory) → kind.tells ≡ true
+  text_flushed : (h : List (Turn A)) (result : Result Unit SinkError) (held rest : List ℕ) (old new : PacketHistory) → kind.reports ≡ true
       → kept_counts line_of (h ++ (step.Flush, reply.Flushed result) ∷ []) ≡ kept_counts line_of h
       → Flushes kind (packer old held) (packer new rest) result → TextAfter h old held → TextAfter (h ++ (step.Flush, reply.Flushed result) ∷ []) new rest
-  text_flushed h result held rest old new tells same f a = record {
-    extends = Extends-trans start old new a.extends (f.extends tells);
-    text = f.text tells ∙ a.text ∙ ap (λ k. concat start.packets ++ taken_stream format k) (sym same);
+  text_flushed h result held rest old new reports same f a = record {
+    extends = Extends-trans start old new a.extends (f.extends reports);
+    text = f.text reports ∙ a.text ∙ ap (λ k. concat start.packets ++ taken_stream format k) (sym same);
   }
 
   -- What holds is kept by a hand that returned Ok.
@@ -200,13 +200,13 @@ module _ {A : Type 0} (line_of : Call A → Option (List ℕ)) (filled : (call :
             queue_hand line_of queue h (step.Hand, reply.Handed (Ok n)) (Some n) line old
             (record old { in_hand = None; cut = new.cut; history = new.history; held = new.held })
             (record { waiting = refl; stopped = refl; submitted = refl; drained = refl; dropped = refl }) refl refl refl refl refl refl a.line some;
-        text = λ tells. text_written h line old.held new.held n old.history new.history more tells w (a.text tells);
+        text = λ reports. text_written h line old.held new.held n old.history new.history more reports w (a.text reports);
         refusals = λ whole. ap (λ k. k % 2 ^ 64) w.none_refused.0 ∙ a.refusals whole
             ∙ ap (λ k. (start.refusals + k) % 2 ^ 64) (sym (errors_same h (step.Hand, reply.Handed (Ok n)) refl));
-        cut = λ tells whole.
-            let b = a.cut tells whole in
+        cut = λ reports whole.
+            let b = a.cut reports whole in
             let (packets', since', way) =
-            written kind format tells whole start.packets old.history new.history b.packets old.held new.held line old.cut new.cut n
+            written kind format reports whole start.packets old.history new.history b.packets old.held new.held line old.cut new.cut n
             b.since (has_last h old.cut old.history old.held b short) w counts in
             let (groups', plan', cut') =
             cut_written format (marks line_of h) (refusals line_of h) (kept line_of h) b.groups line old.cut new.cut b.packets
@@ -238,14 +238,14 @@ module _ {A : Type 0} (line_of : Call A → Option (List ℕ)) (filled : (call :
         queue_hand line_of queue h (step.Hand, reply.Handed (Err e)) None line old
         (record old { in_hand = None; cut = new.cut; history = new.history; held = new.held })
         (record { waiting = refl; stopped = refl; submitted = refl; drained = refl; dropped = refl }) refl refl refl refl refl refl a.line some;
-    text = λ tells. text_refused h line old.held new.held e old.history new.history tells w (a.text tells);
+    text = λ reports. text_refused h line old.held new.held e old.history new.history reports w (a.text reports);
     refusals = λ whole.
         refusals_more h (step.Hand, reply.Handed (Err e)) old.history.refusals new.history.refusals refl
         (refused_once line_of kind format queue policy old.history new.history _ _ e whole w.fails.cause) (a.refusals whole);
-    cut = λ tells whole.
-        let b = a.cut tells whole in
+    cut = λ reports whole.
+        let b = a.cut reports whole in
         let (packets', since', way) =
-        refused kind format tells whole start.packets old.history new.history b.packets old.held new.held line old.cut new.cut e
+        refused kind format reports whole start.packets old.history new.history b.packets old.held new.held line old.cut new.cut e
         b.since w counts in
         let cut' =
         cut_refused format (marks line_of h) (refusals line_of h) (kept line_of h) b.groups old.cut new.cut b.packets packets'
@@ -275,12 +275,12 @@ module _ {A : Type 0} (line_of : Call A → Option (List ℕ)) (filled : (call :
         line =
             quiet line_of queue h (step.Flush, reply.Flushed (Ok done)) old (record old { history = new.history; held = new.held })
             (record { waiting = refl; stopped = refl; submitted = refl; drained = refl; dropped = refl }) refl refl refl refl refl refl a.line;
-        text = λ tells. text_flushed h (Ok done) old.held new.held old.history new.history tells same f (a.text tells);
+        text = λ reports. text_flushed h (Ok done) old.held new.held old.history new.history reports same f (a.text reports);
         refusals = λ whole. ap (λ k. k % 2 ^ 64) f.none_refused.0 ∙ a.refusals whole
             ∙ ap (λ k. (start.refusals + k) % 2 ^ 64) (sym (errors_same h (step.Flush, reply.Flushed (Ok done)) refl));
-        cut = λ tells whole.
-            let b = a.cut tells whole in
-            let since : new.history.packets ≡ start.packets ++ (b.packets ++ held_packet old.held) = f.one_packet tells whole
+        cut = λ reports whole.
+            let b = a.cut reports whole in
+            let since : new.history.packets ≡ start.packets ++ (b.packets ++ held_packet old.held) = f.one_packet reports whole
             ∙ ap (λ p. p ++ held_packet old.held) b.since ∙ append_assoc start.packets b.packets (held_packet old.held) in
             record {
               packets = b.packets ++ held_packet old.held;
@@ -314,12 +314,12 @@ module _ {A : Type 0} (line_of : Call A → Option (List ℕ)) (filled : (call :
         line =
             quiet line_of queue h (step.Flush, reply.Flushed (Err e)) old (record old { history = new.history; held = new.held })
             (record { waiting = refl; stopped = refl; submitted = refl; drained = refl; dropped = refl }) refl refl refl refl refl refl a.line;
-        text = λ tells. text_flushed h (Err e) old.held new.held old.history new.history tells same f (a.text tells);
+        text = λ reports. text_flushed h (Err e) old.held new.held old.history new.history reports same f (a.text reports);
         refusals = λ whole.
             refusals_more h (step.Flush, reply.Flushed (Err e)) old.history.refusals new.history.refusals refl
             (refused_once line_of kind format queue policy old.history new.history _ _ e whole f.cause) (a.refusals whole);
-        cut = λ tells whole.
-            let b = a.cut tells whole in
+        cut = λ reports whole.
+            let b = a.cut reports whole in
             let (rest_is, packets_are) = f.unchanged whole in
             let still = cut_still h (step.Flush, reply.Flushed (Err e)) old.cut old.history old.held same (λ n. refl) (λ n. refl) b in
             record {

@@ -86,9 +86,9 @@ module _ {A : Type 0} (line_of : Call A → Option (List ℕ)) where
   module _ (filled : (call : Call A) (line : List ℕ) → line_of call ≡ Some line → line ≢ []) (kind : WriterKind) (format : Format)
       (queue : Option ℕ) (policy : QueuePolicy) (start : PacketHistory) (h : List (Turn A)) (s : State)
       (a : After line_of filled kind format queue policy start h s) where
-    pub run_taken : kind.tells ≡ true → concat (packets_between start s.history) ++ s.held ≡ taken_stream format (kept_counts line_of h)
-    run_taken tells =
-        let b = a.text tells in
+    pub run_taken : kind.reports ≡ true → concat (packets_between start s.history) ++ s.held ≡ taken_stream format (kept_counts line_of h)
+    run_taken reports =
+        let b = a.text reports in
         let (more, e) = b.extends in
         let text : concat start.packets ++ (concat more ++ s.held) ≡ concat start.packets ++ taken_stream format (kept_counts line_of h) =
         sym (append_assoc (concat start.packets) (concat more) s.held)
@@ -96,39 +96,39 @@ module _ {A : Type 0} (line_of : Call A → Option (List ℕ)) where
         ap (λ p. concat p ++ s.held) (between_is start s.history more e)
         ∙ goes_on (concat start.packets) (concat more ++ s.held) (taken_stream format (kept_counts line_of h)) text
 
-    pub run_stream : kind.tells ≡ true → kind.takes_whole ≡ true → concat (packets_between start s.history) ++ s.held ≡ stream format (kept line_of h)
-    run_stream tells whole =
-        let b = a.cut tells whole in
+    pub run_stream : kind.reports ≡ true → kind.takes_whole ≡ true → concat (packets_between start s.history) ++ s.held ≡ stream format (kept line_of h)
+    run_stream reports whole =
+        let b = a.cut reports whole in
         ap (λ p. concat p ++ s.held) (between_is start s.history b.packets b.since)
         ∙ sym (joined_packets b.packets s.held) ∙ ap concat b.cut.into ∙ joined_groups format b.groups ∙ ap (stream format) b.cut.all
 
-    pub run_cut : kind.tells ≡ true → kind.takes_whole ≡ true
+    pub run_cut : kind.reports ≡ true → kind.takes_whole ≡ true
         → ArePacketsOf format (marks line_of h) (refusals line_of h) (kept line_of h) s.cut (packets_between start s.history) s.held
-    run_cut tells whole =
-        let b = a.cut tells whole in
+    run_cut reports whole =
+        let b = a.cut reports whole in
         subst (λ p. ArePacketsOf format (marks line_of h) (refusals line_of h) (kept line_of h) s.cut p s.held)
         (sym (between_is start s.history b.packets b.since))
         (subst (λ p. ArePacketsOf format (marks line_of h) (refusals line_of h) (kept line_of h) p b.packets s.held) (sym b.plan_is)
         (shown format (marks line_of h) (refusals line_of h) (kept line_of h) b.groups b.packets s.held b.cut))
 
-    pub run_late : kind.tells ≡ true → kind.takes_whole ≡ true
+    pub run_late : kind.reports ≡ true → kind.takes_whole ≡ true
         → IsCutLate format.capacity (marks line_of h ++ refusals line_of h) (groups_of s.cut (map (size_of format) (kept line_of h)))
-    run_late tells whole =
-        let b = a.cut tells whole in
+    run_late reports whole =
+        let b = a.cut reports whole in
         subst (λ p. IsCutLate format.capacity (marks line_of h ++ refusals line_of h) (groups_of p (map (size_of format) (kept line_of h))))
         (sym b.plan_is)
         (shown_late format (marks line_of h) (refusals line_of h) (kept line_of h) b.groups b.packets s.held b.cut)
 
-    pub run_tight : length h < 2 ^ 64 → kind.tells ≡ true → kind.takes_whole ≡ true → s.history.refusals ≡ start.refusals
+    pub run_tight : length h < 2 ^ 64 → kind.reports ≡ true → kind.takes_whole ≡ true → s.history.refusals ≡ start.refusals
         → IsTight format.capacity (marks line_of h) (map (size_of format) (kept line_of h)) s.cut
-    run_tight short tells whole none =
+    run_tight short reports whole none =
         let counted : s.history.refusals % 2 ^ 64 ≡ (start.refusals + error_count h) % 2 ^ 64 = a.refusals whole in
         let no_errors : error_count h ≡ 0 =
         none_counted s.history.refusals start.refusals (error_count h) (length h) none counted (errors_le h) short in
         record {
-          admissible = (run_cut tells whole).admissible;
+          admissible = (run_cut reports whole).admissible;
           no_later = subst (λ e. IsCutLate format.capacity e (groups_of s.cut (map (size_of format) (kept line_of h))))
-              (ap (λ r. marks line_of h ++ r) (no_refusals [] h no_errors) ∙ append-nil (marks line_of h)) (run_late tells whole);
+              (ap (λ r. marks line_of h ++ r) (no_refusals [] h no_errors) ∙ append-nil (marks line_of h)) (run_late reports whole);
         }
       where
         none_counted : (new old n m : ℕ) → new ≡ old → new % 2 ^ 64 ≡ (old + n) % 2 ^ 64 → n ≤ m → m < 2 ^ 64 → n ≡ 0
@@ -152,11 +152,11 @@ drop_between s n0 n1 same = omega arith
 
 -- If a counting writer has the kind of one that began with sums of 0, it began with sums of 0 too.
 counted_start : (k0 k1 : WriterKind) (h0 h1 : PacketHistory) (s : SinkStats) → counted_kind k1 h1 s ≡ counted_kind k0 h0 zero_sums
-    → k0.tells ≡ true → start_of s h1 ≡ start_of zero_sums h0
-counted_start k0 k1 h0 h1 s same tells =
-    let told : k1.tells ≡ true = ap (λ (k : WriterKind). k.tells) same ∙ tells in
-    subst (λ b. start_of s h1 ≡ start_if b zero_sums h0) tells
-    (subst (λ b. start_if b s h1 ≡ start_if k0.tells zero_sums h0) told (ap (λ (k : WriterKind). k.start) same))
+    → k0.reports ≡ true → start_of s h1 ≡ start_of zero_sums h0
+counted_start k0 k1 h0 h1 s same reports =
+    let told : k1.reports ≡ true = ap (λ (k : WriterKind). k.reports) same ∙ reports in
+    subst (λ b. start_of s h1 ≡ start_if b zero_sums h0) reports
+    (subst (λ b. start_if b s h1 ≡ start_if k0.reports zero_sums h0) told (ap (λ (k : WriterKind). k.start) same))
 
 length_between : (h0 h1 : PacketHistory) (more : List (List ℕ)) → h1.packets ≡ h0.packets ++ more
     → length (concat h1.packets) ≡ length (concat h0.packets) + length (concat more)
@@ -164,9 +164,9 @@ length_between h0 h1 more e = ap (λ p. length (concat p)) e ∙ ap (λ t. lengt
     ∙ length-append (concat h0.packets) (concat more)
 
 pub run_sums : (k0 k1 : WriterKind) (h0 h1 : PacketHistory) (s : SinkStats) → counted_kind k1 h1 s ≡ counted_kind k0 h0 zero_sums
-    → k0.tells ≡ true → Extends h0 h1 → s.bytes_sent < 2 ^ 64 → s.packets_sent < 2 ^ 64 → AreSumsBetween h0 h1 s
-run_sums k0 k1 h0 h1 s same tells (more, e) bytes packets =
-    let began : start_of s h1 ≡ start_of zero_sums h0 = counted_start k0 k1 h0 h1 s same tells in
+    → k0.reports ≡ true → Extends h0 h1 → s.bytes_sent < 2 ^ 64 → s.packets_sent < 2 ^ 64 → AreSumsBetween h0 h1 s
+run_sums k0 k1 h0 h1 s same reports (more, e) bytes packets =
+    let began : start_of s h1 ≡ start_of zero_sums h0 = counted_start k0 k1 h0 h1 s same reports in
     let between : packets_between h0 h1 ≡ more = between_is h0 h1 more e in
     record {
       bytes_sent =

@@ -17,7 +17,7 @@ use Rattle.cadence_schedule.specs.declared.running.Running.{Running}
 use Rattle.cadence_schedule.specs.declared.steps.Reply.{Reply}
 use Rattle.cadence_schedule.specs.declared.steps.Step.{Step}
 use Rattle.cadence_schedule.specs.CallData.{line_of_data, metric_of_data}
-use Rattle.cadence_schedule.specs.Headline.{given_of, packets_between, HasHeadline, IsAccounted, TellsWhole}
+use Rattle.cadence_schedule.specs.Headline.{given_of, packets_between, HasHeadline, IsAccounted, ReportsWhole}
 use Rattle.cadence_schedule.specs.RunHistory.{Turn, accepted, kept, marks, refusals}
 use Rattle.cadence_schedule.specs.Laws.{LeastPackets, PacketsReadOneWay, StrictCallsAreFree}
 use Rattle.cadence_schedule.specs.Moves.{State, Runs}
@@ -116,7 +116,7 @@ module _ {W A : Type 0} (kind_of : W → WriterKind) (history_of : W → PacketH
     }
 
     -- a listener reads the kept metrics, if they are free of separators
-    reading : PacketsReadOneWay → TellsWhole (kind_of writer) → ending ≡ codes "\n"
+    reading : PacketsReadOneWay → ReportsWhole (kind_of writer) → ending ≡ codes "\n"
         → All IsFreeOfSeparators (kept (metric_of_data settings) turns)
         → ReadsAs (kept (metric_of_data settings) turns) (packets_between before ended.history) run.packer.held
     reading reads whole newline free =
@@ -142,11 +142,11 @@ module _ {W A : Type 0} (kind_of : W → WriterKind) (history_of : W → PacketH
         → IsAccounted history_of (given_of kind_of history_of settings capacity ending queue policy steps writer) (outcome_after run replies)
     is_accounted reads law free each bytes packets = record {
       late = λ whole. run_late lines filled kind format queue policy before turns ended after whole.0 whole.1;
-      taken = λ tells. run_taken lines filled kind format queue policy before turns ended after tells;
-      stats = λ tells.
+      taken = λ reports. run_taken lines filled kind format queue policy before turns ended after reports;
+      stats = λ reports.
           run_sums (kind_of writer) (kind_of run.packer.writer.inner) before (history_of run.packer.writer.inner) run.packer.writer.stats
-          (same_kind ∙ kind_is) tells (after.text tells).extends bytes packets;
-      earlier = λ tells. (after.text tells).extends;
+          (same_kind ∙ kind_is) reports (after.text reports).extends bytes packets;
+      earlier = λ reports. (after.text reports).extends;
       said = all_kept IsRepresentable (metric_of_data settings) turns each;
       one_reading = λ whole newline plain. reading reads whole newline plain;
       strict_free = λ strict. free_kept law free strict;

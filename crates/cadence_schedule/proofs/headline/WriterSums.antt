@@ -34,18 +34,18 @@ start_stays s h packet n fits = λ i.
       packets_dropped = less s.packets_dropped h.refusals;
     }
 
-start_if_stays : (tells : Bool) (s s' : SinkStats) (h h' : PacketHistory) → (tells ≡ true → start_of s' h' ≡ start_of s h)
-    → start_if tells s' h' ≡ start_if tells s h
+start_if_stays : (reports : Bool) (s s' : SinkStats) (h h' : PacketHistory) → (reports ≡ true → start_of s' h' ≡ start_of s h)
+    → start_if reports s' h' ≡ start_if reports s h
 start_if_stays true s s' h h' e = e refl
 start_if_stays false s s' h h' e = refl
 
 counted_stays : (k k' : WriterKind) (s s' : SinkStats) (h h' : PacketHistory) (packet : List ℕ) (n : ℕ) → k' ≡ k → n ≤ length packet
     → s' ≡ record s { bytes_sent = (s.bytes_sent + n) % 2 ^ 64; packets_sent = (s.packets_sent + 1) % 2 ^ 64 }
-    → (k.tells ≡ true → h' ≡ after_packet h (take n packet)) → counted_kind k' h' s' ≡ counted_kind k h s
+    → (k.reports ≡ true → h' ≡ after_packet h (take n packet)) → counted_kind k' h' s' ≡ counted_kind k h s
 counted_stays k k' s s' h h' packet n same fits es taken =
     ap (λ (j : WriterKind). counted_kind j h' s') same
-    ∙ ap (λ (t : SinkStats). record { may_give = k.may_give; tells = k.tells; takes_whole = k.takes_whole; start = t })
-    (start_if_stays k.tells s s' h h' (λ t. ap (λ (u : SinkStats). start_of u h') es
+    ∙ ap (λ (t : SinkStats). record { may_give = k.may_give; reports = k.reports; takes_whole = k.takes_whole; start = t })
+    (start_if_stays k.reports s s' h h' (λ t. ap (λ (u : SinkStats). start_of u h') es
     ∙ ap (start_of (record s { bytes_sent = (s.bytes_sent + n) % 2 ^ 64; packets_sent = (s.packets_sent + 1) % 2 ^ 64 })) (taken t)
     ∙ start_stays s h packet n fits))
 
@@ -68,5 +68,5 @@ pub counted_answer : (k k' : WriterKind) (s s' : SinkStats) (h h' : PacketHistor
 counted_answer k k' s s' h h' packet (Ok n) same w e = counted_stays k k' s s' h h' packet n same w.count e w.taken
 counted_answer k k' s s' h h' packet (Err fault) same w e =
     ap (λ (j : WriterKind). counted_kind j h' s') same
-    ∙ ap (λ (t : SinkStats). record { may_give = k.may_give; tells = k.tells; takes_whole = k.takes_whole; start = t })
-    (start_if_stays k.tells s s' h h' (λ t. (λ i. start_of (e i) (w.refused i)) ∙ refused_stays s h (length packet)))
+    ∙ ap (λ (t : SinkStats). record { may_give = k.may_give; reports = k.reports; takes_whole = k.takes_whole; start = t })
+    (start_if_stays k.reports s s' h h' (λ t. (λ i. start_of (e i) (w.refused i)) ∙ refused_stays s h (length packet)))

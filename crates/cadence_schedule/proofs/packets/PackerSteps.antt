@@ -38,7 +38,7 @@ closed_after : (start packets old new : List (List ℕ)) (held : List ℕ) → o
     → new ≡ start ++ (packets ++ held_packet held)
 closed_after start packets old new held o n = n ∙ ap (λ p. p ++ held_packet held) o ∙ append_assoc start packets (held_packet held)
 
-module _ (kind : WriterKind) (format : Format) (tells : kind.tells ≡ true) (whole : kind.takes_whole ≡ true) (start : List (List ℕ)) where
+module _ (kind : WriterKind) (format : Format) (reports : kind.reports ≡ true) (whole : kind.takes_whole ≡ true) (start : List (List ℕ)) where
   -- These lemmas are about the three ways in which a line is kept, by its size and by what is held.
   kept_nothing_held : (old new : PacketHistory) (packets : List (List ℕ)) (rest line plan plan' : List ℕ) (n : ℕ)
       → old.packets ≡ start ++ packets → size_of format line ≤ format.capacity
@@ -64,7 +64,7 @@ module _ (kind : WriterKind) (format : Format) (tells : kind.tells ≡ true) (wh
       lt-leb (length (b ∷ bs) + size_of format line) format.capacity full in
       let plan_is : plan' ≡ plan ++ 1 ∷ [] = subst (λ j. Counted j plan plan') begins (counts (λ some. last)) in (
         packets ++ held_packet (b ∷ bs),
-        closed_after start packets old.packets new.packets (b ∷ bs) o ((w.goes_first full short).one_packet tells whole),
+        closed_after start packets old.packets new.packets (b ∷ bs) o ((w.goes_first full short).one_packet reports whole),
         inr
             (inl (small, inr full, plan_is, refl, (w.goes_first full short).held)),
       ))
@@ -90,7 +90,7 @@ module _ (kind : WriterKind) (format : Format) (tells : kind.tells ≡ true) (wh
       let closed : old.packets ++ held_packet held ≡ start ++ (packets ++ held_packet held) =
       closed_after start packets old.packets (old.packets ++ held_packet held) held o refl in (
         (packets ++ held_packet held) ++ line ∷ [],
-        (w.alone over).two_packets tells whole ∙ ap (λ p. p ++ line ∷ []) closed ∙ append_assoc start (packets ++ held_packet held) (line ∷ []),
+        (w.alone over).two_packets reports whole ∙ ap (λ p. p ++ line ∷ []) closed ∙ append_assoc start (packets ++ held_packet held) (line ∷ []),
         inr (inr (large, plan_is, refl, (w.alone over).held)),
       )
 
@@ -116,11 +116,11 @@ module _ (kind : WriterKind) (format : Format) (tells : kind.tells ≡ true) (wh
       → (packets' : List (List ℕ)) × (new.packets ≡ start ++ packets') × Refused plan packets held plan' packets' rest
   refused old new packets held [] line plan plan' e o w counts = (
     packets ++ held_packet held,
-    closed_after start packets old.packets new.packets held o (w.fails.sent tells whole refl),
+    closed_after start packets old.packets new.packets held o (w.fails.sent reports whole refl),
     (counts, inr (refl, refl)),
   )
   refused old new packets held (b ∷ bs) line plan plan' e o w counts =
-      let (rest_is, same) = w.fails.refused tells whole (omega arith) in
+      let (rest_is, same) = w.fails.refused reports whole (omega arith) in
       (packets, same ∙ o, (counts, inl (refl, rest_is)))
 
 map-push : {X Y : Type 0} (f : X → Y) (xs : List X) (x : X) → map f (xs ++ x ∷ []) ≡ map f xs ++ f x ∷ []

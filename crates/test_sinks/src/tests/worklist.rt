@@ -25,7 +25,7 @@ impl Worklist for MemoryList {
 
     ghost ended = { λ w. w.ended };
 
-    ghost tells = { λ _. true };
+    ghost promises = { λ _. true };
 
     fn next(&mut self) -> Option<&'static str> {
         if self.given == self.texts.len() {

@@ -18,13 +18,13 @@ one_more {T} g0 h0 text (same, (texts, given, handed)) next kept gives hands =
 
 pub loop-preserved : goal.loop-preserved
 loop-preserved g c =
-    let (_, _, tells, kept) = c.loop.invariant in (
+    let (_, _, promises, kept) = c.loop.invariant in (
       tt,
       tt,
-      c.hand.ensures.tells ∙ (c.next-in-loop.ensures.tells ∙ tells),
+      c.hand.ensures.promises ∙ (c.next-in-loop.ensures.promises ∙ promises),
       λ told.
-          let there = tells ∙ told in
-          let still = c.next-in-loop.ensures.tells ∙ there in
+          let there = promises ∙ told in
+          let still = c.next-in-loop.ensures.promises ∙ there in
           let (next, _) = c.in-Some-next.ensures.text there in
           let given = c.hand.ensures.given still in
           let handed = c.hand.ensures.handed still in

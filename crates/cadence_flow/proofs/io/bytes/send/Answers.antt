@@ -11,7 +11,7 @@ loop-sent-preserved g c =
     let sent = c.loop-sent.sent in
     let h = c.in-Some.ensures in
     let rest = rest_is xs sent in
-    let tells = ap (λ (k : WriterKind). k.tells) so_far.same_kind in
+    let reports = ap (λ (k : WriterKind). k.reports) so_far.same_kind in
     let whole = ap (λ (k : WriterKind). k.takes_whole) so_far.same_kind in
     record {
       same_kind = h.same_kind ∙ so_far.same_kind;
@@ -19,7 +19,7 @@ loop-sent-preserved g c =
           SentSoFar-more _ _ _ _ xs sent c.in-Some.n so_far.so_far c.loop-sent-test.true (omega (arith, c.in-Some.n-test.1))
           (rw rest at h.writes.count) (λ w. h.writes.whole (whole
           ∙ w)
-          ∙ ap length rest) (λ t. h.writes.taken (tells ∙ t)
+          ∙ ap length rest) (λ t. h.writes.taken (reports ∙ t)
           ∙ ap (λ (l : List ℕ). after_packet (g.T.PacketWriter.history c.loop-sent.to) (take c.in-Some.n l)) rest) h.writes.kept;
       offered = offered_more _ _ _ _ (length xs) sent c.in-Some.n c.loop-sent.invariant.offered c.loop-sent-test.true (ap length rest
           ∙ length-drop sent xs) h.offers;
