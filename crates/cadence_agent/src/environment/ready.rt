@@ -32,7 +32,7 @@ fn with_default<A: Allocator + Clone, R: Wait + Drop>(
     builder: StatsdClientBuilder<A, EnvironmentSink<R, A>>,
     tag: Tag<'_>,
 ) -> StatsdClientBuilder<A, EnvironmentSink<R, A>>
-    ensures { AddsDefaultTag (tag_of tag.entry) builder.entry result }
+    ensures { AddsDefaultTag (tag_of tag.entry) builder result }
 {
     match tag.key {
         Some(key) => builder.with_tag(key, tag.text),
@@ -46,8 +46,8 @@ fn with_defaults<A: Allocator + Clone, B: Allocator, R: Wait + Drop>(
     tags: &[OwnedTag<B>],
 ) -> StatsdClientBuilder<A, EnvironmentSink<R, A>>
     ensures settings { AddsTags (map tag_of_owned tags.now)
-        (settings_of_builder builder.entry) (settings_of_builder result) }
-    ensures sink { sink_of_builder result ≡ sink_of_builder builder.entry }
+        (settings_of_builder builder) (settings_of_builder result) }
+    ensures sink { sink_of_builder result ≡ sink_of_builder builder }
 {
     for tag in tags {
         builder = with_default(builder, lend_tag(tag));
