@@ -1,5 +1,5 @@
 pub mod Address
 pub mod Counts
-pub mod Paths
 pub mod Refusals
 pub mod Reports
+pub mod Shown

@@ -7,8 +7,8 @@ use Rattle.cadence_errors.specs.declared.MetricError.{MetricError}
 use Rattle.cadence_errors.specs.declared.MetricError.TheVariants.{Sink, Described}
 use Rattle.cadence_errors.specs.declared.SinkError.{SinkError}
 use Rattle.cadence_errors.specs.declared.SinkError.TheVariants.{Io, OutOfMemory}
-use Rattle.cadence_agent.specs.Paths.{IsFault, IsPath}
-use Rattle.cadence_agent.specs.declared.unix.path.PathError.{PathError}
+use Rattle.cadence_environment.specs.Paths.{IsFault, IsPath}
+use Rattle.cadence_environment.specs.declared.path.PathError.{PathError}
 
 -- The error is one of the system: it has a code of the system.
 abbrev pub IsOfSystem : SinkError → Type 0

@@ -1,11 +1,9 @@
 //! Unix datagrams: a socket that sends to a path, and sinks and clients over it, ready made.
 
 mod address;
-mod path;
 mod ready;
 mod socket;
 
-pub use path::{MAX_PATH, PathError, check_path};
 pub use ready::{
     BufferedUnixClient, BufferedUnixSink, QueuedUnixClient, QueuedUnixSink, UnixClient, UnixSink,
     buffered_unix_client, buffered_unix_sink, queued_unix_client, queued_unix_sink,

@@ -187,14 +187,19 @@ fn feed<T: PacketWriter, E: Write, A: Allocator + Clone>(
     Ok(())
 }
 
-// Sends the held text if the pace says that it is due.
+// Returns whether the held text is to be sent before more input is read.
+fn is_due<T: PacketWriter, P: Pace, A: Allocator>(lines: &LineBuffer<T, A>, pace: &mut P) -> bool {
+    pace.is_due() || (!lines.held().is_empty() && pace.wait_until_due())
+}
+
+// Sends the held text if it is due before more input is read.
 fn keep_pace<T: PacketWriter, P: Pace, A: Allocator>(
     lines: &mut LineBuffer<T, A>,
     pace: &mut P,
 ) -> Result<(), RunError>
     ensures { OnOk result (TakesLines T.kind T.history lines.old lines.new []) }
 {
-    if !pace.is_due() {
+    if !is_due(lines, pace) {
         return Ok(());
     }
     let mut fault = SinkError::NothingWritten;
@@ -204,7 +209,8 @@ fn keep_pace<T: PacketWriter, P: Pace, A: Allocator>(
 
 /// Reads the lines of the input, and gives the metric's line of each to the packer. For a line that can't be read, its
 /// number and the reason are written to `errors`. An error of `errors` is ignored. After each piece of input, the held
-/// text is sent if the pace says that it is due. The text that is held at the end of the input is not sent.
+/// text is sent if the pace says that it is due, now or before more input comes. The text that is held at the end of the
+/// input is not sent.
 ///
 /// # Errors
 /// `Input` if the reader fails, `Writer` if a packet is refused, and `OutOfMemory`. The lines before the error were

@@ -9,7 +9,7 @@ use cadence_cli::ReadError;
 use cadence_errors::MetricError;
 use cadence_flow::io::DEFAULT_CAPACITY;
 use cadence_schedule::ClientSettings;
-use cadence_text::line::Tag;
+use cadence_text::line::{OwnedTag, Tag, lend_tag};
 use cadence_value::decimal::Decimal;
 use std::alloc::{Allocator, Global};
 use std::fmt;
@@ -51,8 +51,10 @@ pub struct Options<'a, A: Allocator> {
     pub rate: Option<Decimal>,
     /// The capacity of a packet in bytes.
     pub capacity: usize,
-    /// After how many milliseconds buffered lines are sent before more input is read.
+    /// The most milliseconds that buffered lines wait for more input.
     pub flush_every: Option<u64>,
+    /// Whether the settings are strict, so that they refuse each text that has a separator.
+    pub is_strict: bool,
     /// Whether packets are printed instead of sent.
     pub is_printing: bool,
 }
@@ -176,6 +178,7 @@ impl<'a, A: Allocator> Options<'a, A> {
             rate: None,
             capacity: DEFAULT_CAPACITY,
             flush_every: None,
+            is_strict: false,
             is_printing: false,
         }
     }
@@ -205,12 +208,20 @@ impl<'a, A: Allocator> Options<'a, A> {
 }
 
 impl<'a, A: Allocator + Clone> Options<'a, A> {
-    /// Returns what the options add to each metric.
+    /// Returns what these tags and the options add to each metric. The tags come before those of the options.
     ///
     /// # Errors
-    /// Only if memory runs out.
-    pub fn defaults(&self, alloc: A) -> Result<Defaults<A>, MetricError> {
+    /// An error of the kind `InvalidInput` if the settings are strict and a tag has a separator in one of its texts, and
+    /// `SinkError::OutOfMemory`.
+    pub fn defaults(&self, alloc: A, tags: &[OwnedTag<A>]) -> Result<Defaults<A>, MetricError> {
         let mut settings = ClientSettings::new(alloc, self.prefix)?;
+        if self.is_strict {
+            settings.set_strict()?;
+        }
+        for tag in tags {
+            let tag = lend_tag(tag);
+            settings.add_tag(tag.key, tag.text)?;
+        }
         for tag in &self.tags {
             settings.add_tag(tag.key, tag.text)?;
         }
@@ -243,6 +254,10 @@ pub fn read_options<'a, A: Allocator>(
             "--version" => return Ok(Request::Version),
             "--print" => {
                 options.is_printing = true;
+                left = others;
+            }
+            "--strict" => {
+                options.is_strict = true;
                 left = others;
             }
             option => {

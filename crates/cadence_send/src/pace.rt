@@ -4,6 +4,13 @@
 pub trait Pace: Drop {
     /// Returns whether the buffered lines are to be sent now. It is called after each piece of input.
     fn is_due(&mut self) -> bool;
+
+    /// Waits until the buffered lines are to be sent, or until there is more input. Returns whether they are to be sent.
+    /// It is called before more input is read, if there are buffered lines that are not to be sent now. By default they
+    /// wait for input, so it returns `false` at once.
+    fn wait_until_due(&mut self) -> bool {
+        false
+    }
 }
 
 /// Never sends early: buffered lines are sent only when a packet is full and at the end of the input.

@@ -1,18 +1,21 @@
 //! `statsd_send`: sends the metric of its words, or the metrics of its standard input.
 //!
-//! - `environment`: finds the address to which packets are sent.
 //! - `pace`: a pace that follows the clock.
+//! - `target`: looks up the address of a host.
 //! - `unix`: sends packets to the path of a Unix socket.
 #![tactic(auto)]
 
-mod environment;
 mod pace;
+mod target;
 mod unix;
 
-use crate::environment::find_address;
 use crate::pace::Every;
+use crate::target::{TargetError, find_address};
 use crate::unix::PathWriter;
-use cadence_agent::{PathError, UnixSocket, check_path};
+use cadence_agent::{
+    Destination as Agent, Environment, EnvironmentError, PathError, UnixSocket, check_path,
+};
+use cadence_errors::{ErrorKind as MetricErrorKind, MetricError};
 use cadence_flow::io::{LineBuffer, PacketWriter};
 use cadence_resolve::bind_socket;
 use cadence_send::{
@@ -20,7 +23,8 @@ use cadence_send::{
     read_options, run_input, run_words,
 };
 use std::alloc::{AllocError, Global};
-use std::io::{ErrorKind, Read};
+use std::io::{ErrorKind, Read, Stdin};
+use std::net::SocketAddr;
 use std::process::ExitCode;
 use std::time::Duration;
 use std::{env, fmt};
@@ -32,12 +36,15 @@ KIND         c, ms, g, m, h, s, d, or count, time, gauge, meter, histogram, set,
 VALUE        a number, as 1 or 0.75, or of ms and h a duration, as 1250ms or 1.25s;
              of ms, h and d several, as 12,250
 TAG          K:V or V
---to HOST:PORT      where to (127.0.0.1:8125; STATSD_HOST, STATSD_PORT)
+--to HOST:PORT      where to (127.0.0.1:8125; DD_DOGSTATSD_URL; DD_AGENT_HOST,
+                    DD_DOGSTATSD_PORT; STATSD_HOST, STATSD_PORT)
 --to unix:PATH      or to a Unix datagram socket
 --prefix NAME  --tag TAG  --container ID  --time SECONDS  --rate NUMBER
+                    (tags before these: DD_ENV, DD_SERVICE, DD_VERSION, DD_TAGS, DD_ENTITY_ID)
 --capacity BYTES    how much a packet holds (512)
---flush-every MS    sends what is held before more is read, where so long has passed;
-                    0: no line waits for input, else the last ones wait for more or the end
+--flush-every MS    the longest that a line waits for more input; 0: no line waits,
+                    else the lines wait until a packet is full or the input ends
+--strict            refuses tags of the environment that have a second colon
 --print             prints the packets, and sends none
 --help  --version
 
@@ -112,10 +119,34 @@ impl fmt::Display for UnusablePath<'_> {
     }
 }
 
+// Prints to the standard error why the environment can't be used, and returns the exit status.
+fn exit_without_environment(rt: &HostRuntime, error: EnvironmentError) -> ExitCode {
+    let status = match error {
+        EnvironmentError::Malformed(_) => 2,
+        EnvironmentError::OutOfMemory => 3,
+    };
+    exit_with_error(rt, status, error)
+}
+
+// Prints to the standard error why the metrics have no defaults, and returns the exit status.
+fn exit_without_defaults(rt: &HostRuntime, error: MetricError) -> ExitCode {
+    if error.kind() == MetricErrorKind::InvalidInput {
+        let why =
+            "--strict wants tags of the environment without a second colon, as in DD_TAGS=team:shop";
+        return exit_with_error(rt, 2, why);
+    }
+    exit_with_error(rt, 3, "out of memory")
+}
+
 // Sends the metric of the words, or those of the input if there are no words. Returns the exit status.
 fn send(rt: &HostRuntime, options: &Options<'_, Global>, words: &[&str]) -> ExitCode {
-    let Ok(defaults) = options.defaults(rt.alloc()) else {
-        return exit_with_error(rt, 3, "out of memory");
+    let tags = match Environment::read_tags(rt) {
+        Ok(tags) => tags,
+        Err(error) => return exit_without_environment(rt, error),
+    };
+    let defaults = match options.defaults(rt.alloc(), &tags) {
+        Ok(defaults) => defaults,
+        Err(error) => return exit_without_defaults(rt, error),
     };
     if let Some(Destination::Unix(path)) = options.to {
         if let Err(fault) = check_path(path) {
@@ -136,20 +167,39 @@ fn send(rt: &HostRuntime, options: &Options<'_, Global>, words: &[&str]) -> Exit
     }
     match options.to {
         Some(Destination::Unix(path)) => send_to_path(rt, options, words, &defaults, path),
-        Some(Destination::Host(host)) => send_to_host(rt, options, words, &defaults, Some(host)),
-        None => send_to_host(rt, options, words, &defaults, None),
+        Some(Destination::Host(host)) => {
+            send_to_address(rt, options, words, &defaults, find_address(rt, host))
+        }
+        None => send_to_agent(rt, options, words, &defaults),
     }
 }
 
-// Sends to this host, or to that of the environment. Returns the exit status.
-fn send_to_host(
+// Sends to the place that the environment says. Returns the exit status.
+fn send_to_agent(
     rt: &HostRuntime,
     options: &Options<'_, Global>,
     words: &[&str],
     defaults: &Defaults,
-    host: Option<&str>,
 ) -> ExitCode {
-    let address = match find_address(rt, host) {
+    match Environment::read_destination(rt) {
+        Ok(Agent::Udp { host, port }) => {
+            let address = find_address(rt, (host.as_str(), port));
+            send_to_address(rt, options, words, defaults, address)
+        }
+        Ok(Agent::Unix { path }) => send_to_path(rt, options, words, defaults, &path),
+        Err(error) => exit_without_environment(rt, error),
+    }
+}
+
+// Sends to this address, if it was found. Returns the exit status.
+fn send_to_address(
+    rt: &HostRuntime,
+    options: &Options<'_, Global>,
+    words: &[&str],
+    defaults: &Defaults,
+    address: Result<SocketAddr, TargetError>,
+) -> ExitCode {
+    let address = match address {
         Ok(address) => address,
         Err(error) => return exit_with_error(rt, error.status(), error),
     };
@@ -186,12 +236,12 @@ fn exit_without_socket<T: fmt::Display + Drop>(rt: &HostRuntime, why: T) -> Exit
 fn asked_pace(
     rt: &HostRuntime,
     options: &Options<'_, Global>,
-) -> Result<Option<Every<HostRuntime>>, AllocError> {
+) -> Result<Option<Every<HostRuntime, Stdin>>, AllocError> {
     let Some(period) = options.flush_every else {
         return Ok(None);
     };
     let clock = rt.clone()?;
-    Ok(Some(Every::new(clock, Duration::from_millis(period))))
+    Ok(Some(Every::new(clock, rt.stdin(), Duration::from_millis(period))))
 }
 
 // Sends the metric of the words, or those of the input if there are no words, with this writer of packets. Returns the

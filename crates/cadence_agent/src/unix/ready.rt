@@ -6,12 +6,12 @@ ghost use Rattle.cadence_schedule.specs.Settings.{settings_of};
 ghost use Rattle.cadence_sinks.specs.Buffers.{unix_buffer};
 ghost use Rattle.cadence_queuing.specs.Queuing.{capacity_of, policy_of, queue_capacity, queue_policy, wrapped_sink};
 ghost use Rattle.cadence_sinks.specs.Unix.{unix_path};
-ghost use Rattle.cadence_agent.specs.Paths.{IsPath};
+ghost use Rattle.cadence_environment.specs.Paths.{IsPath};
 ghost use Rattle.cadence_agent.specs.Refusals.{IsUnixRefusal};
 
-use super::path::check_path;
 use super::socket::UnixSocket;
 use cadence::StatsdClient;
+use cadence_environment::check_path;
 use cadence_errors::MetricResult;
 use cadence_sinks::{
     BufferedUnixMetricSink, QueuingMetricSink, QueuingMetricSinkBuilder, UnixMetricSink,

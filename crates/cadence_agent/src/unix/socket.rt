@@ -1,13 +1,13 @@
 //! A Unix datagram socket that sends to paths.
 ghost use Rattle.std.specs.Prelude.{◌≤◌, length, IfErr, IfOk, IsErrAnd, MatchResult};
 ghost use Rattle.cadence_sinks.specs.Sockets.{IsSocketAnswer, is_io};
-ghost use Rattle.cadence_agent.specs.Paths.{IsFault, IsPath};
+ghost use Rattle.cadence_environment.specs.Paths.{IsFault, IsPath};
 ghost use Rattle.cadence_agent.specs.Refusals.{IsOfPath, IsOfSystem, IsSystemRefusal};
-ghost use Rattle.cadence_agent.specs.declared.unix.path.PathError.{PathError};
+ghost use Rattle.cadence_environment.specs.declared.path.PathError.{PathError};
 ghost use Rattle.libc.specs.Io.{Moved};
 
 use super::address::address_of;
-use super::path::check_path;
+use cadence_environment::check_path;
 use cadence_errors::{MetricResult, SinkError};
 use cadence_sinks::PathSocket;
 use libc::net::{AF_UNIX, MSG_NOSIGNAL, SOCK_CLOEXEC, SOCK_DGRAM, SOCK_NONBLOCK, sendto, socket};

@@ -2,5 +2,5 @@
 //! paths, of packets and of memory. `server` has the server.
 
 mod refusals;
-mod sending;
-mod server;
+pub mod sending;
+pub mod server;

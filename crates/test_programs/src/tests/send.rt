@@ -1,7 +1,11 @@
 //! The engine of `statsd_send` over a reader, writers, packets and memory that fail. A run has to end with the status
 //! and the message of its failure, and to send the lines before it.
+use cadence_errors::ErrorKind;
 use cadence_flow::io::{Answer, LineBuffer, PacketLog, PacketWriter};
-use cadence_send::{PacketPrinter, Request, Unhurried, read_options, run_input, run_words};
+use cadence_send::{
+    Pace, PacketPrinter, Request, Unhurried, read_options, run_input, run_words, send_input,
+};
+use cadence_text::line::OwnedTag;
 use std::alloc::{Allocator, Global};
 use std::io::{Read, Write};
 use std::test::Fail;
@@ -72,7 +76,7 @@ fn drive<A: Allocator + Clone, T: PacketWriter, I: Read, E: Write>(
     let Ok(Request::Send(options, _)) = read_options(alloc.clone().ok()?, OPTIONS) else {
         return None;
     };
-    let defaults = options.defaults(alloc.clone().ok()?).ok()?;
+    let defaults = options.defaults(alloc.clone().ok()?, &[]).ok()?;
     let status = if words.is_empty() {
         run_input(&alloc, &defaults, &mut lines, input, errors, &mut Unhurried)
     } else {
@@ -300,5 +304,75 @@ fn is_printed_with(alloc: Global, heap: RefusingAllocator<Global>) -> Result<boo
 fn each_request_of_a_printed_packet_may_be_refused(rt: HostRuntime) -> Result<(), Fail> {
     let granted = each_refused(rt.alloc(), |heap| is_printed_with(rt.alloc(), heap))?;
     assert!(rt; granted.is_some());
+    Ok(())
+}
+
+// Returns whether options with these words refuse a default tag because its text has a colon. There may be no other
+// error.
+fn refuses_colon(alloc: Global, words: &[&str]) -> Result<bool, Fail> {
+    let Ok(Request::Send(options, _)) = read_options(alloc, words) else {
+        return Err(Fail::new("other options"));
+    };
+    let key = String::from_str(alloc, "a")?;
+    let tags: [OwnedTag; 1] = [(Some(key), String::from_str(alloc, "b:c")?)];
+    match options.defaults(alloc, &tags) {
+        Ok(_) => Ok(false),
+        Err(error) if error.kind() == ErrorKind::InvalidInput => Ok(true),
+        Err(error) => Err(Fail::new(error)),
+    }
+}
+
+#[test]
+fn strict_options_refuse_a_default_tag_with_a_separator(rt: HostRuntime) -> Result<(), Fail> {
+    assert!(rt; refuses_colon(rt.alloc(), &["--strict"])?);
+    assert!(rt; refuses_colon(rt.alloc(), &["--tag", "k:v", "--strict", "--print"])?);
+    assert!(rt; !refuses_colon(rt.alloc(), &["--print"])?);
+    Ok(())
+}
+
+// A pace for which lines are due each time that they would wait for input. It counts how often it was asked to wait.
+#[derive(Drop)]
+struct Waiting {
+    waits: u64,
+}
+
+impl Pace for Waiting {
+    fn is_due(&mut self) -> bool {
+        false
+    }
+
+    fn wait_until_due(&mut self) -> bool {
+        self.waits = self.waits.saturating_add(1);
+        true
+    }
+}
+
+// The reader gives one byte at a time, so that a line waits for input after its newline.
+#[test]
+fn a_pace_waits_only_while_a_line_is_held(rt: HostRuntime) -> Result<(), Fail> {
+    let alloc = rt.alloc();
+    let Ok(Request::Send(options, _)) = read_options(alloc, NONE) else {
+        return Err(Fail::new("other options"));
+    };
+    let Ok(defaults) = options.defaults(alloc, &[]) else {
+        return Err(Fail::new("no defaults"));
+    };
+    let log = PacketLog::new(alloc, Vec::new(alloc));
+    let Ok(mut lines) = LineBuffer::new(alloc, log, 512) else {
+        return Err(Fail::new("no packer"));
+    };
+    let mut pace = Waiting { waits: 0 };
+    let (mut input, mut errors) = (ByteReader::new(b"c a 1\n\nc b 2\n"), Vec::new(alloc));
+    send_input(
+        &alloc,
+        &defaults,
+        &mut lines,
+        &mut input,
+        &mut errors,
+        &mut pace,
+    )?;
+    let (log, held) = lines.into_parts();
+    assert_eq!(rt; pace.waits, 2);
+    assert!(rt; held.is_empty() && log.packets().len() == 2);
     Ok(())
 }

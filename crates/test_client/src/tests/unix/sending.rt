@@ -12,8 +12,8 @@ use std::process;
 use std::sync::Wait;
 use std::test::Fail;
 
-// Returns a path of this process and this test.
-fn path_of(rt: &HostRuntime, name: &str) -> Result<String, Fail> {
+/// Returns a path of this process and this test.
+pub fn path_of(rt: &HostRuntime, name: &str) -> Result<String, Fail> {
     let id = process::id(rt.process());
     Ok(format!(in rt.alloc(); "/tmp/cadence-{id}-{name}")?)
 }

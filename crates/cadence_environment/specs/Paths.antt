@@ -1,8 +1,8 @@
 -- Which texts can be the path of a Unix socket.
 use Rattle.std.specs.Prelude.{◌≡◌, ◌≢◌, ◌<◌, ◌≤◌, ℕ, List, [], length}
 use Rattle.std.specs.List.{All, Contains}
-use Rattle.cadence_agent.specs.declared.unix.path.PathError.{PathError}
-use Rattle.cadence_agent.specs.declared.unix.path.PathError.TheVariants.{Empty, Nul, TooLong}
+use Rattle.cadence_environment.specs.declared.path.PathError.{PathError}
+use Rattle.cadence_environment.specs.declared.path.PathError.TheVariants.{Empty, Nul, TooLong}
 
 -- The text can be the path of a Unix socket: it has from 1 to 107 bytes, and none of them is a NUL.
 pub record IsPath (text : List ℕ) : Type 0 where

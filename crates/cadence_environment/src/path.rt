@@ -1,7 +1,7 @@
 //! Which texts can be the path of a Unix socket.
 ghost use Rattle.std.specs.Prelude.{IfErr, IfOk};
 ghost use Rattle.cadence_errors.specs.Errors.{IsInvalid};
-ghost use Rattle.cadence_agent.specs.Paths.{IsFault, IsPath};
+ghost use Rattle.cadence_environment.specs.Paths.{IsFault, IsPath};
 
 use cadence_errors::{ErrorKind, MetricError};
 use std::fmt;
@@ -21,8 +21,8 @@ pub enum PathError {
 }
 
 impl PathError {
-    // What is wrong with the path.
-    pub(crate) fn text(self) -> &'static str {
+    /// Returns what is wrong with the path.
+    pub fn text(self) -> &'static str {
         match self {
             PathError::Empty => "the path of a Unix socket is empty",
             PathError::Nul => "the path of a Unix socket has a NUL inside",

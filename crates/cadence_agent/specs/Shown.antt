@@ -1,0 +1,30 @@
+-- What contracts show of a sink to the destination of an environment, and of a client with its tags.
+use Rattle.std.specs.Prelude.{◌≡◌, ◌++◌, ⊤, ℕ, List, Result, Ok, Err}
+use Rattle.cadence_errors.specs.declared.MetricError.{MetricError}
+use Rattle.cadence_text.specs.Metric.{Tag}
+use Rattle.cadence_schedule.specs.Settings.{Settings}
+use Rattle.cadence_sinks.specs.Buffers.{udp_buffer, unix_buffer}
+use Rattle.cadence_environment.specs.declared.destination.Destination.{Destination}
+use Rattle.cadence_environment.specs.declared.destination.Destination.TheVariants as place
+use Rattle.cadence_agent.specs.declared.environment.sink.EnvironmentSink.{EnvironmentSink}
+use Rattle.cadence_agent.specs.declared.environment.sink.EnvironmentSink.TheVariants.{Udp, Unix}
+
+-- the capacity of the sink's buffer, in bytes
+abbrev pub environment_buffer : {R A : Type 0} → EnvironmentSink R A → ℕ
+environment_buffer (Udp s) = udp_buffer s
+environment_buffer (Unix s) = unix_buffer s
+
+-- The sink goes to a destination of this kind: over UDP with a buffer of 512 bytes, or over a Unix socket with one of 8192 bytes.
+abbrev pub GoesTo : {A B R : Type 0} → Destination A → EnvironmentSink R B → Type 0
+GoesTo (place.Udp host port) (Udp s) = udp_buffer s ≡ 512
+GoesTo (place.Unix path) (Unix s) = unix_buffer s ≡ 8192
+GoesTo _ _ = ⊥
+
+-- the settings with these default tags too, after their own
+abbrev pub with_tags : Settings → List Tag → Settings
+with_tags s tags = record s { tags = s.tags ++ tags }
+
+-- If there are settings after the change, there were some before it, and these tags were added to them.
+abbrev pub AddsTags : List Tag → Result Settings MetricError → Result Settings MetricError → Type 0
+AddsTags tags old (Ok new) = (s : Settings) × (old ≡ Ok s) × (new ≡ with_tags s tags)
+AddsTags tags old (Err e) = ⊤

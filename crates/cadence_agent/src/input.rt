@@ -1,0 +1,39 @@
+//! Waits for input at a file descriptor.
+use libc::net::{POLLIN, poll};
+use libc::types::pollfd;
+use std::io;
+use std::io::{Error, ErrorKind};
+use std::os::fd::{AsRawFd, BorrowedFd};
+use std::time::Duration;
+
+// Returns how many milliseconds the system is asked to wait: a part of one more counts as a whole one, and there are at
+// most those of 24 days.
+fn millis_of(most: Duration) -> i32 {
+    match i32::try_from(most.as_nanos().div_ceil(1_000_000)) {
+        Ok(millis) => millis,
+        Err(_) => i32::MAX,
+    }
+}
+
+/// Waits until a read from the file descriptor would not wait, because there is input or none will come any more.
+/// Returns `false` if there was none for as long as `most`, or for 24 days, or if a signal interrupted the wait. It takes
+/// no memory, and uses no time of the processor while it waits.
+///
+/// # Errors
+/// Those of the system's call `poll`, but for `Interrupted`.
+pub fn wait_for_input(input: BorrowedFd<'_>, most: Duration) -> io::Result<bool> {
+    let mut asked = [pollfd {
+        fd: input.as_raw_fd(),
+        events: POLLIN,
+        revents: 0,
+    }];
+    let ready = poll(&mut asked, millis_of(most));
+    if ready >= 0 {
+        return Ok(ready > 0);
+    }
+    let error = Error::from_raw_os_error(os::errno());
+    if error.kind() == ErrorKind::Interrupted {
+        return Ok(false);
+    }
+    Err(error)
+}

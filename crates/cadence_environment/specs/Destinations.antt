@@ -1,0 +1,76 @@
+-- Where the variables of the environment say to send.
+use Rattle.std.specs.Prelude.{◌≡◌, ◌≢◌, ◌<◌, ◌^◌, ◌⊎◌, ℕ, List, [], ◌∷◌, ◌++◌, All, codes, slice_index, string_bytes}
+use Rattle.std.specs.Str.Parse.{IsNumeral, digits_value}
+use Rattle.cadence_environment.specs.Paths.{IsPath}
+use Rattle.cadence_environment.specs.declared.destination.Destination.{Destination}
+use Rattle.cadence_environment.specs.declared.destination.Destination.TheVariants.{Udp, Unix}
+use Rattle.cadence_environment.specs.declared.variables.Variables.{Variables}
+
+-- The text writes this port in digits: a number from 1 to 65535.
+pub record IsPort (text : List ℕ) (port : ℕ) : Type 0 where
+  pub numeral : IsNumeral 10 text
+  pub written : port ≡ digits_value 10 text
+  pub some : 0 < port
+  pub fits : port < 2 ^ 16
+
+-- The byte can be in a host: it is no space, slash, bracket or control character of ASCII.
+abbrev pub IsHostByte : ℕ → Type 0
+IsHostByte byte = (32 < byte) × (byte ≢ 47) × (byte ≢ 91) × (byte ≢ 93) × (byte ≢ 127)
+
+-- The text can be a host: a name, or an address without brackets.
+abbrev pub IsHost : List ℕ → Type 0
+IsHost text = (text ≢ []) × All IsHostByte text
+
+-- The text is this host, with or without brackets round it.
+pub record NamesHost (text host : List ℕ) : Type 0 where
+  pub fit : IsHost host
+  pub shown : (text ≡ host) ⊎ (text ≡ 91 ∷ (host ++ 93 ∷ []))
+
+-- If the text is empty, the port is 8125. Otherwise it is a colon and the port.
+abbrev pub EndsWithPort : List ℕ → ℕ → Type 0
+EndsWithPort [] port = port ≡ 8125
+EndsWithPort (c ∷ digits) port = (c ≡ 58) × IsPort digits port
+
+-- The text is a host, and after it nothing or a colon and a port. The host has brackets round it, or no colon.
+pub record IsAuthority (text host : List ℕ) (port : ℕ) : Type 0 where
+  pub shown : List ℕ
+  pub rest : List ℕ
+  pub whole : text ≡ shown ++ rest
+  pub fit : IsHost host
+  pub shows : ((shown ≡ host) × All (λ byte. byte ≢ 58) host) ⊎ (shown ≡ 91 ∷ (host ++ 93 ∷ []))
+  pub ends : EndsWithPort rest port
+
+-- The text is this path of a Unix socket, and begins at the root.
+abbrev pub SaysPath : {A : Type 0} → List ℕ → Destination A → Type 0
+SaysPath text (Udp host port) = ⊥
+SaysPath text (Unix path) = (string_bytes path ≡ text) × IsPath text × (slice_index text 0 ≡ 47)
+
+-- The URL says this destination: udp://HOST, udp://HOST:PORT or unix:///PATH.
+abbrev pub SaysUrl : {A : Type 0} → List ℕ → Destination A → Type 0
+SaysUrl url (Udp host port) =
+    (text : List ℕ) × (url ≡ codes "udp://" ++ text) × IsAuthority text (string_bytes host) port
+SaysUrl url (Unix path) =
+    (url ≡ codes "unix://" ++ string_bytes path) × IsPath (string_bytes path) × (slice_index (string_bytes path) 0 ≡ 47)
+
+-- The text of a variable says this host. If the variable is not set, the host is this machine.
+pub record SaysHost (text host : List ℕ) : Type 0 where
+  pub unset : text ≡ [] → host ≡ codes "127.0.0.1"
+  pub set : text ≢ [] → NamesHost text host
+
+-- The text of a variable says this port. If the variable is not set, the port is 8125.
+pub record SaysPort (text : List ℕ) (port : ℕ) : Type 0 where
+  pub unset : text ≡ [] → port ≡ 8125
+  pub set : text ≢ [] → IsPort text port
+
+-- The texts of two variables say this host and this port.
+abbrev pub SaysHostAndPort : {A : Type 0} → List ℕ → List ℕ → Destination A → Type 0
+SaysHostAndPort host_text port_text (Udp host port) = SaysHost host_text (string_bytes host) × SaysPort port_text port
+SaysHostAndPort host_text port_text (Unix path) = ⊥
+
+-- The variables say this destination. `DD_DOGSTATSD_URL` wins over all others, and `DD_AGENT_HOST` and `DD_DOGSTATSD_PORT` win over the rest, also
+-- if only one of the two is set.
+pub record SaysPlace {A : Type 0} (v : Variables) (d : Destination A) : Type 0 where
+  pub url : v.url.now ≢ [] → SaysUrl v.url.now d
+  pub host : v.url.now ≡ [] → v.agent_host.now ≢ [] → SaysHostAndPort v.agent_host.now v.agent_port.now d
+  pub port : v.url.now ≡ [] → v.agent_port.now ≢ [] → SaysHostAndPort v.agent_host.now v.agent_port.now d
+  pub others : v.url.now ≡ [] → v.agent_host.now ≡ [] → v.agent_port.now ≡ [] → SaysHostAndPort v.statsd_host.now v.statsd_port.now d

@@ -1,0 +1,5 @@
+pub mod Destinations
+pub mod EnvironmentFaults
+pub mod Paths
+pub mod Shown
+pub mod TagTexts

@@ -1,0 +1,14 @@
+-- What contracts show of an environment, whose fields are private.
+use Rattle.std.specs.Prelude.{List, map}
+use Rattle.cadence_text.specs.Metric.{Tag}
+use Rattle.cadence_text.specs.Owned.{tag_of_owned}
+use Rattle.cadence_environment.specs.declared.destination.Destination.{Destination}
+use Rattle.cadence_environment.specs.declared.read.Environment.{Environment}
+
+-- where the environment says to send
+abbrev pub destination_of : {A : Type 0} → Environment A → Destination A
+destination_of e = e.destination
+
+-- the tags that the environment says, in order
+abbrev pub tags_of : {A : Type 0} → Environment A → List Tag
+tags_of e = map tag_of_owned e.tags.items

@@ -1,0 +1,190 @@
+//! What the environment says, read from a runtime or from texts.
+ghost use Rattle.std.specs.Prelude.{◌≡◌, IfErr, IfOk, map};
+ghost use Rattle.cadence_text.specs.Owned.{tag_of_owned};
+ghost use Rattle.cadence_environment.specs.Destinations.{SaysPlace};
+ghost use Rattle.cadence_environment.specs.EnvironmentFaults.{IsRefusal};
+ghost use Rattle.cadence_environment.specs.TagTexts.{tags_said};
+
+use crate::destination::{Destination, read_destination};
+use crate::error::EnvironmentError;
+use crate::tags::{Tags, read_tags};
+use crate::variables::{Variable, Variables};
+use cadence_text::line::OwnedTag;
+use std::alloc::{Alloc, Allocator, Global};
+use std::env;
+use std::env::{Env, VarError};
+
+/// What the environment says: where to send, and the default tags of the service.
+#[derive(Drop)]
+pub struct Environment<A: Allocator = Global> {
+    destination: Destination<A>,
+    tags: Tags<A>,
+}
+
+impl<A: Allocator> Environment<A> {
+    ghost use Rattle.cadence_environment.specs.Shown.{destination_of, tags_of};
+
+    /// Returns where the environment says to send.
+    pub fn destination(&self) -> &Destination<A>
+        ensures { result.now ≡ destination_of self.now }
+    {
+        &self.destination
+    }
+
+    /// Returns the tags that the environment says, in order.
+    pub fn tags(&self) -> &[OwnedTag<A>]
+        ensures { map tag_of_owned result.now ≡ tags_of self.now }
+    {
+        &self.tags
+    }
+}
+
+impl<A: Allocator + Clone> Environment<A> {
+    ghost use Rattle.cadence_environment.specs.Shown.{destination_of, tags_of};
+
+    /// Returns what these texts of the variables say.
+    ///
+    /// # Errors
+    /// `Malformed` with a variable that can't be used as it is set, and `OutOfMemory`. A variable that another one
+    /// overrides is never the reason.
+    pub fn from_variables(
+        alloc: A,
+        variables: &Variables<'_>,
+    ) -> Result<Environment<A>, EnvironmentError>
+        ensures place { IfOk result (λ e. SaysPlace variables.now (destination_of e)) }
+        ensures tags { IfOk result (λ e. tags_of e ≡ tags_said variables.now) }
+        ensures refused { IfErr result (IsRefusal variables.now) }
+    {
+        let destination = read_destination(alloc.clone()?, variables)?;
+        let tags = read_tags(alloc, variables)?;
+        Ok(Environment { destination, tags })
+    }
+
+    /// Reads the variables of the runtime's environment, and returns what they say. A variable that another one
+    /// overrides is not read.
+    ///
+    /// # Errors
+    /// `Malformed` with a variable that can't be used as it is set, also because it is not UTF-8, and `OutOfMemory`.
+    pub fn read<R: Env + Alloc<A = A>>(rt: &R) -> Result<Environment<A>, EnvironmentError> {
+        let (places, tags) = (PlaceTexts::read(rt)?, TagTexts::read(rt)?);
+        Environment::from_variables(rt.alloc(), &tags.lend(places.lend(Variables::none())))
+    }
+
+    /// Reads the variables that say where to send, and returns what they say. The tags are not read.
+    ///
+    /// # Errors
+    /// Those of `read`.
+    pub fn read_destination<R: Env + Alloc<A = A>>(
+        rt: &R,
+    ) -> Result<Destination<A>, EnvironmentError> {
+        let places = PlaceTexts::read(rt)?;
+        read_destination(rt.alloc(), &places.lend(Variables::none()))
+    }
+
+    /// Reads the variables that say the tags, and returns what they say. A caller that says itself where to send calls
+    /// this in place of `read`, because its destination wins over that of the environment.
+    ///
+    /// # Errors
+    /// Those of `read`.
+    pub fn read_tags<R: Env + Alloc<A = A>>(
+        rt: &R,
+    ) -> Result<Vec<OwnedTag<A>, A>, EnvironmentError> {
+        let tags = TagTexts::read(rt)?;
+        read_tags(rt.alloc(), &tags.lend(Variables::none()))
+    }
+}
+
+// Returns the text of a variable, or the empty text if it is not set or not wanted.
+fn read_text<R: Env + Alloc>(
+    rt: &R,
+    variable: Variable,
+    is_wanted: bool,
+) -> Result<String<R::A>, EnvironmentError> {
+    if !is_wanted {
+        return Ok(String::new(rt.alloc()));
+    }
+    match env::var(rt, variable.name()) {
+        Ok(text) => Ok(text),
+        Err(VarError::NotPresent) => Ok(String::new(rt.alloc())),
+        Err(VarError::NotUnicode) => Err(EnvironmentError::Malformed(variable)),
+        Err(VarError::OutOfMemory) => Err(EnvironmentError::OutOfMemory),
+    }
+}
+
+// The texts of the variables that say where to send. One that is not set or that another one overrides has the empty
+// text.
+#[derive(Drop)]
+struct PlaceTexts<A: Allocator> {
+    url: String<A>,
+    agent_host: String<A>,
+    agent_port: String<A>,
+    statsd_host: String<A>,
+    statsd_port: String<A>,
+}
+
+impl<A: Allocator> PlaceTexts<A> {
+    // Reads the texts of the variables that no other one overrides.
+    fn read<R: Env + Alloc<A = A>>(rt: &R) -> Result<PlaceTexts<A>, EnvironmentError> {
+        let url = read_text(rt, Variable::Url, true)?;
+        let no_url = url.is_empty();
+        let agent_host = read_text(rt, Variable::AgentHost, no_url)?;
+        let agent_port = read_text(rt, Variable::AgentPort, no_url)?;
+        let no_agent = no_url && agent_host.is_empty() && agent_port.is_empty();
+        let statsd_host = read_text(rt, Variable::StatsdHost, no_agent)?;
+        let statsd_port = read_text(rt, Variable::StatsdPort, no_agent)?;
+        Ok(PlaceTexts {
+            url,
+            agent_host,
+            agent_port,
+            statsd_host,
+            statsd_port,
+        })
+    }
+
+    // Returns these variables with the texts.
+    fn lend<'a>(&'a self, others: Variables<'a>) -> Variables<'a> {
+        Variables {
+            url: &self.url,
+            agent_host: &self.agent_host,
+            agent_port: &self.agent_port,
+            statsd_host: &self.statsd_host,
+            statsd_port: &self.statsd_port,
+            ..others
+        }
+    }
+}
+
+// The texts of the variables that say the tags. One that is not set has the empty text.
+#[derive(Drop)]
+struct TagTexts<A: Allocator> {
+    env: String<A>,
+    service: String<A>,
+    version: String<A>,
+    tags: String<A>,
+    entity_id: String<A>,
+}
+
+impl<A: Allocator> TagTexts<A> {
+    // Reads the texts.
+    fn read<R: Env + Alloc<A = A>>(rt: &R) -> Result<TagTexts<A>, EnvironmentError> {
+        Ok(TagTexts {
+            env: read_text(rt, Variable::Env, true)?,
+            service: read_text(rt, Variable::Service, true)?,
+            version: read_text(rt, Variable::Version, true)?,
+            tags: read_text(rt, Variable::Tags, true)?,
+            entity_id: read_text(rt, Variable::EntityId, true)?,
+        })
+    }
+
+    // Returns these variables with the texts.
+    fn lend<'a>(&'a self, others: Variables<'a>) -> Variables<'a> {
+        Variables {
+            env: &self.env,
+            service: &self.service,
+            version: &self.version,
+            tags: &self.tags,
+            entity_id: &self.entity_id,
+            ..others
+        }
+    }
+}

@@ -1,0 +1,123 @@
+//! The variables of the environment, and the texts that they have.
+
+/// A variable of the environment.
+#[derive(Clone, Copy, Debug, PartialEq, Eq)]
+pub enum Variable {
+    /// `DD_DOGSTATSD_URL`: the agent, as a URL.
+    Url,
+    /// `DD_AGENT_HOST`: the host of the agent.
+    AgentHost,
+    /// `DD_DOGSTATSD_PORT`: the port of the agent.
+    AgentPort,
+    /// `STATSD_HOST`: the host of a Statsd server.
+    StatsdHost,
+    /// `STATSD_PORT`: the port of a Statsd server.
+    StatsdPort,
+    /// `DD_ENV`: the text of the tag `env`.
+    Env,
+    /// `DD_SERVICE`: the text of the tag `service`.
+    Service,
+    /// `DD_VERSION`: the text of the tag `version`.
+    Version,
+    /// `DD_TAGS`: other tags.
+    Tags,
+    /// `DD_ENTITY_ID`: the text of the tag `dd.internal.entity_id`.
+    EntityId,
+}
+
+impl Variable {
+    /// Returns the name of the variable.
+    pub fn name(self) -> &'static str {
+        match self {
+            Variable::Url => "DD_DOGSTATSD_URL",
+            Variable::AgentHost => "DD_AGENT_HOST",
+            Variable::AgentPort => "DD_DOGSTATSD_PORT",
+            Variable::StatsdHost => "STATSD_HOST",
+            Variable::StatsdPort => "STATSD_PORT",
+            Variable::Env => "DD_ENV",
+            Variable::Service => "DD_SERVICE",
+            Variable::Version => "DD_VERSION",
+            Variable::Tags => "DD_TAGS",
+            Variable::EntityId => "DD_ENTITY_ID",
+        }
+    }
+
+    // Returns what the variable wants.
+    pub(crate) fn wish(self) -> &'static str {
+        match self {
+            Variable::Url => {
+                "DD_DOGSTATSD_URL of the environment wants udp://HOST, udp://HOST:PORT or unix:///PATH, as in DD_DOGSTATSD_URL=udp://127.0.0.1:8125"
+            }
+            Variable::AgentHost => {
+                "DD_AGENT_HOST of the environment wants a host, as in DD_AGENT_HOST=127.0.0.1"
+            }
+            Variable::AgentPort => {
+                "DD_DOGSTATSD_PORT of the environment wants a port, as in DD_DOGSTATSD_PORT=8125"
+            }
+            Variable::StatsdHost => {
+                "STATSD_HOST of the environment wants a host, as in STATSD_HOST=127.0.0.1"
+            }
+            Variable::StatsdPort => {
+                "STATSD_PORT of the environment wants a port, as in STATSD_PORT=8125"
+            }
+            Variable::Env => {
+                "DD_ENV of the environment wants a text without commas, bars and newlines, as in DD_ENV=prod"
+            }
+            Variable::Service => {
+                "DD_SERVICE of the environment wants a text without commas, bars and newlines, as in DD_SERVICE=shop"
+            }
+            Variable::Version => {
+                "DD_VERSION of the environment wants a text without commas, bars and newlines, as in DD_VERSION=1.2.3"
+            }
+            Variable::Tags => {
+                "DD_TAGS of the environment wants tags K:V or V without bars and newlines, as in DD_TAGS=team:shop,beta"
+            }
+            Variable::EntityId => {
+                "DD_ENTITY_ID of the environment wants a text without commas, bars and newlines, as in DD_ENTITY_ID=9f2c"
+            }
+        }
+    }
+}
+
+/// The texts of the variables. A variable that is not set has the empty text, because an empty one counts as not set.
+#[derive(Clone, Copy, Debug)]
+pub struct Variables<'a> {
+    /// The text of `DD_DOGSTATSD_URL`.
+    pub url: &'a str,
+    /// The text of `DD_AGENT_HOST`.
+    pub agent_host: &'a str,
+    /// The text of `DD_DOGSTATSD_PORT`.
+    pub agent_port: &'a str,
+    /// The text of `STATSD_HOST`.
+    pub statsd_host: &'a str,
+    /// The text of `STATSD_PORT`.
+    pub statsd_port: &'a str,
+    /// The text of `DD_ENV`.
+    pub env: &'a str,
+    /// The text of `DD_SERVICE`.
+    pub service: &'a str,
+    /// The text of `DD_VERSION`.
+    pub version: &'a str,
+    /// The text of `DD_TAGS`.
+    pub tags: &'a str,
+    /// The text of `DD_ENTITY_ID`.
+    pub entity_id: &'a str,
+}
+
+impl Variables<'_> {
+    /// Returns the texts of an environment in which no variable is set.
+    pub fn none() -> Variables<'static> {
+        Variables {
+            url: "",
+            agent_host: "",
+            agent_port: "",
+            statsd_host: "",
+            statsd_port: "",
+            env: "",
+            service: "",
+            version: "",
+            tags: "",
+            entity_id: "",
+        }
+    }
+}

@@ -1,0 +1,71 @@
+//! Each request for memory of the environment refused in turn.
+use super::given::Given;
+use cadence::prelude::*;
+use cadence::types::{ErrorKind, MetricError, MetricResult, SinkError};
+use cadence_agent::{Environment, EnvironmentError, EnvironmentSink, client_of};
+use std::alloc::Global;
+use std::net::Net;
+use std::sync::Wait;
+use std::test::Fail;
+use test_tools::{RefusingAllocator, each_refused};
+
+// The heap of these tests.
+type Heap = RefusingAllocator<Global>;
+
+const GIVEN: Given<'static> = Given {
+    variables: &[
+        ("DD_DOGSTATSD_URL", b"udp://127.0.0.1:9"),
+        ("DD_ENV", b"prod"),
+        ("DD_TAGS", b"a:b, c"),
+        ("DD_ENTITY_ID", b"id"),
+    ],
+};
+
+// More than the requests of any attempt. The countdown of a heap that refused one has passed 0, and is greater.
+const MOST_REQUESTS: u64 = 1000;
+
+// Returns whether the environment was read, and no request was refused. Only a refused request may be why it isn't read.
+// A list that is refused more room than it needs asks again, so not each refusal is an error.
+fn is_read(heap: &Heap) -> Result<bool, Fail> {
+    match Environment::read(&(GIVEN, heap)) {
+        Ok(environment) if environment.tags().len() == 4 => Ok(heap.left() <= MOST_REQUESTS),
+        Ok(_) => Err(Fail::new("a tag is lost")),
+        Err(EnvironmentError::OutOfMemory) => Ok(false),
+        Err(error) => Err(Fail::new(error)),
+    }
+}
+
+#[test]
+fn each_request_of_a_reading_may_be_refused(rt: HostRuntime) -> Result<(), Fail> {
+    let granted = each_refused(rt.alloc(), |heap| is_read(&heap))?;
+    // Six variables, the host, and four tags with three keys take a request each.
+    assert!(rt; granted.is_some_and(|granted| granted >= 14));
+    Ok(())
+}
+
+// Makes a client of what the environment says, and sends a line of it.
+fn send_line<R: Net + Wait + Clone + Drop>(rt: &R, alloc: Global, heap: Heap) -> MetricResult<()> {
+    let environment = Environment::read(&(GIVEN, alloc))?;
+    let client = client_of(rt, heap, "p", &environment)?;
+    client.count("k", 1)?;
+    if let EnvironmentSink::Unix(_) = client.sink() {
+        return Err(MetricError::from((ErrorKind::InvalidInput, "a path")));
+    }
+    Ok(())
+}
+
+// Returns whether there was memory for a client and its line.
+fn is_sent<R: Net + Wait + Clone + Drop>(rt: &R, alloc: Global, heap: Heap) -> Result<bool, Fail> {
+    match send_line(rt, alloc, heap) {
+        Ok(()) => Ok(true),
+        Err(MetricError::Sink(SinkError::OutOfMemory)) => Ok(false),
+        Err(error) => Err(Fail::new(error)),
+    }
+}
+
+#[test]
+fn each_request_of_a_client_may_be_refused(rt: HostRuntime) -> Result<(), Fail> {
+    let granted = each_refused(rt.alloc(), |heap| is_sent(&rt, rt.alloc(), heap))?;
+    assert!(rt; granted.is_some_and(|granted| granted > 10));
+    Ok(())
+}
