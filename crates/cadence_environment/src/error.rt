@@ -29,7 +29,7 @@ impl From<AllocError> for EnvironmentError {
 impl fmt::Display for EnvironmentError {
     fn fmt<W: fmt::Write>(&self, f: &mut fmt::Formatter<W>) -> fmt::Result {
         f.write_str(match self {
-            EnvironmentError::Malformed(variable) => variable.wish(),
+            EnvironmentError::Malformed(variable) => variable.message(),
             EnvironmentError::OutOfMemory => "out of memory",
         })
     }
@@ -42,7 +42,7 @@ impl From<EnvironmentError> for MetricError {
     fn from(error: EnvironmentError) -> MetricError {
         match error {
             EnvironmentError::Malformed(variable) => {
-                MetricError::from((ErrorKind::InvalidInput, variable.wish()))
+                MetricError::from((ErrorKind::InvalidInput, variable.message()))
             }
             EnvironmentError::OutOfMemory => MetricError::Sink(SinkError::OutOfMemory),
         }

@@ -43,7 +43,7 @@ impl Variable {
     }
 
     // Returns what the variable wants.
-    pub(crate) fn wish(self) -> &'static str {
+    pub(crate) fn message(self) -> &'static str {
         match self {
             Variable::Url => {
                 "DD_DOGSTATSD_URL of the environment wants udp://HOST, udp://HOST:PORT or unix:///PATH, as in DD_DOGSTATSD_URL=udp://127.0.0.1:8125"

@@ -1,20 +1,28 @@
-//! A service that sends to a Unix socket, and the server that receives its datagrams. The server is another one after
-//! half of the lines, as an agent is that restarts.
+//! A service that sends where the environment says, and one that sends to a Unix socket, with the server that receives
+//! its datagrams. The server is another one after half of the lines, as an agent is that restarts.
 
 use crate::runtime::Runtime;
 use cadence::prelude::*;
 use cadence::{MetricResult, MetricSink};
 use cadence_agent::{
-    BufferedUnixClient, UnixClient, UnixSocket, buffered_unix_client, queued_unix_client,
-    unix_client,
+    BufferedUnixClient, UnixClient, UnixSocket, buffered_unix_client, environment_client,
+    queued_unix_client, unix_client,
 };
 use std::alloc::Global;
+use std::env::Env;
 use std::fs;
 use std::fs::Files;
 use std::io::Read;
 use std::net::Net;
 use std::os::fd::{AsFd, OwnedFd};
 use std::os::unix::net::{SocketAddr, UnixStream};
+
+/// Counts over a client that sends where the environment says.
+pub fn count_by_environment<R: Runtime + Env>(rt: &R, alloc: Global) -> MetricResult<()> {
+    let client = environment_client(rt, alloc, "my.service")?;
+    client.incr("visits")?;
+    client.flush()
+}
 
 pub fn send_to_agent<R: Runtime>(rt: &R, alloc: Global, path: &str) -> MetricResult<()> {
     let client = queued_unix_client(rt, alloc, "my.service", path, 1432, Some(1000))?;

@@ -1,25 +1,46 @@
-//! Makes every call of the client for every type of its value, plain and with tags, and prints the lines that the sink
-//! received. Each line must arrive once. Then it prints the texts of an audited queue's errors.
+//! The calls of one caller, and then those of four callers at once.
 //!
-//! The expected lines follow from the grammar: prefix, key, numbers, kind, rate, tags, container, timestamp. A spy
-//! takes the place of a socket. Errors, refusals and memory are tested in `test_client`.
+//! The first part makes every call of the client for every type of its value, plain and with tags, and prints the lines
+//! that the sink received. Each line must arrive once. Then it prints the texts of an audited queue's errors. The
+//! expected lines follow from the grammar: prefix, key, numbers, kind, rate, tags, container, timestamp. A spy takes the
+//! place of a socket. Errors, refusals and memory are tested in `test_client`.
 //!
 //! - `groups`: the calls in groups. `kinds`: the calls of each kind. `tagged`: adds a tag to a call and sends it.
 //! - `options`: the options of a call, and clients with settings.
+//!
+//! The second part has four callers in threads over one queuing sink, for each kind of queue, while handles are cloned
+//! and dropped. It prints only what has to be true for any order of the threads' turns: sums, and whether each accepted
+//! line that wasn't dropped reached the wrapped sink once, in the order of its caller, one at a time. First the callers
+//! emit as fast as they can. Then each one waits until no line is queued, so the worker sleeps before most lines: a lost
+//! wake-up would show as a caller that doesn't end. It waits for each thing 20 seconds at most, so it ends even if a
+//! thread hangs. A run tries some orders of turns, and not all of them; the model in `model/` goes through all orders of
+//! a few threads.
+//!
+//! - `callers`: the callers and what their calls returned. `queues`: the three kinds of queues.
+//! - `record`: the wrapped sink, and what it records. `turns`: waiting.
+//! - `bursts`: callers that emit as fast as they can. `wake_ups`: callers that wait after each line.
 #![tactic(auto)]
 
+mod bursts;
+mod callers;
 mod groups;
 mod kinds;
 mod options;
+mod queues;
+mod record;
 mod tagged;
+mod turns;
+mod wake_ups;
 
 use cadence::queue::{AuditError, EndFault};
 use cadence::sinks::{SpyMetricSink, SpyReceiver};
 use cadence::{DEFAULT_PORT, MetricResult, MetricSink, StatsdClient};
 use groups::Group;
 use options::Setting;
+use queues::QueueKind;
 use std::alloc::{AllocError, Global};
 use std::sync::Wait;
+use turns::Runtime;
 
 // The settings of further clients, each of which makes a few calls.
 const SETTINGS: [Setting; 6] = [
@@ -112,6 +133,36 @@ fn report_settings<R: Wait + Clone + Drop>(rt: &R, alloc: Global) -> MetricResul
     Ok(text)
 }
 
+// Lets four callers emit as fast as they can, into each kind of queue, and returns the report.
+fn report_bursts<R: Runtime>(rt: &R, alloc: Global) -> MetricResult<String> {
+    let mut text = String::new(alloc);
+    let emits = bursts::EMITS;
+    writeln!(
+        &mut text,
+        "while the wrapped sink takes each line at once, of {emits} emits:"
+    )?;
+    for kind in QueueKind::ALL {
+        writeln!(&mut text, "{kind}")?;
+        text.push_str(&bursts::report(rt, alloc, kind)?)?;
+    }
+    Ok(text)
+}
+
+// Lets four callers wait after each line, over each kind of queue, and returns the report.
+fn report_wake_ups<R: Runtime>(rt: &R, alloc: Global) -> MetricResult<String> {
+    let mut text = String::new(alloc);
+    let emits = wake_ups::EMITS;
+    writeln!(
+        &mut text,
+        "while each caller waits after a line until none is queued, of {emits} emits:"
+    )?;
+    for kind in QueueKind::ALL {
+        writeln!(&mut text, "{kind}")?;
+        text.push_str(&wake_ups::report(rt, alloc, kind)?)?;
+    }
+    Ok(text)
+}
+
 fn main(rt: HostRuntime) -> MetricResult<()> {
     let alloc = rt.alloc();
     let (lines, spy) = SpyMetricSink::new(rt.clone()?, alloc)?;
@@ -119,5 +170,7 @@ fn main(rt: HostRuntime) -> MetricResult<()> {
     let client = StatsdClient::from_sink(alloc, "p", sink)?;
     print!(rt; "{}", report_groups(alloc, &client, &lines)?)?;
     print!(rt; "{}", report_settings(&rt, alloc)?)?;
+    print!(rt; "{}", report_bursts(&rt, alloc)?)?;
+    print!(rt; "{}", report_wake_ups(&rt, alloc)?)?;
     Ok(())
 }

@@ -112,7 +112,7 @@ pub fn environment_sink<R: Env + Net + Wait + Clone + Drop, A: Allocator + Clone
 /// default tags. The errors are those of `environment_sink`.
 ///
 /// ```text
-/// let client = environment_client(&rt, alloc, "my.service")?;
+/// let client = environment_client(rt, alloc, "my.service")?;
 /// ```
 pub fn environment_client<R: Env + Net + Wait + Clone + Drop, A: Allocator + Clone>(
     rt: &R,
