@@ -12,6 +12,7 @@ use crate::texts::cut_text;
 use crate::variables::{Variable, Variables};
 use cadence_resolve::DEFAULT_PORT;
 use std::alloc::{Allocator, Global};
+use std::net::Ipv6Addr;
 
 // The host to which packets are sent if none is set.
 const DEFAULT_HOST: &str = "127.0.0.1";
@@ -52,15 +53,31 @@ fn is_host(text: &str) -> bool
     !text.is_empty() && text.as_bytes().iter().all(|byte| is_host_byte(*byte))
 }
 
-// Returns the host if the text is one, with or without brackets round it.
+// Returns whether a text is an address of IPv6. It may have a zone, as in `fe80::1%eth0`.
+fn is_ipv6(text: &str) -> bool {
+    let address = match cut_text(text, b'%') {
+        Some((_, zone)) if zone.is_empty() || zone.contains('%') || zone.contains(':') => {
+            return false;
+        }
+        Some((address, _)) => address,
+        None => text,
+    };
+    address.parse::<Ipv6Addr>().is_ok()
+}
+
+// Returns the host if the text is one. Only an address of IPv6 has colons, and it may have brackets round it.
 fn read_host(text: &str) -> Option<&str>
     ensures { IfSome result (λ host. NamesHost text.now host.now) }
 {
     if is_host(text) {
-        return Some(text);
+        return if text.contains(':') && !is_ipv6(text) {
+            None
+        } else {
+            Some(text)
+        };
     }
     let inner = text.strip_prefix('[')?.strip_suffix(']')?;
-    if !is_host(inner) {
+    if !is_host(inner) || !is_ipv6(inner) {
         return None;
     }
     Some(inner)
@@ -87,12 +104,15 @@ fn with_host(host: &str, port: u16) -> Option<(&str, u16)>
     Some((host, port))
 }
 
-// Reads HOST or HOST:PORT. A host that has colons has brackets round it.
+// Reads HOST or HOST:PORT. A host that is an address of IPv6 has brackets round it.
 fn read_authority(text: &str) -> Option<(&str, u16)>
     ensures { IfSome result (λ parts. IsAuthority text.now parts.0.now parts.1) }
 {
     if let Some(inner) = text.strip_prefix('[') {
         let (host, rest) = cut_text(inner, b']')?;
+        if !is_ipv6(host) {
+            return None;
+        }
         return with_host(host, read_url_port(rest)?);
     }
     match cut_text(text, b':') {

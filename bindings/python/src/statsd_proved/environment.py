@@ -2,7 +2,6 @@
 from __future__ import annotations
 
 import ipaddress
-import unicodedata
 from collections.abc import Callable, Mapping
 from typing import TypeVar, Union
 
@@ -86,9 +85,9 @@ def _host(text: str) -> str | None:
 
 
 def _is_name(text: str) -> bool:
-    """Returns whether a text can be a name or an IPv4 address: it is not empty, and has no space, slash or control
-    character."""
-    return text != "" and not any(sign in " /" or unicodedata.category(sign) == "Cc" for sign in text)
+    """Returns whether a text can be a name or an IPv4 address: it is not empty, and has no space, slash or ASCII
+    control character."""
+    return text != "" and not any(sign in "/\x7f" or sign <= " " for sign in text)
 
 
 def _is_ipv6(text: str) -> bool:

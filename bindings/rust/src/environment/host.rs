@@ -21,10 +21,10 @@ pub(super) fn host_of(text: &str) -> Option<String> {
     is_name(text).then(|| text.to_string())
 }
 
-/// Returns whether a text can be a name or an IPv4 address: it is not empty, and has no space, slash or control
+/// Returns whether a text can be a name or an IPv4 address: it is not empty, and has no space, slash or ASCII control
 /// character.
 fn is_name(text: &str) -> bool {
-    !text.is_empty() && !text.contains(|c: char| c == ' ' || c == '/' || c.is_control())
+    !text.is_empty() && !text.contains(|c: char| c == ' ' || c == '/' || c.is_ascii_control())
 }
 
 /// Returns whether a text is an IPv6 address. It may have a zone, as in `fe80::1%eth0`.

@@ -258,6 +258,7 @@ const MALFORMED: &[(Variable, &str, &[&[u8]])] = &[
             b"udp://::1",
             b"udp://[::1",
             b"udp://[]",
+            b"udp://[a]:1",
             b"udp://[::1]1",
             b"udp://[::1]:",
             b"udp://[::1]:0",
@@ -322,7 +323,8 @@ const MALFORMED: &[(Variable, &str, &[&[u8]])] = &[
 ];
 
 const HOSTS: &[&[u8]] = &[
-    b" ", b"a b", b"a/", b"/run/s", b"udp://a", b"a\n", b"\x01", b"[]", b"\xff",
+    b" ", b"a b", b"a/", b"/run/s", b"udp://a", b"a\n", b"\x01", b"[]", b"[a]", b"a:1", b"::1::2",
+    b"::1%", b"\xff",
 ];
 
 const PORTS: &[&[u8]] = &[
