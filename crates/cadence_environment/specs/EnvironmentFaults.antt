@@ -14,7 +14,7 @@ abbrev pub IsFaultOf : Variable → EnvironmentError → Type 0
 IsFaultOf variable (Malformed other) = other ≡ variable
 IsFaultOf variable OutOfMemory = ⊤
 
--- The error names a variable that is set and that no other one overrides, or says that memory ran out.
+-- The variable is set, and no other one overrides it.
 abbrev pub IsRead : Variables → Variable → Type 0
 IsRead v Url = v.url.now ≢ []
 IsRead v AgentHost = (v.url.now ≡ []) × (v.agent_host.now ≢ [])

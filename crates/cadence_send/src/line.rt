@@ -83,7 +83,6 @@ enum Tags<'a> {
 
 impl Tags<'_> {
     // Adds the tags to a draft.
-    #[inline(always)]
     fn add_to<A: Allocator>(self, draft: &mut DraftLine<'_, A>) -> Result<(), WordError>
         ensures { AddsTags (tag_words self.entry) draft.old draft.new result }
     {
@@ -95,7 +94,6 @@ impl Tags<'_> {
 }
 
 // Sets the rate and the time of a draft that has neither, if the command line gives them.
-#[inline(always)]
 fn set_rate_and_time<A: Allocator>(
     draft: &mut DraftLine<'_, A>,
     rate: Option<Decimal>,
@@ -114,7 +112,6 @@ fn set_rate_and_time<A: Allocator>(
 
 // Returns the draft of a metric without tags of its own, with all that the command line adds. The draft takes the
 // memory of the buffer.
-#[inline(always)]
 fn draft_in_buffer<'a, A: Allocator + Clone>(
     defaults: &'a Defaults<A>,
     buffer: Vec<u8, A>,

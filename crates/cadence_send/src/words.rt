@@ -39,7 +39,6 @@ pub(crate) fn read_kind(word: &str) -> Option<MetricType>
 }
 
 // Returns the bytes as a text if they are UTF-8. Most bytes are ASCII, and the test for ASCII is faster.
-#[inline(always)]
 pub(crate) fn utf8_text(bytes: &[u8]) -> Option<&str>
     ensures text { IfSome result (λ t. (t.now ≡ bytes.now) × IsUtf8 bytes.now) }
     ensures none { IfNone result (IsUtf8 bytes.now → ⊥) }
