@@ -1,5 +1,5 @@
 //! The arguments of a call of C, and their conversion to the types of the library.
-// Without the hints to inline in this file, a counter from C takes 27 instructions more (`bindings/c/speed.c`).
+// Without this crate's hints to inline, a counter takes 143 instructions more (`bindings/c/speed.c`), 27 by this file's.
 ghost use Rattle.std.specs.Prelude.{◌≡◌, ◌<◌, IfOk, IfErr, IfSome, IfNone, true, false};
 ghost use Rattle.std.specs.Str.{IsUtf8};
 ghost use Rattle.cadence_text.specs.Record.{tag_of as record_tag};

@@ -1,6 +1,4 @@
 //! A client of C: its settings, its held text and its queue of packets.
-// Without the hints to inline in this file, in `call`, `line` and `lib`, a counter from C takes 143 instructions more
-// (`bindings/c/speed.c`).
 ghost use Rattle.std.specs.Prelude.{◌≡◌};
 
 use crate::call::{COptions, is_free_call};

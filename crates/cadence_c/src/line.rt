@@ -1,6 +1,4 @@
 //! The line of a call: the test of what the call says, and the options in the line.
-// Without the hints to inline in this file, in `call`, `client` and `lib`, a counter from C takes 143 instructions more
-// (`bindings/c/speed.c`).
 ghost use Rattle.std.specs.Prelude.{◌≡◌, [], ◌∷◌, All, IfOk, OnOk, Some, if◌then◌else◌};
 ghost use Rattle.std.specs.Option.{option_or};
 ghost use Rattle.cadence_text.specs.Draft.{draft_of};
