@@ -76,7 +76,8 @@ fn drive<A: Allocator + Clone, T: PacketWriter, I: Read, E: Write>(
     let Ok(Request::Send(options, _)) = read_options(alloc.clone().ok()?, OPTIONS) else {
         return None;
     };
-    let defaults = options.defaults(alloc.clone().ok()?, &[]).ok()?;
+    let none: Vec<OwnedTag<A>, A> = Vec::new(alloc.clone().ok()?);
+    let defaults = options.defaults(alloc.clone().ok()?, &none).ok()?;
     let status = if words.is_empty() {
         run_input(&alloc, &defaults, &mut lines, input, errors, &mut Unhurried)
     } else {
