@@ -1,5 +1,5 @@
 -- Metrics whose lines can be read in one way only, because no text in them has a separator.
-use Rattle.std.specs.Prelude.{◌≡◌, ◌≢◌, ℕ, ◌⊎◌, List, [], ◌∷◌, ◌++◌, All, IfSome, codes}
+use Rattle.std.specs.Prelude.{◌≡◌, ◌≢◌, ◌<◌, ◌↔◌, ℕ, ◌⊎◌, List, [], ◌∷◌, ◌++◌, All, IfSome, codes, slice_index}
 use Rattle.std.specs.List.{flat_map}
 use Rattle.cadence_text.specs.Metric.{Metric, Tag}
 use Rattle.cadence_text.specs.Line.{line_of}
@@ -7,6 +7,10 @@ use Rattle.cadence_text.specs.Line.{line_of}
 -- The byte is none of the separators `:`, `,`, `|` and newline.
 abbrev pub IsNoSeparator : ℕ → Type 0
 IsNoSeparator byte = (byte ≢ 58) × (byte ≢ 44) × (byte ≢ 124) × (byte ≢ 10)
+
+-- The table has a flag for each byte, and the flag is zero if and only if the byte is no separator.
+unfoldable pub AreSeparatorFlags : List ℕ → Type 0
+AreSeparatorFlags flags = (byte : ℕ) → byte < 256 → (slice_index flags byte ≡ 0) ↔ IsNoSeparator byte
 
 -- The text has no separator.
 abbrev pub IsFreeText : List ℕ → Type 0

@@ -2,13 +2,35 @@
 // Without the hints to inline in this file and in those of the reader, a byte of a packet takes 2 instructions more
 // (`bench read_arena 512 20`).
 ghost use Rattle.std.specs.Prelude.{◌<◌, ◌≤◌, ◌↔◌, ℕ, IsTrue, length, slice_index};
-ghost use Rattle.cadence_text.specs.OneReading.{IsFreeText, IsNoSeparator};
+ghost use Rattle.cadence_text.specs.OneReading.{AreSeparatorFlags, IsFreeText, IsNoSeparator};
 
-// Returns whether a byte is no separator. Letters are tested first, because most bytes of a name are letters.
+// For each byte, 1 if it is a separator and 0 otherwise. A look at this table takes fewer instructions than comparisons.
+const FLAGS: [u8; 256] = [
+    0, 0, 0, 0, 0, 0, 0, 0, 0, 0, 1, 0, 0, 0, 0, 0, 0, 0, 0, 0, 0, 0, 0, 0, 0, 0, 0, 0, 0, 0, 0, 0,
+    0, 0, 0, 0, 0, 0, 0, 0, 0, 0, 0, 0, 1, 0, 0, 0, 0, 0, 0, 0, 0, 0, 0, 0, 0, 0, 1, 0, 0, 0, 0, 0,
+    0, 0, 0, 0, 0, 0, 0, 0, 0, 0, 0, 0, 0, 0, 0, 0, 0, 0, 0, 0, 0, 0, 0, 0, 0, 0, 0, 0, 0, 0, 0, 0,
+    0, 0, 0, 0, 0, 0, 0, 0, 0, 0, 0, 0, 0, 0, 0, 0, 0, 0, 0, 0, 0, 0, 0, 0, 0, 0, 0, 0, 1, 0, 0, 0,
+    0, 0, 0, 0, 0, 0, 0, 0, 0, 0, 0, 0, 0, 0, 0, 0, 0, 0, 0, 0, 0, 0, 0, 0, 0, 0, 0, 0, 0, 0, 0, 0,
+    0, 0, 0, 0, 0, 0, 0, 0, 0, 0, 0, 0, 0, 0, 0, 0, 0, 0, 0, 0, 0, 0, 0, 0, 0, 0, 0, 0, 0, 0, 0, 0,
+    0, 0, 0, 0, 0, 0, 0, 0, 0, 0, 0, 0, 0, 0, 0, 0, 0, 0, 0, 0, 0, 0, 0, 0, 0, 0, 0, 0, 0, 0, 0, 0,
+    0, 0, 0, 0, 0, 0, 0, 0, 0, 0, 0, 0, 0, 0, 0, 0, 0, 0, 0, 0, 0, 0, 0, 0, 0, 0, 0, 0, 0, 0, 0, 0,
+];
+
+// Returns whether the flag of a byte is zero. The table is a parameter because the checker can't name a constant in a
+// proof, and the call below proves that `FLAGS` is such a table.
+#[inline(always)]
+fn has_no_flag(flags: &[u8; 256], byte: u8) -> bool
+    requires { AreSeparatorFlags flags.now }
+    ensures { IsTrue result ↔ IsNoSeparator byte }
+{
+    flags[byte as usize] == 0
+}
+
+// Returns whether a byte is no separator.
 fn is_no_separator(byte: u8) -> bool
     ensures { IsTrue result ↔ IsNoSeparator byte }
 {
-    (59..=123).contains(&byte) || (byte != b':' && byte != b',' && byte != b'|' && byte != b'\n')
+    has_no_flag(&FLAGS, byte)
 }
 
 // Returns a multiple of four: no byte before it is a separator. The loop tests four bytes at each turn, because the
@@ -20,10 +42,10 @@ fn free_fours(text: &[u8]) -> usize
 {
     let mut at = 0;
     while text.len() - at >= 4
-        && is_no_separator(text[at])
-        && is_no_separator(text[at + 1])
-        && is_no_separator(text[at + 2])
-        && is_no_separator(text[at + 3])
+        && (is_no_separator(text[at])
+            & is_no_separator(text[at + 1])
+            & is_no_separator(text[at + 2])
+            & is_no_separator(text[at + 3]))
     {
         at += 4;
     }
