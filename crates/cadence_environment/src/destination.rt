@@ -8,9 +8,9 @@ ghost use Rattle.cadence_environment.specs.declared.variables.Variable.TheVarian
 
 use crate::error::EnvironmentError;
 use crate::path::check_path;
-use crate::texts::cut_text;
 use crate::variables::{Variable, Variables};
 use cadence_resolve::DEFAULT_PORT;
+use cadence_value::bytes::cut_text;
 use std::alloc::{Allocator, Global};
 use std::net::Ipv6Addr;
 

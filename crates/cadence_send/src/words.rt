@@ -1,5 +1,5 @@
 //! Cuts a line into words, and reads single words.
-ghost use Rattle.std.specs.Prelude.{◌≡◌, ◌≢◌, ◌↔◌, ◌==◌, ◌<◌, ◌∷◌, ◌++◌, [], All, IfNone, IfOk, IfSome, IsTrue, map};
+ghost use Rattle.std.specs.Prelude.{◌≡◌, ◌↔◌, ◌==◌, ◌∷◌, [], IfNone, IfOk, IfSome, IsTrue, map};
 ghost use Rattle.std.specs.List.{slice_split};
 ghost use Rattle.std.specs.Option.{option_map};
 ghost use Rattle.std.specs.Str.{IsUtf8};
@@ -8,7 +8,7 @@ ghost use Rattle.cadence_value.specs.Finds.{Finds};
 ghost use Rattle.cadence_text.specs.Record.{tag_of};
 
 use cadence_text::line::{MetricType, Tag, is_free};
-use cadence_value::bytes;
+use cadence_value::bytes::cut_text;
 use std::alloc::{AllocError, Allocator};
 use std::str;
 
@@ -47,20 +47,6 @@ pub(crate) fn utf8_text(bytes: &[u8]) -> Option<&str>
         return Some(unsafe { str::from_utf8_unchecked(bytes) });
     }
     str::from_utf8(bytes).ok()
-}
-
-// Returns the text before the first `mark`, which is an ASCII character, and the text after it. This is
-// `cadence_value::bytes::cut` for texts in UTF-8.
-fn cut_text(text: &str, mark: u8) -> Option<(&str, &str)>
-    requires { mark < 128 }
-    ensures none { IfNone result (All (λ byte. byte ≢ mark) text.now) }
-    ensures front { IfSome result (λ parts. All (λ byte. byte ≢ mark) parts.0.now) }
-    ensures whole { IfSome result (λ parts. text.now ≡ parts.0.now ++ mark ∷ parts.1.now) }
-{
-    let (front, rest) = bytes::cut(text.as_bytes(), mark)?;
-    let front = unsafe { str::from_utf8_unchecked(front) };
-    let rest = unsafe { str::from_utf8_unchecked(rest) };
-    Some((front, rest))
 }
 
 // Returns the tag that a word is: a key and a text with a colon between them, or a text alone.

@@ -29,7 +29,7 @@ pub fn is_separator(c: char) -> bool {
     c == ':' || c == ',' || c == '|' || c == '\n'
 }
 
-/// Returns whether the text that a word stands for has a separator.
+/// Returns whether a text has a separator. The text is given as a script has it, with its escapes.
 pub fn has_separator(alloc: Global, word: &str) -> Result<bool, AllocError> {
     Ok(text_of(alloc, word)?.contains(is_separator))
 }

@@ -127,8 +127,9 @@ fn a_box_passes_the_number_of_dropped_lines_on(rt: HostRuntime) -> Result<(), Fa
     Ok(())
 }
 
-// Sends a report, of which a request for memory may be refused. Then the next one has what is left: together they have
-// each counter once. Returns whether there was memory for the sink and for the first report.
+// Sends two reports. If a request for memory of the first one is refused, then the second one has the counters that
+// the first one lacks: together the two have each counter once. Returns whether there was memory for the sink and for
+// the first report.
 fn reports_once<R: Runtime>(
     rt: &R,
     alloc: Global,

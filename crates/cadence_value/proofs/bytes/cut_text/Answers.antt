@@ -3,7 +3,7 @@ use Rattle.std.proofs.Common.{refl, subst, sym, take}
 use Rattle.std.specs.Str.{IsUtf8}
 use Rattle.std.proofs.lemmas.List.{drop_at, get_or_at, take_at}
 use Rattle.std.proofs.lemmas.Str.{IsCharBoundary-after_ascii, IsCharBoundary-before_ascii, IsUtf8-drop, IsUtf8-take}
-use Rattle.cadence_send.proofs.words.cut_text.Goals as goal
+use Rattle.cadence_value.proofs.bytes.cut_text.Goals as goal
 
 -- If a text in UTF-8 is cut at an ASCII character, then both sides are in UTF-8.
 module _ (text front rest : List ℕ) (mark : ℕ) (low : mark < 128) (utf8 : IsUtf8 text) (whole : text ≡ front ++ mark ∷ rest) where
