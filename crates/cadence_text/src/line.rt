@@ -6,21 +6,19 @@
 
 mod draft;
 mod line_buf;
+mod options;
 mod pieces;
-mod rate;
 mod record;
 mod separators;
 mod tag;
-mod tags_text;
 mod window;
 
 use cadence_value::text::LineSink;
-pub use draft::{DraftLine, Head};
+pub use draft::{DraftLine, Head, TagsText};
 pub use record::{OwnedMetric, Record};
 pub use separators::{first_separator, is_free};
 use std::fmt;
 pub use tag::{OwnedTag, Tag, lend_tag, lend_tags};
-pub use tags_text::TagsText;
 
 /// The kind of a metric: what the server does with its numbers. It prints as its type text.
 ///

@@ -1,10 +1,8 @@
-//! Writes the texts of numbers and of values, piece by piece: `sink` has the traits of what takes the pieces, `digits`
-//! writes and counts digits, and `numbers` writes decimals and whole values.
+//! Writes the texts of numbers and of values, piece by piece: `sink` has the traits of what takes the pieces, and
+//! `numbers` writes digits, decimals and whole values.
 
-mod digits;
 mod numbers;
 mod sink;
 
-pub use digits::{number_len, push_digits, push_wide_digits, wide_len};
-pub use numbers::{push_number, push_value};
+pub use numbers::{number_len, push_digits, push_number, push_value, push_wide_digits, wide_len};
 pub use sink::{ByteSink, LineSink};

@@ -1,15 +1,15 @@
-//! The draft of a line: the line of a metric while tags and options are added to it.
+//! The draft of a line: the line of a metric while tags and options are added to it, and the text of default tags.
 //!
 //! Every line that the library makes is made by a draft: the line of a plain call, of a builder, of a call in a
 //! schedule, of a C call and of the words of a command line.
 // Without the hints to inline in this file and in the client, a counter takes 158 instructions more (the mode `count`
-// of `bench`).
+// of `bench`), and a counter with three tags 290 more (the mode `count_tags`).
 ghost use Rattle.std.specs.Prelude.{◌≡◌, ◌+◌, ◌++◌, ◌<◌, ◌≤◌, [], IfOk, OnErr, OnOk, length};
-ghost use Rattle.std.specs.Prelude.{◌^◌, IfSome, IsUtf8, drop, take, string_bytes};
+ghost use Rattle.std.specs.Prelude.{◌^◌, IfSome, IsUtf8, string_bytes};
 ghost use Rattle.std.specs.Option.{option_copied};
-ghost use Rattle.cadence_text.specs.Draft.{draft_line, draft_of, with_tag_text};
+ghost use Rattle.cadence_text.specs.Draft.{draft_line, draft_of, lead, tags_text_with, with_tag_text};
 ghost use Rattle.cadence_text.specs.DraftParts.{IsCutAt, IsRepresentableHead, draft_of_head, text_of_head};
-ghost use Rattle.cadence_text.specs.Line.{container_field, line_of, rate_field, time_field};
+ghost use Rattle.cadence_text.specs.Line.{container_field, line_of, tag_text, time_field};
 ghost use Rattle.cadence_text.specs.Metric.{Metric, with_tag};
 ghost use Rattle.cadence_text.specs.Record.{tag_of};
 ghost use Rattle.cadence_text.specs.MetricInMemory.{AreNumbersInMemory, IsTextInMemory};
@@ -20,12 +20,11 @@ ghost use Rattle.cadence_value.specs.Values.{numbers_of};
 
 use crate::line::MetricType;
 use crate::line::line_buf::{LengthCounter, LineBuf};
-use crate::line::pieces::push_last;
-use crate::line::rate::{Rate, push_kept_rate};
+use crate::line::options::{Rate, insert_rate, last_room};
+use crate::line::pieces::{push_last, push_lead, push_tag};
 use crate::line::tag::Tag;
-use crate::line::tags_text::add_to;
 use cadence_value::decimal::Decimal;
-use cadence_value::text::{LineSink, number_len, push_value};
+use cadence_value::text::{LineSink, push_value};
 use cadence_value::value::MetricValue;
 use std::alloc::{AllocError, Allocator, Global};
 use std::marker::Model;
@@ -66,6 +65,82 @@ fn head_count<A: Allocator>(head: &Head<'_, A>) -> u128
     let mut counter = LengthCounter::new();
     push_head(&mut counter, head);
     counter.length()
+}
+
+// Returns how many bytes are enough for a tag and the characters before it. It returns `None` if the number passes
+// `usize::MAX`.
+#[inline(always)]
+fn tag_room(tag: &Tag<'_>) -> Option<usize>
+    ensures { IfSome result (λ n. length (tag_text (tag_of tag.now)) + 2 ≤ n) }
+{
+    let room = tag.text.len() + 3;
+    match tag.key {
+        Some(key) => key.len().checked_add(room),
+        None => Some(room),
+    }
+}
+
+// Writes a tag at the end of a line. `begun` says whether the line has a tag already. After an error the line is
+// unchanged.
+#[inline(always)]
+fn add_to<A: Allocator>(line: &mut LineBuf<A>, begun: bool, tag: &Tag<'_>) -> Result<(), AllocError>
+    ensures ok { OnOk result (line.new.bytes.items ≡
+        line.old.bytes.items ++ (lead begun ++ tag_text (tag_of tag.now))) }
+    ensures utf8 { OnOk result (IsUtf8 (lead begun ++ tag_text (tag_of tag.now))) }
+    ensures said { OnOk result (IsRepresentableTag (tag_of tag.now)) }
+    ensures err { OnErr result (line.new.bytes.items ≡ line.old.bytes.items) }
+{
+    let Some(room) = tag_room(tag) else {
+        return Err(AllocError);
+    };
+    line.reserve(room)?;
+    push_lead(line, begun);
+    push_tag(line, tag);
+    Ok(())
+}
+
+/// The tags of a line as text, with the `|#` before the first one. A client stores its default tags in this form, so
+/// that it can copy them to each line as they are. Contracts see the value as its text. The Rust crate has no such
+/// type.
+#[derive(Drop)]
+pub struct TagsText<A: Allocator = Global> {
+    line: LineBuf<A>,
+}
+
+impl<A: Allocator> Model for TagsText<A> {
+    ghost use Rattle.std.specs.Prelude.{ℕ, List};
+
+    ghost Value = { List ℕ };
+
+    ghost view = { λ t. t.line.bytes.items };
+}
+
+impl<A: Allocator> TagsText<A> {
+    /// Returns the text of no tags, which is empty. It takes no memory.
+    pub fn new(alloc: A) -> TagsText<A>
+        ensures { result ≡ [] }
+    {
+        TagsText {
+            line: LineBuf::empty(alloc),
+        }
+    }
+
+    /// Adds a tag at the end. After an error, which says that memory ran out, the text is unchanged.
+    pub fn add(&mut self, tag: Tag<'_>) -> Result<(), AllocError>
+        ensures ok { OnOk result (self.new ≡ tags_text_with self.old (tag_of tag.entry)) }
+        ensures err { OnErr result (self.new ≡ self.old) }
+    {
+        let begun = self.line.len() > 0;
+        add_to(&mut self.line, begun, &tag)
+    }
+
+    /// Returns the text.
+    #[inline]
+    pub fn as_str(&self) -> &str
+        ensures { result.now ≡ self.now }
+    {
+        self.line.as_text()
+    }
 }
 
 /// The draft of a line, to which tags and options can be added until the line is finished. The Rust crate has no such
@@ -264,54 +339,6 @@ impl<'a, A: Allocator> DraftLine<'a, A> {
         }
         end_with(&mut line, container, time)?;
         Ok(line)
-    }
-}
-
-// Writes a rate at the end of a line.
-fn add_rate<A: Allocator>(line: &mut LineBuf<A>, rate: &Option<Rate>) -> Result<(), AllocError>
-    requires { 0 < length line.old.bytes.items }
-    ensures { OnOk result (line.new.bytes.items ≡ line.old.bytes.items ++ rate_field rate.now) }
-{
-    let mut counter = LengthCounter::new();
-    push_kept_rate(&mut counter, rate);
-    let Ok(length) = usize::try_from(counter.length()) else {
-        return Err(AllocError);
-    };
-    line.reserve(length)?;
-    push_kept_rate(line, rate);
-    Ok(())
-}
-
-// Writes a rate between the head of a line and its tags. A rate may be set after tags were added, so it is written at
-// the end first, and then the tags are moved behind it.
-fn insert_rate<A: Allocator>(
-    line: &mut LineBuf<A>,
-    head: usize,
-    rate: &Option<Rate>,
-) -> Result<(), AllocError>
-    requires { IsCutAt head line.old.bytes.items }
-    ensures { OnOk result (line.new.bytes.items ≡ take head line.old.bytes.items
-        ++ (rate_field rate.now ++ drop head line.old.bytes.items)) }
-{
-    let tags = line.len() - head;
-    add_rate(line, rate)?;
-    line.turn(head, tags);
-    Ok(())
-}
-
-// Returns the length of the fields of a container and a time in bytes, or `None` if it passes `usize::MAX`.
-#[inline(always)]
-fn last_room(container: Option<&str>, time: Option<u64>) -> Option<usize>
-    ensures { IfSome result (λ n. n ≡
-        length (container_field (option_copied container.entry) ++ time_field time)) }
-{
-    let time = match time {
-        Some(time) => number_len(time).checked_add(2)?,
-        None => 0,
-    };
-    match container {
-        Some(container) => container.len().checked_add(3)?.checked_add(time),
-        None => Some(time),
     }
 }
 

@@ -6,7 +6,7 @@ use Rattle.cadence_text.specs.Sink.{text_up_to}
 use Rattle.cadence_text.proofs.DraftText.{lead_short, tag_utf8}
 use Rattle.cadence_text.proofs.LineLength.{said_tag}
 use Rattle.cadence_text.proofs.SinkEnds.{filled_more}
-use Rattle.cadence_text.proofs.line.tags_text.add_to.Goals as goal
+use Rattle.cadence_text.proofs.line.draft.add_to.Goals as goal
 
 pub returns-clause-ok : goal.returns-clause-ok
 returns-clause-ok g c =

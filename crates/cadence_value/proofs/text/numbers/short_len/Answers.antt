@@ -1,6 +1,6 @@
 use Rattle.std.proofs.Common.{◌/◌, arith}
 use Rattle.cadence_value.proofs.Digits.{length_digit, length_pair, length_two}
-use Rattle.cadence_value.proofs.text.digits.short_len.Goals as goal
+use Rattle.cadence_value.proofs.text.numbers.short_len.Goals as goal
 
 pub returns-then-number-lt10 : goal.returns-then-number-lt10
 returns-then-number-lt10 c = omega (arith, length_digit c.args.number (omega arith))

@@ -1,20 +1,20 @@
 use Rattle.std.proofs.Common.{arith}
 use Rattle.cadence_value.proofs.Digits.{length-decimal_text-le, length_four}
-use Rattle.cadence_value.proofs.text.digits.wide_len.Goals as goal
+use Rattle.cadence_value.proofs.text.numbers.number_len.Goals as goal
 
 pub overflow_add-count : goal.overflow_add-count
 overflow_add-count c =
-    omega (arith, c.loop-left.invariant, length-decimal_text-le 39 c.args.number (omega arith) (omega (arith, c.ranges.number.fits)))
+    omega (arith, c.loop-left.invariant, length-decimal_text-le 20 c.args.number (omega arith) (omega (arith, c.ranges.number.fits)))
 
 pub loop-left-preserved : goal.loop-left-preserved
-loop-left-preserved c = omega (arith, c.loop-left.invariant, length_four c.loop-left.left (omega arith))
+loop-left-preserved c = omega (arith, c.loop-left.invariant, length_four c.loop-left.left c.loop-left-test.true)
 
 pub overflow_add-result : goal.overflow_add-result
 overflow_add-result c =
     omega (
       arith,
       c.loop-left.invariant,
-      c.number_len.ensures,
-      length-decimal_text-le 39 c.args.number (omega arith)
+      c.short_len.ensures,
+      length-decimal_text-le 20 c.args.number (omega arith)
           (omega (arith, c.ranges.number.fits)),
     )

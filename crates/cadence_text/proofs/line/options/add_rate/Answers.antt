@@ -2,7 +2,7 @@ use Rattle.std.proofs.Common.{ℕ, ◌≡◌, ◌+◌, ◌<◌, ◌%◌, ◌^◌
 use Rattle.cadence_text.specs.Line.{rate_field}
 use Rattle.cadence_text.proofs.LineLength.{rate_short}
 use Rattle.cadence_text.proofs.SinkEnds.{counted_written}
-use Rattle.cadence_text.proofs.line.draft.add_rate.Goals as goal
+use Rattle.cadence_text.proofs.line.options.add_rate.Goals as goal
 
 pub returns : goal.returns
 returns g c =
