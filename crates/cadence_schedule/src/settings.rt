@@ -103,6 +103,21 @@ impl<A: Allocator + Clone> ClientSettings<A> {
         })
     }
 
+    // Returns whether the settings allow a text.
+    fn allows_text(&self, text: &str) -> bool
+        ensures { result ≡ allows_text self.now text.now }
+    {
+        !self.strict || text_is_free(text)
+    }
+
+    // Returns whether the settings allow a tag.
+    fn allows_tag(&self, key: Option<&str>, text: &str) -> bool
+        ensures { result ≡ allows_tag self.now
+            (record { key = option_copied key.entry; text = text.now }) }
+    {
+        !self.strict || tag_is_free(key, text)
+    }
+
     /// Adds a default tag after those that the settings have: `key:text`, or `text` alone if `key` is `None`.
     ///
     /// # Errors

@@ -101,7 +101,7 @@ fn unfree_error<V: Drop>(value: MetricResult<V>) -> MetricError
 impl<A: Allocator + Clone> ClientSettings<A> {
     ghost use Rattle.cadence_value.specs.Values.{Converts};
     ghost use Rattle.cadence_schedule.specs.CallData.{numbers_of_data};
-    ghost use Rattle.cadence_schedule.specs.Settings.{allows_tag, allows_text, is_free_settings, with_strict_texts};
+    ghost use Rattle.cadence_schedule.specs.Settings.{allows_text, is_free_settings, with_strict_texts};
 
     /// Makes the settings strict. From then on each call, default tag and default container with a separator in a text
     /// is refused: a colon, a comma, a bar or a newline. So no text can make, change or split a metric.
@@ -139,21 +139,6 @@ impl<A: Allocator + Clone> ClientSettings<A> {
             return false;
         }
         any_is_free(self.container())
-    }
-
-    // Returns whether the settings allow a text.
-    pub(super) fn allows_text(&self, text: &str) -> bool
-        ensures { result ≡ allows_text self.now text.now }
-    {
-        !self.strict || text_is_free(text)
-    }
-
-    // Returns whether the settings allow a tag.
-    pub(super) fn allows_tag(&self, key: Option<&str>, text: &str) -> bool
-        ensures { result ≡ allows_tag self.now
-            (record { key = option_copied key.entry; text = text.now }) }
-    {
-        !self.strict || tag_is_free(key, text)
     }
 
     /// Returns the error of a call without options whose value gave this error: the same one, if the settings allow the
