@@ -10,8 +10,9 @@ use Rattle.cadence.specs.declared.client.statsd_client.StatsdClient.{StatsdClien
 use Rattle.cadence.specs.declared.client.client_builder.StatsdClientBuilder.{StatsdClientBuilder}
 use Rattle.cadence_schedule.specs.Settings.{Settings, FailsFor, allows_tag, with_default_tag}
 
--- Settings, or the first error of the calls that made them, are changed. An error stays. If the settings allow the change, they are the changed
--- ones, or memory ran out; otherwise there is an invalid input.
+-- A builder has settings, or the first error of the calls that made them. A call changes them: an error stays. If the
+-- settings allow the change, the result is the changed settings, or memory ran out. Otherwise the result is the error of
+-- an invalid input.
 abbrev pub Changes : Result Settings MetricError → (Settings → Bool) → (Settings → Settings) → Result Settings MetricError → Type 0
 Changes (Err e) allows change new = new ≡ Err e
 Changes (Ok s) allows change (Ok t) = IsTrue (allows s) × (t ≡ change s)

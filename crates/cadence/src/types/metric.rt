@@ -15,7 +15,7 @@ ghost use Rattle.cadence_text.specs.declared.line.MetricType.TheVariants as kind
 
 use super::kinds::{self, MetricKind};
 use cadence_errors::MetricResult;
-use cadence_text::line::{MetricType, Record};
+use cadence_text::line::{DraftLine, Head, MetricType};
 use cadence_value::decimal::Decimal;
 use cadence_value::value::MetricValue;
 use std::alloc::{Allocator, Global};
@@ -78,8 +78,14 @@ impl<K: MetricKind, A: Allocator + Clone> MetricText<K, A> {
         ensures { Makes (line_of (plain_metric (prefix.now ++ key.now) (numbers_of value) K.TYPE))
             result }
     {
-        let record = Record::new(alloc.clone()?, prefix, key, K::TYPE, value);
-        Ok(MetricText::from(record.format(alloc)?))
+        let head = Head {
+            prefix,
+            key,
+            value,
+            kind: K::TYPE,
+        };
+        let line = DraftLine::new(alloc, &head, "", None, 0)?.into_text()?;
+        Ok(MetricText::from(line))
     }
 }
 
