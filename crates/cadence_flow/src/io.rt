@@ -1,13 +1,11 @@
 //! The packer, which puts lines into packets, and the writers that it writes packets to.
 //!
-//! - `line_buffer`: the packer
+//! - `line_buffer`: the packer, and what it does to its buffer
 //! - `multi_line_writer`: the packer with the interface of the Rust crate, which flushes when it is dropped
-//! - `bytes`: what the packer does to its buffer
 //! - `writer`: the trait of a writer of packets
 //! - `packet_log`: a writer that keeps its packets in memory
 //! - `refusals`: how many packets a writer refused
 
-mod bytes;
 mod line_buffer;
 mod multi_line_writer;
 mod packet_log;

@@ -11,7 +11,7 @@ use Rattle.cadence_flow.specs.Packer.{Packer, FlushesHeld, WritesLine, Fits, wit
 use Rattle.cadence_flow.specs.Writer.{PacketHistory, WriterKind}
 use Rattle.cadence_shared.specs.Cut.{IsCut}
 use Rattle.cadence_shared.specs.RecordedWriter.{offers_of, recorded_history, recorded_kind}
-use Rattle.cadence_shared.specs.declared.recorded_writer.RecordedWriter.{RecordedWriter}
+use Rattle.cadence_shared.specs.declared.recorded_packer.RecordedWriter.{RecordedWriter}
 use Rattle.cadence_shared.proofs.CutLemmas.{cut_flush, write_held, write_closes, write_alone, write_fails}
 
 module _ {W : Type 0} where

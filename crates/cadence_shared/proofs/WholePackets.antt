@@ -12,7 +12,7 @@ use Rattle.cadence_flow.specs.Packer.{Packer, FlushesHeld, WritesLine, new_packe
 use Rattle.cadence_flow.specs.Writer.{PacketHistory, WriterKind}
 use Rattle.cadence_shared.specs.RecordedWriter.{offers_of, packets_of, recorded_history, recorded_kind, writer_of}
 use Rattle.cadence_shared.specs.Whole.{IsWhole}
-use Rattle.cadence_shared.specs.declared.recorded_writer.RecordedWriter.{RecordedWriter}
+use Rattle.cadence_shared.specs.declared.recorded_packer.RecordedWriter.{RecordedWriter}
 use Rattle.cadence_shared.proofs.CutLemmas.{stream_more}
 
 module _ (format : Format) (packets : List (List ℕ)) (accepted : List (List ℕ × ℕ)) (held : List ℕ) (cut : IsWhole format packets accepted held) where

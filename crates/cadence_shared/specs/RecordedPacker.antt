@@ -3,7 +3,7 @@ use Rattle.std.specs.Prelude.{◌≡◌, ℕ, List, [], codes}
 use Rattle.cadence_flow.specs.Packer.{Packer, new_packer}
 use Rattle.cadence_shared.specs.RecordedWriter.{writer_of, offers_of}
 use Rattle.cadence_shared.specs.declared.recorded_packer.RecordedPacker.{RecordedPacker}
-use Rattle.cadence_shared.specs.declared.recorded_writer.RecordedWriter.{RecordedWriter}
+use Rattle.cadence_shared.specs.declared.recorded_packer.RecordedWriter.{RecordedWriter}
 
 module _ {W A : Type 0} where
   -- the packer, over the writer that records its packets

@@ -1,17 +1,17 @@
-//! A packer with a record of its past that only proofs read.
-// Without the hints to inline in this file, and in the others between a buffered sink and its buffer, a line takes 81
-// instructions more (`bench udp 512 20`).
-ghost use Rattle.std.specs.Prelude.{◌≡◌, ◌++◌};
-ghost use Rattle.std.specs.List.{concat};
+//! A packer with a record of its past that only proofs read, over a writer with a record of its packets.
+// Without the hint to inline on `hold`, and those in the other files between a buffered sink and its buffer, a line
+// takes 81 instructions more (`bench udp 512 20`). Without that on `write_packet_narrow`, and its like, a line alone in
+// its packet takes 15 more (`bench udp 16 20`).
+ghost use Rattle.std.specs.Prelude.{◌≡◌, ◌∷◌, ◌++◌, [], ℕ, List, true};
+ghost use Rattle.std.specs.Borrow.{ftrue};
+ghost use Rattle.std.specs.Coded.{coded_list, coded_ℕ, coded×};
 ghost use Rattle.cadence_flow.specs.Frame.{taken_stream};
-ghost use Rattle.cadence_shared.specs.Cut.{IsCut};
-ghost use Rattle.cadence_shared.specs.RecordedWriter.{offers_of, packets_of};
+ghost use Rattle.cadence_shared.specs.Cut.{IsCut, bytes_taken};
 
-use super::ghost_texts::GhostTexts;
-use super::recorded_writer::RecordedWriter;
 use cadence_errors::{MetricError, MetricResult, SinkError};
 use cadence_flow::io::{LineBuffer, PacketWriter};
 use std::alloc::{Allocator, Global};
+use std::marker::{Model, PhantomData};
 
 /// A packer whose ending is the newline, with a record of the lines that it accepted, each with the number of bytes
 /// that its call returned. The record exists in proofs only. Two facts are true of every `RecordedPacker`:
@@ -23,13 +23,13 @@ use std::alloc::{Allocator, Global};
 pub struct RecordedPacker<W, A: Allocator = Global> {
     lines: LineBuffer<RecordedWriter<W>, A>,
     accepted: GhostTexts,
-    pub ghost stream: { concat (packets_of lines.writer) ++ lines.held
+    pub ghost stream: { bytes_taken lines.writer.offers.items ++ lines.held
         ≡ taken_stream lines.format accepted.items },
-    pub ghost cut: { ∥ IsCut lines.format (offers_of lines.writer) accepted.items lines.held ∥₁ },
+    pub ghost cut: { ∥ IsCut lines.format lines.writer.offers.items accepted.items lines.held ∥₁ },
 }
 
 impl<W: PacketWriter, A: Allocator + Clone> RecordedPacker<W, A> {
-    ghost use Rattle.std.specs.Prelude.{[], IfOk};
+    ghost use Rattle.std.specs.Prelude.{IfOk};
     ghost use Rattle.cadence_errors.specs.Errors.{MayOnlyRunOutOfMemory};
     ghost use Rattle.cadence_shared.specs.RecordedPacker.{accepted_of, begins_over};
 
@@ -50,11 +50,12 @@ impl<W: PacketWriter, A: Allocator + Clone> RecordedPacker<W, A> {
 }
 
 impl<W: PacketWriter, A: Allocator> RecordedPacker<W, A> {
+    ghost use Rattle.std.specs.List.{concat};
     ghost use Rattle.std.specs.Option.{ok_or};
-    ghost use Rattle.std.specs.Prelude.{[], ◌∷◌, length, IfSome, IsTrue, IsFalse, None};
+    ghost use Rattle.std.specs.Prelude.{length, IfSome, IsTrue, IsFalse, None};
     ghost use Rattle.cadence_flow.specs.Packer.{FlushesHeld, HoldsLine, WritesLine};
     ghost use Rattle.cadence_shared.specs.RecordedPacker.{accepted_of, packer_of};
-    ghost use Rattle.cadence_shared.specs.RecordedWriter.{recorded_history, recorded_kind};
+    ghost use Rattle.cadence_shared.specs.RecordedWriter.{packets_of, recorded_history, recorded_kind};
 
     /// Writes a line as `LineBuffer::write` does, and adds it to the record if it was accepted.
     pub fn write(&mut self, line: &[u8], fault: &mut SinkError) -> Option<usize>
@@ -106,3 +107,106 @@ impl<W: PacketWriter, A: Allocator> RecordedPacker<W, A> {
         self.lines.held()
     }
 }
+
+/// A writer with a record of each packet that it was offered and didn't refuse, with the number of bytes that the
+/// writer returned for it. The record exists in proofs only. With it, contracts can speak of the packets of any writer,
+/// also of a writer such as a socket, which doesn't tell its packets itself.
+#[derive(Drop)]
+pub struct RecordedWriter<W> {
+    inner: W,
+    offers: GhostTexts,
+}
+
+impl<W> RecordedWriter<W> {
+    ghost use Rattle.cadence_shared.specs.RecordedWriter.{offers_of, writer_of};
+
+    /// Wraps a writer, with an empty record.
+    pub fn new(inner: W) -> Self
+        ensures writer { writer_of result ≡ inner }
+        ensures none { offers_of result ≡ [] }
+    {
+        RecordedWriter {
+            inner,
+            offers: GhostTexts::new(),
+        }
+    }
+}
+
+impl<W: PacketWriter> PacketWriter for RecordedWriter<W> {
+    ghost use Rattle.std.specs.Option.{ok_or};
+    ghost use Rattle.std.specs.Prelude.{Some};
+    ghost use Rattle.cadence_flow.specs.Offers.{IsOffered};
+    ghost use Rattle.cadence_flow.specs.Writer.{WritesPacket};
+    ghost use Rattle.cadence_shared.specs.RecordedWriter.{offers_of, packets_of, recorded_history, recorded_kind, writer_of};
+
+    ghost history = { recorded_history W.history };
+
+    ghost kind = { recorded_kind W.kind };
+
+    ghost offers = { λ t. Some (offers_of t) };
+
+    fn write_packet(&mut self, packet: &[u8]) -> Result<usize, SinkError>
+        ensures same_kind { recorded_kind W.kind self.new ≡ recorded_kind W.kind self.old }
+        ensures writes { WritesPacket (recorded_kind W.kind self.old)
+            (recorded_history W.history self.old) (recorded_history W.history self.new)
+            packet.now result }
+        ensures offers { IsOffered (Some (offers_of self.old)) (Some (offers_of self.new))
+            packet.now result }
+        ensures ties { (W.kind (writer_of self.old)).reports ≡ true →
+            packets_of self.old ≡ (W.history (writer_of self.old)).packets →
+            packets_of self.new ≡ (W.history (writer_of self.new)).packets }
+    {
+        let mut fault = SinkError::NothingWritten;
+        self.write_packet_narrow(packet, &mut fault).ok_or(fault)
+    }
+
+    #[inline(always)]
+    fn write_packet_narrow(&mut self, packet: &[u8], fault: &mut SinkError) -> Option<usize>
+        ensures same_kind { recorded_kind W.kind self.new ≡ recorded_kind W.kind self.old }
+        ensures writes { WritesPacket (recorded_kind W.kind self.old)
+            (recorded_history W.history self.old) (recorded_history W.history self.new)
+            packet.now (ok_or result fault.new) }
+        ensures offers { IsOffered (Some (offers_of self.old)) (Some (offers_of self.new))
+            packet.now (ok_or result fault.new) }
+        ensures ties { (W.kind (writer_of self.old)).reports ≡ true →
+            packets_of self.old ≡ (W.history (writer_of self.old)).packets →
+            packets_of self.new ≡ (W.history (writer_of self.new)).packets }
+    {
+        let taken = self.inner.write_packet_narrow(packet, fault);
+        if let Some(n) = taken {
+            self.offers.note(packet, n);
+        }
+        taken
+    }
+}
+
+/// A list of texts, each with a count. It exists in proofs only: it takes no memory, and its methods do nothing at run
+/// time. What they do to `items` is proved by hand, in `proofs/recorded_packer/GhostTexts`.
+#[derive(Drop)]
+pub struct GhostTexts {
+    marker: PhantomData<u8>,
+    pub ghost items: { List (List ℕ × ℕ) } by { coded_list (coded× (coded_list coded_ℕ) coded_ℕ) },
+}
+
+impl Model for GhostTexts {
+    ghost also_owns = { λ _. ftrue };
+}
+
+impl GhostTexts {
+    /// Makes the empty list.
+    pub fn new() -> GhostTexts
+        ensures { result.items ≡ [] }
+    {
+        GhostTexts {
+            marker: PhantomData,
+        }
+    }
+
+    /// Adds a text with its count at the end of the list.
+    pub fn note(&mut self, _text: &[u8], _count: usize)
+        ensures { self.new.items ≡ self.old.items ++ (_text.now, _count) ∷ [] }
+    {}
+}
+
+// A `GhostTexts` owns nothing, so it may go to another thread.
+unsafe impl Send for GhostTexts {}

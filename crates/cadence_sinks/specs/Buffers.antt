@@ -2,7 +2,7 @@
 use Rattle.std.specs.Prelude.{ℕ}
 use Rattle.cadence_sinks.specs.declared.datagram.PackedSocket.{PackedSocket}
 use Rattle.cadence_sinks.specs.declared.spy.buffered.BufferedSpyMetricSink.{BufferedSpyMetricSink}
-use Rattle.cadence_sinks.specs.declared.udp.buffered.BufferedUdpMetricSink.{BufferedUdpMetricSink}
+use Rattle.cadence_sinks.specs.declared.udp.BufferedUdpMetricSink.{BufferedUdpMetricSink}
 use Rattle.cadence_sinks.specs.declared.unix.BufferedUnixMetricSink.{BufferedUnixMetricSink}
 
 -- the capacity of a packed socket's buffer, in bytes

@@ -7,9 +7,9 @@ use Rattle.std.specs.declared.time.Duration.{Duration}
 use Rattle.cadence_resolve.specs.Handler.{closure_of}
 use Rattle.cadence_resolve.specs.Lookups.{KeepsAddress, is_periodic}
 use Rattle.cadence_resolve.specs.declared.target.Target.{Target}
-use Rattle.cadence_sinks.specs.declared.udp.buffered.BufferedUdpMetricSinkBuilder.{BufferedUdpMetricSinkBuilder}
-use Rattle.cadence_sinks.specs.declared.udp.unbuffered.UdpMetricSinkBuilder.{UdpMetricSinkBuilder}
-use Rattle.cadence_sinks.specs.declared.udp.unbuffered.UdpMetricSink.{UdpMetricSink}
+use Rattle.cadence_sinks.specs.declared.udp.BufferedUdpMetricSinkBuilder.{BufferedUdpMetricSinkBuilder}
+use Rattle.cadence_sinks.specs.declared.udp.UdpMetricSinkBuilder.{UdpMetricSinkBuilder}
+use Rattle.cadence_sinks.specs.declared.udp.UdpMetricSink.{UdpMetricSink}
 
 -- whether a thread looks the sink's target up again after each period
 abbrev pub looks_up_again : {R A : Type 0} → UdpMetricSink R A → Bool

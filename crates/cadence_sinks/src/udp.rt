@@ -1,17 +1,23 @@
-//! Sinks over a UDP socket: one sends each line as a datagram, the other packs lines into datagrams.
-ghost use Rattle.cadence_sinks.specs.Sockets.{is_io};
+//! Sinks over a UDP socket, and their builders: one sink sends each line as a datagram, the other packs lines into
+//! datagrams.
+// Without the hint to inline `emit` of the buffered sink, and those in the other files between it and its buffer, a
+// line takes 81 instructions more (`bench udp 512 20`).
+ghost use Rattle.std.specs.Prelude.{◌≡◌, false, IfOk, IfErr, Some, None, is_some, unwrap_or};
+ghost use Rattle.cadence_resolve.specs.Refusals.{IsSocketRefusal, IsTargetRefusal};
+ghost use Rattle.cadence_sinks.specs.Buffers.{udp_buffer};
+ghost use Rattle.cadence_sinks.specs.Sockets.{IsBufferedAnswer, IsBufferedFlush, IsSocketAnswer, is_io};
+ghost use Rattle.cadence_sinks.specs.Udp.{SendsTo, period_of, handler_of, looks_up_again, buffered_capacity_of, buffered_period_of, buffered_handler_of};
 
-mod buffered;
-mod unbuffered;
-
-use crate::datagram::DatagramSocket;
-pub use buffered::{BufferedUdpMetricSink, BufferedUdpMetricSinkBuilder};
-use cadence_errors::SinkError;
-use cadence_resolve::Resolver;
-use std::alloc::Allocator;
-use std::net::UdpSocket;
+use crate::datagram::{CountedSocket, DatagramSocket, PackedSocket};
+use crate::{Handler, MetricSink, SinkErrorHandler, Target};
+use cadence_errors::{MetricResult, SinkError};
+use cadence_flow::io::DEFAULT_CAPACITY;
+use cadence_flow::stats::SinkStats;
+use cadence_resolve::{Resolver, ResolverRuntime, StaticResolver};
+use std::alloc::{Allocator, Global};
+use std::net::{Net, UdpSocket};
 use std::sync::Wait;
-pub use unbuffered::{UdpMetricSink, UdpMetricSinkBuilder};
+use std::time::Duration;
 
 /// A UDP socket with the resolver of the address that it sends to.
 #[derive(Drop)]
@@ -33,5 +39,291 @@ impl<R: Wait + Drop, A: Allocator> DatagramSocket for UdpPeer<R, A> {
                 None
             }
         }
+    }
+}
+
+/// A sink that sends each line as a UDP datagram, in the thread of the caller.
+///
+/// `emit` returns how many bytes of the line the socket took, or `Io`. The counts include each call of the socket. The
+/// sink keeps the runtime `R`, whose locks it takes. Its drop stops the lookups, and doesn't wait for them.
+///
+/// ```text
+/// let socket = UdpSocket::bind(rt, SocketAddr::from((Ipv4Addr::UNSPECIFIED, 0)))?;
+/// let target = Target::Name {
+///     host: String::from_str(alloc, "localhost")?,
+///     port: DEFAULT_PORT,
+/// };
+/// let sink = UdpMetricSink::from(rt.clone()?, alloc, target, socket)?;
+/// ```
+#[derive(Drop)]
+pub struct UdpMetricSink<R: Wait + Drop, A: Allocator = Global> {
+    socket: CountedSocket<UdpPeer<R, A>, R, A>,
+}
+
+impl<R: Net + Wait + Drop, A: Allocator + Clone> UdpMetricSink<R, A> {
+    /// Makes a sink over a socket that the caller bound. The target is looked up once, now, and the sink sends to its
+    /// first address.
+    ///
+    /// The errors are `SinkError::Io` if the lookup fails, the kind `InvalidInput` if the name has no address, and
+    /// `SinkError::OutOfMemory`. After an error the socket is dropped.
+    pub fn from(rt: R, alloc: A, target: Target<A>, socket: UdpSocket) -> MetricResult<Self>
+        ensures once { IfOk result (λ s. looks_up_again s ≡ false) }
+        ensures address { IfOk result (λ s. SendsTo s target) }
+        ensures refused { IfErr result (λ e. IsTargetRefusal target e) }
+    {
+        let resolver = Resolver::Static(StaticResolver::new(&rt, alloc.clone()?, &target)?);
+        let socket = CountedSocket::new(rt, alloc, UdpPeer { socket, resolver })?;
+        Ok(UdpMetricSink { socket })
+    }
+}
+
+impl<R: Wait + Drop, A: Allocator> UdpMetricSink<R, A> {
+    /// Returns a builder without any setting.
+    pub fn builder() -> UdpMetricSinkBuilder
+        ensures period { period_of result ≡ None }
+        ensures handler { handler_of result ≡ None }
+    {
+        UdpMetricSinkBuilder::new()
+    }
+}
+
+impl<R: Wait + Drop, A: Allocator> MetricSink for UdpMetricSink<R, A> {
+    ghost may_answer = { λ _ metric answer. IsSocketAnswer is_io metric answer };
+
+    fn emit(&self, metric: &str) -> Result<usize, SinkError> {
+        let mut fault = SinkError::NothingWritten;
+        self.socket.send(metric.as_bytes(), &mut fault).ok_or(fault)
+    }
+
+    fn stats(&self) -> SinkStats {
+        self.socket.stats()
+    }
+
+    ghost flush_may_succeed = { λ _. tt };
+}
+
+/// Makes a `UdpMetricSink`. Without a period the target is looked up once.
+///
+/// ```text
+/// let builder = UdpMetricSinkBuilder::new().with_resolver_period(Duration::from_secs(60));
+/// let sink = builder.build(rt.clone()?, alloc, target, socket)?;
+/// ```
+#[derive(Drop)]
+pub struct UdpMetricSinkBuilder {
+    period: Option<Duration>,
+    handler: Option<Handler>,
+}
+
+impl UdpMetricSinkBuilder {
+    /// Returns a builder without any setting.
+    pub fn new() -> Self
+        ensures period { period_of result ≡ None }
+        ensures handler { handler_of result ≡ None }
+    {
+        UdpMetricSinkBuilder {
+            period: None,
+            handler: None,
+        }
+    }
+
+    /// Lets a thread look the target up again after each period. The thread sleeps in between.
+    pub fn with_resolver_period(mut self, period: Duration) -> Self
+        ensures period { period_of result ≡ Some period }
+        ensures handler { handler_of result ≡ handler_of self }
+    {
+        self.period = Some(period);
+        self
+    }
+
+    /// Sets the handler of lookups after the first one. It receives the error of each lookup that fails, and
+    /// `NoAddresses` if one gives no address. It runs in the thread that looks up. Without a period it is never called.
+    pub fn with_resolver_error_handler(mut self, handler: SinkErrorHandler) -> Self
+        requires { IsAlwaysCallable handler }
+        ensures period { period_of result ≡ period_of self }
+        ensures handler { handler_of result ≡ Some handler }
+    {
+        self.handler = Some(Handler::new(handler));
+        self
+    }
+
+    /// Makes the sink over a socket that the caller bound, and starts the thread of its resolver if there is a period.
+    ///
+    /// The errors are `SinkError::Io` if the first lookup fails or the thread can't be started, the kind `InvalidInput`
+    /// if the name has no address, and `SinkError::OutOfMemory`. After an error the socket is dropped.
+    pub fn build<R: ResolverRuntime, A: Allocator + Clone + Send + Sync + 'static>(
+        self,
+        rt: R,
+        alloc: A,
+        target: Target<A>,
+        socket: UdpSocket,
+    ) -> MetricResult<UdpMetricSink<R, A>>
+        ensures periodic { IfOk result (λ s. looks_up_again s ≡ is_some (period_of self)) }
+        ensures address { IfOk result (λ s. SendsTo s target) }
+        ensures refused { IfErr result (λ e. IsSocketRefusal e) }
+        ensures once { period_of self ≡ None → IfErr result (λ e. IsTargetRefusal target e) }
+    {
+        let resolver = Resolver::new(&rt, &alloc, target, self.period, self.handler)?;
+        let socket = CountedSocket::new(rt, alloc, UdpPeer { socket, resolver })?;
+        Ok(UdpMetricSink { socket })
+    }
+}
+
+/// A sink that buffers lines, each followed by a newline, and sends them packed into UDP datagrams.
+///
+/// It sends the held text as one datagram when the next line doesn't fit, at a flush, and when it is dropped. A line
+/// that with its newline passes the capacity is sent alone, without the newline. `emit` returns the line's length, or
+/// for a line that was sent alone how many bytes the socket took. The errors are `Io`, and `NothingWritten` if the
+/// socket took 0 bytes of the held text; what the socket didn't take stays held. The counts include each call of the
+/// socket. The sink keeps the runtime `R`, whose locks it takes. Its drop stops the lookups, and doesn't wait for them.
+///
+/// ```text
+/// let sink = BufferedUdpMetricSink::with_capacity(rt.clone()?, alloc, target, socket, 1432)?;
+/// ```
+#[derive(Drop)]
+pub struct BufferedUdpMetricSink<R: Wait + Drop, A: Allocator = Global> {
+    socket: PackedSocket<UdpPeer<R, A>, R, A>,
+}
+
+impl<R: Net + Wait + Clone + Drop, A: Allocator + Clone> BufferedUdpMetricSink<R, A> {
+    /// Makes a sink with a buffer of 512 bytes. Otherwise it does what `with_capacity` does, with the same errors.
+    pub fn from(rt: R, alloc: A, target: Target<A>, socket: UdpSocket) -> MetricResult<Self>
+        ensures buffer { IfOk result (λ s. udp_buffer s ≡ 512) }
+        ensures refused { IfErr result (λ e. IsTargetRefusal target e) }
+    {
+        Self::with_capacity(rt, alloc, target, socket, DEFAULT_CAPACITY)
+    }
+
+    /// Makes a sink with a buffer of `capacity` bytes over a socket that the caller bound. The target is looked up
+    /// once, now, and the sink sends to its first address.
+    ///
+    /// The errors are `SinkError::Io` if the lookup fails, the kind `InvalidInput` if the name has no address, and
+    /// `SinkError::OutOfMemory`. After an error the socket is dropped.
+    pub fn with_capacity(
+        rt: R,
+        alloc: A,
+        target: Target<A>,
+        socket: UdpSocket,
+        capacity: usize,
+    ) -> MetricResult<Self>
+        ensures buffer { IfOk result (λ s. udp_buffer s ≡ capacity) }
+        ensures refused { IfErr result (λ e. IsTargetRefusal target e) }
+    {
+        let resolver = Resolver::Static(StaticResolver::new(&rt, alloc.clone()?, &target)?);
+        let socket = PackedSocket::new(rt, alloc, UdpPeer { socket, resolver }, capacity)?;
+        Ok(BufferedUdpMetricSink { socket })
+    }
+}
+
+impl<R: Wait + Drop, A: Allocator> BufferedUdpMetricSink<R, A> {
+    /// Returns a builder without any setting.
+    pub fn builder() -> BufferedUdpMetricSinkBuilder
+        ensures capacity { buffered_capacity_of result ≡ None }
+        ensures period { buffered_period_of result ≡ None }
+        ensures handler { buffered_handler_of result ≡ None }
+    {
+        BufferedUdpMetricSinkBuilder::new()
+    }
+}
+
+impl<R: Wait + Drop, A: Allocator> MetricSink for BufferedUdpMetricSink<R, A> {
+    ghost may_answer = { λ s metric answer. IsBufferedAnswer is_io (udp_buffer s) metric answer };
+
+    ghost may_flush = { λ _ answer. IsBufferedFlush is_io answer };
+
+    #[inline(always)]
+    fn emit(&self, metric: &str) -> Result<usize, SinkError> {
+        let mut fault = SinkError::NothingWritten;
+        self.socket.emit(metric, &mut fault).ok_or(fault)
+    }
+
+    fn flush(&self) -> Result<(), SinkError> {
+        self.socket.flush()
+    }
+
+    fn stats(&self) -> SinkStats {
+        self.socket.stats()
+    }
+
+    ghost flush_may_succeed = { λ _. tt };
+}
+
+/// Makes a `BufferedUdpMetricSink`. Without a capacity the buffer has 512 bytes. Without a period the target is looked
+/// up once.
+// This type has each method of `UdpMetricSinkBuilder` again: both are types of the Rust crate, and types can't share
+// methods.
+#[derive(Drop)]
+pub struct BufferedUdpMetricSinkBuilder {
+    capacity: Option<usize>,
+    period: Option<Duration>,
+    handler: Option<Handler>,
+}
+
+impl BufferedUdpMetricSinkBuilder {
+    /// Returns a builder without any setting.
+    pub fn new() -> Self
+        ensures capacity { buffered_capacity_of result ≡ None }
+        ensures period { buffered_period_of result ≡ None }
+        ensures handler { buffered_handler_of result ≡ None }
+    {
+        BufferedUdpMetricSinkBuilder {
+            capacity: None,
+            period: None,
+            handler: None,
+        }
+    }
+
+    /// Sets the capacity of the buffer, in bytes.
+    pub fn with_capacity(mut self, capacity: usize) -> Self
+        ensures capacity { buffered_capacity_of result ≡ Some capacity }
+        ensures period { buffered_period_of result ≡ buffered_period_of self }
+        ensures handler { buffered_handler_of result ≡ buffered_handler_of self }
+    {
+        self.capacity = Some(capacity);
+        self
+    }
+
+    /// Lets a thread look the target up again after each period. The thread sleeps in between.
+    pub fn with_resolver_period(mut self, period: Duration) -> Self
+        ensures capacity { buffered_capacity_of result ≡ buffered_capacity_of self }
+        ensures period { buffered_period_of result ≡ Some period }
+        ensures handler { buffered_handler_of result ≡ buffered_handler_of self }
+    {
+        self.period = Some(period);
+        self
+    }
+
+    /// Sets the handler of lookups after the first one. It receives the error of each lookup that fails, and
+    /// `NoAddresses` if one gives no address. It runs in the thread that looks up. Without a period it is never called.
+    pub fn with_resolver_error_handler(mut self, handler: SinkErrorHandler) -> Self
+        requires { IsAlwaysCallable handler }
+        ensures capacity { buffered_capacity_of result ≡ buffered_capacity_of self }
+        ensures period { buffered_period_of result ≡ buffered_period_of self }
+        ensures handler { buffered_handler_of result ≡ Some handler }
+    {
+        self.handler = Some(Handler::new(handler));
+        self
+    }
+
+    /// Makes the sink over a socket that the caller bound, and starts the thread of its resolver if there is a period.
+    ///
+    /// The errors are `SinkError::Io` if the first lookup fails or the thread can't be started, the kind `InvalidInput`
+    /// if the name has no address, and `SinkError::OutOfMemory`. After an error the socket is dropped.
+    pub fn build<R: ResolverRuntime, A: Allocator + Clone + Send + Sync + 'static>(
+        self,
+        rt: R,
+        alloc: A,
+        target: Target<A>,
+        socket: UdpSocket,
+    ) -> MetricResult<BufferedUdpMetricSink<R, A>>
+        ensures buffer { IfOk result (λ s.
+            udp_buffer s ≡ unwrap_or (buffered_capacity_of self) 512) }
+        ensures refused { IfErr result (λ e. IsSocketRefusal e) }
+        ensures once { buffered_period_of self ≡ None →
+            IfErr result (λ e. IsTargetRefusal target e) }
+    {
+        let capacity = self.capacity.unwrap_or(DEFAULT_CAPACITY);
+        let resolver = Resolver::new(&rt, &alloc, target, self.period, self.handler)?;
+        let socket = PackedSocket::new(rt, alloc, UdpPeer { socket, resolver }, capacity)?;
+        Ok(BufferedUdpMetricSink { socket })
     }
 }

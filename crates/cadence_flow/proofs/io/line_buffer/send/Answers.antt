@@ -2,7 +2,7 @@ use Rattle.std.proofs.Common.{length, length-drop, take, ap, ◌∙◌, arith, r
 use Rattle.cadence_flow.specs.Writer.{after_packet, WriterKind}
 use Rattle.cadence_flow.proofs.OfferedText.{offered_more, offered_nothing}
 use Rattle.cadence_flow.proofs.SentText.{SentSoFar-more, rest_is}
-use Rattle.cadence_flow.proofs.io.bytes.send.Goals as goal
+use Rattle.cadence_flow.proofs.io.line_buffer.send.Goals as goal
 
 pub loop-sent-preserved : goal.loop-sent-preserved
 loop-sent-preserved g c =

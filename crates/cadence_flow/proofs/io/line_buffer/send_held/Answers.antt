@@ -4,7 +4,7 @@ use Rattle.cadence_flow.specs.Offers.{FlushesOffers}
 use Rattle.cadence_flow.specs.Packer.{Flushes, PackerState}
 use Rattle.cadence_flow.proofs.FlushOutcome.{Flushes-sent}
 use Rattle.cadence_flow.proofs.OfferedText.{offered_held}
-use Rattle.cadence_flow.proofs.io.bytes.send_held.Goals as goal
+use Rattle.cadence_flow.proofs.io.line_buffer.send_held.Goals as goal
 
 pub returns : goal.returns
 returns g c =

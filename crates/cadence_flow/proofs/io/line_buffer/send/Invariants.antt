@@ -1,7 +1,7 @@
 use Rattle.std.proofs.Common.{◌≡◌, ◌-◌, length}
 use Rattle.cadence_flow.proofs.OfferedText.{OfferedSoFar}
 use Rattle.cadence_flow.proofs.SentText.{SentSoFar}
-use Rattle.cadence_flow.proofs.io.bytes.send.Given as goal
+use Rattle.cadence_flow.proofs.io.line_buffer.send.Given as goal
 
 abbrev pub invariant-loop-sent : goal.invariant-loop-sent
 invariant-loop-sent g l =
