@@ -239,8 +239,7 @@ impl Client {
 
     /// Keeps the line of the metric that a call means. The errors are `NotUtf8` for a text of the call, `Invalid` for
     /// its kind or its rate, `Separator` for a text if the client is strict, `NoMemory` and `Full`. After an error the
-    /// client is as it was, except for its buffer, which contracts don't see: it may have been freed if memory ran out.
-    /// The next call then asks for a new one.
+    /// client is as it was, but for its buffer, which may have been freed and which contracts don't see.
     pub fn keep(
         &mut self,
         alloc: Global,
