@@ -124,9 +124,13 @@ IsInvalidCall k o = (kind_named k ≡ None) ⊎ HasInvalidRate o
 abbrev pub is_free_container : COptions → Bool
 is_free_container o = if o.contained then is_free_text o.container.now else true
 
+-- whether no text of the options has a separator: neither a tag nor the container
+abbrev pub are_free_options : COptions → Bool
+are_free_options o = list_all is_free_tag (map c_tag o.tags.now) && is_free_container o
+
 -- whether no text of a call has a separator: neither its key nor a tag or the container of its options
 abbrev pub is_free_call : List ℕ → COptions → Bool
-is_free_call key o = list_all is_free_tag (map c_tag o.tags.now) && (is_free_container o && is_free_text key)
+is_free_call key o = are_free_options o && is_free_text key
 
 -- whether a client with these settings allows the texts of a call: all texts, or if the settings are strict, those
 -- without a separator

@@ -4,7 +4,7 @@ ghost use Rattle.std.specs.Prelude.{◌≡◌, ◌<◌, IfOk, IfErr, IfSome, IfN
 ghost use Rattle.std.specs.Str.{IsUtf8};
 ghost use Rattle.cadence_text.specs.Record.{tag_of as record_tag};
 ghost use Rattle.cadence_c.specs.declared.status.StatusError.TheVariants.{Invalid};
-ghost use Rattle.cadence_c.specs.Calls.{IsUtf8Options, c_tag, kind_named, HasInvalidRate, IsNumberOf, IsRateOf, IsUtf8Tag, is_free_call};
+ghost use Rattle.cadence_c.specs.Calls.{IsUtf8Options, c_tag, kind_named, HasInvalidRate, IsNumberOf, IsRateOf, IsUtf8Tag, are_free_options};
 
 use crate::status::StatusError;
 use cadence_schedule::{tag_is_free, text_is_free};
@@ -147,12 +147,12 @@ pub fn are_texts(options: &COptions<'_>) -> bool
     !options.contained || text_of(options.container).is_some()
 }
 
-/// Returns whether no text of a call has a separator: neither its key nor a tag or the container of its options. It isn't
-/// inlined, because only strict clients call it.
+/// Returns whether no text of the options has a separator: neither a tag nor the container. It isn't inlined, because only
+/// strict clients call it.
 #[inline(never)]
-pub fn is_free_call(key: &str, options: &COptions<'_>) -> bool
+pub fn are_free_options(options: &COptions<'_>) -> bool
     requires { IsUtf8Options options.now }
-    ensures { result ≡ is_free_call key.now options.now }
+    ensures { result ≡ are_free_options options.now }
 {
     for tag in options.tags {
         let tag = known_tag(tag);
@@ -160,10 +160,7 @@ pub fn is_free_call(key: &str, options: &COptions<'_>) -> bool
             return false;
         }
     }
-    if options.contained && !text_is_free(unsafe { str::from_utf8_unchecked(options.container) }) {
-        return false;
-    }
-    text_is_free(key)
+    !options.contained || text_is_free(unsafe { str::from_utf8_unchecked(options.container) })
 }
 
 /// Returns the sampling rate of the options, if they have one. The error is `Invalid` if it has more than 30 places.

@@ -1,17 +1,17 @@
 //! A client of C: its settings, its held text and its queue of packets.
 ghost use Rattle.std.specs.Prelude.{◌≡◌};
 
-use crate::call::{COptions, is_free_call};
+use crate::call::{COptions, are_free_options};
 use crate::line::{TestedCall, finish_line, test_call};
 use crate::packet::Packet;
 use crate::status::{StatusError, copy_out};
 use cadence_errors::SinkError;
 use cadence_flow::io::{LineBuffer, PacketWriter};
 use cadence_flow::queue::{QueueCore, QueuePolicy, Taken};
-use cadence_schedule::ClientSettings;
+use cadence_schedule::{ClientSettings, DraftError};
 use cadence_text::line::Tag;
 use cadence_value::value::MetricValue;
-use std::alloc::{AllocError, Global};
+use std::alloc::Global;
 use std::marker::Model;
 use std::mem;
 
@@ -77,10 +77,12 @@ impl Model for Client {
 }
 
 impl Client {
-    ghost use Rattle.std.specs.Prelude.{[], ◌∷◌, take, Some, ◌≡◌, ◌⊎◌, ◌<◌, ◌≤◌, ◌+◌, IfOk, OnOk, OnErr, IsTrue, IsFalse, ◌↔◌, length};
+    ghost use Rattle.std.specs.Prelude.{[], ◌∷◌, take, Some, ◌≡◌, ◌⊎◌, ◌<◌, ◌≤◌, ◌+◌, IfErr, IfOk, OnOk, OnErr, IsTrue, IsFalse, ◌↔◌, ◌||◌, length, not};
     ghost use Rattle.cadence_text.specs.Record.{tag_of as record_tag};
     ghost use Rattle.cadence_value.specs.Values.{numbers_of};
-    ghost use Rattle.cadence_c.specs.Calls.{IsUtf8Options, IsInvalidCall, IsUtf8Call, IsUtf8IfKnown, allows_call_of_c, line_of_call};
+    ghost use Rattle.cadence_c.specs.Calls.{IsUtf8Options, IsInvalidCall, IsUtf8Call, IsUtf8IfKnown, are_free_options, line_of_call};
+    ghost use Rattle.cadence_schedule.specs.Settings.{allows_text};
+    ghost use Rattle.cadence_schedule.specs.declared.settings.strict.DraftError.TheVariants.{Separator};
     ghost use Rattle.cadence_c.specs.Status.{status, CADENCE_FULL, CADENCE_INVALID, CADENCE_NO_MEMORY, CADENCE_NO_PACKET, CADENCE_NOT_UTF8, CADENCE_OK, CADENCE_SEPARATOR, CADENCE_TOO_SMALL, IsOkOr};
     ghost use Rattle.cadence_c.specs.State.{allows_prefix, new_settings, new_state, queue_with_packet, AddsDefaultTag, AllowsCall, AllowsTag, AllowsText, AreCountsOf, DropsOldest, Flushes, ForbidsCall, ForbidsTag, ForbidsText, HasNoPacket, IsOldest, IsOldestLength, KeepsCall, LacksRoom, LacksRoomForCall, LacksRoomForHeld, Packs, SetsDefaultContainer};
 
@@ -205,7 +207,8 @@ impl Client {
         self.flush_and_pack(alloc, line)
     }
 
-    // Makes the line of a tested call in the client's buffer, and returns the buffer. The error is that memory ran out.
+    // Makes the line of a tested call in the client's buffer, and returns the buffer. The errors are `Separator` for the
+    // key, if the client is strict, and `OutOfMemory`.
     #[inline(always)]
     fn line_in_buffer(
         &self,
@@ -213,28 +216,35 @@ impl Client {
         call: TestedCall<'_>,
         value: MetricValue,
         options: &COptions<'_>,
-    ) -> Result<Vec<u8>, AllocError>
+    ) -> Result<Vec<u8>, DraftError>
         requires { IsUtf8Options options.now }
-        ensures { IfOk result (λ line. line.items ≡ line_of_call self.now.settings
+        ensures line { IfOk result (λ line. line.items ≡ line_of_call self.now.settings
             call.entry.kind call.entry.key.now (numbers_of value) options.now call.entry.rate) }
+        ensures allowed { OnOk result
+            (IsTrue (allows_text self.now.settings call.entry.key.now)) }
+        ensures forbidden { IfErr result (λ e. e ≡ Separator →
+            IsFalse (allows_text self.now.settings call.entry.key.now)) }
     {
         // The draft is large, and a `?` here would copy it once more.
-        let Ok(draft) = self
+        let draft = match self
             .settings
             .draft_in_buffer(buffer, call.key, call.kind, value)
-        else {
-            return Err(AllocError);
+        {
+            Ok(draft) => draft,
+            Err(error) => return Err(error),
         };
-        finish_line(draft, options, call.rate)
+        let line = finish_line(draft, options, call.rate)?;
+        Ok(line)
     }
 
-    // Returns whether the client allows the texts of a call: all texts, or if it is strict, those without a separator.
+    // Returns whether the client allows the texts of the options: all texts, or if it is strict, those without a
+    // separator.
     #[inline(always)]
-    fn allows(&self, key: &str, options: &COptions<'_>) -> bool
+    fn allows_options(&self, options: &COptions<'_>) -> bool
         requires { IsUtf8Options options.now }
-        ensures { result ≡ allows_call_of_c self.now.settings key.now options.now }
+        ensures { result ≡ not self.now.settings.strict || are_free_options options.now }
     {
-        !self.settings.is_strict() || is_free_call(key, options)
+        !self.settings.is_strict() || are_free_options(options)
     }
 
     /// Keeps the line of the metric that a call means. The errors are `NotUtf8` for a text of the call, `Invalid` for
@@ -267,12 +277,14 @@ impl Client {
             Ok(call) => call,
             Err(error) => return Err(error),
         };
-        if !self.allows(call.key, options) {
+        if !self.allows_options(options) {
             return Err(StatusError::Separator);
         }
         let buffer = mem::replace(&mut self.line_buffer, Vec::new(alloc));
-        let Ok(line) = self.line_in_buffer(buffer, call, value, options) else {
-            return Err(StatusError::NoMemory);
+        let line = match self.line_in_buffer(buffer, call, value, options) {
+            Ok(line) => line,
+            Err(DraftError::Separator) => return Err(StatusError::Separator),
+            Err(DraftError::OutOfMemory) => return Err(StatusError::NoMemory),
         };
         let outcome = self.pack(alloc, &line);
         self.line_buffer = line;

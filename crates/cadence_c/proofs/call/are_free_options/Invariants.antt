@@ -2,7 +2,7 @@ use Rattle.std.proofs.Common.{◌≡◌, take, true}
 use Rattle.std.specs.List.{list_all}
 use Rattle.cadence_schedule.specs.FreeTexts.{is_free_tag}
 use Rattle.cadence_c.specs.Calls.{c_tag}
-use Rattle.cadence_c.proofs.call.is_free_call.Given as goal
+use Rattle.cadence_c.proofs.call.are_free_options.Given as goal
 
 -- The first tags have no separator.
 abbrev pub invariant-loop-tag : goal.invariant-loop-tag
