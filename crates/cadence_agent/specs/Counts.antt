@@ -28,17 +28,17 @@ number_of counts LinesRefused = counts.lines_refused
 abbrev pub growth_by : Count → ℕ → List Growth
 growth_by count number = if number == 0 then [] else record { count = count; number = number } ∷ []
 
--- by how much a count grew between two moments, modulo 2^64, or none if it is the same
+-- the growth of a count between two moments, modulo 2^64, or none if the count stayed the same
 abbrev pub growth_if_any : SinkCounts → SinkCounts → Count → List Growth
 growth_if_any last now count = growth_by count (less (number_of now count) (number_of last count))
 
--- by how much the counts grew between two moments, without those that are the same
+-- the growths of the counts between two moments, without those of the counts that stayed the same
 abbrev pub growths_between : SinkCounts → SinkCounts → List Growth
 growths_between last now =
     growth_if_any last now BytesSent ++ growth_if_any last now PacketsSent ++ growth_if_any last now BytesDropped
     ++ growth_if_any last now PacketsDropped ++ growth_if_any last now LinesDropped ++ growth_if_any last now LinesRefused
 
--- the counts, of which this one is less by this number, modulo 2^64
+-- the counts after this number was subtracted from this one of them, modulo 2^64
 abbrev pub less_in : SinkCounts → Count → ℕ → SinkCounts
 less_in counts BytesSent n = record counts { stats = record counts.stats { bytes_sent = less counts.stats.bytes_sent n } }
 less_in counts PacketsSent n = record counts { stats = record counts.stats { packets_sent = less counts.stats.packets_sent n } }
@@ -48,6 +48,6 @@ less_in counts PacketsDropped n =
 less_in counts LinesDropped n = record counts { lines_dropped = less counts.lines_dropped n }
 less_in counts LinesRefused n = record counts { lines_refused = less counts.lines_refused n }
 
--- the counts without a growth
+-- the counts after a growth was taken back
 abbrev pub without_growth : SinkCounts → Growth → SinkCounts
 without_growth counts growth = less_in counts growth.count growth.number

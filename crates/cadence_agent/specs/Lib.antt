@@ -3,3 +3,4 @@ pub mod Counts
 pub mod Refusals
 pub mod Reports
 pub mod Shown
+pub mod Waits

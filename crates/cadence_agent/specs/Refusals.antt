@@ -1,5 +1,5 @@
--- Why a packet is not sent to a path, and why a Unix socket, or a sink or a client over one, is not made.
-use Rattle.std.specs.Prelude.{◌≡◌, ℕ, List, None, IsSome}
+-- Why a packet is not sent to a path, and why a socket, or a sink or a client to an agent, is not made.
+use Rattle.std.specs.Prelude.{◌≡◌, ⊤, ℕ, List, None, IsSome, string_bytes}
 use Rattle.std.specs.IoError.{error_kind, raw_os_error}
 use Rattle.std.specs.declared.io.ErrorKind.TheVariants as io_kind
 use Rattle.cadence_errors.specs.declared.ErrorKind.TheVariants as kind
@@ -8,6 +8,8 @@ use Rattle.cadence_errors.specs.declared.MetricError.TheVariants.{Sink, Describe
 use Rattle.cadence_errors.specs.declared.SinkError.{SinkError}
 use Rattle.cadence_errors.specs.declared.SinkError.TheVariants.{Io, OutOfMemory}
 use Rattle.cadence_environment.specs.Paths.{IsFault, IsPath}
+use Rattle.cadence_environment.specs.declared.destination.Destination.{Destination}
+use Rattle.cadence_environment.specs.declared.destination.Destination.TheVariants as place
 use Rattle.cadence_environment.specs.declared.path.PathError.{PathError}
 
 -- The error is one of the system: it has a code of the system.
@@ -32,3 +34,24 @@ IsUnixRefusal path (Described k text) = (k ≡ kind.InvalidInput) × ((fault : P
 IsUnixRefusal path (Sink (Io e)) = IsPath path
 IsUnixRefusal path (Sink OutOfMemory) = IsPath path
 IsUnixRefusal path _ = ⊥
+
+-- The destination may be an invalid input: each host may be one, because it may have no address, and a path is one just if it has a fault.
+abbrev pub MayBeInvalid : {A : Type 0} → Destination A → Type 0
+MayBeInvalid (place.Udp host port) = ⊤
+MayBeInvalid (place.Unix path) = (fault : PathError) × IsFault (string_bytes path) fault
+
+-- A sink or a client to a destination is not made because that is an invalid input, because the system refused the lookup, the socket or the thread,
+-- or because memory ran out.
+abbrev pub IsPlaceRefusal : {A : Type 0} → Destination A → MetricError → Type 0
+IsPlaceRefusal destination (Described k text) = (k ≡ kind.InvalidInput) × MayBeInvalid destination
+IsPlaceRefusal destination (Sink (Io e)) = ⊤
+IsPlaceRefusal destination (Sink OutOfMemory) = ⊤
+IsPlaceRefusal destination _ = ⊥
+
+-- A sink or a client to the place that the environment says is not made because a variable or that place is an invalid input, because the system
+-- refused the lookup, the socket or the thread, or because memory ran out.
+abbrev pub IsEnvironmentRefusal : MetricError → Type 0
+IsEnvironmentRefusal (Described k text) = k ≡ kind.InvalidInput
+IsEnvironmentRefusal (Sink (Io e)) = ⊤
+IsEnvironmentRefusal (Sink OutOfMemory) = ⊤
+IsEnvironmentRefusal _ = ⊥

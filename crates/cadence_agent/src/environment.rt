@@ -3,5 +3,8 @@
 mod ready;
 mod sink;
 
-pub use ready::{EnvironmentClient, client_of, environment_client, environment_sink, sink_to};
+pub use ready::{
+    EnvironmentClient, QueuedEnvironmentClient, QueuedEnvironmentSink, client_of,
+    environment_client, environment_sink, flushing_client_of, flushing_environment_client, sink_to,
+};
 pub use sink::EnvironmentSink;

@@ -1,4 +1,9 @@
 //! Waits for input at a file descriptor.
+ghost use Rattle.std.specs.Prelude.{◌≢◌, IfErr, IsSome};
+ghost use Rattle.std.specs.IoError.{error_kind, raw_os_error};
+ghost use Rattle.std.specs.declared.io.ErrorKind.TheVariants.{Interrupted};
+ghost use Rattle.cadence_agent.specs.Waits.{IsTimeout};
+
 use libc::net::{POLLIN, poll};
 use libc::types::pollfd;
 use std::io;
@@ -8,7 +13,9 @@ use std::time::Duration;
 
 // Returns how many milliseconds the system is asked to wait: a part of one more counts as a whole one, and there are at
 // most those of 24 days.
-fn millis_of(most: Duration) -> i32 {
+fn millis_of(most: Duration) -> i32
+    ensures { IsTimeout most result }
+{
     match i32::try_from(most.as_nanos().div_ceil(1_000_000)) {
         Ok(millis) => millis,
         Err(_) => i32::MAX,
@@ -20,8 +27,11 @@ fn millis_of(most: Duration) -> i32 {
 /// no memory, and uses no time of the processor while it waits.
 ///
 /// # Errors
-/// Those of the system's call `poll`, but for `Interrupted`.
-pub fn wait_for_input(input: BorrowedFd<'_>, most: Duration) -> io::Result<bool> {
+/// The errors are those of the system's call `poll`, each with the code of the system. `Interrupted` isn't one of them.
+pub fn wait_for_input(input: BorrowedFd<'_>, most: Duration) -> io::Result<bool>
+    ensures code { IfErr result (λ e. IsSome (raw_os_error e)) }
+    ensures kind { IfErr result (λ e. error_kind e ≢ Interrupted) }
+{
     let mut asked = [pollfd {
         fd: input.as_raw_fd(),
         events: POLLIN,

@@ -2,6 +2,7 @@
 //!
 //! - `environment`: a sink and a client to the place that the environment says, ready made.
 //! - `input`: waits for input at a file descriptor.
+//! - `queue`: the settings of a queue for a number of lines.
 //! - `reporting`: a sink that sends its own counts as metrics after each period.
 //! - `unix`: a Unix datagram socket that sends to a path, and sinks and clients over it, ready made.
 //!
@@ -10,6 +11,7 @@
 
 mod environment;
 mod input;
+mod queue;
 mod reporting;
 mod unix;
 
@@ -18,12 +20,14 @@ pub use cadence_environment::{
     check_path,
 };
 pub use environment::{
-    EnvironmentClient, EnvironmentSink, client_of, environment_client, environment_sink, sink_to,
+    EnvironmentClient, EnvironmentSink, QueuedEnvironmentClient, QueuedEnvironmentSink, client_of,
+    environment_client, environment_sink, flushing_client_of, flushing_environment_client, sink_to,
 };
 pub use input::wait_for_input;
 pub use reporting::{Count, Growth, ReportingMetricSink, SinkCounts, growths_between};
 pub use unix::{
     BufferedUnixClient, BufferedUnixSink, QueuedUnixClient, QueuedUnixSink, UnixClient, UnixSink,
-    UnixSocket, buffered_unix_client, buffered_unix_sink, queued_unix_client, queued_unix_sink,
-    queued_unix_sink_with, unix_client, unix_sink,
+    UnixSocket, buffered_unix_client, buffered_unix_sink, flushing_unix_client,
+    flushing_unix_sink_with, queued_unix_client, queued_unix_sink, queued_unix_sink_with,
+    unix_client, unix_sink,
 };

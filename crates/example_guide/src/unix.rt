@@ -6,7 +6,7 @@ use cadence::prelude::*;
 use cadence::{MetricResult, MetricSink};
 use cadence_agent::{
     BufferedUnixClient, UnixClient, UnixSocket, buffered_unix_client, environment_client,
-    queued_unix_client, unix_client,
+    flushing_environment_client, flushing_unix_client, unix_client,
 };
 use std::alloc::Global;
 use std::env::Env;
@@ -16,6 +16,7 @@ use std::io::Read;
 use std::net::Net;
 use std::os::fd::{AsFd, OwnedFd};
 use std::os::unix::net::{SocketAddr, UnixStream};
+use std::time::Duration;
 
 /// Counts over a client that sends where the environment says.
 pub fn count_by_environment<R: Runtime + Env>(rt: &R, alloc: Global) -> MetricResult<()> {
@@ -24,8 +25,18 @@ pub fn count_by_environment<R: Runtime + Env>(rt: &R, alloc: Global) -> MetricRe
     client.flush()
 }
 
+/// Counts over a client of the environment whose worker sends what it has within a second.
+pub fn count_within_a_second<R: Runtime + Env>(rt: &R, alloc: Global) -> MetricResult<()> {
+    let period = Duration::from_secs(1);
+    let client = flushing_environment_client(rt, alloc, "my.service", Some(1000), period)?;
+    client.incr("visits")?;
+    client.sink().stop_and_wait();
+    client.flush()
+}
+
 pub fn send_to_agent<R: Runtime>(rt: &R, alloc: Global, path: &str) -> MetricResult<()> {
-    let client = queued_unix_client(rt, alloc, "my.service", path, 1432, Some(1000))?;
+    let period = Duration::from_secs(1);
+    let client = flushing_unix_client(rt, alloc, "my.service", path, 1432, Some(1000), period)?;
     client.incr("visits")?;
     client.sink().stop_and_wait();
     client.flush()?;

@@ -1,11 +1,14 @@
 //! The tests: `client` for the client, `metrics` for the metric types, `plan` for plans, `unix` for clients over Unix
-//! sockets, `environment` for what the environment says, `input` for waits, and `reporting` for a sink that sends its own
-//! counts. `own` has types of a caller's own that they share.
+//! sockets, `environment` for what the environment says, `flushes` for clients that flush by time, `input` for waits, and
+//! `reporting` for a sink that sends its own counts. They share `moved_clock` (a clock that a test moves) and `own` (types
+//! of a caller's own).
 
 mod client;
 mod environment;
+mod flushes;
 mod input;
 mod metrics;
+mod moved_clock;
 mod own;
 mod plan;
 mod reporting;

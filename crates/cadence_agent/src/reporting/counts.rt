@@ -59,7 +59,7 @@ pub struct SinkCounts {
     pub lines_refused: u64,
 }
 
-// Returns a count that is less by a number, modulo 2 to the 64.
+// Returns the count minus the number, modulo 2 to the 64.
 fn less(count: u64, number: u64) -> u64
     ensures { result ≡ less count number }
 {
@@ -81,7 +81,8 @@ impl SinkCounts {
         }
     }
 
-    /// Takes a growth back, so that the same count seems to grow by as much more after these counts.
+    /// Takes a growth back: its number is subtracted from its count, modulo 2 to the 64. So the count's growth after these
+    /// counts is greater by this number.
     pub fn take_back(&mut self, growth: Growth)
         ensures { self.new ≡ without_growth self.old growth }
     {
@@ -103,7 +104,7 @@ impl SinkCounts {
     }
 }
 
-// Adds the growth of this count to the list, unless the count is the same.
+// Adds the growth of this count to the list, unless the count stayed the same.
 fn push_growth<A: Allocator>(
     growths: &mut Vec<Growth, A>,
     last: &SinkCounts,
@@ -120,8 +121,8 @@ fn push_growth<A: Allocator>(
     Ok(())
 }
 
-/// Returns by how much the counts of a sink grew between two moments, in the order of `Count`. A count that is the same
-/// is left out. Differences are modulo 2 to the 64, as the counts are. The only error is that memory ran out.
+/// Returns by how much the counts of a sink grew between two moments, in the order of `Count`. A count that stayed the
+/// same is left out. Differences are modulo 2 to the 64, as the counts are. The only error is that memory ran out.
 pub fn growths_between<A: Allocator>(
     alloc: A,
     last: &SinkCounts,

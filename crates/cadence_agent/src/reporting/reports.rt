@@ -23,7 +23,7 @@ pub struct Reports<S: MetricSink, A: Allocator> {
     pub settings: ClientSettings<A>,
     // How many lines the sink refused, modulo 2 to the 64.
     refused: AtomicU64,
-    // The counts that the reports have come to.
+    // The counts of the sink that were reported so far.
     reported: Mutex<SinkCounts>,
     alloc: A,
 }
@@ -38,7 +38,7 @@ fn counts_of<S: MetricSink>(sink: &S, lines_refused: u64) -> SinkCounts {
 }
 
 impl<S: MetricSink, A: Allocator + Clone> Reports<S, A> {
-    /// Makes a report that begins with the counts that the sink has now. The only error is that memory ran out.
+    /// Makes the reports of a sink. They begin with the counts that the sink has now. The only error is that memory ran out.
     pub fn new(alloc: A, sink: S, prefix: &str) -> MetricResult<Self>
         ensures sink { IfOk result (λ r. r.sink ≡ sink) }
         ensures settings { IfOk result (λ r. r.settings ≡ settings_of prefix.now) }

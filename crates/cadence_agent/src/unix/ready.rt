@@ -1,25 +1,29 @@
 //! Clients and sinks over a Unix socket of their own, made from a runtime, an allocator and a path. Each function tests the
 //! path before it asks for memory.
-ghost use Rattle.std.specs.Prelude.{◌≡◌, IfOk, IfErr};
+ghost use Rattle.std.specs.Prelude.{◌≡◌, IfOk, IfErr, Some};
 ghost use Rattle.cadence.specs.Shown.{settings_of_client, sink_of_client};
 ghost use Rattle.cadence_schedule.specs.Settings.{settings_of};
 ghost use Rattle.cadence_sinks.specs.Buffers.{unix_buffer};
-ghost use Rattle.cadence_queuing.specs.Queuing.{capacity_of, policy_of, queue_capacity, queue_policy, wrapped_sink};
+ghost use Rattle.cadence_queuing.specs.Queuing.{capacity_of, flush_period, flush_period_of, policy_of, queue_capacity, queue_policy, wrapped_sink};
+ghost use Rattle.cadence_queuing.specs.Queuing.{settings_of as queue_settings};
 ghost use Rattle.cadence_sinks.specs.Unix.{unix_path};
 ghost use Rattle.cadence_environment.specs.Paths.{IsPath};
 ghost use Rattle.cadence_agent.specs.Refusals.{IsUnixRefusal};
 
 use super::socket::UnixSocket;
+use crate::queue::queue_for;
 use cadence::StatsdClient;
 use cadence_environment::check_path;
 use cadence_errors::MetricResult;
 use cadence_sinks::{
-    BufferedUnixMetricSink, QueuingMetricSink, QueuingMetricSinkBuilder, UnixMetricSink,
+    BufferedUnixMetricSink, FlushingQueueBuilder, QueuingMetricSink, QueuingMetricSinkBuilder,
+    UnixMetricSink,
 };
 use std::alloc::{Allocator, Global};
 use std::net::Net;
 use std::sync::Wait;
 use std::thread::Threads;
+use std::time::{Clock, Duration};
 
 /// The sink that `unix_sink` makes.
 pub type UnixSink<R, A = Global> = UnixMetricSink<UnixSocket, R, A>;
@@ -36,7 +40,7 @@ pub type UnixClient<R, A = Global> = StatsdClient<A, UnixSink<R, A>>;
 /// The client that `buffered_unix_client` makes.
 pub type BufferedUnixClient<R, A = Global> = StatsdClient<A, BufferedUnixSink<R, A>>;
 
-/// The client that `queued_unix_client` makes.
+/// The client that `queued_unix_client` and `flushing_unix_client` make.
 pub type QueuedUnixClient<R, A = Global> = StatsdClient<A, QueuedUnixSink<R, A>>;
 
 // Tests the path, and makes a socket.
@@ -104,6 +108,30 @@ pub fn queued_unix_sink_with<
     settings.build(rt.clone()?, alloc, sink)
 }
 
+/// Makes a queuing sink, as `queued_unix_sink_with` does, whose worker also flushes the buffered sink by time. The errors
+/// are those of `queued_unix_sink_with`.
+pub fn flushing_unix_sink_with<
+    R: Net + Wait + Clock + Threads + Clone + Drop + Send + Sync + 'static,
+    A: Allocator + Clone + Send + Sync + 'static,
+>(
+    rt: &R,
+    alloc: A,
+    path: &str,
+    capacity: usize,
+    settings: FlushingQueueBuilder<A>,
+) -> MetricResult<QueuedUnixSink<R, A>>
+    ensures buffer { IfOk result (λ q. unix_buffer (wrapped_sink q) ≡ capacity) }
+    ensures lines { IfOk result (λ q. queue_capacity q ≡ capacity_of (queue_settings settings)) }
+    ensures policy { IfOk result (λ q. queue_policy q ≡ policy_of (queue_settings settings)) }
+    ensures period { IfOk result (λ q. flush_period q ≡ Some (flush_period_of settings)) }
+    ensures fits { IfOk result (λ _. IsPath path.now) }
+    ensures refused { IfErr result (IsUnixRefusal path.now) }
+{
+    check_path(path)?;
+    let sink = buffered_unix_sink(rt, alloc.clone()?, path, capacity)?;
+    settings.build(rt.clone()?, alloc, sink)
+}
+
 /// Makes a queuing sink for at most `lines` lines, or for any number, over a buffered Unix sink, and starts its worker
 /// thread. A full queue refuses lines. The errors are those of `queued_unix_sink_with`.
 pub fn queued_unix_sink<
@@ -121,11 +149,7 @@ pub fn queued_unix_sink<
     ensures fits { IfOk result (λ _. IsPath path.now) }
     ensures refused { IfErr result (IsUnixRefusal path.now) }
 {
-    let settings = match lines {
-        Some(lines) => QueuingMetricSinkBuilder::new().with_capacity(lines),
-        None => QueuingMetricSinkBuilder::new(),
-    };
-    queued_unix_sink_with(rt, alloc, path, capacity, settings)
+    queued_unix_sink_with(rt, alloc, path, capacity, queue_for(lines))
 }
 
 /// Makes a client that sends each line as a datagram to the path. The errors are those of `unix_sink`.
@@ -191,5 +215,32 @@ pub fn queued_unix_client<
 {
     check_path(path)?;
     let sink = queued_unix_sink(rt, alloc.clone()?, path, capacity, lines)?;
+    StatsdClient::from_sink(alloc, prefix, sink)
+}
+
+/// Makes a client as `queued_unix_client` does, whose worker also sends the lines that it holds if `period` has passed
+/// since it last did. So no line waits much longer than the period. The errors are those of `queued_unix_sink`.
+pub fn flushing_unix_client<
+    R: Net + Wait + Clock + Threads + Clone + Drop + Send + Sync + 'static,
+    A: Allocator + Clone + Send + Sync + 'static,
+>(
+    rt: &R,
+    alloc: A,
+    prefix: &str,
+    path: &str,
+    capacity: usize,
+    lines: Option<usize>,
+    period: Duration,
+) -> MetricResult<QueuedUnixClient<R, A>>
+    ensures settings { IfOk result (λ c. settings_of_client c ≡ settings_of prefix.now) }
+    ensures buffer { IfOk result (λ c. unix_buffer (wrapped_sink (sink_of_client c)) ≡ capacity) }
+    ensures lines { IfOk result (λ c. queue_capacity (sink_of_client c) ≡ lines) }
+    ensures period { IfOk result (λ c. flush_period (sink_of_client c) ≡ Some period) }
+    ensures fits { IfOk result (λ _. IsPath path.now) }
+    ensures refused { IfErr result (IsUnixRefusal path.now) }
+{
+    check_path(path)?;
+    let queue = queue_for(lines).with_flush_period(period);
+    let sink = flushing_unix_sink_with(rt, alloc.clone()?, path, capacity, queue)?;
     StatsdClient::from_sink(alloc, prefix, sink)
 }

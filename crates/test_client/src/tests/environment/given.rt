@@ -12,8 +12,8 @@ pub struct Given<'a> {
     pub variables: &'a [Set<'a>],
 }
 
-// Copies a value to the start of the buffer, if the buffer is long enough.
-fn fill(value: &[u8], buffer: &mut [u8]) -> Result<usize, FillError>
+/// Copies a value to the start of the buffer, if the buffer is long enough.
+pub fn fill(value: &[u8], buffer: &mut [u8]) -> Result<usize, FillError>
     ensures { WritesAtMost result buffer.new }
 {
     if value.len() > buffer.len() {

@@ -2,9 +2,12 @@
 use super::given::Given;
 use crate::tests::unix::sending::path_of;
 use crate::tests::unix::server::{bind_server, unlink};
+use cadence::MetricSink;
 use cadence::prelude::*;
+use cadence::types::SinkError;
 use cadence_agent::{
     Environment, EnvironmentSink, client_of, environment_client, environment_sink,
+    flushing_environment_client,
 };
 use std::net::{Ipv4Addr, SocketAddr, UdpSocket};
 use std::test::Fail;
@@ -68,4 +71,20 @@ fn the_environment_of_the_process_is_read(rt: HostRuntime) -> Result<(), Fail> {
         EnvironmentSink::Udp(_) => Ok(()),
         EnvironmentSink::Unix(_) => Err(Fail::new("a path")),
     }
+}
+
+// The queue is full, so it refuses the line. A client with another bound, or with none, would take it.
+#[test]
+fn a_client_of_the_environment_has_its_bound(rt: HostRuntime) -> Result<(), Fail> {
+    let hour = Duration::from_secs(3600);
+    let full = flushing_environment_client(&rt, rt.alloc(), "p", Some(0), hour)?;
+    let Err(error) = full.incr("a") else {
+        return Err(Fail::new("a queue without room takes a line"));
+    };
+    assert!(rt; matches!(error.sink_error(), Some(SinkError::ChannelFull)));
+    let client = flushing_environment_client(&rt, rt.alloc(), "p", Some(1), hour)?;
+    client.incr("a")?;
+    client.sink().stop_and_wait();
+    assert_eq!(rt; client.sink().stats().bytes_sent, 8);
+    Ok(())
 }

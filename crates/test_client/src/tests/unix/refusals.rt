@@ -1,10 +1,12 @@
 //! Paths and packets that are refused, and each request for memory refused in turn.
 use super::sending::io_kind;
+use crate::tests::moved_clock::Runtime;
 use cadence::prelude::*;
 use cadence::types::SinkError;
 use cadence::{ErrorKind, MetricError, MetricResult};
 use cadence_agent::{
-    PathError, UnixSocket, buffered_unix_client, check_path, queued_unix_client, unix_client,
+    PathError, UnixSocket, buffered_unix_client, check_path, flushing_unix_client,
+    queued_unix_client, unix_client,
 };
 use cadence_sinks::PathSocket;
 use std::alloc::Global;
@@ -12,7 +14,7 @@ use std::io;
 use std::net::Net;
 use std::sync::Wait;
 use std::test::Fail;
-use std::thread::Threads;
+use std::time::Duration;
 use test_tools::RefusingAllocator;
 
 // A text of 107 bytes, which is a path, and one of 108 bytes, which is none.
@@ -96,22 +98,18 @@ fn the_longest_path_is_a_path(rt: HostRuntime) -> Result<(), Fail> {
     Ok(())
 }
 
-// Returns whether there was memory for each of the three clients and for a line.
-fn clients_have_memory<R: Net + Wait + Threads + Clone + Drop + Send + Sync + 'static>(
-    rt: &R,
-    heap: RefusingAllocator<Global>,
-) -> MetricResult<bool> {
+// Returns whether there was memory for each of the four clients and for a line.
+fn clients_have_memory<R: Runtime>(rt: &R, heap: RefusingAllocator<Global>) -> MetricResult<bool> {
     let plain = unix_client(rt, heap.clone()?, "p", LONGEST)?;
     let _buffered = buffered_unix_client(rt, heap.clone()?, "p", LONGEST, 16)?;
-    let _queued = queued_unix_client(rt, heap, "p", LONGEST, 16, Some(1))?;
+    let _queued = queued_unix_client(rt, heap.clone()?, "p", LONGEST, 16, Some(1))?;
+    let period = Duration::from_secs(3600);
+    let _flushing = flushing_unix_client(rt, heap, "p", LONGEST, 16, Some(1), period)?;
     Ok(io_kind(plain.incr("a")).is_some())
 }
 
 // Returns whether there was memory. Only a refused request may be why there was none.
-fn clients_are_made<R: Net + Wait + Threads + Clone + Drop + Send + Sync + 'static>(
-    rt: &R,
-    heap: RefusingAllocator<Global>,
-) -> Result<bool, Fail> {
+fn clients_are_made<R: Runtime>(rt: &R, heap: RefusingAllocator<Global>) -> Result<bool, Fail> {
     match clients_have_memory(rt, heap) {
         Err(MetricError::Sink(SinkError::OutOfMemory)) => Ok(false),
         answer => Ok(answer?),

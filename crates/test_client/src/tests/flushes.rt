@@ -1,0 +1,154 @@
+//! Clients to an agent that flush by time. Each test moves the clock itself; a worker with a period of five milliseconds
+//! looks at it after as many milliseconds of real time.
+use super::moved_clock::{MovedClock, Runtime, Variables};
+use super::unix::sending::path_of;
+use super::unix::server::{Server, bind_server, unlink};
+use cadence::prelude::*;
+use cadence::{ErrorKind, MetricResult, MetricSink, QueuingMetricSinkBuilder};
+use cadence_agent::{
+    Environment, environment_client, environment_sink, flushing_client_of,
+    flushing_environment_client, flushing_unix_client, flushing_unix_sink_with,
+};
+use std::alloc::Global;
+use std::fs::Files;
+use std::test::Fail;
+use std::time::Duration;
+
+// The period of each client, in milliseconds.
+const PERIOD: u64 = 5;
+
+// Asserts that a line which the client has got is sent as soon as the moved clock shows the period, and not before.
+fn assert_sends_by_time<R: Runtime>(
+    clock: &MovedClock<R>,
+    server: &Server,
+    datagram: &str,
+) -> Result<(), Fail> {
+    for now in [0, PERIOD - 1] {
+        clock.move_to(now);
+        clock.assert_reads(6)?;
+        server.assert_datagrams(&[])?;
+    }
+    clock.move_to(PERIOD);
+    server.assert_comes(clock.runtime(), datagram)
+}
+
+fn assert_client_sends<R: Runtime + Files>(rt: &R, alloc: Global, path: &str) -> Result<(), Fail> {
+    let server = bind_server(rt, path)?;
+    let clock = MovedClock::new(rt, alloc, Vec::new(alloc))?;
+    let period = Duration::from_millis(PERIOD);
+    let client = flushing_unix_client(&clock, alloc, "p", path, 64, Some(9), period)?;
+    client.incr("a")?;
+    client.incr("b")?;
+    assert_sends_by_time(&clock, &server, "p.a:1|c\np.b:1|c\n")?;
+    unlink(rt, path)
+}
+
+#[test]
+fn a_unix_client_sends_after_its_period(rt: HostRuntime) -> Result<(), Fail> {
+    assert_client_sends(&rt, rt.alloc(), &path_of(&rt, "period")?)
+}
+
+// The buffer has room for two of the lines. The third one sends them, and is sent itself by time.
+fn assert_sink_sends<R: Runtime + Files>(rt: &R, alloc: Global, path: &str) -> Result<(), Fail> {
+    let server = bind_server(rt, path)?;
+    let clock = MovedClock::new(rt, alloc, Vec::new(alloc))?;
+    let queue = QueuingMetricSinkBuilder::new()
+        .with_capacity(9)
+        .with_flush_period(Duration::from_millis(PERIOD));
+    let sink = flushing_unix_sink_with(&clock, alloc, path, 16, queue)?;
+    for line in ["p.a:1|c", "p.b:1|c", "p.c:1|c"] {
+        if sink.emit(line)? != 7 {
+            return Err(Fail::new("another count of bytes"));
+        }
+    }
+    server.assert_comes(rt, "p.a:1|c\np.b:1|c\n")?;
+    assert_sends_by_time(&clock, &server, "p.c:1|c\n")?;
+    unlink(rt, path)
+}
+
+#[test]
+fn a_unix_sink_sends_after_its_period(rt: HostRuntime) -> Result<(), Fail> {
+    assert_sink_sends(&rt, rt.alloc(), &path_of(&rt, "sink-period")?)
+}
+
+// Returns variables that say to send to this path, with one tag.
+fn variables_of(alloc: Global, path: &str) -> Result<Variables, Fail> {
+    let mut variables = Vec::new(alloc);
+    variables.push(("DD_DOGSTATSD_URL", format!(in alloc; "unix://{path}")?))?;
+    variables.push(("DD_ENV", String::from_str(alloc, "prod")?))?;
+    Ok(variables)
+}
+
+fn assert_environment_sends<R: Runtime + Files>(
+    rt: &R,
+    alloc: Global,
+    path: &str,
+) -> Result<(), Fail> {
+    let server = bind_server(rt, path)?;
+    let clock = MovedClock::new(rt, alloc, variables_of(alloc, path)?)?;
+    let period = Duration::from_millis(PERIOD);
+    let client = flushing_environment_client(&clock, alloc, "p", Some(9), period)?;
+    client.incr("a")?;
+    assert_sends_by_time(&clock, &server, "p.a:1|c|#env:prod\n")?;
+    unlink(rt, path)
+}
+
+#[test]
+fn a_client_of_the_environment_sends_after_its_period(rt: HostRuntime) -> Result<(), Fail> {
+    assert_environment_sends(&rt, rt.alloc(), &path_of(&rt, "environment-period")?)
+}
+
+// A line that comes after the flush is sent when the client stops, before the next period is over.
+fn assert_stop_sends<R: Runtime + Files>(rt: &R, alloc: Global, path: &str) -> Result<(), Fail> {
+    let server = bind_server(rt, path)?;
+    let clock = MovedClock::new(rt, alloc, variables_of(alloc, path)?)?;
+    let environment = Environment::read(&(&clock, alloc))?;
+    let period = Duration::from_millis(PERIOD);
+    let client = flushing_client_of(&clock, alloc, "p", &environment, None, period)?;
+    client.incr("a")?;
+    assert_sends_by_time(&clock, &server, "p.a:1|c|#env:prod\n")?;
+    client.incr("b")?;
+    client.sink().stop_and_wait();
+    server.assert_comes(rt, "p.b:1|c|#env:prod\n")?;
+    unlink(rt, path)
+}
+
+#[test]
+fn a_client_of_given_variables_sends_after_its_period(rt: HostRuntime) -> Result<(), Fail> {
+    assert_stop_sends(&rt, rt.alloc(), &path_of(&rt, "given-period")?)
+}
+
+// Asserts that nothing was made, because this variable is malformed.
+fn assert_names<T: Drop>(alloc: Global, made: MetricResult<T>, name: &str) -> Result<(), Fail> {
+    let Err(error) = made else {
+        return Err(Fail::new("it is made"));
+    };
+    let says = format!(in alloc; "{error}")?;
+    if error.kind() != ErrorKind::InvalidInput || !says.starts_with(name) {
+        return Err(Fail::new(format_args!("another error: {error}")));
+    }
+    Ok(())
+}
+
+// Asserts that nothing is made if this variable has a text that can't be used, and that the error names it.
+fn assert_all_name<R: Runtime>(rt: &R, alloc: Global, name: &'static str) -> Result<(), Fail> {
+    for text in ["a,b", "a|b", "a\nb"] {
+        let mut variables = Vec::new(alloc);
+        variables.push((name, String::from_str(alloc, text)?))?;
+        let clock = MovedClock::new(rt, alloc, variables)?;
+        assert_names(alloc, environment_sink(&clock, alloc), name)?;
+        assert_names(alloc, environment_client(&clock, alloc, "p"), name)?;
+        let period = Duration::from_millis(PERIOD);
+        let made = flushing_environment_client(&clock, alloc, "p", Some(9), period);
+        assert_names(alloc, made, name)?;
+    }
+    Ok(())
+}
+
+#[test]
+fn a_malformed_variable_is_named(rt: HostRuntime) -> Result<(), Fail> {
+    for name in ["DD_ENV", "DD_SERVICE", "DD_VERSION", "DD_ENTITY_ID"] {
+        assert_all_name(&rt, rt.alloc(), name)?;
+    }
+    Ok(())
+}
