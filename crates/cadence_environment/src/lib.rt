@@ -4,8 +4,8 @@
 //! - `error`: why nothing is read from the environment.
 //! - `path`: which texts can be the path of a Unix socket.
 //! - `read`: what the environment says, read from a runtime or from texts.
-//! - `spaces`: texts without the spaces round them.
 //! - `tags`: the tags that the variables say.
+//! - `trim`: texts without the spaces round them.
 //! - `variables`: the variables of the environment, and the texts that they have.
 #![tactic(auto)]
 
@@ -13,8 +13,8 @@ mod destination;
 mod error;
 mod path;
 mod read;
-mod spaces;
 mod tags;
+mod trim;
 mod variables;
 
 pub use destination::Destination;

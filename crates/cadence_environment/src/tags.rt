@@ -9,7 +9,7 @@ ghost use Rattle.cadence_environment.specs.declared.variables.Variable.TheVarian
 ghost use Rattle.cadence_environment.specs.TagTexts.{is_overridden, own_tag, piece_tags, pieces_of, tag_of_text, tags_said};
 
 use crate::error::EnvironmentError;
-use crate::spaces::trim_spaces;
+use crate::trim::trim_spaces;
 use crate::variables::{Variable, Variables};
 use cadence_text::line::{OwnedTag, Tag};
 use std::alloc::{AllocError, Allocator};

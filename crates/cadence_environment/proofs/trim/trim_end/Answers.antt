@@ -2,7 +2,7 @@ use Rattle.std.proofs.Common.{rules, ◌≡◌, ◌∷◌, ◌++◌, [], ◌∙�
 use Rattle.std.proofs.lemmas.Str.Pattern.{strip_suffix_char}
 use Rattle.cadence_environment.specs.TagTexts.{without_end}
 use Rattle.cadence_environment.proofs.Spaces.{without_end-same, without_end-snoc}
-use Rattle.cadence_environment.proofs.spaces.trim_end.Goals as goal
+use Rattle.cadence_environment.proofs.trim.trim_end.Goals as goal
 
 pub loop-shorter-preserved : goal.loop-shorter-preserved
 loop-shorter-preserved c =

@@ -2,7 +2,7 @@ use Rattle.std.proofs.Common.{rules, ◌≡◌, ◌∷◌, ◌∙◌, ap, sym, S
 use Rattle.std.proofs.lemmas.Str.Pattern.{strip_prefix_char}
 use Rattle.cadence_environment.specs.TagTexts.{without_front}
 use Rattle.cadence_environment.proofs.Spaces.{without_front-same}
-use Rattle.cadence_environment.proofs.spaces.trim_front.Goals as goal
+use Rattle.cadence_environment.proofs.trim.trim_front.Goals as goal
 
 pub loop-shorter-preserved : goal.loop-shorter-preserved
 loop-shorter-preserved c =
