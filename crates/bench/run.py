@@ -28,6 +28,7 @@ class Work(NamedTuple):
 MODES = [
     Work('count', '', '', 'a counter without tags, into a sink that does nothing', 1000000),
     Work('count_tags', '', '', 'a counter with three tags, into a sink that does nothing', 500000),
+    Work('strict_tags', '', '', 'a counter with three tags of a strict client', 500000),
     Work('histogram4', '', '', 'a histogram of four values', 500000),
     Work('tags', '', '1 3 10 20 50 200', 'a counter with {} tags of its own', 50000),
     Work('dtags', '', '3 20 50', 'a counter with {} default tags', 100000),
@@ -58,7 +59,7 @@ MODES = [
     Work('read_full_arena', '512 93', '', 'a byte of lines with every field, read into an arena', 20000, 500, 5 * 94),
     Work('read_full_arena', '1432 93', '', 'a byte of lines with every field, read into an arena', 10000, 500, 15 * 94),
 ]
-HERE_ALONE = ('read', 'read_full', 'read_arena', 'read_full_arena')   # the Rust crate reads no packets
+HERE_ALONE = ('strict_tags', 'read', 'read_full', 'read_arena', 'read_full_arena')   # the Rust crate doesn't do this
 PACKED = ('packer', 'udp', 'udp_callers')
 QUEUED = ('queue', 'callers', 'service')
 

@@ -52,6 +52,8 @@ pub enum Mode {
     Client(Calling),
     /// Counters of a client with `size` default tags.
     DefaultTags,
+    /// Counters with three tags of a strict client.
+    StrictTags,
     /// Lines into a packer.
     Packer,
     /// Packets that are read.
@@ -63,12 +65,13 @@ pub enum Mode {
 }
 
 // The modes, each with its word.
-const MODES: [(Mode, &str); 17] = [
+const MODES: [(Mode, &str); 18] = [
     (Mode::Client(Calling::Count), "count"),
     (Mode::Client(Calling::CountTags), "count_tags"),
     (Mode::Client(Calling::Histogram4), "histogram4"),
     (Mode::Client(Calling::Tags), "tags"),
     (Mode::DefaultTags, "dtags"),
+    (Mode::StrictTags, "strict_tags"),
     (Mode::Client(Calling::Values), "values"),
     (Mode::Client(Calling::Key), "key"),
     (Mode::Packer, "packer"),
@@ -114,7 +117,7 @@ pub struct Arguments {
 }
 
 /// The text that is printed if the words name no work.
-pub const USAGE: &str = "bench count|count_tags|histogram4 N
+pub const USAGE: &str = "bench count|count_tags|strict_tags|histogram4 N
 bench tags|dtags|values|key N [SIZE]
 bench packer|udp|queue N [CAP LEN]
 bench read|read_full|read_arena|read_full_arena N [CAP LEN]

@@ -2,7 +2,7 @@
 
 use crate::done::{BlackBox, Done, Note};
 use cadence::prelude::*;
-use cadence::{Metric, MetricResult, StatsdClient};
+use cadence::{Metric, MetricResult, MetricSink, NopMetricSink, StatsdClient};
 use std::time::Instant;
 
 /// Sends counters without tags.
@@ -46,6 +46,15 @@ pub fn count_tags(rt: &HostRuntime, client: &StatsdClient, calls: u64) -> Metric
         check,
         note: Note::Nothing,
     })
+}
+
+/// Sends counters as `count_tags` does, over a strict client.
+pub fn strict_tags(rt: &HostRuntime, calls: u64) -> MetricResult<Done> {
+    let sink: Box<dyn MetricSink + Send + Sync> = Box::new(rt.alloc(), NopMetricSink)?;
+    let client = StatsdClient::builder(rt.alloc(), "some.prefix", sink)
+        .with_strict_texts()
+        .build()?;
+    count_tags(rt, &client, calls)
 }
 
 /// Sends histograms of four values.

@@ -60,6 +60,7 @@ fn main(rt: HostRuntime) -> MetricResult<()> {
     let done = match arguments.mode {
         Mode::Client(what) => call(&rt, what, &arguments)?,
         Mode::DefaultTags => sizes::default_tags(&rt, arguments.calls, arguments.size)?,
+        Mode::StrictTags => lines::strict_tags(&rt, arguments.calls)?,
         Mode::Packer => packets::write_lines(&rt, alloc, &arguments)?,
         Mode::Read(what) => reading::read_packets(&rt, alloc, what, &arguments)?,
         Mode::Emit(what) => callers::emit(&rt, alloc, what, &arguments)?,
