@@ -73,9 +73,13 @@ fn a_unix_sink_sends_after_its_period(rt: HostRuntime) -> Result<(), Fail> {
 
 // Returns variables that say to send to this path, with one tag.
 fn variables_of(alloc: Global, path: &str) -> Result<Variables, Fail> {
+    let url = format!(in alloc; "unix://{path}")?;
     let mut variables = Vec::new(alloc);
-    variables.push(("DD_DOGSTATSD_URL", format!(in alloc; "unix://{path}")?))?;
-    variables.push(("DD_ENV", String::from_str(alloc, "prod")?))?;
+    variables.push((String::from_str(alloc, "DD_DOGSTATSD_URL")?, url))?;
+    variables.push((
+        String::from_str(alloc, "DD_ENV")?,
+        String::from_str(alloc, "prod")?,
+    ))?;
     Ok(variables)
 }
 
@@ -131,10 +135,13 @@ fn assert_names<T: Drop>(alloc: Global, made: MetricResult<T>, name: &str) -> Re
 }
 
 // Asserts that nothing is made if this variable has a text that can't be used, and that the error names it.
-fn assert_all_name<R: Runtime>(rt: &R, alloc: Global, name: &'static str) -> Result<(), Fail> {
+fn assert_all_name<R: Runtime>(rt: &R, alloc: Global, name: &str) -> Result<(), Fail> {
     for text in ["a,b", "a|b", "a\nb"] {
         let mut variables = Vec::new(alloc);
-        variables.push((name, String::from_str(alloc, text)?))?;
+        variables.push((
+            String::from_str(alloc, name)?,
+            String::from_str(alloc, text)?,
+        ))?;
         let clock = MovedClock::new(rt, alloc, variables)?;
         assert_names(alloc, environment_sink(&clock, alloc), name)?;
         assert_names(alloc, environment_client(&clock, alloc, "p"), name)?;

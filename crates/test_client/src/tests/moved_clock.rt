@@ -3,7 +3,8 @@ use super::environment::given::fill;
 use std::alloc::{AllocError, Global};
 use std::env::{Env, FillError};
 use std::io;
-use std::net::{Net, SocketAddr};
+use std::io::ErrorKind;
+use std::net::{Net, SocketAddr, TcpListener, TcpStream};
 use std::sync::atomic::{AtomicU64, Ordering};
 use std::sync::{Arc, Wait};
 use std::test::Fail;
@@ -19,7 +20,7 @@ pub trait Runtime: Net + Wait + Clock + Threads + Clone + Drop + Send + Sync + '
 impl<R: Net + Wait + Clock + Threads + Clone + Drop + Send + Sync + 'static> Runtime for R {}
 
 /// The variables of an environment, each with its name.
-pub type Variables = Vec<(&'static str, String)>;
+pub type Variables = Vec<(String, String)>;
 
 /// What a test sets and sees.
 #[derive(Drop)]
@@ -31,18 +32,18 @@ struct Stage {
     variables: Variables,
 }
 
-/// A runtime with a clock that a test moves.
+/// A runtime with a clock that a test moves. It makes no socket of its own, and a Unix socket needs none.
 #[derive(Drop)]
-pub struct MovedClock<R: Runtime> {
+pub struct MovedClock<R: Wait + Threads + Drop> {
     rt: R,
     stage: Arc<Stage>,
 }
 
-impl<R: Runtime> Wait for MovedClock<R> {}
+impl<R: Wait + Threads + Drop> Wait for MovedClock<R> {}
 
-impl<R: Runtime> Threads for MovedClock<R> {}
+impl<R: Wait + Threads + Drop> Threads for MovedClock<R> {}
 
-impl<R: Runtime> Clone for MovedClock<R> {
+impl<R: Wait + Threads + Clone + Drop> Clone for MovedClock<R> {
     fn clone(&self) -> Result<MovedClock<R>, AllocError> {
         let rt = self.rt.clone()?;
         let stage = self.stage.clone()?;
@@ -50,7 +51,7 @@ impl<R: Runtime> Clone for MovedClock<R> {
     }
 }
 
-impl<R: Runtime> Clock for MovedClock<R> {
+impl<R: Wait + Threads + Drop> Clock for MovedClock<R> {
     fn monotonic(&self) -> io::Result<Duration> {
         self.stage.readings.fetch_add(1, Ordering::SeqCst);
         Ok(Duration::from_millis(self.stage.now.load(Ordering::SeqCst)))
@@ -61,28 +62,28 @@ impl<R: Runtime> Clock for MovedClock<R> {
     }
 }
 
-impl<R: Runtime> Net for MovedClock<R> {
-    type Stream = R::Stream;
+impl<R: Wait + Threads + Drop> Net for MovedClock<R> {
+    type Stream = TcpStream;
 
-    type Listener = R::Listener;
+    type Listener = TcpListener;
 
-    fn bind(&self, addr: SocketAddr) -> io::Result<R::Listener> {
-        self.rt.bind(addr)
+    fn bind(&self, _addr: SocketAddr) -> io::Result<TcpListener> {
+        Err(io::Error::from(ErrorKind::Unsupported))
     }
 
-    fn connect(&self, addr: SocketAddr) -> io::Result<R::Stream> {
-        self.rt.connect(addr)
+    fn connect(&self, _addr: SocketAddr) -> io::Result<TcpStream> {
+        Err(io::Error::from(ErrorKind::Unsupported))
     }
 }
 
-impl<R: Runtime> Env for MovedClock<R> {
+impl<R: Wait + Threads + Drop> Env for MovedClock<R> {
     fn arg(&self, _i: usize, _buffer: &mut [u8]) -> Result<usize, FillError> {
         Err(FillError::NotPresent)
     }
 
     fn var(&self, name: &str, buffer: &mut [u8]) -> Result<usize, FillError> {
         for (known, value) in &self.stage.variables {
-            if *known == name {
+            if known.as_str() == name {
                 return fill(value.as_bytes(), buffer);
             }
         }
