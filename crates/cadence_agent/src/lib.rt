@@ -2,7 +2,6 @@
 //!
 //! - `environment`: a sink and a client to the place that the environment says, ready made.
 //! - `input`: waits for input at a file descriptor.
-//! - `queue`: the settings of a queue for a number of lines.
 //! - `reporting`: a sink that sends its own counts as metrics after each period.
 //! - `unix`: a Unix datagram socket that sends to a path, and sinks and clients over it, ready made.
 //!
@@ -11,7 +10,6 @@
 
 mod environment;
 mod input;
-mod queue;
 mod reporting;
 mod unix;
 

@@ -11,14 +11,13 @@ ghost use Rattle.cadence_environment.specs.Shown.{destination_of, tags_of};
 ghost use Rattle.cadence_schedule.specs.Settings.{settings_of};
 
 use super::sink::EnvironmentSink;
-use crate::queue::queue_for;
 use crate::unix::buffered_unix_sink;
 use cadence::client::{StatsdClient, StatsdClientBuilder};
 use cadence::ready::{buffered_udp_sink, host};
 use cadence_environment::{Destination, Environment};
 use cadence_errors::MetricResult;
 use cadence_flow::io::DEFAULT_CAPACITY;
-use cadence_queuing::{MetricSink, QueuingMetricSink};
+use cadence_queuing::{MetricSink, QueuingMetricSink, QueuingMetricSinkBuilder};
 use cadence_text::line::{OwnedTag, Tag, lend_tag};
 use std::alloc::{Allocator, Global};
 use std::env::Env;
@@ -155,7 +154,11 @@ pub fn flushing_client_of<
     ensures refused { IfErr result (IsPlaceRefusal (destination_of environment.now)) }
 {
     let sink = sink_to(rt, alloc.clone()?, environment.destination())?;
-    let queue = queue_for(lines).with_flush_period(period);
+    let queue = match lines {
+        Some(most) => QueuingMetricSinkBuilder::new().with_capacity(most),
+        None => QueuingMetricSinkBuilder::new(),
+    };
+    let queue = queue.with_flush_period(period);
     let sink = queue.build(rt.clone()?, alloc.clone()?, sink)?;
     client_over(alloc, prefix, sink, environment)
 }

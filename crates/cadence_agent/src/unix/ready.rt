@@ -11,7 +11,6 @@ ghost use Rattle.cadence_environment.specs.Paths.{IsPath};
 ghost use Rattle.cadence_agent.specs.Refusals.{IsUnixRefusal};
 
 use super::socket::UnixSocket;
-use crate::queue::queue_for;
 use cadence::StatsdClient;
 use cadence_environment::check_path;
 use cadence_errors::MetricResult;
@@ -149,7 +148,11 @@ pub fn queued_unix_sink<
     ensures fits { IfOk result (λ _. IsPath path.now) }
     ensures refused { IfErr result (IsUnixRefusal path.now) }
 {
-    queued_unix_sink_with(rt, alloc, path, capacity, queue_for(lines))
+    let settings = match lines {
+        Some(lines) => QueuingMetricSinkBuilder::new().with_capacity(lines),
+        None => QueuingMetricSinkBuilder::new(),
+    };
+    queued_unix_sink_with(rt, alloc, path, capacity, settings)
 }
 
 /// Makes a client that sends each line as a datagram to the path. The errors are those of `unix_sink`.
@@ -240,7 +243,11 @@ pub fn flushing_unix_client<
     ensures refused { IfErr result (IsUnixRefusal path.now) }
 {
     check_path(path)?;
-    let queue = queue_for(lines).with_flush_period(period);
+    let queue = match lines {
+        Some(most) => QueuingMetricSinkBuilder::new().with_capacity(most),
+        None => QueuingMetricSinkBuilder::new(),
+    };
+    let queue = queue.with_flush_period(period);
     let sink = flushing_unix_sink_with(rt, alloc.clone()?, path, capacity, queue)?;
     StatsdClient::from_sink(alloc, prefix, sink)
 }
