@@ -7,10 +7,10 @@ ghost use Rattle.cadence.specs.Sending.{Chooses, ChoosesIf, ChoosesOrFails, Stan
 
 use crate::types::MetricText;
 use cadence_schedule::an_option_is_chosen;
-pub use cadence_schedule::{
-    free_texts_pass, packets_read_one_way, strict_calls_are_free, tight_is_fewest,
+pub use cadence_schedule::{packets_read_one_way, strict_calls_are_free, tight_is_fewest};
+pub use cadence_text::laws::{
+    free_texts_pass, line_reads_one_way, no_line_is_empty, packet_reads_one_way,
 };
-pub use cadence_text::laws::{line_reads_one_way, no_line_is_empty, packet_reads_one_way};
 pub use cadence_value::laws::decimals_equal_by_number;
 use std::alloc::Allocator;
 

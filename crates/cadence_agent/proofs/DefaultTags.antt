@@ -4,7 +4,7 @@ use Rattle.std.proofs.lemmas.List.{map-append, take_all, take_more}
 use Rattle.cadence_errors.specs.declared.MetricError.{MetricError}
 use Rattle.cadence_text.specs.Metric.{Tag}
 use Rattle.cadence.specs.Shown.{Changes}
-use Rattle.cadence_schedule.specs.FreeTexts.{is_free_tag}
+use Rattle.cadence_text.specs.FreeTexts.{is_free_tag}
 use Rattle.cadence_schedule.specs.Settings.{FailsFor, Settings, allows_tag, with_default_tag}
 use Rattle.cadence_agent.specs.Shown.{AddsTags, RefusesNoText}
 

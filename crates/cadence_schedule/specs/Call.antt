@@ -10,7 +10,7 @@ use Rattle.cadence_text.specs.Draft.{Draft, draft_of}
 use Rattle.cadence_text.specs.Metric.{Metric, Tag}
 use Rattle.cadence_text.specs.Representable.{IsRepresentable}
 use Rattle.cadence_value.specs.Number.{Number}
-use Rattle.cadence_schedule.specs.FreeTexts.{is_free_text, is_free_tag}
+use Rattle.cadence_text.specs.FreeTexts.{is_free_text, is_free_tag}
 use Rattle.cadence_schedule.specs.Settings.{Settings}
 
 -- what one option of a call chooses: a tag, the container, the time or the sampling rate

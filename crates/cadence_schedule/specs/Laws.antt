@@ -1,10 +1,9 @@
 -- Laws that follow from the definitions. src/laws.rt has a function for each, whose contract is the law.
-use Rattle.std.specs.Prelude.{◌≡◌, ℕ, ◌↔◌, List, All, IsTrue, codes, map}
+use Rattle.std.specs.Prelude.{◌≡◌, ℕ, List, All, IsTrue, codes, map}
 use Rattle.cadence_text.specs.Line.{line_of}
-use Rattle.cadence_text.specs.OneReading.{IsFreeOfSeparators, IsFreeTag, IsFreeText}
-use Rattle.cadence_text.specs.Metric.{Metric, Tag}
+use Rattle.cadence_text.specs.OneReading.{IsFreeOfSeparators}
+use Rattle.cadence_text.specs.Metric.{Metric}
 use Rattle.cadence_schedule.specs.Call.{Choice, MetricCall, allows_call, chosen, metric_of_call, with_choice}
-use Rattle.cadence_schedule.specs.FreeTexts.{is_free_text, is_free_tag}
 use Rattle.cadence_schedule.specs.Packets.{ArePacketsOf, ReadsAs}
 use Rattle.cadence_schedule.specs.Plan.{IsTight, IsFewest}
 use Rattle.cadence_schedule.specs.Settings.{Settings, is_free_settings}
@@ -27,11 +26,6 @@ abbrev pub OptionsAreChosen : Type 0
 OptionsAreChosen =
     (settings : Settings) (call : MetricCall) (option : Choice)
     → chosen (metric_of_call settings call) option ≡ metric_of_call settings (with_choice call option)
-
--- The tests of texts and tags are true just if the text or the tag has no separator.
-pub record FreeTextsPass : Type 0 where
-  pub texts : (text : List ℕ) → IsTrue (is_free_text text) ↔ IsFreeText text
-  pub tags : (tag : Tag) → IsTrue (is_free_tag tag) ↔ IsFreeTag tag
 
 -- If settings are strict and no text of them has a separator, the metric of each call that they allow is free of
 -- separators.

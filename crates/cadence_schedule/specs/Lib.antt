@@ -1,7 +1,6 @@
 pub mod Call
 pub mod CallData
 pub mod DraftErrors
-pub mod FreeTexts
 pub mod Headline
 pub mod RunHistory
 pub mod Laws

@@ -5,7 +5,7 @@ use Rattle.std.specs.List.{list_all}
 use Rattle.cadence_errors.specs.Errors.{IsInvalid, out_of_memory}
 use Rattle.cadence_errors.specs.declared.MetricError.{MetricError}
 use Rattle.cadence_text.specs.Metric.{Tag}
-use Rattle.cadence_schedule.specs.FreeTexts.{is_free_text, is_free_if_any, is_free_tag}
+use Rattle.cadence_text.specs.FreeTexts.{is_free_text, is_free_if_any, is_free_tag}
 
 -- the prefix as each line begins with it, the default tags in their order, the default container, and whether the
 -- settings are strict: strict settings refuse each text that has a separator

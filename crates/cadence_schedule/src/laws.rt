@@ -1,8 +1,8 @@
 //! Laws that follow from the definitions. Each function does nothing when it runs: its contract is a law, and a proof
 //! that needs the law cites the call.
-ghost use Rattle.cadence_schedule.specs.Laws.{FreeTextsPass, LeastPackets, OptionsAreChosen, PacketsReadOneWay, StrictCallsAreFree};
+ghost use Rattle.cadence_schedule.specs.Laws.{LeastPackets, OptionsAreChosen, PacketsReadOneWay, StrictCallsAreFree};
 
-use cadence_text::laws::packet_reads_one_way;
+use cadence_text::laws::{free_texts_pass, packet_reads_one_way};
 
 /// States that no admissible plan of packets has fewer packets than a tight plan of the same lines.
 pub fn tight_is_fewest()
@@ -22,13 +22,10 @@ pub fn an_option_is_chosen()
     ensures { OptionsAreChosen }
 {}
 
-/// States that the tests of texts and tags are true just if the text or the tag has no separator.
-pub fn free_texts_pass()
-    ensures { FreeTextsPass }
-{}
-
 /// States that the metric of each call that strict settings allow is free of separators, if no text of the settings has
 /// one.
 pub fn strict_calls_are_free()
     ensures { StrictCallsAreFree }
-{}
+{
+    free_texts_pass();
+}

@@ -23,10 +23,7 @@ mod settings;
 mod steps;
 
 pub use call::{Call, CallOption, CallValue};
-pub use laws::{
-    an_option_is_chosen, free_texts_pass, packets_read_one_way, strict_calls_are_free,
-    tight_is_fewest,
-};
+pub use laws::{an_option_is_chosen, packets_read_one_way, strict_calls_are_free, tight_is_fewest};
 pub use plan::{check_plan, plan_packets};
 pub use reports::Report;
 pub use run::{run_schedule, run_schedule_with};

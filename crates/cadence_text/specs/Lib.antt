@@ -6,6 +6,7 @@ pub mod Draft
 pub mod DraftParts
 pub mod MetricInMemory
 pub mod OneReading
+pub mod FreeTexts
 pub mod Record
 pub mod Sink
 pub mod Owned

@@ -2,7 +2,7 @@
 //! them.
 //!
 //! A metric is free of separators if its name, tags and container id have no colon, comma, bar or newline.
-ghost use Rattle.cadence_text.specs.Laws.{LineReadsOneWay, NoLineIsEmpty, PacketReadsOneWay};
+ghost use Rattle.cadence_text.specs.Laws.{FreeTextsPass, LineReadsOneWay, NoLineIsEmpty, PacketReadsOneWay};
 
 /// States that two different metrics that are free of separators have different lines. Does nothing when it is called.
 pub fn line_reads_one_way()
@@ -19,4 +19,10 @@ pub fn packet_reads_one_way()
 #[tactic(auto, using(crate::proofs::LineText::line_is_not_empty))]
 pub fn no_line_is_empty()
     ensures { NoLineIsEmpty }
+{}
+
+/// States that the tests of texts and tags are true if and only if the text or the tag has no separator. Does nothing
+/// when it is called.
+pub fn free_texts_pass()
+    ensures { FreeTextsPass }
 {}

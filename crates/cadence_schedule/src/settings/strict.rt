@@ -4,7 +4,7 @@ ghost use Rattle.std.specs.List.{list_all};
 ghost use Rattle.cadence_errors.specs.Errors.{IsInvalid, out_of_memory};
 ghost use Rattle.cadence_text.specs.Owned.{tag_of_owned};
 ghost use Rattle.cadence_schedule.specs.DraftErrors.{IsSameError};
-ghost use Rattle.cadence_schedule.specs.FreeTexts.{is_free_if_any, is_free_tag, is_free_text};
+ghost use Rattle.cadence_text.specs.FreeTexts.{is_free_if_any, is_free_tag, is_free_text};
 ghost use Rattle.cadence_schedule.specs.declared.settings.strict.DraftError.TheVariants.{OutOfMemory};
 
 use super::ClientSettings;

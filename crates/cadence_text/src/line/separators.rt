@@ -1,7 +1,6 @@
 //! The separators of a line: the bytes that end a name, a tag or a container id in it.
-// Without the hints to inline in this file and in those of the reader, a byte of a packet takes 2 instructions more
-// (`bench read_arena 512 20`).
-ghost use Rattle.std.specs.Prelude.{◌<◌, ◌≤◌, ◌↔◌, ℕ, IsTrue, length, slice_index};
+ghost use Rattle.std.specs.Prelude.{◌≡◌, ◌<◌, ◌≤◌, ◌↔◌, ℕ, IsTrue, length, slice_index};
+ghost use Rattle.cadence_text.specs.FreeTexts.{is_free_text};
 ghost use Rattle.cadence_text.specs.OneReading.{AreSeparatorFlags, IsFreeText, IsNoSeparator};
 
 // For each byte, 1 if it is a separator and 0 otherwise. A look at this table takes fewer instructions than comparisons.
@@ -18,7 +17,6 @@ const FLAGS: [u8; 256] = [
 
 // Returns whether the flag of a byte is zero. The table is a parameter because the checker can't name a constant in a
 // proof, and the call below proves that `FLAGS` is such a table.
-#[inline(always)]
 fn has_no_flag(flags: &[u8; 256], byte: u8) -> bool
     requires { AreSeparatorFlags flags.now }
     ensures { IsTrue result ↔ IsNoSeparator byte }
@@ -35,7 +33,6 @@ fn is_no_separator(byte: u8) -> bool
 
 // Returns a multiple of four: no byte before it is a separator. The loop tests four bytes at each turn, because the
 // compiler then tests the length once for all four.
-#[inline(always)]
 fn free_fours(text: &[u8]) -> usize
     ensures bound { result ≤ length text.now }
     ensures front { (k : ℕ) → k < result → IsNoSeparator (slice_index text.now k) }
@@ -53,7 +50,6 @@ fn free_fours(text: &[u8]) -> usize
 }
 
 /// Returns the index of the first colon, comma, bar or newline in a text. If the text has none, it returns its length.
-#[inline(always)]
 pub fn first_separator(text: &[u8]) -> usize
     ensures bound { result ≤ length text.now }
     ensures front { (k : ℕ) → k < result → IsNoSeparator (slice_index text.now k) }
@@ -69,7 +65,8 @@ pub fn first_separator(text: &[u8]) -> usize
 /// Returns whether a text has no colon, comma, bar or newline. If the name, the tags and the container id of a metric
 /// are such texts, its line can be read in one way only.
 pub fn is_free(text: &[u8]) -> bool
-    ensures { IsTrue result ↔ IsFreeText text.now }
+    ensures test { result ≡ is_free_text text.now }
+    ensures free { IsTrue result ↔ IsFreeText text.now }
 {
     first_separator(text) == text.len()
 }

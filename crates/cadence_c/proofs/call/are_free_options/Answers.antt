@@ -2,7 +2,7 @@ use Rattle.std.proofs.Common.{◌≡◌, ◌∙◌, Bool, ap, ap₂, cond, map, 
 use Rattle.std.specs.List.{list_all}
 use Rattle.std.proofs.lemmas.List.{take_all}
 use Rattle.std.proofs.lemmas.List.Folds.{list_all-map, list_all_at}
-use Rattle.cadence_schedule.specs.FreeTexts.{is_free_tag, is_free_text}
+use Rattle.cadence_text.specs.FreeTexts.{is_free_tag, is_free_text}
 use Rattle.cadence_c.specs.Calls.{c_tag, is_free_container}
 use Rattle.cadence_c.proofs.call.are_free_options.Goals as goal
 

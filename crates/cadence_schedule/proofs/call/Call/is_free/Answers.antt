@@ -6,7 +6,7 @@ use Rattle.std.proofs.lemmas.List.{take_all}
 use Rattle.std.proofs.lemmas.List.Folds.{list_all-map, list_all_at}
 use Rattle.cadence_schedule.specs.Call.{is_free_choice}
 use Rattle.cadence_schedule.specs.CallData.{choice_of}
-use Rattle.cadence_schedule.specs.FreeTexts.{is_free_text}
+use Rattle.cadence_text.specs.FreeTexts.{is_free_text}
 use Rattle.cadence_schedule.proofs.call.Call.is_free.Goals as goal
 
 pub returns-then-not-is_free : goal.returns-then-not-is_free

@@ -3,7 +3,7 @@ use Rattle.std.specs.List.{list_all}
 use Rattle.std.proofs.lemmas.List.{take_all}
 use Rattle.std.proofs.lemmas.List.Folds.{list_all-map, list_all_at}
 use Rattle.cadence_text.specs.Owned.{tag_of_owned}
-use Rattle.cadence_schedule.specs.FreeTexts.{is_free_tag}
+use Rattle.cadence_text.specs.FreeTexts.{is_free_tag}
 use Rattle.cadence_schedule.proofs.settings.strict.tags_are_free.Goals as goal
 
 pub returns-then-not-tag_is_free : goal.returns-then-not-tag_is_free

@@ -1,10 +1,11 @@
--- Whether texts have a separator, as tests. The laws of `laws` say that the tests are the facts `IsFreeText` and `IsFreeTag`.
+-- Whether texts have a separator, as tests. The law `FreeTextsPass` says that the tests are the facts `IsFreeText` and
+-- `IsFreeTag`.
 use Rattle.std.specs.Prelude.{ℕ, Bool, true, not, ◌&&◌, ◌==◌, Option, Some, None, List}
 use Rattle.std.specs.List.{list_all}
 use Rattle.cadence_text.specs.Metric.{Tag}
 
 -- whether the byte is none of the separators `:`, `,`, `|` and newline
-abbrev pub is_no_separator : ℕ → Bool
+unfoldable pub is_no_separator : ℕ → Bool
 is_no_separator byte = not (byte == 58) && (not (byte == 44) && (not (byte == 124) && not (byte == 10)))
 
 -- whether the text has no separator
