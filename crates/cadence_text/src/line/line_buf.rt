@@ -3,7 +3,7 @@
 //!
 //! A `LineSink` can't refuse a piece. So a piece that is too long for the buffer empties the buffer, and the functions
 //! that reserve its room prove that this never happens.
-ghost use Rattle.std.specs.Prelude.{◌≡◌, ◌≤◌, ◌+◌, ◌%◌, ◌^◌, [], IfOk, IsUtf8, OnOk, length, string_bytes};
+ghost use Rattle.std.specs.Prelude.{◌≡◌, ◌≤◌, ◌+◌, ◌++◌, ◌%◌, ◌^◌, [], IfOk, IsUtf8, OnOk, drop, length, string_bytes, take};
 ghost use Rattle.std.specs.Vec.{vec_capacity};
 
 use cadence_value::text::{
@@ -57,6 +57,18 @@ impl LineSink for LengthCounter {
     fn take_wide(&mut self, number: u128) {
         self.add(wide_len(number));
     }
+}
+
+// Moves the first `count` bytes of a text to the end. The standard `rotate_left` clears a large room on the stack at
+// each call.
+fn turn_left(text: &mut [u8], count: usize)
+    requires { count ≤ length text.old }
+    ensures { text.new ≡ drop count text.old ++ take count text.old }
+{
+    let (front, back) = text.split_at_mut(count);
+    front.reverse();
+    back.reverse();
+    text.reverse();
 }
 
 /// A `LineSink` that writes the bytes into a buffer of a fixed length. `end` is the length that was reserved. Contracts
@@ -140,7 +152,7 @@ impl<A: Allocator> LineBuf<A> {
         ensures bytes { self.new.bytes.items ≡ rotated_text start count self.old.bytes.items }
         ensures end { self.new.end ≡ self.old.end }
     {
-        self.bytes[start..].rotate_left(count);
+        turn_left(&mut self.bytes[start..], count);
     }
 
     pub(crate) fn as_text(&self) -> &str
