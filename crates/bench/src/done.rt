@@ -64,7 +64,6 @@ impl BlackBox {
     }
 
     /// Returns `value`, and never `other`.
-    #[inline]
     pub fn hide<T: Copy>(&self, value: T, other: T) -> T {
         if self.zero.load(Ordering::SeqCst) == 0 {
             value
@@ -74,7 +73,6 @@ impl BlackBox {
     }
 
     /// Returns the text.
-    #[inline]
     pub fn text<'a>(&self, text: &'a str) -> &'a str {
         self.hide(text, "")
     }

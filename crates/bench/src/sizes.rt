@@ -72,7 +72,6 @@ pub fn values(
 }
 
 /// Sends counters with a key of `length` bytes.
-#[inline(never)]
 pub fn key(
     rt: &HostRuntime,
     client: &StatsdClient,

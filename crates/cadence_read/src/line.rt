@@ -1,6 +1,4 @@
 //! Reads the metric of a line.
-// Without the hints to inline in this file and in its neighbour, a byte of a packet takes 11 instructions more (`bench
-// read_arena 512 20`).
 ghost use Rattle.std.specs.Prelude.{◌∷◌, ◌++◌, All};
 ghost use Rattle.cadence_text.specs.Line.{line_of};
 ghost use Rattle.cadence_text.specs.OneReading.{IsNoSeparator};
@@ -18,6 +16,7 @@ use cadence_text::line::OwnedMetric;
 use std::alloc::Allocator;
 
 // Reads the metric whose fields have these texts.
+// Without this hint a byte of `bench read 512 20` takes 7.4 instructions more.
 #[inline(always)]
 #[tactic(auto, using(crate::proofs::LineParts::name_listed, crate::proofs::LineParts::tags_listed))]
 fn read_texts<A: Allocator + Clone>(
@@ -49,6 +48,7 @@ fn read_texts<A: Allocator + Clone>(
 
 // Reads the metric whose line is the name, a colon and the rest. A line without optional fields is read by a call of
 // its own, from which the compiler removes the code for those fields.
+// Without this hint a byte of `bench read 512 20` takes 1.1 instructions more.
 #[inline(always)]
 pub(crate) fn read_named<A: Allocator + Clone>(
     alloc: &A,

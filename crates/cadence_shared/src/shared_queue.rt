@@ -163,6 +163,7 @@ impl<T: Drop, A: Allocator + Clone> SharedQueue<T, A> {
     /// If no text is there, it waits for one: it looks at the queue several times, lets other threads run in between,
     /// and then sleeps. It stops waiting if the queue is stopped. So if the ring is still empty afterwards, the queue
     /// is stopped and empty.
+    // Without this hint a line of `bench queue 0 20` takes 33 instructions more.
     #[inline(never)]
     pub(super) fn take_some(
         &self,
@@ -188,7 +189,6 @@ impl<T: Drop, A: Allocator + Clone> SharedQueue<T, A> {
 
     /// Moves the oldest texts out of the queue, as `take_some` does, but sleeps at most for this time. Returns false if
     /// the time has passed, or if the clock can't be read. The ring is still empty then.
-    #[inline(never)]
     pub(super) fn take_some_within<R: Wait + Clock>(
         &self,
         rt: &R,

@@ -1,6 +1,4 @@
 //! What the sinks over UDP and over Unix sockets share: the counts of a socket, and a buffer with its lock over one.
-// Without the hints to inline in this file, and in the others between a buffered sink and its buffer, a line takes 81
-// instructions more (`bench udp 512 20`).
 ghost use Rattle.std.specs.Option.{ok_or};
 ghost use Rattle.std.specs.Prelude.{◌≡◌, [], Bool, IfOk};
 ghost use Rattle.cadence_errors.specs.Errors.{MayOnlyRunOutOfMemory};
@@ -46,6 +44,7 @@ impl<D: DatagramSocket, R: Wait + Drop, A: Allocator> CountedSocket<D, R, A> {
     }
 
     /// Sends a packet, and counts the result.
+    // Without this hint a line of `bench udp 16 20` takes 14 instructions more.
     #[inline(always)]
     pub fn send(&self, packet: &[u8], fault: &mut SinkError) -> Option<usize>
         ensures { IsSocketAnswer D.may_give packet.now (ok_or result fault.new) }
@@ -78,6 +77,7 @@ impl<D: DatagramSocket, R: Wait + Drop, A: Allocator> PacketWriter for SocketWri
         self.write_packet_narrow(packet, &mut fault).ok_or(fault)
     }
 
+    // Without this hint a line of `bench udp 16 20` takes 17 instructions more.
     #[inline(always)]
     fn write_packet_narrow(&mut self, packet: &[u8], fault: &mut SinkError) -> Option<usize> {
         let taken = self.socket.send(packet, fault);
@@ -129,8 +129,8 @@ impl<D: DatagramSocket, R: Wait + Drop, A: Allocator> PackedSocket<D, R, A> {
     /// Returns the line's length, or in the third case how many bytes of the line the socket took. After an error the
     /// result is `None`, and nothing of the line is held. The error in `fault` is the socket's, or `NothingWritten` if
     /// the socket took 0 bytes of the held text.
-    // The function is forced inline, because most lines are the first case, and a call would take some 23 instructions
-    // more. A wide result would take 17 more even then, because the sink's own `emit` copies it.
+    // A wide result would take 17 instructions more, because the sink's own `emit` copies it.
+    // Without this hint a line of `bench udp 512 20` takes 21 instructions more.
     #[inline(always)]
     pub fn emit(&self, metric: &str, fault: &mut SinkError) -> Option<usize>
         ensures { IsBufferedAnswer D.may_give (buffer_of self.now)
@@ -143,14 +143,13 @@ impl<D: DatagramSocket, R: Wait + Drop, A: Allocator> PackedSocket<D, R, A> {
         self.write_out(lines, metric, fault)
     }
 
-    // Takes a line that doesn't fit into the free room of the buffer, and then frees the lock. The function is never
-    // inline, so that the first case of `emit` is short. There are three cases:
+    // Takes a line that doesn't fit into the free room of the buffer, and then frees the lock. It is a function of its
+    // own, so that the first case of `emit` is short. There are three cases:
     // - The line and its newline fit into an empty buffer, and after the flush they are held. `write` alone would do
     //   the same with some 20 instructions more, because it asks for free room first.
     // - They fit into an empty buffer, but `hold` still refuses them. This never happens, but no contract excludes it,
     //   because a clause of a lock can't name the capacity of the packer under it. Then `write` takes the line.
     // - They don't fit into an empty buffer. Then `write` flushes, and sends the line alone.
-    #[inline(never)]
     fn write_out(
         &self,
         mut lines: SocketLines<'_, D, R, A>,

@@ -1,7 +1,5 @@
 //! Sinks over a UDP socket, and their builders: one sink sends each line as a datagram, the other packs lines into
 //! datagrams.
-// Without the hint to inline `emit` of the buffered sink, and those in the other files between it and its buffer, a
-// line takes 81 instructions more (`bench udp 512 20`).
 ghost use Rattle.std.specs.Prelude.{◌≡◌, false, IfOk, IfErr, Some, None, is_some, unwrap_or};
 ghost use Rattle.cadence_resolve.specs.Refusals.{IsSocketRefusal, IsTargetRefusal};
 ghost use Rattle.cadence_sinks.specs.Buffers.{udp_buffer};
@@ -29,8 +27,6 @@ pub struct UdpPeer<R: Wait + Drop, A: Allocator> {
 impl<R: Wait + Drop, A: Allocator> DatagramSocket for UdpPeer<R, A> {
     ghost may_give = { is_io };
 
-    // This is the one place that calls `send_to`, so the compiler inlines `send_to` here.
-    #[inline(never)]
     fn send(&self, packet: &[u8], fault: &mut SinkError) -> Option<usize> {
         match self.socket.send_to(packet, self.resolver.get_addr()) {
             Ok(n) => Some(n),
@@ -230,6 +226,7 @@ impl<R: Wait + Drop, A: Allocator> MetricSink for BufferedUdpMetricSink<R, A> {
 
     ghost may_flush = { λ _ answer. IsBufferedFlush is_io answer };
 
+    // Without this hint a line of `bench udp 512 20` takes 64 instructions more.
     #[inline(always)]
     fn emit(&self, metric: &str) -> Result<usize, SinkError> {
         let mut fault = SinkError::NothingWritten;

@@ -1,6 +1,4 @@
 //! Exact decimal numbers, for values and sampling rates with digits after the dot.
-// Without the hints to inline in this file and in those of the reader, a byte of a packet takes 2 instructions more
-// (`bench read_arena 512 20`).
 ghost use Rattle.std.specs.Prelude.{◌≡◌, ◌^◌, ◌≤◌, ◌↔◌, ◌<◌, ◌++◌, Some, true, IsOk, IfOk, IfErr, codes};
 ghost use Rattle.std.specs.Fmt.{DisplaysOnOk};
 ghost use Rattle.cadence_errors.specs.Errors.{IsInvalid};
@@ -66,7 +64,6 @@ impl Decimal {
     }
 
     /// Returns the mantissa of the lowest form: 5 for 0.5, even if the number was made as 50 with two places.
-    #[inline]
     pub fn mantissa(&self) -> i128
         ensures value { result ≡ self.now.mantissa }
         ensures whole { IsDecimal self.now }
@@ -75,7 +72,6 @@ impl Decimal {
     }
 
     /// Returns how many digits the lowest form has after the dot: 1 for 0.5. It is at most `MAX_PLACES`.
-    #[inline]
     pub fn places(&self) -> u8
         ensures value { result ≡ self.now.places }
         ensures most { result ≤ 30 }
@@ -127,7 +123,6 @@ impl AsDecimal for Decimal {
 }
 
 /// Returns ten to the power of `places`.
-#[inline]
 pub fn power_of_ten(places: u8) -> u128
     requires { places ≤ 30 }
     ensures value { result ≡ 10 ^ places }

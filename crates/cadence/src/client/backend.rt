@@ -1,6 +1,4 @@
 //! The traits of what sends a metric, and the functions that send a metric or begin its draft.
-// Without the hints to inline in this file, in the others of this folder and in `cadence_text::line::draft`, a counter
-// takes 158 instructions more (the mode `count` of `bench`).
 ghost use Rattle.cadence_value.specs.Values.{Converts};
 ghost use Rattle.cadence.specs.Sending.{StartsPlain};
 
@@ -55,7 +53,6 @@ pub trait CallBackend: MetricBackend {
 }
 
 // Drafts the line of a call without options, or returns the error of its value.
-#[inline(always)]
 pub(crate) fn draft<'a, C: CallBackend>(
     client: &'a C,
     key: &str,

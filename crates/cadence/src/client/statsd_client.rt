@@ -1,6 +1,4 @@
 //! The client.
-// Without the hints to inline in this file, in the others of this folder and in `cadence_text::line::draft`, a counter
-// takes 158 instructions more (the mode `count` of `bench`).
 ghost use Rattle.std.specs.Prelude.{◌≡◌};
 ghost use Rattle.cadence_value.specs.Values.{Converts};
 ghost use Rattle.cadence.specs.Sending.{Flushes, SendsPlain};
@@ -56,7 +54,6 @@ impl<A: Allocator + Clone, S: MetricSink, H: ErrorHandler> StatsdClient<A, S, H>
 
     // Sends the line of a call without options, and returns the metric. It makes no builder and has no function between,
     // because each would copy the wide result once more.
-    #[inline]
     pub(crate) fn send_plain<K: MetricKind>(
         &self,
         key: &str,
@@ -90,7 +87,6 @@ impl<A: Allocator + Clone, S: MetricSink, H: ErrorHandler> MetricBackend for Sta
         Ok(())
     }
 
-    #[inline(always)]
     fn is_strict(&self) -> bool {
         self.settings.is_strict()
     }
@@ -101,7 +97,6 @@ impl<A: Allocator + Clone, S: MetricSink, H: ErrorHandler> MetricBackend for Sta
 }
 
 impl<A: Allocator + Clone, S: MetricSink, H: ErrorHandler> CallBackend for StatsdClient<A, S, H> {
-    #[inline(always)]
     fn client_settings(&self) -> &ClientSettings<A> {
         &self.settings
     }

@@ -4,8 +4,6 @@
 //! returns its builder. Both convert the value first. If the value is refused, or a strict client refuses a text, the
 //! error has the kind `InvalidInput`; if memory runs out, it has the kind `OutOfMemory`. Nothing is sent then. Any other
 //! error is the sink's, as `MetricError::Sink`. The errors of the second call come from the builder, when it is sent.
-// Without the hints to inline in this file, in the others of this folder and in `cadence_text::line::draft`, a counter
-// takes 158 instructions more (the mode `count` of `bench`).
 ghost use Rattle.std.specs.Prelude.{◌≡◌, Some, ◌∷◌, [], pos, negsuc};
 ghost use Rattle.cadence_value.specs.Number.{whole};
 ghost use Rattle.cadence.specs.Sending.{SendsPlain, StartsPlain};
@@ -33,7 +31,6 @@ pub trait Counted<T: ToCounterValue<Self::Memory>>: CallBackend {
             MetricType.Counter key.now (T.numbers value) result };
 
     /// Returns the builder of a count, to which tags and other options can be added before it is sent.
-    #[inline]
     fn count_with_tags<'a>(
         &'a self,
         key: &'a str,
@@ -50,7 +47,6 @@ pub trait Counted<T: ToCounterValue<Self::Memory>>: CallBackend {
 
 impl<A: Allocator + Clone, S: MetricSink, H: ErrorHandler, T: ToCounterValue<A>> Counted<T>
     for StatsdClient<A, S, H> {
-    #[inline]
     fn count(&self, key: &str, value: T) -> MetricResult<Counter<A>> {
         self.send_plain(key, value.try_to_value())
     }
@@ -110,7 +106,6 @@ pub trait Timed<T: ToTimerValue<Self::Memory>>: CallBackend {
             MetricType.Timer key.now (T.numbers value) result };
 
     /// Returns the builder of a time, to which tags and other options can be added before it is sent.
-    #[inline]
     fn time_with_tags<'a>(
         &'a self,
         key: &'a str,
@@ -127,7 +122,6 @@ pub trait Timed<T: ToTimerValue<Self::Memory>>: CallBackend {
 
 impl<A: Allocator + Clone, S: MetricSink, H: ErrorHandler, T: ToTimerValue<A>> Timed<T>
     for StatsdClient<A, S, H> {
-    #[inline]
     fn time(&self, key: &str, value: T) -> MetricResult<Timer<A>> {
         self.send_plain(key, value.try_to_value())
     }
@@ -141,7 +135,6 @@ pub trait Gauged<T: ToGaugeValue<Self::Memory>>: CallBackend {
             MetricType.Gauge key.now (T.numbers value) result };
 
     /// Returns the builder of a value of a gauge, to which tags and other options can be added before it is sent.
-    #[inline]
     fn gauge_with_tags<'a>(
         &'a self,
         key: &'a str,
@@ -158,7 +151,6 @@ pub trait Gauged<T: ToGaugeValue<Self::Memory>>: CallBackend {
 
 impl<A: Allocator + Clone, S: MetricSink, H: ErrorHandler, T: ToGaugeValue<A>> Gauged<T>
     for StatsdClient<A, S, H> {
-    #[inline]
     fn gauge(&self, key: &str, value: T) -> MetricResult<Gauge<A>> {
         self.send_plain(key, value.try_to_value())
     }
@@ -172,7 +164,6 @@ pub trait Metered<T: ToMeterValue<Self::Memory>>: CallBackend {
             MetricType.Meter key.now (T.numbers value) result };
 
     /// Returns the builder of a count for a meter, to which tags and other options can be added before it is sent.
-    #[inline]
     fn meter_with_tags<'a>(
         &'a self,
         key: &'a str,
@@ -189,7 +180,6 @@ pub trait Metered<T: ToMeterValue<Self::Memory>>: CallBackend {
 
 impl<A: Allocator + Clone, S: MetricSink, H: ErrorHandler, T: ToMeterValue<A>> Metered<T>
     for StatsdClient<A, S, H> {
-    #[inline]
     fn meter(&self, key: &str, value: T) -> MetricResult<Meter<A>> {
         self.send_plain(key, value.try_to_value())
     }
@@ -204,7 +194,6 @@ pub trait Histogrammed<T: ToHistogramValue<Self::Memory>>: CallBackend {
             MetricType.Histogram key.now (T.numbers value) result };
 
     /// Returns the builder of a value for a histogram, to which tags and other options can be added before it is sent.
-    #[inline]
     fn histogram_with_tags<'a>(
         &'a self,
         key: &'a str,
@@ -221,7 +210,6 @@ pub trait Histogrammed<T: ToHistogramValue<Self::Memory>>: CallBackend {
 
 impl<A: Allocator + Clone, S: MetricSink, H: ErrorHandler, T: ToHistogramValue<A>> Histogrammed<T>
     for StatsdClient<A, S, H> {
-    #[inline]
     fn histogram(&self, key: &str, value: T) -> MetricResult<Histogram<A>> {
         self.send_plain(key, value.try_to_value())
     }
@@ -236,7 +224,6 @@ pub trait Distributed<T: ToDistributionValue<Self::Memory>>: CallBackend {
 
     /// Returns the builder of a value for a distribution, to which tags and other options can be added before it is
     /// sent.
-    #[inline]
     fn distribution_with_tags<'a>(
         &'a self,
         key: &'a str,
@@ -253,7 +240,6 @@ pub trait Distributed<T: ToDistributionValue<Self::Memory>>: CallBackend {
 
 impl<A: Allocator + Clone, S: MetricSink, H: ErrorHandler, T: ToDistributionValue<A>> Distributed<T>
     for StatsdClient<A, S, H> {
-    #[inline]
     fn distribution(&self, key: &str, value: T) -> MetricResult<Distribution<A>> {
         self.send_plain(key, value.try_to_value())
     }
@@ -267,7 +253,6 @@ pub trait Setted<T: ToSetValue<Self::Memory>>: CallBackend {
             MetricType.Set key.now (T.numbers value) result };
 
     /// Returns the builder of a member of a set, to which tags and other options can be added before it is sent.
-    #[inline]
     fn set_with_tags<'a>(
         &'a self,
         key: &'a str,
@@ -284,7 +269,6 @@ pub trait Setted<T: ToSetValue<Self::Memory>>: CallBackend {
 
 impl<A: Allocator + Clone, S: MetricSink, H: ErrorHandler, T: ToSetValue<A>> Setted<T>
     for StatsdClient<A, S, H> {
-    #[inline]
     fn set(&self, key: &str, value: T) -> MetricResult<Set<A>> {
         self.send_plain(key, value.try_to_value())
     }

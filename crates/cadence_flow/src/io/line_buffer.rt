@@ -1,8 +1,5 @@
 //! The packer: a buffer of lines that wait to be written as one packet. The held text begins at `start` in the buffer.
 //! The bytes before `start` have been written already, so a short count moves no bytes.
-// Without the hints to inline on the methods in this file, and in the others between a buffered sink and its buffer, a
-// line takes 81 instructions more (`bench udp 512 20`). Without those on the functions here, and their like, a line
-// alone in its packet takes 15 more (`bench udp 16 20`).
 ghost use Rattle.std.specs.Prelude.{◌≡◌, ◌+◌, ◌-◌, ◌<◌, ◌≤◌, ◌∷◌, ◌++◌, [], length, take, drop, true, is_ok, vec_len, vec_capacity, ◌↔◌, OnOk, OnErr, IfErr, IsTrue};
 ghost use Rattle.std.specs.Option.{ok_or};
 ghost use Rattle.cadence_flow.specs.Offers.{FlushesOffers, SendsOffers};
@@ -125,7 +122,6 @@ impl<T: PacketWriter, A: Allocator> LineBuffer<T, A> {
     }
 
     /// Returns whether a line and its ending fit the capacity beside the held text.
-    #[inline(always)]
     pub fn fits(&self, line: &[u8]) -> bool
         ensures { IsTrue result ↔ Fits self.now line.now }
     {
@@ -134,6 +130,7 @@ impl<T: PacketWriter, A: Allocator> LineBuffer<T, A> {
 
     /// Holds a line and its ending if they fit beside the held text, and returns whether they did. Otherwise nothing
     /// changes. This is what `write` does with most lines. It takes no memory, and can't fail.
+    // Without this hint a line of `bench udp 512 20` takes 17 instructions more.
     #[inline(always)]
     pub fn hold(&mut self, line: &[u8]) -> bool
         ensures { HoldsLine self.old self.new line.now result }
@@ -154,7 +151,7 @@ impl<T: PacketWriter, A: Allocator> LineBuffer<T, A> {
     ///
     /// After an error the result is `None` and `fault` has the error: the writer's own, or `NothingWritten` if it took
     /// 0 bytes. What the writer didn't take stays held. An interrupted write is an error like any other.
-    // It is inlined, so that an oversize line costs no call of `flush` if nothing is held.
+    // Without this hint a line of `bench udp 16 20` takes 21 instructions more.
     #[inline(always)]
     pub fn flush(&mut self, fault: &mut SinkError) -> Option<()>
         ensures flushes { FlushesHeld T.kind T.history self.old self.new (ok_or result fault.new) }
@@ -241,6 +238,7 @@ fn skip_front<A: Allocator>(bytes: &mut Vec<u8, A>, start: &mut usize, n: usize)
 
 /// Copies the held text to the front of the buffer.
 #[cold]
+// Without this hint a line of `bench udp 512 20` takes 3 instructions more.
 #[inline(never)]
 fn copy_to_front(bytes: &mut [u8], start: usize)
     requires { start ≤ length bytes.old }
@@ -255,7 +253,6 @@ fn copy_to_front(bytes: &mut [u8], start: usize)
 
 /// Moves the held text to the front of the buffer. It takes the parts of the packer and not a reference to the packer,
 /// so that the packer's fields can stay in registers.
-#[inline(always)]
 fn move_to_front<A: Allocator>(bytes: &mut Vec<u8, A>, start: &mut usize)
     requires { start.old ≤ vec_len bytes.old }
     ensures start { start.new ≡ 0 }
@@ -270,7 +267,6 @@ fn move_to_front<A: Allocator>(bytes: &mut Vec<u8, A>, start: &mut usize)
 
 /// Moves the held text to the front of the buffer if `n` more bytes fit behind it there, and returns whether they do.
 /// It is called if they don't fit where the held text is now.
-#[inline(always)]
 fn make_room<A: Allocator>(
     bytes: &mut Vec<u8, A>,
     start: &mut usize,
@@ -295,6 +291,7 @@ fn make_room<A: Allocator>(
 }
 
 /// Appends bytes to the buffer, which has room for them.
+// Without this hint a counter of `bindings/c/speed.c` takes 2 instructions more.
 #[inline(always)]
 fn append<A: Allocator>(held: &mut Vec<u8, A>, bytes: &[u8])
     requires { vec_len held.old + length bytes.now ≤ vec_capacity held.old }
@@ -312,7 +309,6 @@ fn append<A: Allocator>(held: &mut Vec<u8, A>, bytes: &[u8])
 
 /// Appends a line's ending to the buffer, which has room for it. Most endings are one byte, and pushing one byte is
 /// faster than copying a slice.
-#[inline(always)]
 fn append_ending<A: Allocator>(held: &mut Vec<u8, A>, ending: &[u8])
     requires { vec_len held.old + length ending.now ≤ vec_capacity held.old }
     ensures items { held.new.items ≡ held.old.items ++ ending.now }

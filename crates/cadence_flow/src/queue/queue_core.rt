@@ -122,10 +122,9 @@ impl<T: Drop, A: Allocator + Clone> QueueCore<T, A> {
         }
     }
 
-    // Adds a text at the end of a full queue, which drops and frees its oldest text for it. It is a function of its own
-    // and never inlined, because a function clears all its local variables when it starts, and `offer` is faster
-    // without the variables of this case.
-    #[inline(never)]
+    // Adds a text at the end of a full queue, which drops and frees its oldest text for it. It is a function of its own,
+    // because a function clears all its local variables when it starts, and `offer` is faster without the variables of
+    // this case.
     fn replace_oldest(&mut self, text: T)
         requires full { is_full self.old ≡ true }
         requires open { IsTrue (is_open self.old) }

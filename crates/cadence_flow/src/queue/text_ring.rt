@@ -43,8 +43,8 @@ impl<T: Drop, A: Allocator + Clone> TextRing<T, A> {
         })
     }
 
-    // Doubles the room. It is a function of its own and never inlined, so that `push_back` is short enough to be
-    // inlined.
+    // Doubles the room. It is a function of its own, so that `push_back` is short enough to be inlined.
+    // Without this hint a line of `bench queue 0 20` takes 73 instructions more.
     #[inline(never)]
     fn grow(&mut self) -> Result<(), AllocError>
         ensures items { self.new.items ≡ self.old.items }

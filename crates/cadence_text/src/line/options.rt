@@ -109,7 +109,6 @@ pub(crate) fn insert_rate<A: Allocator>(
 }
 
 // Returns the length of the fields of a container and a time in bytes, or `None` if it passes `usize::MAX`.
-#[inline(always)]
 pub(crate) fn last_room(container: Option<&str>, time: Option<u64>) -> Option<usize>
     ensures { IfSome result (λ n. n ≡
         length (container_field (option_copied container.entry) ++ time_field time)) }

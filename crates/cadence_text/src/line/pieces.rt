@@ -1,5 +1,4 @@
 //! The functions that write the pieces of a line, in the order in which they are written.
-// Without the hints to inline in this file, a counter with three tags takes 216 instructions more (`bench tags 3`).
 ghost use Rattle.std.specs.Prelude.{◌++◌, ◌^◌, ◌<◌, ◌≤◌, IfSome, Some, length, map};
 ghost use Rattle.std.specs.Option.{option_copied};
 ghost use Rattle.cadence_text.specs.Draft.{lead};
@@ -15,6 +14,7 @@ use cadence_value::text::{LineSink, push_number};
 use core::mem;
 
 // Writes what comes before a tag: a comma after another tag, and `|#` before the first one.
+// Without this hint a counter with tags of `bindings/c/speed.c` takes 13 instructions more.
 #[inline(always)]
 pub(crate) fn push_lead<S: LineSink>(line: &mut S, begun: bool)
     ensures { Takes S.ends_as line.old (lead begun) line.new }
@@ -27,6 +27,7 @@ pub(crate) fn push_lead<S: LineSink>(line: &mut S, begun: bool)
     }
 }
 
+// Without this hint a call of `bench count_tags` takes 153 instructions more.
 #[inline(always)]
 pub(crate) fn push_tag<S: LineSink>(line: &mut S, tag: &Tag<'_>)
     ensures taken { Takes S.ends_as line.old (tag_text (tag_of tag.now)) line.new }
