@@ -2,7 +2,8 @@
 use Rattle.std.specs.Prelude.{ℕ, ◌==◌, if◌then◌else◌, List, [], ◌∷◌, ◌++◌, codes}
 use Rattle.cadence_flow.specs.Sums.{less}
 use Rattle.cadence_agent.specs.declared.reporting.counts.Count.{Count}
-use Rattle.cadence_agent.specs.declared.reporting.counts.Count.TheVariants.{BytesSent, PacketsSent, BytesDropped, PacketsDropped, LinesDropped, LinesRefused}
+use Rattle.cadence_agent.specs.declared.reporting.counts.Count.TheVariants.{BytesSent, PacketsSent}
+use Rattle.cadence_agent.specs.declared.reporting.counts.Count.TheVariants.{BytesDropped, PacketsDropped, LinesDropped, LinesRefused}
 use Rattle.cadence_agent.specs.declared.reporting.counts.Growth.{Growth}
 use Rattle.cadence_agent.specs.declared.reporting.counts.SinkCounts.{SinkCounts}
 

@@ -1,5 +1,6 @@
 -- The host and the port of a URL.
-use Rattle.std.proofs.Common.{◌≡◌, ◌≢◌, ℕ, List, [], ◌∷◌, ◌++◌, ◌∙◌, Bor, IfSome, Option, None, Some, ap, append-nil, append_assoc, inl, inr, refl, subst, sym}
+use Rattle.std.proofs.Common.{◌≡◌, ◌≢◌, ℕ, List, [], ◌∷◌, ◌++◌, ◌∙◌}
+use Rattle.std.proofs.Common.{Bor, IfSome, Option, None, Some, ap, append-nil, append_assoc, inl, inr, refl, subst, sym}
 use Rattle.std.specs.Prelude.{All}
 use Rattle.cadence_environment.specs.Destinations.{EndsWithPort, IsAuthority, IsHost}
 

@@ -6,7 +6,8 @@ use Rattle.cadence_errors.specs.Errors.{IsDescribed, out_of_memory}
 use Rattle.cadence_environment.specs.declared.error.EnvironmentError.{EnvironmentError}
 use Rattle.cadence_environment.specs.declared.error.EnvironmentError.TheVariants.{Malformed, OutOfMemory}
 use Rattle.cadence_environment.specs.declared.variables.Variable.{Variable}
-use Rattle.cadence_environment.specs.declared.variables.Variable.TheVariants.{Url, AgentHost, AgentPort, StatsdHost, StatsdPort, Env, Service, Version, Tags, EntityId}
+use Rattle.cadence_environment.specs.declared.variables.Variable.TheVariants.{Url, AgentHost, AgentPort, StatsdHost, StatsdPort}
+use Rattle.cadence_environment.specs.declared.variables.Variable.TheVariants.{Env, Service, Version, Tags, EntityId}
 use Rattle.cadence_environment.specs.declared.variables.Variables.{Variables}
 
 -- The error names this variable, or says that memory ran out.

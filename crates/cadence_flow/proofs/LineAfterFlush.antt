@@ -1,5 +1,6 @@
 -- What writing a line does (`Writes`), if it doesn't fit beside the held text, and the flush before it succeeded.
-use Rattle.std.proofs.Common.{◌≡◌, ℕ, ◌+◌, ◌-◌, ◌<◌, ◌≤◌, true, [], ◌∷◌, ◌++◌, List, length, length-drop, take, drop, ap, ◌∙◌, sym, arith, take_all, ◌%◌, ◌^◌, refl, subst}
+use Rattle.std.proofs.Common.{◌≡◌, ℕ, ◌+◌, ◌-◌, ◌<◌, ◌≤◌, true, [], ◌∷◌, ◌++◌, List}
+use Rattle.std.proofs.Common.{length, length-drop, take, drop, ap, ◌∙◌, sym, arith, take_all, ◌%◌, ◌^◌, refl, subst}
 use Rattle.std.proofs.Common.{Bool, if◌then◌else◌, Ok, Err, Result, inl}
 use Rattle.std.proofs.lemmas.Bool.{false≢true, le-ltb}
 use Rattle.std.proofs.lemmas.List.{append-nil, drop_all}
@@ -22,8 +23,9 @@ behind_nothing start (b ∷ bs) mid after line ending within none is more =
 nothing_held : (s : PackerState) → s.held ≡ [] → whole_text s ≡ concat s.history.packets
 nothing_held s none = ap (λ h. concat s.history.packets ++ h) none ∙ append-nil (concat s.history.packets)
 
-module _ (kind : WriterKind) (old mid new : PackerState) (format : Format) (line : List ℕ) (u : Unit {0}) (small : size_of format line ≤ format.capacity)
-    (same : new.history ≡ mid.history) (held : new.held ≡ line ++ format.ending) (sent : mid.held ≡ []) where
+module _ (kind : WriterKind) (old mid new : PackerState) (format : Format) (line : List ℕ) (u : Unit {0})
+    (small : size_of format line ≤ format.capacity) (same : new.history ≡ mid.history)
+    (held : new.held ≡ line ++ format.ending) (sent : mid.held ≡ []) where
   -- The text grows by the line and its ending.
   text_behind : whole_text mid ≡ whole_text old → whole_text new ≡ whole_text old ++ frame_of format line (length line)
   text_behind before =
@@ -51,7 +53,8 @@ module _ (kind : WriterKind) (old mid new : PackerState) (format : Format) (line
         extends = λ t. subst (λ (h : PacketHistory). Extends old.history h) (sym same) (flushed.extends t);
       }
 
-module _ (kind : WriterKind) (old mid new : PackerState) (format : Format) (line : List ℕ) (u : Unit {0}) (emptied : new.held ≡ []) (sent : mid.held ≡ []) where
+module _ (kind : WriterKind) (old mid new : PackerState) (format : Format) (line : List ℕ) (u : Unit {0})
+    (emptied : new.held ≡ []) (sent : mid.held ≡ []) where
   -- The text grows by as much of the line as was taken.
   text_more : (n : ℕ) → whole_text mid ≡ whole_text old → new.history ≡ after_packet mid.history (take n line) → is_oversize format line ≡ true
       → whole_text new ≡ whole_text old ++ frame_of format line n

@@ -35,7 +35,8 @@ hands_on Whole seen t view r e is none = rw is none
 -- A tag whose text has a colon has a key, which is the text before the first colon.
 pub tag_cut : (tag : Tag) (key text whole : List ℕ) → IsListedTag tag → All (λ b. b ≢ 58) key → whole ≡ key ++ 58 ∷ text
     → tag_text tag ≡ whole → (tag.key ≡ Some key) × (tag.text ≡ text)
-tag_cut tag key text whole good plain cut e = by_key tag.key tag.text (key_listed tag good) (text_listed tag good) (sym (key_text-keyed tag.key tag.text) ∙ e ∙ cut)
+tag_cut tag key text whole good plain cut e = by_key tag.key tag.text (key_listed tag good) (text_listed tag good)
+    (sym (key_text-keyed tag.key tag.text) ∙ e ∙ cut)
   where
     by_key : (k : Option (List ℕ)) (s : List ℕ) → IfSome k IsText → IsText s → keyed_text k s ≡ key ++ (58 ∷ text) → (k ≡ Some key) × (s ≡ text)
     by_key (Some k) s hk hs e =

@@ -106,7 +106,8 @@ module _ {W : Type 0} (kind : W → WriterKind) (history : W → PacketHistory) 
         let frame : frame_of old.format line n ≡ line ++ old.format.ending =
         ap (λ (b : Bool). if b then take n line else line ++ old.format.ending) within in
         ⊎_elim
-        (λ more. becomes _ _ (frame_of old.format line n) w.same_format ((w.writes.goes_first more within).one_packet refl takes) ((w.writes.goes_first more within).held
+        (λ more. becomes _ _ (frame_of old.format line n) w.same_format ((w.writes.goes_first more within).one_packet refl takes)
+        ((w.writes.goes_first more within).held
         ∙ sym frame) (whole_held old.format _ accepted [] (whole_out old.format _ accepted old.held cut) line n))
         (λ fits.
         let is = w.only_held fits in

@@ -28,8 +28,10 @@ flag_at (flag ∷ rest) first (suc k) h below =
 pub flags_from : (flags : List ℕ) → agrees flags 0 ≡ true → length flags ≡ 256 → AreSeparatorFlags flags
 unfolding AreSeparatorFlags
 flags_from flags h size byte below =
-    let at : (get_or flags byte 0 == 0) ≡ is_no_separator byte = flag_at flags 0 byte h (omega arith) ∙ ap is_no_separator (omega arith) in
-    (λ zero. no_separator byte (sym at ∙ eq-eqb (get_or flags byte 0) 0 zero), λ free. eqb-true (get_or flags byte 0) 0 (at ∙ no_separator_from byte free))
+    let at : (get_or flags byte 0 == 0) ≡ is_no_separator byte = flag_at flags 0 byte h (omega arith) ∙ ap is_no_separator (omega arith) in (
+      λ zero. no_separator byte (sym at ∙ eq-eqb (get_or flags byte 0) 0 zero),
+      λ free. eqb-true (get_or flags byte 0) 0 (at ∙ no_separator_from byte free),
+    )
 
 pub flag_says : (flags : List ℕ) (byte : ℕ) → AreSeparatorFlags flags → byte < 256 → (get_or flags byte 0 ≡ 0) ↔ IsNoSeparator byte
 unfolding AreSeparatorFlags

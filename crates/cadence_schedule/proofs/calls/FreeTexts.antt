@@ -38,7 +38,8 @@ free_container law default (timed n ∷ os) free h = free_container law default 
 free_container law default (rated r ∷ os) free h = free_container law default os free h
 
 -- the metric of a call is free of separators, if the texts of the call and of the settings are
-free_metric : FreeTextsPass → (s : Settings) (c : MetricCall) → is_free_settings s ≡ true → is_free_call c ≡ true → IsFreeOfSeparators (metric_of_call s c)
+free_metric : FreeTextsPass → (s : Settings) (c : MetricCall) → is_free_settings s ≡ true → is_free_call c ≡ true
+    → IsFreeOfSeparators (metric_of_call s c)
 unfolding metric_of_call
 free_metric law s c settings call =
     let (prefix, defaults) = and_parts (is_free_text s.prefix) (list_all is_free_tag s.tags && is_free_if_any s.container) settings in

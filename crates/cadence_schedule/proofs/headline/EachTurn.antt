@@ -158,7 +158,8 @@ module _ {A : Type 0} (line_of : Call A → Option (List ℕ)) (filled : (call :
 
   text_written : (h : List (Turn A)) (line held rest : List ℕ) (n : ℕ) (old new : PacketHistory)
       → kept_counts line_of (h ++ (step.Hand, reply.Handed (Ok n)) ∷ []) ≡ kept_counts line_of h ++ (line, n) ∷ [] → kind.reports ≡ true
-      → Writes kind format (packer old held) (packer new rest) line (Ok n) → TextAfter h old held → TextAfter (h ++ (step.Hand, reply.Handed (Ok n)) ∷ []) new rest
+      → Writes kind format (packer old held) (packer new rest) line (Ok n) → TextAfter h old held
+      → TextAfter (h ++ (step.Hand, reply.Handed (Ok n)) ∷ []) new rest
   text_written h line held rest n old new more reports w a = record {
     extends = Extends-trans start old new a.extends (w.extends reports);
     text = w.text reports ∙ ap (λ t. t ++ frame_of format line n) a.text
@@ -169,7 +170,8 @@ module _ {A : Type 0} (line_of : Call A → Option (List ℕ)) (filled : (call :
   }
 
   text_refused : (h : List (Turn A)) (line held rest : List ℕ) (e : SinkError) (old new : PacketHistory) → kind.reports ≡ true
-      → Writes kind format (packer old held) (packer new rest) line (Err e) → TextAfter h old held → TextAfter (h ++ (step.Hand, reply.Handed (Err e)) ∷ []) new rest
+      → Writes kind format (packer old held) (packer new rest) line (Err e) → TextAfter h old held
+      → TextAfter (h ++ (step.Hand, reply.Handed (Err e)) ∷ []) new rest
   text_refused h line held rest e old new reports w a = record {
     extends = Extends-trans start old new a.extends (w.extends reports);
     text = w.text reports ∙ append-nil (whole_text (packer old held)) ∙ a.text
@@ -178,7 +180,8 @@ module _ {A : Type 0} (line_of : Call A → Option (List ℕ)) (filled : (call :
 
   text_flushed : (h : List (Turn A)) (result : Result Unit SinkError) (held rest : List ℕ) (old new : PacketHistory) → kind.reports ≡ true
       → kept_counts line_of (h ++ (step.Flush, reply.Flushed result) ∷ []) ≡ kept_counts line_of h
-      → Flushes kind (packer old held) (packer new rest) result → TextAfter h old held → TextAfter (h ++ (step.Flush, reply.Flushed result) ∷ []) new rest
+      → Flushes kind (packer old held) (packer new rest) result → TextAfter h old held
+      → TextAfter (h ++ (step.Flush, reply.Flushed result) ∷ []) new rest
   text_flushed h result held rest old new reports same f a = record {
     extends = Extends-trans start old new a.extends (f.extends reports);
     text = f.text reports ∙ a.text ∙ ap (λ k. concat start.packets ++ taken_stream format k) (sym same);

@@ -96,7 +96,8 @@ module _ {A : Type 0} (line_of : Call A → Option (List ℕ)) where
         ap (λ p. concat p ++ s.held) (between_is start s.history more e)
         ∙ goes_on (concat start.packets) (concat more ++ s.held) (taken_stream format (kept_counts line_of h)) text
 
-    pub run_stream : kind.reports ≡ true → kind.takes_whole ≡ true → concat (packets_between start s.history) ++ s.held ≡ stream format (kept line_of h)
+    pub run_stream : kind.reports ≡ true → kind.takes_whole ≡ true
+        → concat (packets_between start s.history) ++ s.held ≡ stream format (kept line_of h)
     run_stream reports whole =
         let b = a.cut reports whole in
         ap (λ p. concat p ++ s.held) (between_is start s.history b.packets b.since)

@@ -20,7 +20,9 @@ pub returns-clause-line : goal.returns-clause-line
 returns-clause-line g c =
     let (m, is, drafted) =
     drafted_call c.args.self.now c.args.call.now c.in-Ok.value c.kind.result c.deref.result.now c.deref-2.result.now
-    c.in_ok-draft.draft c.choose_all.new.draft (subst (λ r. Converts (numbers_of_data c.args.self.now c.args.call.now) r) c.in-Ok.is c.value_of.ensures) c.kind.ensures c.deref.ensures c.deref-2.ensures.value
+    c.in_ok-draft.draft c.choose_all.new.draft
+    (subst (λ r. Converts (numbers_of_data c.args.self.now c.args.call.now) r) c.in-Ok.is c.value_of.ensures)
+    c.kind.ensures c.deref.ensures c.deref-2.ensures.value
     (c.in_ok-draft.ensures.draft, c.in_ok-draft.ensures.said) c.in_ok-choose_all.ensures in
     ap (option_map line_of) is ∙ ap Some (sym (c.in_ok-line.ensures.metric m drafted.0))
 
@@ -28,6 +30,8 @@ pub returns-clause-said : goal.returns-clause-said
 returns-clause-said g c =
     let (m, is, drafted) =
     drafted_call c.args.self.now c.args.call.now c.in-Ok.value c.kind.result c.deref.result.now c.deref-2.result.now
-    c.in_ok-draft.draft c.choose_all.new.draft (subst (λ r. Converts (numbers_of_data c.args.self.now c.args.call.now) r) c.in-Ok.is c.value_of.ensures) c.kind.ensures c.deref.ensures c.deref-2.ensures.value
+    c.in_ok-draft.draft c.choose_all.new.draft
+    (subst (λ r. Converts (numbers_of_data c.args.self.now c.args.call.now) r) c.in-Ok.is c.value_of.ensures)
+    c.kind.ensures c.deref.ensures c.deref-2.ensures.value
     (c.in_ok-draft.ensures.draft, c.in_ok-draft.ensures.said) c.in_ok-choose_all.ensures in
     subst (λ o. IfSome o IsRepresentable) (sym is) drafted.1

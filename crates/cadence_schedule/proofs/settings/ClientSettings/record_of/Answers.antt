@@ -22,4 +22,5 @@ returns g c =
     let all : c.set_all.new.metric ≡ fold chosen c.in_ok-metric.metric (map choice_of call.options.items) = search rules in
     makes_metric-fold c.args.self.now (kind_of_value call.value) (string_bytes call.key) (map choice_of call.options.items)
     (numbers_of_data c.args.self.now call)
-    c.in-Ok.value c.in_ok-metric.metric c.set_all.new.metric (subst (λ r. Converts (numbers_of_data c.args.self.now call) r) c.in-Ok.is c.value_of.ensures) made all
+    c.in-Ok.value c.in_ok-metric.metric c.set_all.new.metric
+    (subst (λ r. Converts (numbers_of_data c.args.self.now call) r) c.in-Ok.is c.value_of.ensures) made all

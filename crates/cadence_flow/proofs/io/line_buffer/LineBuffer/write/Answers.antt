@@ -66,7 +66,10 @@ returns-in_ok-flush-2-clause-writes g c =
       only_held = search rules;
       writes =
           Writes-behind (kind was.writer) (state_of history was) (state_of history c.flush-then-not-hold.new.self)
-          (record { history = history c.self-then-not-hold.inside.inner; held = drop c.self-then-not-hold.inside.start c.append_ending.new.held.items })
+          (record {
+            history = history c.self-then-not-hold.inside.inner;
+            held = drop c.self-then-not-hold.inside.start c.append_ending.new.held.items;
+          })
           was.format line c.in_ok-flush-2.field-0 (search rules) (search rules)
           (behind_nothing c.self-then-not-hold.inside.start c.self-then-not-hold.inside.held.items c.append.new.held.items
           c.append_ending.new.held.items line was.format.ending (search rules) (search rules) c.append.ensures.items (search rules))
