@@ -1,6 +1,6 @@
 //! The client, its builder and the traits of its calls.
 use crate::builder::MetricBuilder;
-use crate::layout::{Kind, Tag};
+use crate::layout::Kind;
 use crate::line::Record;
 use crate::sealed::Sealed;
 use crate::separators::{is_free, separator_error};
@@ -209,7 +209,9 @@ impl StatsdClient {
         let record = value.map(|value| {
             let mut record = Record::new(&self.prefix, kind, key, value);
             record.container = self.container.as_deref();
-            record.tags.extend(self.tags.iter().map(|(key, text)| Tag::new(key.as_deref(), text)));
+            if !self.tags.is_empty() {
+                record.add_tags(&self.tags);
+            }
             record
         });
         MetricBuilder::new(record, self)

@@ -25,6 +25,8 @@ pub(crate) struct Record<'a> {
     pub(crate) key: &'a str,
     pub(crate) value: MetricValue,
     pub(crate) tags: Vec<Tag<'a>>,
+    /// How many bytes the tags have in the line at most, with the character before each.
+    tags_size: usize,
     pub(crate) container: Option<&'a str>,
     pub(crate) rate: Option<f64>,
     pub(crate) time: Option<u64>,
@@ -33,7 +35,7 @@ pub(crate) struct Record<'a> {
 impl<'a> Record<'a> {
     #[inline]
     pub(crate) fn new(prefix: &'a str, kind: Kind, key: &'a str, value: MetricValue) -> Self {
-        Record { prefix, kind, key, value, tags: Vec::new(), container: None, rate: None, time: None }
+        Record { prefix, kind, key, value, tags: Vec::new(), tags_size: 0, container: None, rate: None, time: None }
     }
 
     /// Returns an error if a number is NaN or infinite.
@@ -115,12 +117,21 @@ impl<'a> Record<'a> {
         line.insert_str(at, &format!("|@{rate}"));
     }
 
+    /// Adds default tags, and reserves memory for them at once.
+    pub(crate) fn add_tags(&mut self, tags: &'a [(Option<String>, String)]) {
+        self.tags.reserve(tags.len());
+        for (key, text) in tags {
+            self.add_tag(Tag::new(key.as_deref(), text));
+        }
+    }
+
     /// Adds a tag. The first one reserves memory for some more.
     #[inline]
     pub(crate) fn add_tag(&mut self, tag: Tag<'a>) {
         if self.tags.capacity() == 0 {
             self.tags = Vec::with_capacity(FIRST_TAGS);
         }
+        self.tags_size += tag.size() + 1;
         self.tags.push(tag);
     }
 
@@ -128,11 +139,10 @@ impl<'a> Record<'a> {
     #[inline]
     fn size(&self) -> usize {
         let number = if matches!(self.value, MetricValue::Float(_) | MetricValue::PackedFloat(_)) { DECIMAL } else { INTEGER };
-        let tags = self.tags.iter().map(|tag| tag.size() + 1).sum::<usize>() + 2;
         let values = self.value.count() * (number + 1);
         let options = self.container.map_or(0, |text| text.len() + 3)
             + self.rate.map_or(0, |_| DECIMAL + 2)
             + self.time.map_or(0, |_| INTEGER + 2);
-        self.value_at() + values + 3 + tags + options
+        self.value_at() + values + 5 + self.tags_size + options
     }
 }
