@@ -20,6 +20,17 @@ const FRACTION: u64 = (1 << 52) - 1;
 /// power of 52.
 const EXPONENTS: Range<u64> = 1013..1075;
 
+/// The powers of ten that fit 64 bits.
+const POWERS: [u64; 20] = {
+    let mut powers = [1; 20];
+    let mut places = 1;
+    while places < powers.len() {
+        powers[places] = 10 * powers[places - 1];
+        places += 1;
+    }
+    powers
+};
+
 /// Returns the decimal as which a float is printed, without zeros at the end of its places. Returns `None` if the
 /// digits don't fit 63 bits or there are more than 30 places, for -0, because a decimal has no negative zero, and for
 /// NaN and infinities.
@@ -95,7 +106,7 @@ fn nearest_decimal(number: f64) -> Option<Decimal> {
     }
     let (significand, shift) = (u128::from(fraction | (FRACTION + 1)), EXPONENTS.end - exponent);
     let of_places = |places: u64| {
-        let scale = u128::from(10_u64.pow(places as u32));
+        let scale = u128::from(POWERS[places as usize]);
         let exact = significand * scale;
         let mantissa = (exact + (1 << (shift - 1))) >> shift;
         let distance = (mantissa << shift).abs_diff(exact);
