@@ -1,7 +1,6 @@
 //! The examples of the library's documentation. Each block of a `///` comment in a crate of the library is in a file of
 //! this crate, word for word, and `.ci/front-door` compares them.
 
-use crate::runtime::Runtime;
 use crate::sinks::TakesAll;
 use cadence::decimal::Decimal;
 use cadence::line::{MetricType, Record, Tag};
@@ -19,6 +18,7 @@ use cadence::{
 };
 use cadence_agent::{UnixSocket, unix_client};
 use cadence_read::{ReadFault, read_packet};
+use example_service::runtime::Runtime;
 use std::alloc::Global;
 use std::net::{Ipv4Addr, SocketAddr, UdpSocket};
 use std::time::Duration;

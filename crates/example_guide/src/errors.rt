@@ -1,6 +1,5 @@
 //! What a service does with errors.
 
-use crate::runtime::Runtime;
 use cadence::client::ErrorHandler;
 use cadence::prelude::*;
 use cadence::ready::{QueuedUdpSink, host, queued_udp_sink_with, udp_sink};
@@ -9,6 +8,7 @@ use cadence::{
     DEFAULT_PORT, MetricError, MetricResult, MetricSink, QueuingMetricSinkBuilder, StatsdClient,
     UdpMetricSink,
 };
+use example_service::runtime::Runtime;
 use std::alloc::Global;
 use std::sync::Arc;
 use std::sync::atomic::{AtomicU64, Ordering};

@@ -1,9 +1,9 @@
 //! The lines that a service sends, as a spy receives them in place of a socket.
 
-use crate::runtime::Runtime;
 use crate::{capacities, kinds, own, sinks};
 use cadence::sinks::SpyReceiver;
 use cadence::{MetricResult, MetricSink, SpyMetricSink, StatsdClient};
+use example_service::runtime::Runtime;
 use std::alloc::Global;
 
 // Sends a metric of each kind, one with each option, and those of the caller's own types.

@@ -5,7 +5,6 @@
 //! that a server of its own receives. The lines follow from the grammar of Statsd with the DogStatsD fields. Nobody has
 //! to listen at port 8125; what is sent there is counted and not looked at.
 //!
-//! - `service`: one whole service, and its test.
 //! - `shop`: a service that makes its client, and code that sends over any client.
 //! - `kinds`: each kind of metric and each option of a call.
 //! - `sinks`: a client over each sink.
@@ -13,7 +12,6 @@
 //! - `own`: a sink, a value and a metric of a caller's own types.
 //! - `ported`: a program of the Rust crate.
 //! - `capacities`: how many packets some lines need.
-//! - `runtime`: the bounds of a runtime that makes sinks.
 //! - `documented`: the examples of the library's documentation.
 //! - `lines`, `numbers`, `round_trip`: these blocks run, and what they send as a text.
 //! - `unix`: clients over a Unix socket, and what a server receives.
@@ -28,15 +26,13 @@ mod numbers;
 mod own;
 mod ported;
 mod round_trip;
-mod runtime;
-mod service;
 mod shop;
 mod sinks;
 mod unix;
 
 use cadence::client::BoxedHandler;
 use cadence::{MetricError, MetricResult, NopMetricSink, StatsdClient};
-use runtime::Runtime;
+use example_service::runtime::Runtime;
 use std::alloc::Global;
 use std::process;
 

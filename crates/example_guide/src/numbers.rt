@@ -1,8 +1,8 @@
 //! The counts of clients over sockets.
 
-use crate::runtime::Runtime;
 use crate::{errors, shop, sinks};
 use cadence::MetricResult;
+use example_service::runtime::Runtime;
 use std::alloc::Global;
 
 /// Runs clients over each sink, and returns what they count, one number in a line.

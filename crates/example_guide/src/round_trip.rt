@@ -2,13 +2,13 @@
 //!
 //! Datagrams on the loopback address arrive in order here, so the text is the same in each run.
 
-use crate::runtime::Runtime;
-use crate::service;
 use cadence::prelude::*;
 use cadence::ready::{buffered_udp_sink, flushing_udp_client, queued_udp_client};
 use cadence::sinks::Target;
 use cadence::{MetricResult, MetricSink, StatsdClient};
 use cadence_agent::ReportingMetricSink;
+use example_service::runtime::Runtime;
+use example_service::service;
 use std::alloc::Global;
 use std::net::{Ipv4Addr, SocketAddr, UdpSocket};
 use std::time::Duration;

@@ -1,11 +1,11 @@
 //! A service: the function that makes its client, and code that sends over any client.
 
-use crate::runtime::Runtime;
 use cadence::client::ErrorHandler;
 use cadence::decimal::Decimal;
 use cadence::prelude::*;
 use cadence::ready::{BufferedUdpClient, buffered_udp_sink, host, queued_udp_client};
 use cadence::{DEFAULT_PORT, MetricResult, MetricSink, StatsdClient};
+use example_service::runtime::Runtime;
 use std::alloc::Global;
 
 pub fn connect<R: Runtime>(rt: &R, alloc: Global) -> MetricResult<BufferedUdpClient<R>> {

@@ -1,6 +1,5 @@
 //! A client over each sink. Each function of a block makes the sink, the client over it, and sends a line.
 
-use crate::runtime::Runtime;
 use cadence::prelude::*;
 use cadence::queue::QueuePolicy;
 use cadence::ready::{
@@ -12,6 +11,7 @@ use cadence::{
     BufferedSpyMetricSink, BufferedUnixMetricSink, FlushingMetricSink, MetricResult, MetricSink,
     NopMetricSink, QueuingMetricSinkBuilder, SpyMetricSink, StatsdClient, UnixMetricSink,
 };
+use example_service::runtime::Runtime;
 use std::alloc::Global;
 use std::time::Duration;
 

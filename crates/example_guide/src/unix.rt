@@ -1,13 +1,13 @@
 //! A service that sends where the environment says, and one that sends to a Unix socket, with the server that receives
 //! its datagrams. The server is another one after half of the lines, as an agent is that restarts.
 
-use crate::runtime::Runtime;
 use cadence::prelude::*;
 use cadence::{MetricResult, MetricSink};
 use cadence_agent::{
     BufferedUnixClient, UnixClient, UnixSocket, buffered_unix_client, environment_client,
     flushing_environment_client, flushing_unix_client, unix_client,
 };
+use example_service::runtime::Runtime;
 use std::alloc::Global;
 use std::env::Env;
 use std::fs;
