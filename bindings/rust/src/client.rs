@@ -182,6 +182,27 @@ impl StatsdClient {
         Ok(self.sink.flush()?)
     }
 
+    /// Sends what the sink has queued and buffered, and waits for that at most for this time, before the process ends. A
+    /// queue takes no more lines afterwards. The crate `cadence` doesn't have this call.
+    ///
+    /// It fails with `IoError` if the time passes or if the sink fails. Then lines may be left that were not sent.
+    ///
+    /// ```
+    /// use cadence::prelude::*;
+    /// use cadence::{BufferedSpyMetricSink, QueuingMetricSink, StatsdClient};
+    /// use std::time::Duration;
+    ///
+    /// let (receiver, packed) = BufferedSpyMetricSink::new();
+    /// let client = StatsdClient::from_sink("my.service", QueuingMetricSink::from(packed));
+    /// client.incr("visits").unwrap();
+    /// client.close(Duration::from_secs(5)).unwrap();
+    /// assert_eq!(b"my.service.visits:1|c\n".to_vec(), receiver.recv().unwrap());
+    /// assert!(client.incr("visits").is_err());
+    /// ```
+    pub fn close(&self, timeout: Duration) -> MetricResult<()> {
+        Ok(self.sink.stop_and_wait(timeout)?)
+    }
+
     /// Returns whether no text of the client has a separator.
     fn has_free_texts(&self) -> bool {
         let tags = self.tags.iter().all(|(key, text)| key.as_deref().is_none_or(is_free) && is_free(text));
