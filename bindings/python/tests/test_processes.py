@@ -48,6 +48,31 @@ threading.Thread(target=lambda client: threading.Event().wait(), args=(client,),
 """
 
 
+STOPPED_AT_EXIT = """
+import atexit, threading, time
+ends, sends = threading.Event(), threading.Event()
+atexit.register(lambda: (ends.set(), sends.wait()))  # runs after what the package does at exit
+import statsd_proved
+class Slow:
+    def sendto(self, packet, address):
+        if ends.is_set():
+            sends.set()
+            time.sleep(60)
+    def close(self):
+        pass
+class Last:
+    def __init__(self, client):
+        self.client = client
+    def __del__(self):
+        self.client.incr("late")
+client = statsd_proved.StatsClient("127.0.0.1", 9, flush_every=None)
+client._socket.close()
+client._socket = Slow()
+statsd_proved.last = Last(client)  # the stopped thread keeps what this module has
+threading.Thread(target=lambda: (ends.wait(), client.incr("a")), daemon=True).start()
+"""
+
+
 def _in_worker(client):
     client.incr("child")
 
@@ -235,6 +260,11 @@ class Processes(ClientTest):
                 self.addCleanup(program.kill)
             for program in programs:
                 self.assertEqual(program.communicate(timeout=30)[1], "")
+
+    def test_the_end_of_a_process_whose_thread_is_stopped_while_it_sends(self):
+        program = begun(STOPPED_AT_EXIT, switch_interval=1e-3)
+        self.addCleanup(program.kill)
+        self.assertEqual(program.communicate(timeout=30)[1], "")
 
     def test_the_end_of_a_process_whose_threads_make_clients(self):
         for _ in range(6):

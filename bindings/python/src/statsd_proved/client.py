@@ -1,10 +1,12 @@
 """The client."""
 from __future__ import annotations
 
+import contextlib
 import errno
 import logging
 import os
 import socket
+import sys
 import threading
 import weakref
 from collections.abc import Callable, Mapping
@@ -169,13 +171,21 @@ class StatsClient(Metrics):
 
     def _begin(self) -> None:
         """Starts with no text held, with all counts 0, and without a thread."""
-        self._sending = threading.RLock()
+        self._lock = threading.RLock()
         self._is_sending = False
         self._refused: bytes | None = None
         self._sent = self._lost = self._refusals = self._bad_calls = 0
         self._starts = not self._ended
         self._alarm = threading.Lock()
         self._alarm.acquire()
+
+    @property
+    def _sending(self) -> contextlib.AbstractContextManager[Any]:
+        """The lock of all that the client sends and counts. At the end of the interpreter no other thread runs any more, and
+        one that was stopped may have the lock for ever."""
+        if sys.is_finalizing():
+            return contextlib.nullcontext()
+        return self._lock
 
     def _stop(self) -> None:
         """Ends the thread that flushes, and lets none start."""
