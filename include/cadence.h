@@ -50,7 +50,10 @@
 #include <string.h>
 
 #ifdef __cplusplus
+#define CADENCE_NULL nullptr
 extern "C" {
+#else
+#define CADENCE_NULL NULL
 #endif
 
 /* A client, or none. Initialize it with CADENCE_CLOSED, which is zeros. Only the library may use its fields. */
@@ -59,7 +62,7 @@ typedef struct cadence_handle {
     bool open;
 } cadence_handle;
 
-#define CADENCE_CLOSED { 0, false }
+#define CADENCE_CLOSED { CADENCE_NULL, false }
 
 /* The statuses. */
 enum {
@@ -132,7 +135,7 @@ typedef struct cadence_options {
     bool known;
 } cadence_options;
 
-#define CADENCE_NO_OPTIONS { 0, 0, 0, 0, { 0, 0 }, 0, false, false, false, false }
+#define CADENCE_NO_OPTIONS { CADENCE_NULL, 0, CADENCE_NULL, 0, { 0, 0 }, 0, false, false, false, false }
 
 /* The counts of a client: `held` is how many bytes are held for the next packet, and `waiting` is how many packets
  * wait. `made` is how many packets the client made in all, `sent` how many cadence_sent dropped, and `dropped` how many
@@ -245,7 +248,7 @@ static inline const char *cadence_status_text(uint32_t status) {
 }
 
 static inline size_t cadence_length_of(const char *text) {
-    return text != NULL ? strlen(text) : 0;
+    return text != CADENCE_NULL ? strlen(text) : 0;
 }
 
 /* Returns a tag of a key and a text, or of the text alone if the key is null. The tag points to both, so keep them
@@ -256,7 +259,7 @@ static inline cadence_tag cadence_tag_of(const char *key, const char *text) {
     tag.key_len = cadence_length_of(key);
     tag.text = (const uint8_t *)text;
     tag.text_len = cadence_length_of(text);
-    tag.keyed = key != NULL;
+    tag.keyed = key != CADENCE_NULL;
     return tag;
 }
 
@@ -290,7 +293,7 @@ static inline uint32_t cadence_whole(cadence_handle *handle, uint32_t kind, cons
                                      const cadence_options *options) {
     const cadence_options none = CADENCE_NO_OPTIONS;
     return cadence_signed(handle, kind, (const uint8_t *)key, cadence_length_of(key), &value, 1,
-                          options != NULL ? options : &none);
+                          options != CADENCE_NULL ? options : &none);
 }
 
 /* Keeps a metric of one decimal number, like cadence_decimal: mantissa divided by 10 to the power of places. */
@@ -301,7 +304,7 @@ static inline uint32_t cadence_parts(cadence_handle *handle, uint32_t kind, cons
     value.mantissa = mantissa;
     value.places = places;
     return cadence_decimal(handle, kind, (const uint8_t *)key, cadence_length_of(key), &value, 1,
-                           options != NULL ? options : &none);
+                           options != CADENCE_NULL ? options : &none);
 }
 
 /* Adds to a counter. */

@@ -24,19 +24,19 @@ static bool refused(void) {
     return ++requests == refuse_at;
 }
 
-block rattle_alloc(size_t size, size_t align) {
+block cadence_c_alloc(size_t size, size_t align) {
     void *at = refused() ? NULL : malloc(size != 0 ? size : align);
     blocks += at != NULL;
     return (block){ at != NULL, at != NULL ? at : &nowhere };
 }
 
-block rattle_realloc(void *at, size_t old_size, size_t size, size_t align) {
+block cadence_c_realloc(void *at, size_t old_size, size_t size, size_t align) {
     (void)old_size;
     at = refused() ? NULL : realloc(at, size != 0 ? size : align);
     return (block){ at != NULL, at != NULL ? at : &nowhere };
 }
 
-void rattle_dealloc(void *at) {
+void cadence_c_dealloc(void *at) {
     blocks -= at != NULL;
     free(at);
 }

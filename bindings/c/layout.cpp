@@ -20,10 +20,11 @@ int main() {
     AT(cadence_counts_of, held), AT(cadence_counts_of, waiting), AT(cadence_counts_of, made);
     AT(cadence_counts_of, sent), AT(cadence_counts_of, dropped);
     const cadence_options none = CADENCE_NO_OPTIONS;
+    const cadence_handle closed = CADENCE_CLOSED;
     const int64_t value = 7;
     uint8_t line[16];
     size_t length;
     const uint32_t status = cadence_format_signed(nullptr, 0, CADENCE_GAUGE, (const uint8_t *)"x", 1, &value, 1, &none,
                                                   line, sizeof line, &length);
-    std::printf("\n%u %.*s\n", status, (int)length, (const char *)line);
+    std::printf("\n%u %.*s\n", status + closed.open, (int)length, (const char *)line);
 }

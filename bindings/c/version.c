@@ -1,6 +1,9 @@
-/* Returns the version of the library, which is the version of the header with which it was built. */
+/* Returns the version of the library, which is the version of the header with which it was built. The bindings look for
+ * the text in the library's file before they link it. */
 #include <cadence.h>
 
+static const char text[] = "cadence_c " CADENCE_VERSION;
+
 const char *cadence_version(void) {
-    return CADENCE_VERSION;
+    return text + sizeof "cadence_c " - 1;
 }

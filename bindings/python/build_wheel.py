@@ -1,7 +1,7 @@
 """Builds the wheel: the extension module, which contains the library, and the Python files.
 
-The library is in ../../lib, as in the archive, or in the folder that CADENCE_LIB names. The header is in the folder
-`include` of the archive, or beside the folder of the library.
+The library is in the folder that CADENCE_LIB names, or otherwise in ../../lib, as in the archive. The header is in the
+folder `include` of the archive, or beside the folder of the library. Both have to have the same version.
 """
 import base64
 import hashlib
@@ -23,11 +23,11 @@ TAG = f"cp311-abi3-{sysconfig.get_platform().replace('-', '_').replace('.', '_')
 def library():
     """Returns the path of the library."""
     named = os.environ.get("CADENCE_LIB")
-    for folder in (HERE.parent.parent / "lib", pathlib.Path(named or HERE)):
-        if (path := folder.resolve() / "libcadence_c.a").exists():
-            return path
+    folder = pathlib.Path(named) if named else HERE.parent.parent / "lib"
+    if (path := folder.resolve() / "libcadence_c.a").exists():
+        return path
     told = f"CADENCE_LIB is {named}" if named else "CADENCE_LIB is not set"
-    sys.exit(f"statsd-proved: libcadence_c.a is not in ../../lib, and {told}: set CADENCE_LIB to the folder that it is in, "
+    sys.exit(f"statsd-proved: {told}, and libcadence_c.a is not in {folder}: set CADENCE_LIB to the folder that it is in, "
              "as in CADENCE_LIB=/opt/cadence_c-0.7.0/lib")
 
 
@@ -46,12 +46,19 @@ def version():
     return re.search(r'#define CADENCE_VERSION "(.*)"', header().read_text())[1]
 
 
+def checked():
+    """Returns the path of the library, which has the version of the header."""
+    if f"cadence_c {version()}\0".encode() not in library().read_bytes():
+        sys.exit(f"statsd-proved: {library()} is not version {version()} of the library, as {header()} is: take both from one archive")
+    return library()
+
+
 def compiled(to):
     """Compiles the extension module."""
     compiler = shlex.split(os.environ.get("CC") or sysconfig.get_config_var("CC") or "gcc")
     sources = sorted(str(path) for path in (HERE / "c").glob("*.c"))
     subprocess.run([*compiler, "-std=gnu11", "-O2", "-Wall", "-Wextra", "-fPIC", "-fvisibility=hidden", "-shared",
-                    f"-I{header().parent}", f"-I{sysconfig.get_paths()['include']}", *sources, str(library()),
+                    f"-I{header().parent}", f"-I{sysconfig.get_paths()['include']}", *sources, str(checked()),
                     "-Wl,--exclude-libs,ALL", "-o", str(to)], check=True)
     return to.read_bytes()
 

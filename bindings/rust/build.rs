@@ -1,30 +1,55 @@
-//! Links libcadence_c.a: from `lib/` of the archive, if this crate is in one, and otherwise from the folder that
-//! `CADENCE_LIB` names.
-use std::env;
+//! Links libcadence_c.a: from the folder that `CADENCE_LIB` names, and otherwise from `lib/` of the archive, if this crate
+//! is in one.
 use std::path::{Path, PathBuf};
+use std::{env, fs};
 
 /// The file that is linked.
 const LIBRARY: &str = "libcadence_c.a";
+
+/// The version of the library for which this crate is written.
+pub const VERSION: &str = "0.7.0";
 
 /// What the error says that a user can do about a missing library.
 const CURE: &str = "Set CADENCE_LIB to the absolute path of the folder that has libcadence_c.a, which is lib/ in the \
 archive that ./package makes; in that archive bindings/rust finds it without the variable.";
 
-/// Returns the folder that has the library: the one beside the crate in an archive, or otherwise the one that the
-/// variable names.
-///
-/// The call fails if the variable is relative or names a folder without the library, even if there is one beside the
-/// crate, because whoever set the variable meant that folder. It also fails if there is neither.
-pub fn folder(crate_folder: &Path, variable: Option<&str>) -> Result<PathBuf, String> {
-    let named = variable.map(named_folder).transpose()?;
-    let beside = crate_folder.join("../../lib");
-    if beside.join(LIBRARY).is_file() {
-        return Ok(beside);
+/// Returns an error if there is no library for this target.
+pub fn check_target(arch: &str, os: &str, env: &str) -> Result<(), String> {
+    if (arch, os, env) == ("x86_64", "linux", "gnu") {
+        return Ok(());
     }
-    named.ok_or_else(|| format!("CADENCE_LIB is not set, and no {LIBRARY} stands in {}. {CURE}", beside.display()))
+    Err(format!(
+        "The crate cadence over the proved library builds only for Linux with glibc on x86-64, and the target is {arch}, {os}, \
+         {}: build for it with the crate of crates.io, without the patch in Cargo.toml.",
+        if env.is_empty() { "no glibc" } else { env }
+    ))
 }
 
-/// Returns the folder that the variable names, if it is absolute and has the library.
+/// Returns the folder that has the library: the one that the variable names, or otherwise the one beside the crate in an
+/// archive.
+///
+/// The call fails if the variable is relative or names a folder without the library, even if there is one beside the
+/// crate, because whoever set the variable meant that folder. It also fails if there is neither, or if the library has
+/// another version than this crate.
+pub fn folder(crate_folder: &Path, variable: Option<&str>) -> Result<PathBuf, String> {
+    let folder = variable.map_or_else(|| Ok(crate_folder.join("../../lib")), named_folder)?;
+    let library = folder.join(LIBRARY);
+    if !library.is_file() {
+        let set = variable.map_or("CADENCE_LIB is not set".to_string(), |variable| format!("CADENCE_LIB is \"{variable}\""));
+        return Err(format!("{set}, and there is no {LIBRARY} in {}. {CURE}", folder.display()));
+    }
+    let bytes = fs::read(&library).map_err(|error| format!("{} can't be read: {error}", library.display()))?;
+    let mark = format!("cadence_c {VERSION}\0");
+    if !bytes.windows(mark.len()).any(|at| at == mark.as_bytes()) {
+        return Err(format!(
+            "{} is not version {VERSION} of the library, for which this crate is written. Take both from one archive.",
+            library.display()
+        ));
+    }
+    Ok(folder)
+}
+
+/// Returns the folder that the variable names, if it is absolute.
 fn named_folder(variable: &str) -> Result<PathBuf, String> {
     let path = Path::new(variable);
     if !path.is_absolute() {
@@ -32,19 +57,26 @@ fn named_folder(variable: &str) -> Result<PathBuf, String> {
             "CADENCE_LIB is the relative path \"{variable}\", and cargo would read it from another folder. {CURE}"
         ));
     }
-    if !path.join(LIBRARY).is_file() {
-        return Err(format!("CADENCE_LIB is \"{variable}\", where there is no {LIBRARY}. {CURE}"));
-    }
     Ok(path.to_path_buf())
+}
+
+/// Returns a variable that cargo sets for a build, or nothing.
+fn of_cargo(name: &str) -> String {
+    env::var(name).unwrap_or_default()
+}
+
+/// Returns the folder of the library, if there is one for the target.
+fn found() -> Result<PathBuf, String> {
+    check_target(&of_cargo("CARGO_CFG_TARGET_ARCH"), &of_cargo("CARGO_CFG_TARGET_OS"), &of_cargo("CARGO_CFG_TARGET_ENV"))?;
+    let variable = env::var_os("CADENCE_LIB").map(|value| value.to_string_lossy().into_owned());
+    folder(Path::new(&of_cargo("CARGO_MANIFEST_DIR")), variable.as_deref())
 }
 
 /// Tells cargo where the library is, or says what is wrong and ends with 1.
 fn main() {
     println!("cargo:rerun-if-changed=build.rs");
     println!("cargo:rerun-if-env-changed=CADENCE_LIB");
-    let crate_folder = PathBuf::from(env::var_os("CARGO_MANIFEST_DIR").expect("cargo sets CARGO_MANIFEST_DIR"));
-    let variable = env::var_os("CADENCE_LIB").map(|value| value.to_string_lossy().into_owned());
-    match folder(&crate_folder, variable.as_deref()) {
+    match found() {
         Ok(folder) => {
             println!("cargo:rustc-link-search=native={}", folder.display());
             println!("cargo:rerun-if-changed={}", folder.join(LIBRARY).display());

@@ -13,9 +13,9 @@ typedef struct {
     PyObject_HEAD
     cadence_handle handle;
     cadence_counts_of counts; /* as they were after the last call */
-    PyObject *prefix, *container, *texts;
-    cadence_tag *tags;
-    size_t tags_len, capacity, packets;
+    PyObject *prefix, *container;
+    tags_of_call tags; /* of each later call */
+    size_t capacity, packets;
     int strict; /* whether each text with a separator is refused */
     uint8_t *line; /* the text of the lines that this file puts together itself */
     size_t line_len, line_room;
@@ -33,13 +33,18 @@ typedef struct {
     long form;
 } call;
 
-static PyObject *status_error;
-
+/* Sets the StatusError of a status. Each interpreter of the process has a class of its own. */
 static PyObject *refused(uint32_t status) {
     if (status == CADENCE_NO_MEMORY) return PyErr_NoMemory();
-    PyObject *arguments = Py_BuildValue("(Is)", status, cadence_status_text(status));
-    if (arguments != NULL) PyErr_SetObject(status_error, arguments);
+    PyObject *errors = PyImport_ImportModule("statsd_proved.errors");
+    PyObject *name = errors != NULL ? PyUnicode_InternFromString("StatusError") : NULL;
+    PyObject *kind = name != NULL ? PyObject_GetAttr(errors, name) : NULL;
+    PyObject *arguments = kind != NULL ? Py_BuildValue("(Is)", status, cadence_status_text(status)) : NULL;
+    if (arguments != NULL) PyErr_SetObject(kind, arguments);
     Py_XDECREF(arguments);
+    Py_XDECREF(kind);
+    Py_XDECREF(name);
+    Py_XDECREF(errors);
     return NULL;
 }
 
@@ -61,37 +66,46 @@ static uint32_t renew(packer *self) {
                        CADENCE_DROP_OLDEST | (self->strict ? CADENCE_STRICT : 0));
 }
 
+/* Returns whether no text of these has a separator. */
+static bool are_free(const tags_of_call *tags, const cadence_options *options) {
+    for (size_t i = 0; i < tags->len; i++)
+        if (!tag_is_free(&tags->at[i])) return false;
+    return !options->contained || text_is_free(options->container, options->container_len);
+}
+
 static int packer_init(packer *self, PyObject *args, PyObject *named) {
-    static char *names[] = { "prefix", "capacity", "packets", "strict", NULL };
-    PyObject *prefix;
+    static char *names[] = { "prefix", "capacity", "packets", "strict", "tags", "container", NULL };
+    PyObject *prefix, *tags = Py_None, *container = Py_None;
     Py_ssize_t capacity, packets;
     int strict = 0;
-    const uint8_t *at;
-    size_t len;
-    if (!PyArg_ParseTupleAndKeywords(args, named, "Unn|p", names, &prefix, &capacity, &packets, &strict)) return -1;
+    cadence_options texts = CADENCE_NO_OPTIONS;
+    if (!PyArg_ParseTupleAndKeywords(args, named, "Unn|pOO", names, &prefix, &capacity, &packets, &strict, &tags, &container))
+        return -1;
     if (self->prefix != NULL || capacity < 0 || packets < 0) {
         PyErr_SetString(PyExc_ValueError, "a Packer is made once, of a capacity and packets from 0 on");
         return -1;
     }
-    if (!text_of(prefix, NULL, &at, &len)) return -1;
     self->prefix = Py_NewRef(prefix);
     self->capacity = (size_t)capacity;
     self->packets = (size_t)packets;
     self->strict = strict;
-    self->texts = PyList_New(0);
-    if (self->texts == NULL) return -1;
-    const uint32_t status = renew(self);
+    if (!tags_begin(&self->tags, NULL, tags)) return -1;
+    texts.contained = container != Py_None;
+    if (texts.contained && !text_of(container, self->tags.texts, &texts.container, &texts.container_len)) return -1;
+    self->container = texts.contained ? Py_NewRef(container) : NULL;
+    uint32_t status = renew(self);
+    if (PyErr_Occurred()) return -1;
+    if (status == CADENCE_OK && strict && !are_free(&self->tags, &texts)) status = CADENCE_SEPARATOR;
     return status == CADENCE_OK || refused(status) != NULL ? 0 : -1;
 }
 
 static void packer_dealloc(packer *self) {
     PyTypeObject *type = Py_TYPE((PyObject *)self);
     cadence_free(&self->handle);
-    PyMem_Free(self->tags);
+    if (self->prefix != NULL) tags_end(&self->tags);
     PyMem_Free(self->line);
     Py_XDECREF(self->prefix);
     Py_XDECREF(self->container);
-    Py_XDECREF(self->texts);
     freefunc release = (freefunc)PyType_GetSlot(type, Py_tp_free);
     release(self);
     Py_DECREF(type);
@@ -138,7 +152,7 @@ static bool call_begin(packer *self, call *c, PyObject *const *args, Py_ssize_t 
         c->values.len = 1;
     } else if (!values_begin(&c->values, args[3], c->kind == CADENCE_TIMER)) return false;
     if (!read_options(self, c, args[4], args[6], args[7])) return false;
-    if (!tags_begin(&c->tags, self->tags, self->tags_len, args[5])) return false;
+    if (!tags_begin(&c->tags, &self->tags, args[5])) return false;
     c->options.tags = c->tags.at;
     c->options.tags_len = c->tags.len;
     return true;
@@ -159,18 +173,11 @@ static bool has_room(packer *self, size_t room) {
     return true;
 }
 
-/* Returns whether no text of a call has a separator. The prefix isn't tested, because the library has tested it. */
-static bool is_free(const call *c) {
-    for (size_t i = 0; i < c->options.tags_len; i++)
-        if (!tag_is_free(&c->options.tags[i])) return false;
-    return text_is_free(c->key, c->key_len) && text_is_free(c->text, c->text_len)
-        && (!c->options.contained || text_is_free(c->options.container, c->options.container_len));
-}
-
 /* Appends the line of a call to the text in self->line. The library makes it without the client, so the texts of a
  * strict client are tested here. */
 static uint32_t put_line(packer *self, const call *c) {
-    if (self->strict && !is_free(c)) return CADENCE_SEPARATOR;
+    const bool is_free = text_is_free(c->key, c->key_len) && text_is_free(c->text, c->text_len);
+    if (self->strict && (!is_free || !are_free(&c->tags, &c->options))) return CADENCE_SEPARATOR;
     for (;;) {
         size_t len = 0;
         uint8_t *out = self->line + self->line_len;
@@ -299,29 +306,6 @@ static PyObject *packer_counts(packer *self, PyObject *unused) {
                          (unsigned long long)self->counts.dropped);
 }
 
-/* Adds a tag to each later call. The list self->texts keeps the tag's texts alive; it only grows. */
-static PyObject *packer_add_tag(packer *self, PyObject *item) {
-    cadence_tag tag;
-    if (PyList_Append(self->texts, item) < 0 || !tag_of(item, self->texts, &tag)) return NULL;
-    if (self->strict && !tag_is_free(&tag)) return refused(CADENCE_SEPARATOR);
-    cadence_tag *tags = PyMem_Realloc(self->tags, (self->tags_len + 1) * sizeof tag);
-    if (tags == NULL) return PyErr_NoMemory();
-    self->tags = tags;
-    self->tags[self->tags_len++] = tag;
-    Py_RETURN_NONE;
-}
-
-static PyObject *packer_set_container(packer *self, PyObject *container) {
-    const uint8_t *at;
-    size_t len;
-    if (!text_of(container, self->texts, &at, &len)) return NULL;
-    if (self->strict && !text_is_free(at, len)) return refused(CADENCE_SEPARATOR);
-    PyObject *earlier = self->container;
-    self->container = Py_NewRef(container);
-    Py_XDECREF(earlier);
-    Py_RETURN_NONE;
-}
-
 static PyMethodDef methods[] = {
     { "keep", (PyCFunction)(void (*)(void))packer_keep, METH_FASTCALL,
       "keep(kind, form, stat, value, rate, tags, container, timestamp): keeps a metric, and returns whether that made a packet." },
@@ -331,13 +315,11 @@ static PyMethodDef methods[] = {
     { "close", (PyCFunction)packer_close, METH_NOARGS, "Closes the Packer, and returns the packets that are left." },
     { "renew", (PyCFunction)packer_renew, METH_NOARGS, "Drops the held text and the packets that wait, unless the Packer is closed." },
     { "counts", (PyCFunction)packer_counts, METH_NOARGS, "Returns held, waiting, made, sent, dropped." },
-    { "add_tag", (PyCFunction)packer_add_tag, METH_O, "Adds a tag to each later call." },
-    { "set_container", (PyCFunction)packer_set_container, METH_O, "Sets the container of each later call." },
     { NULL, NULL, 0, NULL },
 };
 
 static PyType_Slot slots[] = {
-    { Py_tp_doc, "Packer(prefix, capacity, packets, strict=False): makes lines and packs them into packets." },
+    { Py_tp_doc, "Packer(prefix, capacity, packets, strict=False, tags=None, container=None): makes lines and packs them into packets." },
     { Py_tp_init, packer_init },
     { Py_tp_dealloc, packer_dealloc },
     { Py_tp_methods, methods },
@@ -346,17 +328,25 @@ static PyType_Slot slots[] = {
 
 static PyType_Spec spec = { "statsd_proved._core.Packer", sizeof(packer), 0, Py_TPFLAGS_DEFAULT, slots };
 
-static struct PyModuleDef module = { PyModuleDef_HEAD_INIT, "_core", "The calls of cadence.h.", -1, NULL, NULL, NULL, NULL, NULL };
+static int fill(PyObject *module) {
+    if (strcmp(cadence_version(), CADENCE_VERSION) != 0) {
+        PyErr_Format(PyExc_ImportError, "statsd_proved is built for version %s of libcadence_c.a, and the one in it has version %s",
+                     CADENCE_VERSION, cadence_version());
+        return -1;
+    }
+    PyObject *type = PyType_FromSpec(&spec);
+    const int put = type != NULL ? PyModule_AddObjectRef(module, "Packer", type) : -1;
+    Py_XDECREF(type);
+    return put < 0 ? put : PyModule_AddStringConstant(module, "VERSION", CADENCE_VERSION);
+}
+
+/* From Python 3.12 on, the second slot says that an interpreter may have a lock of its own. This file has no variable that
+ * interpreters share. */
+static PyModuleDef_Slot parts[] = { { Py_mod_exec, fill }, { 0, NULL }, { 0, NULL } };
+
+static struct PyModuleDef module = { PyModuleDef_HEAD_INIT, "_core", "The calls of cadence.h.", 0, NULL, parts, NULL, NULL, NULL };
 
 PyMODINIT_FUNC PyInit__core(void) {
-    PyObject *errors = PyImport_ImportModule("statsd_proved.errors");
-    status_error = errors != NULL ? PyObject_GetAttrString(errors, "StatusError") : NULL;
-    Py_XDECREF(errors);
-    PyObject *made = status_error != NULL ? PyModule_Create(&module) : NULL;
-    PyObject *type = made != NULL ? PyType_FromSpec(&spec) : NULL;
-    if (type == NULL || PyModule_AddObjectRef(made, "Packer", type) < 0
-        || PyModule_AddStringConstant(made, "VERSION", cadence_version()) < 0)
-        Py_CLEAR(made);
-    Py_XDECREF(type);
-    return made;
+    if (Py_Version >= 0x030C0000) parts[1] = (PyModuleDef_Slot){ 3, (void *)2 };
+    return PyModuleDef_Init(&module);
 }

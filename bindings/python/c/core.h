@@ -15,7 +15,7 @@ typedef struct {
     uint64_t large;
 } values_of_call;
 
-/* The tags of a call, the client's first, and the Python objects that have to live as long as the tags. */
+/* The tags of a call, the client's first, and the lists of the Python objects that have to live as long as the tags. */
 typedef struct {
     cadence_tag small[16], *at;
     size_t len;
@@ -28,7 +28,7 @@ bool values_begin(values_of_call *values, PyObject *value, bool in_millis);
 void values_end(values_of_call *values);
 bool text_of(PyObject *value, PyObject *texts, const uint8_t **at, size_t *len);
 bool tag_of(PyObject *item, PyObject *texts, cadence_tag *to);
-bool tags_begin(tags_of_call *tags, const cadence_tag *defaults, size_t defaults_len, PyObject *given);
+bool tags_begin(tags_of_call *tags, const tags_of_call *defaults, PyObject *given);
 void tags_end(tags_of_call *tags);
 
 /* These return whether a text, or both texts of a tag, have no separator: no colon, comma, bar or newline. */

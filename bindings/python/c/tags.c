@@ -35,37 +35,44 @@ bool tag_of(PyObject *item, PyObject *texts, cadence_tag *to) {
         && text_of(PyTuple_GetItem(item, 1), texts, &to->text, &to->text_len);
 }
 
-/* Makes room for the tags of the client and for `more` others, and copies the tags of the client. */
-static bool tags_room(tags_of_call *tags, const cadence_tag *defaults, size_t defaults_len, size_t more) {
-    if (defaults_len + more > sizeof tags->small / sizeof tags->small[0]) {
-        tags->at = PyMem_Calloc(defaults_len + more, sizeof *defaults);
+/* Copies the tags of the client, and makes room for `more` others. */
+static bool tags_room(tags_of_call *tags, const tags_of_call *defaults, size_t more) {
+    const size_t len = defaults != NULL ? defaults->len : 0;
+    if (len + more > sizeof tags->small / sizeof tags->small[0]) {
+        tags->at = PyMem_Calloc(len + more, sizeof *tags->at);
         if (tags->at == NULL) return PyErr_NoMemory() != NULL;
     }
-    if (defaults_len != 0) memcpy(tags->at, defaults, defaults_len * sizeof *defaults);
-    tags->len = defaults_len;
+    if (len != 0) memcpy(tags->at, defaults->at, len * sizeof *tags->at);
+    tags->len = len;
     return true;
 }
 
-bool tags_begin(tags_of_call *tags, const cadence_tag *defaults, size_t defaults_len, PyObject *given) {
+/* Returns a new list of the tags of a dict, or of another object that has keys, or of a list. The list is a copy, because
+ * making the text of a number may run code that changes the caller's object. */
+static PyObject *items_of(PyObject *given) {
+    if (PyUnicode_Check(given) || PyBytes_Check(given))
+        return PyErr_Format(PyExc_TypeError, "tags are a dict or a list, as in [%R]", given);
+    if (PyDict_Check(given)) return PyMapping_Items(given);
+    if (PyList_Check(given) || PyTuple_Check(given)) return PySequence_List(given);
+    PyObject *keys = PyUnicode_InternFromString("keys"); /* a new text each time would fill the cache of attributes */
+    const bool has_keys = keys != NULL && PyObject_HasAttr(given, keys);
+    Py_XDECREF(keys);
+    return has_keys ? PyMapping_Items(given) : keys != NULL ? PySequence_List(given) : NULL;
+}
+
+/* Reads the tags of a call after those of its client. Without a client it always makes the list of texts. */
+bool tags_begin(tags_of_call *tags, const tags_of_call *defaults, PyObject *given) {
     tags->at = tags->small;
     tags->len = 0;
     tags->items = tags->texts = NULL;
-    if (given == Py_None) return tags_room(tags, defaults, defaults_len, 0);
-    if (PyUnicode_Check(given) || PyBytes_Check(given)) {
-        PyErr_Format(PyExc_TypeError, "tags are a dict or a list, as in [%R]", given);
-        return false;
-    }
-    /* a copy, because making the text of a number may run code that changes the caller's object */
-    PyObject *items = PyDict_Check(given) ? PyDict_Items(given) : NULL;
-    if (PyDict_Check(given) && items == NULL) return false;
-    tags->items = PySequence_Tuple(items != NULL ? items : given);
-    Py_XDECREF(items);
+    if (given == Py_None && defaults != NULL) return tags_room(tags, defaults, 0);
+    tags->items = given == Py_None ? PyList_New(0) : items_of(given);
     tags->texts = tags->items != NULL ? PyList_New(0) : NULL;
     if (tags->texts == NULL) return false;
-    const Py_ssize_t more = PyTuple_Size(tags->items);
-    if (!tags_room(tags, defaults, defaults_len, (size_t)more)) return false;
+    const Py_ssize_t more = PyList_Size(tags->items);
+    if (!tags_room(tags, defaults, (size_t)more)) return false;
     for (Py_ssize_t i = 0; i < more; i++, tags->len++)
-        if (!tag_of(PyTuple_GetItem(tags->items, i), tags->texts, &tags->at[tags->len])) return false;
+        if (!tag_of(PyList_GetItem(tags->items, i), tags->texts, &tags->at[tags->len])) return false;
     return true;
 }
 

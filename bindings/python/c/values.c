@@ -54,7 +54,7 @@ static bool shift(uint64_t *mantissa, long *places, long exponent) {
     return true;
 }
 
-/* Reads a number in the form in which Python prints it. Returns false if the number doesn't fit. */
+/* Reads a number in the form in which Python prints it. Returns false if the number is no such text or doesn't fit. */
 static bool decimal_of_text(const char *text, cadence_decimal_number *to) {
     const bool minus = *text == '-';
     uint64_t mantissa = 0;
@@ -63,7 +63,7 @@ static bool decimal_of_text(const char *text, cadence_decimal_number *to) {
     if (text != NULL && (*text == 'e' || *text == 'E')) {
         char *end;
         exponent = strtol(text + 1, &end, 10);
-        text = end;
+        text = is_digit(end[-1]) ? end : NULL;
     }
     if (text == NULL || *text != '\0' || !shift(&mantissa, &places, exponent)) return false;
     to->mantissa = minus ? -(int64_t)mantissa : (int64_t)mantissa;
@@ -99,25 +99,37 @@ static bool decimal_of_whole(PyObject *value, cadence_decimal_number *to) {
     return to->mantissa != -1 || !PyErr_Occurred();
 }
 
-/* Reads a number of another type: by its __index__ if it has one, and otherwise by its text. */
-static bool decimal_of_other(PyObject *value, cadence_decimal_number *to) {
-    const bool whole = PyIndex_Check(value);
+/* Reads a number of another type: by its __index__ if it has one, by its text if that is a number, as a Decimal's is, and
+ * otherwise by its __float__. */
+static bool decimal_of_other(PyObject *value, bool in_millis, cadence_decimal_number *to) {
     if (!PyNumber_Check(value)) {
         PyErr_Format(PyExc_TypeError, "%R is no number", value);
         return false;
     }
+    const bool whole = PyIndex_Check(value);
     PyObject *made = whole ? PyNumber_Index(value) : PyObject_Str(value);
-    if (made == NULL) return false;
-    const char *text = whole ? NULL : PyUnicode_AsUTF8AndSize(made, NULL);
-    bool fits = whole ? decimal_of_whole(made, to) : text != NULL && decimal_of_text(text, to);
+    Py_ssize_t len = 0;
+    const char *text = whole || made == NULL ? "" : PyUnicode_AsUTF8AndSize(made, &len);
+    if (made == NULL || text == NULL) {
+        Py_XDECREF(made);
+        return false;
+    }
+    bool fits;
+    if (whole) fits = decimal_of_whole(made, to);
+    else if (len != 0 && strspn(text, "0123456789+-.Ee") == (size_t)len) fits = decimal_of_text(text, to) || does_not_fit(value);
+    else {
+        PyObject *number = PyNumber_Float(value);
+        fits = number != NULL && decimal_of_float(number, in_millis, to);
+        Py_XDECREF(number);
+    }
     Py_DECREF(made);
-    return fits || (PyErr_Occurred() == NULL && does_not_fit(value));
+    return fits;
 }
 
 bool decimal_of(PyObject *value, bool in_millis, cadence_decimal_number *to) {
     if (PyLong_Check(value)) return decimal_of_whole(value, to);
     if (PyFloat_Check(value)) return decimal_of_float(value, in_millis, to);
-    return decimal_of_other(value, to);
+    return decimal_of_other(value, in_millis, to);
 }
 
 /* Reads one value. If it is a whole number, it may have up to 64 bits. */
@@ -134,9 +146,14 @@ static bool one_value(values_of_call *values, PyObject *value, bool in_millis) {
     return false;
 }
 
-/* Reads the values of a tuple, to which no other code has a reference. */
+/* Reads the values of a tuple, to which no other code has a reference. There has to be one, because no server reads a
+ * metric without a value. */
 static bool each_value(values_of_call *values, PyObject *tuple, bool in_millis) {
     const size_t len = (size_t)PyTuple_Size(tuple);
+    if (len == 0) {
+        PyErr_SetString(PyExc_ValueError, "the list of values is empty");
+        return false;
+    }
     if (len > sizeof values->small / sizeof values->small[0]) {
         values->at = PyMem_Calloc(len, sizeof values->small[0]);
         if (values->at == NULL) return PyErr_NoMemory() != NULL;
@@ -152,7 +169,9 @@ bool values_begin(values_of_call *values, PyObject *value, bool in_millis) {
     values->at = values->small;
     values->len = 0;
     values->is_large = false;
-    if (!PyList_Check(value) && !PyTuple_Check(value)) return one_value(values, value, in_millis);
+    const bool is_number = PyLong_Check(value) || PyFloat_Check(value);
+    if (is_number || !PySequence_Check(value) || PyUnicode_Check(value) || PyBytes_Check(value))
+        return one_value(values, value, in_millis);
     PyObject *tuple = PySequence_Tuple(value);
     if (tuple == NULL) return false;
     const bool all = each_value(values, tuple, in_millis);

@@ -1,5 +1,7 @@
 """A receiver of datagrams, and tests with a client that sends to it."""
 import socket
+import subprocess
+import sys
 import unittest
 
 from statsd_proved import StatsClient
@@ -46,6 +48,12 @@ class Recorder:
 
     def close(self):
         pass
+
+
+def begun(program, *arguments, switch_interval):
+    """Starts a program in Python whose threads take turns that often."""
+    program = f"import sys; sys.setswitchinterval({switch_interval});{program}"
+    return subprocess.Popen([sys.executable, "-c", program, *map(str, arguments)], stderr=subprocess.PIPE, text=True)
 
 
 class ClientTest(unittest.TestCase):

@@ -8,6 +8,7 @@ import tempfile
 import unittest
 
 HERE = pathlib.Path(__file__).resolve().parents[1]
+HEADER = HERE.parents[1] / "include" / "cadence.h"
 
 
 class Build(unittest.TestCase):
@@ -29,12 +30,12 @@ class Build(unittest.TestCase):
         (self.top / folder / "libcadence_c.a").touch()
         return str((self.top / folder / "libcadence_c.a").resolve())
 
-    def test_beside_itself_first(self):
+    def test_beside_itself(self):
         beside = self.put("lib")
-        self.put("other")
-        self.assertEqual(self.library(CADENCE_LIB=str(self.top / "other")), (beside, ""))
+        self.assertEqual(self.library(), (beside, ""))
 
-    def test_by_the_variable(self):
+    def test_by_the_variable_first(self):
+        self.put("lib")
         other = self.put("other")
         for folder in (str(self.top / "other"), "../../other"):
             self.assertEqual(self.library(CADENCE_LIB=folder), (other, ""))
@@ -55,9 +56,29 @@ class Build(unittest.TestCase):
         (other / "include").mkdir(parents=True)
         (other / "include" / "cadence.h").touch()
         self.put("other/lib")
-        (self.top / "lib" / "libcadence_c.a").unlink()
         found = str((other / "include" / "cadence.h").resolve())
         self.assertEqual(self.library("header", CADENCE_LIB=str(other / "lib")), (found, ""))
+
+    def test_a_library_of_another_version(self):
+        shutil.copytree(HERE / "c", self.place / "c")
+        (self.top / "include").mkdir()
+        shutil.copy(HEADER, self.top / "include")
+        path = self.put("lib")
+        said = self.library("checked")[1]
+        self.assertRegex(said, "libcadence_c.a is not version [0-9.]+ of the library, as .*/cadence.h is: take both from one archive")
+
+        # the module that a build without this check makes can't be imported
+        shutil.copy(HERE.parents[1] / "lib" / "libcadence_c.a", path)
+        (self.top / "version.c").write_text('const char *cadence_version(void) { return "0.5.0"; }')
+        for command in (("gcc", "-fPIC", "-c", "version.c"), ("ar", "r", "lib/libcadence_c.a", "version.o")):
+            subprocess.run(command, cwd=self.top, check=True, stderr=subprocess.DEVNULL)
+        (self.top / "statsd_proved").mkdir()
+        module = self.top / "statsd_proved" / "_core.abi3.so"
+        run = f"import build_wheel, pathlib; build_wheel.checked = build_wheel.library; build_wheel.compiled(pathlib.Path({str(module)!r}))"
+        subprocess.run([sys.executable, "-c", run], cwd=self.place, check=True)
+        ran = subprocess.run([sys.executable, "-c", "import statsd_proved._core"], cwd=self.top, stderr=subprocess.PIPE, text=True,
+                             env={**os.environ, "PYTHONPATH": ""})
+        self.assertRegex(ran.stderr, "ImportError: statsd_proved is built for version .* and the one in it has version 0.5.0")
 
 
 if __name__ == "__main__":

@@ -18,7 +18,7 @@ class Interface(unittest.TestCase):
     def test_all_that_is_public_has_a_docstring(self):
         public = [(name, getattr(statsd_proved, name)) for name in statsd_proved.__all__]
         kinds = [(name, what) for name, what in public if inspect.isclass(what)]
-        self.assertEqual(len(kinds), 7)
+        self.assertEqual(len(kinds), 8)
         for name, what in [*kinds, *calls()]:
             if not name.endswith("__init__"):
                 self.assertTrue(inspect.getdoc(what), name)

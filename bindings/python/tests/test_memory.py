@@ -30,8 +30,9 @@ class Memory(ClientTest):
         client = self.client(on_error=None, tags={"n": 7})
         tracemalloc.start()
         self.addCleanup(tracemalloc.stop)
-        for _ in range(100):
-            self.calls(client)
+        with self.assertLogs("statsd_proved"):
+            for _ in range(100):
+                self.calls(client)
         gc.collect()
         before, _ = tracemalloc.get_traced_memory()
         for _ in range(TURNS):

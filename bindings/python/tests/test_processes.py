@@ -1,7 +1,9 @@
 """Threads, forks, and the end of a process."""
 import collections
 import multiprocessing
+import multiprocessing.util
 import os
+import pickle
 import select
 import signal
 import subprocess
@@ -9,10 +11,32 @@ import sys
 import threading
 import time
 import unittest
+import weakref
+from unittest import mock
 
-from receiver import ClientTest, Recorder
+from receiver import ClientTest, Recorder, begun
+from statsd_proved import Status, StatusError, VariableError, process
 
 THREADS, CALLS = 8, 5000
+MANY_AT_EXIT = """
+import statsd_proved
+clients = [statsd_proved.StatsClient("127.0.0.1", 9, flush_every=0.001) for _ in range(40)]
+for client in clients:
+    client.incr("a")
+"""
+MADE_AT_EXIT = """
+import statsd_proved, threading, time
+made = [statsd_proved.StatsClient("127.0.0.1", int(sys.argv[1]), flush_every=None) for _ in range(600)]
+for number in range(100):
+    made[number].incr(f"a{number}")
+def work():
+    while len(made) < 1000:
+        made.append(statsd_proved.StatsClient("127.0.0.1", 9, flush_every=None))
+        time.sleep(0)
+for _ in range(4):
+    threading.Thread(target=work, daemon=True).start()
+time.sleep(0.001)
+"""
 AT_EXIT = """
 import atexit
 atexit.register(lambda: client.incr("late"))  # runs after what the package does at exit
@@ -24,8 +48,41 @@ threading.Thread(target=lambda client: threading.Event().wait(), args=(client,),
 """
 
 
+STOPPED_AT_EXIT = """
+import atexit, threading, time
+ends, sends = threading.Event(), threading.Event()
+atexit.register(lambda: (ends.set(), sends.wait()))  # runs after what the package does at exit
+import statsd_proved
+class Slow:
+    def sendto(self, packet, address):
+        if ends.is_set():
+            sends.set()
+            time.sleep(60)
+    def close(self):
+        pass
+class Last:
+    def __init__(self, client):
+        self.client = client
+    def __del__(self):
+        self.client.incr("late")
+client = statsd_proved.StatsClient("127.0.0.1", 9, flush_every=None)
+client._socket.close()
+client._socket = Slow()
+statsd_proved.last = Last(client)  # the stopped thread keeps what this module has
+threading.Thread(target=lambda: (ends.wait(), client.incr("a")), daemon=True).start()
+"""
+
+
 def _in_worker(client):
     client.incr("child")
+
+
+def _counts(number):
+    _of_pool.incr(f"a{number}")
+
+
+def _fails(number):
+    raise StatusError(Status.SEPARATOR, f"text {number}")
 
 
 class Threads(ClientTest):
@@ -84,7 +141,7 @@ class Threads(ClientTest):
             kept = [0] * 4
 
             def work(number):
-                while not client._ended.is_set():
+                while not client._ended:
                     client.incr("a")
                     kept[number] += 1
             threads = [threading.Thread(target=work, args=(number,)) for number in range(4)]
@@ -108,7 +165,7 @@ class Processes(ClientTest):
                 work()
             finally:
                 os._exit(0)
-        os.waitpid(child, 0)
+        self.assertEqual(os.waitpid(child, 0)[1], 0)
 
     def test_nothing_is_sent_twice_after_a_fork(self):
         for every in (None, 60):
@@ -146,6 +203,82 @@ class Processes(ClientTest):
             thread.start()
             self.assertEqual(self.receiver.lines(30), ["child:1|c"])
         thread.join()
+
+    def test_a_fork_while_another_thread_closes(self):
+        begun, ends = threading.Event(), threading.Event()
+
+        class Slow(Recorder):
+            def sendto(self, packet, address):
+                begun.set()
+                ends.wait()
+
+        client = self.client()
+        client._socket.close()
+        client._socket = Slow()
+        client.incr("a")
+        thread = threading.Thread(target=client.close)
+        thread.start()
+        begun.wait()
+
+        def work():
+            signal.alarm(5)
+            client._socket = Recorder()
+            client.close()
+            self.assertEqual((client.counts()["made"], client._socket.sent), (0, []))
+        try:
+            self.forked(work)
+        finally:
+            ends.set()
+            thread.join()
+
+    def test_the_end_of_a_pool(self):
+        global _of_pool
+        _of_pool = self.client(flush_every=60)
+        for _ in range(3):
+            with multiprocessing.get_context("fork").Pool(4) as pool:
+                pool.map(_counts, range(100), chunksize=5)
+            self.assertEqual(sorted(self.receiver.lines()), sorted(f"a{number}:1|c" for number in range(100)))
+
+    def test_an_error_in_a_pool(self):
+        with multiprocessing.get_context("fork").Pool(1) as pool:
+            with self.assertRaises(StatusError) as raised:
+                pool.apply_async(_fails, (7,)).get(timeout=10)
+        self.assertEqual((raised.exception.status, str(raised.exception)), (Status.SEPARATOR, "text 7"))
+        error = pickle.loads(pickle.dumps(VariableError("DD_ENV", "short")))
+        self.assertEqual((error.variable, str(error)), ("DD_ENV", "DD_ENV has to be short"))
+
+    def test_clients_leave_nothing_in_multiprocessing(self):
+        before = len(multiprocessing.util._finalizer_registry)
+        for _ in range(10):
+            self.sent_by(lambda c: c.incr("a"))
+        self.assertLessEqual(len(multiprocessing.util._finalizer_registry), before + 1)
+
+    def test_the_end_of_a_process_with_many_threads(self):
+        for _ in range(4):
+            programs = [begun(MANY_AT_EXIT, switch_interval=1e-5) for _ in range(4)]
+            for program in programs:
+                self.addCleanup(program.kill)
+            for program in programs:
+                self.assertEqual(program.communicate(timeout=30)[1], "")
+
+    def test_the_end_of_a_process_whose_thread_is_stopped_while_it_sends(self):
+        program = begun(STOPPED_AT_EXIT, switch_interval=1e-3)
+        self.addCleanup(program.kill)
+        self.assertEqual(program.communicate(timeout=30)[1], "")
+
+    def test_the_end_of_a_process_whose_threads_make_clients(self):
+        for _ in range(6):
+            program = begun(MADE_AT_EXIT, self.receiver.address[1], switch_interval=1e-5)
+            self.assertEqual(program.communicate(timeout=30)[1], "")
+            self.assertEqual(sorted(self.receiver.lines()), sorted(f"a{number}:1|c" for number in range(100)))
+
+    def test_an_error_of_one_client_at_exit_leaves_the_others(self):
+        with mock.patch.object(process, "_clients", weakref.WeakValueDictionary()):
+            first, second = self.client(), self.client()
+            second.incr("a")
+            with mock.patch.object(first, "_flush", side_effect=KeyError), self.assertLogs("statsd_proved"):
+                process._end_all()
+        self.assertEqual(self.receiver.lines(), ["a:1|c"])
 
     def test_the_end_of_a_worker(self):
         for every in (None, 60):

@@ -1,10 +1,16 @@
 """What is sent, when it is sent, and what happens if the socket refuses a packet."""
+import contextlib
+import copy
 import errno
 import gc
+import math
+import pickle
 import socket
 import tempfile
+import threading
 import time
 import unittest
+from unittest import mock
 
 from receiver import ClientTest, Receiver, Recorder
 from statsd_proved import StatsClient
@@ -59,9 +65,42 @@ class When(ClientTest):
         client.incr("a")
         self.assertEqual(self.receiver.packets(), ["a:1|c\n"])
 
+    def test_a_period_that_is_none(self):
+        for period in (-1, -0.001, math.nan, -math.inf, "1", b"1"):
+            with self.subTest(period=period), self.assertRaisesRegex(ValueError, "flush_every is .* seconds from 0 on"):
+                self.client(flush_every=period)
+
+    def test_a_period_that_is_longer_than_a_thread_can_wait(self):
+        for period in (math.inf, 1e10, 10 ** 300):
+            client = self.client(flush_every=period)
+            client.incr("a")
+            time.sleep(0.02)
+            self.assertTrue(any(thread.name == "statsd_proved" for thread in threading.enumerate()))
+            client.close()
+            self.assertEqual((self.receiver.lines(), self.faults), (["a:1|c"], []))
+
+    def test_a_thread_that_can_not_be_started_once(self):
+        client = self.client(flush_every=0.01)
+        with mock.patch.object(threading.Thread, "start", side_effect=RuntimeError):
+            client.incr("a")
+        self.assertEqual([type(fault) for fault in self.faults], [RuntimeError])
+        client.incr("b")
+        self.assertEqual(self.receiver.lines(30), ["a:1|c", "b:1|c"])
+
     def test_a_client_that_could_not_be_made(self):
         with self.assertRaises(socket.gaierror):
             StatsClient("no.such.host.invalid")
+        for port in (0, -1, 65536, 70_000):
+            self.assertRaises(ValueError, StatsClient, "127.0.0.1", port)
+        self.assertRaises(UnicodeEncodeError, StatsClient, "unix:///\ud800")
+
+    def test_a_client_is_not_copied(self):
+        client = self.client()
+        for call in (copy.copy, copy.deepcopy, pickle.dumps):
+            self.assertRaisesRegex(TypeError, "can't be copied", call, client)
+        client.incr("a")
+        client.flush()
+        self.assertEqual((self.receiver.lines(), self.faults), (["a:1|c"], []))
 
 
 class Where(ClientTest):
@@ -204,6 +243,52 @@ class Refusals(ClientTest):
             time.sleep(0.01)
         self.assertGreaterEqual(client.counts()["refused"], 3)
         client._socket.fault = None
+
+    def test_a_signal_handler_may_call_the_client_that_it_interrupts(self):
+        client = self.refusing(maxudpsize=8)
+
+        def interrupted(packet, address):
+            del client._socket.sendto
+            client.incr("c")
+            client.incr("d")
+            client.flush()
+            raise client._socket.fault
+        client._socket.sendto = interrupted
+        client.incr("a")
+        client.incr("b")
+        client._socket.fault = None
+        client.flush()
+        self.assertEqual(client._socket.lines(), ["a:1|c", "b:1|c", "c:1|c", "d:1|c"])
+        counts = client.counts()
+        self.assertEqual((counts["made"], counts["sent"], counts["dropped"], counts["waiting"]), (4, 4, 0, 0))
+
+    def test_an_error_that_is_raised_leaves_no_cycle(self):
+        client = self.refusing(raises=True, maxudpsize=8)
+        pipe = client.pipeline()
+        calls = (lambda: client.incr("a", math.nan), lambda: client.decr("a", None), lambda: client.raw(1),
+                 lambda: pipe.incr("a", None), lambda: (client.incr("a"), client.incr("b")), client.flush)
+        gc.collect()
+        gc.disable()
+        self.addCleanup(gc.enable)
+        for call in calls:
+            for _ in range(10):
+                with contextlib.suppress(ValueError, TypeError, OSError):
+                    call()
+                self.faults.clear()
+                client._socket.fault.__traceback__ = None
+            self.assertEqual(gc.collect(), 0)
+        client._socket.fault = None
+
+    def test_the_first_error_is_logged(self):
+        client = self.refusing(on_error=None)
+        with self.assertLogs("statsd_proved") as logged:
+            client.incr("a", "text")
+            client.incr("a", None)
+            client.incr("a")
+            client.flush()
+        self.assertEqual(len(logged.records), 1)
+        self.assertIn("'text' is no number", logged.output[0])
+        self.assertEqual((client.counts()["bad"], client.counts()["refused"]), (2, 1))
 
     def test_on_error_may_call_the_client(self):
         client = self.refusing()

@@ -1,5 +1,6 @@
 """Values, texts and tags of which no line can be made."""
 import decimal
+import fractions
 import math
 import pathlib
 import re
@@ -14,11 +15,11 @@ HEADER = pathlib.Path(__file__).resolve().parents[3] / "include" / "cadence.h"
 class Odd:
     """A number whose text runs code."""
 
-    def __init__(self, text, run=lambda: None):
-        self.text, self.run = text, run
+    def __init__(self, text, run=lambda: None, number=math.nan):
+        self.text, self.run, self.number = text, run, number
 
     def __float__(self):
-        return float(self.text)
+        return self.number
 
     def __str__(self):
         self.run()
@@ -69,6 +70,19 @@ class Values(ClientTest):
             self.refuses(ValueError, lambda c: c.incr("x", decimal.Decimal(text)), lambda c: c.gauge("x", decimal.Decimal(text)))
         self.refuses(decimal.InvalidOperation, lambda c: c.decr("x", decimal.Decimal("sNaN")))
 
+    def test_lists_without_a_value(self):
+        self.refuses(ValueError, *(lambda c, call=call, value=value: getattr(c, call)("x", value)
+                                   for call in ("histogram", "distribution", "timing") for value in ([], (), range(0))))
+
+    def test_numbers_of_other_types(self):
+        self.assertEqual(self.sent_by(lambda c: [c.gauge("x", value, delta=True) for value in (
+            fractions.Fraction(1, 2), Odd("<odd>", number=2.5), Odd("1\0junk", number=3.5), Odd("1E 2", number=4.5),
+            Odd("", number=5.5), Odd("1E2", number=6.5), Odd("-1.50", number=7.5), decimal.Decimal("0.12345678901234567"))]),
+            ["x:+0.5|g", "x:+2.5|g", "x:+3.5|g", "x:+4.5|g", "x:+5.5|g", "x:+100|g", "x:-1.5|g", "x:+0.12345678901234567|g"])
+        self.refuses(TypeError, lambda c: c.incr("x", 1j))
+        self.refuses(ValueError, *(lambda c, text=text: c.incr("x", Odd(text)) for text in ("1E", "1E+", "1.2.3", "--1", "1-", "E1")),
+                     lambda c: c.incr("x", decimal.Decimal("123456789012345678.123")), lambda c: c.incr("x", fractions.Fraction(10 ** 40)))
+
     def test_tags_that_are_none(self):
         self.refuses(TypeError, *(lambda c, tags=tags: c.incr("x", tags=tags)
                                   for tags in ("a:b", b"a", 7, {"a": None}, [("a", "b", "c")])),
@@ -99,7 +113,7 @@ class Values(ClientTest):
             client.incr("x", math.nan)
 
     def test_without_on_error(self):
-        with self.client(on_error=None) as client:
+        with self.client(on_error=None) as client, self.assertLogs("statsd_proved"):
             client.incr("x", math.nan)
             self.assertEqual(client.counts()["bad"], 1)
 

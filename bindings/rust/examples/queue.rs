@@ -1,4 +1,4 @@
-//! A service that does not wait for a socket, and a test of it. It sends to port 8125.
+//! A service that does not wait for a socket until it ends, and a test of it. It sends to port 8125.
 use cadence::prelude::*;
 use cadence::{BufferedUdpMetricSink, QueuingMetricSink, SpyMetricSink, StatsdClient, DEFAULT_PORT};
 use std::net::UdpSocket;
@@ -25,6 +25,7 @@ fn main() -> cadence::MetricResult<()> {
     sell(&StatsdClient::from_sink("test", spy), Duration::from_millis(1250));
     assert_eq!(b"test.sale:1250|ms|#page:home".to_vec(), receiver.recv().unwrap());
 
-    sell(&connect()?, Duration::from_millis(7));
-    Ok(())
+    let client = connect()?;
+    sell(&client, Duration::from_millis(7));
+    client.close(Duration::from_secs(5))
 }

@@ -3,7 +3,7 @@ use crate::builder::MetricBuilder;
 use crate::layout::Kind;
 use crate::line::Record;
 use crate::sealed::Sealed;
-use crate::separators::{is_free, separator_error};
+use crate::separators::{is_free, separator_error, Texts};
 use crate::sinks::MetricSink;
 use crate::types::{Counter, Distribution, Gauge, Histogram, Meter, Metric, MetricError, MetricResult, Set, Timer};
 use crate::value::{
@@ -121,17 +121,6 @@ impl StatsdClientBuilder {
     }
 }
 
-/// Which texts a client takes.
-#[derive(Clone, Copy, Debug, PartialEq, Eq)]
-enum Texts {
-    /// Each text, with any separators in it.
-    Any,
-    /// Texts without a separator.
-    Free,
-    /// None, because the client is strict and has a separator in its own texts.
-    Refused,
-}
-
 /// Makes metrics whose names begin with a prefix, and passes the line of each to a sink.
 ///
 /// Threads may share a client by reference or in an `Arc`. A client takes no lock of its own, but its sink may take
@@ -180,6 +169,14 @@ impl StatsdClient {
     /// It fails with `IoError` if the sink does. A buffered sink of this crate keeps the lines that it couldn't send.
     pub fn flush(&self) -> MetricResult<()> {
         Ok(self.sink.flush()?)
+    }
+
+    /// Sends what the sink has queued and buffered, and waits for that at most for this time, before the process ends. A
+    /// queue takes no more lines afterwards. The crate `cadence` doesn't have this call.
+    ///
+    /// It fails with `IoError` if the time passes or if the sink fails. Then lines may be left that were not sent.
+    pub fn close(&self, timeout: Duration) -> MetricResult<()> {
+        Ok(self.sink.stop_and_wait(timeout)?)
     }
 
     /// Returns whether no text of the client has a separator.

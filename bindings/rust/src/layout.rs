@@ -33,7 +33,7 @@ impl fmt::Debug for Handle {
 
 /// A tag as the library reads it: two texts of the caller's, of which the key may be missing.
 #[repr(C)]
-#[derive(Clone, Copy, Debug)]
+#[derive(Clone, Copy)]
 pub(crate) struct Tag<'a> {
     key: *const u8,
     key_len: usize,
@@ -54,6 +54,10 @@ impl<'a> Tag<'a> {
     /// Returns where its texts are, and their lengths in bytes: the key, which is empty if it is missing, and the text.
     pub(crate) fn texts(&self) -> [(*const u8, usize); 2] {
         [(self.key, self.key_len), (self.text, self.text_len)]
+    }
+
+    pub(crate) fn is_keyed(&self) -> bool {
+        self.keyed
     }
 
     /// Returns how many bytes the tag has in a line, at most.

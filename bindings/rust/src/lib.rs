@@ -38,13 +38,14 @@
 //!
 //! # What the crate `cadence` doesn't have
 //!
-//! [`StatsdClientBuilder::with_strict_texts`] makes a client that refuses texts with separators. [`Environment`] is what
-//! the variables of the process, such as `DD_AGENT_HOST`, say about a client.
+//! [`StatsdClientBuilder::with_strict_texts`] makes a client that refuses texts with separators. [`StatsdClient::close`]
+//! waits until queued lines are sent, before the process ends. [`Environment`] is what the variables of the process, such
+//! as `DD_AGENT_HOST`, say about a client.
 //!
 //! # The library
 //!
-//! The build takes `libcadence_c.a` from `../../lib`, where an archive with both has it, and otherwise from the folder
-//! whose absolute path is in the variable `CADENCE_LIB`.
+//! The build takes `libcadence_c.a` from the folder whose absolute path is in the variable `CADENCE_LIB`, and otherwise
+//! from `../../lib`, where an archive with both has it. Both need the same version.
 #![warn(missing_docs)]
 #![deny(unsafe_code)]
 

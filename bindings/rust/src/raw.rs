@@ -4,16 +4,21 @@
 //! comes with the length of the memory that it points to, and if only one call at a time uses a handle.
 use crate::layout::{Counts, Decimal, Handle, Kind, Options, Tag};
 use crate::separators::is_free_bytes;
-use std::cell::{Cell, UnsafeCell};
 use std::ffi::c_void;
-use std::io;
-use std::mem::MaybeUninit;
-use std::{ptr, slice};
+use std::{fmt, io, ptr, slice, str};
 
 // SAFETY: a tag is two `&str`s in another layout, and a `&str` may be sent to another thread.
 unsafe impl Send for Tag<'_> {}
 // SAFETY: a tag is two `&str`s in another layout, and threads may share a `&str`.
 unsafe impl Sync for Tag<'_> {}
+
+impl fmt::Debug for Tag<'_> {
+    fn fmt(&self, f: &mut fmt::Formatter<'_>) -> fmt::Result {
+        // SAFETY: both texts are those of a `&str` that the tag borrows.
+        let [key, text] = self.texts().map(|(at, len)| unsafe { str::from_utf8_unchecked(slice::from_raw_parts(at, len)) });
+        (self.is_keyed().then_some(key), text).fmt(f)
+    }
+}
 
 /// Returns whether neither the key of a tag nor its text has a separator.
 pub(crate) fn is_free_tag(tag: &Tag<'_>) -> bool {
@@ -222,122 +227,55 @@ impl Drop for Packer {
     }
 }
 
-/// The heap of the library, in place of the one in the library's archive.
+/// The room of each thread that the library's heap has, from `heap.c`.
 ///
-/// A call that formats a line requests memory for the line, and frees it before it returns. It gets a piece of a buffer
-/// of its thread, if the buffer is long enough. All other memory comes from malloc.
+/// A call that formats a line requests memory for the line, and frees it before it returns. While the room is lent to it,
+/// it gets pieces of the room as long as they fit. All other memory comes from malloc.
 mod scratch {
-    use super::*;
-
-    const SIZE: usize = 1024;
-
-    #[repr(C, align(16))]
-    struct Room {
-        bytes: UnsafeCell<[MaybeUninit<u8>; SIZE]>,
-        /// How many bytes of the buffer are in use, or `SIZE` if the buffer is not lent to a call.
-        taken: Cell<usize>,
-    }
-
-    thread_local! {
-        static ROOM: Room = const { Room { bytes: UnsafeCell::new([MaybeUninit::uninit(); SIZE]), taken: Cell::new(SIZE) } };
-    }
-
-    /// A block of memory as the library gets it, or none.
-    #[repr(C)]
-    pub struct Block {
-        given: u64,
-        at: *mut c_void,
-    }
-
     unsafe extern "C" {
-        fn malloc(size: usize) -> *mut c_void;
-        fn realloc(at: *mut c_void, size: usize) -> *mut c_void;
-        fn free(at: *mut c_void);
+        fn cadence_c_lend(lent: bool);
     }
 
-    impl Room {
-        /// Returns a piece of the buffer, if the buffer is lent to a call and the piece fits. Pieces begin at multiples
-        /// of 16 bytes.
-        #[inline]
-        fn piece(&self, size: usize) -> Option<*mut c_void> {
-            let start = self.taken.get();
-            if size > SIZE - start {
-                return None;
-            }
-            self.taken.set((start + size).next_multiple_of(16).min(SIZE));
-            // SAFETY: the piece lies within the buffer.
-            Some(unsafe { self.bytes.get().cast::<u8>().add(start) }.cast())
-        }
-
-        #[inline]
-        fn has(&self, at: *mut c_void) -> bool {
-            (at as usize).wrapping_sub(self.bytes.get() as usize) < SIZE
-        }
-    }
-
-    fn block(at: *mut c_void) -> Block {
-        if at.is_null() {
-            Block { given: 0, at: ptr::NonNull::<u64>::dangling().as_ptr().cast() }
-        } else {
-            Block { given: 1, at }
-        }
-    }
-
-    /// Lends the buffer to a call that frees all memory that it requests.
+    /// Lends the room to a call that frees all memory that it requests.
     #[inline]
     pub(super) fn lent<R>(call: impl FnOnce() -> R) -> R {
-        ROOM.with(|room| room.taken.set(0));
+        // SAFETY: the call frees what it requests before the room is taken back, and no memory is left of an earlier call.
+        unsafe { cadence_c_lend(true) };
         let answer = call();
-        ROOM.with(|room| room.taken.set(SIZE));
+        // SAFETY: as above.
+        unsafe { cadence_c_lend(false) };
         answer
-    }
-
-    #[unsafe(no_mangle)]
-    extern "C" fn rattle_alloc(size: usize, align: usize) -> Block {
-        let size = if size == 0 { align } else { size };
-        match ROOM.with(|room| room.piece(size)) {
-            Some(at) => Block { given: 1, at },
-            // SAFETY: malloc accepts any size, and its blocks fit every alignment that the library requests.
-            None => block(unsafe { malloc(size) }),
-        }
-    }
-
-    /// # Safety
-    ///
-    /// `at` must point to a block of `old_size` bytes that these functions returned.
-    #[unsafe(no_mangle)]
-    unsafe extern "C" fn rattle_realloc(at: *mut c_void, old_size: usize, size: usize, align: usize) -> Block {
-        if !ROOM.with(|room| room.has(at)) {
-            // SAFETY: the block came from malloc.
-            return block(unsafe { realloc(at, if size == 0 { align } else { size }) });
-        }
-        let new = rattle_alloc(size, align);
-        if new.given == 1 {
-            // SAFETY: both blocks have at least as many bytes as are copied, and they don't overlap.
-            unsafe { ptr::copy_nonoverlapping(at.cast::<u8>(), new.at.cast::<u8>(), old_size.min(size)) };
-        }
-        new
-    }
-
-    /// # Safety
-    ///
-    /// `at` must point to a block that these functions returned. A piece of the buffer is freed together with the whole
-    /// buffer.
-    #[unsafe(no_mangle)]
-    unsafe extern "C" fn rattle_dealloc(at: *mut c_void) {
-        if !ROOM.with(|room| room.has(at)) {
-            // SAFETY: the block came from malloc.
-            unsafe { free(at) };
-        }
     }
 
     #[cfg(test)]
     mod tests {
-        use super::*;
+        use super::super::*;
+        use super::lent;
+
+        const SIZE: usize = 1024;
+
+        /// A block of memory as the library gets it, or none.
+        #[repr(C)]
+        struct Block {
+            given: u64,
+            at: *mut u8,
+        }
+
+        unsafe extern "C" {
+            fn cadence_c_alloc(size: usize, align: usize) -> Block;
+            fn cadence_c_realloc(at: *mut u8, old_size: usize, size: usize, align: usize) -> Block;
+            fn cadence_c_dealloc(at: *mut u8);
+        }
+
+        fn alloc(size: usize, align: usize) -> Block {
+            // SAFETY: the heap accepts any size.
+            unsafe { cadence_c_alloc(size, align) }
+        }
 
         fn bytes_of_the_room(size: usize) -> Vec<u8> {
-            // SAFETY: the test has written these bytes, and the buffer is not lent to a call.
-            ROOM.with(|room| unsafe { slice::from_raw_parts(room.bytes.get().cast::<u8>(), size) }.to_vec())
+            let start = lent(|| alloc(1, 1).at);
+            // SAFETY: the library has written these bytes, and the room is not lent to a call.
+            unsafe { slice::from_raw_parts(start, size) }.to_vec()
         }
 
         #[test]
@@ -360,22 +298,22 @@ mod scratch {
         fn blocks_keep_their_bytes_as_they_grow() {
             for inside in [true, false] {
                 let grow = || {
-                    let other = rattle_alloc(24, 8);
-                    let mut block = rattle_alloc(1, 1);
+                    let other = alloc(24, 8);
+                    let mut block = alloc(1, 1);
                     for size in 1..3 * SIZE {
                         // SAFETY: the block has `size` bytes, and one more after it grew.
                         unsafe {
-                            block.at.cast::<u8>().add(size - 1).write(size as u8);
-                            block = rattle_realloc(block.at, size, size + 1, 1);
+                            block.at.add(size - 1).write(size as u8);
+                            block = cadence_c_realloc(block.at, size, size + 1, 1);
                         }
                         assert_eq!(1, block.given);
                         assert_eq!(0, block.at as usize % 16);
                     }
                     // SAFETY: these bytes were written, and both blocks are freed once.
-                    let bytes = unsafe { slice::from_raw_parts(block.at.cast::<u8>(), 3 * SIZE - 1) };
+                    let bytes = unsafe { slice::from_raw_parts(block.at, 3 * SIZE - 1) };
                     assert!(bytes.iter().enumerate().all(|(index, byte)| *byte == (index + 1) as u8));
-                    unsafe { rattle_dealloc(block.at) };
-                    unsafe { rattle_dealloc(other.at) };
+                    // SAFETY: as above.
+                    [block.at, other.at].into_iter().for_each(|at| unsafe { cadence_c_dealloc(at) });
                 };
                 if inside {
                     lent(grow)
@@ -387,9 +325,9 @@ mod scratch {
 
         #[test]
         fn a_request_that_cant_be_met_gives_nothing() {
-            assert_eq!(0, rattle_alloc(usize::MAX / 2, 1).given);
-            assert_eq!(0, lent(|| rattle_alloc(usize::MAX, 1)).given);
-            let empty = lent(|| rattle_alloc(0, 8));
+            assert_eq!(0, alloc(usize::MAX / 2, 1).given);
+            assert_eq!(0, lent(|| alloc(usize::MAX, 1)).given);
+            let empty = lent(|| alloc(0, 8));
             assert_eq!(1, empty.given);
         }
     }

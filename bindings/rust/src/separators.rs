@@ -16,3 +16,14 @@ pub(crate) fn is_free_bytes(text: &[u8]) -> bool {
 pub(crate) fn separator_error() -> MetricError {
     MetricError::from((ErrorKind::InvalidInput, "separator in a text"))
 }
+
+/// Which texts a client takes.
+#[derive(Clone, Copy, Debug, PartialEq, Eq)]
+pub(crate) enum Texts {
+    /// Each text, with any separators in it.
+    Any,
+    /// Texts without a separator.
+    Free,
+    /// None, because the client is strict and has a separator in its own texts.
+    Refused,
+}

@@ -27,7 +27,7 @@ macro_rules! metric {
         /// A metric is its line, which `as_metric_str` returns.
         #[derive(PartialEq, Eq, Debug, Hash, Clone)]
         pub struct $name {
-            line: String,
+            repr: String,
         }
 
         impl $name {
@@ -37,14 +37,14 @@ macro_rules! metric {
         }
 
         impl From<String> for $name {
-            fn from(line: String) -> Self {
-                $name { line }
+            fn from(repr: String) -> Self {
+                $name { repr }
             }
         }
 
         impl Metric for $name {
             fn as_metric_str(&self) -> &str {
-                &self.line
+                &self.repr
             }
         }
     };
@@ -134,13 +134,13 @@ pub enum ErrorKind {
 /// ```
 #[derive(Debug)]
 pub struct MetricError {
-    fault: Fault,
+    repr: Fault,
 }
 
 #[derive(Debug)]
 enum Fault {
-    Text(ErrorKind, &'static str),
-    Io(io::Error),
+    WithDescription(ErrorKind, &'static str),
+    IoError(io::Error),
 }
 
 /// The result of a call: what it made, or its error.
@@ -149,48 +149,48 @@ pub type MetricResult<T> = Result<T, MetricError>;
 impl MetricError {
     /// Returns the kind of the error.
     pub fn kind(&self) -> ErrorKind {
-        match &self.fault {
-            Fault::Text(kind, _) => *kind,
-            Fault::Io(_) => ErrorKind::IoError,
+        match &self.repr {
+            Fault::WithDescription(kind, _) => *kind,
+            Fault::IoError(_) => ErrorKind::IoError,
         }
     }
 }
 
 impl From<io::Error> for MetricError {
     fn from(error: io::Error) -> Self {
-        MetricError { fault: Fault::Io(error) }
+        MetricError { repr: Fault::IoError(error) }
     }
 }
 
 impl From<(ErrorKind, &'static str)> for MetricError {
     fn from((kind, text): (ErrorKind, &'static str)) -> Self {
-        MetricError { fault: Fault::Text(kind, text) }
+        MetricError { repr: Fault::WithDescription(kind, text) }
     }
 }
 
 impl fmt::Display for MetricError {
     fn fmt(&self, f: &mut fmt::Formatter<'_>) -> fmt::Result {
-        match &self.fault {
-            Fault::Text(_, text) => text.fmt(f),
-            Fault::Io(error) => error.fmt(f),
+        match &self.repr {
+            Fault::WithDescription(_, text) => text.fmt(f),
+            Fault::IoError(error) => error.fmt(f),
         }
     }
 }
 
 impl error::Error for MetricError {
     fn source(&self) -> Option<&(dyn error::Error + 'static)> {
-        match &self.fault {
-            Fault::Text(..) => None,
-            Fault::Io(error) => Some(error),
+        match &self.repr {
+            Fault::WithDescription(..) => None,
+            Fault::IoError(error) => Some(error),
         }
     }
 
     // The deprecated method returns the text of the error, as it does in the crate `cadence`.
     #[allow(deprecated)]
     fn description(&self) -> &str {
-        match &self.fault {
-            Fault::Text(_, text) => text,
-            Fault::Io(error) => error.description(),
+        match &self.repr {
+            Fault::WithDescription(_, text) => text,
+            Fault::IoError(error) => error.description(),
         }
     }
 }

@@ -2,7 +2,8 @@
 use cadence::ext::MetricValue;
 use cadence::prelude::*;
 use cadence::{
-    Counter, Distribution, ErrorKind, Gauge, Histogram, Meter, Metric, MetricResult, NopMetricSink, Set, StatsdClient, Timer,
+    Counter, Distribution, ErrorKind, Gauge, Histogram, Meter, Metric, MetricError, MetricResult, NopMetricSink, Set,
+    StatsdClient, Timer,
 };
 use std::time::Duration;
 
@@ -245,4 +246,15 @@ fn a_value_has_the_text_of_its_line() {
     for (value, wanted) in found {
         assert_eq!(wanted, value.clone().to_string());
     }
+}
+
+#[test]
+fn debug_prints_what_the_crate_prints() {
+    assert_eq!("Counter { repr: \"a.b:1|c\" }", format!("{:?}", Counter::new("a.", "b", 1)));
+    let text = MetricError::from((ErrorKind::InvalidInput, "a text"));
+    assert_eq!("MetricError { repr: WithDescription(InvalidInput, \"a text\") }", format!("{text:?}"));
+    let io = MetricError::from(std::io::Error::from(std::io::ErrorKind::TimedOut));
+    assert_eq!("MetricError { repr: IoError(Kind(TimedOut)) }", format!("{io:?}"));
+    let builder = format!("{:?}", client().count_with_tags("k", 1).with_tag("a", "b").with_tag_value("c"));
+    assert!(builder.contains("tags: [(Some(\"a\"), \"b\"), (None, \"c\")]"), "{builder}");
 }

@@ -1,6 +1,6 @@
 //! The sink with a worker thread.
 use cadence::prelude::*;
-use cadence::{MetricSink, NopMetricSink, QueuingMetricSink, SinkStats, SpyMetricSink, StatsdClient};
+use cadence::{BufferedSpyMetricSink, MetricSink, NopMetricSink, QueuingMetricSink, SinkStats, SpyMetricSink, StatsdClient};
 use std::io;
 use std::panic::{catch_unwind, AssertUnwindSafe};
 use std::sync::atomic::{AtomicU64, Ordering};
@@ -8,6 +8,8 @@ use std::sync::mpsc::{channel, Receiver, Sender};
 use std::sync::{Arc, Mutex};
 use std::thread;
 use std::time::{Duration, Instant};
+
+const LONG: Duration = Duration::from_secs(60);
 
 fn until(what: impl Fn() -> bool) {
     let start = Instant::now();
@@ -188,4 +190,45 @@ fn a_queue_of_capacity_0_takes_a_line_while_its_worker_waits() {
     let sink = QueuingMetricSink::with_capacity(NopMetricSink, 0);
     until(|| sink.emit("a").is_ok());
     until(|| sink.drained() == 1);
+}
+
+#[test]
+fn a_stop_waits_until_the_wrapped_sink_has_each_line_and_has_flushed() {
+    for client_closes in [true, false] {
+        let (receiver, packed) = BufferedSpyMetricSink::with_capacity(None, Some(64));
+        let sink = QueuingMetricSink::from(packed);
+        let client = StatsdClient::from_sink("p", sink.clone());
+        (0..2_000).for_each(|n| drop(client.count("k", n).unwrap()));
+        let answer = if client_closes { client.close(LONG).is_ok() } else { sink.stop_and_wait(LONG).is_ok() };
+        assert!(answer);
+        let packets: Vec<_> = receiver.try_iter().flatten().collect();
+        let wanted: String = (0..2_000).map(|n| format!("p.k:{n}|c\n")).collect();
+        assert_eq!(wanted, String::from_utf8(packets).unwrap());
+        assert_eq!("channel disconnected", sink.emit("late").unwrap_err().to_string());
+        assert!(client.incr("late").is_err());
+        assert_eq!((2_000, 2_000), (sink.submitted(), sink.drained()));
+        assert!(sink.stop_and_wait(LONG).is_ok());
+    }
+}
+
+#[test]
+fn a_stop_waits_for_a_line_that_the_wrapped_sink_has_and_only_so_long() {
+    let (leave, gate) = gate();
+    let sink = QueuingMetricSink::from(gate);
+    sink.emit("a").unwrap();
+    until(|| sink.drained() == 1);
+    let error = sink.stop_and_wait(Duration::from_millis(20)).unwrap_err();
+    assert_eq!(io::ErrorKind::TimedOut, error.kind());
+    leave.send(()).unwrap();
+    assert!(sink.stop_and_wait(LONG).is_ok());
+}
+
+#[test]
+fn a_stop_over_a_sink_that_panics_or_fails_ends() {
+    let sink = QueuingMetricSink::from(Panicking { every: 1, calls: AtomicU64::new(0) });
+    assert!(sink.emit("a").is_ok() && sink.emit("b").is_ok());
+    assert!(sink.stop_and_wait(LONG).is_ok());
+    assert_eq!(2, sink.panics());
+    let error = StatsdClient::from_sink("p", QueuingMetricSink::from(Failing)).close(LONG).unwrap_err();
+    assert_eq!("flush", error.to_string());
 }

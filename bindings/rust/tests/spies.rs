@@ -1,6 +1,8 @@
 //! The spies and their receiver.
 use cadence::{BufferedSpyMetricSink, MetricSink, SpyMetricSink};
+use std::sync::atomic::{AtomicU64, Ordering};
 use std::sync::mpsc::{RecvTimeoutError, TryRecvError};
+use std::sync::Arc;
 use std::thread;
 use std::time::{Duration, Instant};
 
@@ -142,4 +144,26 @@ fn a_capacity_past_the_memory_is_refused() {
     let error = cadence::BufferedUdpMetricSink::with_capacity("127.0.0.1:9", socket(), usize::MAX).unwrap_err();
     assert_eq!("out of memory", error.to_string());
     assert!(std::panic::catch_unwind(|| BufferedSpyMetricSink::with_capacity(None, Some(usize::MAX))).is_err());
+}
+
+#[test]
+fn a_clone_that_polls_never_waits_for_a_clone_that_waits() {
+    let (receiver, sink) = SpyMetricSink::new();
+    let (waiting, polling, tries) = (receiver.clone(), receiver, Arc::new(AtomicU64::new(0)));
+    let counted = Arc::clone(&tries);
+    thread::spawn(move || waiting.iter().for_each(drop));
+    thread::spawn(move || {
+        while polling.try_recv() != Err(TryRecvError::Disconnected) {
+            counted.fetch_add(1, Ordering::SeqCst);
+        }
+    });
+    for _ in 0..40 {
+        (0..50).for_each(|_| assert!(sink.emit("x").is_ok()));
+        thread::sleep(Duration::from_millis(5));
+        let (before, start) = (tries.load(Ordering::SeqCst), Instant::now());
+        while tries.load(Ordering::SeqCst) == before {
+            assert!(start.elapsed() < Duration::from_secs(10), "try_recv waits");
+            thread::yield_now();
+        }
+    }
 }

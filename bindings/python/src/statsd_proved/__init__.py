@@ -11,7 +11,8 @@ from .environment import VariableError
 from .errors import Status, StatusError
 from .metrics import Number, Tags
 from .pipeline import Pipeline
+from .spy import SpyStatsClient
 from .timer import Timer
 
-__all__ = ["Counts", "Number", "Pipeline", "StatsClient", "Status", "StatusError", "Tags", "Timer",
+__all__ = ["Counts", "Number", "Pipeline", "SpyStatsClient", "StatsClient", "Status", "StatusError", "Tags", "Timer",
            "VariableError", "__version__"]

@@ -1,14 +1,16 @@
 """The client."""
 from __future__ import annotations
 
+import contextlib
 import errno
 import logging
 import os
 import socket
+import sys
 import threading
 import weakref
 from collections.abc import Callable, Mapping
-from typing import Any, Self, TypedDict
+from typing import Any, NoReturn, Self, TypedDict
 
 from . import environment, process
 from ._core import Packer
@@ -37,20 +39,28 @@ class Counts(TypedDict):
 def _open(host: str, port: int, ipv6: bool) -> tuple[socket.socket, Any]:
     """Returns a socket and the address that it sends to."""
     if host.startswith(UNIX):
-        return socket.socket(socket.AF_UNIX, socket.SOCK_DGRAM), host[len(UNIX):]
+        path = os.fsencode(host[len(UNIX):])
+        return socket.socket(socket.AF_UNIX, socket.SOCK_DGRAM), path
+    if not 0 < int(port) < 65536:
+        raise ValueError(f"port is {port}: it has to be from 1 to 65535")
     family = socket.AF_INET6 if ipv6 else socket.AF_INET
     found = socket.getaddrinfo(host, port, family, socket.SOCK_DGRAM)
     return socket.socket(family, socket.SOCK_DGRAM), found[0][4]
 
 
-def _listed(tags: Tags | None) -> list[Any]:
-    """Returns the tags of a dict or a list as a list."""
-    return list(tags.items() if isinstance(tags, Mapping) else tags or ())
+def _period(flush_every: float | None) -> float | None:
+    """Returns a period for which a thread can wait."""
+    if flush_every is None:
+        return None
+    if not isinstance(flush_every, (int, float)) or not flush_every >= 0:
+        raise ValueError(f"flush_every is {flush_every!r}: it has to be None or seconds from 0 on")
+    return min(flush_every, threading.TIMEOUT_MAX)
 
 
-def _flush_often(client: weakref.ref[StatsClient], seconds: float, ended: threading.Event) -> None:
-    """Flushes the client after each period, until it is closed or no longer referenced."""
-    while not ended.wait(seconds):
+def _flush_often(client: weakref.ref[StatsClient], seconds: float, ended: threading.Lock) -> None:
+    """Flushes the client after each period, until it is closed or no longer referenced. It waits for a plain lock, because
+    it may be stopped while it waits, if the process ends, and must not hold a lock then that others wait for."""
+    while not ended.acquire(timeout=seconds):
         it = client()
         if it is None:
             return
@@ -65,15 +75,16 @@ class StatsClient(Metrics):
     a packet in bytes; a longer line is a packet of its own. The client sends the held text when a packet is full, every
     `flush_every` seconds, at `flush`, at `close`, at the end of a `with`, when the client is no longer referenced, and
     when the process ends. A thread flushes every `flush_every` seconds; with 0 each call flushes, and with None neither
-    does. Threads may share a client. In the child of a fork the client starts empty, because the parent still has the
-    held text.
+    does. In a process that multiprocessing started each call flushes in place of the thread, because a pool ends such
+    processes by a signal. Threads may share a client. In the child of a fork the client starts empty, because the parent
+    still has the held text.
 
     No call raises, because a metric must not stop a service. A bad value is counted. A packet that the socket refuses
     is counted, and waits until it is offered again with the next packet. If `packets` packets already wait behind it,
     the oldest of them is dropped and counted. A packet that is too long for the socket is dropped and counted.
     `on_error` receives each of these errors: a TypeError, ValueError, OverflowError, MemoryError or StatusError of a
-    call, or an OSError of a packet. If `raises` is set, the call raises the error too. If that is an OSError, the line
-    of the call is kept, so the caller must not make the call again.
+    call, or an OSError of a packet. If `raises` is set, the call raises the error too. If that is an OSError, the line of
+    the call is kept, so the caller must not make the call again. Without both, the first error is logged by `logging`.
 
     If `strict` is set, a call with a colon, a comma, a bar or a newline in its name, in a tag, in the container or in the
     text of a set is refused with a StatusError of the status SEPARATOR, and no line of it is kept. So no text can make,
@@ -85,17 +96,18 @@ class StatsClient(Metrics):
                  ipv6: bool = False, *, tags: Tags | None = None, container: str | None = None, packets: int = 64,
                  flush_every: float | None = 1.0, on_error: Callable[[Exception], object] | None = None,
                  raises: bool = False, strict: bool = False) -> None:
-        self._settings = (prefix.rstrip(".") + "." if prefix else "", maxudpsize, packets, strict)
-        self._tags = _listed(tags)
-        self._container = container
-        self._packer = self._new_packer()
-        self._socket, self._address = _open(host, port, ipv6)
-        self._socket.setblocking(False)
-        self._flush_every = flush_every
+        tags = list(tags.items()) if isinstance(tags, Mapping) else tags
+        self._settings = (prefix.rstrip(".") + "." if prefix else "", maxudpsize, packets, strict, tags, container)
+        self._packer = Packer(*self._settings)
+        self._flush_every = _period(flush_every)
         self._at_once = flush_every == 0
         self._on_error = on_error
         self._raises = raises
+        self._logs_next = on_error is None and not raises
         self._pipelines: weakref.WeakSet[Pipeline] = weakref.WeakSet()
+        self._socket, self._address = _open(host, port, ipv6)
+        self._socket.setblocking(False)
+        self._ended = False
         self._begin()
         process.watch(self)
 
@@ -118,22 +130,26 @@ class StatsClient(Metrics):
         if not {"host", "port"} & arguments.keys():
             host, port = environment.address(os.environb)
             arguments = {"ipv6": ":" in host, **arguments, "host": host, "port": port}
-        tags = [*environment.tags(os.environb), *_listed(arguments.pop("tags", None))]
+        own = arguments.pop("tags", None) or ()
+        tags = [*environment.tags(os.environb), *(own.items() if isinstance(own, Mapping) else own)]
         return cls(prefix=prefix, tags=tags, **arguments)
 
-    def __enter__(self) -> StatsClient:
+    def __reduce__(self) -> NoReturn:
+        raise TypeError("a StatsClient can't be copied or pickled: make another one")
+
+    def __enter__(self) -> Self:
         return self
 
     def __exit__(self, *_: object) -> None:
         self.close()
 
     def __del__(self) -> None:
-        if hasattr(self, "_ended"):
+        if hasattr(self, "_alarm"):
             self._tell(self._close(), may_raise=False)
 
     def pipeline(self) -> Pipeline:
         """Returns a pipeline, whose metrics are sent together."""
-        made = Pipeline(self, self._new_packer())
+        made = Pipeline(self, Packer(*self._settings))
         self._pipelines.add(made)
         return made
 
@@ -155,18 +171,35 @@ class StatsClient(Metrics):
 
     def _begin(self) -> None:
         """Starts with no text held, with all counts 0, and without a thread."""
-        self._sending = threading.RLock()
+        self._lock = threading.RLock()
+        self._is_sending = False
         self._refused: bytes | None = None
         self._sent = self._lost = self._refusals = self._bad_calls = 0
-        self._starts = True
-        self._ended = threading.Event()
+        self._starts = not self._ended
+        self._alarm = threading.Lock()
+        self._alarm.acquire()
+
+    @property
+    def _sending(self) -> contextlib.AbstractContextManager[Any]:
+        """The lock of all that the client sends and counts. At the end of the interpreter no other thread runs any more, and
+        one that was stopped may have the lock for ever."""
+        if sys.is_finalizing():
+            return contextlib.nullcontext()
+        return self._lock
+
+    def _stop(self) -> None:
+        """Ends the thread that flushes, and lets none start."""
+        with self._sending:
+            self._starts = False
+            if not self._ended:
+                self._ended = True
+                self._alarm.release()
 
     def _close(self) -> list[Exception]:
         faults: list[Exception] = []
-        self._ended.set()
         with self._sending:
-            self._starts = False
-            waiting = [] if self._refused is None else [self._refused]
+            self._stop()
+            waiting = [] if self._refused is None or self._is_sending else [self._refused]
             self._refused = None
             try:
                 waiting += self._packer.close()
@@ -181,41 +214,37 @@ class StatsClient(Metrics):
 
     def _end(self) -> None:
         """Sends the held text, and lets each later call flush, because the process ends."""
-        if not self._ended.is_set():
-            self._ended.set()
-            self._starts = False
+        if not self._ended:
+            self._stop()
             self._at_once = True
             self._tell(self._flush(), may_raise=False)
 
     def _renew(self) -> None:
-        """Drops, in the child of a fork, the text and the packets that the parent has too."""
-        if not self._ended.is_set():
-            self._begin()
+        """Drops, in the child of a fork, the text and the packets that the parent has too. It makes new locks, because a
+        thread that the child doesn't have may hold the old ones."""
+        self._begin()
         self._packer.renew()
         for pipeline in list(self._pipelines):
             pipeline._renew()
 
-    def _new_packer(self) -> Packer:
-        packer = Packer(*self._settings)
-        for tag in self._tags:
-            packer.add_tag(tag)
-        if self._container is not None:
-            packer.set_container(self._container)
-        return packer
-
     def _start(self) -> None:
-        """Is called after the first line of a process. It starts the thread that flushes, if there is to be one."""
+        """Is called after the first line of a process. It starts the thread that flushes, if there is to be one. If the
+        thread can't be started, the next line tries again."""
         with self._sending:
             if not self._starts:
                 return
             self._starts = False
-        process.watch_worker()
+        is_worker = process.watch_worker()
         if not self._flush_every:
             return
-        words = (weakref.ref(self), self._flush_every, self._ended)
+        if is_worker:
+            self._at_once = True
+            return
+        words = (weakref.ref(self), self._flush_every, self._alarm)
         try:
             threading.Thread(target=_flush_often, args=words, name="statsd_proved", daemon=True).start()
         except RuntimeError as fault:
+            self._starts = True
             self._tell([fault])
 
     def _kept(self, made_packet: bool) -> None:
@@ -228,25 +257,34 @@ class StatsClient(Metrics):
                 faults = self._send_all()
             self._tell(faults)
 
-    def _bad(self, fault: Exception) -> None:
+    def _bad(self, fault: Exception) -> bool:
         with self._sending:
             self._bad_calls += 1
-        self._tell([fault])
+        self._report(fault)
+        return self._raises
 
     def _tick(self) -> None:
-        if not self._ended.is_set():
+        if not self._ended:
             self._tell(self._flush(), may_raise=False)
 
+    def _report(self, fault: Exception) -> None:
+        if self._on_error is not None:
+            try:
+                self._on_error(fault)
+            except Exception:
+                _log.exception("on_error raises")
+        elif self._logs_next:
+            self._logs_next = False
+            _log.warning("the first error of a client, whose later ones are only counted: %r", fault)
+
     def _tell(self, faults: list[Exception], may_raise: bool = True) -> None:
-        on_error = self._on_error
-        if on_error is not None:
-            for fault in faults:
-                try:
-                    on_error(fault)
-                except Exception:
-                    _log.exception("on_error raises")
+        for fault in faults:
+            self._report(fault)
         if self._raises and may_raise and faults:
-            raise faults[0]
+            try:
+                raise faults[0]
+            finally:
+                del fault, faults[:]  # the error leads to this frame, so this frame must not lead to the error
 
     def _flush(self) -> list[Exception]:
         with self._sending:
@@ -255,7 +293,9 @@ class StatsClient(Metrics):
                 self._packer.flush()
             except Exception as fault:
                 faults.append(fault)
-            return faults + (self._send_all() if self._refused is None else [])
+            if self._refused is None:
+                faults += self._send_all()
+            return faults
 
     def _send_packets(self, packets: list[bytes]) -> None:
         """Sends the packets of a pipeline, after the held text."""
@@ -274,24 +314,30 @@ class StatsClient(Metrics):
 
     def _send_all(self) -> list[Exception]:
         """Sends the packets that wait, until the socket refuses one. The refused packet then waits, unless it is too
-        long for the socket: then it is dropped, and the next packets are sent."""
+        long for the socket: then it is dropped, and the next packets are sent. In a signal handler that has interrupted
+        this call it does nothing, because the interrupted call sends the rest."""
         faults: list[Exception] = []
-        while True:
-            try:
-                packet = self._packer.take() if self._refused is None else self._refused
-            except MemoryError as no_room:
-                return [*faults, no_room]
-            self._refused = None
-            if packet is None:
-                return faults
-            fault = self._send(packet)
-            if fault is None:
-                continue
-            faults.append(fault)
-            if fault.errno != errno.EMSGSIZE:
-                self._refused = packet
-                return faults
-            self._lost += 1
+        if self._is_sending:
+            return faults
+        self._is_sending = True
+        try:
+            while True:
+                if self._refused is None:
+                    self._refused = self._packer.take()
+                if self._refused is None:
+                    break
+                fault = self._send(self._refused)
+                if fault is not None:
+                    faults.append(fault)
+                    if fault.errno != errno.EMSGSIZE:
+                        break
+                    self._lost += 1
+                self._refused = None
+        except MemoryError as no_room:
+            faults.append(no_room)
+        finally:
+            self._is_sending = False
+        return faults
 
     def _send(self, packet: bytes) -> OSError | None:
         try:

@@ -18,8 +18,11 @@ class VariableError(ValueError):
     """A variable of the environment can't be used. `variable` is its name, and the text says what it has to be."""
 
     def __init__(self, variable: str, wants: str) -> None:
-        super().__init__(f"{variable} has to be {wants}")
+        super().__init__(variable, wants)
         self.variable = variable
+
+    def __str__(self) -> str:
+        return "{} has to be {}".format(*self.args)
 
 
 def address(variables: Variables) -> tuple[str, int]:

@@ -20,5 +20,8 @@ class StatusError(ValueError):
     """The library refused a call and returned `status`. The client is as it was before the call."""
 
     def __init__(self, status: int, text: str) -> None:
-        super().__init__(text)
+        super().__init__(status, text)
         self.status = Status(status)
+
+    def __str__(self) -> str:
+        return str(self.args[1])

@@ -5,14 +5,27 @@ import abc
 import datetime
 import decimal
 import random
-from collections.abc import Iterable, Mapping, Sequence
-from typing import Any, Union
+from collections.abc import Iterator, Mapping
+from typing import Any, Protocol, TypeVar, Union
 
 from ._core import Packer
 from .timer import Timer
 
+Element = TypeVar("Element", covariant=True)
+
+
+class Several(Protocol[Element]):
+    """A list, a tuple or another sequence, but neither a str nor bytes, whose `in` takes no other objects."""
+
+    def __contains__(self, element: object, /) -> bool: ...
+    def __iter__(self) -> Iterator[Element]: ...
+    def __getitem__(self, index: int, /) -> Element: ...
+
+
 Number = Union[int, float, decimal.Decimal]
-Tags = Union[Mapping[str, Union[str, Number]], Iterable[Union[str, Number, tuple[str, Union[str, Number]]]]]
+Numbers = Union[tuple[Number, ...], Several[Number]]
+Tag = Union[str, Number, tuple[str, Union[str, Number]]]
+Tags = Union[Mapping[str, Union[str, Number]], tuple[Tag, ...], Several[Tag]]
 """Tags: a dict, or a list whose elements are texts ("page:home", "beta") or pairs of a key and a text."""
 
 COUNTER, TIMER, GAUGE, METER, HISTOGRAM, SET, DISTRIBUTION = range(7)
@@ -24,7 +37,8 @@ class Metrics(abc.ABC):
 
     Each call takes a `rate`. If the rate is below 1, only this share of the calls is kept, chosen at random, and the
     line has the rate, by which the server scales. Each call also takes `tags`, a `container` and a `timestamp` (whole
-    seconds since 1970), which servers with the Datadog fields read. A value is an int, a float or a Decimal.
+    seconds since 1970), which servers with the Datadog fields read. A value is an int, a float or a Decimal. An empty list
+    of values is refused, because no server reads a metric without a value.
     """
 
     _packer: Packer
@@ -40,7 +54,9 @@ class Metrics(abc.ABC):
         try:
             count = -count
         except Exception as fault:
-            return self._bad(fault)
+            if self._bad(fault):
+                raise
+            return
         self._keep(COUNTER, PLAIN, stat, count, rate, tags, container, timestamp)
 
     def gauge(self, stat: str, value: Number, rate: float = 1, delta: bool = False, *, tags: Tags | None = None,
@@ -55,7 +71,7 @@ class Metrics(abc.ABC):
         client is strict."""
         self._keep(SET, PLAIN, stat, value, rate, tags, container, timestamp)
 
-    def timing(self, stat: str, delta: Number | datetime.timedelta | Sequence[Number], rate: float = 1, *,
+    def timing(self, stat: str, delta: Number | datetime.timedelta | Numbers, rate: float = 1, *,
                tags: Tags | None = None, container: str | None = None, timestamp: int | None = None) -> None:
         """Sends a time: a number of milliseconds, or a timedelta. A float is rounded to six places, if the result fits.
         A list makes one line."""
@@ -63,12 +79,12 @@ class Metrics(abc.ABC):
             delta = delta.total_seconds() * 1000
         self._keep(TIMER, PLAIN, stat, delta, rate, tags, container, timestamp)
 
-    def histogram(self, stat: str, value: Number | Sequence[Number], rate: float = 1, *, tags: Tags | None = None,
+    def histogram(self, stat: str, value: Number | Numbers, rate: float = 1, *, tags: Tags | None = None,
                   container: str | None = None, timestamp: int | None = None) -> None:
         """Sends a value for a histogram. A list makes one line."""
         self._keep(HISTOGRAM, PLAIN, stat, value, rate, tags, container, timestamp)
 
-    def distribution(self, stat: str, value: Number | Sequence[Number], rate: float = 1, *, tags: Tags | None = None,
+    def distribution(self, stat: str, value: Number | Numbers, rate: float = 1, *, tags: Tags | None = None,
                      container: str | None = None, timestamp: int | None = None) -> None:
         """Sends a value for a distribution. A list makes one line."""
         self._keep(DISTRIBUTION, PLAIN, stat, value, rate, tags, container, timestamp)
@@ -83,7 +99,9 @@ class Metrics(abc.ABC):
         try:
             made_packet = self._packer.line(line)
         except Exception as fault:
-            return self._bad(fault)
+            if self._bad(fault):
+                raise
+            return
         self._kept(made_packet)
 
     def timer(self, stat: str, rate: float = 1, **fields: Any) -> Timer:
@@ -101,7 +119,9 @@ class Metrics(abc.ABC):
                 rate = 1
             made_packet = self._packer.keep(kind, form, stat, value, rate, tags, container, timestamp)
         except Exception as fault:
-            return self._bad(fault)
+            if self._bad(fault):
+                raise
+            return
         self._kept(made_packet)
 
     @abc.abstractmethod
@@ -109,5 +129,5 @@ class Metrics(abc.ABC):
         """Is called after each line that was kept."""
 
     @abc.abstractmethod
-    def _bad(self, fault: Exception) -> None:
-        """Is called after each call that keeps no line."""
+    def _bad(self, fault: Exception) -> bool:
+        """Is called for each call that keeps no line. Returns whether the call has to raise the error."""

@@ -55,5 +55,5 @@ class Pipeline(Metrics):
         self._packets = []
         self._packer.renew()
 
-    def _bad(self, fault: Exception) -> None:
-        self._client._bad(fault)
+    def _bad(self, fault: Exception) -> bool:
+        return self._client._bad(fault)

@@ -2,38 +2,56 @@
 from __future__ import annotations
 
 import atexit
+import logging
 import os
 import sys
 import weakref
+from collections.abc import Callable
 from typing import TYPE_CHECKING
 
 if TYPE_CHECKING:
     from .client import StatsClient
 
-_clients: weakref.WeakSet[StatsClient] = weakref.WeakSet()
+_log = logging.getLogger("statsd_proved")
+_clients: weakref.WeakValueDictionary[int, StatsClient] = weakref.WeakValueDictionary()
+_watched = 0  # the process whose end multiprocessing tells
 
 
 def watch(client: StatsClient) -> None:
     """Makes the client send its held text when the process ends, and start empty in the child of a fork."""
-    _clients.add(client)
+    _clients[id(client)] = client
 
 
-def watch_worker() -> None:
+def watch_worker() -> bool:
     """Makes all clients send their held text when a process of multiprocessing ends, because such a process doesn't
-    call the handlers of atexit."""
+    call the handlers of atexit. Returns whether multiprocessing has started this process."""
+    global _watched
     util = sys.modules.get("multiprocessing.util")
-    if util is not None:
+    if util is None:
+        return False
+    if _watched != os.getpid():
+        _watched = os.getpid()
         util.Finalize(None, _end_all, exitpriority=0)
+    return sys.modules["multiprocessing.process"].parent_process() is not None
+
+
+def _each(call: Callable[[StatsClient], None]) -> None:
+    """Makes a call of each client, also if the call of another one fails, or if other threads make clients."""
+    for reference in _clients.valuerefs():
+        client = reference()
+        try:
+            if client is not None:
+                call(client)
+        except Exception:
+            _log.exception("a client can't end, or can't start in the child of a fork")
 
 
 def _end_all() -> None:
-    for client in list(_clients):
-        client._end()
+    _each(lambda client: client._end())
 
 
 def _renew_all() -> None:
-    for client in list(_clients):
-        client._renew()
+    _each(lambda client: client._renew())
 
 
 atexit.register(_end_all)

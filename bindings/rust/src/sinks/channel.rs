@@ -37,9 +37,14 @@ impl<T> Sender<T> {
         match refused {
             Ok(()) => Ok(()),
             Err(TrySendError::Full(_)) => Err(io::Error::other("channel full")),
-            Err(TrySendError::Disconnected(_)) => Err(io::Error::other("channel disconnected")),
+            Err(TrySendError::Disconnected(_)) => Err(disconnected()),
         }
     }
+}
+
+/// Returns the error of a channel that takes no more messages.
+pub(crate) fn disconnected() -> io::Error {
+    io::Error::other("channel disconnected")
 }
 
 /// How often a worker looks for a message before it sleeps, and how many of these looks it makes without letting other
@@ -165,11 +170,10 @@ impl<T> SpyReceiver<T> {
         self.receive(None).map_err(|_| RecvError)
     }
 
-    /// Returns the oldest message without waiting. It fails with `Empty` if there is no message, and with
-    /// `Disconnected` if the sink was dropped too.
+    /// Returns the oldest message without waiting. It fails with `Empty` if there is no message or if another clone is
+    /// receiving one, and with `Disconnected` if there is no message and the sink was dropped.
     pub fn try_recv(&self) -> Result<T, TryRecvError> {
-        let deadline = if self.is_empty() { Some(Instant::now()) } else { None };
-        let Some(turn) = self.shared.turn(deadline) else { return Err(TryRecvError::Empty) };
+        let Some(turn) = self.shared.turn(Some(Instant::now())) else { return Err(TryRecvError::Empty) };
         self.shared.counted(turn.end.as_ref().map_or(Err(TryRecvError::Empty), mpsc::Receiver::try_recv))
     }
 

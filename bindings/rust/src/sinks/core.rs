@@ -2,6 +2,7 @@
 use std::io;
 use std::sync::atomic::{AtomicU64, Ordering};
 use std::sync::Arc;
+use std::time::Duration;
 
 /// How many bytes and packets a sink has sent, and how many its socket refused.
 #[derive(Clone, Debug, Default)]
@@ -124,6 +125,12 @@ pub trait MetricSink {
     /// Sends the lines that the sink has buffered. A sink without a buffer does nothing.
     fn flush(&self) -> io::Result<()> {
         Ok(())
+    }
+
+    /// Takes no more lines, passes on those that it has queued, and flushes. It waits for that at most for this time, and
+    /// fails with `TimedOut` after it. A sink without a queue flushes. The crate `cadence` doesn't have this call.
+    fn stop_and_wait(&self, _timeout: Duration) -> io::Result<()> {
+        self.flush()
     }
 
     /// Returns how much was sent and refused. A sink that doesn't count returns zeros.

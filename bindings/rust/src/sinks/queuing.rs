@@ -1,12 +1,14 @@
 //! A sink that passes lines to another one in a thread of its own.
-use super::channel::{channel, wait, Sender};
+use super::channel::{channel, disconnected, wait, Sender};
 use super::core::{MetricSink, SinkStats};
 use crate::sync::run_to_end;
 use std::fmt;
 use std::io;
 use std::panic::RefUnwindSafe;
-use std::sync::atomic::{AtomicU64, Ordering};
+use std::sync::atomic::{AtomicBool, AtomicU64, Ordering};
 use std::sync::Arc;
+use std::thread;
+use std::time::{Duration, Instant};
 
 /// Receives the errors of the wrapped sink.
 type Handler = Box<dyn Fn(io::Error) + Sync + Send + RefUnwindSafe>;
@@ -47,12 +49,12 @@ impl QueuingMetricSinkBuilder {
         let (sender, receiver) = channel::<String>(self.capacity);
         let counts = Arc::new(Counts::default());
         let (counted, wrapped, errors) = (Arc::clone(&counts), Arc::clone(&sink), self.errors);
-        let panics = run_to_end(move || {
-            while let Ok(line) = wait(&receiver) {
-                counted.drained.fetch_add(1, Ordering::Relaxed);
-                if let (Err(error), Some(handler)) = (wrapped.emit(&line), &errors) {
-                    handler(error);
-                }
+        let panics = run_to_end(move || loop {
+            counted.passed.store(counted.drained.load(Ordering::Relaxed), Ordering::Release);
+            let Ok(line) = wait(&receiver) else { return };
+            counted.drained.fetch_add(1, Ordering::Relaxed);
+            if let (Err(error), Some(handler)) = (wrapped.emit(&line), &errors) {
+                handler(error);
             }
         });
         let panics = panics.expect("a queuing sink needs a thread");
@@ -80,14 +82,18 @@ impl QueuingMetricSinkBuilder {
 struct Counts {
     submitted: AtomicU64,
     drained: AtomicU64,
+    /// How many lines the wrapped sink has taken or refused. The last of the drained lines is not one while the sink has it.
+    passed: AtomicU64,
+    stopped: AtomicBool,
 }
 
 /// Puts lines into a queue. A worker thread passes them to another sink, so that a caller doesn't wait for a socket.
 ///
 /// `emit` fails if the queue is full, and the line is not queued then. A queue without a limit is never full. `flush`
 /// flushes the wrapped sink, and doesn't wait for the queue. Clones share the queue. After the drop of the last clone
-/// the worker passes on the queued lines, drops the wrapped sink, and ends. The drop doesn't wait for that. If the
-/// wrapped sink panics, the line is lost, and the worker goes on.
+/// the worker passes on the queued lines, drops the wrapped sink, and ends. The drop doesn't wait for that, so a process
+/// that ends calls [`stop_and_wait`](MetricSink::stop_and_wait), or [`close`](crate::StatsdClient::close) of its client. If
+/// the wrapped sink panics, the line is lost, and the worker goes on.
 ///
 /// ```
 /// use cadence::{MetricSink, QueuingMetricSink, SpyMetricSink};
@@ -165,6 +171,9 @@ impl QueuingMetricSink {
 
 impl MetricSink for QueuingMetricSink {
     fn emit(&self, metric: &str) -> io::Result<usize> {
+        if self.counts.stopped.load(Ordering::Relaxed) {
+            return Err(disconnected());
+        }
         self.queue.try_send(metric.to_string())?;
         self.counts.submitted.fetch_add(1, Ordering::Relaxed);
         Ok(metric.len())
@@ -172,6 +181,20 @@ impl MetricSink for QueuingMetricSink {
 
     fn flush(&self) -> io::Result<()> {
         self.sink.flush()
+    }
+
+    /// Makes each later `emit` fail, waits until the worker has passed on the lines of the calls that have returned, and
+    /// stops the wrapped sink.
+    fn stop_and_wait(&self, timeout: Duration) -> io::Result<()> {
+        let start = Instant::now();
+        self.counts.stopped.store(true, Ordering::Relaxed);
+        while self.counts.passed.load(Ordering::Acquire) < self.submitted() {
+            if start.elapsed() >= timeout {
+                return Err(io::Error::new(io::ErrorKind::TimedOut, "lines are left in the queue"));
+            }
+            thread::sleep(Duration::from_millis(1));
+        }
+        self.sink.stop_and_wait(timeout.saturating_sub(start.elapsed()))
     }
 
     fn stats(&self) -> SinkStats {
