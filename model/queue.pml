@@ -35,7 +35,7 @@
 #define PERIOD 0        /* 1: the worker flushes the wrapped sink by time; how much time has passed is left open */
 #endif
 #ifndef FAILURES
-#define FAILURES 0      /* how many flushes may fail, in all */
+#define FAILURES 0      /* how many flushes may fail, in all; -1: each may */
 #endif
 #ifndef NO_MEMORY
 #define NO_MEMORY 0     /* 1: memory may be refused for any text */
@@ -45,6 +45,9 @@
 #endif
 #ifndef KIT
 #define KIT 0           /* 1: the kit's Mutex step by step; 0: a plain lock */
+#endif
+#ifndef REPEATER
+#define REPEATER 0      /* 1: no queue, but a `Repeater`: a thread that works again and again, and its owner */
 #endif
 #ifndef FAULT
 #define FAULT 0         /* the number of the fault in .ci/model that is put in; 0 is none */
@@ -80,9 +83,21 @@ byte handles = CALLERS;
 chan lent = [ROOM] of { byte };
 bool ended;
 
+/* Whether the worker still has its share of the wrapped sink and of the error handler. */
+bool has_share = true;
+
 /* If PERIOD is 1: whether a text was handed on since the last flush that succeeded; and how many flushes may still fail. */
 bool owes;
+#if FAILURES < 0
+#define MAY_FAIL true
+#define COUNT_FAILURE skip
+#define HAS_FAILED true
+#else
 byte failures = FAILURES;
+#define MAY_FAIL (failures > 0)
+#define COUNT_FAILURE failures--
+#define HAS_FAILED (failures < FAILURES)
+#endif
 
 /* What only the checks read: the accepted texts that were neither handed on nor dropped, in the order in which they were
    accepted; how many offers answered that they were accepted; how many texts were handed on; and how many calls have
@@ -251,7 +266,7 @@ inline FALL_ASLEEP(condvar, lock) {
 
 inline WAIT(condvar, lock) {
   FALL_ASLEEP(condvar, lock);
-#if STOPPERS == 0 && !LAST_HANDLE
+#if STOPPERS == 0 && !LAST_HANDLE && !REPEATER
   /* if nobody stops the queue, the worker may sleep for ever */
 end_asleep:
 #endif
@@ -265,7 +280,7 @@ end_asleep:
   LOCK(lock)
 }
 
-#if PERIOD
+#if PERIOD || REPEATER
 /* A wait with a time: the time may be over at any moment. */
 inline WAIT_WITHIN(condvar, lock) {
   FALL_ASLEEP(condvar, lock);
@@ -327,12 +342,16 @@ inline RELEASE(claim) {
 #define IS_TRUE_ANSWER ((answer == STOPPED) == stopped && (answer != FULL || IS_FULL))
 
 /* `SharedQueue::offer`. A try of the lock that fails changes nothing, so `acquire`, which tries it a few times before
-   it sleeps for it, is LOCK here. */
+   it sleeps for it, is LOCK here. A caller that finds the queue full gives way once (`SharedQueue::enter`). */
 inline OFFER(text) {
 #if FAULT == 5
   was_full = IS_FULL;
 #endif
   LOCK(QUEUE);
+  if
+  :: IS_FULL && !stopped -> RELEASE(true); LOCK(QUEUE)
+  :: else
+  fi;
   idle = IS_IDLE;
   if
   :: stopped -> answer = STOPPED
@@ -406,6 +425,7 @@ proctype Stopper() {
   :: else -> WAIT(MARKED, END)
   od;
   UNLOCK(END);
+  assert(!has_share);
   assert(len(owed) == 0 && len(ring) == 0 && len(lent) == 0)
 }
 
@@ -423,14 +443,17 @@ inline FLUSH() {
   atomic {
     if
     :: owes = false
-    :: failures > 0 -> failures--
+    :: MAY_FAIL -> COUNT_FAILURE
     fi
   }
 }
 #endif
 
-/* `Taker::next` and `SharedQueue::take_some`, for each text until the end, and then `WorkerEnd::mark`. If PERIOD is 1, also
-   `Taker::fetch_within` and `SharedQueue::take_some_within`, while a flush is owed. */
+/* `Taker::next` and `SharedQueue::take_some`, for each text until the end, and then `Part::end`. If PERIOD is 1, also
+   `Taker::fetch_within` and `SharedQueue::take_some_within`, while a flush is owed. A flush may be due before a look at
+   the queue, but after a flush that failed the worker looks before it tries again. A `progress` label stands where the
+   worker has seen, under the lock, that no text waits and the queue isn't stopped. So a run without end that passes none
+   of them is one in which the worker doesn't look, or has something to do. */
 proctype Worker() {
   LOCALS; byte text, looks; bool idle, timed;
   assert(_pid == WORKER);
@@ -486,8 +509,12 @@ sleep:
   do
   :: !IS_IDLE -> break
 #if PERIOD && FAULT != 10
-  :: IS_IDLE && timed -> RELEASE(true); goto flush
-  :: IS_IDLE && timed -> WAIT_WITHIN(CHANGED, QUEUE)
+  :: IS_IDLE && timed ->
+progress_idle:
+     RELEASE(true); goto flush
+  :: IS_IDLE && timed ->
+progress_wait:
+     WAIT_WITHIN(CHANGED, QUEUE)
   :: IS_IDLE && !timed -> WAIT(CHANGED, QUEUE)
 #else
   :: else -> WAIT(CHANGED, QUEUE)
@@ -509,20 +536,89 @@ give:
 flush:
   /* the flush is due, and the worker holds no lock */
   FLUSH();
+#if FAULT == 13
   goto next;
+#elif FAULT == 14
+  timed = false;
+  goto look;
+#else
+  timed = owes;
+  goto look;
+#endif
 #endif
 finish:
 #if PERIOD && FAULT != 12
   if :: owes -> FLUSH() :: else fi;
 #endif
   assert(stopped && len(ring) == 0 && len(owed) == 0);
+#if FAULT != 17
+  has_share = false;
+#endif
   LOCK(END);
   ended = true;
   UNLOCK(END);
 #if FAULT != 8
+  NOTIFY_ALL(MARKED);
+#endif
+  has_share = false
+}
+
+#if REPEATER
+
+/* How often the thread has begun its work since the mark was set, and whether a period is too long for its end to come. */
+byte late;
+bool is_long;
+
+/* `Repeats::run`: `WorkerEnd::wait_within`, and then the work, unless the mark is set. If the clock can't be read, the
+   time is over at once. */
+proctype Repeats() {
+  LOCALS; bool is_over;
+again:
+  LOCK(END);
+  do
+  :: ended -> break
+  :: !ended && !is_long ->
+progress_wait:
+     break
+  :: !ended && !is_long ->
+progress_sleep:
+     WAIT_WITHIN(MARKED, END)
+  :: !ended && is_long -> WAIT(MARKED, END)
+  od;
+  is_over = ended;
+  UNLOCK(END);
+#if FAULT == 16
+  is_over = is_over && is_long;
+#endif
+  if
+  :: is_over
+  :: else -> atomic { late = late + ended; assert(late <= 1) }; goto again
+  fi
+}
+
+/* The drop of a `Repeater`: `WorkerEnd::mark`, and the work once more. */
+proctype Owner() {
+  LOCALS;
+  LOCK(END);
+  ended = true;
+  UNLOCK(END);
+#if FAULT != 15
   NOTIFY_ALL(MARKED)
 #endif
 }
+
+init {
+  atomic {
+    if :: is_long = true :: is_long = false fi;
+    run Repeats();
+    run Owner()
+  };
+  /* wait until each thread has ended */
+  _nr_pr == 1;
+  assert(ended && ARE_FREE)
+}
+
+#else
 
 init {
   byte n;
@@ -542,9 +638,11 @@ init {
   /* wait until each thread has ended */
   _nr_pr == 1;
   assert(stopped && ended);
-  assert(!owes || failures < FAILURES);
+  assert(!owes || HAS_FAILED);
 #endif
   assert(len(ring) == 0 && len(lent) == 0 && len(owed) == 0);
   assert(accepted == submitted && handed == drained && accepted == handed + dropped);
   assert(under_way == 0 && ARE_FREE)
 }
+
+#endif

@@ -111,6 +111,18 @@ class Clients(ClientTest):
             self.assertEqual(receiver.packets(), ["a:1|c|#service:api\n"])
             receiver.socket.close()
 
+    def test_a_packet_to_a_unix_socket_has_8192_bytes(self):
+        with tempfile.TemporaryDirectory() as folder:
+            receiver = Receiver(socket.AF_UNIX, folder + "/statsd.sock")
+            url = f"DD_DOGSTATSD_URL=unix://{folder}/statsd.sock"
+            for words, packets in (({}, [1024]), ({"maxudpsize": 512}, [64, 64])):
+                client = self.made(url, **words)
+                for _ in range(sum(packets)):
+                    client.incr("abc")
+                client.close()
+                self.assertEqual(receiver.packets(), ["abc:1|c\n" * lines for lines in packets])
+            receiver.socket.close()
+
     def test_a_variable_that_cant_be_used_makes_nothing(self):
         for given in ("DD_DOGSTATSD_URL=tcp://agent", "DD_AGENT_HOST=a b", "STATSD_PORT=0", "DD_TAGS=a|b", "DD_ENTITY_ID=\\xff"):
             with self.subTest(given=given), mock.patch.object(StatsClient, "__init__") as made:

@@ -15,6 +15,10 @@ use std::{env, error, fmt};
 /// The host to which a client sends if no variable names one.
 const DEFAULT_HOST: &str = "127.0.0.1";
 
+/// How many bytes a packet to a Unix socket holds, as in the other languages.
+#[cfg(unix)]
+const UNIX_CAPACITY: usize = 8192;
+
 /// What the variable of one tag has to be.
 const TEXT: &str = "a text without a comma, a bar or a newline";
 
@@ -159,8 +163,8 @@ impl Environment {
     }
 
     /// Returns the builder of a client, to which other tags and an error handler can be added. The client sends to the
-    /// target from a socket of its own, which never blocks, and packs lines into packets of at most 512 bytes. The
-    /// prefix is that of [`StatsdClient::from_sink`].
+    /// target from a socket of its own, which never blocks, and packs lines into packets of at most 512 bytes over UDP,
+    /// and 8192 bytes over a Unix socket. The prefix is that of [`StatsdClient::from_sink`].
     ///
     /// It fails with `IoError` if the host can't be looked up, if no socket can be made, or if memory runs out, and with
     /// `InvalidInput` if the host has no address.
@@ -208,7 +212,7 @@ fn udp_sink(host: &str, port: u16) -> MetricResult<BufferedUdpMetricSink> {
 fn unix_builder(prefix: &str, path: &str) -> MetricResult<StatsdClientBuilder> {
     let socket = std::os::unix::net::UnixDatagram::unbound()?;
     socket.set_nonblocking(true)?;
-    Ok(StatsdClient::builder(prefix, BufferedUnixMetricSink::from(path, socket)))
+    Ok(StatsdClient::builder(prefix, BufferedUnixMetricSink::with_capacity(path, socket, UNIX_CAPACITY)))
 }
 
 /// Returns the error of a system without Unix sockets.

@@ -77,7 +77,7 @@ fn an_error_says_what_its_variable_has_to_be() {
 /// Returns the next packet of a server.
 macro_rules! packet {
     ($server:expr) => {{
-        let mut packet = [0; 512];
+        let mut packet = [0; 8192];
         $server.set_read_timeout(Some(Duration::from_secs(60))).unwrap();
         let size = $server.recv(&mut packet).unwrap();
         String::from_utf8(packet[..size].to_vec()).unwrap()
@@ -125,6 +125,10 @@ fn a_client_sends_to_a_unix_socket_and_never_waits_for_it() {
     client.incr("a").unwrap();
     client.flush().unwrap();
     assert_eq!("p.a:1|c\n", packet!(server));
+    // a packet holds 8192 bytes, which are 1024 of these lines
+    (0..1024).for_each(|_| drop(client.incr("a").unwrap()));
+    client.flush().unwrap();
+    assert_eq!("p.a:1|c\n".repeat(1024), packet!(server));
     // nobody receives, so the queue of the socket becomes full, and then a flush fails
     let (told, heard) = mpsc::channel();
     thread::spawn(move || told.send((0..1_000_000).find_map(|_| client.incr("a").and_then(|_| client.flush()).err())));

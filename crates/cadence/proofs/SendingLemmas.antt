@@ -8,7 +8,7 @@ use Rattle.cadence_text.proofs.DraftText.{draft_with_tag, line_of_draft}
 use Rattle.cadence_schedule.specs.Call.{Choice, tagged, contained, timed, rated, MetricCall, chosen, metric_of_call, with_choice}
 use Rattle.cadence_schedule.specs.Settings.{Settings}
 use Rattle.cadence_schedule.proofs.calls.CallOptions.{chosen-metric_of_call}
-use Rattle.cadence.specs.Sending.{SinkResults, Chooses, ChoosesIf, ChoosesOrFails, HasLineOfCall, SendsLine}
+use Rattle.cadence.specs.Sending.{SinkResults, Chooses, ChoosesIf, ChoosesOrFails, HasSentCall, SendsLine}
 use Rattle.cadence.specs.Sending.{SendsPending, StandsFor, StandsForMore, draft_with_choice}
 
 -- The draft of a metric, with an option, is the draft of the metric with this option.
@@ -59,13 +59,12 @@ pub sends_pending : {M : Type 0} (may : SinkResults) (made : List ℕ → M → 
 sends_pending may made pending d answer is sent =
     subst (λ (p : Result Draft MetricError). SendsPending may made p answer) (sym is) sent
 
--- The metric that a builder returns has the line of each call for which its pending draft is right.
-pub has_line : {M : Type 0} (may : SinkResults) (made : List ℕ → M → Type 0) (pending : Result Draft MetricError) (answer : Result M MetricError)
-    → SendsPending may made pending answer → HasLineOfCall made pending answer
-has_line may made (Ok d) (Ok m) h = record {
-  for_each = λ s c e. subst (λ (line : List ℕ). made line m) (ap draft_line e
-      ∙ line_of_draft (metric_of_call s c)) h.0;
+-- If the line of a pending draft was sent, then for each call of which the draft is the right one, the line of this call
+-- was sent.
+pub has_sent_call : {M : Type 0} (may : SinkResults) (made : List ℕ → M → Type 0) (pending : Result Draft MetricError) (answer : Result M MetricError)
+    → SendsPending may made pending answer → HasSentCall may made pending answer
+has_sent_call may made (Ok d) answer h = record {
+  for_each = λ s c e. subst (λ (line : List ℕ). SendsLine may made line answer) (ap draft_line e
+      ∙ line_of_draft (metric_of_call s c)) h;
 }
-has_line may made (Ok d) (Err m) h = record { for_each = λ s c e. tt }
-has_line may made (Err d) (Ok m) h = cc
-has_line may made (Err d) (Err m) h = record { for_each = λ s c e. tt }
+has_sent_call may made (Err d) answer h = record { for_each = λ s c e. tt }

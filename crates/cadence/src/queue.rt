@@ -5,4 +5,4 @@ pub use cadence_audit::{
     Text,
 };
 pub use cadence_flow::queue::{QueueCore, QueueError, QueuePolicy, Taken};
-pub use cadence_shared::SharedQueue;
+pub use cadence_shared::{Accepted, Left, Refusal, SharedQueue, Stopped, Took};

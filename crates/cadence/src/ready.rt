@@ -1,5 +1,5 @@
 //! Clients over UDP, ready made from a runtime, an allocator and a target, and the sinks of these clients.
-ghost use Rattle.std.specs.Prelude.{◌≡◌, IfOk, IfErr, Some};
+ghost use Rattle.std.specs.Prelude.{◌≡◌, ◌≤◌, IfOk, IfErr, Some};
 ghost use Rattle.cadence.specs.Shown.{settings_of_client, sink_of_client};
 ghost use Rattle.cadence_resolve.specs.Refusals.{IsSocketRefusal};
 ghost use Rattle.cadence_schedule.specs.Settings.{settings_of};
@@ -53,6 +53,7 @@ pub fn buffered_udp_client<R: Net + Wait + Clone + Drop, A: Allocator + Clone>(
 ) -> MetricResult<BufferedUdpClient<R, A>>
     ensures settings { IfOk result (λ c. settings_of_client c ≡ settings_of prefix.now) }
     ensures buffer { IfOk result (λ c. udp_buffer (sink_of_client c) ≡ capacity) }
+    ensures fits { IfOk result (λ _. capacity ≤ 65507) }
     ensures refused { IfErr result (λ e. IsSocketRefusal e) }
 {
     let sink = buffered_udp_sink(rt, alloc.clone()?, target, capacity)?;
@@ -76,6 +77,7 @@ pub fn queued_udp_client<
     ensures settings { IfOk result (λ c. settings_of_client c ≡ settings_of prefix.now) }
     ensures buffer { IfOk result (λ c. udp_buffer (wrapped_sink (sink_of_client c)) ≡ capacity) }
     ensures lines { IfOk result (λ c. queue_capacity (sink_of_client c) ≡ lines) }
+    ensures fits { IfOk result (λ _. capacity ≤ 65507) }
     ensures refused { IfErr result (λ e. IsSocketRefusal e) }
 {
     let sink = queued_udp_sink(rt, alloc.clone()?, target, capacity, lines)?;
@@ -100,6 +102,7 @@ pub fn flushing_udp_client<
     ensures buffer { IfOk result (λ c. udp_buffer (wrapped_sink (sink_of_client c)) ≡ capacity) }
     ensures lines { IfOk result (λ c. queue_capacity (sink_of_client c) ≡ lines) }
     ensures period { IfOk result (λ c. flush_period (sink_of_client c) ≡ Some period) }
+    ensures fits { IfOk result (λ _. capacity ≤ 65507) }
     ensures refused { IfErr result (λ e. IsSocketRefusal e) }
 {
     let queue = match lines {

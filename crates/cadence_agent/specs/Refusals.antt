@@ -35,7 +35,7 @@ IsUnixRefusal path (Sink (Io e)) = IsPath path
 IsUnixRefusal path (Sink OutOfMemory) = IsPath path
 IsUnixRefusal path _ = ⊥
 
--- The destination may be an invalid input: each host may be one, because it may have no address, and a path is one just if it has a fault.
+-- The destination may be an invalid input: each host may be one, because it may have no address, and a path is one if and only if it has a fault.
 abbrev pub MayBeInvalid : {A : Type 0} → Destination A → Type 0
 MayBeInvalid (place.Udp host port) = ⊤
 MayBeInvalid (place.Unix path) = (fault : PathError) × IsFault (string_bytes path) fault

@@ -26,8 +26,8 @@ pub enum Destination<A: Allocator = Global> {
     Unix { path: String<A> },
 }
 
-// Reads a port: a number from 1 to 65535, in digits.
-fn read_port(text: &str) -> Option<u16>
+/// Reads a port: a number from 1 to 65535, in digits. So a text with a sign is no port.
+pub fn read_port(text: &str) -> Option<u16>
     ensures { Finds (IsPort text.now) result }
 {
     if text.starts_with('+') {

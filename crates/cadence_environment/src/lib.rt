@@ -17,7 +17,7 @@ mod tags;
 mod trim;
 mod variables;
 
-pub use destination::Destination;
+pub use destination::{Destination, read_port};
 pub use error::EnvironmentError;
 pub use path::{MAX_PATH, PathError, check_path};
 pub use read::Environment;

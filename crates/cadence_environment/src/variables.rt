@@ -42,39 +42,23 @@ impl Variable {
         }
     }
 
-    // Returns what the variable wants.
+    // Returns what the variable wants. A description of an error holds each of these texts whole.
     pub(crate) fn message(self) -> &'static str {
         match self {
-            Variable::Url => {
-                "DD_DOGSTATSD_URL of the environment wants udp://HOST, udp://HOST:PORT or unix:///PATH, as in DD_DOGSTATSD_URL=udp://127.0.0.1:8125"
-            }
-            Variable::AgentHost => {
-                "DD_AGENT_HOST of the environment wants a host, as in DD_AGENT_HOST=127.0.0.1"
-            }
-            Variable::AgentPort => {
-                "DD_DOGSTATSD_PORT of the environment wants a port, as in DD_DOGSTATSD_PORT=8125"
-            }
-            Variable::StatsdHost => {
-                "STATSD_HOST of the environment wants a host, as in STATSD_HOST=127.0.0.1"
-            }
-            Variable::StatsdPort => {
-                "STATSD_PORT of the environment wants a port, as in STATSD_PORT=8125"
-            }
-            Variable::Env => {
-                "DD_ENV of the environment wants a text without commas, bars and newlines, as in DD_ENV=prod"
-            }
-            Variable::Service => {
-                "DD_SERVICE of the environment wants a text without commas, bars and newlines, as in DD_SERVICE=shop"
-            }
-            Variable::Version => {
-                "DD_VERSION of the environment wants a text without commas, bars and newlines, as in DD_VERSION=1.2.3"
-            }
-            Variable::Tags => {
-                "DD_TAGS of the environment wants tags K:V or V without bars and newlines, as in DD_TAGS=team:shop,beta"
-            }
-            Variable::EntityId => {
-                "DD_ENTITY_ID of the environment wants a text without commas, bars and newlines, as in DD_ENTITY_ID=9f2c"
-            }
+            Variable::Url => "DD_DOGSTATSD_URL wants udp://HOST, udp://HOST:PORT or unix:///PATH",
+            Variable::AgentHost => "DD_AGENT_HOST wants a host, as in DD_AGENT_HOST=127.0.0.1",
+            Variable::AgentPort => "DD_DOGSTATSD_PORT wants a port, as in DD_DOGSTATSD_PORT=8125",
+            Variable::StatsdHost => "STATSD_HOST wants a host, as in STATSD_HOST=127.0.0.1",
+            Variable::StatsdPort => "STATSD_PORT wants a port, as in STATSD_PORT=8125",
+            Variable::Env => "DD_ENV wants no commas, bars or newlines, as in DD_ENV=prod",
+            Variable::Service =>
+                "DD_SERVICE wants no commas, bars or newlines, as in DD_SERVICE=shop",
+            Variable::Version =>
+                "DD_VERSION wants no commas, bars or newlines, as in DD_VERSION=1.2.3",
+            Variable::Tags =>
+                "DD_TAGS wants tags K:V or V, no bars or newlines, as in DD_TAGS=a:b,c",
+            Variable::EntityId =>
+                "DD_ENTITY_ID wants no commas, bars or newlines, as in DD_ENTITY_ID=9f2c",
         }
     }
 }

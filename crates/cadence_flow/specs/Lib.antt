@@ -8,5 +8,6 @@ pub mod QueueRoom
 pub mod QueueState
 pub mod Sums
 pub mod Tests
+pub mod Unread
 pub mod Writer
 pub use Rattle.cadence_errors.specs.Errors

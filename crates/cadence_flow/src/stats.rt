@@ -1,6 +1,7 @@
 //! The counts of what a sink sent and dropped.
 
 use cadence_errors::SinkError;
+use std::snapshot::Snapshot;
 
 /// How many bytes and packets a sink sent and dropped, each modulo 2^64. A packet that is refused and sent again later
 /// counts as dropped and as sent.
@@ -17,8 +18,9 @@ pub struct SinkStats {
 }
 
 impl SinkStats {
-    ghost use Rattle.std.specs.Prelude.{◌≡◌, ◌+◌, ◌%◌, ◌^◌};
+    ghost use Rattle.std.specs.Prelude.{◌≡◌, ◌+◌, ◌%◌, ◌^◌, IfSome, None};
     ghost use Rattle.cadence_flow.specs.Sums.{after_answer, after_refused, after_taken};
+    ghost use Rattle.cadence_flow.specs.Unread.{len_of, taken_of};
 
     /// Adds one packet sent, of which the writer took `n` bytes.
     pub fn add_taken(&mut self, n: usize)
@@ -45,6 +47,22 @@ impl SinkStats {
             Ok(n) => self.add_taken(*n),
             Err(_) => self.add_refused(len),
         }
+    }
+
+    /// Counts what a socket answered for a packet of `len` bytes, and returns how many bytes the socket took: `Some(n)`
+    /// is a packet sent, with `n` bytes, and `None` is a packet dropped, with `len` bytes.
+    pub fn count(&mut self, answer: Unread, len: usize) -> Option<usize>
+        requires { len ≡ len_of answer }
+        ensures same { result ≡ taken_of answer }
+        ensures taken { IfSome result (λ n. self.new ≡ after_taken self.old n) }
+        ensures refused { result ≡ None → self.new ≡ after_refused self.old len }
+    {
+        let Unread { taken, len: _ } = answer;
+        match taken {
+            Some(n) => self.add_taken(n),
+            None => self.add_refused(len),
+        }
+        taken
     }
 
     /// Adds `n` bytes sent.
@@ -77,5 +95,28 @@ impl SinkStats {
             record self.old { packets_dropped = (self.old.packets_dropped + 1) % 2 ^ 64 } }
     {
         self.packets_dropped = self.packets_dropped.wrapping_add(1);
+    }
+}
+
+/// What a socket answered for a packet, before it was counted. It can't be let go, because its type has no `Drop`, and
+/// only `SinkStats::count` opens it.
+pub struct Unread {
+    taken: Option<usize>,
+    len: Snapshot<usize>,
+}
+
+impl Unread {
+    ghost use Rattle.std.specs.Prelude.{◌≡◌, length};
+    ghost use Rattle.cadence_flow.specs.Unread.{len_of, taken_of};
+
+    /// Keeps what a socket answered for this packet: how many bytes it took, or `None` if it refused the packet.
+    pub fn of(taken: Option<usize>, packet: &[u8]) -> Unread
+        ensures taken { taken_of result ≡ taken }
+        ensures len { len_of result ≡ length packet.now }
+    {
+        Unread {
+            taken,
+            len: Snapshot::of(&packet.len()),
+        }
     }
 }

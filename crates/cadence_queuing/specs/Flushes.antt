@@ -1,9 +1,20 @@
 -- When a worker that flushes its sink by time has to flush.
-use Rattle.std.specs.Prelude.{◌≡◌, ◌+◌, ◌-◌, ◌≤◌, ◌<◌, Option, Some, None, MatchOption}
+use Rattle.std.specs.Prelude.{◌≡◌, ◌+◌, ◌-◌, ◌≤◌, ◌<◌, ℕ, Option, Some, None, MatchOption}
 use Rattle.std.specs.Duration.{as_nanos}
 use Rattle.std.specs.declared.time.Duration.{Duration}
 use Rattle.std.specs.Time.{instant_nanos}
 use Rattle.std.specs.declared.time.Instant.{Instant}
+
+-- the shortest time in nanoseconds that a worker waits between two tries of a flush: a millisecond
+abbrev pub shortest_wait : ℕ
+shortest_wait = 1000000
+
+-- The second period is the one that a worker keeps if it is given the first: the same one if that is 0 or at least a millisecond, and else at
+-- least a millisecond.
+pub record CountsAs (given kept : Duration) : Type 0 where
+  pub zero : as_nanos given ≡ 0 → kept ≡ given
+  pub long : shortest_wait ≤ as_nanos given → kept ≡ given
+  pub short : 0 < as_nanos given → shortest_wait ≤ as_nanos kept
 
 -- How much is left of this period, if the last flush was at the first time and it is the second one now. Either some time is left, and when it
 -- has passed too, the period is over; or the whole period has passed, and none is left. If the clock couldn't be read, none is left.

@@ -2,9 +2,12 @@
 ghost use Rattle.std.specs.Prelude.{◌≡◌, ◌+◌, ◌-◌, ◌≤◌, ◌<◌, false, true, IfNone, IfSome};
 ghost use Rattle.std.specs.Duration.{as_nanos};
 ghost use Rattle.std.specs.Time.{instant_nanos};
-ghost use Rattle.cadence_queuing.specs.Flushes.{IsTimeLeft};
+ghost use Rattle.cadence_queuing.specs.Flushes.{IsTimeLeft, CountsAs, shortest_wait};
 
 use std::time::{Duration, Instant};
+
+/// The shortest time that a worker waits between two tries of a flush, in milliseconds.
+const SHORTEST_WAIT: u64 = 1;
 
 /// The period of a worker that flushes its sink by time, when it last did so, and whether it has handed on a line
 /// since. It reads no clock: each call is given the time, or `None` if the clock couldn't be read.
@@ -16,6 +19,15 @@ pub struct FlushTimer {
     pub last: Option<Instant>,
     /// Whether a line was handed on since the last flush that succeeded.
     pub owes_flush: bool,
+}
+
+/// Returns a time that a worker can wait for, if some is left: this one, or a millisecond if it is shorter.
+pub fn at_least_shortest(time: Duration) -> Duration
+    ensures long { shortest_wait ≤ as_nanos result }
+    ensures same { shortest_wait ≤ as_nanos time → result ≡ time }
+{
+    let shortest = Duration::from_millis(SHORTEST_WAIT);
+    if time < shortest { shortest } else { time }
 }
 
 // Returns how much of the period is left, or `None` if nothing is left.
@@ -30,14 +42,19 @@ fn time_left(period: Duration, last: Instant, now: Instant) -> Option<Duration>
 }
 
 impl FlushTimer {
-    /// Starts a period at this time. No line was handed on yet.
+    /// Starts a period at this time. No line was handed on yet. A period above 0 and below one millisecond counts as
+    /// one millisecond.
     pub fn start(period: Duration, now: Option<Instant>) -> FlushTimer
-        ensures period { result.period ≡ period }
+        ensures period { CountsAs period result.period }
         ensures last { result.last ≡ now }
         ensures owes { result.owes_flush ≡ false }
     {
         FlushTimer {
-            period,
+            period: if period.is_zero() {
+                period
+            } else {
+                at_least_shortest(period)
+            },
             last: now,
             owes_flush: false,
         }
@@ -75,9 +92,12 @@ impl FlushTimer {
         }
     }
 
-    /// Returns whether some time of a period is left right after a flush. It isn't if the period is 0, or if the clock
-    /// couldn't be read.
-    pub fn can_wait(&self) -> bool {
-        self.last.is_some() && !self.period.is_zero()
+    /// Returns how long a worker waits for lines at this time, before it tries a flush again that failed: the rest of
+    /// the period, but at least one millisecond, also if the period is 0 or the clock couldn't be read.
+    pub fn wait_before_retry(&self, now: Option<Instant>) -> Duration
+        ensures { shortest_wait ≤ as_nanos result }
+    {
+        let left = self.left(now).unwrap_or(Duration::ZERO);
+        at_least_shortest(left)
     }
 }

@@ -3,6 +3,7 @@
 //! - `handler`: a caller's closure that receives the errors of a sink or of a resolver
 //! - `lookup`: looks up the addresses of a name, and sleeps between two lookups
 //! - `periodic`: a resolver that looks its name up again after each period
+//! - `preferred`: the address of a host to which a socket of its own is bound: IPv4 comes first
 //! - `resolver`: the resolver of a UDP sink: a static one, which looks its target up once, or a periodic one
 //! - `resolver_core`: the address of a name after each lookup, without a thread or a lock
 //! - `socket`: a socket that can send to an address
@@ -13,6 +14,7 @@
 mod handler;
 mod lookup;
 mod periodic;
+mod preferred;
 mod resolver;
 mod resolver_core;
 mod socket;
@@ -22,9 +24,10 @@ pub mod thread;
 pub use handler::{Handler, SinkErrorHandler};
 pub use lookup::{Lookup, NameLookup, Sleeper};
 pub use periodic::PeriodicResolver;
+pub use preferred::{address_of, find_address};
 pub use resolver::{Resolver, ResolverRuntime, StaticResolver};
 pub use resolver_core::ResolverCore;
-pub use socket::bind_socket;
+pub use socket::{bind_nonblocking, bind_socket};
 pub use target::Target;
 
 /// The UDP port on which Statsd servers listen.

@@ -6,8 +6,7 @@ use super::Target;
 use cadence_errors::SinkError;
 use std::alloc::{Allocator, Global};
 use std::net::{Net, SocketAddr, ToSocketAddrs};
-use std::thread;
-use std::time::{Clock, Duration};
+use std::time::Duration;
 
 /// The result of a lookup: the addresses of the name, possibly none, or the error.
 pub type Lookup<A = Global> = Result<Vec<SocketAddr, A>, SinkError>;
@@ -20,20 +19,8 @@ pub trait NameLookup<A: Allocator>: Drop {
 
 /// Lets a thread sleep. A test may implement it without waiting.
 pub trait Sleeper: Drop {
-    /// Returns after this time.
+    /// Returns after this time, or earlier if something wakes the thread.
     fn sleep(&self, time: Duration);
-}
-
-/// Sleeps by the clock of its runtime.
-#[derive(Drop)]
-pub struct ClockSleeper<R: Clock + Drop> {
-    pub rt: R,
-}
-
-impl<R: Clock + Drop> Sleeper for ClockSleeper<R> {
-    fn sleep(&self, time: Duration) {
-        thread::sleep(&self.rt, time)
-    }
 }
 
 // Asks the system for the addresses of a host.

@@ -4,8 +4,12 @@ use super::{Handler, Lookup, NameLookup, Sleeper};
 use cadence_errors::{MetricResult, SinkError};
 use std::alloc::Allocator;
 use std::net::SocketAddr;
-use std::sync::{Mutex, Wait};
-use std::time::Duration;
+use std::sync::{Condvar, Mutex, Wait};
+use std::thread;
+use std::time::{Clock, Duration, Instant};
+
+// The shortest sleep between two lookups, in milliseconds, so that the thread also sleeps if the period is 0.
+const SHORTEST_SLEEP: u64 = 1;
 
 // What the lock protects: the address, and whether the resolver still runs.
 #[derive(Drop)]
@@ -25,6 +29,12 @@ impl State {
     }
 }
 
+// Returns how long the thread sleeps between two lookups.
+fn sleep_of(period: Duration) -> Duration {
+    let shortest = Duration::from_millis(SHORTEST_SLEEP);
+    if period < shortest { shortest } else { period }
+}
+
 /// A `ResolverCore` under a lock. One thread runs `run`, which looks the name up again after each period, while other
 /// threads read the address.
 #[derive(Drop)]
@@ -33,6 +43,7 @@ pub struct PeriodicResolver<R: Wait + Drop> {
     /// The time between two lookups.
     pub period: Duration,
     state: Mutex<State>,
+    stopped: Condvar,
 }
 
 impl<R: Wait + Drop> PeriodicResolver<R> {
@@ -57,23 +68,25 @@ impl<R: Wait + Drop> PeriodicResolver<R> {
                 core,
                 running: true,
             }),
+            stopped: Condvar::new(),
         })
     }
 
     /// Runs until the resolver is stopped: it sleeps for a period, looks the name up, stores the result, passes an
-    /// error to the handler, and begins again. It checks for a stop before each sleep, so after a stop during a sleep
-    /// it still does one lookup.
+    /// error to the handler, and begins again. A period below one millisecond counts as one millisecond. It checks for
+    /// a stop before each sleep, so after a stop during a sleep it still does one lookup.
     pub fn run<A: Allocator, L: NameLookup<A>, S: Sleeper>(
         &self,
         lookup: &L,
         sleeper: &S,
         handler: &Option<Handler>,
     ) {
+        let time = sleep_of(self.period);
         for _ in self.rt.forever() {
             if !self.is_running() {
                 return;
             }
-            sleeper.sleep(self.period);
+            sleeper.sleep(time);
             let found = lookup.look_up();
             let fault = self.note(found);
             if let (Some(fault), Some(handler)) = (fault, handler) {
@@ -90,9 +103,11 @@ impl<R: Wait + Drop> PeriodicResolver<R> {
         self.state.lock(&self.rt).core.note(lookup)
     }
 
-    /// Makes `run` end, after one more lookup at the latest. This call doesn't wait for that.
+    /// Makes `run` end, after one more lookup at the latest, and wakes the resolver if it sleeps. This call doesn't wait
+    /// for the end.
     pub fn stop(&self) {
         self.state.lock(&self.rt).stop();
+        self.stopped.notify_all();
     }
 
     /// Returns the first address of the last lookup that gave one.
@@ -108,5 +123,19 @@ impl<R: Wait + Drop> PeriodicResolver<R> {
     /// Returns the number of later lookups that failed or gave no address, modulo 2 to the 64.
     pub fn failures(&self) -> u64 {
         self.state.lock(&self.rt).core.failures()
+    }
+}
+
+/// A stop of the resolver ends its sleep.
+impl<R: Wait + Clock + Drop> Sleeper for PeriodicResolver<R> {
+    fn sleep(&self, time: Duration) {
+        // a wait for the stop is over at once if the clock can't be read
+        if Instant::now(&self.rt).is_err() {
+            return thread::sleep(&self.rt, time);
+        }
+        let state = self.state.lock(&self.rt);
+        let _ = self
+            .stopped
+            .wait_timeout_while(&self.rt, state, time, |state| state.running);
     }
 }

@@ -2,7 +2,7 @@
 ghost use Rattle.std.specs.Prelude.{◌≡◌, IfErr, IfOk, None, is_some};
 ghost use Rattle.cadence_resolve.specs.Refusals.{IsSocketRefusal, IsTargetRefusal};
 
-use super::lookup::{ClockSleeper, TargetLookup, host_addresses};
+use super::lookup::{TargetLookup, host_addresses};
 use super::resolver_core::ResolverCore;
 use super::thread::{Job, start};
 use super::{Handler, PeriodicResolver, Target};
@@ -59,8 +59,8 @@ impl StaticResolver {
     }
 }
 
-/// The resolver of a sink, which returns the address that the sink sends to. Its drop stops the lookups and doesn't
-/// wait for their thread.
+/// The resolver of a sink, which returns the address that the sink sends to. Its drop stops the lookups and wakes their
+/// thread, which then ends after one more lookup at the latest. The drop doesn't wait for that.
 pub enum Resolver<R: Wait + Drop, A: Allocator> {
     /// The target was looked up once, when the resolver was made.
     Static(StaticResolver),
@@ -119,7 +119,7 @@ impl<R: ResolverRuntime, A: Allocator + Clone + Send + Sync + 'static> Resolver<
     ghost use Rattle.cadence_resolve.specs.Lookups.{KeepsAddress, is_periodic};
 
     /// Looks the target up and makes a resolver. It is a static one if there is no period. Otherwise it is a periodic
-    /// one, and this call starts its thread.
+    /// one, and this call starts its thread. A period below one millisecond counts as one millisecond.
     ///
     /// The errors are `SinkError::Io` if the lookup fails or the thread can't be started, `SinkError::OutOfMemory`, and
     /// the kind `InvalidInput` if the name has no address.
@@ -149,7 +149,6 @@ impl<R: ResolverRuntime, A: Allocator + Clone + Send + Sync + 'static> Resolver<
         let lookups = Lookups {
             resolver: resolver.clone()?,
             lookup,
-            sleeper: ClockSleeper { rt: rt.clone()? },
         };
         start(rt, lookups, handler)?;
         Ok(Resolver::Periodic(resolver))
@@ -161,11 +160,10 @@ impl<R: ResolverRuntime, A: Allocator + Clone + Send + Sync + 'static> Resolver<
 struct Lookups<R: Net + Wait + Clock + Drop, A: Allocator + Clone> {
     resolver: Arc<PeriodicResolver<R>, A>,
     lookup: TargetLookup<R, A>,
-    sleeper: ClockSleeper<R>,
 }
 
 impl<R: Net + Wait + Clock + Drop, A: Allocator + Clone> Job<Option<Handler>> for Lookups<R, A> {
     fn run(self, handler: Option<Handler>) {
-        self.resolver.run(&self.lookup, &self.sleeper, &handler)
+        self.resolver.run(&self.lookup, &*self.resolver, &handler)
     }
 }

@@ -1,9 +1,18 @@
 //! The address of a name after each lookup.
+ghost use Rattle.cadence_errors.specs.Errors.{IsInvalid};
+
 use super::Lookup;
 use cadence_errors::{ErrorKind, MetricError, MetricResult, SinkError};
 use std::alloc::Allocator;
 use std::marker::Model;
 use std::net::SocketAddr;
+
+// Returns the error that a name has no address.
+pub(super) fn no_address() -> MetricError
+    ensures { IsInvalid result }
+{
+    MetricError::from((ErrorKind::InvalidInput, "No socket addresses yielded"))
+}
 
 /// Stores the first address of the last lookup that gave an address, and counts the lookups after the first one.
 #[derive(Drop)]
@@ -40,7 +49,7 @@ impl ResolverCore {
     {
         let addresses = first?;
         let Some(address) = addresses.first() else {
-            return Err(MetricError::from((ErrorKind::InvalidInput, "No socket addresses yielded")));
+            return Err(no_address());
         };
         Ok(ResolverCore {
             address: *address,

@@ -13,3 +13,11 @@ pub fn bind_socket(net: &impl Net, address: SocketAddr) -> io::Result<UdpSocket>
     };
     UdpSocket::bind(net, any)
 }
+
+/// Binds a socket as `bind_socket` does. This one never waits: if the system can't take a packet at once, the call that
+/// sends it fails with the kind `WouldBlock`. The error is the system's.
+pub fn bind_nonblocking(net: &impl Net, address: SocketAddr) -> io::Result<UdpSocket> {
+    let socket = bind_socket(net, address)?;
+    socket.set_nonblocking(true)?;
+    Ok(socket)
+}

@@ -1,6 +1,6 @@
 -- What is promised of a run: the headline (`HasHeadline`), and more beside it (`IsAccounted`). The contract of
 -- `run_schedule_with` cites both.
-use Rattle.std.specs.Prelude.{◌≡◌, ℕ, ◌+◌, ◌%◌, ◌^◌, List, [], ◌++◌, Option, Bool, true, All, codes, length, map, drop, string_bytes}
+use Rattle.std.specs.Prelude.{◌≡◌, ℕ, ◌+◌, ◌%◌, ◌^◌, ◌≤◌, List, [], ◌++◌, Option, Bool, true, All, codes, length, map, drop, string_bytes}
 use Rattle.std.specs.List.{concat, zip}
 use Rattle.std.specs.Option.{option_map}
 use Rattle.cadence_text.specs.Line.{line_of}
@@ -102,6 +102,8 @@ module _ {W A : Type 0} (history : W → PacketHistory) (given : Given A) (outco
     pub drained : outcome.queue.drained ≡ taken_count turns_of
     pub dropped : outcome.queue.dropped ≡ dropped_count turns_of
     pub stopped : outcome.queue.stopped ≡ is_stopped turns_of
+    pub capacity : outcome.queue.capacity ≡ given.queue
+    pub policy : outcome.queue.policy ≡ given.policy
     pub in_hand : outcome.in_hand ≡ in_hand (line_by given) turns_of
 
   -- No cut of the kept lines that ends at every flush has fewer groups than the report's, and no group could have had
@@ -126,7 +128,8 @@ module _ {W A : Type 0} (history : W → PacketHistory) (given : Given A) (outco
         → ArePacketsOf given.format marks_of (refusals (line_by given) turns_of) kept_of outcome.cut packets_of outcome.held
     -- Over every writer: each reply is one that the steps and replies before it allow, what waits are the accepted
     -- lines after the first ones, which were taken or dropped, the queue's counts are the numbers accepted, taken and
-    -- dropped, and the line in hand is the one that was taken and not handed on.
+    -- dropped, it has the capacity and the policy that were given, and the line in hand is the one that was taken and not
+    -- handed on.
     pub replies : HasReplies
     -- Over a writer that takes each packet whole or refuses it: as many hands and flushes returned an error as the
     -- writer refused packets in the run, modulo 2 to the 64.
@@ -146,6 +149,8 @@ module _ {W A : Type 0} (history : W → PacketHistory) (given : Given A) (outco
     -- bytes. Over a writer that takes each packet whole, n is the length of the line, and this is `stream` of the
     -- headline.
     pub taken : given.kind.reports ≡ true → concat packets_of ++ outcome.held ≡ taken_stream given.format (kept_counts (line_by given) turns_of)
+    -- Over every writer, the held text is within the packer's capacity.
+    pub held : length outcome.held ≤ given.format.capacity
     -- The sums of the report are those of what the writer took and refused in the run.
     pub stats : given.kind.reports ≡ true → AreSumsBetween given.before after_of outcome.stats
     -- The packets that the writer had taken before the run come first in its history.

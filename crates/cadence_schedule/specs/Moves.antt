@@ -59,7 +59,8 @@ abbrev pub CountsLine : Format → List ℕ → List ℕ → Result ℕ SinkErro
 CountsLine format held line (Ok n) old new = (held ≢ [] → HasLast old) → Counted (joins_held format held line) old new
 CountsLine format held line (Err e) old new = new ≡ old
 
--- The error says why a call has no line to submit: a duration of it passes 64 bits, or memory ran out.
+-- The error says why a call has no line to submit: a duration of it passes 64 bits, strict settings refuse a text of it, or
+-- memory ran out.
 abbrev pub LineFails : Option (List ℕ) → MetricError → Type 0
 LineFails None e = IsInvalid e
 LineFails (Some line) e = e ≡ out_of_memory

@@ -48,7 +48,7 @@ impl<W, A: Allocator> Report<W, A> {
         self.held.as_slice()
     }
 
-    /// Returns the queue, with the lines that still wait in it and its counts.
+    /// Returns the queue, with its capacity, its policy, the lines that still wait in it and its counts.
     pub fn queue(&self) -> &QueueCore<String<A>, A>
         ensures { result.now ≡ (outcome_of self.now).queue }
     {
@@ -78,13 +78,14 @@ impl<W, A: Allocator> Report<W, A> {
 }
 
 impl<W: PacketWriter, A: Allocator> Report<W, A> {
-    ghost use Rattle.std.specs.Prelude.{◌≡◌, ◌<◌, ◌^◌};
+    ghost use Rattle.std.specs.Prelude.{◌≡◌, ◌<◌, ◌≤◌, ◌^◌, length};
     ghost use Rattle.cadence_schedule.specs.RunOutcome.{outcome_after};
     ghost use Rattle.cadence_schedule.specs.Report.{outcome_of};
 
     // Makes the report of a run after its last step.
     pub(crate) fn of(running: Running<CountingWriter<W>, A>, replies: Vec<Reply, A>) -> Report<W, A>
         ensures outcome { outcome_of result ≡ outcome_after running replies }
+        ensures held { length (outcome_of result).held ≤ running.packer.format.capacity }
         ensures bytes_sent { (outcome_of result).stats.bytes_sent < 2 ^ 64 }
         ensures packets_sent { (outcome_of result).stats.packets_sent < 2 ^ 64 }
     {

@@ -92,6 +92,8 @@ fn run_steps<P: PacketWriter, A: Allocator + Clone>(
     ensures one_each { length replies.new.items ≡ length steps.now }
     ensures same_kind { P.kind running.new.packer.writer ≡ P.kind running.old.packer.writer }
     ensures same_format { running.new.packer.format ≡ running.old.packer.format }
+    ensures same_queue { running.new.queue.capacity ≡ running.old.queue.capacity }
+    ensures same_policy { running.new.queue.policy ≡ running.old.queue.policy }
 {
     for step in steps {
         let reply = running.step(settings, step);

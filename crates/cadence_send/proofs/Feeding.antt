@@ -1,7 +1,7 @@
 -- Input that arrives piece by piece, and the lines that a packer takes of its texts.
 use Rattle.std.proofs.Common.{◌≡◌, ◌≢◌, ℕ, ◌++◌, List, [], ◌∷◌, length, take, refl, sym, ap, ap₂, ◌∙◌, subst, eqb, arith, true, false}
-use Rattle.std.proofs.Common.{if◌then◌else◌, Option, Some, None, Result, Ok}
-use Rattle.std.specs.Prelude.{All, IfSome, IfOk}
+use Rattle.std.proofs.Common.{if◌then◌else◌, Option, Some, None, Result, Ok, Err}
+use Rattle.std.specs.Prelude.{All, IfSome, IfOk, OnErr}
 use Rattle.std.specs.Io.KnownBytes.{Consumes}
 use Rattle.std.specs.List.{AllByRecursion, AllZip}
 use Rattle.std.proofs.lemmas.Bool.{ne_eqb}
@@ -13,9 +13,9 @@ use Rattle.cadence_errors.specs.declared.SinkError.{SinkError}
 use Rattle.cadence_flow.specs.Frame.{Format, frame, frame_of, is_oversize, stream}
 use Rattle.cadence_flow.specs.Packer.{FlushesHeld, Packer, WritesLine, given_by, state_of, whole_text}
 use Rattle.cadence_flow.specs.Writer.{PacketHistory, WriterKind}
-use Rattle.cadence_send.specs.Fed.{Feeds, IsOneText, with_newlines}
-use Rattle.cadence_send.specs.Sent.{AreLinesOf, Gives, SendsTexts, TakesLines, TakesTexts, texts_of}
-use Rattle.cadence_send.specs.declared.options.Defaults.{Defaults}
+use Rattle.cadence_send.specs.Fed.{Feeds, FeedsSome, IsOneText, with_newlines}
+use Rattle.cadence_send.specs.Sent.{AreLinesOf, Gives, SendsTexts, TakesFirst, TakesLines, TakesTexts, texts_of}
+use Rattle.cadence_words.specs.declared.defaults.Defaults.{Defaults}
 
 -- A text without a newline is one text.
 one_text : (text : List ℕ) → IsOneText text → texts_of text ≡ text ∷ []
@@ -86,6 +86,15 @@ module _ {W : Type 0} (kind : W → WriterKind) (history : W → PacketHistory) 
         ∙ ap (λ t. whole_text (state_of history p) ++ t) (frame_whole p.format line n count ∙ sym (append-nil (frame p.format line)));
   }
 
+  -- A packer that fails to write a line takes no line.
+  pub error_takes : (p q : Packer W) (line : List ℕ) (e : SinkError) (r : Result ℕ SinkError) → r ≡ Err e → WritesLine kind history p q line r
+      → TakesLines kind history p q []
+  error_takes p q line e r is h = record {
+    same_kind = h.same_kind;
+    same_format = h.same_format;
+    text = λ reports whole. h.writes.text reports ∙ ap (λ a. whole_text (state_of history p) ++ given_by p.format line a) is;
+  }
+
   -- A flush takes no lines.
   pub flush_takes : {A : Type 0} (p q : Packer W) (r : Result A SinkError) → FlushesHeld kind history p q r → TakesLines kind history p q []
   flush_takes p q r h = record {
@@ -104,6 +113,14 @@ module _ {W : Type 0} (kind : W → WriterKind) (history : W → PacketHistory) 
       lines = h.lines ++ k.lines;
       are = lines_more d texts more h.lines k.lines h.are k.are;
       takes = takes_more p q r h.lines k.lines h.takes k.takes;
+    }
+
+    pub texts_kept : (p q r : Packer W) (texts : List (List ℕ)) → TakesTexts d kind history p q texts → TakesLines kind history q r []
+        → TakesTexts d kind history p r texts
+    texts_kept p q r texts h kept = record {
+      lines = h.lines;
+      are = h.are;
+      takes = subst (TakesLines kind history p r) (append-nil h.lines) (takes_more p q r h.lines [] h.takes kept);
     }
 
     -- A text is taken if its metric's line is taken, or if it asks for no metric and no line is taken.
@@ -160,6 +177,57 @@ module _ {W : Type 0} (kind : W → WriterKind) (history : W → PacketHistory) 
       taken = texts_more p q r h.texts k.texts h.taken k.taken;
     }
 
+    -- If a text can't be taken, the texts before it were.
+    pub feeding_some : (p q r : Packer W) (before bytes waiting left : List ℕ) → Feeding p q before bytes waiting left
+        → TakesLines kind history q r [] → FeedsSome d kind history p r before bytes
+    feeding_some p q r before bytes waiting left h kept = record {
+      texts = h.texts;
+      rest = waiting ++ left;
+      cut = h.cut;
+      each = h.each;
+      taken = texts_kept p q r h.texts h.taken kept;
+    }
+
+    pub fed_some : (p q r : Packer W) (first waiting : List ℕ) → Feeds d kind history p q [] first waiting → TakesLines kind history q r []
+        → FeedsSome d kind history p r [] first
+    fed_some p q r first waiting h kept = record {
+      texts = h.texts;
+      rest = waiting;
+      cut = h.cut;
+      each = h.each;
+      taken = texts_kept p q r h.texts h.taken kept;
+    }
+
+    pub fed_then_some : (p q r : Packer W) (first more waiting : List ℕ) → Feeds d kind history p q [] first waiting
+        → FeedsSome d kind history q r waiting more → FeedsSome d kind history p r [] (first ++ more)
+    fed_then_some p q r first more waiting h k = record {
+      texts = h.texts ++ k.texts;
+      rest = k.rest;
+      cut = ap (λ f. f ++ more) h.cut ∙ append_assoc (with_newlines h.texts) waiting more
+          ∙ ap (λ l. with_newlines h.texts ++ l) k.cut
+          ∙ sym (append_assoc (with_newlines h.texts) (with_newlines k.texts) k.rest)
+          ∙ ap (λ l. l ++ k.rest) (sym (flat_map-append (λ text. text ++ 10 ∷ []) h.texts k.texts));
+      each = All-append IsOneText h.texts k.texts h.each k.each;
+      taken = texts_more p q r h.texts k.texts h.taken k.taken;
+    }
+
+    -- If a run ends early, the first texts of the whole input were taken.
+    pub first_taken : (p q : Packer W) (known now : Option (List ℕ)) (got : List ℕ) → Consumes known now got
+        → FeedsSome d kind history p q [] got → IfSome known (λ text. TakesFirst d kind history p q (texts_of text))
+    first_taken p q None now got consumed h = tt
+    first_taken p q (Some all) None got consumed h = absurd consumed
+    first_taken p q (Some all) (Some left) got consumed h = record {
+      front = h.texts;
+      rest = texts_of (h.rest ++ left);
+      cut = ap texts_of (consumed ∙ ap (λ t. t ++ left) h.cut ∙ append_assoc (with_newlines h.texts) h.rest left)
+          ∙ texts_of-with_newlines h.texts (h.rest ++ left) h.each;
+      taken = h.taken;
+    }
+
+    pub first_none : (p : Packer W) (known : Option (List ℕ)) → IfSome known (λ text. TakesFirst d kind history p p (texts_of text))
+    first_none p None = tt
+    first_none p (Some all) = record { front = []; rest = texts_of all; cut = refl; taken = texts_none p }
+
     pub fed_none : (p : Packer W) → Feeds d kind history p p [] [] []
     fed_none p = record { texts = []; cut = refl; each = All-nil IsOneText; rest = All-nil (λ b. b ≢ 10); taken = texts_none p }
 
@@ -171,11 +239,7 @@ module _ {W : Type 0} (kind : W → WriterKind) (history : W → PacketHistory) 
       cut = h.cut;
       each = h.each;
       rest = h.rest;
-      taken = record {
-        lines = h.taken.lines;
-        are = h.taken.are;
-        takes = subst (TakesLines kind history p r) (append-nil h.taken.lines) (takes_more p q r h.taken.lines [] h.taken.takes flushed);
-      };
+      taken = texts_kept p q r h.texts h.taken flushed;
     }
 
     -- At the end of the input, the last text is taken, although no newline ends it.
@@ -185,6 +249,10 @@ module _ {W : Type 0} (kind : W → WriterKind) (history : W → PacketHistory) 
         subst (TakesTexts d kind history p r)
         (sym (ap texts_of h.cut ∙ texts_of-with_newlines h.texts waiting h.each ∙ ap (λ ts. h.texts ++ ts) (one_text waiting h.rest)))
         (texts_more p q r h.texts (waiting ∷ []) h.taken last)
+
+pub on_err : {A E P : Type 0} (r : Result A E) → P → OnErr r P
+on_err (Ok a) p = tt
+on_err (Err e) p = p
 
 pub consumes_none : (known : Option (List ℕ)) → Consumes known known []
 consumes_none None = tt
@@ -220,3 +288,17 @@ pub word_sent : {W : Type 0} (kind : W → WriterKind) (history : W → PacketHi
     → a ≡ Ok n → WritesLine kind history p q line a → TakesLines kind history q r [] → TakesLines kind history p r (line ∷ [])
 word_sent kind history p q r line n a e written flushed =
     takes_more kind history p q r (line ∷ []) [] (write_takes kind history p q line n a e written) flushed
+
+-- If the first texts were taken and then the held text is sent, the same texts were taken.
+pub first_flushed : {W Z : Type 0} (kind : W → WriterKind) (history : W → PacketHistory) (d : Defaults Z) (known : Option (List ℕ)) (p q r : Packer W)
+    → IfSome known (λ text. TakesFirst d kind history p q (texts_of text)) → TakesLines kind history q r []
+    → IfSome known (λ text. TakesFirst d kind history p r (texts_of text))
+first_flushed kind history d None p q r h flushed = tt
+first_flushed kind history d (Some text) p q r h flushed =
+    record { front = h.front; rest = h.rest; cut = h.cut; taken = texts_kept kind history d p q r h.front h.taken flushed }
+
+-- If all texts were taken, the first ones were.
+pub first_of_all : {W Z : Type 0} (kind : W → WriterKind) (history : W → PacketHistory) (d : Defaults Z) (known : Option (List ℕ)) (p q : Packer W)
+    → IfSome known (λ text. TakesTexts d kind history p q (texts_of text)) → IfSome known (λ text. TakesFirst d kind history p q (texts_of text))
+first_of_all kind history d None p q h = tt
+first_of_all kind history d (Some text) p q h = record { front = texts_of text; rest = []; cut = sym (append-nil (texts_of text)); taken = h }

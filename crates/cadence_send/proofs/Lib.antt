@@ -1,6 +1,3 @@
-pub mod Durations
+pub mod Fates
 pub mod Feeding
-pub mod Lowest
 pub mod Targets
-pub mod WordByWord
-pub mod WordCuts

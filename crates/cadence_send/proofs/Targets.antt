@@ -6,7 +6,8 @@ use Rattle.std.proofs.lemmas.Bool.{false≢true}
 use Rattle.std.proofs.lemmas.List.{take-append-drop}
 use Rattle.std.proofs.lemmas.Str.Pattern.{drop_at_char}
 use Rattle.cadence_value.specs.Finds.{Finds}
-use Rattle.cadence_send.specs.Target.{IsPort, IsTarget}
+use Rattle.cadence_environment.specs.Destinations.{IsPort}
+use Rattle.cadence_send.specs.Target.{IsTarget}
 
 cut_last : (text host rest : List ℕ) → SplitsAroundMatch (RFindsChar 58) text host rest → text ≡ host ++ 58 ∷ rest
 cut_last text host rest cut =

@@ -4,7 +4,7 @@ use Rattle.std.specs.List.{flat_map}
 use Rattle.cadence_flow.specs.Packer.{Packer}
 use Rattle.cadence_flow.specs.Writer.{PacketHistory, WriterKind}
 use Rattle.cadence_send.specs.Sent.{TakesTexts}
-use Rattle.cadence_send.specs.declared.options.Defaults.{Defaults}
+use Rattle.cadence_words.specs.declared.defaults.Defaults.{Defaults}
 
 -- The text has no newline.
 abbrev pub IsOneText : List ℕ → Type 0
@@ -22,4 +22,13 @@ pub record Feeds {W Z : Type 0} (d : Defaults Z) (kind : W → WriterKind) (hist
   pub cut : before ++ bytes ≡ with_newlines texts ++ after
   pub each : All IsOneText texts
   pub rest : IsOneText after
+  pub taken : TakesTexts d kind history old new texts
+
+-- Bytes waited, and more bytes arrived. Some of the texts that a newline then ended were taken: the first ones.
+pub record FeedsSome {W Z : Type 0} (d : Defaults Z) (kind : W → WriterKind) (history : W → PacketHistory) (old new : Packer W)
+    (before bytes : List ℕ) : Type 0 where
+  pub texts : List (List ℕ)
+  pub rest : List ℕ
+  pub cut : before ++ bytes ≡ with_newlines texts ++ rest
+  pub each : All IsOneText texts
   pub taken : TakesTexts d kind history old new texts

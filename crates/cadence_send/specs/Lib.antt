@@ -1,8 +1,6 @@
-pub mod Asked
-pub mod Duration
 pub mod Fed
-pub mod Finds
+pub mod Losses
 pub mod Sent
-pub mod TagWords
+pub mod Streams
 pub mod Target
 pub mod Writers

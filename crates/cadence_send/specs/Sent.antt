@@ -1,39 +1,30 @@
 -- The packets that are sent for words, and for the lines of a text.
-use Rattle.std.specs.Prelude.{[], ◌∷◌, ◌≡◌, ℕ, ◌==◌, Option, None, Some, List, ◌++◌, true}
+use Rattle.std.specs.Prelude.{[], ◌∷◌, ◌≡◌, ℕ, ◌==◌, ◌-◌, ◌<◌, ◌≤◌, ◌⊎◌, Option, None, Some, List, ◌++◌, true}
+use Rattle.std.specs.Prelude.{if◌then◌else◌, length, slice_index, take}
 use Rattle.std.specs.List.{AllZip, filter_map, slice_split}
-use Rattle.std.specs.Str.{IsUtf8}
 use Rattle.cadence_flow.specs.Frame.{stream}
 use Rattle.cadence_flow.specs.Packer.{Packer, state_of, whole_text}
 use Rattle.cadence_flow.specs.Writer.{PacketHistory, WriterKind}
-use Rattle.cadence_schedule.specs.Call.{metric_of_call, plain_call}
-use Rattle.cadence_send.specs.Asked.{AskFor, Asked, words_of}
-use Rattle.cadence_send.specs.declared.options.Defaults.{Defaults}
-use Rattle.cadence_text.specs.Line.{line_of}
-use Rattle.cadence_text.specs.Metric.{Metric}
+use Rattle.cadence_words.specs.Lines.{IsLineOfText, IsLineOfWords}
+use Rattle.cadence_words.specs.declared.defaults.Defaults.{Defaults}
 
--- the metric that words ask for, with the default tags before its own, and with the rate and the time of the command
--- line
-abbrev pub asked_metric : {Z : Type 0} → Defaults Z → Asked → Metric
-asked_metric d a =
-    let m = metric_of_call d.settings (plain_call a.kind a.name a.numbers) in
-    record m { tags = m.tags ++ a.tags; rate = d.rate; time = d.time }
+-- the text without the carriage return at its end, if it has one
+abbrev pub without_return : List ℕ → List ℕ
+without_return text = if slice_index text (length text - 1) == 13 then take (length text - 1) text else text
 
--- a metric, with the rate and the time of the command line
-abbrev pub with_rate_and_time : {Z : Type 0} → Defaults Z → Metric → Metric
-with_rate_and_time d m = record m { rate = d.rate; time = d.time }
+-- The line is one of these, and not longer than a line may be.
+abbrev pub IsGiven : {Z : Type 0} → Defaults Z → (List ℕ → Type 0) → List ℕ → Type 0
+IsGiven d IsLine line = IsLine line × (length line ≤ d.longest)
 
--- The words ask for a metric, and this is its line.
-abbrev pub IsLineOfWords : {Z : Type 0} → Defaults Z → List (List ℕ) → List ℕ → Type 0
-IsLineOfWords d words line = (a : Asked) × AskFor words a × (line ≡ line_of (asked_metric d a))
+-- There is no line, or one that is longer than a line may be.
+abbrev pub HasNone : {Z : Type 0} → Defaults Z → (List ℕ → Type 0) → Type 0
+HasNone d IsLine = ((line : List ℕ) → IsLine line → ⊥) ⊎ ((line : List ℕ) × IsLine line × (d.longest < length line))
 
--- The text is in UTF-8, and this is the line of the metric that its words ask for.
-abbrev pub IsLineOfText : {Z : Type 0} → Defaults Z → List ℕ → List ℕ → Type 0
-IsLineOfText d text line = IsUtf8 text × IsLineOfWords d (words_of text) line
-
--- The text asks for a metric with this line. If there is no line, the text asks for no metric.
+-- The text, without a carriage return at its end, asks for a metric with this line. If there is no line, the text asks
+-- for no metric, or for one whose line is longer than a line may be.
 abbrev pub Gives : {Z : Type 0} → Defaults Z → List ℕ → Option (List ℕ) → Type 0
-Gives d text (Some line) = IsLineOfText d text line
-Gives d text None = (line : List ℕ) → IsLineOfText d text line → ⊥
+Gives d text (Some line) = IsGiven d (IsLineOfText d (without_return text)) line
+Gives d text None = HasNone d (IsLineOfText d (without_return text))
 
 -- the texts between the newlines of an input
 abbrev pub texts_of : List ℕ → List (List ℕ)
@@ -58,6 +49,14 @@ pub record TakesTexts {W Z : Type 0} (d : Defaults Z) (kind : W → WriterKind) 
   pub are : AreLinesOf d texts lines
   pub takes : TakesLines kind history old new lines
 
+-- The packer took the lines of the first texts, as far as they ask for a metric, and none of the others.
+pub record TakesFirst {W Z : Type 0} (d : Defaults Z) (kind : W → WriterKind) (history : W → PacketHistory) (old new : Packer W)
+    (texts : List (List ℕ)) : Type 0 where
+  pub front : List (List ℕ)
+  pub rest : List (List ℕ)
+  pub cut : texts ≡ front ++ rest
+  pub taken : TakesTexts d kind history old new front
+
 -- The packer took the lines of the texts that ask for a metric, and no text is held any more.
 pub record SendsTexts {W Z : Type 0} (d : Defaults Z) (kind : W → WriterKind) (history : W → PacketHistory) (old new : Packer W)
     (texts : List (List ℕ)) : Type 0 where
@@ -65,9 +64,10 @@ pub record SendsTexts {W Z : Type 0} (d : Defaults Z) (kind : W → WriterKind) 
   pub none_held : new.held ≡ []
 
 -- If no part of the words was reported as unreadable, the packer took the line of the words, and no text is held any
--- more. Otherwise the words ask for no metric, and the packer is unchanged.
+-- more. Otherwise the words ask for no metric, or for one whose line is longer than a line may be, and the packer is
+-- unchanged.
 abbrev pub SendsWords : {W Z X : Type 0} → Defaults Z → (W → WriterKind) → (W → PacketHistory) → Packer W → Packer W → List (List ℕ)
     → Option X → Type 0
 SendsWords d kind history old new words None =
-    (line : List ℕ) × IsLineOfWords d words line × TakesLines kind history old new (line ∷ []) × (new.held ≡ [])
-SendsWords d kind history old new words (Some why) = ((line : List ℕ) → IsLineOfWords d words line → ⊥) × (new ≡ old)
+    (line : List ℕ) × IsGiven d (IsLineOfWords d words) line × TakesLines kind history old new (line ∷ []) × (new.held ≡ [])
+SendsWords d kind history old new words (Some why) = HasNone d (IsLineOfWords d words) × (new ≡ old)

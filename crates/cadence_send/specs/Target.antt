@@ -1,18 +1,9 @@
 -- The places to which packets are sent, as texts.
-use Rattle.std.specs.Prelude.{◌≡◌, ◌<◌, ◌^◌, ⊤, ◌∷◌, ◌++◌, ℕ, List, length, IfSome, codes}
-use Rattle.std.specs.Str.Parse.{IsNumeral, digits_value, without_leading_plus}
+use Rattle.std.specs.Prelude.{◌≡◌, ◌<◌, ◌∷◌, ◌++◌, ℕ, List, length, IfSome, codes}
+use Rattle.cadence_environment.specs.Destinations.{IsPort}
 use Rattle.cadence_send.specs.declared.options.Destination.{Destination}
 use Rattle.cadence_send.specs.declared.options.Destination.TheVariants.{Host, Unix}
 use Rattle.cadence_send.specs.declared.options.Options.{Options}
-use Rattle.cadence_send.specs.declared.options.Request.{Request}
-use Rattle.cadence_send.specs.declared.options.Request.TheVariants.{Help, Version, Send}
-
--- The text writes this port in digits: a number from 1 to 65535. A plus may come before it.
-pub record IsPort (text : List ℕ) (port : ℕ) : Type 0 where
-  pub numeral : IsNumeral 10 (without_leading_plus text)
-  pub written : port ≡ digits_value 10 (without_leading_plus text)
-  pub some : 0 < port
-  pub fits : port < 2 ^ 16
 
 -- The text is a host that is not empty, a colon and a port.
 pub record IsTarget (text : List ℕ) : Type 0 where
@@ -36,9 +27,3 @@ SaysDestination text (Unix path) = (text ≡ codes "unix:" ++ path.now) × (0 < 
 -- If the options have a place, it is a host and a port, or a path that is not empty.
 abbrev pub SaysWhere : {Z : Type 0} → Options Z → Type 0
 SaysWhere options = IfSome options.to IsPlace
-
--- If the request is to send, and its options have a place, it is a host and a port, or a path that is not empty.
-abbrev pub AsksWhere : {Z : Type 0} → Request Z → Type 0
-AsksWhere Help = ⊤
-AsksWhere Version = ⊤
-AsksWhere (Send options words) = SaysWhere options

@@ -1,17 +1,16 @@
 //! Takes the lines of an input as it arrives, with any reader, any writer of packets and any writer of errors.
-ghost use Rattle.std.specs.Prelude.{◌≡◌, ◌⊎◌, ◌∷◌, ◌++◌, [], IfNone, IfSome, OnOk};
-ghost use Rattle.cadence_send.specs.Fed.{Feeds, IsOneText};
-ghost use Rattle.cadence_send.specs.Sent.{TakesLines, TakesTexts, texts_of};
+ghost use Rattle.std.specs.Prelude.{◌≡◌, ◌⊎◌, ◌∷◌, ◌++◌, [], IfNone, IfSome, OnErr, OnOk};
+ghost use Rattle.cadence_send.specs.Fed.{Feeds, FeedsSome, IsOneText};
+ghost use Rattle.cadence_send.specs.Sent.{TakesFirst, TakesLines, TakesTexts, texts_of, without_return};
 
-use crate::line::write_line_of_text;
-use crate::options::Defaults;
 use crate::pace::Pace;
-use crate::word_error::{Part, WordError};
 use cadence_errors::SinkError;
 use cadence_flow::io::{LineBuffer, PacketWriter};
+use cadence_words::{Defaults, Part, WordError, write_line_of_text};
 use memchr::memchr;
 use std::alloc::{AllocError, Allocator};
-use std::io::{Read, Write};
+use std::io;
+use std::io::{ErrorKind, Read, Write};
 use thiserror::Error;
 
 // The most bytes that are read at once.
@@ -20,9 +19,9 @@ const CHUNK: usize = 16384;
 /// Why a run ended early.
 #[derive(Debug, Drop, Error)]
 pub enum RunError {
-    /// The input can't be read.
-    #[error("input: cannot read")]
-    Input,
+    /// The input can't be read, for this reason.
+    #[error("input: cannot read: {0}")]
+    Input(io::Error),
     /// The writer of packets refused a packet.
     #[error("cannot send: {0}")]
     Writer(SinkError),
@@ -53,7 +52,7 @@ impl RunError {
         ensures { (result ≡ 1) ⊎ (result ≡ 3) }
     {
         match self {
-            RunError::Input | RunError::Writer(_) => 1,
+            RunError::Input(_) | RunError::Writer(_) => 1,
             RunError::OutOfMemory => 3,
         }
     }
@@ -90,7 +89,9 @@ fn take_line<T: PacketWriter, A: Allocator>(
     lines: &mut LineBuffer<T, A>,
     line: &[u8],
 ) -> Result<(), RunError>
-    ensures { OnOk result (TakesLines T.kind T.history lines.old lines.new (line.now ∷ [])) }
+    ensures taken { OnOk result
+        (TakesLines T.kind T.history lines.old lines.new (line.now ∷ [])) }
+    ensures kept { OnErr result (TakesLines T.kind T.history lines.old lines.new []) }
 {
     if lines.hold(line) {
         return Ok(());
@@ -109,8 +110,20 @@ struct Buffers<A: Allocator> {
     line: Vec<u8, A>,
 }
 
-// Gives the metric's line of a text to the packer. If the text has words and asks for no metric, this function returns
-// the part that can't be read. The line is written into the buffer.
+// Returns the text without the carriage return at its end, if it has one.
+fn without_return(text: &[u8]) -> &[u8]
+    ensures { result.now ≡ without_return text.now }
+{
+    let length = text.len();
+    if length > 0 && text[length - 1] == b'\r' {
+        return &text[..length - 1];
+    }
+    text
+}
+
+// Gives the metric's line of a text to the packer, unless it is longer than a line may be. A carriage return at the end
+// of the text is no part of it. If the text has words and no line is given, this function returns the part that can't be
+// read. The line is written into the buffer.
 fn take_text<T: PacketWriter, A: Allocator + Clone>(
     alloc: &A,
     defaults: &Defaults<A>,
@@ -118,11 +131,16 @@ fn take_text<T: PacketWriter, A: Allocator + Clone>(
     buffer: &mut Vec<u8, A>,
     text: &[u8],
 ) -> Result<Option<Part>, RunError>
-    ensures { OnOk result
+    ensures taken { OnOk result
         (TakesTexts defaults.now T.kind T.history lines.old lines.new (text.now ∷ [])) }
+    ensures kept { OnErr result (TakesLines T.kind T.history lines.old lines.new []) }
 {
+    let text = without_return(text);
     match write_line_of_text(alloc, defaults, buffer, text) {
         Ok(()) => {
+            if buffer.len() > defaults.longest {
+                return Ok(Some(Part::Length));
+            }
             take_line(lines, buffer)?;
             Ok(None)
         }
@@ -141,6 +159,7 @@ fn take_text_end<T: PacketWriter, A: Allocator + Clone>(
 ) -> Result<Option<Part>, RunError>
     ensures taken { OnOk result (TakesTexts defaults.now T.kind T.history lines.old lines.new
         ((buffers.old.waiting.items ++ end.now) ∷ [])) }
+    ensures kept { OnErr result (TakesLines T.kind T.history lines.old lines.new []) }
     ensures none { OnOk result (buffers.new.waiting.items ≡ []) }
 {
     if buffers.waiting.is_empty() {
@@ -174,8 +193,10 @@ fn feed<T: PacketWriter, E: Write, A: Allocator + Clone>(
     bytes: &[u8],
 ) -> Result<(), RunError>
     requires { IsOneText buffers.old.waiting.items }
-    ensures { OnOk result (Feeds defaults.now T.kind T.history lines.old lines.new
+    ensures all { OnOk result (Feeds defaults.now T.kind T.history lines.old lines.new
         buffers.old.waiting.items bytes.now buffers.new.waiting.items) }
+    ensures some { OnErr result (FeedsSome defaults.now T.kind T.history lines.old lines.new
+        buffers.old.waiting.items bytes.now) }
 {
     let mut left = bytes;
     while let Some((front, others)) = cut_line(left) {
@@ -197,7 +218,7 @@ fn keep_pace<T: PacketWriter, P: Pace, A: Allocator>(
     lines: &mut LineBuffer<T, A>,
     pace: &mut P,
 ) -> Result<(), RunError>
-    ensures { OnOk result (TakesLines T.kind T.history lines.old lines.new []) }
+    ensures { TakesLines T.kind T.history lines.old lines.new [] }
 {
     if !is_due(lines, pace) {
         return Ok(());
@@ -214,7 +235,7 @@ fn keep_pace<T: PacketWriter, P: Pace, A: Allocator>(
 ///
 /// # Errors
 /// `Input` if the reader fails, `Writer` if a packet is refused, and `OutOfMemory`. The lines before the error were
-/// taken.
+/// taken, and none of the others: what a writer refused of them is still held.
 pub fn take_input<T, I, E, P, A>(
     alloc: &A,
     defaults: &Defaults<A>,
@@ -229,8 +250,10 @@ where
     E: Write,
     P: Pace,
     A: Allocator + Clone,
-    ensures { OnOk result (IfSome (I.remaining input.old) (λ text.
+    ensures all { OnOk result (IfSome (I.remaining input.old) (λ text.
         TakesTexts defaults.now T.kind T.history lines.old lines.new (texts_of text))) }
+    ensures first { OnErr result (IfSome (I.remaining input.old) (λ text.
+        TakesFirst defaults.now T.kind T.history lines.old lines.new (texts_of text))) }
 {
     let mut counts = TextCounts {
         texts: 0,
@@ -260,9 +283,9 @@ where
                 &mut buffers,
                 &buffer[..count],
             )?,
-            Err(_) => return Err(RunError::Input),
+            Err(error) => return Err(RunError::Input(error)),
         }
         keep_pace(lines, pace)?;
     }
-    Err(RunError::Input)
+    Err(RunError::Input(io::Error::from(ErrorKind::Other)))
 }

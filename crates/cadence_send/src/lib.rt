@@ -1,34 +1,28 @@
-//! The engine of `statsd_send`: it reads metrics from words, packs their lines and sends the packets.
+//! The engine of `statsd_send`: it takes the lines of metrics, packs them and sends the packets.
 //!
-//! - `decimal`: reads decimal numbers.
-//! - `duration`: reads durations.
 //! - `engine`: takes the lines of an input, as it arrives.
-//! - `line`: writes the line of a metric from its words.
-//! - `options`: reads the options of the command line, some of which add to each metric.
+//! - `lasting`: a writer of packets that outlives refusals, and counts what is lost.
+//! - `nowhere`: a record of packets that exists in proofs only.
+//! - `options`: the options of the command line, and what they add to each metric.
+//! - `outlet`: the place to which packets go, as messages name it.
 //! - `pace`: when buffered lines are sent before more input is read.
-//! - `packets`: sends packets as datagrams, or prints them.
+//! - `packets`: prints packets.
 //! - `run`: sends one metric, or those of an input, and returns the exit status.
-//! - `value`: reads the value of a metric.
-//! - `word_error`: why words can't be read.
-//! - `words`: cuts a line into words, and reads single words.
 #![tactic(auto)]
 
-mod decimal;
-mod duration;
 mod engine;
-mod line;
+mod lasting;
+mod nowhere;
 mod options;
+mod outlet;
 mod pace;
 mod packets;
 mod run;
-mod value;
-mod word_error;
-mod words;
 
-pub use engine::{RunError, TextCounts, take_input};
-pub use line::{write_line_of_text, write_line_of_words};
-pub use options::{Defaults, Destination, OptionError, Options, Request, read_options, read_port};
-pub use pace::{Pace, Unhurried};
-pub use packets::{DatagramWriter, PacketPrinter};
-pub use run::{run_input, run_words, send_input, send_words};
-pub use word_error::{Part, WordError};
+pub use engine::{RunError, TextCounts};
+pub use lasting::{LastingWriter, Losses};
+pub use options::{Destination, OptionError, Options, Setting};
+pub use outlet::Outlet;
+pub use pace::Pace;
+pub use packets::PacketPrinter;
+pub use run::{run_input, run_stream, run_words, send_input, send_stream, send_words};

@@ -1,29 +1,18 @@
-//! Reads the options of the command line.
-ghost use Rattle.std.specs.Prelude.{◌≡◌, IfOk, IfSome, None, OnOk};
-ghost use Rattle.cadence_value.specs.Finds.{Finds};
-ghost use Rattle.cadence_send.specs.Target.{AsksWhere, IsPort, IsTarget, SaysDestination, SaysWhere};
+//! The options of the command line, and what they add to each metric.
+ghost use Rattle.std.specs.Prelude.{◌≡◌, IfSome, None, OnOk};
+ghost use Rattle.cadence_send.specs.Target.{IsTarget, SaysDestination, SaysWhere};
 
-use crate::decimal::read_decimal;
-use crate::words::{is_word, read_tag};
 use cadence_cli::ReadError;
+use cadence_environment::read_port;
 use cadence_errors::MetricError;
 use cadence_flow::io::DEFAULT_CAPACITY;
+use cadence_number::{Chance, read_printed};
 use cadence_schedule::ClientSettings;
 use cadence_text::line::{OwnedTag, Tag, lend_tag};
 use cadence_value::decimal::Decimal;
-use std::alloc::{Allocator, Global};
+use cadence_words::{Defaults, is_word, read_tag};
+use std::alloc::Allocator;
 use std::fmt;
-
-/// The request that the words of the command line make.
-#[derive(Drop)]
-pub enum Request<'a, A: Allocator> {
-    /// Print how the program is called.
-    Help,
-    /// Print the version.
-    Version,
-    /// Send the metric of the words after the options. If there are no words, send the metrics of the input.
-    Send(Options<'a, A>, &'a [&'a str]),
-}
 
 /// The place to which packets are sent.
 #[derive(Clone, Copy, Debug, PartialEq, Eq)]
@@ -47,8 +36,10 @@ pub struct Options<'a, A: Allocator> {
     pub container: Option<&'a str>,
     /// The time in seconds since 1970.
     pub time: Option<u64>,
-    /// The sampling rate.
+    /// The sampling rate that each line says.
     pub rate: Option<Decimal>,
+    /// The chance with which a line is sent. Without one every line is.
+    pub sample: Option<Chance>,
     /// The capacity of a packet in bytes.
     pub capacity: usize,
     /// The most milliseconds that buffered lines wait for more input.
@@ -57,85 +48,116 @@ pub struct Options<'a, A: Allocator> {
     pub is_strict: bool,
     /// Whether packets are printed instead of sent.
     pub is_printing: bool,
+    /// Whether a packet is dropped if a Unix socket has no room for it, instead of waiting for room.
+    pub is_dropping: bool,
 }
 
-/// The option that can't be read, with its value if it has one. Its text says what is wrong with it, and how it is
-/// used.
+/// An option of the command line that has a value.
 #[derive(Clone, Copy, Debug, PartialEq, Eq)]
-pub enum OptionError<'a> {
-    /// There is no option of this name.
-    Unknown(&'a str),
-    /// The option is the last word, but it requires a value.
-    NoValue(&'a str),
-    /// The option can't have this value.
-    Value(&'a str, &'a str),
-}
-
-/// What the command line adds to each metric.
-#[derive(Drop)]
-pub struct Defaults<A: Allocator = Global> {
-    /// The prefix, the default tags and the container.
-    pub settings: ClientSettings<A>,
-    /// The sampling rate.
-    pub rate: Option<Decimal>,
+pub enum Setting {
+    /// The place to which packets are sent.
+    To,
+    /// The prefix of all names.
+    Prefix,
+    /// A default tag.
+    Tag,
+    /// The container.
+    Container,
     /// The time in seconds since 1970.
-    pub time: Option<u64>,
+    Time,
+    /// The sampling rate that each line says.
+    Rate,
+    /// The chance with which a line is sent, which each line says as its sampling rate.
+    Sample,
+    /// The capacity of a packet in bytes.
+    Capacity,
+    /// The most milliseconds that buffered lines wait.
+    FlushEvery,
 }
 
-// Returns what the value of an option has to be, with an example.
-fn example(option: &str) -> &'static str {
-    match option {
-        "--to" => "HOST:PORT or unix:PATH, as in --to 127.0.0.1:8125",
-        "--prefix" => "a name without colons, commas and bars, as in --prefix my.service",
-        "--tag" => "K:V or V, as in --tag env:live",
-        "--container" => "an id, as in --container 9f2c",
-        "--time" => "seconds since 1970, as in --time 1700000000",
-        "--rate" => "a number above 0, as in --rate 0.1",
-        "--capacity" => "a number of bytes, as in --capacity 512",
-        "--flush-every" => "a number of milliseconds, as in --flush-every 1000",
-        _ => "an option of --help",
+impl Setting {
+    /// All settings.
+    pub const ALL: [Setting; 9] = [
+        Setting::To,
+        Setting::Prefix,
+        Setting::Tag,
+        Setting::Container,
+        Setting::Time,
+        Setting::Rate,
+        Setting::Sample,
+        Setting::Capacity,
+        Setting::FlushEvery,
+    ];
+
+    /// Returns the name of the option, without its dashes.
+    pub fn name(self) -> &'static str {
+        match self {
+            Setting::To => "to",
+            Setting::Prefix => "prefix",
+            Setting::Tag => "tag",
+            Setting::Container => "container",
+            Setting::Time => "time",
+            Setting::Rate => "rate",
+            Setting::Sample => "sample",
+            Setting::Capacity => "capacity",
+            Setting::FlushEvery => "flush-every",
+        }
+    }
+
+    // Returns what the value of the option has to be, with an example.
+    fn wanted(self) -> &'static str {
+        match self {
+            Setting::To => "HOST:PORT or unix:PATH, as in --to 127.0.0.1:8125",
+            Setting::Prefix => {
+                "a name without colons, commas and bars, as in --prefix my.service"
+            }
+            Setting::Tag => "K:V or V, as in --tag env:live",
+            Setting::Container => "an id, as in --container 9f2c",
+            Setting::Time => "seconds since 1970, as in --time 1700000000",
+            Setting::Rate => "a number above 0, as in --rate 0.1",
+            Setting::Sample => {
+                "a number above 0 and at most 1 with at most 18 decimal places, as in --sample 0.1"
+            }
+            Setting::Capacity => "a number of bytes, as in --capacity 512",
+            Setting::FlushEvery => "a number of milliseconds, as in --flush-every 1000",
+        }
     }
 }
 
-/// What is wrong with the option, and how it is used.
+/// An option that can't have its value. Its text says what the value has to be.
+#[derive(Clone, Copy, Debug, PartialEq, Eq)]
+pub struct OptionError<'a> {
+    /// The option.
+    pub setting: Setting,
+    /// The value.
+    pub value: &'a str,
+}
+
+/// What is wrong with the value, and how the option is used.
 impl fmt::Display for OptionError<'_> {
     fn fmt<W: fmt::Write>(&self, f: &mut fmt::Formatter<W>) -> fmt::Result {
-        match self {
-            OptionError::Unknown(option) => write!(f, "{option}: no such option, see --help"),
-            OptionError::NoValue(option) => write!(f, "{option} wants {}", example(option)),
-            OptionError::Value(option, value) => {
-                write!(f, "{option} {value}: wants {}", example(option))
-            }
-        }
+        let (value, option, wanted) = (self.value, self.setting.name(), self.setting.wanted());
+        write!(f, "--{option} {value}: wants {wanted}")
     }
 }
 
 // Reads a whole number.
 fn read_whole(value: &str) -> Option<u64> {
-    value.parse().ok()
+    let number = read_printed(value)?;
+    if number.places() > 0 {
+        return None;
+    }
+    u64::try_from(number.mantissa()).ok()
 }
 
 // Reads a number above 0.
 fn read_positive(value: &str) -> Option<Decimal> {
-    read_decimal(value).filter(|number| number.mantissa() > 0)
+    read_printed(value).filter(|number| number.mantissa() > 0)
 }
 
 // Reads a name, or an id.
 fn read_word(value: &str) -> Option<&str> {
     if is_word(value) { Some(value) } else { None }
-}
-
-/// Reads a port: a number from 1 to 65535. A plus may come before it.
-pub fn read_port(text: &str) -> Option<u16>
-    ensures { Finds (IsPort text.now) result }
-{
-    let Ok(port) = text.parse::<u16>() else {
-        return None;
-    };
-    if port == 0 {
-        return None;
-    }
-    Some(port)
 }
 
 // Reads HOST:PORT.
@@ -166,7 +188,8 @@ fn read_destination(value: &str) -> Option<Destination<'_>>
 }
 
 impl<'a, A: Allocator> Options<'a, A> {
-    fn new(alloc: A) -> Options<'a, A>
+    /// Returns the options of a command line that has none.
+    pub fn new(alloc: A) -> Options<'a, A>
         ensures { result.to ≡ None }
     {
         Options {
@@ -176,32 +199,44 @@ impl<'a, A: Allocator> Options<'a, A> {
             container: None,
             time: None,
             rate: None,
+            sample: None,
             capacity: DEFAULT_CAPACITY,
             flush_every: None,
             is_strict: false,
             is_printing: false,
+            is_dropping: false,
         }
     }
 
-    // Sets an option to its value.
-    fn set(&mut self, option: &'a str, value: &'a str) -> Result<(), ReadError<OptionError<'a>>>
-        requires { SaysWhere self.old }
-        ensures { OnOk result (SaysWhere self.new) }
+    /// Sets an option to its value. A tag is added to those before it.
+    ///
+    /// # Errors
+    /// `Unreadable` if the option can't have this value, and `OutOfMemory`.
+    pub fn set(
+        &mut self,
+        setting: Setting,
+        value: &'a str,
+    ) -> Result<(), ReadError<OptionError<'a>>>
+        ensures { SaysWhere self.old → OnOk result (SaysWhere self.new) }
     {
-        let refused = ReadError::Unreadable(OptionError::Value(option, value));
-        match option {
-            "--to" => match read_destination(value) {
+        let refused = ReadError::Unreadable(OptionError { setting, value });
+        match setting {
+            Setting::To => match read_destination(value) {
                 Some(place) => self.to = Some(place),
                 None => return Err(refused),
             },
-            "--prefix" => self.prefix = read_word(value).ok_or(refused)?,
-            "--tag" => self.tags.push(read_tag(value).ok_or(refused)?)?,
-            "--container" => self.container = Some(read_word(value).ok_or(refused)?),
-            "--time" => self.time = Some(read_whole(value).ok_or(refused)?),
-            "--rate" => self.rate = Some(read_positive(value).ok_or(refused)?),
-            "--capacity" => self.capacity = read_whole(value).ok_or(refused)? as usize,
-            "--flush-every" => self.flush_every = Some(read_whole(value).ok_or(refused)?),
-            _ => return Err(ReadError::Unreadable(OptionError::Unknown(option))),
+            Setting::Prefix => self.prefix = read_word(value).ok_or(refused)?,
+            Setting::Tag => self.tags.push(read_tag(value).ok_or(refused)?)?,
+            Setting::Container => self.container = Some(read_word(value).ok_or(refused)?),
+            Setting::Time => self.time = Some(read_whole(value).ok_or(refused)?),
+            Setting::Rate => self.rate = Some(read_positive(value).ok_or(refused)?),
+            Setting::Sample => {
+                let rate = read_positive(value).ok_or(refused)?;
+                self.sample = Some(Chance::new(rate).ok_or(refused)?);
+                self.rate = Some(rate);
+            }
+            Setting::Capacity => self.capacity = read_whole(value).ok_or(refused)? as usize,
+            Setting::FlushEvery => self.flush_every = Some(read_whole(value).ok_or(refused)?),
         }
         Ok(())
     }
@@ -209,6 +244,7 @@ impl<'a, A: Allocator> Options<'a, A> {
 
 impl<'a, A: Allocator + Clone> Options<'a, A> {
     /// Returns what these tags and the options add to each metric. The tags come before those of the options.
+    /// A line may have any length.
     ///
     /// # Errors
     /// An error of the kind `InvalidInput` if the settings are strict and a tag has a separator in one of its texts, and
@@ -232,45 +268,7 @@ impl<'a, A: Allocator + Clone> Options<'a, A> {
             settings,
             rate: self.rate,
             time: self.time,
+            longest: usize::MAX,
         })
     }
-}
-
-/// Reads the options, up to the first word that doesn't begin with two dashes.
-///
-/// # Errors
-/// `Unreadable` with the first option that can't be read, and `OutOfMemory`.
-pub fn read_options<'a, A: Allocator>(
-    alloc: A,
-    words: &'a [&'a str],
-) -> Result<Request<'a, A>, ReadError<OptionError<'a>>>
-    ensures { IfOk result AsksWhere }
-{
-    let mut options = Options::new(alloc);
-    let mut left = words;
-    while let [first, others @ ..] = left {
-        match *first {
-            "--help" => return Ok(Request::Help),
-            "--version" => return Ok(Request::Version),
-            "--print" => {
-                options.is_printing = true;
-                left = others;
-            }
-            "--strict" => {
-                options.is_strict = true;
-                left = others;
-            }
-            option => {
-                if !option.starts_with("--") {
-                    break;
-                }
-                let [value, rest @ ..] = others else {
-                    return Err(ReadError::Unreadable(OptionError::NoValue(option)));
-                };
-                options.set(option, value)?;
-                left = rest;
-            }
-        }
-    }
-    Ok(Request::Send(options, left))
 }

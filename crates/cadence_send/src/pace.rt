@@ -6,19 +6,23 @@ pub trait Pace: Drop {
     fn is_due(&mut self) -> bool;
 
     /// Waits until the buffered lines are to be sent, or until there is more input. Returns whether they are to be sent.
-    /// It is called before more input is read, if there are buffered lines that are not to be sent now. By default they
-    /// wait for input, so it returns `false` at once.
-    fn wait_until_due(&mut self) -> bool {
-        false
-    }
+    /// It is called before more input is read, if there are buffered lines that are not to be sent now.
+    fn wait_until_due(&mut self) -> bool;
 }
 
-/// Never sends early: buffered lines are sent only when a packet is full and at the end of the input.
-#[derive(Clone, Copy, Debug)]
-pub struct Unhurried;
-
-impl Pace for Unhurried {
+/// `None` never sends early: buffered lines are sent only when a packet is full and at the end of the input.
+impl<P: Pace> Pace for Option<P> {
     fn is_due(&mut self) -> bool {
-        false
+        match self {
+            Some(pace) => pace.is_due(),
+            None => false,
+        }
+    }
+
+    fn wait_until_due(&mut self) -> bool {
+        match self {
+            Some(pace) => pace.wait_until_due(),
+            None => false,
+        }
     }
 }

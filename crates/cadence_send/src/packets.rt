@@ -1,4 +1,4 @@
-//! Sends packets as datagrams, or prints them.
+//! Prints packets.
 ghost use Rattle.std.specs.Prelude.{◌≡◌, ◌≤◌, [], true, length, MatchResult};
 ghost use Rattle.cadence_flow.specs.Writer.{history_of};
 ghost use Rattle.cadence_send.specs.Writers.{is_packet_error, packet_writer_kind};
@@ -9,41 +9,6 @@ use cadence_errors::SinkError;
 use cadence_flow::io::{PacketWriter, Refusals};
 use std::alloc::{AllocError, Allocator, Global};
 use std::io::Write;
-use std::net::{SocketAddr, UdpSocket};
-
-/// A writer that sends each packet as a datagram.
-#[derive(Drop)]
-pub struct DatagramWriter {
-    socket: UdpSocket,
-    target: SocketAddr,
-    refusals: Refusals,
-}
-
-impl DatagramWriter {
-    /// Returns a writer that sends to this address.
-    pub fn new(socket: UdpSocket, target: SocketAddr) -> DatagramWriter {
-        DatagramWriter {
-            socket,
-            target,
-            refusals: Refusals::none(),
-        }
-    }
-}
-
-impl PacketWriter for DatagramWriter {
-    ghost history = { λ w. history_of [] w.refusals };
-
-    ghost kind = { λ _. packet_writer_kind };
-
-    fn write_packet(&mut self, packet: &[u8]) -> Result<usize, SinkError> {
-        let answer = match self.socket.send_to(packet, self.target) {
-            Ok(n) => Ok(n),
-            Err(error) => Err(SinkError::Io(error)),
-        };
-        self.refusals.note(&answer, packet.len());
-        answer
-    }
-}
 
 /// A writer that prints each packet as a line: the word `packet`, the length in bytes, and the bytes with the escapes
 /// of `cadence_cli::push_bytes`.

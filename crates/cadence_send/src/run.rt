@@ -1,20 +1,22 @@
 //! Sends one metric, or those of an input, and returns the exit status.
-ghost use Rattle.std.specs.Prelude.{◌≡◌, ◌≤◌, ◌⊎◌, [], IfSome, OnOk, IfOk, map};
-ghost use Rattle.cadence_send.specs.Sent.{SendsTexts, SendsWords, TakesLines, texts_of};
+ghost use Rattle.std.specs.Prelude.{◌≡◌, ◌≤◌, ◌⊎◌, [], IfSome, IsOk, OnErr, OnOk, IfOk, map};
+ghost use Rattle.cadence_send.specs.Losses.{losses_of};
+ghost use Rattle.cadence_send.specs.Sent.{SendsTexts, SendsWords, TakesFirst, TakesLines, texts_of};
+ghost use Rattle.cadence_send.specs.Streams.{Accounts, AccountsFirst, fates_in};
 
 use crate::engine::{RunError, TextCounts, take_input};
-use crate::line::write_line_of_words;
-use crate::options::Defaults;
+use crate::lasting::{LastingWriter, Losses};
+use crate::outlet::Outlet;
 use crate::pace::Pace;
-use crate::word_error::{Part, WordError};
 use cadence_errors::SinkError;
 use cadence_flow::io::{LineBuffer, PacketWriter};
+use cadence_words::{Defaults, Part, WordError, write_line_of_words};
 use std::alloc::Allocator;
 use std::io::{Read, Write};
 
 // Sends the held text.
 fn flush_all<T: PacketWriter, A: Allocator>(lines: &mut LineBuffer<T, A>) -> Result<(), RunError>
-    ensures same { OnOk result (TakesLines T.kind T.history lines.old lines.new []) }
+    ensures same { TakesLines T.kind T.history lines.old lines.new [] }
     ensures empty { OnOk result (lines.new.held ≡ []) }
 {
     let mut fault = SinkError::NothingWritten;
@@ -26,7 +28,8 @@ fn flush_all<T: PacketWriter, A: Allocator>(lines: &mut LineBuffer<T, A>) -> Res
 /// `take_input`.
 ///
 /// # Errors
-/// `Input` if the reader fails, `Writer` if a packet is refused, and `OutOfMemory`.
+/// `Input` if the reader fails, `Writer` if a packet is refused, and `OutOfMemory`. The lines before the error were
+/// taken, and none of the others: what a writer refused of them is still held.
 pub fn send_input<T, I, E, P, A>(
     alloc: &A,
     defaults: &Defaults<A>,
@@ -41,8 +44,10 @@ where
     E: Write,
     P: Pace,
     A: Allocator + Clone,
-    ensures { OnOk result (IfSome (I.remaining input.old) (λ text.
+    ensures all { OnOk result (IfSome (I.remaining input.old) (λ text.
         SendsTexts defaults.now T.kind T.history lines.old lines.new (texts_of text))) }
+    ensures first { OnErr result (IfSome (I.remaining input.old) (λ text.
+        TakesFirst defaults.now T.kind T.history lines.old lines.new (texts_of text))) }
 {
     let taken = take_input(alloc, defaults, lines, input, errors, pace);
     let flushed = flush_all(lines);
@@ -51,8 +56,8 @@ where
     Ok(counts)
 }
 
-/// Sends the text that is held, and then the metric of the words. If the words ask for no metric, this function sends
-/// nothing and returns the part that can't be read.
+/// Sends the text that is held, and then the metric of the words. If the words ask for no metric, or the metric's line is
+/// longer than a line may be, this function sends nothing and returns the part that can't be read.
 ///
 /// # Errors
 /// `Writer` if a packet is refused, and `OutOfMemory`.
@@ -68,6 +73,9 @@ pub fn send_words<T: PacketWriter, A: Allocator + Clone>(
     let mut line = Vec::new(alloc.clone()?);
     match write_line_of_words(alloc, defaults, &mut line, words) {
         Ok(()) => {
+            if line.len() > defaults.longest {
+                return Ok(Some(Part::Length));
+            }
             let mut fault = SinkError::NothingWritten;
             lines.write(&line, &mut fault).ok_or(fault)?;
             flush_all(lines)?;
@@ -78,12 +86,16 @@ pub fn send_words<T: PacketWriter, A: Allocator + Clone>(
     }
 }
 
-// Writes the error to `errors`, and returns its exit status.
-fn report_error<E: Write>(error: RunError, errors: &mut E) -> u8
+// Writes the error to `errors`, and returns its exit status. For a refused packet it names the place.
+fn report_error<E: Write>(error: RunError, outlet: Outlet<'_>, errors: &mut E) -> u8
     ensures { (result ≡ 1) ⊎ (result ≡ 3) }
 {
-    let _ = writeln!(errors, "statsd_send: {error}");
-    error.status()
+    let status = error.status();
+    let _ = match error {
+        RunError::Writer(fault) => writeln!(errors, "statsd_send: cannot {outlet}: {fault}"),
+        other => writeln!(errors, "statsd_send: {other}"),
+    };
+    status
 }
 
 /// Sends the metric of the words with `send_words`, and returns the exit status of the program: 0 if the metric was
@@ -94,6 +106,7 @@ pub fn run_words<T: PacketWriter, E: Write, A: Allocator + Clone>(
     defaults: &Defaults<A>,
     lines: &mut LineBuffer<T, A>,
     words: &[&str],
+    outlet: Outlet<'_>,
     errors: &mut E,
 ) -> u8
     ensures { result ≤ 3 }
@@ -104,8 +117,31 @@ pub fn run_words<T: PacketWriter, E: Write, A: Allocator + Clone>(
             let _ = writeln!(errors, "statsd_send: {part}");
             2
         }
-        Err(error) => report_error(error, errors),
+        Err(error) => report_error(error, outlet, errors),
     }
+}
+
+// Writes to `errors` how a run over an input ended, if it isn't without a fault, and returns the exit status.
+fn report_end<E: Write>(
+    ended: Result<TextCounts, RunError>,
+    outlet: Outlet<'_>,
+    errors: &mut E,
+) -> u8
+    ensures most { result ≤ 3 }
+    ensures ok { (result ≡ 0) ⊎ (result ≡ 2) → IsOk ended }
+{
+    let TextCounts { texts, unread } = match ended {
+        Ok(counts) => counts,
+        Err(error) => return report_error(error, outlet, errors),
+    };
+    if unread == 0 {
+        return 0;
+    }
+    let _ = writeln!(
+        errors,
+        "statsd_send: {unread} of {texts} lines: cannot read"
+    );
+    2
 }
 
 /// Sends the metrics of the input's lines with `send_input`, and returns the exit status of the program: 0 if the
@@ -117,6 +153,7 @@ pub fn run_input<T, I, E, P, A>(
     defaults: &Defaults<A>,
     lines: &mut LineBuffer<T, A>,
     input: &mut I,
+    outlet: Outlet<'_>,
     errors: &mut E,
     pace: &mut P,
 ) -> u8
@@ -130,19 +167,89 @@ where
     ensures sent { (result ≡ 0) ⊎ (result ≡ 2) → IfSome (I.remaining input.old) (λ text.
         SendsTexts defaults.now T.kind T.history lines.old lines.new (texts_of text)) }
 {
-    match send_input(alloc, defaults, lines, input, errors, pace) {
-        Ok(counts) => {
-            let unread = counts.unread;
-            if unread == 0 {
-                return 0;
-            }
-            let texts = counts.texts;
-            let _ = writeln!(
-                errors,
-                "statsd_send: {unread} of {texts} lines: cannot read"
-            );
-            2
-        }
-        Err(error) => report_error(error, errors),
+    let ended = send_input(alloc, defaults, lines, input, errors, pace);
+    report_end(ended, outlet, errors)
+}
+
+/// Sends the metrics of the input's lines with `send_input`, over a writer that outlives refusals. Afterwards the
+/// packets that the writer was given, sent or lost, are the lines of the whole input and nothing else, and the writer's
+/// `losses` are those of these packets.
+///
+/// # Errors
+/// `Input` if the reader fails, and `OutOfMemory`. The first lines of the input are then in packets or still held, and
+/// none of the others.
+pub fn send_stream<T, F, I, E, P, A>(
+    alloc: &A,
+    defaults: &Defaults<A>,
+    lines: &mut LineBuffer<LastingWriter<'_, T, F, A>, A>,
+    input: &mut I,
+    errors: &mut E,
+    pace: &mut P,
+) -> Result<TextCounts, RunError>
+where
+    T: PacketWriter,
+    F: Write + Drop,
+    I: Read,
+    E: Write,
+    P: Pace,
+    A: Allocator + Clone,
+    ensures whole { OnOk result (IfSome (I.remaining input.old) (λ text.
+        Accounts defaults.now lines.old lines.new (texts_of text))) }
+    ensures none_held { OnOk result (IfSome (I.remaining input.old) (λ _. lines.new.held ≡ [])) }
+    ensures first { OnErr result (IfSome (I.remaining input.old) (λ text.
+        AccountsFirst defaults.now lines.old lines.new (texts_of text))) }
+{
+    send_input(alloc, defaults, lines, input, errors, pace)
+}
+
+// Writes to `errors` how much was lost, if anything was. Returns the exit status of a run that ended with `status`: 1 in
+// place of 0 or 2 if anything was lost.
+fn report_losses<E: Write>(status: u8, losses: Losses, errors: &mut E) -> u8
+    requires { status ≤ 3 }
+    ensures most { result ≤ 3 }
+    ensures none { (result ≡ 0) ⊎ (result ≡ 2) → (losses.packets ≡ 0) × (result ≡ status) }
+{
+    let Losses {
+        given,
+        packets,
+        lines,
+    } = losses;
+    if packets == 0 {
+        return status;
     }
+    let _ = writeln!(
+        errors,
+        "statsd_send: {packets} of {given} packets were lost, with {lines} lines"
+    );
+    if status == 3 { 3 } else { 1 }
+}
+
+/// Sends the metrics of the input's lines with `send_stream`, and returns the exit status of the program. It is that of
+/// `run_input`, except that it is 1 in place of 0 or 2 if packets were lost (but not 2^64, or a multiple of that). How
+/// many packets and lines were lost is written to `errors`.
+pub fn run_stream<T, F, I, E, P, A>(
+    alloc: &A,
+    defaults: &Defaults<A>,
+    lines: &mut LineBuffer<LastingWriter<'_, T, F, A>, A>,
+    input: &mut I,
+    outlet: Outlet<'_>,
+    errors: &mut E,
+    pace: &mut P,
+) -> u8
+where
+    T: PacketWriter,
+    F: Write + Drop,
+    I: Read,
+    E: Write,
+    P: Pace,
+    A: Allocator + Clone,
+    ensures status { result ≤ 3 }
+    ensures sent { (result ≡ 0) ⊎ (result ≡ 2) → IfSome (I.remaining input.old) (λ text.
+        Accounts defaults.now lines.old lines.new (texts_of text)) }
+    ensures none_lost { (result ≡ 0) ⊎ (result ≡ 2) →
+        (losses_of (fates_in lines.new.writer)).packets ≡ 0 }
+{
+    let ended = send_stream(alloc, defaults, lines, input, errors, pace);
+    let status = report_end(ended, outlet, errors);
+    report_losses(status, lines.get_ref().losses(), errors)
 }

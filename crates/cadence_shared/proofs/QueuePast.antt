@@ -138,22 +138,15 @@ module _ {T : Type 0} where
       → slice_get r.waiting (length r.waiting - 1) ≡ Some found → text ≡ found
   same_newest q text found dropped r step at = let same : Some text ≡ Some found = sym (accepted_is_newest q text dropped r step) ∙ at in cc
 
-  -- The text that `make` made is the newest one that waits, so noting that one notes the right text.
-  pub past_made : {P : T → Type 0} (accepted taken : List T) (q r : Queue T) (found : T)
-      → ((text : T) × (dropped : Option T) × P text × Accepts q text dropped r) → slice_get r.waiting (length r.waiting - 1) ≡ Some found
-      → ∥ IsPast accepted taken q ∥₁ → ∥ IsPast (accepted ++ found ∷ []) taken r ∥₁
-  past_made accepted taken q r found (text, dropped, made, step) at past =
-      subst (λ t. ∥ IsPast (accepted ++ t ∷ []) taken r ∥₁) (same_newest q text found dropped r step at)
-      (past_accepted accepted taken q text dropped r step past)
+  module _ {P : T → Type 0} (q r : Queue T) (dropped : Option T) (made : (text : T) × P text × Accepts q text dropped r) where
+    -- The newest text that waits is one that was made, and the step is the one that accepted it.
+    pub newest_is_made : (found : T) → slice_get r.waiting (length r.waiting - 1) ≡ Some found → P found × Accepts q found dropped r
+    newest_is_made found at =
+        let (text, is, step) = made in
+        subst (λ t. P t × Accepts q t dropped r) (same_newest q text found dropped r step at) (is, step)
 
-  -- The text that is noted is the one that `make` made.
-  pub made_is_noted : {P : T → Type 0} (accepted : List T) (q r : Queue T) (found : T)
-      → ((text : T) × (dropped : Option T) × P text × Accepts q text dropped r) → slice_get r.waiting (length r.waiting - 1) ≡ Some found
-      → (text : T) × (dropped : Option T) × P text × (accepted ++ found ∷ [] ≡ accepted ++ text ∷ []) × Accepts q text dropped r
-  made_is_noted accepted q r found (text, dropped, made, step) at =
-      (text, dropped, made, ap (λ t. accepted ++ t ∷ []) (sym (same_newest q text found dropped r step at)), step)
-
-  -- After a submit that returned `Ok` there is a newest text that waits.
-  pub made_is_found : {P : T → Type 0} {G : Type 0} (q r : Queue T)
-      → ((text : T) × (dropped : Option T) × P text × Accepts q text dropped r) → slice_get r.waiting (length r.waiting - 1) ≡ None → G
-  made_is_found q r (text, dropped, made, step) none = let no : Some text ≡ None = sym (accepted_is_newest q text dropped r step) ∙ none in absurd cc
+    -- After a step that accepted a text there is a newest one that waits.
+    pub newest_is_found : {G : Type 0} → slice_get r.waiting (length r.waiting - 1) ≡ None → G
+    newest_is_found none =
+        let (text, is, step) = made in
+        let no : Some text ≡ None = sym (accepted_is_newest q text dropped r step) ∙ none in absurd cc

@@ -1,10 +1,16 @@
+pub mod Answered
 pub mod Cut
+pub mod Held
+pub mod Opened
+pub mod Packed
 pub mod QueuePast
 pub mod QueueTaken
 pub mod RecordedPacker
 pub mod RecordedQueue
 pub mod RecordedWriter
+pub mod Sent
 pub mod SharedQueue
+pub mod Shown
 pub mod Taker
 pub mod Whole
 pub mod WholePacker

@@ -3,11 +3,11 @@ use Rattle.std.specs.Prelude.{ℕ, Option}
 use Rattle.cadence_flow.specs.declared.queue.policy.QueuePolicy.{QueuePolicy}
 use Rattle.cadence_shared.specs.declared.shared_queue.SharedQueue.{SharedQueue}
 
-module _ {T A : Type 0} where
+module _ {T A M : Type 0} where
   -- the capacity, or none
-  abbrev pub bound_of : SharedQueue T A → Option ℕ
+  abbrev pub bound_of : SharedQueue T A M → Option ℕ
   bound_of q = q.capacity
 
   -- what the queue does with a text when it is full
-  abbrev pub rule_of : SharedQueue T A → QueuePolicy
+  abbrev pub rule_of : SharedQueue T A M → QueuePolicy
   rule_of q = q.policy

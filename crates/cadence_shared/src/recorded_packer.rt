@@ -9,6 +9,11 @@ use cadence_errors::{MetricError, MetricResult, SinkError};
 use cadence_flow::io::{LineBuffer, PacketWriter};
 use std::alloc::{Allocator, Global};
 use std::marker::{Model, PhantomData};
+use std::snapshot::Snapshot;
+
+mod answers;
+
+pub use answers::{Flushed, Packed, Refused};
 
 /// A packer whose ending is the newline, with a record of the lines that it accepted, each with the number of bytes
 /// that its call returned. The record exists in proofs only. Two facts are true of every `RecordedPacker`:
@@ -48,50 +53,116 @@ impl<W: PacketWriter, A: Allocator + Clone> RecordedPacker<W, A> {
 
 impl<W: PacketWriter, A: Allocator> RecordedPacker<W, A> {
     ghost use Rattle.std.specs.List.{concat};
-    ghost use Rattle.std.specs.Option.{ok_or};
-    ghost use Rattle.std.specs.Prelude.{length, IfSome, IsTrue, IsFalse, None};
-    ghost use Rattle.cadence_flow.specs.Packer.{FlushesHeld, HoldsLine, WritesLine};
+    ghost use Rattle.std.specs.Prelude.{length, IfSome, None, is_some};
+    ghost use Rattle.cadence_flow.specs.Packer.{Fits, HoldsLine};
+    ghost use Rattle.cadence_shared.specs.Packed.{AnswersFlush, AnswersLine, after_of, before_of, bytes_of, returned_of};
     ghost use Rattle.cadence_shared.specs.RecordedPacker.{accepted_of, packer_of};
-    ghost use Rattle.cadence_shared.specs.RecordedWriter.{packets_of, recorded_history, recorded_kind};
+    ghost use Rattle.cadence_shared.specs.RecordedWriter.{packets_of};
 
     /// Writes a line as `LineBuffer::write` does, and adds it to the record if it was accepted.
-    pub fn write(&mut self, line: &[u8], fault: &mut SinkError) -> Option<usize>
-        ensures accepted { IfSome result (λ n.
-            accepted_of self.new ≡ accepted_of self.old ++ (line.now, n) ∷ []) }
-        ensures refused { result ≡ None → accepted_of self.new ≡ accepted_of self.old }
-        ensures writes { WritesLine (recorded_kind W.kind) (recorded_history W.history)
-            (packer_of self.old) (packer_of self.new) line.now (ok_or result fault.new) }
+    pub fn write(
+        &mut self,
+        line: &[u8],
+        fault: &mut SinkError,
+    ) -> Result<Packed<Self>, Refused<Self>>
+        ensures { AnswersLine W.kind W.history self.old self.new line.now result fault.new }
     {
-        let taken = self.lines.write(line, fault);
-        if let Some(n) = taken {
-            self.accepted.note(line, n);
+        let before = Snapshot::of(self);
+        match self.lines.write(line, fault) {
+            Some(bytes) => {
+                self.accepted.note(line, bytes);
+                Ok(Packed {
+                    bytes,
+                    returned: Snapshot::of(&bytes),
+                    before,
+                    after: Snapshot::of(self),
+                })
+            }
+            None => Err(Refused {
+                why: Snapshot::of(fault),
+                before,
+                after: Snapshot::of(self),
+            }),
         }
-        taken
+    }
+
+    /// Writes a line that doesn't fit beside the held text, as `LineBuffer::write_late` does, and adds it to the record
+    /// if it was accepted.
+    pub fn write_late(
+        &mut self,
+        line: &[u8],
+        fault: &mut SinkError,
+    ) -> Result<Packed<Self>, Refused<Self>>
+        requires { Fits (packer_of self.old) line.now → ⊥ }
+        ensures { AnswersLine W.kind W.history self.old self.new line.now result fault.new }
+    {
+        let before = Snapshot::of(self);
+        match self.lines.write_late(line, fault) {
+            Some(bytes) => {
+                self.accepted.note(line, bytes);
+                Ok(Packed {
+                    bytes,
+                    returned: Snapshot::of(&bytes),
+                    before,
+                    after: Snapshot::of(self),
+                })
+            }
+            None => Err(Refused {
+                why: Snapshot::of(fault),
+                before,
+                after: Snapshot::of(self),
+            }),
+        }
     }
 
     /// Holds a line if it fits, as `LineBuffer::hold` does, and adds it to the record then.
     // Without this hint a line of `bench udp 512 20` takes 17 instructions more.
     #[inline(always)]
-    pub fn hold(&mut self, line: &[u8]) -> bool
-        ensures accepted { IsTrue result →
-            accepted_of self.new ≡ accepted_of self.old ++ (line.now, length line.now) ∷ [] }
-        ensures unchanged { IsFalse result → accepted_of self.new ≡ accepted_of self.old }
-        ensures holds { HoldsLine (packer_of self.old) (packer_of self.new) line.now result }
+    pub fn hold(&mut self, line: &[u8]) -> Option<Packed<Self>>
+        ensures told { IfSome result (λ p. (before_of p ≡ self.old)
+            × (after_of p ≡ self.new) × (returned_of p ≡ bytes_of p)) }
+        ensures accepted { IfSome result (λ p. (bytes_of p ≡ length line.now)
+            × (accepted_of self.new ≡ accepted_of self.old ++ (line.now, length line.now) ∷ [])) }
+        ensures unchanged { result ≡ None → accepted_of self.new ≡ accepted_of self.old }
+        ensures holds { HoldsLine (packer_of self.old) (packer_of self.new)
+            line.now (is_some result) }
     {
+        let before = Snapshot::of(self);
         if !self.lines.hold(line) {
-            return false;
+            return None;
         }
-        self.accepted.note(line, line.len());
-        true
+        let bytes = line.len();
+        self.accepted.note(line, bytes);
+        Some(Packed {
+            bytes,
+            returned: Snapshot::of(&bytes),
+            before,
+            after: Snapshot::of(self),
+        })
     }
 
     /// Writes the held text, as `LineBuffer::flush` does. The record doesn't change.
-    pub fn flush(&mut self, fault: &mut SinkError) -> Option<()>
-        ensures same { accepted_of self.new ≡ accepted_of self.old }
-        ensures flushes { FlushesHeld (recorded_kind W.kind) (recorded_history W.history)
-            (packer_of self.old) (packer_of self.new) (ok_or result fault.new) }
+    pub fn flush(&mut self, fault: &mut SinkError) -> Result<Flushed<Self>, Refused<Self>>
+        ensures { AnswersFlush W.kind W.history self.old self.new result fault.new }
     {
-        self.lines.flush(fault)
+        let before = Snapshot::of(self);
+        match self.lines.flush(fault) {
+            Some(()) => Ok(Flushed {
+                before,
+                after: Snapshot::of(self),
+            }),
+            None => Err(Refused {
+                why: Snapshot::of(fault),
+                before,
+                after: Snapshot::of(self),
+            }),
+        }
+    }
+
+    /// Writes the held text, and ends the packer. What the writer doesn't take of it is lost.
+    pub fn finish(mut self) {
+        let mut fault = SinkError::NothingWritten;
+        let _ = self.lines.flush(&mut fault);
     }
 
     /// Returns the held text, which waits to be written. The packets that the writer took, followed by this text, are
@@ -104,6 +175,24 @@ impl<W: PacketWriter, A: Allocator> RecordedPacker<W, A> {
     {
         self.lines.held()
     }
+}
+
+impl<W, A: Allocator> Packed<RecordedPacker<W, A>> {
+    ghost use Rattle.cadence_shared.specs.Packed.{after_of, before_of};
+    ghost use Rattle.cadence_shared.specs.RecordedPacker.{accepted_of, packer_of};
+    ghost use Rattle.cadence_shared.specs.RecordedWriter.{offers_of};
+
+    /// Both states of the answer meet the facts of every `RecordedPacker`. The call does nothing.
+    pub fn meets_the_record(&self)
+        ensures before { let p = packer_of (before_of self.now) in
+            bytes_taken (offers_of p.writer) ++ p.held
+            ≡ taken_stream p.format (accepted_of (before_of self.now)) }
+        ensures after { let p = packer_of (after_of self.now) in
+            bytes_taken (offers_of p.writer) ++ p.held
+            ≡ taken_stream p.format (accepted_of (after_of self.now)) }
+        ensures cut { let p = packer_of (after_of self.now) in
+            ∥ IsCut p.format (offers_of p.writer) (accepted_of (after_of self.now)) p.held ∥₁ }
+    {}
 }
 
 /// A writer with a record of each packet that it was offered and didn't refuse, with the number of bytes that the

@@ -3,13 +3,15 @@ ghost use Rattle.std.specs.Prelude.{◌≡◌};
 ghost use Rattle.cadence_shared.specs.QueuePast.{IsPast};
 
 use super::ghost_list::GhostList;
-use cadence_errors::{MetricResult, SinkError};
+use super::taking::Hand;
+use cadence_errors::MetricResult;
 use cadence_flow::queue::{QueueCore, QueueError, QueuePolicy, Taken, TextRing};
 use std::alloc::{AllocError, Allocator, Global};
+use std::snapshot::Snapshot;
 
 /// A `QueueCore` with a record of the texts that it accepted and of those that were taken from it, each in order. The
 /// record exists in proofs only. One fact is true of every `RecordedQueue` (`past`): each accepted text was taken or
-/// dropped, or it waits in the queue, as the queue's model says.
+/// dropped, or it waits in the queue, as the queue's model says. Its calls never let a text go.
 #[derive(Drop)]
 pub struct RecordedQueue<T, A: Allocator = Global> {
     core: QueueCore<T, A>,
@@ -18,13 +20,12 @@ pub struct RecordedQueue<T, A: Allocator = Global> {
     pub ghost past: { ∥ IsPast accepted.items taken.items core ∥₁ },
 }
 
-impl<T: Drop, A: Allocator + Clone> RecordedQueue<T, A> {
-    ghost use Rattle.std.specs.Prelude.{[], ◌∷◌, ◌++◌, IfOk, IfErr, OnOk, OnErr, Ok, Option, length, ◌⊎◌};
+impl<T, A: Allocator + Clone> RecordedQueue<T, A> {
+    ghost use Rattle.std.specs.Prelude.{[], ◌∷◌, ◌++◌, IfOk, IfErr, OnOk, OnErr, Ok, Err, IsOk, IsTrue};
     ghost use Rattle.std.specs.declared.alloc.AllocError.{AllocError};
-    ghost use Rattle.cadence_flow.specs.QueueRoom.{OnlyWantsRoom};
-    ghost use Rattle.cadence_flow.specs.Queue.{Accepts, IsRefusal, error_of, new_queue};
+    ghost use Rattle.cadence_flow.specs.QueueRoom.{IsBounded, OnlyWantsRoom};
+    ghost use Rattle.cadence_flow.specs.Queue.{Accepts, IsRefusal, error_of, is_open, new_queue};
     ghost use Rattle.cadence_shared.specs.RecordedQueue.{accepted_by, core_of, taken_from};
-    ghost use Rattle.cadence_shared.specs.QueueTaken.{AreTaken};
 
     /// Makes an empty queue that has accepted no text yet, as `QueueCore::with_policy` does.
     pub fn new(alloc: A, capacity: Option<usize>, policy: QueuePolicy) -> MetricResult<Self>
@@ -40,49 +41,69 @@ impl<T: Drop, A: Allocator + Clone> RecordedQueue<T, A> {
         })
     }
 
-    /// Adds a text at the end, as `QueueCore::submit` does, and to the record if it was accepted.
-    pub fn submit(&mut self, text: T) -> Result<Option<T>, (SinkError, T)>
+    /// Adds a text at the end, as `QueueCore::add` does, and to the record if it was accepted.
+    pub fn add(&mut self, text: T) -> Result<Option<T>, (QueueError, T)>
         ensures accepted { OnOk result
             (accepted_by self.new ≡ accepted_by self.old ++ text ∷ []) }
         ensures refused { OnErr result (accepted_by self.new ≡ accepted_by self.old) }
         ensures same { taken_from self.new ≡ taken_from self.old }
         ensures accepts { IfOk result (λ dropped.
             Accepts (core_of self.old) text dropped (core_of self.new)) }
-        ensures refuses { IfErr result (λ e. IsRefusal (core_of self.old) e.0 × (e.1 ≡ text)
-            × (core_of self.new ≡ core_of self.old)) }
+        ensures refuses { IfErr result (λ e. IsRefusal (core_of self.old) (error_of e.0)
+            × (e.1 ≡ text) × (core_of self.new ≡ core_of self.old)) }
+        ensures bounded { IsBounded (core_of self.old).capacity →
+            IsTrue (is_open (core_of self.old)) → IsOk result }
     {
         let accepted = self.accepted.and(&text);
-        let answer = self.core.submit(text);
+        let answer = self.core.add(text);
         if let Ok(_) = &answer {
             self.accepted = accepted;
         }
         answer
     }
 
-    /// Adds the text that `make` makes at the end, as `QueueCore::offer` does, and adds it to the record.
-    pub fn offer<F: FnOnce() -> Result<T, AllocError>>(&mut self, make: F) -> Result<(), QueueError>
+    /// Adds the text that `make` makes at the end, as `QueueCore::offer` does, and adds it to the record. Returns the
+    /// text that a full queue dropped for it, if it dropped one, and in proofs the text itself.
+    pub fn offer<F: FnOnce() -> Result<T, AllocError>>(
+        &mut self,
+        make: F,
+    ) -> Result<(Option<T>, Snapshot<T>), QueueError>
         requires { F.IsAlwaysCallable make }
-        ensures accepted { OnOk result ((text : T) × (dropped : Option T)
-            × F.post make (Ok text)
-            × (accepted_by self.new ≡ accepted_by self.old ++ text ∷ [])
-            × Accepts (core_of self.old) text dropped (core_of self.new)) }
+        ensures made { IfOk result (λ a. F.post make (Ok a.1.value)) }
+        ensures accepted { IfOk result (λ a.
+            accepted_by self.new ≡ accepted_by self.old ++ a.1.value ∷ []) }
         ensures refused { OnErr result (accepted_by self.new ≡ accepted_by self.old) }
         ensures same { taken_from self.new ≡ taken_from self.old }
+        ensures accepts { IfOk result (λ a.
+            Accepts (core_of self.old) a.1.value a.0 (core_of self.new)) }
         ensures refuses { IfErr result (λ e. IsRefusal (core_of self.old) (error_of e)
             × (core_of self.new ≡ core_of self.old)) }
+        ensures bounded { IsBounded (core_of self.old).capacity →
+            IsTrue (is_open (core_of self.old)) →
+            OnErr result ((error : AllocError) × F.post make (Err error)) }
     {
-        self.core.offer(make)?;
-        // `make`'s text went into the queue; for the record it is read back, as the newest text
+        let dropped = self.core.offer(make)?;
+        // the text of `make` went into the queue, so for the record it is read back, as the newest one that waits
         let newest = self.core.waiting() - 1;
-        if let Some(text) = self.core.get(newest) {
-            self.accepted = self.accepted.and(text);
+        match self.core.get(newest) {
+            Some(text) => {
+                self.accepted = self.accepted.and(text);
+                Ok((dropped, Snapshot::of(text)))
+            }
+            None => unreachable!(),
         }
-        Ok(())
     }
+}
+
+impl<T, A: Allocator> RecordedQueue<T, A> {
+    ghost use Rattle.std.specs.Prelude.{[], ◌++◌, length, ◌⊎◌};
+    ghost use Rattle.cadence_flow.specs.Queue.{IsTaken, with_handle, without_handle, after_stop};
+    ghost use Rattle.cadence_shared.specs.RecordedQueue.{accepted_by, core_of, taken_from};
+    ghost use Rattle.cadence_shared.specs.QueueTaken.{AreTaken, texts_of};
 
     /// Moves the oldest texts into an empty ring, in order: as many as the ring has room for, or all if there are
     /// fewer. It takes no memory. In proofs the texts are added to `taken` too.
-    pub fn take_some(&mut self, texts: &mut TextRing<T, A>, taken: &mut GhostList<T>)
+    pub fn take_some(&mut self, hand: Hand, texts: &mut TextRing<T, A>, taken: &mut GhostList<T>)
         requires { texts.old.items ≡ [] }
         ensures told { taken.new.items ≡ taken.old.items ++ texts.new.items }
         ensures noted { taken_from self.new ≡ taken_from self.old ++ texts.new.items }
@@ -93,25 +114,18 @@ impl<T: Drop, A: Allocator + Clone> RecordedQueue<T, A> {
             ⊎ ((core_of self.new).waiting ≡ []) }
     {
         for _ in 0..texts.room() {
-            let Taken::Text(text) = self.take() else {
-                return;
-            };
-            *taken = taken.and(&text);
-            let Ok(()) = texts.push_back(text) else {
-                unreachable!()
-            };
+            match self.take(hand) {
+                Taken::Text(text) => {
+                    *taken = taken.and(&text);
+                    texts.push(text);
+                }
+                Taken::Empty | Taken::Ended => return,
+            }
         }
     }
-}
-
-impl<T: Drop, A: Allocator> RecordedQueue<T, A> {
-    ghost use Rattle.std.specs.Prelude.{◌++◌};
-    ghost use Rattle.cadence_flow.specs.Queue.{IsTaken, with_handle, without_handle, after_stop};
-    ghost use Rattle.cadence_shared.specs.RecordedQueue.{accepted_by, core_of, taken_from};
-    ghost use Rattle.cadence_shared.specs.QueueTaken.{texts_of};
 
     /// Takes the oldest text, as `QueueCore::take` does, and adds it to the record.
-    pub fn take(&mut self) -> Taken<T>
+    pub fn take(&mut self, _hand: Hand) -> Taken<T>
         ensures noted { taken_from self.new ≡ taken_from self.old ++ texts_of result }
         ensures same { accepted_by self.new ≡ accepted_by self.old }
         ensures taken { IsTaken (core_of self.old) result (core_of self.new) }

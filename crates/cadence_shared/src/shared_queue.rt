@@ -1,39 +1,43 @@
 //! A queue of texts that threads share, with a record of its past that only proofs read.
-ghost use Rattle.std.specs.Prelude.{◌≡◌, ◌≢◌, [], ◌++◌, IfErr, IfOk, None, false};
+ghost use Rattle.std.specs.Prelude.{◌≡◌, ◌≢◌, IfErr, IfOk, None, Ok, Err, Option, IsTrue};
+ghost use Rattle.std.specs.declared.alloc.AllocError.{AllocError};
 ghost use Rattle.cadence_errors.specs.declared.SinkError.TheVariants.{ChannelFull};
-ghost use Rattle.cadence_flow.specs.Queue.{IsQueueRefusal, error_of};
-ghost use Rattle.cadence_flow.specs.QueueRoom.{OnlyWantsRoom};
+ghost use Rattle.cadence_flow.specs.Queue.{IsQueueRefusal, error_of, is_open};
+ghost use Rattle.cadence_flow.specs.QueueRoom.{IsBounded, OnlyWantsRoom};
 ghost use Rattle.cadence_flow.specs.declared.queue.policy.QueuePolicy.TheVariants.{Refuse};
 ghost use Rattle.cadence_flow.specs.declared.queue.queue_error.QueueError.TheVariants.{Full};
+ghost use Rattle.cadence_shared.specs.RecordedQueue.{core_of};
 ghost use Rattle.cadence_shared.specs.SharedQueue.{bound_of, rule_of};
-ghost use Rattle.cadence_shared.specs.Taker.{given_by, has_ended};
+ghost use Rattle.cadence_shared.specs.Shown.{at_of, text_of, why_of};
 
-use super::backoff::{LOOKS, TRIES, wait_for_lock};
-use super::ghost_list::GhostList;
+use super::backoff::give_way;
 use super::lock::acquire;
 use super::recorded_queue::RecordedQueue;
-use super::taker::{Taker, TakerRoom};
+use super::shown::{Accepted, Left, Refusal, Stopped};
 use super::under_lock::UnderLock;
 use cadence_errors::{MetricResult, SinkError};
-use cadence_flow::queue::{QueueError, QueuePolicy, Taken, TextRing};
+use cadence_flow::queue::{QueueError, QueuePolicy};
 use std::alloc::{AllocError, Allocator, Global};
-use std::sync::{Condvar, Mutex, Wait};
-use std::thread;
-use std::time::{Clock, Duration};
+use std::snapshot::Snapshot;
+use std::sync::{Condvar, Mutex, MutexGuard, Wait};
 
 /// A queue of texts under a lock, which threads share by reference. Each call takes the lock and does one step of a
 /// `QueueCore`; a `Taker` does several takes in a row. What lies under the lock is a `RecordedQueue`, so whenever the
 /// lock is free, each text that the queue accepted so far was taken or dropped, or it waits.
+///
+/// `offer` and the calls whose names end in `_shown` also show, in proofs, the states of the queue between which they made
+/// their step. No call lets a text go, so none loses one under the lock: a text may be of a type that can't be dropped.
+/// `M` is the type of the memory of a text that was handed on already, which `offer` lends to a later text.
 #[derive(Drop)]
-pub struct SharedQueue<T, A: Allocator = Global> {
-    state: Mutex<UnderLock<T, A>>,
+pub struct SharedQueue<T, A: Allocator = Global, M = T> {
+    pub(super) state: Mutex<UnderLock<T, A, M>>,
     // a text came to an idle queue, or the queue was stopped
-    changed: Condvar,
+    pub(super) changed: Condvar,
     capacity: Option<usize>,
     policy: QueuePolicy,
 }
 
-impl<T: Drop, A: Allocator + Clone> SharedQueue<T, A> {
+impl<T, A: Allocator + Clone> SharedQueue<T, A> {
     /// Makes an empty queue with one handle. At most `capacity` texts wait in it, and a full queue refuses more; `None`
     /// means that any number may wait. A queue with a capacity takes the memory for all its texts now. The only error
     /// is `OutOfMemory`.
@@ -51,8 +55,18 @@ impl<T: Drop, A: Allocator + Clone> SharedQueue<T, A> {
         ensures policy { IfOk result (λ q. rule_of q ≡ policy) }
         ensures refused { OnlyWantsRoom capacity result }
     {
-        let queue = RecordedQueue::new(alloc, capacity, policy)?;
-        Ok(SharedQueue {
+        Ok(SharedQueue::of(RecordedQueue::new(alloc, capacity, policy)?))
+    }
+}
+
+impl<T, A: Allocator, M> SharedQueue<T, A, M> {
+    // Puts a queue under a lock. Its capacity and its policy can be read outside the lock.
+    fn of(queue: RecordedQueue<T, A>) -> Self
+        ensures capacity { bound_of result ≡ (core_of queue).capacity }
+        ensures policy { rule_of result ≡ (core_of queue).policy }
+    {
+        let (capacity, policy) = (queue.core().capacity(), queue.core().policy());
+        SharedQueue {
             state: Mutex::new(UnderLock {
                 queue,
                 spares: None,
@@ -60,10 +74,35 @@ impl<T: Drop, A: Allocator + Clone> SharedQueue<T, A> {
             changed: Condvar::new(),
             capacity,
             policy,
-        })
+        }
     }
 
-    /// Adds a text at the end, and wakes the threads that wait for one. It doesn't wait for room.
+    /// Returns how many texts may wait, or `None` if any number may. It takes no lock.
+    pub fn capacity(&self) -> Option<usize>
+        ensures { result ≡ bound_of self.now }
+    {
+        self.capacity
+    }
+
+    /// Returns why this queue refused a text.
+    // A contract can't say that the capacity under the lock is the one outside. So if there is none outside, a refusal
+    // that says that the queue is full, which no run reaches, counts as one for want of memory. That is how the contracts
+    // can promise that a queue without a capacity is never full.
+    pub fn why(&self, refusal: &Refusal<T, A>) -> QueueError
+        ensures reason { bound_of self.now ≢ None → result ≡ why_of refusal.now }
+        ensures refusal { IsQueueRefusal (error_of result) }
+        ensures unbounded { bound_of self.now ≡ None → result ≢ Full }
+    {
+        match refusal.why() {
+            QueueError::Full if self.capacity.is_none() => QueueError::OutOfMemory,
+            why => why,
+        }
+    }
+}
+
+impl<T, A: Allocator + Clone, M: Drop> SharedQueue<T, A, M> {
+    /// Adds a text at the end, and wakes the threads that wait for one. It doesn't wait for room: if the queue is full, it
+    /// gives way to the worker once, for a moment, and then decides.
     ///
     /// Returns the text that a full queue dropped for the new one, if it dropped one. The errors are
     /// `ChannelDisconnected` if the queue is stopped, `ChannelFull` if it is full and drops no text, and `OutOfMemory`.
@@ -72,202 +111,104 @@ impl<T: Drop, A: Allocator + Clone> SharedQueue<T, A> {
         ensures refused { IfErr result (λ e. IsQueueRefusal e.0 × (e.1 ≡ text)) }
         ensures unbounded { bound_of self.now ≡ None → IfErr result (λ e. e.0 ≢ ChannelFull) }
     {
-        let mut state = acquire(&self.state, rt);
-        let idle = state.queue.core().is_idle();
-        let answer = state.queue.submit(text);
-        drop(state);
-        self.wake(idle && answer.is_ok());
-        match answer {
-            Ok(dropped) => Ok(dropped),
-            Err((SinkError::ChannelFull, text)) => Err((SinkError::from(self.fullness()), text)),
-            Err((error, text)) => Err((error, text)),
+        match self.submit_shown(rt, text) {
+            Ok(accepted) => Ok(accepted.into_dropped()),
+            Err((refusal, text)) => Err((self.why(&refusal).into(), text)),
         }
     }
 
-    /// Adds the text that `make` makes at the end, and wakes the threads that wait for one. A text that a full queue
-    /// drops for it is freed.
-    ///
-    /// `make` is called only if the queue would accept a text. It is called under the lock, so it must not call the
-    /// queue. The errors are `ChannelDisconnected` if the queue is stopped, `ChannelFull` if it is full and drops no
-    /// text, and `OutOfMemory`. The queue has not changed after an error.
-    pub fn submit_with<F: FnOnce() -> Result<T, AllocError>>(
+    /// Adds a text at the end, as `submit` does, and shows the step or the refusal.
+    pub fn submit_shown(
         &self,
         rt: &impl Wait,
-        make: F,
-    ) -> Result<(), SinkError>
-        requires { F.IsAlwaysCallable make }
-        ensures refused { IfErr result IsQueueRefusal }
-        ensures unbounded { bound_of self.now ≡ None → IfErr result (λ e. e ≢ ChannelFull) }
+        text: T,
+    ) -> Result<Accepted<T, A>, (Refusal<T, A>, T)>
+        ensures accepted { IfOk result (λ a. text_of a ≡ text) }
+        ensures refused { IfErr result (λ e. e.1 ≡ text) }
+        ensures bounded { IfErr result (λ e. IsBounded (at_of e.0).capacity →
+            IsTrue (is_open (at_of e.0)) → ⊥) }
     {
-        Ok(self.offer(rt, |_spare| make())?)
+        let mut state = self.enter(rt);
+        let idle = state.queue.core().is_idle();
+        let (before, text_added) = (Snapshot::of(state.queue.core()), Snapshot::of(&text));
+        let answer = state.queue.add(text);
+        let after = Snapshot::of(state.queue.core());
+        drop(state);
+        self.wake(idle && answer.is_ok());
+        match answer {
+            Ok(dropped) => Ok(Accepted {
+                dropped,
+                text: text_added,
+                before,
+                after,
+            }),
+            Err((why, text)) => Err((Refusal { why, at: before }, text)),
+        }
     }
 
-    /// Adds the text that `make` makes at the end, as `submit_with` does, with two differences: the error is small, and
-    /// `make` gets a text that the worker has handed on already, if there is one. It may make the new text in the
-    /// memory of that one.
-    pub fn offer<F: FnOnce(Option<T>) -> Result<T, AllocError>>(
+    /// Adds the text that `make` makes at the end, as `submit` does, and shows the step or the refusal.
+    ///
+    /// `make` is called only if the queue would accept a text and has room for it. It is called under the lock, so it must
+    /// not call the queue. It gets a text that the worker has handed on already, if there is one, and may make the new
+    /// text in the memory of that one.
+    pub fn offer<F: FnOnce(Option<M>) -> Result<T, AllocError>>(
         &self,
         rt: &impl Wait,
         make: F,
-    ) -> Result<(), QueueError>
+    ) -> Result<Accepted<T, A>, Refusal<T, A>>
         requires { F.IsAlwaysCallable make }
-        ensures unbounded { bound_of self.now ≡ None → IfErr result (λ e. e ≢ Full) }
+        ensures made { IfOk result (λ a. (older : Option M) × F.post make older (Ok (text_of a))) }
+        ensures bounded { IfErr result (λ e. IsBounded (at_of e).capacity →
+            IsTrue (is_open (at_of e)) →
+            (older : Option M) × (error : AllocError) × F.post make older (Err error)) }
     {
-        let mut state = acquire(&self.state, rt);
+        let mut state = self.enter(rt);
         let idle = state.queue.core().is_idle();
         let spare = state.spare();
+        let before = Snapshot::of(state.queue.core());
         let answer = state.queue.offer(|| make(spare));
+        let after = Snapshot::of(state.queue.core());
         drop(state);
         self.wake(idle && answer.is_ok());
         match answer {
-            Err(QueueError::Full) => Err(self.fullness()),
-            answer => answer,
+            Ok((dropped, text)) => Ok(Accepted {
+                dropped,
+                text,
+                before,
+                after,
+            }),
+            Err(why) => Err(Refusal { why, at: before }),
         }
-    }
-
-    // Returns the error for a caller if the queue under the lock said that it is full. A queue without a capacity never
-    // says so. But a contract can't speak of the capacity under the lock, so this looks at the copy of it outside the
-    // lock: that is how the contracts above can promise that an unbounded queue is never full.
-    fn fullness(&self) -> QueueError
-        ensures refusal { IsQueueRefusal (error_of result) }
-        ensures unbounded { bound_of self.now ≡ None → result ≢ Full }
-    {
-        if self.capacity.is_none() {
-            return QueueError::OutOfMemory;
-        }
-        QueueError::Full
-    }
-
-    /// Makes the room that a taker of this queue needs: for 32 texts, or for a thirty-second of the capacity if that is
-    /// less, but at least for one text.
-    pub fn room_of_taker(&self, alloc: A) -> Result<TakerRoom<T, A>, AllocError> {
-        TakerRoom::new(alloc, self.capacity)
-    }
-
-    /// Makes a taker of this queue, which moves at most as many texts at once as `room` has room for.
-    pub fn taker(&self, rt: &impl Wait, room: TakerRoom<T, A>) -> Taker<'_, T, A>
-        ensures none { (given_by result ≡ []) × (has_ended result ≡ false) }
-    {
-        let TakerRoom {
-            texts,
-            done,
-            spares,
-        } = room;
-        self.state.lock(rt).spares = Some(spares);
-        Taker::new(self, texts, done)
-    }
-
-    /// Moves the oldest texts out of the queue into an empty ring, and adds them to `taken` in proofs. Leaves the texts
-    /// that the taker is `done` with in the queue's spares.
-    ///
-    /// If no text is there, it waits for one: it looks at the queue several times, lets other threads run in between,
-    /// and then sleeps. It stops waiting if the queue is stopped. So if the ring is still empty afterwards, the queue
-    /// is stopped and empty.
-    // Without this hint a line of `bench queue 0 20` takes 33 instructions more.
-    #[inline(never)]
-    pub(super) fn take_some(
-        &self,
-        rt: &impl Wait,
-        texts: &mut TextRing<T, A>,
-        taken: &mut GhostList<T>,
-        done: &mut TextRing<T, A>,
-    )
-        requires { texts.old.items ≡ [] }
-        ensures { taken.new.items ≡ taken.old.items ++ texts.new.items }
-    {
-        if self.look_often(texts, taken, done) {
-            return;
-        }
-        let mut state = self.changed.wait_while(
-            rt,
-            self.state.lock(rt),
-            |state| state.queue.core().is_idle(),
-        );
-        state.take_back(done);
-        state.queue.take_some(texts, taken);
-    }
-
-    /// Moves the oldest texts out of the queue, as `take_some` does, but sleeps at most for this time. Returns false if
-    /// the time has passed, or if the clock can't be read. The ring is still empty then.
-    pub(super) fn take_some_within<R: Wait + Clock>(
-        &self,
-        rt: &R,
-        time: Duration,
-        texts: &mut TextRing<T, A>,
-        taken: &mut GhostList<T>,
-        done: &mut TextRing<T, A>,
-    ) -> bool
-        requires { texts.old.items ≡ [] }
-        ensures noted { taken.new.items ≡ taken.old.items ++ texts.new.items }
-        ensures none { result ≡ false → texts.new.items ≡ [] }
-    {
-        if self.look_often(texts, taken, done) {
-            return true;
-        }
-        let (mut state, outcome) = self.changed.wait_timeout_while(
-            rt,
-            self.state.lock(rt),
-            time,
-            |state| state.queue.core().is_idle(),
-        );
-        if outcome.timed_out() {
-            return false;
-        }
-        state.take_back(done);
-        state.queue.take_some(texts, taken);
-        true
-    }
-
-    // Looks at the queue several times, and lets other threads run in between. Moves its oldest texts into an empty
-    // ring if it finds some. Returns whether the worker need not wait, as `look` does.
-    fn look_often(
-        &self,
-        texts: &mut TextRing<T, A>,
-        taken: &mut GhostList<T>,
-        done: &mut TextRing<T, A>,
-    ) -> bool
-        requires { texts.old.items ≡ [] }
-        ensures noted { taken.new.items ≡ taken.old.items ++ texts.new.items }
-        ensures none { result ≡ false → texts.new.items ≡ [] }
-    {
-        for _ in 0..LOOKS {
-            if self.look(texts, taken, done) {
-                return true;
-            }
-            thread::yield_now();
-        }
-        false
-    }
-
-    // Moves the oldest texts out of the queue into an empty ring, if there are any. Returns whether the worker need not
-    // wait: it has texts now, or the queue is stopped. If the lock stays held for long, it returns false, as for an
-    // empty queue. To sleep for the lock would force its holder to wake the worker.
-    fn look(
-        &self,
-        texts: &mut TextRing<T, A>,
-        taken: &mut GhostList<T>,
-        done: &mut TextRing<T, A>,
-    ) -> bool
-        requires { texts.old.items ≡ [] }
-        ensures noted { taken.new.items ≡ taken.old.items ++ texts.new.items }
-        ensures none { result ≡ false → texts.new.items ≡ [] }
-    {
-        for _ in 0..TRIES {
-            if let Some(mut state) = self.state.try_lock() {
-                if state.queue.core().is_idle() {
-                    return false;
-                }
-                state.take_back(done);
-                state.queue.take_some(texts, taken);
-                return true;
-            }
-            wait_for_lock();
-        }
-        false
     }
 }
 
-impl<T: Drop, A: Allocator> SharedQueue<T, A> {
+impl<T, A: Allocator, M> SharedQueue<T, A, M> {
+    // Takes the lock for a caller that adds a text. If the queue is full, the caller gives way once.
+    fn enter(&self, rt: &impl Wait) -> MutexGuard<'_, UnderLock<T, A, M>> {
+        let state = acquire(&self.state, rt);
+        if !state.queue.core().is_full() {
+            return state;
+        }
+        self.enter_late(rt, state)
+    }
+
+    // Releases the lock of a full queue for a moment, so that the worker can take it, and then takes it again. A caller
+    // that asks a full queue again and again would otherwise keep the lock from the worker, which wants to empty it. It is
+    // a function of its own, so that `enter` is short enough to be inlined.
+    #[cold]
+    fn enter_late<'a>(
+        &'a self,
+        rt: &impl Wait,
+        state: MutexGuard<'a, UnderLock<T, A, M>>,
+    ) -> MutexGuard<'a, UnderLock<T, A, M>> {
+        if state.queue.core().is_stopped() {
+            return state;
+        }
+        drop(state);
+        give_way();
+        acquire(&self.state, rt)
+    }
+
     // Wakes the threads that wait for a text, if one came to an idle queue. While a queue isn't idle, no thread waits.
     fn wake(&self, has_come: bool) {
         if has_come {
@@ -275,30 +216,20 @@ impl<T: Drop, A: Allocator> SharedQueue<T, A> {
         }
     }
 
-    /// Takes the oldest text, if there is one. It doesn't wait.
-    pub fn try_take(&self, rt: &impl Wait) -> Taken<T> {
-        acquire(&self.state, rt).queue.take()
-    }
-
-    /// Takes the oldest text. If there is none, it waits for one, unless the queue is stopped. `None` is the end: the
-    /// queue is stopped and empty.
-    pub fn take_wait(&self, rt: &impl Wait) -> Option<T> {
-        let mut state = self.changed.wait_while(
-            rt,
-            self.state.lock(rt),
-            |state| state.queue.core().is_idle(),
-        );
-        match state.queue.take() {
-            Taken::Text(text) => Some(text),
-            Taken::Ended => None,
-            Taken::Empty => unreachable!(),
-        }
-    }
-
     /// Stops the queue: it refuses texts from now on. Texts that wait can still be taken. Wakes the threads that wait.
     pub fn stop(&self, rt: &impl Wait) {
-        self.state.lock(rt).queue.stop();
+        drop(self.stop_shown(rt));
+    }
+
+    /// Stops the queue, as `stop` does, and shows the step.
+    pub fn stop_shown(&self, rt: &impl Wait) -> Stopped<T, A> {
+        let mut state = self.state.lock(rt);
+        let before = Snapshot::of(state.queue.core());
+        state.queue.stop();
+        let after = Snapshot::of(state.queue.core());
+        drop(state);
         self.changed.notify_all();
+        Stopped { before, after }
     }
 
     /// Counts one more handle.
@@ -308,8 +239,18 @@ impl<T: Drop, A: Allocator> SharedQueue<T, A> {
 
     /// Counts one handle less. If it was the last one, stops the queue. Wakes the threads that wait.
     pub fn drop_handle(&self, rt: &impl Wait) {
-        self.state.lock(rt).queue.drop_handle();
+        drop(self.drop_handle_shown(rt));
+    }
+
+    /// Counts one handle less, as `drop_handle` does, and shows the step.
+    pub fn drop_handle_shown(&self, rt: &impl Wait) -> Left<T, A> {
+        let mut state = self.state.lock(rt);
+        let before = Snapshot::of(state.queue.core());
+        state.queue.drop_handle();
+        let after = Snapshot::of(state.queue.core());
+        drop(state);
         self.changed.notify_all();
+        Left { before, after }
     }
 
     /// Returns how many texts wait.

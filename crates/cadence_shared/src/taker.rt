@@ -1,8 +1,9 @@
 //! How a worker takes texts out of a shared queue, several at a time.
-ghost use Rattle.std.specs.Prelude.{◌≡◌, [], ◌++◌, true};
+ghost use Rattle.std.specs.Prelude.{◌≡◌, ◌<◌, [], ◌++◌, is_some, true};
 
 use super::ghost_list::GhostList;
 use super::shared_queue::SharedQueue;
+use super::shown::End;
 use cadence_flow::queue::TextRing;
 use std::alloc::{AllocError, Allocator, Global};
 use std::sync::Wait;
@@ -12,18 +13,18 @@ use std::time::{Clock, Duration};
 const MOST_AT_ONCE: usize = 32;
 
 /// The memory that a taker needs. `SharedQueue::room_of_taker` makes it.
-#[derive(Drop)]
-pub struct TakerRoom<T, A: Allocator = Global> {
+pub struct TakerRoom<T, A: Allocator = Global, M = T> {
     // for the texts that the taker moved out of the queue and has not returned yet
-    pub(super) texts: TextRing<T, A>,
+    texts: TextRing<T, A>,
     // for the texts that it is done with
-    pub(super) done: TextRing<T, A>,
+    done: TextRing<M, A>,
     // for the queue's spares
-    pub(super) spares: TextRing<T, A>,
+    spares: TextRing<M, A>,
     pub ghost empty: { texts.items ≡ [] },
+    pub ghost room: { 0 < texts.capacity },
 }
 
-impl<T: Drop, A: Allocator + Clone> TakerRoom<T, A> {
+impl<T, A: Allocator + Clone, M: Drop> TakerRoom<T, A, M> {
     /// Makes room for 32 texts, or for a thirty-second of the queue's capacity if that is less, but at least for one
     /// text.
     pub(super) fn new(alloc: A, capacity: Option<usize>) -> Result<Self, AllocError> {
@@ -31,14 +32,37 @@ impl<T: Drop, A: Allocator + Clone> TakerRoom<T, A> {
             Some(capacity) => (capacity / MOST_AT_ONCE).clamp(1, MOST_AT_ONCE),
             None => MOST_AT_ONCE,
         };
-        let texts = TextRing::with_room(alloc.clone()?, room)?;
         let done = TextRing::with_room(alloc.clone()?, room)?;
-        let spares = TextRing::with_room(alloc, room)?;
+        let spares = TextRing::with_room(alloc.clone()?, room)?;
+        // This ring comes last, because a ring of texts that can't be dropped can't be let go after an error.
+        let texts = TextRing::with_room(alloc, room)?;
         Ok(TakerRoom {
             texts,
             done,
             spares,
         })
+    }
+}
+
+impl<T, A: Allocator, M: Drop> TakerRoom<T, A, M> {
+    /// Returns the rings: for the texts, for those that the taker is done with, and for the spares.
+    pub(super) fn into_rings(self) -> (TextRing<T, A>, TextRing<M, A>, TextRing<M, A>)
+        ensures empty { result.0.items ≡ [] }
+        ensures room { 0 < result.0.capacity }
+    {
+        let TakerRoom {
+            texts,
+            done,
+            spares,
+        } = self;
+        (texts, done, spares)
+    }
+}
+
+impl<T, A: Allocator, M: Drop> Drop for TakerRoom<T, A, M> {
+    fn drop(self) {
+        let (texts, _done, _spares) = self.into_rings();
+        texts.destroy_empty();
     }
 }
 
@@ -50,28 +74,31 @@ impl<T: Drop, A: Allocator + Clone> TakerRoom<T, A> {
 ///
 /// In proofs it has a record of the texts that it moved. They are those that `next` returned, followed by those that it
 /// still has (`whole`).
-pub struct Taker<'a, T, A: Allocator = Global> {
-    queue: &'a SharedQueue<T, A>,
+pub struct Taker<'a, T, A: Allocator = Global, M = T> {
+    queue: &'a SharedQueue<T, A, M>,
     texts: TextRing<T, A>,
-    done: TextRing<T, A>,
+    done: TextRing<M, A>,
     taken: GhostList<T>,
     given: GhostList<T>,
-    has_ended: bool,
+    // the end of the queue, once the taker has seen it
+    end: Option<End<T, A>>,
     pub ghost whole: { taken.items ≡ given.items ++ texts.items },
-    pub ghost empty: { has_ended ≡ true → texts.items ≡ [] },
+    pub ghost empty: { is_some end ≡ true → texts.items ≡ [] },
+    pub ghost room: { 0 < texts.capacity },
 }
 
-impl<'a, T: Drop, A: Allocator + Clone> Taker<'a, T, A> {
+impl<'a, T, A: Allocator, M: Drop> Taker<'a, T, A, M> {
     ghost use Rattle.std.specs.Prelude.{◌∷◌, IfSome, IfNone, false};
     ghost use Rattle.cadence_shared.specs.Taker.{given_by, has_ended, taken_by};
 
     /// Makes a taker that has moved no text yet.
     pub(super) fn new(
-        queue: &'a SharedQueue<T, A>,
+        queue: &'a SharedQueue<T, A, M>,
         texts: TextRing<T, A>,
-        done: TextRing<T, A>,
+        done: TextRing<M, A>,
     ) -> Self
-        requires { texts.items ≡ [] }
+        requires empty { texts.items ≡ [] }
+        requires room { 0 < texts.capacity }
         ensures none { (given_by result ≡ []) × (has_ended result ≡ false) }
     {
         Taker {
@@ -80,7 +107,7 @@ impl<'a, T: Drop, A: Allocator + Clone> Taker<'a, T, A> {
             done,
             taken: GhostList::new(),
             given: GhostList::new(),
-            has_ended: false,
+            end: None,
         }
     }
 
@@ -93,17 +120,15 @@ impl<'a, T: Drop, A: Allocator + Clone> Taker<'a, T, A> {
         ensures end { IfNone result ((given_by self.new ≡ given_by self.old)
             × (has_ended self.new ≡ true)) }
     {
-        if self.has_ended {
+        if self.end.is_some() {
             return None;
         }
         if self.texts.len() == 0 {
-            self.queue
+            self.end = self
+                .queue
                 .take_some(rt, &mut self.texts, &mut self.taken, &mut self.done);
         }
-        let Some(text) = self.texts.pop_front() else {
-            self.has_ended = true;
-            return None;
-        };
+        let text = self.texts.pop_front()?;
         self.given = self.given.and(&text);
         Some(text)
     }
@@ -123,7 +148,7 @@ impl<'a, T: Drop, A: Allocator + Clone> Taker<'a, T, A> {
             × (has_ended self.new ≡ has_ended self.old) }
         ensures none { result ≡ false → taken_by self.new ≡ given_by self.new }
     {
-        if self.has_ended || self.texts.len() > 0 {
+        if self.end.is_some() || self.texts.len() > 0 {
             return true;
         }
         self.queue
@@ -132,12 +157,12 @@ impl<'a, T: Drop, A: Allocator + Clone> Taker<'a, T, A> {
 
     /// Keeps a text that the worker is done with, so that a caller can make its next text in the same memory. It takes
     /// no memory: if there is no room for the text, it is freed.
-    pub fn give_back(&mut self, text: T)
+    pub fn give_back(&mut self, text: M)
         ensures same { (given_by self.new ≡ given_by self.old)
             × (has_ended self.new ≡ has_ended self.old) }
     {
         if self.done.len() < self.done.room() {
-            let _ = self.done.push_back(text);
+            self.done.push(text);
         }
     }
 
@@ -150,12 +175,13 @@ impl<'a, T: Drop, A: Allocator + Clone> Taker<'a, T, A> {
     {
         let Taker {
             queue: _,
-            texts: _,
+            texts,
             done: _,
             taken,
             given: _,
-            has_ended: _,
+            end: _,
         } = self;
+        texts.destroy_empty();
         taken
     }
 }

@@ -3,7 +3,7 @@ ghost use Rattle.cadence_shared.specs.RecordedPacker.{accepted_of, packer_of};
 ghost use Rattle.cadence_shared.specs.RecordedWriter.{packets_of};
 ghost use Rattle.cadence_shared.specs.Whole.{IsWhole};
 
-use super::recorded_packer::RecordedPacker;
+use super::recorded_packer::{Flushed, Packed, RecordedPacker, Refused};
 use cadence_errors::{MetricResult, SinkError};
 use cadence_flow::io::PacketWriter;
 use std::alloc::{Allocator, Global};
@@ -35,33 +35,37 @@ impl<W: PacketWriter, A: Allocator + Clone> WholePacker<W, A> {
 }
 
 impl<W: PacketWriter, A: Allocator> WholePacker<W, A> {
-    ghost use Rattle.std.specs.Prelude.{◌≡◌, [], ◌∷◌, ◌++◌, IfOk, OnErr};
-    ghost use Rattle.cadence_flow.specs.Packer.{FlushesHeld, WritesLine};
-    ghost use Rattle.cadence_shared.specs.RecordedWriter.{recorded_history, recorded_kind};
+    ghost use Rattle.cadence_shared.specs.Packed.{AnswersFlush, AnswersLine};
     ghost use Rattle.cadence_shared.specs.WholePacker.{TakesWhole, lines_of};
 
-    /// Writes a line as `RecordedPacker::write` does, and returns its length, or the error.
-    pub fn write(&mut self, line: &[u8]) -> Result<usize, SinkError>
+    /// Writes a line as `RecordedPacker::write` does.
+    pub fn write(
+        &mut self,
+        line: &[u8],
+        fault: &mut SinkError,
+    ) -> Result<Packed<RecordedPacker<W, A>>, Refused<RecordedPacker<W, A>>>
         requires { TakesWhole W.kind self.old }
-        ensures accepted { IfOk result (λ n. accepted_of (lines_of self.new)
-            ≡ accepted_of (lines_of self.old) ++ (line.now, n) ∷ []) }
-        ensures refused { OnErr result
-            (accepted_of (lines_of self.new) ≡ accepted_of (lines_of self.old)) }
-        ensures writes { WritesLine (recorded_kind W.kind) (recorded_history W.history)
-            (packer_of (lines_of self.old)) (packer_of (lines_of self.new)) line.now result }
+        ensures { AnswersLine W.kind W.history
+            (lines_of self.old) (lines_of self.new) line.now result fault.new }
     {
-        let mut fault = SinkError::NothingWritten;
-        self.lines.write(line, &mut fault).ok_or(fault)
+        self.lines.write(line, fault)
     }
 
-    /// Writes the held text as `RecordedPacker::flush` does, or returns the error.
-    pub fn flush(&mut self) -> Result<(), SinkError>
+    /// Writes the held text as `RecordedPacker::flush` does.
+    pub fn flush(
+        &mut self,
+        fault: &mut SinkError,
+    ) -> Result<Flushed<RecordedPacker<W, A>>, Refused<RecordedPacker<W, A>>>
         requires { TakesWhole W.kind self.old }
-        ensures same { accepted_of (lines_of self.new) ≡ accepted_of (lines_of self.old) }
-        ensures flushes { FlushesHeld (recorded_kind W.kind) (recorded_history W.history)
-            (packer_of (lines_of self.old)) (packer_of (lines_of self.new)) result }
+        ensures { AnswersFlush W.kind W.history
+            (lines_of self.old) (lines_of self.new) result fault.new }
     {
-        let mut fault = SinkError::NothingWritten;
-        self.lines.flush(&mut fault).ok_or(fault)
+        self.lines.flush(fault)
+    }
+
+    /// Writes the held text, and ends the packer, as `RecordedPacker::finish` does.
+    pub fn finish(self) {
+        let WholePacker { lines } = self;
+        lines.finish();
     }
 }

@@ -1,29 +1,35 @@
 //! What the sinks over UDP and over Unix sockets share: the counts of a socket, and a buffer with its lock over one.
 ghost use Rattle.std.specs.Option.{ok_or};
-ghost use Rattle.std.specs.Prelude.{◌≡◌, [], Bool, IfOk};
+ghost use Rattle.std.specs.Prelude.{◌≡◌, [], Bool, IfOk, length};
 ghost use Rattle.cadence_errors.specs.Errors.{MayOnlyRunOutOfMemory};
 ghost use Rattle.cadence_errors.specs.declared.SinkError.{SinkError};
+ghost use Rattle.cadence_flow.specs.Unread.{len_of, taken_of};
 ghost use Rattle.cadence_flow.specs.Writer.{history_of};
+ghost use Rattle.cadence_shared.specs.Opened.{opened};
+ghost use Rattle.cadence_shared.specs.Sent.{bytes_sent};
 ghost use Rattle.cadence_sinks.specs.Buffers.{buffer_of};
 ghost use Rattle.cadence_sinks.specs.Sockets.{IsBufferedAnswer, IsBufferedFlush, IsSocketAnswer, socket_kind};
 
 use cadence_errors::{MetricResult, SinkError};
 use cadence_flow::io::{PacketWriter, Refusals};
-use cadence_flow::stats::SinkStats;
-use cadence_shared::{RecordedPacker, SocketStats, acquire};
+use cadence_flow::stats::{SinkStats, Unread};
+use cadence_shared::{
+    Dropped, Flushed, Packed, RecordedPacker, Refused, Sent, SocketStats, acquire,
+};
 use std::alloc::Allocator;
-use std::sync::{Mutex, MutexGuard, Wait};
+use std::sync::{Mutex, Wait};
 
 /// A datagram socket together with the place that it sends to.
 pub trait DatagramSocket: Drop {
     /// The errors that the socket may return.
     ghost may_give: { SinkError → Bool };
 
-    /// Sends a packet, and returns how many of its first bytes were taken. After an error the result is `None`, and the
-    /// error is in `fault`. A `Result` in its place would be as wide as the widest error, and each function that passes
-    /// one on copies all of it.
-    fn send(&self, packet: &[u8], fault: &mut SinkError) -> Option<usize>
-        ensures { IsSocketAnswer may_give packet.now (ok_or result fault.new) };
+    /// Sends a packet, and returns how many of its first bytes were taken, which has to be counted before anyone reads
+    /// it. After an error it is `None`, and the error is in `fault`. A `Result` in its place would be as wide as the
+    /// widest error, and each function that passes one on copies all of it.
+    fn send(&self, packet: &[u8], fault: &mut SinkError) -> Unread
+        ensures answer { IsSocketAnswer may_give packet.now (ok_or (taken_of result) fault.new) }
+        ensures len { len_of result ≡ length packet.now };
 }
 
 /// A socket whose results are counted: the bytes and packets that were sent, and those that were dropped.
@@ -49,9 +55,17 @@ impl<D: DatagramSocket, R: Wait + Drop, A: Allocator> CountedSocket<D, R, A> {
     pub fn send(&self, packet: &[u8], fault: &mut SinkError) -> Option<usize>
         ensures { IsSocketAnswer D.may_give packet.now (ok_or result fault.new) }
     {
-        let taken = self.socket.send(packet, fault);
-        self.stats.note_count(taken, packet.len());
-        taken
+        self.stats
+            .count(self.socket.send(packet, fault), packet.len())
+    }
+
+    /// Sends a line alone, and counts the result.
+    pub fn send_line(&self, line: &str, fault: &mut SinkError) -> Result<Sent, Dropped>
+        ensures { IsSocketAnswer D.may_give line.now (opened bytes_sent result fault.new) }
+    {
+        let packet = line.as_bytes();
+        self.stats
+            .count_line(self.socket.send(packet, fault), packet.len())
     }
 
     /// Returns the counts of this moment.
@@ -88,11 +102,14 @@ impl<D: DatagramSocket, R: Wait + Drop, A: Allocator> PacketWriter for SocketWri
     }
 }
 
+/// The packer of a packed socket.
+pub type SocketLines<D, R, A> = RecordedPacker<SocketWriter<D, R, A>, A>;
+
 /// Packs lines, each followed by a newline, into the packets of a counted socket. The packer and its record, which only
 /// proofs read, are under a lock. The drop of a `PackedSocket` tries one flush.
 pub struct PackedSocket<D: DatagramSocket, R: Wait + Drop, A: Allocator> {
     rt: R,
-    writer: Mutex<RecordedPacker<SocketWriter<D, R, A>, A>>,
+    writer: Mutex<SocketLines<D, R, A>>,
     stats: SocketStats<R, A>,
     capacity: usize,
 }
@@ -120,67 +137,69 @@ impl<D: DatagramSocket, R: Wait + Clone + Drop, A: Allocator + Clone> PackedSock
 }
 
 impl<D: DatagramSocket, R: Wait + Drop, A: Allocator> PackedSocket<D, R, A> {
+    ghost use Rattle.cadence_flow.specs.Packer.{Fits};
+    ghost use Rattle.cadence_shared.specs.Opened.{opened_flush};
+    ghost use Rattle.cadence_shared.specs.Packed.{bytes_of};
+    ghost use Rattle.cadence_shared.specs.RecordedPacker.{packer_of};
+    ghost use Rattle.cadence_sinks.specs.Shows.{SocketShows, SocketShowsFlush};
+
     /// Buffers or sends the line of a metric, under the lock. There are three cases:
     ///
     /// 1. The line and its newline fit into the free room of the buffer. They are held, and nothing is sent.
     /// 2. They fit into an empty buffer, but not into the free room. The held text is sent, and then they are held.
     /// 3. They don't fit into an empty buffer. The held text is sent, and then the line alone, without the newline.
     ///
-    /// Returns the line's length, or in the third case how many bytes of the line the socket took. After an error the
-    /// result is `None`, and nothing of the line is held. The error in `fault` is the socket's, or `NothingWritten` if
-    /// the socket took 0 bytes of the held text.
-    // A wide result would take 17 instructions more, because the sink's own `emit` copies it.
+    /// The answer has the line's length, or in the third case how many bytes of the line the socket took. After an error
+    /// nothing of the line is held. The error in `fault` is the socket's, or `NothingWritten` if the socket took 0 bytes
+    /// of the held text. The answer shows the packer before and after it took or refused this line.
     // Without this hint a line of `bench udp 512 20` takes 21 instructions more.
     #[inline(always)]
-    pub fn emit(&self, metric: &str, fault: &mut SinkError) -> Option<usize>
-        ensures { IsBufferedAnswer D.may_give (buffer_of self.now)
-            metric.now (ok_or result fault.new) }
+    pub fn emit_line(
+        &self,
+        line: &str,
+        fault: &mut SinkError,
+    ) -> Result<Packed<SocketLines<D, R, A>>, Refused<SocketLines<D, R, A>>>
+        ensures answer { IsBufferedAnswer D.may_give (buffer_of self.now)
+            line.now (opened bytes_of result fault.new) }
+        ensures shows { SocketShows D.may_give (buffer_of self.now) line.now result fault.new }
     {
         let mut lines = acquire(&self.writer, &self.rt);
-        if lines.hold(metric.as_bytes()) {
-            return Some(metric.len());
+        match lines.hold(line.as_bytes()) {
+            Some(packed) => Ok(packed),
+            None => self.emit_late(&mut *lines, line, fault),
         }
-        self.write_out(lines, metric, fault)
     }
 
-    // Takes a line that doesn't fit into the free room of the buffer, and then frees the lock. It is a function of its
-    // own, so that the first case of `emit` is short. There are three cases:
-    // - The line and its newline fit into an empty buffer, and after the flush they are held. `write` alone would do
-    //   the same with some 20 instructions more, because it asks for free room first.
-    // - They fit into an empty buffer, but `hold` still refuses them. This never happens, but no contract excludes it,
-    //   because a clause of a lock can't name the capacity of the packer under it. Then `write` takes the line.
-    // - They don't fit into an empty buffer. Then `write` flushes, and sends the line alone.
-    fn write_out(
+    // Takes a line that doesn't fit into the free room of the buffer. It is a function of its own, so that the first
+    // case of `emit_line` is short. A line that fits into an empty buffer is never cut, so its answer has the line's
+    // length; but no clause ties the capacity beside the lock to that of the packer under it.
+    fn emit_late(
         &self,
-        mut lines: SocketLines<'_, D, R, A>,
-        metric: &str,
+        lines: &mut SocketLines<D, R, A>,
+        line: &str,
         fault: &mut SinkError,
-    ) -> Option<usize>
-        ensures { IsBufferedAnswer D.may_give (buffer_of self.now)
-            metric.now (ok_or result fault.new) }
+    ) -> Result<Packed<SocketLines<D, R, A>>, Refused<SocketLines<D, R, A>>>
+        requires { Fits (packer_of lines.old) line.now → ⊥ }
+        ensures answer { IsBufferedAnswer D.may_give (buffer_of self.now)
+            line.now (opened bytes_of result fault.new) }
+        ensures shows { SocketShows D.may_give (buffer_of self.now) line.now result fault.new }
     {
-        if metric.len() < self.capacity {
-            lines.flush(fault)?;
-            if lines.hold(metric.as_bytes()) {
-                return Some(metric.len());
-            }
+        match lines.write_late(line.as_bytes(), fault) {
+            Ok(packed) if line.len() < self.capacity => Ok(packed.with_bytes(line.len())),
+            answer => answer,
         }
-        let n = lines.write(metric.as_bytes(), fault)?;
-        // a line that fits into an empty buffer is never cut: `n` is its length, but no contract says so
-        Some(if metric.len() < self.capacity {
-            metric.len()
-        } else {
-            n
-        })
     }
 
     /// Sends the held text. The error is the socket's, or `NothingWritten` if the socket took 0 bytes. What the socket
-    /// didn't take stays held.
-    pub fn flush(&self) -> Result<(), SinkError>
-        ensures { IsBufferedFlush D.may_give result }
+    /// didn't take stays held. The answer shows the packer before and after this flush.
+    pub fn flush_lines(
+        &self,
+        fault: &mut SinkError,
+    ) -> Result<Flushed<SocketLines<D, R, A>>, Refused<SocketLines<D, R, A>>>
+        ensures answer { IsBufferedFlush D.may_give (opened_flush result fault.new) }
+        ensures shows { SocketShowsFlush D.may_give result fault.new }
     {
-        let mut fault = SinkError::NothingWritten;
-        self.writer.lock(&self.rt).flush(&mut fault).ok_or(fault)
+        self.writer.lock(&self.rt).flush(fault)
     }
 
     /// Returns the counts of this moment.
@@ -188,9 +207,6 @@ impl<D: DatagramSocket, R: Wait + Drop, A: Allocator> PackedSocket<D, R, A> {
         SinkStats::from(&self.stats)
     }
 }
-
-// The packer of a packed socket while its lock is taken.
-type SocketLines<'a, D, R, A> = MutexGuard<'a, RecordedPacker<SocketWriter<D, R, A>, A>>;
 
 impl<D: DatagramSocket, R: Wait + Drop, A: Allocator> Drop for PackedSocket<D, R, A> {
     fn drop(self) {
@@ -200,8 +216,6 @@ impl<D: DatagramSocket, R: Wait + Drop, A: Allocator> Drop for PackedSocket<D, R
             stats: _,
             capacity: _,
         } = self;
-        let mut lines = writer.into_inner();
-        let mut fault = SinkError::NothingWritten;
-        let _ = lines.flush(&mut fault);
+        writer.into_inner().finish();
     }
 }

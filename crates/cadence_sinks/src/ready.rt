@@ -1,15 +1,17 @@
-//! Sinks over UDP with sockets of their own, made from a runtime, an allocator and a target.
-ghost use Rattle.std.specs.Prelude.{◌≡◌, false, IfOk, IfErr, Some};
+//! Sinks over UDP with sockets of their own, made from a runtime, an allocator and a target. A host's name is looked up
+//! once, when the sink is made, and an address of IPv4 is preferred. The sockets never wait: if the system can't take a
+//! packet at once, the error is `Io` of the kind `WouldBlock`.
+ghost use Rattle.std.specs.Prelude.{◌≡◌, ◌≤◌, false, IfOk, IfErr, Some};
 ghost use Rattle.cadence_resolve.specs.Refusals.{IsSocketRefusal};
 ghost use Rattle.cadence_sinks.specs.Host.{IsHost};
 ghost use Rattle.cadence_sinks.specs.Buffers.{udp_buffer};
 ghost use Rattle.cadence_queuing.specs.Queuing.{capacity_of, flush_period, flush_period_of, policy_of, queue_capacity, queue_policy, settings_of, wrapped_sink};
 ghost use Rattle.cadence_sinks.specs.Udp.{looks_up_again};
 
-use crate::{BufferedUdpMetricSink, UdpMetricSink};
+use crate::{BufferedUdpMetricSink, UdpMetricSink, check_capacity};
 use cadence_errors::MetricResult;
 use cadence_queuing::{FlushingQueueBuilder, QueuingMetricSink, QueuingMetricSinkBuilder};
-use cadence_resolve::{StaticResolver, Target, bind_socket};
+use cadence_resolve::{Target, address_of, bind_nonblocking};
 use std::alloc::{AllocError, Allocator, Global};
 use std::net::{Net, SocketAddr, UdpSocket};
 use std::sync::Wait;
@@ -27,19 +29,19 @@ pub fn host<A: Allocator>(alloc: A, name: &str, port: u16) -> Result<Target<A>, 
     Ok(Target::Name { host, port })
 }
 
-// Looks the target up, and binds a socket that can send to its first address, at a port that the system picks.
-fn socket_to<A: Allocator + Clone>(
+// Looks the target up, and binds a socket that can send to its address, at a port that the system picks.
+fn socket_to<A: Allocator>(
     net: &impl Net,
-    alloc: &A,
-    target: Target<A>,
+    target: &Target<A>,
 ) -> MetricResult<(SocketAddr, UdpSocket)>
     ensures { IfErr result (λ e. IsSocketRefusal e) }
 {
-    let address = StaticResolver::new(net, alloc.clone()?, &target)?.get_addr();
-    Ok((address, bind_socket(net, address)?))
+    let address = address_of(net, target)?;
+    Ok((address, bind_nonblocking(net, address)?))
 }
 
-/// Makes a `UdpMetricSink` with a socket of its own. It sends to the first address of one lookup, which is made now.
+/// Makes a `UdpMetricSink` with a socket of its own. It sends to the address that one lookup gives now: the first one of
+/// IPv4, or if there is none the first one.
 ///
 /// The errors are `SinkError::Io` if the lookup fails or the socket can't be made, the kind `InvalidInput` if the name
 /// has no address, and `SinkError::OutOfMemory`.
@@ -51,12 +53,12 @@ pub fn udp_sink<R: Net + Wait + Clone + Drop, A: Allocator + Clone>(
     ensures once { IfOk result (λ s. looks_up_again s ≡ false) }
     ensures refused { IfErr result (λ e. IsSocketRefusal e) }
 {
-    let (address, socket) = socket_to(rt, &alloc, target)?;
+    let (address, socket) = socket_to(rt, &target)?;
     UdpMetricSink::from(rt.clone()?, alloc, Target::Addr(address), socket)
 }
 
 /// Makes a `BufferedUdpMetricSink` with a socket of its own and a buffer of `capacity` bytes. The errors are those of
-/// `udp_sink`.
+/// `udp_sink`, and that of `check_capacity` for a buffer of more than `MAX_PACKET` bytes.
 pub fn buffered_udp_sink<R: Net + Wait + Clone + Drop, A: Allocator + Clone>(
     rt: &R,
     alloc: A,
@@ -64,15 +66,17 @@ pub fn buffered_udp_sink<R: Net + Wait + Clone + Drop, A: Allocator + Clone>(
     capacity: usize,
 ) -> MetricResult<BufferedUdpMetricSink<R, A>>
     ensures buffer { IfOk result (λ s. udp_buffer s ≡ capacity) }
+    ensures fits { IfOk result (λ _. capacity ≤ 65507) }
     ensures refused { IfErr result (λ e. IsSocketRefusal e) }
 {
-    let (address, socket) = socket_to(rt, &alloc, target)?;
+    check_capacity(capacity)?;
+    let (address, socket) = socket_to(rt, &target)?;
     let target = Target::Addr(address);
     BufferedUdpMetricSink::with_capacity(rt.clone()?, alloc, target, socket, capacity)
 }
 
 /// Makes a queuing sink with these settings over a buffered UDP sink with a buffer of `capacity` bytes, and starts its
-/// worker thread. The errors are those of `udp_sink`, and `SinkError::Io` if the thread can't be started.
+/// worker thread. The errors are those of `buffered_udp_sink`, and `SinkError::Io` if the thread can't be started.
 pub fn queued_udp_sink_with<
     R: Net + Wait + Threads + Clone + Drop + Send + Sync + 'static,
     A: Allocator + Clone + Send + Sync + 'static,
@@ -85,6 +89,7 @@ pub fn queued_udp_sink_with<
 ) -> MetricResult<QueuedUdpSink<R, A>>
     ensures buffer { IfOk result (λ q. udp_buffer (wrapped_sink q) ≡ capacity) }
     ensures lines { IfOk result (λ q. queue_capacity q ≡ capacity_of settings) }
+    ensures fits { IfOk result (λ _. capacity ≤ 65507) }
     ensures policy { IfOk result (λ q. queue_policy q ≡ policy_of settings) }
     ensures refused { IfErr result (λ e. IsSocketRefusal e) }
 {
@@ -105,6 +110,7 @@ pub fn flushing_udp_sink_with<
 ) -> MetricResult<QueuedUdpSink<R, A>>
     ensures buffer { IfOk result (λ q. udp_buffer (wrapped_sink q) ≡ capacity) }
     ensures lines { IfOk result (λ q. queue_capacity q ≡ capacity_of (settings_of settings)) }
+    ensures fits { IfOk result (λ _. capacity ≤ 65507) }
     ensures policy { IfOk result (λ q. queue_policy q ≡ policy_of (settings_of settings)) }
     ensures period { IfOk result (λ q. flush_period q ≡ Some (flush_period_of settings)) }
     ensures refused { IfErr result (λ e. IsSocketRefusal e) }
@@ -127,6 +133,7 @@ pub fn queued_udp_sink<
 ) -> MetricResult<QueuedUdpSink<R, A>>
     ensures buffer { IfOk result (λ q. udp_buffer (wrapped_sink q) ≡ capacity) }
     ensures lines { IfOk result (λ q. queue_capacity q ≡ lines) }
+    ensures fits { IfOk result (λ _. capacity ≤ 65507) }
     ensures refused { IfErr result (λ e. IsSocketRefusal e) }
 {
     let settings = match lines {

@@ -2,16 +2,22 @@
 //! datagrams.
 ghost use Rattle.std.specs.Prelude.{◌≡◌, false, IfOk, IfErr, Some, None, is_some, unwrap_or};
 ghost use Rattle.cadence_resolve.specs.Refusals.{IsSocketRefusal, IsTargetRefusal};
+ghost use Rattle.cadence_shared.specs.Answered.{IsAnswered, IsFlushAnswered, answered_by_holding_nothing};
 ghost use Rattle.cadence_sinks.specs.Buffers.{udp_buffer};
+ghost use Rattle.cadence_sinks.specs.Shows.{SocketShows, SocketShowsFlush};
 ghost use Rattle.cadence_sinks.specs.Sockets.{IsBufferedAnswer, IsBufferedFlush, IsSocketAnswer, is_io};
 ghost use Rattle.cadence_sinks.specs.Udp.{SendsTo, period_of, handler_of, looks_up_again, buffered_capacity_of, buffered_period_of, buffered_handler_of};
 
-use crate::datagram::{CountedSocket, DatagramSocket, PackedSocket};
-use crate::{Handler, MetricSink, SinkErrorHandler, Target};
+use crate::datagram::{CountedSocket, DatagramSocket, PackedSocket, SocketLines};
+use crate::{Handler, SinkErrorHandler, Target};
 use cadence_errors::{MetricResult, SinkError};
 use cadence_flow::io::DEFAULT_CAPACITY;
-use cadence_flow::stats::SinkStats;
+use cadence_flow::stats::{SinkStats, Unread};
 use cadence_resolve::{Resolver, ResolverRuntime, StaticResolver};
+use cadence_shared::{
+    AnsweringFlush, AnsweringSink, Dropped, Flushed, MetricSink, Packed, Refused, Sent, emit_by,
+    flush_by,
+};
 use std::alloc::{Allocator, Global};
 use std::net::{Net, UdpSocket};
 use std::sync::Wait;
@@ -27,14 +33,15 @@ pub struct UdpPeer<R: Wait + Drop, A: Allocator> {
 impl<R: Wait + Drop, A: Allocator> DatagramSocket for UdpPeer<R, A> {
     ghost may_give = { is_io };
 
-    fn send(&self, packet: &[u8], fault: &mut SinkError) -> Option<usize> {
-        match self.socket.send_to(packet, self.resolver.get_addr()) {
+    fn send(&self, packet: &[u8], fault: &mut SinkError) -> Unread {
+        let taken = match self.socket.send_to(packet, self.resolver.get_addr()) {
             Ok(n) => Some(n),
             Err(error) => {
                 *fault = SinkError::Io(error);
                 None
             }
-        }
+        };
+        Unread::of(taken, packet)
     }
 }
 
@@ -83,19 +90,32 @@ impl<R: Wait + Drop, A: Allocator> UdpMetricSink<R, A> {
     }
 }
 
-impl<R: Wait + Drop, A: Allocator> MetricSink for UdpMetricSink<R, A> {
+impl<R: Wait + Drop, A: Allocator> AnsweringSink for UdpMetricSink<R, A> {
+    type Took = Sent;
+
+    type Refused = Dropped;
+
     ghost may_answer = { λ _ metric answer. IsSocketAnswer is_io metric answer };
 
+    fn emit_line(&self, line: &str, fault: &mut SinkError) -> Result<Self::Took, Self::Refused> {
+        self.socket.send_line(line, fault)
+    }
+}
+
+impl<R: Wait + Drop, A: Allocator> MetricSink for UdpMetricSink<R, A> {
+    ghost may_answer = { λ _ metric answer.
+        IsSocketAnswer is_io metric answer × IsAnswered metric answer };
+
+    ghost flush_may_succeed = { λ _ _. tt };
+
+    #[inline(always)]
     fn emit(&self, metric: &str) -> Result<usize, SinkError> {
-        let mut fault = SinkError::NothingWritten;
-        self.socket.send(metric.as_bytes(), &mut fault).ok_or(fault)
+        emit_by(self, metric)
     }
 
     fn stats(&self) -> SinkStats {
         self.socket.stats()
     }
-
-    ghost flush_may_succeed = { λ _. tt };
 }
 
 /// Makes a `UdpMetricSink`. Without a period the target is looked up once.
@@ -122,7 +142,9 @@ impl UdpMetricSinkBuilder {
         }
     }
 
-    /// Lets a thread look the target up again after each period. The thread sleeps in between.
+    /// Lets a thread look the target up again after each period. The thread sleeps in between. A period below one
+    /// millisecond counts as one millisecond. The drop of the sink wakes the thread, which then ends after one more
+    /// lookup at the latest.
     pub fn with_resolver_period(mut self, period: Duration) -> Self
         ensures period { period_of result ≡ Some period }
         ensures handler { handler_of result ≡ handler_of self }
@@ -172,6 +194,10 @@ impl UdpMetricSinkBuilder {
 /// socket took 0 bytes of the held text; what the socket didn't take stays held. The counts include each call of the
 /// socket. The sink keeps the runtime `R`, whose locks it takes. Its drop stops the lookups, and doesn't wait for them.
 ///
+/// A datagram holds at most 65,507 bytes over IPv4, and 65,527 over IPv6. With a larger capacity the system refuses the
+/// held text for its size (`EMSGSIZE`) as soon as it is longer. The text stays held, and so each later line is refused
+/// too. No capacity is refused for that, except by the ready-made sinks.
+///
 /// ```text
 /// let sink = BufferedUdpMetricSink::with_capacity(rt.clone()?, alloc, target, socket, 1432)?;
 /// ```
@@ -181,7 +207,8 @@ pub struct BufferedUdpMetricSink<R: Wait + Drop, A: Allocator = Global> {
 }
 
 impl<R: Net + Wait + Clone + Drop, A: Allocator + Clone> BufferedUdpMetricSink<R, A> {
-    /// Makes a sink with a buffer of 512 bytes. Otherwise it does what `with_capacity` does, with the same errors.
+    /// Makes a sink with a buffer of 512 bytes, which each datagram can hold. Otherwise it does what `with_capacity`
+    /// does, with the same errors.
     pub fn from(rt: R, alloc: A, target: Target<A>, socket: UdpSocket) -> MetricResult<Self>
         ensures buffer { IfOk result (λ s. udp_buffer s ≡ 512) }
         ensures refused { IfErr result (λ e. IsTargetRefusal target e) }
@@ -189,8 +216,9 @@ impl<R: Net + Wait + Clone + Drop, A: Allocator + Clone> BufferedUdpMetricSink<R
         Self::with_capacity(rt, alloc, target, socket, DEFAULT_CAPACITY)
     }
 
-    /// Makes a sink with a buffer of `capacity` bytes over a socket that the caller bound. The target is looked up
-    /// once, now, and the sink sends to its first address.
+    /// Makes a sink with a buffer of `capacity` bytes over a socket that the caller bound. A capacity of more than
+    /// 65,507 bytes is a mistake over IPv4, as the comment of the type says. The target is looked up once, now, and the
+    /// sink sends to its first address.
     ///
     /// The errors are `SinkError::Io` if the lookup fails, the kind `InvalidInput` if the name has no address, and
     /// `SinkError::OutOfMemory`. After an error the socket is dropped.
@@ -221,27 +249,56 @@ impl<R: Wait + Drop, A: Allocator> BufferedUdpMetricSink<R, A> {
     }
 }
 
-impl<R: Wait + Drop, A: Allocator> MetricSink for BufferedUdpMetricSink<R, A> {
+impl<R: Wait + Drop, A: Allocator> AnsweringSink for BufferedUdpMetricSink<R, A> {
+    type Took = Packed<SocketLines<UdpPeer<R, A>, R, A>>;
+
+    type Refused = Refused<SocketLines<UdpPeer<R, A>, R, A>>;
+
     ghost may_answer = { λ s metric answer. IsBufferedAnswer is_io (udp_buffer s) metric answer };
 
-    ghost may_flush = { λ _ answer. IsBufferedFlush is_io answer };
+    ghost shows = { λ s line answer e. SocketShows is_io (udp_buffer s) line answer e };
 
     // Without this hint a line of `bench udp 512 20` takes 64 instructions more.
     #[inline(always)]
+    fn emit_line(&self, line: &str, fault: &mut SinkError) -> Result<Self::Took, Self::Refused> {
+        self.socket.emit_line(line, fault)
+    }
+}
+
+impl<R: Wait + Drop, A: Allocator> AnsweringFlush for BufferedUdpMetricSink<R, A> {
+    type Flushed = Flushed<SocketLines<UdpPeer<R, A>, R, A>>;
+
+    type Unflushed = Refused<SocketLines<UdpPeer<R, A>, R, A>>;
+
+    ghost may_flush = { λ _ answer. IsBufferedFlush is_io answer };
+
+    ghost shows_flush = { λ _ answer e. SocketShowsFlush is_io answer e };
+
+    fn flush_lines(&self, fault: &mut SinkError) -> Result<Self::Flushed, Self::Unflushed> {
+        self.socket.flush_lines(fault)
+    }
+}
+
+impl<R: Wait + Drop, A: Allocator> MetricSink for BufferedUdpMetricSink<R, A> {
+    ghost may_answer = { λ s metric answer.
+        IsBufferedAnswer is_io (udp_buffer s) metric answer × IsAnswered metric answer };
+
+    ghost may_flush = { λ _ answer. IsBufferedFlush is_io answer × IsFlushAnswered answer };
+
+    ghost flush_may_succeed = { λ _ held. (tt, answered_by_holding_nothing held) };
+
+    #[inline(always)]
     fn emit(&self, metric: &str) -> Result<usize, SinkError> {
-        let mut fault = SinkError::NothingWritten;
-        self.socket.emit(metric, &mut fault).ok_or(fault)
+        emit_by(self, metric)
     }
 
     fn flush(&self) -> Result<(), SinkError> {
-        self.socket.flush()
+        flush_by(self)
     }
 
     fn stats(&self) -> SinkStats {
         self.socket.stats()
     }
-
-    ghost flush_may_succeed = { λ _. tt };
 }
 
 /// Makes a `BufferedUdpMetricSink`. Without a capacity the buffer has 512 bytes. Without a period the target is looked
@@ -269,7 +326,8 @@ impl BufferedUdpMetricSinkBuilder {
         }
     }
 
-    /// Sets the capacity of the buffer, in bytes.
+    /// Sets the capacity of the buffer, in bytes. More than 65,507 are a mistake over IPv4, as the comment of
+    /// `BufferedUdpMetricSink` says.
     pub fn with_capacity(mut self, capacity: usize) -> Self
         ensures capacity { buffered_capacity_of result ≡ Some capacity }
         ensures period { buffered_period_of result ≡ buffered_period_of self }
@@ -279,7 +337,9 @@ impl BufferedUdpMetricSinkBuilder {
         self
     }
 
-    /// Lets a thread look the target up again after each period. The thread sleeps in between.
+    /// Lets a thread look the target up again after each period. The thread sleeps in between. A period below one
+    /// millisecond counts as one millisecond. The drop of the sink wakes the thread, which then ends after one more
+    /// lookup at the latest.
     pub fn with_resolver_period(mut self, period: Duration) -> Self
         ensures capacity { buffered_capacity_of result ≡ buffered_capacity_of self }
         ensures period { buffered_period_of result ≡ Some period }

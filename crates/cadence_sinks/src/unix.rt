@@ -2,15 +2,20 @@
 ghost use Rattle.std.specs.Prelude.{◌≡◌, Bool, true, IfOk};
 ghost use Rattle.cadence_errors.specs.Errors.{MayOnlyRunOutOfMemory};
 ghost use Rattle.cadence_errors.specs.declared.SinkError.{SinkError};
+ghost use Rattle.cadence_shared.specs.Answered.{IsAnswered, IsFlushAnswered, answered_by_holding_nothing};
 ghost use Rattle.cadence_sinks.specs.Buffers.{unix_buffer};
+ghost use Rattle.cadence_sinks.specs.Shows.{SocketShows, SocketShowsFlush};
 ghost use Rattle.cadence_sinks.specs.Sockets.{IsBufferedAnswer, IsBufferedFlush, IsSocketAnswer};
 ghost use Rattle.cadence_sinks.specs.Unix.{unix_path};
 
-use super::MetricSink;
-use super::datagram::{CountedSocket, DatagramSocket, PackedSocket};
+use super::datagram::{CountedSocket, DatagramSocket, PackedSocket, SocketLines};
 use cadence_errors::{MetricResult, SinkError};
 use cadence_flow::io::DEFAULT_CAPACITY;
-use cadence_flow::stats::SinkStats;
+use cadence_flow::stats::{SinkStats, Unread};
+use cadence_shared::{
+    AnsweringFlush, AnsweringSink, Dropped, Flushed, MetricSink, Packed, Refused, Sent, emit_by,
+    flush_by,
+};
 use std::alloc::{Allocator, Global};
 use std::sync::Wait;
 
@@ -19,14 +24,15 @@ pub trait PathSocket: Drop {
     /// The errors that the socket may return.
     ghost may_give: { SinkError → Bool } = { λ _. true };
 
-    /// Sends a packet to a path, and returns how many of its first bytes were taken.
+    /// Sends a packet to a path, and returns how many of its first bytes were taken. A buffered sink calls it while it
+    /// holds the lock of its buffer, so it must not send a metric over its own sink: that would wait for ever.
     fn send_to(&self, packet: &[u8], path: &str) -> Result<usize, SinkError>
         ensures { IsSocketAnswer may_give packet.now result };
 }
 
 // A socket with the path that it sends to.
 #[derive(Drop)]
-struct PathPeer<P: PathSocket, A: Allocator> {
+pub struct PathPeer<P: PathSocket, A: Allocator> {
     socket: P,
     path: String<A>,
 }
@@ -34,14 +40,15 @@ struct PathPeer<P: PathSocket, A: Allocator> {
 impl<P: PathSocket, A: Allocator> DatagramSocket for PathPeer<P, A> {
     ghost may_give = { P.may_give };
 
-    fn send(&self, packet: &[u8], fault: &mut SinkError) -> Option<usize> {
-        match self.socket.send_to(packet, self.path.as_str()) {
+    fn send(&self, packet: &[u8], fault: &mut SinkError) -> Unread {
+        let taken = match self.socket.send_to(packet, self.path.as_str()) {
             Ok(n) => Some(n),
             Err(error) => {
                 *fault = error;
                 None
             }
-        }
+        };
+        Unread::of(taken, packet)
     }
 }
 
@@ -70,19 +77,32 @@ impl<P: PathSocket, R: Wait + Drop, A: Allocator + Clone> UnixMetricSink<P, R, A
     }
 }
 
-impl<P: PathSocket, R: Wait + Drop, A: Allocator> MetricSink for UnixMetricSink<P, R, A> {
+impl<P: PathSocket, R: Wait + Drop, A: Allocator> AnsweringSink for UnixMetricSink<P, R, A> {
+    type Took = Sent;
+
+    type Refused = Dropped;
+
     ghost may_answer = { λ _ metric answer. IsSocketAnswer P.may_give metric answer };
 
+    fn emit_line(&self, line: &str, fault: &mut SinkError) -> Result<Self::Took, Self::Refused> {
+        self.socket.send_line(line, fault)
+    }
+}
+
+impl<P: PathSocket, R: Wait + Drop, A: Allocator> MetricSink for UnixMetricSink<P, R, A> {
+    ghost may_answer = { λ _ metric answer.
+        IsSocketAnswer P.may_give metric answer × IsAnswered metric answer };
+
+    ghost flush_may_succeed = { λ _ _. tt };
+
+    #[inline(always)]
     fn emit(&self, metric: &str) -> Result<usize, SinkError> {
-        let mut fault = SinkError::NothingWritten;
-        self.socket.send(metric.as_bytes(), &mut fault).ok_or(fault)
+        emit_by(self, metric)
     }
 
     fn stats(&self) -> SinkStats {
         self.socket.stats()
     }
-
-    ghost flush_may_succeed = { λ _. tt };
 }
 
 /// A sink that buffers lines, each followed by a newline, and sends them packed into datagrams to a path.
@@ -93,6 +113,11 @@ impl<P: PathSocket, R: Wait + Drop, A: Allocator> MetricSink for UnixMetricSink<
 /// the socket took 0 bytes of the held text; what the socket didn't take stays held. The counts include each call of
 /// the socket. The sink keeps the runtime `R`, whose locks it takes.
 ///
+/// A Unix datagram holds as many bytes as the send buffer of its socket, less 32: on Linux 212,960, unless
+/// `net.core.wmem_default` says otherwise. With a larger capacity the system refuses the held text for its size
+/// (`EMSGSIZE`) as soon as it is longer. The text stays held, and so each later line is refused too. No capacity is
+/// refused for that, except by the ready-made sinks, which take at most 65,507 bytes.
+///
 /// ```text
 /// let sink = BufferedUnixMetricSink::from(rt.clone()?, alloc, "/run/statsd.sock", socket)?;
 /// ```
@@ -102,8 +127,8 @@ pub struct BufferedUnixMetricSink<P: PathSocket, R: Wait + Drop, A: Allocator = 
 }
 
 impl<P: PathSocket, R: Wait + Clone + Drop, A: Allocator + Clone> BufferedUnixMetricSink<P, R, A> {
-    /// Makes a sink with a buffer of 512 bytes over a socket that the caller made. The only error is `OutOfMemory`; the
-    /// socket is dropped then.
+    /// Makes a sink with a buffer of 512 bytes, which each datagram can hold, over a socket that the caller made. The
+    /// only error is `OutOfMemory`; the socket is dropped then.
     pub fn from(rt: R, alloc: A, path: &str, socket: P) -> MetricResult<Self>
         ensures buffer { IfOk result (λ s. unix_buffer s ≡ 512) }
         ensures refused { MayOnlyRunOutOfMemory result }
@@ -111,8 +136,9 @@ impl<P: PathSocket, R: Wait + Clone + Drop, A: Allocator + Clone> BufferedUnixMe
         Self::with_capacity(rt, alloc, path, socket, DEFAULT_CAPACITY)
     }
 
-    /// Makes a sink with a buffer of `capacity` bytes over a socket that the caller made. The only error is
-    /// `OutOfMemory`; the socket is dropped then.
+    /// Makes a sink with a buffer of `capacity` bytes over a socket that the caller made. A capacity of more bytes than
+    /// the socket takes at once is a mistake, as the comment of the type says. The only error is `OutOfMemory`; the
+    /// socket is dropped then.
     pub fn with_capacity(
         rt: R,
         alloc: A,
@@ -129,24 +155,55 @@ impl<P: PathSocket, R: Wait + Clone + Drop, A: Allocator + Clone> BufferedUnixMe
     }
 }
 
-impl<P: PathSocket, R: Wait + Drop, A: Allocator> MetricSink for BufferedUnixMetricSink<P, R, A> {
+impl<P: PathSocket, R: Wait + Drop, A: Allocator> AnsweringSink
+    for BufferedUnixMetricSink<P, R, A> {
+    type Took = Packed<SocketLines<PathPeer<P, A>, R, A>>;
+
+    type Refused = Refused<SocketLines<PathPeer<P, A>, R, A>>;
+
     ghost may_answer = { λ s metric answer.
         IsBufferedAnswer P.may_give (unix_buffer s) metric answer };
 
+    ghost shows = { λ s line answer e. SocketShows P.may_give (unix_buffer s) line answer e };
+
+    fn emit_line(&self, line: &str, fault: &mut SinkError) -> Result<Self::Took, Self::Refused> {
+        self.socket.emit_line(line, fault)
+    }
+}
+
+impl<P: PathSocket, R: Wait + Drop, A: Allocator> AnsweringFlush
+    for BufferedUnixMetricSink<P, R, A> {
+    type Flushed = Flushed<SocketLines<PathPeer<P, A>, R, A>>;
+
+    type Unflushed = Refused<SocketLines<PathPeer<P, A>, R, A>>;
+
     ghost may_flush = { λ _ answer. IsBufferedFlush P.may_give answer };
 
+    ghost shows_flush = { λ _ answer e. SocketShowsFlush P.may_give answer e };
+
+    fn flush_lines(&self, fault: &mut SinkError) -> Result<Self::Flushed, Self::Unflushed> {
+        self.socket.flush_lines(fault)
+    }
+}
+
+impl<P: PathSocket, R: Wait + Drop, A: Allocator> MetricSink for BufferedUnixMetricSink<P, R, A> {
+    ghost may_answer = { λ s metric answer.
+        IsBufferedAnswer P.may_give (unix_buffer s) metric answer × IsAnswered metric answer };
+
+    ghost may_flush = { λ _ answer. IsBufferedFlush P.may_give answer × IsFlushAnswered answer };
+
+    ghost flush_may_succeed = { λ _ held. (tt, answered_by_holding_nothing held) };
+
+    #[inline(always)]
     fn emit(&self, metric: &str) -> Result<usize, SinkError> {
-        let mut fault = SinkError::NothingWritten;
-        self.socket.emit(metric, &mut fault).ok_or(fault)
+        emit_by(self, metric)
     }
 
     fn flush(&self) -> Result<(), SinkError> {
-        self.socket.flush()
+        flush_by(self)
     }
 
     fn stats(&self) -> SinkStats {
         self.socket.stats()
     }
-
-    ghost flush_may_succeed = { λ _. tt };
 }

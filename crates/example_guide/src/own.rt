@@ -19,7 +19,7 @@ impl MetricSink for MySink {
         Ok(metric.len())
     }
 
-    ghost flush_may_succeed = { λ _. tt };
+    ghost flush_may_succeed = { λ _ _. tt };
 }
 
 /// Takes lines, but promises nothing about its answers.
@@ -42,7 +42,7 @@ impl MetricSink for AnySink {
         Err(SinkError::PacketRefused)
     }
 
-    ghost flush_may_succeed = { λ _. tt };
+    ghost flush_may_succeed = { λ _ _. tt };
 }
 
 /// How many calls a minute had.

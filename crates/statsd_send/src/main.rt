@@ -1,88 +1,89 @@
 //! `statsd_send`: sends the metric of its words, or the metrics of its standard input.
 //!
+//! - `arguments`: the words of the command line.
+//! - `host`: sends packets to a host, whose name is looked up again and again.
 //! - `pace`: a pace that follows the clock.
+//! - `place`: the place to which packets are sent, and where it comes from.
 //! - `target`: looks up the address of a host.
 //! - `unix`: sends packets to the path of a Unix socket.
 #![tactic(auto)]
 
+mod arguments;
+mod host;
 mod pace;
+mod place;
 mod target;
 mod unix;
 
+use crate::arguments::{ArgumentError, Arguments, guarded, read_arguments};
+use crate::host::{HostWriter, LONGEST_DATAGRAM};
 use crate::pace::Every;
-use crate::target::{TargetError, find_address};
+use crate::place::{Place, Target, check_destination, find_place};
+use crate::target::find_address;
 use crate::unix::PathWriter;
-use cadence_agent::{
-    Destination as Agent, Environment, EnvironmentError, PathError, UnixSocket, check_path,
-};
+use cadence_agent::{Environment, EnvironmentError, UnixSocket};
 use cadence_errors::{ErrorKind as MetricErrorKind, MetricError};
 use cadence_flow::io::{LineBuffer, PacketWriter};
+use cadence_number::{SampledReader, Sampler};
 use cadence_resolve::bind_socket;
 use cadence_send::{
-    DatagramWriter, Defaults, Destination, Options, PacketPrinter, Request, RunError, Unhurried,
-    read_options, run_input, run_words,
+    LastingWriter, Options, Outlet, PacketPrinter, RunError, run_input, run_stream, run_words,
 };
+use cadence_words::Defaults;
+use rand::make_rng;
+use rand::rngs::SmallRng;
 use std::alloc::{AllocError, Global};
 use std::io::{ErrorKind, Read, Stdin};
-use std::net::SocketAddr;
 use std::process::ExitCode;
 use std::time::Duration;
-use std::{env, fmt};
+use std::{env, fmt, io};
 
-const HELP: &str = "statsd_send [OPTIONS] KIND NAME VALUE [TAG ..]   sends one metric
-statsd_send [OPTIONS]   reads one metric a line, and packs them
-
-KIND         c, ms, g, m, h, s, d, or count, time, gauge, meter, histogram, set, distribution
-VALUE        a number, as 1 or 0.75, or of ms and h a duration, as 1250ms or 1.25s;
-             of ms, h and d several, as 12,250
-TAG          K:V or V
---to HOST:PORT      where to (127.0.0.1:8125; DD_DOGSTATSD_URL; DD_AGENT_HOST,
-                    DD_DOGSTATSD_PORT; STATSD_HOST, STATSD_PORT)
---to unix:PATH      or to a Unix datagram socket
---prefix NAME  --tag TAG  --container ID  --time SECONDS  --rate NUMBER
-                    (tags before these: DD_ENV, DD_SERVICE, DD_VERSION, DD_TAGS, DD_ENTITY_ID)
---capacity BYTES    how much a packet holds (512)
---flush-every MS    the longest that a line waits for more input; 0: no line waits,
-                    else the lines wait until a packet is full or the input ends
---strict            refuses tags of the environment that have a second colon
---print             prints the packets, and sends none
---help  --version
-
-Status: 0 sent, 1 input or sending failed, 2 words or lines that can't be read, 3 memory.
-As in: tail -f log | statsd_send --flush-every 0
-";
-
-const VERSION: &str = "statsd_send 0.7.0\n";
+const OUT_OF_MEMORY: &str = "out of memory";
 
 fn main(rt: HostRuntime) -> ExitCode {
-    let mut words = Vec::new(rt.alloc());
-    let arguments = match env::args(&rt) {
+    let given = match read_words(&rt) {
+        Ok(given) => given,
+        Err(kind) => return exit_without_words(&rt, kind),
+    };
+    match read_arguments(rt.alloc(), &given) {
+        Ok(arguments) => send(&rt, &arguments),
+        Err(ArgumentError::Refused(error)) => match error.print(&rt) {
+            Ok(()) => ExitCode::from(error.exit_code() as u8),
+            Err(fault) => {
+                let _ = eprintln!(rt; "statsd_send: cannot print: {fault}");
+                ExitCode::from(1)
+            }
+        },
+        Err(ArgumentError::Value(why)) => exit_with_error(&rt, 2, why),
+        Err(ArgumentError::OutOfMemory) => exit_with_error(&rt, 3, OUT_OF_MEMORY),
+    }
+}
+
+// Returns the name of the program, and the words of the command line, guarded.
+fn read_words(rt: &HostRuntime) -> Result<Vec<String>, ErrorKind> {
+    let alloc = rt.alloc();
+    let mut given = Vec::new(alloc);
+    let name = String::from_str(alloc, "statsd_send").map_err(no_memory)?;
+    given.push(name).map_err(|_| ErrorKind::OutOfMemory)?;
+    let arguments = match env::args(rt) {
         Ok(arguments) => arguments,
-        Err(error) => return exit_without_words(&rt, error.kind()),
+        Err(error) => return Err(error.kind()),
     };
     for word in arguments.skip(1) {
-        if words.push(word).is_err() {
-            return exit_with_error(&rt, 3, "out of memory");
-        }
+        let word = guarded(alloc, word).map_err(no_memory)?;
+        given.push(word).map_err(|_| ErrorKind::OutOfMemory)?;
     }
-    let mut lent = Vec::new(rt.alloc());
-    for word in &words {
-        if lent.push(word.as_str()).is_err() {
-            return exit_with_error(&rt, 3, "out of memory");
-        }
-    }
-    match read_options(rt.alloc(), &lent) {
-        Ok(Request::Help) => print_text(&rt, HELP),
-        Ok(Request::Version) => print_text(&rt, VERSION),
-        Ok(Request::Send(options, words)) => send(&rt, &options, words),
-        Err(error) => exit_with_error(&rt, error.status(), error),
-    }
+    Ok(given)
+}
+
+fn no_memory(_error: AllocError) -> ErrorKind {
+    ErrorKind::OutOfMemory
 }
 
 // Prints to the standard error why the words of the command line can't be read, and returns the exit status.
 fn exit_without_words(rt: &HostRuntime, kind: ErrorKind) -> ExitCode {
     if kind == ErrorKind::OutOfMemory {
-        return exit_with_error(rt, 3, "out of memory");
+        return exit_with_error(rt, 3, OUT_OF_MEMORY);
     }
     exit_with_error(
         rt,
@@ -95,28 +96,6 @@ fn exit_without_words(rt: &HostRuntime, kind: ErrorKind) -> ExitCode {
 fn exit_with_error<T: fmt::Display + Drop>(rt: &HostRuntime, status: u8, why: T) -> ExitCode {
     let _ = eprintln!(rt; "statsd_send: {why}");
     ExitCode::from(status)
-}
-
-// Prints a text to the standard output, and returns the exit status.
-fn print_text(rt: &HostRuntime, text: &str) -> ExitCode {
-    match print!(rt; "{text}") {
-        Ok(()) => ExitCode::from(0),
-        Err(error) => {
-            let _ = eprintln!(rt; "statsd_send: cannot print: {error}");
-            ExitCode::from(1)
-        }
-    }
-}
-
-// The path of a Unix socket that the options name can't be used.
-#[derive(Drop)]
-struct UnusablePath<'a>(&'a str, PathError);
-
-impl fmt::Display for UnusablePath<'_> {
-    fn fmt<W: fmt::Write>(&self, f: &mut fmt::Formatter<W>) -> fmt::Result {
-        let (path, fault) = (self.0, self.1);
-        write!(f, "--to unix:{path}: {fault}")
-    }
 }
 
 // Prints to the standard error why the environment can't be used, and returns the exit status.
@@ -135,11 +114,27 @@ fn exit_without_defaults(rt: &HostRuntime, error: MetricError) -> ExitCode {
             "--strict wants tags of the environment without a second colon, as in DD_TAGS=team:shop";
         return exit_with_error(rt, 2, why);
     }
-    exit_with_error(rt, 3, "out of memory")
+    exit_with_error(rt, 3, OUT_OF_MEMORY)
+}
+
+// A step towards sending that failed for a place, and why.
+#[derive(Drop)]
+struct Failed<'a, T: Drop> {
+    step: &'static str,
+    place: &'a Place,
+    why: T,
+}
+
+impl<T: fmt::Display + Drop> fmt::Display for Failed<'_, T> {
+    fn fmt<W: fmt::Write>(&self, f: &mut fmt::Formatter<W>) -> fmt::Result {
+        let (step, text, source, why) = (self.step, &self.place.text, self.place.source, &self.why);
+        write!(f, "cannot {step} {text} ({source}): {why}")
+    }
 }
 
 // Sends the metric of the words, or those of the input if there are no words. Returns the exit status.
-fn send(rt: &HostRuntime, options: &Options<'_, Global>, words: &[&str]) -> ExitCode {
+fn send(rt: &HostRuntime, arguments: &Arguments<'_>) -> ExitCode {
+    let options = &arguments.options;
     let tags = match Environment::read_tags(rt) {
         Ok(tags) => tags,
         Err(error) => return exit_without_environment(rt, error),
@@ -148,88 +143,121 @@ fn send(rt: &HostRuntime, options: &Options<'_, Global>, words: &[&str]) -> Exit
         Ok(defaults) => defaults,
         Err(error) => return exit_without_defaults(rt, error),
     };
-    if let Some(Destination::Unix(path)) = options.to {
-        if let Err(fault) = check_path(path) {
-            return exit_with_error(rt, 2, UnusablePath(path, fault));
-        }
+    if let Err(error) = check_destination(options.to) {
+        return exit_with_error(rt, error.status(), error);
     }
     if options.is_printing {
-        return match PacketPrinter::new(rt.alloc(), rt.stdout()) {
-            Ok(writer) => send_with(rt, options, words, &defaults, writer),
-            Err(_) => exit_with_error(rt, 3, "out of memory"),
-        };
+        return print_packets(rt, arguments, &defaults);
     }
     // If the standard input is closed, the system gives its number, file descriptor 0, to the next file that is opened.
     // That would be our socket, and the program would wait for input from it. Reading 0 bytes now finds out, since it
     // fails if file descriptor 0 is closed.
-    if words.is_empty() && rt.stdin().read(&mut [0u8; 0]).is_err() {
-        return exit_with_error(rt, 1, RunError::Input);
-    }
-    match options.to {
-        Some(Destination::Unix(path)) => send_to_path(rt, options, words, &defaults, path),
-        Some(Destination::Host(host)) => {
-            send_to_address(rt, options, words, &defaults, find_address(rt, host))
+    if arguments.words.is_empty() {
+        if let Err(error) = rt.stdin().read(&mut [0u8; 0]) {
+            return exit_with_error(rt, 1, RunError::Input(error));
         }
-        None => send_to_agent(rt, options, words, &defaults),
     }
-}
-
-// Sends to the place that the environment says. Returns the exit status.
-fn send_to_agent(
-    rt: &HostRuntime,
-    options: &Options<'_, Global>,
-    words: &[&str],
-    defaults: &Defaults,
-) -> ExitCode {
-    match Environment::read_destination(rt) {
-        Ok(Agent::Udp { host, port }) => {
-            let address = find_address(rt, (host.as_str(), port));
-            send_to_address(rt, options, words, defaults, address)
-        }
-        Ok(Agent::Unix { path }) => send_to_path(rt, options, words, defaults, &path),
-        Err(error) => exit_without_environment(rt, error),
-    }
-}
-
-// Sends to this address, if it was found. Returns the exit status.
-fn send_to_address(
-    rt: &HostRuntime,
-    options: &Options<'_, Global>,
-    words: &[&str],
-    defaults: &Defaults,
-    address: Result<SocketAddr, TargetError>,
-) -> ExitCode {
-    let address = match address {
-        Ok(address) => address,
+    let place = match find_place(rt, options.to) {
+        Ok(place) => place,
         Err(error) => return exit_with_error(rt, error.status(), error),
+    };
+    match &place.target {
+        Target::Host(host, port) => send_to_host(rt, arguments, defaults, &place, host, *port),
+        Target::Path(path) => send_to_path(rt, arguments, defaults, &place, path),
+    }
+}
+
+// Prints the packets. Returns the exit status.
+fn print_packets(rt: &HostRuntime, arguments: &Arguments<'_>, defaults: &Defaults) -> ExitCode {
+    let Ok(writer) = PacketPrinter::new(rt.alloc(), rt.stdout()) else {
+        return exit_with_error(rt, 3, OUT_OF_MEMORY);
+    };
+    let Ok(mut lines) = LineBuffer::new(rt.alloc(), writer, arguments.options.capacity) else {
+        return exit_with_error(rt, 3, OUT_OF_MEMORY);
+    };
+    if !arguments.words.is_empty() {
+        return send_words(rt, arguments, defaults, &mut lines, Outlet::Output);
+    }
+    let mut input = match asked_input(rt, &arguments.options) {
+        Ok(input) => input,
+        Err(why) => return exit_without_sample(rt, why),
+    };
+    let Ok(mut pace) = asked_pace(rt, &arguments.options) else {
+        return exit_with_error(rt, 3, OUT_OF_MEMORY);
+    };
+    let (alloc, mut errors) = (rt.alloc(), rt.stderr());
+    let status = run_input(
+        &alloc,
+        defaults,
+        &mut lines,
+        &mut input,
+        Outlet::Output,
+        &mut errors,
+        &mut pace,
+    );
+    ExitCode::from(status)
+}
+
+// Sends to a host. Returns the exit status.
+fn send_to_host(
+    rt: &HostRuntime,
+    arguments: &Arguments<'_>,
+    defaults: Defaults,
+    place: &Place,
+    host: &str,
+    port: u16,
+) -> ExitCode {
+    let address = match find_address(rt, (host, port)) {
+        Ok(address) => address,
+        Err(why) => {
+            let (step, status) = ("find", why.status());
+            return exit_with_error(rt, status, Failed { step, place, why });
+        }
+    };
+    let Ok(clock) = rt.clone() else {
+        return exit_with_error(rt, 3, OUT_OF_MEMORY);
     };
     match bind_socket(rt, address) {
         Ok(socket) => {
-            let writer = DatagramWriter::new(socket, address);
-            send_with(rt, options, words, defaults, writer)
+            let writer = HostWriter::new(clock, host, port, socket, address);
+            send_with(rt, arguments, defaults, place, writer, LONGEST_DATAGRAM)
         }
-        Err(error) => exit_without_socket(rt, error),
+        Err(why) => exit_without_socket(rt, place, why),
     }
 }
 
 // Sends to the path of a Unix socket. Returns the exit status.
 fn send_to_path(
     rt: &HostRuntime,
-    options: &Options<'_, Global>,
-    words: &[&str],
-    defaults: &Defaults,
+    arguments: &Arguments<'_>,
+    defaults: Defaults,
+    place: &Place,
     path: &str,
 ) -> ExitCode {
-    match UnixSocket::new(rt) {
-        Ok(socket) => send_with(rt, options, words, defaults, PathWriter::new(socket, path)),
-        Err(error) => exit_without_socket(rt, error),
+    let is_waiting = arguments.words.is_empty() && !arguments.options.is_dropping;
+    let socket = if is_waiting {
+        UnixSocket::waiting(rt)
+    } else {
+        UnixSocket::new(rt)
+    };
+    match socket {
+        Ok(socket) => {
+            let longest = socket.longest_packet();
+            let writer = PathWriter::new(socket, path);
+            send_with(rt, arguments, defaults, place, writer, longest)
+        }
+        Err(why) => exit_without_socket(rt, place, why),
     }
 }
 
 // Prints to the standard error why there is no socket, and returns the exit status.
-fn exit_without_socket<T: fmt::Display + Drop>(rt: &HostRuntime, why: T) -> ExitCode {
-    let _ = eprintln!(rt; "statsd_send: socket: {why}");
-    ExitCode::from(1)
+fn exit_without_socket<T: fmt::Display + Drop>(
+    rt: &HostRuntime,
+    place: &Place,
+    why: T,
+) -> ExitCode {
+    let step = "make a socket for";
+    exit_with_error(rt, 1, Failed { step, place, why })
 }
 
 // Returns the pace of the option `--flush-every`, if it is set. A clock takes memory.
@@ -244,44 +272,111 @@ fn asked_pace(
     Ok(Some(Every::new(clock, rt.stdin(), Duration::from_millis(period))))
 }
 
-// Sends the metric of the words, or those of the input if there are no words, with this writer of packets. Returns the
-// exit status.
-fn send_with<T: PacketWriter>(
+// Returns the sampler of the option `--sample`, which chooses every line if the option is not set.
+fn asked_sampler(rt: &HostRuntime, options: &Options<'_, Global>) -> io::Result<Sampler<SmallRng>> {
+    let Some(chance) = options.sample else {
+        return Ok(Sampler::all());
+    };
+    Ok(Sampler::new(chance, make_rng(rt)?))
+}
+
+// Returns the lines of the standard input that the option `--sample` lets pass.
+fn asked_input(
     rt: &HostRuntime,
     options: &Options<'_, Global>,
-    words: &[&str],
-    defaults: &Defaults,
-    writer: T,
-) -> ExitCode {
-    let alloc = rt.alloc();
-    let Ok(pace) = asked_pace(rt, options) else {
-        return exit_with_error(rt, 3, "out of memory");
-    };
-    let Ok(mut lines) = LineBuffer::new(alloc, writer, options.capacity) else {
-        return exit_with_error(rt, 3, "out of memory");
-    };
-    let (mut input, mut errors) = (rt.stdin(), rt.stderr());
-    if !words.is_empty() {
-        let status = run_words(&alloc, defaults, &mut lines, words, &mut errors);
-        return ExitCode::from(status);
+) -> io::Result<SampledReader<Stdin, SmallRng>> {
+    Ok(SampledReader::new(rt.stdin(), asked_sampler(rt, options)?))
+}
+
+// Prints to the standard error why there are no random numbers, and returns the exit status.
+fn exit_without_sample(rt: &HostRuntime, why: io::Error) -> ExitCode {
+    let _ = eprintln!(rt; "statsd_send: cannot make random numbers for --sample: {why}");
+    ExitCode::from(1)
+}
+
+// A capacity that is more than the target takes.
+#[derive(Drop)]
+struct TooMuch<'a>(usize, usize, &'a Place);
+
+impl fmt::Display for TooMuch<'_> {
+    fn fmt<W: fmt::Write>(&self, f: &mut fmt::Formatter<W>) -> fmt::Result {
+        let (capacity, longest, text) = (self.0, self.1, &self.2.text);
+        write!(
+            f,
+            "--capacity {capacity}: wants at most {longest} bytes, the longest datagram to {text}"
+        )
     }
-    let status = match pace {
-        Some(mut pace) => run_input(
-            &alloc,
-            defaults,
-            &mut lines,
-            &mut input,
-            &mut errors,
-            &mut pace,
-        ),
-        None => run_input(
-            &alloc,
-            defaults,
-            &mut lines,
-            &mut input,
-            &mut errors,
-            &mut Unhurried,
-        ),
+}
+
+// Sends the metric of the words, or those of the input if there are no words, with this writer of packets, which takes
+// packets up to this length. Returns the exit status.
+fn send_with<T: PacketWriter>(
+    rt: &HostRuntime,
+    arguments: &Arguments<'_>,
+    mut defaults: Defaults,
+    place: &Place,
+    writer: T,
+    longest: usize,
+) -> ExitCode {
+    let capacity = arguments.options.capacity;
+    if capacity > longest {
+        return exit_with_error(rt, 2, TooMuch(capacity, longest, place));
+    }
+    defaults.longest = longest;
+    let (alloc, outlet) = (rt.alloc(), Outlet::Target(&place.text, place.source));
+    if !arguments.words.is_empty() {
+        let Ok(mut lines) = LineBuffer::new(alloc, writer, capacity) else {
+            return exit_with_error(rt, 3, OUT_OF_MEMORY);
+        };
+        return send_words(rt, arguments, &defaults, &mut lines, outlet);
+    }
+    let lasting = LastingWriter::new(alloc, writer, outlet, rt.stderr());
+    let Ok(mut lines) = LineBuffer::new(alloc, lasting, capacity) else {
+        return exit_with_error(rt, 3, OUT_OF_MEMORY);
     };
+    let mut input = match asked_input(rt, &arguments.options) {
+        Ok(input) => input,
+        Err(why) => return exit_without_sample(rt, why),
+    };
+    let Ok(mut pace) = asked_pace(rt, &arguments.options) else {
+        return exit_with_error(rt, 3, OUT_OF_MEMORY);
+    };
+    let mut errors = rt.stderr();
+    let status = run_stream(
+        &alloc,
+        &defaults,
+        &mut lines,
+        &mut input,
+        outlet,
+        &mut errors,
+        &mut pace,
+    );
     ExitCode::from(status)
+}
+
+// Sends the metric of the words, if the option `--sample` lets it pass, and otherwise only reads the words. Returns the
+// exit status.
+fn send_words<T: PacketWriter>(
+    rt: &HostRuntime,
+    arguments: &Arguments<'_>,
+    defaults: &Defaults,
+    lines: &mut LineBuffer<T, Global>,
+    outlet: Outlet<'_>,
+) -> ExitCode {
+    let (alloc, mut errors) = (rt.alloc(), rt.stderr());
+    let words = arguments.words.as_slice();
+    let mut sampler = match asked_sampler(rt, &arguments.options) {
+        Ok(sampler) => sampler,
+        Err(why) => return exit_without_sample(rt, why),
+    };
+    if sampler.chooses() {
+        return ExitCode::from(run_words(&alloc, defaults, lines, words, outlet, &mut errors));
+    }
+    let Ok(nowhere) = PacketPrinter::new(alloc, Vec::new(alloc)) else {
+        return exit_with_error(rt, 3, OUT_OF_MEMORY);
+    };
+    let Ok(mut lines) = LineBuffer::new(alloc, nowhere, arguments.options.capacity) else {
+        return exit_with_error(rt, 3, OUT_OF_MEMORY);
+    };
+    ExitCode::from(run_words(&alloc, defaults, &mut lines, words, outlet, &mut errors))
 }

@@ -26,7 +26,7 @@ impl From<io::Error> for TargetError {
 impl fmt::Display for TargetError {
     fn fmt<W: fmt::Write>(&self, f: &mut fmt::Formatter<W>) -> fmt::Result {
         match self {
-            TargetError::Lookup(error) => write!(f, "where to: {error}"),
+            TargetError::Lookup(error) => write!(f, "{error}"),
             TargetError::NoAddress => f.write_str("the host has no address"),
             TargetError::OutOfMemory => f.write_str("out of memory"),
         }
@@ -43,12 +43,12 @@ impl TargetError {
     }
 }
 
-/// Returns the first address of a host and a port.
+/// Returns the address of a host and a port: its first one of IPv4, or if it has none of IPv4 its first one.
 ///
 /// # Errors
 /// `Lookup` if the host can't be looked up, `NoAddress` if it has no address, and `OutOfMemory`.
 pub fn find_address<T: ToSocketAddrs>(net: &impl Net, host: T) -> Result<SocketAddr, TargetError> {
-    match host.to_socket_addrs(net)?.next() {
+    match cadence_resolve::find_address(net, host)? {
         Some(address) => Ok(address),
         None => Err(TargetError::NoAddress),
     }

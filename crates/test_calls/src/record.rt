@@ -163,7 +163,7 @@ impl<R: Wait + Drop> MetricSink for RecordingSink<R> {
         Ok(metric.len())
     }
 
-    ghost flush_may_succeed = { λ _. tt };
+    ghost flush_may_succeed = { λ _ _. tt };
 }
 
 impl<R: Wait + Drop> Drop for RecordingSink<R> {

@@ -5,6 +5,7 @@
 //! - `line`: records of metrics. `draft`: lines that are made in a buffer.
 //! - `io`: packers of lines and their writers.
 //! - `queue`: the core of a queue, the shared queue, and the end mark of its worker.
+//! - `give_way`: how long a worker waits for the lock beside a caller.
 //! - `taker`: the taker of a shared queue. `taker_memory`: the memory of texts that it gives back.
 //! - `stats`: counts that clones share.
 //! - `record_sizes`: the records that only proofs read take no memory.
@@ -15,6 +16,7 @@ mod audited_callers;
 mod decimal;
 mod draft;
 mod error;
+mod give_way;
 mod io;
 mod line;
 mod queue;

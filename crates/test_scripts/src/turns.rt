@@ -305,7 +305,7 @@ pub fn fail_in_turn(alloc: Global, script: &[u8], ends: &mut EndCounts) -> Resul
     }
 }
 
-/// Runs a script that can be read, and counts how the run ends: as unusable just if the model says so, and then with the
+/// Runs a script that can be read, and counts how the run ends: as unusable if and only if the model says so, and then with the
 /// message that is due, or as any other run does.
 pub fn count_usability(
     alloc: Global,

@@ -1,14 +1,18 @@
 //! The tests: `nop`, `spy`, `udp`, `unix` and `queuing` for the sinks of these names, `worklist` for the loop of a
-//! worker, `flushes` for sinks that are flushed by time, and `resolve` for the resolvers. They share `steps` (calls of a
-//! sink that assert their result), `sockets` (sockets on this machine), `gate` (a sink at whose gate a worker waits) and
-//! `moved_clock` (a clock that a test moves).
+//! worker, `flushes` for sinks that are flushed by time, `ends` for the end of a queue and for its shortest and longest
+//! periods, `ready` for ready-made sinks over UDP, and `resolve` and `resolver_thread` for the resolvers. They share
+//! `steps` (calls of a sink that assert their result), `sockets` (sockets on this machine), `gate` (a sink at whose gate a
+//! worker waits) and `moved_clock` (a clock that a test moves).
 
+mod ends;
 mod flushes;
 mod gate;
 mod moved_clock;
 mod nop;
 mod queuing;
+mod ready;
 mod resolve;
+mod resolver_thread;
 mod sockets;
 mod spy;
 mod steps;

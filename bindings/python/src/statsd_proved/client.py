@@ -124,12 +124,15 @@ class StatsClient(Metrics):
         commas, or by spaces if it has no comma; and then `dd.internal.entity_id` of DD_ENTITY_ID. A tag of DD_TAGS with the
         key `env`, `service` or `version` is left out if the variable of that key is set.
 
+        A packet has at most 512 bytes over UDP, and 8192 bytes over a Unix socket, unless `maxudpsize` says otherwise.
+
         `arguments` are those of the constructor. With `host` or `port` no variable of an address is read. `tags` come after
         those of the variables. A host that is an IPv6 address sets `ipv6`. The call raises a VariableError if a variable
         can't be used, before it makes anything, and what the constructor raises."""
         if not {"host", "port"} & arguments.keys():
             host, port = environment.address(os.environb)
-            arguments = {"ipv6": ":" in host, **arguments, "host": host, "port": port}
+            size = 8192 if host.startswith(UNIX) else 512
+            arguments = {"ipv6": ":" in host, "maxudpsize": size, **arguments, "host": host, "port": port}
         own = arguments.pop("tags", None) or ()
         tags = [*environment.tags(os.environb), *(own.items() if isinstance(own, Mapping) else own)]
         return cls(prefix=prefix, tags=tags, **arguments)

@@ -15,10 +15,10 @@ pub trait Sealed {}
 /// Sends metrics to a sink, and errors to a handler. `StatsdClient` implements it, and no other crate can. A service
 /// calls `send_metric` to send a metric of its own type through a client.
 pub trait MetricBackend: Sealed {
-    ghost use Rattle.std.specs.Prelude.{◌≡◌, ℕ, List, Result};
+    ghost use Rattle.std.specs.Prelude.{◌≡◌, ℕ, IsTrue, List, Result};
     ghost use Rattle.cadence_errors.specs.declared.SinkError.{SinkError};
     ghost use Rattle.cadence.specs.Sending.{SendsText};
-    ghost use Rattle.cadence_schedule.specs.Settings.{Settings};
+    ghost use Rattle.cadence_schedule.specs.Settings.{Settings, is_free_settings};
 
     /// The allocator of its metrics.
     type Memory: Allocator + Clone;
@@ -34,9 +34,11 @@ pub trait MetricBackend: Sealed {
     fn send_metric<M: Metric>(&self, metric: &M) -> MetricResult<()>
         ensures { SendsText (line_may_get self.now) (M.metric_text metric.now) result };
 
-    /// Returns whether the client refuses each call that has a separator in a text.
+    /// Returns whether the client refuses each call with a key, tag or container that has a separator. Its prefix and its
+    /// defaults have none then. `send_metric` sends any text.
     fn is_strict(&self) -> bool
-        ensures { result ≡ (settings self.now).strict };
+        ensures strict { result ≡ (settings self.now).strict }
+        ensures free { IsTrue result → IsTrue (is_free_settings (settings self.now)) };
 
     /// Gives an error to the handler, or drops it if the client has no handler.
     fn consume_error(&self, err: MetricError);

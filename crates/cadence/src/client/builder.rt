@@ -6,7 +6,7 @@ ghost use Rattle.cadence_text.specs.Draft.{draft_line};
 ghost use Rattle.cadence_schedule.specs.Call.{tagged, contained, timed, rated};
 ghost use Rattle.cadence_text.specs.Metric.{keyed, unkeyed};
 ghost use Rattle.cadence.specs.Sending.{TagsOrFails, HasChosen, HasChosenIf, HasChosenOrFailed, StandsForMore};
-ghost use Rattle.cadence.specs.Sending.{HasLineOfCall, HasSentPending, IsMadeFrom, SendsLine};
+ghost use Rattle.cadence.specs.Sending.{HasSentCall, HasSentPending, IsMadeFrom, SendsLine};
 
 use crate::client::backend::MetricBackend;
 use crate::client::statsd_client::StatsdClient;
@@ -199,7 +199,8 @@ impl<'m, 'c, T: Metric + From<String<C::Memory>>, C: MetricBackend> MetricBuilde
     pub fn try_send(self) -> MetricResult<T>
         ensures answers { HasSentPending (C.line_may_get (backend_of self.entry))
             (IsMadeFrom T.from_gives) (pending_of self.entry) result }
-        ensures line { HasLineOfCall (IsMadeFrom T.from_gives) (pending_of self.entry) result }
+        ensures line { HasSentCall (C.line_may_get (backend_of self.entry))
+            (IsMadeFrom T.from_gives) (pending_of self.entry) result }
     {
         let MetricBuilder { draft, client, _of } = self;
         match draft {

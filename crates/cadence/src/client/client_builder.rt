@@ -103,8 +103,8 @@ impl<A: Allocator + Clone, S: MetricSink, H: ErrorHandler> StatsdClientBuilder<A
     }
 
     /// Makes the client strict: it refuses each call that has a colon, a comma, a bar or a newline in its key, a tag or
-    /// the container, with the kind `InvalidInput`. So no text can make or change another metric. If the prefix or a
-    /// default has one, `build` returns this error.
+    /// the container, with the kind `InvalidInput`. So no text of such a call can make or change another metric. The text
+    /// of `send_metric` is sent as it is. If the prefix or a default has a separator, `build` returns this error.
     pub fn with_strict_texts(mut self) -> Self
         ensures { AddsDefault is_free_settings with_strict_texts self result }
     {

@@ -1,5 +1,6 @@
 //! A sink to the place that the environment says.
 ghost use Rattle.cadence_agent.specs.Shown.{environment_buffer};
+ghost use Rattle.cadence_shared.specs.Answered.{IsAnswered, IsFlushAnswered, answered_by_holding_nothing};
 ghost use Rattle.cadence_sinks.specs.Sockets.{IsBufferedAnswer, IsBufferedFlush, is_io};
 
 use crate::unix::BufferedUnixSink;
@@ -22,9 +23,9 @@ pub enum EnvironmentSink<R: Wait + Drop, A: Allocator = Global> {
 /// Passes each call on to the buffered sink.
 impl<R: Wait + Drop, A: Allocator> MetricSink for EnvironmentSink<R, A> {
     ghost may_answer = { λ s metric answer.
-        IsBufferedAnswer is_io (environment_buffer s) metric answer };
+        IsBufferedAnswer is_io (environment_buffer s) metric answer × IsAnswered metric answer };
 
-    ghost may_flush = { λ _ answer. IsBufferedFlush is_io answer };
+    ghost may_flush = { λ _ answer. IsBufferedFlush is_io answer × IsFlushAnswered answer };
 
     fn emit(&self, metric: &str) -> Result<usize, SinkError> {
         match self {
@@ -47,5 +48,5 @@ impl<R: Wait + Drop, A: Allocator> MetricSink for EnvironmentSink<R, A> {
         }
     }
 
-    ghost flush_may_succeed = { λ _. tt };
+    ghost flush_may_succeed = { λ _ held. (tt, answered_by_holding_nothing held) };
 }

@@ -14,7 +14,16 @@ use std::alloc::{AllocError, Allocator};
 use std::sync::atomic::{AtomicU64, Ordering};
 use std::sync::{Mutex, Wait};
 
-/// A sink, and what was reported of it. No lock is held while the sink works.
+// What was reported so far.
+#[derive(Drop)]
+struct Reported {
+    // The counts of the sink that were reported.
+    counts: SinkCounts,
+    // How often counts were noted here, modulo 2 to the 64.
+    notes: u64,
+}
+
+/// A sink, and what was reported of it. No lock is held while the sink works, or returns its counts.
 #[derive(Drop)]
 pub struct Reports<S: MetricSink, A: Allocator> {
     /// The sink whose counts are reported, and over which they are sent.
@@ -23,8 +32,7 @@ pub struct Reports<S: MetricSink, A: Allocator> {
     pub settings: ClientSettings<A>,
     // How many lines the sink refused, modulo 2 to the 64.
     refused: AtomicU64,
-    // The counts of the sink that were reported so far.
-    reported: Mutex<SinkCounts>,
+    reported: Mutex<Reported>,
     alloc: A,
 }
 
@@ -45,12 +53,12 @@ impl<S: MetricSink, A: Allocator + Clone> Reports<S, A> {
         ensures refused { IfErr result IsQueuingRefusal }
     {
         let settings = ClientSettings::new(alloc.clone()?, prefix)?;
-        let reported = counts_of(&sink, 0);
+        let counts = counts_of(&sink, 0);
         Ok(Reports {
             sink,
             settings,
             refused: AtomicU64::new(0),
-            reported: Mutex::new(reported),
+            reported: Mutex::new(Reported { counts, notes: 0 }),
             alloc,
         })
     }
@@ -66,14 +74,22 @@ impl<S: MetricSink, A: Allocator + Clone> Reports<S, A> {
         answer
     }
 
-    // Returns by how much the counts grew since the last report, and notes them as reported.
+    // Returns by how much the counts grew since the last report, and notes them as reported. It reads the counts without
+    // the lock, and reads them again if another report noted some meanwhile, because those may be later ones.
     fn take_growths<R: Wait>(&self, rt: &R) -> Result<Vec<Growth, A>, AllocError> {
-        let alloc = self.alloc.clone()?;
-        let mut reported = self.reported.lock(rt);
-        let now = counts_of(&self.sink, self.refused.load(Ordering::SeqCst));
-        let growths = growths_between(alloc, &reported, &now)?;
-        *reported = now;
-        Ok(growths)
+        for _ in rt.forever() {
+            let notes = self.reported.lock(rt).notes;
+            let now = counts_of(&self.sink, self.refused.load(Ordering::SeqCst));
+            let alloc = self.alloc.clone()?;
+            let mut reported = self.reported.lock(rt);
+            if reported.notes == notes {
+                let growths = growths_between(alloc, &reported.counts, &now)?;
+                reported.counts = now;
+                reported.notes = notes.wrapping_add(1);
+                return Ok(growths);
+            }
+        }
+        unreachable!()
     }
 
     // Returns the line of the counter that reports a growth.
@@ -108,7 +124,7 @@ impl<S: MetricSink, A: Allocator + Clone> Repeated for Reports<S, A> {
         let mut answer = Ok(());
         for growth in growths {
             if let Err(fault) = self.send(&growth) {
-                self.reported.lock(rt).take_back(growth);
+                self.reported.lock(rt).counts.take_back(growth);
                 answer = Err(fault);
             }
         }

@@ -19,8 +19,12 @@ use std::time::{Clock, Duration};
 /// dot. `lines_refused` counts the lines of callers for which the wrapped sink's `emit` returned an error. A counter of 0
 /// isn't sent.
 ///
-/// What a counter couldn't report, because the wrapped sink refused it or memory ran out, the next report adds. The bytes
-/// and packets of the reports themselves count too.
+/// What a counter couldn't report, because the wrapped sink refused it or memory ran out, the next report adds. A counter
+/// that the wrapped sink took counts as reported, even if that sink loses it later: a queue may drop its line, or the sink
+/// below the queue may refuse it. So over such a sink the counters add up to at most what the counts grew by. The bytes and
+/// packets of the reports themselves count too.
+///
+/// No lock is held while the wrapped sink returns its counts, so its `stats` and `dropped_lines` may emit over this sink.
 ///
 /// The drop stops the thread and doesn't wait for it. It also sends a last report, and drops the error of this one. A
 /// queue below is stopped after that. The sink keeps the runtime `R`, whose locks it takes.

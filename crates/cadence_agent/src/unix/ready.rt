@@ -1,6 +1,7 @@
 //! Clients and sinks over a Unix socket of their own, made from a runtime, an allocator and a path. Each function tests the
-//! path before it asks for memory.
-ghost use Rattle.std.specs.Prelude.{◌≡◌, IfOk, IfErr, Some};
+//! path and the capacity before it asks for memory.
+ghost use Rattle.std.specs.Prelude.{◌≡◌, ◌≤◌, ◌<◌, IfOk, IfErr, Some};
+ghost use Rattle.cadence_errors.specs.Errors.{IsInvalid};
 ghost use Rattle.cadence.specs.Shown.{settings_of_client, sink_of_client};
 ghost use Rattle.cadence_schedule.specs.Settings.{settings_of};
 ghost use Rattle.cadence_sinks.specs.Buffers.{unix_buffer};
@@ -16,7 +17,7 @@ use cadence_environment::check_path;
 use cadence_errors::MetricResult;
 use cadence_sinks::{
     BufferedUnixMetricSink, FlushingQueueBuilder, QueuingMetricSink, QueuingMetricSinkBuilder,
-    UnixMetricSink,
+    UnixMetricSink, check_capacity,
 };
 use std::alloc::{Allocator, Global};
 use std::net::Net;
@@ -69,7 +70,8 @@ pub fn unix_sink<R: Net + Wait + Clone + Drop, A: Allocator + Clone>(
 }
 
 /// Makes a `BufferedUnixMetricSink` with a socket of its own and a buffer of `capacity` bytes. The errors are those of
-/// `unix_sink`.
+/// `unix_sink`, and that of `check_capacity` for a buffer of more than `MAX_PACKET` bytes. A Unix datagram may be larger,
+/// but few agents read one that is.
 pub fn buffered_unix_sink<R: Net + Wait + Clone + Drop, A: Allocator + Clone>(
     rt: &R,
     alloc: A,
@@ -78,14 +80,18 @@ pub fn buffered_unix_sink<R: Net + Wait + Clone + Drop, A: Allocator + Clone>(
 ) -> MetricResult<BufferedUnixSink<R, A>>
     ensures buffer { IfOk result (λ s. unix_buffer s ≡ capacity) }
     ensures fits { IfOk result (λ _. IsPath path.now) }
-    ensures refused { IfErr result (IsUnixRefusal path.now) }
+    ensures packet { IfOk result (λ _. capacity ≤ 65507) }
+    ensures refused { capacity ≤ 65507 → IfErr result (IsUnixRefusal path.now) }
+    ensures too_large { 65507 < capacity → IfErr result (λ e. IsInvalid e) }
 {
-    let socket = socket_for(rt, path)?;
+    check_path(path)?;
+    check_capacity(capacity)?;
+    let socket = UnixSocket::new(rt)?;
     BufferedUnixMetricSink::with_capacity(rt.clone()?, alloc, path, socket, capacity)
 }
 
 /// Makes a queuing sink with these settings over a buffered Unix sink with a buffer of `capacity` bytes, and starts its
-/// worker thread. The errors are those of `unix_sink`, and `SinkError::Io` if the thread can't be started.
+/// worker thread. The errors are those of `buffered_unix_sink`, and `SinkError::Io` if the thread can't be started.
 pub fn queued_unix_sink_with<
     R: Net + Wait + Threads + Clone + Drop + Send + Sync + 'static,
     A: Allocator + Clone + Send + Sync + 'static,
@@ -100,9 +106,12 @@ pub fn queued_unix_sink_with<
     ensures lines { IfOk result (λ q. queue_capacity q ≡ capacity_of settings) }
     ensures policy { IfOk result (λ q. queue_policy q ≡ policy_of settings) }
     ensures fits { IfOk result (λ _. IsPath path.now) }
-    ensures refused { IfErr result (IsUnixRefusal path.now) }
+    ensures packet { IfOk result (λ _. capacity ≤ 65507) }
+    ensures refused { capacity ≤ 65507 → IfErr result (IsUnixRefusal path.now) }
+    ensures too_large { 65507 < capacity → IfErr result (λ e. IsInvalid e) }
 {
     check_path(path)?;
+    check_capacity(capacity)?;
     let sink = buffered_unix_sink(rt, alloc.clone()?, path, capacity)?;
     settings.build(rt.clone()?, alloc, sink)
 }
@@ -124,9 +133,12 @@ pub fn flushing_unix_sink_with<
     ensures policy { IfOk result (λ q. queue_policy q ≡ policy_of (queue_settings settings)) }
     ensures period { IfOk result (λ q. flush_period q ≡ Some (flush_period_of settings)) }
     ensures fits { IfOk result (λ _. IsPath path.now) }
-    ensures refused { IfErr result (IsUnixRefusal path.now) }
+    ensures packet { IfOk result (λ _. capacity ≤ 65507) }
+    ensures refused { capacity ≤ 65507 → IfErr result (IsUnixRefusal path.now) }
+    ensures too_large { 65507 < capacity → IfErr result (λ e. IsInvalid e) }
 {
     check_path(path)?;
+    check_capacity(capacity)?;
     let sink = buffered_unix_sink(rt, alloc.clone()?, path, capacity)?;
     settings.build(rt.clone()?, alloc, sink)
 }
@@ -146,7 +158,9 @@ pub fn queued_unix_sink<
     ensures buffer { IfOk result (λ q. unix_buffer (wrapped_sink q) ≡ capacity) }
     ensures lines { IfOk result (λ q. queue_capacity q ≡ lines) }
     ensures fits { IfOk result (λ _. IsPath path.now) }
-    ensures refused { IfErr result (IsUnixRefusal path.now) }
+    ensures packet { IfOk result (λ _. capacity ≤ 65507) }
+    ensures refused { capacity ≤ 65507 → IfErr result (IsUnixRefusal path.now) }
+    ensures too_large { 65507 < capacity → IfErr result (λ e. IsInvalid e) }
 {
     let settings = match lines {
         Some(lines) => QueuingMetricSinkBuilder::new().with_capacity(lines),
@@ -177,7 +191,7 @@ pub fn unix_client<R: Net + Wait + Clone + Drop, A: Allocator + Clone>(
 }
 
 /// Makes a client that packs its lines into datagrams of at most `capacity` bytes. A line that with its newline passes
-/// the capacity is sent alone. The errors are those of `unix_sink`.
+/// the capacity is sent alone. The errors are those of `buffered_unix_sink`.
 pub fn buffered_unix_client<R: Net + Wait + Clone + Drop, A: Allocator + Clone>(
     rt: &R,
     alloc: A,
@@ -188,9 +202,12 @@ pub fn buffered_unix_client<R: Net + Wait + Clone + Drop, A: Allocator + Clone>(
     ensures settings { IfOk result (λ c. settings_of_client c ≡ settings_of prefix.now) }
     ensures buffer { IfOk result (λ c. unix_buffer (sink_of_client c) ≡ capacity) }
     ensures fits { IfOk result (λ _. IsPath path.now) }
-    ensures refused { IfErr result (IsUnixRefusal path.now) }
+    ensures packet { IfOk result (λ _. capacity ≤ 65507) }
+    ensures refused { capacity ≤ 65507 → IfErr result (IsUnixRefusal path.now) }
+    ensures too_large { 65507 < capacity → IfErr result (λ e. IsInvalid e) }
 {
     check_path(path)?;
+    check_capacity(capacity)?;
     let sink = buffered_unix_sink(rt, alloc.clone()?, path, capacity)?;
     StatsdClient::from_sink(alloc, prefix, sink)
 }
@@ -214,9 +231,12 @@ pub fn queued_unix_client<
     ensures buffer { IfOk result (λ c. unix_buffer (wrapped_sink (sink_of_client c)) ≡ capacity) }
     ensures lines { IfOk result (λ c. queue_capacity (sink_of_client c) ≡ lines) }
     ensures fits { IfOk result (λ _. IsPath path.now) }
-    ensures refused { IfErr result (IsUnixRefusal path.now) }
+    ensures packet { IfOk result (λ _. capacity ≤ 65507) }
+    ensures refused { capacity ≤ 65507 → IfErr result (IsUnixRefusal path.now) }
+    ensures too_large { 65507 < capacity → IfErr result (λ e. IsInvalid e) }
 {
     check_path(path)?;
+    check_capacity(capacity)?;
     let sink = queued_unix_sink(rt, alloc.clone()?, path, capacity, lines)?;
     StatsdClient::from_sink(alloc, prefix, sink)
 }
@@ -240,9 +260,12 @@ pub fn flushing_unix_client<
     ensures lines { IfOk result (λ c. queue_capacity (sink_of_client c) ≡ lines) }
     ensures period { IfOk result (λ c. flush_period (sink_of_client c) ≡ Some period) }
     ensures fits { IfOk result (λ _. IsPath path.now) }
-    ensures refused { IfErr result (IsUnixRefusal path.now) }
+    ensures packet { IfOk result (λ _. capacity ≤ 65507) }
+    ensures refused { capacity ≤ 65507 → IfErr result (IsUnixRefusal path.now) }
+    ensures too_large { 65507 < capacity → IfErr result (λ e. IsInvalid e) }
 {
     check_path(path)?;
+    check_capacity(capacity)?;
     let queue = match lines {
         Some(most) => QueuingMetricSinkBuilder::new().with_capacity(most),
         None => QueuingMetricSinkBuilder::new(),

@@ -5,12 +5,16 @@ ghost use Rattle.cadence_environment.specs.Paths.{IsFault, IsPath};
 ghost use Rattle.cadence_agent.specs.Refusals.{IsOfPath, IsOfSystem, IsSystemRefusal};
 ghost use Rattle.cadence_environment.specs.declared.path.PathError.{PathError};
 ghost use Rattle.libc.specs.Io.{Moved};
+ghost use Rattle.libc.specs.Net.{Kind};
 
 use super::address::address_of;
 use cadence_environment::check_path;
 use cadence_errors::{MetricResult, SinkError};
 use cadence_sinks::PathSocket;
-use libc::net::{AF_UNIX, MSG_NOSIGNAL, SOCK_CLOEXEC, SOCK_DGRAM, SOCK_NONBLOCK, sendto, socket};
+use libc::net::{
+    AF_UNIX, MSG_NOSIGNAL, SO_SNDBUF, SOCK_CLOEXEC, SOCK_DGRAM, SOCK_NONBLOCK, SOL_SOCKET,
+    getsockopt, sendto, socket,
+};
 use os::FromRawFd;
 use std::io::{Error, ErrorKind};
 use std::net::Net;
@@ -19,9 +23,9 @@ use std::os::fd::{AsFd, AsRawFd, BorrowedFd, OwnedFd};
 /// A Unix datagram socket that sends to paths. Nothing is bound to it or connected to it.
 ///
 /// Each packet is sent to its path anew. So if a server ends and another one binds the same path, the next packet goes
-/// to that one. The socket never waits: if the server's queue is full, the packet is refused with `Io` of the kind
-/// `WouldBlock`. The file descriptor is closed when the socket is dropped, and programs that the process starts don't
-/// get it.
+/// to that one. The socket of `new` never waits: if the server's queue is full, the packet is refused with `Io` of the
+/// kind `WouldBlock`. The socket of `waiting` waits until there is room. The file descriptor is closed when the socket
+/// is dropped, and programs that the process starts don't get it.
 ///
 /// ```text
 /// let socket = UnixSocket::new(rt)?;
@@ -38,13 +42,42 @@ impl UnixSocket {
     pub fn new(_net: &impl Net) -> MetricResult<UnixSocket>
         ensures refused { IfErr result IsSystemRefusal }
     {
-        let fd = unsafe { socket(AF_UNIX, SOCK_DGRAM | SOCK_NONBLOCK | SOCK_CLOEXEC, 0) };
+        UnixSocket::of_kind(SOCK_DGRAM | SOCK_NONBLOCK | SOCK_CLOEXEC)
+    }
+
+    /// Makes a socket that waits while the server's queue is full, until the server reads from it or ends. Otherwise this
+    /// is `new`.
+    pub fn waiting(_net: &impl Net) -> MetricResult<UnixSocket>
+        ensures refused { IfErr result IsSystemRefusal }
+    {
+        UnixSocket::of_kind(SOCK_DGRAM | SOCK_CLOEXEC)
+    }
+
+    // Makes a socket of this kind.
+    fn of_kind(kind: i32) -> MetricResult<UnixSocket>
+        requires { Kind kind }
+        ensures refused { IfErr result IsSystemRefusal }
+    {
+        let fd = unsafe { socket(AF_UNIX, kind, 0) };
         if fd < 0 {
             return Err(last_error())?;
         }
         Ok(UnixSocket {
             fd: unsafe { OwnedFd::from_raw_fd(fd) },
         })
+    }
+
+    /// Returns the most bytes of a packet that the system takes from this socket: Linux takes 32 less than the size of the
+    /// socket's send buffer. If the system doesn't tell the size, this is `usize::MAX`.
+    pub fn longest_packet(&self) -> usize {
+        let (mut value, mut length) = ([0u8; 16], 16);
+        let fd = self.fd.as_raw_fd();
+        let status = unsafe { getsockopt(fd, SOL_SOCKET, SO_SNDBUF, &mut value, &mut length) };
+        let size = u32::from_le_bytes([value[0], value[1], value[2], value[3]]) as usize;
+        if status < 0 || size < 32 {
+            return usize::MAX;
+        }
+        size - 32
     }
 }
 
@@ -66,15 +99,15 @@ impl From<UnixSocket> for OwnedFd {
 impl PathSocket for UnixSocket {
     ghost may_give = { is_io };
 
-    /// Sends a packet to a path, by one call of the system that doesn't wait, and returns how many of its bytes were
-    /// taken. Linux takes a datagram whole or not at all.
+    /// Sends a packet to a path, by one call of the system, and returns how many of its bytes were taken. Linux takes a
+    /// datagram whole or not at all.
     ///
     /// # Errors
     /// Always `SinkError::Io`. For a path that `check_path` refuses, it has the kind `InvalidInput`, no code and a text
     /// that says what is wrong with the path, and nothing is sent. For any other path it has the code of the system:
     /// `ENOENT` if there is no such file, `ECONNREFUSED` if no socket is bound to it any more, `EAGAIN` if the server's
     /// queue is full, `EMSGSIZE` if the packet is too large, and so on. A signal doesn't interrupt a call that doesn't
-    /// wait; if the system said `EINTR` all the same, this would be such an error, and the packet is not sent again.
+    /// wait; if the system says `EINTR` all the same, this is such an error, and the packet is not sent again.
     fn send_to(&self, packet: &[u8], path: &str) -> Result<usize, SinkError>
         ensures answer { IsSocketAnswer is_io packet.now result }
         ensures path { IfOk result (λ _. IsPath path.now) }

@@ -108,16 +108,28 @@ impl<T: PacketWriter, A: Allocator> LineBuffer<T, A> {
             (T.offers self.new.writer) self.old.held self.new.held
             line.now (ok_or result fault.new) }
     {
-        let required = line.len() + self.ending.len();
-        if required > self.capacity {
-            self.flush(fault)?;
+        if self.hold(line) {
+            return Some(line.len());
+        }
+        self.write_late(line, fault)
+    }
+
+    /// Writes a line that doesn't fit beside the held text, as `write` does: the held text is flushed, and then the line
+    /// is held, or written alone if it is oversize. So a caller that asks `hold` first doesn't ask for room twice.
+    pub fn write_late(&mut self, line: &[u8], fault: &mut SinkError) -> Option<usize>
+        requires { Fits self.old line.now → ⊥ }
+        ensures writes { WritesLine T.kind T.history
+            self.old self.new line.now (ok_or result fault.new) }
+        ensures offers { WritesOffers self.old.format (T.offers self.old.writer)
+            (T.offers self.new.writer) self.old.held self.new.held
+            line.now (ok_or result fault.new) }
+    {
+        self.flush(fault)?;
+        if line.len() + self.ending.len() > self.capacity {
             return self.inner.write_packet_narrow(line, fault);
         }
-        if !self.hold(line) {
-            self.flush(fault)?;
-            append(&mut self.held, line);
-            append_ending(&mut self.held, self.ending.as_slice());
-        }
+        append(&mut self.held, line);
+        append_ending(&mut self.held, self.ending.as_slice());
         Some(line.len())
     }
 
@@ -204,10 +216,11 @@ impl<T: PacketWriter, A: Allocator> LineBuffer<T, A> {
         Ok((inner, held))
     }
 
-    /// Returns the writer and the held text. Nothing is written.
+    /// Returns the writer and the held text, which has at most as many bytes as the capacity. Nothing is written.
     pub fn into_parts(self) -> (T, Vec<u8, A>)
         ensures writer { result.0 ≡ self.writer }
         ensures text { result.1.items ≡ self.held }
+        ensures bound { vec_len result.1 ≤ self.format.capacity }
     {
         let LineBuffer {
             inner: writer,

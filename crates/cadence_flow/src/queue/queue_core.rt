@@ -1,10 +1,10 @@
 //! A queue of texts for one thread. It has a stop mark, a capacity or none, a count of handles, and counts of the texts
 //! that it accepted, that were taken, and that it dropped.
-ghost use Rattle.std.specs.Prelude.{◌≡◌, [], length, slice_get, option_copied, IfOk, IfErr, OnOk, OnErr, IsOk, IsTrue, Option, Ok, Err, Some, None, true, false};
+ghost use Rattle.std.specs.Prelude.{◌≡◌, [], length, slice_get, option_copied, IfOk, IfErr, OnErr, IsOk, IsTrue, Ok, Err, true, false};
 ghost use Rattle.std.specs.declared.alloc.AllocError.{AllocError};
 ghost use Rattle.cadence_flow.specs.QueueRoom.{IsBounded, OnlyWantsRoom};
 ghost use Rattle.cadence_flow.specs.QueueState.{IsWithin, IsCounted, HasDropped};
-ghost use Rattle.cadence_flow.specs.Queue.{Accepts, IsRefusal, error_of, is_open, lacks_room, MakesRoom, IsTaken, after_accept, after_stop, with_handle, without_handle, new_queue, is_full, is_idle};
+ghost use Rattle.cadence_flow.specs.Queue.{Accepts, IsRefusal, error_of, is_open, lacks_room, IsTaken, after_stop, with_handle, without_handle, new_queue, is_full, is_idle};
 ghost use Rattle.cadence_flow.specs.QueueModel.{IsQueueOf, IsAccepted, IsNext};
 ghost use Rattle.cadence_flow.specs.declared.queue.policy.QueuePolicy.TheVariants.{Refuse};
 
@@ -26,7 +26,8 @@ pub enum Taken<T> {
     Ended,
 }
 
-/// A queue of texts. A submit adds a text at the end, and a take returns the oldest one.
+/// A queue of texts. A submit adds a text at the end, and a take returns the oldest one. Its calls never let a text go, so
+/// a text may be of a type that can't be dropped.
 #[derive(Drop)]
 pub struct QueueCore<T, A: Allocator = Global> {
     texts: TextRing<T, A>,
@@ -64,7 +65,7 @@ impl<T, A: Allocator> Model for QueueCore<T, A> {
         × HasDropped q.policy q.capacity q.dropped };
 }
 
-impl<T: Drop, A: Allocator + Clone> QueueCore<T, A> {
+impl<T, A: Allocator + Clone> QueueCore<T, A> {
     /// Makes an empty queue with one handle. At most `capacity` texts wait in it, and a full queue refuses more; `None`
     /// means that any number may wait. A queue with a capacity takes the memory for all its texts now. The only error
     /// is `OutOfMemory`.
@@ -95,46 +96,6 @@ impl<T: Drop, A: Allocator + Clone> QueueCore<T, A> {
         })
     }
 
-    // Adds a text at the end of a queue that isn't full, or gives it back if memory ran out.
-    fn put_last(&mut self, text: T) -> Result<(), T>
-        requires { is_full self.old ≡ false }
-        ensures pushed { OnOk result (self.new ≡ after_accept self.old text) }
-        ensures refused { IfErr result (λ back. (back ≡ text) × (self.new ≡ self.old)) }
-        ensures bounded { IsBounded self.old.capacity → IsOk result }
-    {
-        self.texts.push_back(text)?;
-        self.submitted = self.submitted.wrapping_add(1);
-        Ok(())
-    }
-
-    // Adds a text at the end of an open queue, or gives it back if memory ran out. A full queue drops its oldest text,
-    // and returns that one.
-    fn push(&mut self, text: T) -> Result<Option<T>, T>
-        requires { IsTrue (is_open self.old) }
-        ensures pushed { IfOk result (λ dropped. Accepts self.old text dropped self.new) }
-        ensures refused { IfErr result (λ back. (back ≡ text) × (self.new ≡ self.old)) }
-        ensures bounded { IsBounded self.old.capacity → IsOk result }
-    {
-        let dropped = self.make_room();
-        match self.put_last(text) {
-            Ok(()) => Ok(dropped),
-            Err(text) => Err(text),
-        }
-    }
-
-    // Adds a text at the end of a full queue, which drops and frees its oldest text for it. It is a function of its own,
-    // because a function clears all its local variables when it starts, and `offer` is faster without the variables of
-    // this case.
-    fn replace_oldest(&mut self, text: T)
-        requires full { is_full self.old ≡ true }
-        requires open { IsTrue (is_open self.old) }
-        ensures { (dropped : Option T) × Accepts self.old text dropped self.new }
-    {
-        let Ok(_) = self.push(text) else {
-            unreachable!()
-        };
-    }
-
     /// Adds a text at the end. Returns the text that a full queue dropped for it, if it dropped one. A queue with a
     /// capacity takes no memory here.
     ///
@@ -147,38 +108,45 @@ impl<T: Drop, A: Allocator + Clone> QueueCore<T, A> {
         ensures bounded { IsBounded self.old.capacity → IsTrue (is_open self.old) → IsOk result }
         ensures past { IfOk result (λ dropped. IsAccepted self.old text dropped self.new) }
     {
-        if !self.is_open() {
-            return Err((self.why_closed().into(), text));
-        }
-        match self.push(text) {
+        match self.add(text) {
             Ok(dropped) => Ok(dropped),
-            Err(text) => Err((SinkError::OutOfMemory, text)),
+            Err((refusal, text)) => Err((refusal.into(), text)),
         }
     }
 
-    /// Adds the text that `make` makes at the end. `make` is called only if the queue would accept a text, so a queue
-    /// that is stopped or full refuses without taking memory. A text that a full queue drops for the new one is freed.
+    /// Adds a text at the end, as `submit` does, but returns a small error.
+    pub fn add(&mut self, text: T) -> Result<Option<T>, (QueueError, T)>
+        ensures accepted { IfOk result (λ dropped. Accepts self.old text dropped self.new) }
+        ensures refused { IfErr result (λ e.
+            IsRefusal self.old (error_of e.0) × (e.1 ≡ text) × (self.new ≡ self.old)) }
+        ensures bounded { IsBounded self.old.capacity → IsTrue (is_open self.old) → IsOk result }
+    {
+        if !self.is_open() {
+            return Err((self.why_closed(), text));
+        }
+        if self.is_full() {
+            return Ok(self.replace_oldest(text));
+        }
+        if self.texts.reserve().is_err() {
+            return Err((QueueError::OutOfMemory, text));
+        }
+        self.submitted = self.submitted.wrapping_add(1);
+        self.texts.push(text);
+        Ok(None)
+    }
+
+    /// Adds the text that `make` makes at the end. Returns the text that a full queue dropped for it, if it dropped one.
+    /// `make` is called only if the queue would accept a text and has room for it, so a queue that is stopped or full
+    /// refuses without taking memory.
     ///
-    /// The errors are `ChannelDisconnected` if the queue is stopped, `ChannelFull` if it is full and has no text to
-    /// drop, and `OutOfMemory` if memory ran out for `make` or for the queue. The queue has not changed after an error.
-    pub fn submit_with<F: FnOnce() -> Result<T, AllocError>>(
+    /// The errors are `Stopped` if the queue is stopped, `Full` if it is full and has no text to drop, and `OutOfMemory`
+    /// if memory ran out for `make` or for the queue. The queue has not changed after an error.
+    pub fn offer<F: FnOnce() -> Result<T, AllocError>>(
         &mut self,
         make: F,
-    ) -> Result<(), SinkError>
+    ) -> Result<Option<T>, QueueError>
         requires { F.IsAlwaysCallable make }
-        ensures accepted { OnOk result ((text : T) × (dropped : Option T)
-            × F.post make (Ok text) × Accepts self.old text dropped self.new) }
-        ensures refused { IfErr result (λ e. IsRefusal self.old e × (self.new ≡ self.old)) }
-        ensures bounded { IsBounded self.old.capacity → IsTrue (is_open self.old) →
-            OnErr result ((error : AllocError) × F.post make (Err error)) }
-    {
-        Ok(self.offer(make)?)
-    }
-
-    /// Adds the text that `make` makes at the end, as `submit_with` does, but returns a small error.
-    pub fn offer<F: FnOnce() -> Result<T, AllocError>>(&mut self, make: F) -> Result<(), QueueError>
-        requires { F.IsAlwaysCallable make }
-        ensures accepted { OnOk result ((text : T) × (dropped : Option T)
+        ensures accepted { IfOk result (λ dropped. (text : T)
             × F.post make (Ok text) × Accepts self.old text dropped self.new) }
         ensures refused { IfErr result (λ e.
             IsRefusal self.old (error_of e) × (self.new ≡ self.old)) }
@@ -188,21 +156,23 @@ impl<T: Drop, A: Allocator + Clone> QueueCore<T, A> {
         if !self.is_open() {
             return Err(self.why_closed());
         }
+        let is_full = self.is_full();
+        if !is_full && self.texts.reserve().is_err() {
+            return Err(QueueError::OutOfMemory);
+        }
         let Ok(text) = make() else {
             return Err(QueueError::OutOfMemory);
         };
-        if self.is_full() {
-            self.replace_oldest(text);
-            return Ok(());
+        if is_full {
+            return Ok(self.replace_oldest(text));
         }
-        match self.put_last(text) {
-            Ok(()) => Ok(()),
-            Err(_) => Err(QueueError::OutOfMemory),
-        }
+        self.submitted = self.submitted.wrapping_add(1);
+        self.texts.push(text);
+        Ok(None)
     }
 }
 
-impl<T: Drop, A: Allocator> QueueCore<T, A> {
+impl<T, A: Allocator> QueueCore<T, A> {
     /// Returns whether the queue is full: the number of waiting texts has reached the capacity.
     pub fn is_full(&self) -> bool
         ensures { result ≡ is_full self.now }
@@ -227,17 +197,19 @@ impl<T: Drop, A: Allocator> QueueCore<T, A> {
         !self.stopped && !self.lacks_room()
     }
 
-    // Takes the oldest text out of a full queue, as dropped, and returns it. Does nothing to a queue that isn't full.
-    fn make_room(&mut self) -> Option<T>
-        requires { IsTrue (is_open self.old) }
-        ensures made { MakesRoom self.old result self.new }
-        ensures room { is_full self.new ≡ false }
+    // Adds a text at the end of a full queue, and returns the oldest text, which it drops for it. It is a function of its
+    // own, because a function clears all its local variables when it starts, and `offer` is faster without the variables
+    // of this case.
+    fn replace_oldest(&mut self, text: T) -> Option<T>
+        requires full { is_full self.old ≡ true }
+        requires open { IsTrue (is_open self.old) }
+        ensures { Accepts self.old text result self.new }
     {
-        if !self.is_full() {
-            return None;
-        }
+        self.submitted = self.submitted.wrapping_add(1);
         self.dropped = self.dropped.wrapping_add(1);
-        self.texts.pop_front()
+        let oldest = self.texts.pop_front();
+        self.texts.push(text);
+        oldest
     }
 
     // Returns why a queue that isn't open refuses a text.
@@ -294,6 +266,20 @@ impl<T: Drop, A: Allocator> QueueCore<T, A> {
         if self.handles == 0 {
             self.stop();
         }
+    }
+
+    /// Returns how many texts may wait, or `None` if any number may.
+    pub fn capacity(&self) -> Option<usize>
+        ensures { result ≡ self.now.capacity }
+    {
+        self.capacity
+    }
+
+    /// Returns what the queue does with one more text when it is full.
+    pub fn policy(&self) -> QueuePolicy
+        ensures { result ≡ self.now.policy }
+    {
+        self.policy
     }
 
     /// Returns whether the queue is stopped.

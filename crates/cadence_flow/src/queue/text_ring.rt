@@ -1,15 +1,17 @@
 //! The ring that stores a queue's texts.
-ghost use Rattle.std.specs.Prelude.{◌≡◌, ◌<◌, [], ◌∷◌, ◌++◌, length, drop, slice_get, option_copied, IfOk, IfErr, OnOk, OnErr, IsOk};
+ghost use Rattle.std.specs.Prelude.{◌≡◌, ◌<◌, [], ◌∷◌, ◌++◌, length, drop, slice_get, option_copied, IfOk, OnOk, OnErr, IsOk};
 ghost use Rattle.circular_buffer.specs.Buffer.{buffer};
 
 use circular_buffer::HeapCircularBuffer;
 use std::alloc::{AllocError, Allocator};
 use std::marker::Model;
+use std::mem;
 
 /// For how many texts a growing ring has room at first.
 const LEAST_ROOM: usize = 8;
 
-/// Texts in a ring buffer. A ring without room has no block of memory.
+/// Texts in a ring buffer. A ring without room has no block of memory. Its calls never let a text go, so a text may be of
+/// a type that can't be dropped. A ring of such texts ends by `destroy_empty`.
 #[derive(Drop)]
 pub struct TextRing<T, A: Allocator> {
     alloc: A,
@@ -27,7 +29,7 @@ impl<T, A: Allocator> Model for TextRing<T, A> {
     ghost view = { λ r. ring_of r.block };
 }
 
-impl<T: Drop, A: Allocator + Clone> TextRing<T, A> {
+impl<T, A: Allocator + Clone> TextRing<T, A> {
     /// Makes an empty ring with room for `room` texts. With a room of 0 it takes no memory.
     pub fn with_room(alloc: A, room: usize) -> Result<Self, AllocError>
         ensures made { IfOk result (λ r. r ≡ buffer [] room) }
@@ -43,7 +45,7 @@ impl<T: Drop, A: Allocator + Clone> TextRing<T, A> {
         })
     }
 
-    // Doubles the room. It is a function of its own, so that `push_back` is short enough to be inlined.
+    // Doubles the room. It is a function of its own, so that `reserve` is short enough to be inlined.
     // Without this hint a line of `bench queue 0 20` takes 73 instructions more.
     #[inline(never)]
     fn grow(&mut self) -> Result<(), AllocError>
@@ -58,28 +60,33 @@ impl<T: Drop, A: Allocator + Clone> TextRing<T, A> {
             }
             None => {
                 let alloc = self.alloc.clone()?;
-                self.block = Some(HeapCircularBuffer::with_capacity(alloc, LEAST_ROOM)?);
-                Ok(())
+                let block = HeapCircularBuffer::with_capacity(alloc, LEAST_ROOM)?;
+                // an assignment would drop the block of before, and a block of texts may have no drop
+                match mem::replace(&mut self.block, Some(block)) {
+                    None => Ok(()),
+                    Some(_block) => unreachable!(),
+                }
             }
         }
     }
 
-    /// Adds a text at the end. A ring with room left takes no memory. A full ring doubles its room first; if memory
-    /// runs out, the text comes back, and the ring has not changed.
-    pub fn push_back(&mut self, text: T) -> Result<(), T>
-        ensures pushed { OnOk result (self.new.items ≡ self.old.items ++ text ∷ []) }
-        ensures same { IfErr result (λ back. (back ≡ text) × (self.new ≡ self.old)) }
-        ensures room { length self.old.items < self.old.capacity →
-            IsOk result × (self.new.capacity ≡ self.old.capacity) }
+    /// Makes room for one more text, if there is none. A ring with room left takes no memory, and a full one doubles its
+    /// room. If memory runs out, the ring has not changed.
+    pub fn reserve(&mut self) -> Result<(), AllocError>
+        ensures items { self.new.items ≡ self.old.items }
+        ensures room { OnOk result (length self.new.items < self.new.capacity) }
+        ensures kept { length self.old.items < self.old.capacity →
+            IsOk result × (self.new ≡ self.old) }
+        ensures same { OnErr result (self.new ≡ self.old) }
     {
-        if self.len() >= self.room() && self.grow().is_err() {
-            return Err(text);
+        if self.len() < self.room() {
+            return Ok(());
         }
-        self.put(text)
+        self.grow()
     }
 }
 
-impl<T: Drop, A: Allocator> TextRing<T, A> {
+impl<T, A: Allocator> TextRing<T, A> {
     /// Returns how many texts the ring has.
     pub fn len(&self) -> usize
         ensures { result ≡ length self.now.items }
@@ -121,16 +128,28 @@ impl<T: Drop, A: Allocator> TextRing<T, A> {
         }
     }
 
-    // Adds a text at the end, or gives it back if there is no room.
-    fn put(&mut self, text: T) -> Result<(), T>
-        ensures pushed { OnOk result
-            (self.new ≡ buffer (self.old.items ++ text ∷ []) self.old.capacity) }
-        ensures same { IfErr result (λ back. (back ≡ text) × (self.new ≡ self.old)) }
-        ensures room { length self.old.items < self.old.capacity → IsOk result }
+    /// Adds a text at the end of a ring with room left.
+    pub fn push(&mut self, text: T)
+        requires { length self.old.items < self.old.capacity }
+        ensures { self.new ≡ buffer (self.old.items ++ text ∷ []) self.old.capacity }
     {
-        match &mut self.block {
-            Some(block) => block.try_push_back(text),
-            None => Err(text),
+        let Some(block) = &mut self.block else {
+            unreachable!()
+        };
+        match block.try_push_back(text) {
+            Ok(()) => {}
+            Err(_text) => unreachable!(),
+        }
+    }
+
+    /// Ends an empty ring.
+    pub fn destroy_empty(self)
+        requires { self.items ≡ [] }
+    {
+        let TextRing { alloc: _, block } = self;
+        match block {
+            Some(block) => block.destroy_empty(),
+            None => {}
         }
     }
 }

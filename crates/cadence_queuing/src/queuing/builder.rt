@@ -5,7 +5,7 @@ ghost use Rattle.cadence_flow.specs.declared.queue.policy.QueuePolicy.TheVariant
 
 use super::QueuingMetricSink;
 use super::flushing_worker::FlushingWorker;
-use super::worker::{Shared, Worker};
+use super::worker::{Part, Shared, Worker};
 use crate::{Handler, MetricSink, SinkErrorHandler};
 use cadence_errors::MetricResult;
 use cadence_flow::queue::QueuePolicy;
@@ -83,8 +83,9 @@ impl<A: Allocator> QueuingMetricSinkBuilder<A> {
 
 impl<A: Allocator> QueuingMetricSinkBuilder<A> {
     /// Sets a period. The worker flushes the wrapped sink if this time has passed since its last flush and it has
-    /// handed on a line since, so no line waits longer in a buffer, also if no more lines come. This is the last
-    /// setting. The runtime of such a queue needs a clock.
+    /// handed on a line since, so no line waits longer in a buffer, also if no more lines come, unless flushes fail. A
+    /// period above 0 and below one millisecond counts as one millisecond. This is the last setting. The runtime of
+    /// such a queue needs a clock.
     pub fn with_flush_period(self, period: Duration) -> FlushingQueueBuilder<A>
         ensures period { flush_period_of result ≡ period }
         ensures settings { settings_of result ≡ self }
@@ -114,11 +115,16 @@ fn make_sink<S: MetricSink, R: Wait + Drop, A: Allocator + Clone>(
     let shared = Shared {
         sink,
         queue,
-        end: WorkerEnd::new(),
         period,
     };
     let shared = Arc::new(alloc.clone()?, shared)?;
-    Ok(QueuingMetricSink { rt, alloc, shared })
+    let end = Arc::new(alloc.clone()?, WorkerEnd::new())?;
+    Ok(QueuingMetricSink {
+        rt,
+        alloc,
+        shared,
+        end,
+    })
 }
 
 // Makes what the worker of this sink needs.
@@ -128,11 +134,12 @@ fn make_worker<S: MetricSink, R: Wait + Clone + Drop, A: Allocator + Clone>(
     ensures { IfErr result IsQueuingRefusal }
 {
     let room = sink.shared.queue.room_of_taker(sink.alloc.clone()?)?;
-    Ok(Worker {
+    let part = Part {
         rt: sink.rt.clone()?,
         shared: sink.shared.clone()?,
-        room,
-    })
+        end: sink.end.clone()?,
+    };
+    Ok(Worker { part, room })
 }
 
 impl<A: Allocator + Clone + Send + Sync + 'static> QueuingMetricSinkBuilder<A> {
@@ -177,8 +184,10 @@ impl<A: Allocator + Clone + Send + Sync + 'static> FlushingQueueBuilder<A> {
     /// The worker flushes the wrapped sink between two lines. It looks for a due flush before it takes more lines out of
     /// the queue, at most 32 at a time. While a line that it has handed on was not flushed yet, it sleeps at most until
     /// the flush is due; otherwise it sleeps until a line comes. It also flushes the sink at its end. The error of a
-    /// failed flush goes to the error handler, and the flush is tried again after one more period. With a period of 0
-    /// it flushes the sink whenever it has no more lines in hand.
+    /// failed flush goes to the error handler, and the flush is tried again after one more period. Between two tries the
+    /// worker looks at the queue, so it still takes lines and sees a stop if each flush fails. With a period of 0, and
+    /// if the clock can't be read, it flushes the sink whenever it has no more lines in hand, and tries a failed flush
+    /// again after each look at the queue, and after a millisecond if no line comes.
     pub fn build<
         S: MetricSink + Send + Sync + 'static,
         R: Wait + Clock + Threads + Clone + Drop + Send + Sync + 'static,

@@ -11,6 +11,7 @@ use cadence_resolve::thread::Job;
 use cadence_shared::TakerRoom;
 use std::alloc::Allocator;
 use std::sync::Wait;
+use std::thread;
 use std::time::{Clock, Duration, Instant};
 
 // The list that `work` goes through if the queue has a period: the lines of the queue, with a flush before each look at
@@ -64,20 +65,40 @@ impl<S: MetricSink, R: Wait + Clock + Drop, A: Allocator + Clone> FlushingWorkli
         }
     }
 
-    // Waits for a text, and flushes the sink whenever a flush is due. Once no flush is owed, it returns also without a
-    // text, and after a failed flush if no time can be waited for.
+    // Looks at the queue after a failed flush, and waits there for a text until the flush is tried again. Returns false
+    // if it is time for that. If the clock can't be read, it looks at the queue and then sleeps.
+    fn fetch_before_retry(&mut self) -> bool
+        ensures given { given_by self.new.lines.taker ≡ given_by self.old.lines.taker }
+        ensures ended { has_ended self.new.lines.taker ≡ has_ended self.old.lines.taker }
+        ensures handed { self.new.lines.handed ≡ self.old.lines.handed }
+        ensures timer { self.new.timer ≡ self.old.timer }
+    {
+        let rt = self.lines.rt;
+        let wait = self.timer.wait_before_retry(Instant::now(rt).ok());
+        if self.lines.taker.fetch_within(rt, wait) {
+            return true;
+        }
+        if Instant::now(rt).is_err() {
+            thread::sleep(rt, wait);
+        }
+        false
+    }
+
+    // Waits for a text, and flushes the sink whenever a flush is due. It looks at the queue between two tries of a flush,
+    // so it returns with a text, or at a stop, also if each flush fails. Once no flush is owed, it returns without a
+    // text.
     fn fetch_and_flush(&mut self)
         ensures given { given_by self.new.lines.taker ≡ given_by self.old.lines.taker }
         ensures ended { has_ended self.new.lines.taker ≡ has_ended self.old.lines.taker }
         ensures handed { self.new.lines.handed ≡ self.old.lines.handed }
     {
+        if self.fetch_until_due() {
+            return;
+        }
         let rt = self.lines.rt;
         for _ in rt.forever() {
-            if !self.timer.owes_flush || self.fetch_until_due() {
-                return;
-            }
             self.flush();
-            if !self.timer.can_wait() {
+            if !self.timer.owes_flush || self.fetch_before_retry() {
                 return;
             }
         }
@@ -144,8 +165,8 @@ impl<S: MetricSink, R: Wait + Clock + Drop, A: Allocator + Clone> Job<Option<Han
     for FlushingWorker<S, R, A> {
     fn run(self, handler: Option<Handler<A>>) {
         let FlushingWorker { worker, period } = self;
-        let Worker { rt, shared, room } = worker;
-        let _passed = pass_on_and_flush(&rt, &shared, &handler, room, period);
-        shared.end.mark(&rt);
+        let Worker { part, room } = worker;
+        let _passed = pass_on_and_flush(&part.rt, &part.shared, &handler, room, period);
+        part.end(handler);
     }
 }

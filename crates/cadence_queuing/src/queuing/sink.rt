@@ -1,12 +1,15 @@
 //! The queuing sink, as callers see it: a handle of the queue.
 ghost use Rattle.std.specs.Prelude.{◌≡◌, IfOk, string_bytes};
 ghost use Rattle.std.specs.Arc.{arc_value};
+ghost use Rattle.cadence_queuing.specs.Answers.{IsCopyQueued};
 ghost use Rattle.cadence_queuing.specs.Queuing.{IsQueuingAnswer, queue_capacity, wrapped_sink};
+ghost use Rattle.cadence_shared.specs.Answered.{IsAnswered};
 
 use super::worker::Shared;
 use crate::MetricSink;
 use cadence_errors::SinkError;
 use cadence_flow::stats::SinkStats;
+use cadence_shared::{AnsweringSink, Queued, Refusal, WorkerEnd, emit_by};
 use std::alloc::{AllocError, Allocator, Global};
 use std::sync::{Arc, Wait};
 
@@ -14,7 +17,9 @@ use std::sync::{Arc, Wait};
 ///
 /// It is a handle: a clone is one more handle of the same queue. The drop of the last handle stops the queue and
 /// doesn't wait. The worker then still hands on the queued lines, and drops the wrapped sink, so that a buffered one
-/// sends its held text. Each handle keeps the runtime `R`, whose locks it takes.
+/// sends its held text. After a `stop_and_wait` the worker is gone, and it is the drop of the last handle that drops
+/// the wrapped sink: when it returns, the held text was sent, also if the process ends then. Each handle keeps the
+/// runtime `R`, whose locks it takes.
 ///
 /// ```text
 /// let sink = QueuingMetricSink::with_capacity(rt.clone()?, alloc, inner, 1000)?;
@@ -27,15 +32,17 @@ pub struct QueuingMetricSink<S: MetricSink, R: Wait + Drop, A: Allocator = Globa
     pub(super) rt: R,
     pub(super) alloc: A,
     pub(super) shared: Arc<Shared<S, A>, A>,
+    pub(super) end: Arc<WorkerEnd, A>,
 }
 
 impl<S: MetricSink, R: Wait + Drop, A: Allocator> QueuingMetricSink<S, R, A> {
-    /// Stops the queue for all handles, and waits until the worker has handed on the queued lines and has ended.
-    /// Neither the wrapped sink nor the error handler may call this: they run in the worker, which would wait for
-    /// itself.
+    /// Stops the queue for all handles, and waits until the worker has handed on the queued lines, has dropped the error
+    /// handler, and has ended. A wrapped sink with a buffer still holds its text then, until it is flushed or the last
+    /// handle is dropped. Neither the wrapped sink nor the error handler may call this: they run in the worker, which
+    /// would wait for itself.
     pub fn stop_and_wait(&self) {
-        self.shared.queue.stop(&self.rt);
-        self.shared.end.wait(&self.rt);
+        drop(self.shared.queue.stop_shown(&self.rt));
+        self.end.wait(&self.rt);
     }
 
     /// Returns the number of lines that wait in the queue. Lines that the worker has taken, at most 32 at a time,
@@ -87,11 +94,36 @@ fn copy_line<A: Allocator + Clone>(
     }
 }
 
+impl<S: MetricSink, R: Wait + Drop, A: Allocator + Clone> AnsweringSink
+    for QueuingMetricSink<S, R, A> {
+    type Took = Queued<String<A>, A>;
+
+    type Refused = Refusal<String<A>, A>;
+
+    ghost may_answer = { λ q metric answer. IsQueuingAnswer (queue_capacity q) metric answer };
+
+    ghost shows = { λ _ line answer _. IsCopyQueued string_bytes line answer };
+
+    fn emit_line(&self, line: &str, fault: &mut SinkError) -> Result<Self::Took, Self::Refused> {
+        let alloc = &self.alloc;
+        let queue = &self.shared.queue;
+        match queue.offer(&self.rt, |older| copy_line(older, alloc, line)) {
+            Ok(accepted) => Ok(accepted.with_bytes(line.len())),
+            Err(refusal) => {
+                *fault = queue.why(&refusal).into();
+                Err(refusal)
+            }
+        }
+    }
+}
+
 /// `emit` puts a copy of the line last in the queue, and returns the line's length.
 ///
 /// The errors are `ChannelDisconnected` if the queue is stopped, `ChannelFull` if as many lines wait as its capacity,
-/// and `OutOfMemory`, in this order; nothing is queued then. Under `DropOldest`, a full queue with a capacity above 0
-/// drops its oldest line instead of returning an error, and doesn't call the handler.
+/// and `OutOfMemory`, in this order; nothing is queued then. A caller that finds the queue full gives way to the worker
+/// once, for less than a microsecond, and then tries again. It never waits for the wrapped sink. Under `DropOldest`, a
+/// full queue with a capacity above 0 drops its oldest line instead of returning an error, and doesn't call the
+/// handler.
 ///
 /// An accepted line requests memory at most once, apart from the growth of an unbounded queue: if the worker has handed
 /// on a line with enough memory, the new line is copied into that. The first two errors request no memory. `flush`
@@ -99,20 +131,13 @@ fn copy_line<A: Allocator + Clone>(
 /// `dropped_lines` adds `dropped` to the number of the wrapped sink.
 impl<S: MetricSink, R: Wait + Drop, A: Allocator + Clone> MetricSink
     for QueuingMetricSink<S, R, A> {
-    ghost may_answer = { λ q metric answer. IsQueuingAnswer (queue_capacity q) metric answer };
+    ghost may_answer = { λ q metric answer.
+        IsQueuingAnswer (queue_capacity q) metric answer × IsAnswered metric answer };
 
     ghost may_flush = { λ q answer. S.may_flush (arc_value q.shared).sink answer };
 
     fn emit(&self, metric: &str) -> Result<usize, SinkError> {
-        let alloc = &self.alloc;
-        let queue = &self.shared.queue;
-        let answer = queue.offer(&self.rt, |older| copy_line(older, alloc, metric));
-        // The refusal is small, so the wide `SinkError` is made here, at the end. A wide one would be copied on the
-        // way.
-        match answer {
-            Ok(()) => Ok(metric.len()),
-            Err(refusal) => Err(refusal.into()),
-        }
+        emit_by(self, metric)
     }
 
     fn flush(&self) -> Result<(), SinkError> {
@@ -140,18 +165,25 @@ impl<S: MetricSink, R: Wait + Clone + Drop, A: Allocator + Clone> Clone
         let rt = self.rt.clone()?;
         let alloc = self.alloc.clone()?;
         let shared = self.shared.clone()?;
+        let end = self.end.clone()?;
         shared.queue.add_handle(&rt);
-        Ok(QueuingMetricSink { rt, alloc, shared })
+        Ok(QueuingMetricSink {
+            rt,
+            alloc,
+            shared,
+            end,
+        })
     }
 }
 
 impl<S: MetricSink, R: Wait + Drop, A: Allocator> Drop for QueuingMetricSink<S, R, A> {
     fn drop(self) {
-        self.shared.queue.drop_handle(&self.rt);
+        drop(self.shared.queue.drop_handle_shown(&self.rt));
         let QueuingMetricSink {
             rt: _,
             alloc: _,
             shared: _,
+            end: _,
         } = self;
     }
 }

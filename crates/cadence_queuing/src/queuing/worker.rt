@@ -18,7 +18,6 @@ const WIDEST_KEPT: usize = 512;
 pub struct Shared<S: MetricSink, A: Allocator> {
     pub sink: S,
     pub queue: SharedQueue<String<A>, A>,
-    pub end: WorkerEnd,
     /// After which time the worker flushes the sink. `None` means that it never does.
     pub period: Option<Duration>,
 }
@@ -123,19 +122,38 @@ fn pass_on<S: MetricSink, R: Wait + Drop, A: Allocator + Clone>(
     list.finish()
 }
 
+/// The worker's part of what it shares with the handles. The mark of its end is on its own, because the worker sets it
+/// after it has let go of the sink.
+#[derive(Drop)]
+pub struct Part<S: MetricSink, R: Wait + Drop, A: Allocator> {
+    pub rt: R,
+    pub shared: Arc<Shared<S, A>, A>,
+    pub end: Arc<WorkerEnd, A>,
+}
+
+impl<S: MetricSink, R: Wait + Drop, A: Allocator> Part<S, R, A> {
+    /// Ends the worker: it lets go of the sink and of the handler, and then sets the mark. So after the mark the drop of
+    /// the last handle drops the sink, in the thread of that handle.
+    pub fn end(self, handler: Option<Handler<A>>) {
+        let Part { rt, shared, end } = self;
+        drop(shared);
+        drop(handler);
+        end.mark(&rt);
+    }
+}
+
 /// What the worker thread needs besides the handler.
 #[derive(Drop)]
 pub struct Worker<S: MetricSink, R: Wait + Drop, A: Allocator> {
-    pub rt: R,
-    pub shared: Arc<Shared<S, A>, A>,
+    pub part: Part<S, R, A>,
     pub room: TakerRoom<String<A>, A>,
 }
 
 impl<S: MetricSink, R: Wait + Drop, A: Allocator + Clone> Job<Option<Handler<A>>>
     for Worker<S, R, A> {
     fn run(self, handler: Option<Handler<A>>) {
-        let Worker { rt, shared, room } = self;
-        let _passed = pass_on(&rt, &shared, &handler, room);
-        shared.end.mark(&rt);
+        let Worker { part, room } = self;
+        let _passed = pass_on(&part.rt, &part.shared, &handler, room);
+        part.end(handler);
     }
 }

@@ -1,5 +1,5 @@
 -- The headline of a whole run, from its first state, its steps and its outcome.
-use Rattle.std.proofs.Common.{◌≡◌, ℕ, ◌^◌, ◌<◌, List, [], length, sym, ap, ◌∙◌, ◌≢◌, arith, subst, Some, Option, Vec, map, true}
+use Rattle.std.proofs.Common.{◌≡◌, ℕ, ◌^◌, ◌<◌, ◌≤◌, List, [], length, sym, ap, ◌∙◌, ◌≢◌, arith, subst, Some, Option, Vec, map, true}
 use Rattle.std.specs.List.{zip}
 use Rattle.std.specs.Prelude.{All, IsTrue, codes, string_bytes}
 use Rattle.std.specs.Option.{option_map}
@@ -47,7 +47,9 @@ module _ {W A : Type 0} (kind_of : W → WriterKind) (history_of : W → PacketH
       (start : IsAtStart capacity ending queue policy (length steps) (record { inner = writer; stats = zero_sums }) begun none)
       (runs : Runs (line_of_data settings) (counted begun.packer.writer) begun.packer.format begun.queue.capacity begun.queue.policy
       (state_of inner begun) (zip steps replies.items) (state_of inner run))
-      (one_each : length replies.items ≡ length steps) (same_kind : counted run.packer.writer ≡ counted begun.packer.writer) where
+      (one_each : length replies.items ≡ length steps) (same_kind : counted run.packer.writer ≡ counted begun.packer.writer)
+      (same_format : run.packer.format ≡ begun.packer.format) (same_queue : run.queue.capacity ≡ begun.queue.capacity)
+      (same_policy : run.queue.policy ≡ begun.queue.policy) where
     abbrev lines : Call A → Option (List ℕ)
     lines = line_of_data settings
 
@@ -107,6 +109,8 @@ module _ {W A : Type 0} (kind_of : W → WriterKind) (history_of : W → PacketH
         drained = run_drained lines filled kind format queue policy before turns ended after short;
         dropped = run_dropped lines filled kind format queue policy before turns ended after short;
         stopped = after.line.stopped_is;
+        capacity = same_queue ∙ ap (λ q. q.capacity) start.queue_is;
+        policy = same_policy ∙ ap (λ q. q.policy) start.queue_is;
         in_hand = after.line.hand_is;
       };
       errors = after.refusals;
@@ -138,11 +142,13 @@ module _ {W A : Type 0} (kind_of : W → WriterKind) (history_of : W → PacketH
     -- what is promised beside it
     pub is_accounted : PacketsReadOneWay → StrictCallsAreFree → (IsTrue settings.strict → IsTrue (is_free_settings settings))
         → All IsRepresentable (accepted (metric_of_data settings) turns)
+        → length run.packer.held ≤ run.packer.format.capacity
         → run.packer.writer.stats.bytes_sent < 2 ^ 64 → run.packer.writer.stats.packets_sent < 2 ^ 64
         → IsAccounted history_of (given_of kind_of history_of settings capacity ending queue policy steps writer) (outcome_after run replies)
-    is_accounted reads law free each bytes packets = record {
+    is_accounted reads law free each bound bytes packets = record {
       late = λ whole. run_late lines filled kind format queue policy before turns ended after whole.0 whole.1;
       taken = λ reports. run_taken lines filled kind format queue policy before turns ended after reports;
+      held = subst (λ (f : Format). length run.packer.held ≤ f.capacity) (same_format ∙ ap (λ p. p.format) start.packer_is) bound;
       stats = λ reports.
           run_sums (kind_of writer) (kind_of run.packer.writer.inner) before (history_of run.packer.writer.inner) run.packer.writer.stats
           (same_kind ∙ kind_is) reports (after.text reports).extends bytes packets;

@@ -104,7 +104,7 @@ impl<A: Allocator + Clone> ClientSettings<A> {
     ghost use Rattle.cadence_schedule.specs.Settings.{allows_text, is_free_settings, with_strict_texts};
 
     /// Makes the settings strict. From then on each call, default tag and default container with a separator in a text
-    /// is refused: a colon, a comma, a bar or a newline. So no text can make, change or split a metric.
+    /// is refused: a colon, a comma, a bar or a newline. So no text of a call can make, change or split a metric.
     ///
     /// # Errors
     /// An error of kind `InvalidInput` (`separator in a text`) if and only if the prefix, a default tag or the default

@@ -3,20 +3,24 @@ ghost use Rattle.std.specs.Prelude.{◌≡◌, [], IfOk, unwrap_or};
 ghost use Rattle.cadence_errors.specs.Errors.{MayOnlyRunOutOfMemory};
 ghost use Rattle.cadence_flow.specs.Writer.{history_of};
 ghost use Rattle.cadence_queuing.specs.Answers.{IsQueueAnswer, IsQueueFlush, queue_kind};
+ghost use Rattle.cadence_shared.specs.Answered.{IsAnswered, IsFlushAnswered, answered_by_holding_nothing};
 ghost use Rattle.cadence_sinks.specs.Buffers.{spy_buffer};
+ghost use Rattle.cadence_sinks.specs.Shows.{SpyShows, SpyShowsFlush};
 
 use super::channel::{Sender, SpyReceiver, new_channel};
-use crate::MetricSink;
 use cadence_errors::{MetricResult, SinkError};
 use cadence_flow::io::{DEFAULT_CAPACITY, PacketWriter, Refusals};
-use cadence_shared::WholePacker;
+use cadence_shared::{
+    AnsweringFlush, AnsweringSink, Flushed, MetricSink, Packed, RecordedPacker, Refused,
+    WholePacker, emit_by, flush_by,
+};
 use std::alloc::{Allocator, Global};
 use std::sync::{Mutex, Wait};
 
-// Makes each packet a message. It takes a packet whole or refuses it. Contracts don't see its packets; the packer
-// around it records them.
+/// Makes each packet a message. It takes a packet whole or refuses it. Contracts don't see its packets; the packer
+/// around it records them.
 #[derive(Drop)]
-struct MessageWriter<R: Wait + Drop, A: Allocator> {
+pub struct MessageWriter<R: Wait + Drop, A: Allocator> {
     sender: Sender<R, A>,
     refusals: Refusals,
 }
@@ -91,20 +95,53 @@ impl<R: Wait + Clone + Drop, A: Allocator + Clone> BufferedSpyMetricSink<R, A> {
     }
 }
 
-impl<R: Wait + Drop, A: Allocator + Clone> MetricSink for BufferedSpyMetricSink<R, A> {
+// The packer of a spy.
+type SpyLines<R, A> = RecordedPacker<MessageWriter<R, A>, A>;
+
+impl<R: Wait + Drop, A: Allocator + Clone> AnsweringSink for BufferedSpyMetricSink<R, A> {
+    type Took = Packed<SpyLines<R, A>>;
+
+    type Refused = Refused<SpyLines<R, A>>;
+
     ghost may_answer = { λ _ metric answer. IsQueueAnswer metric answer };
+
+    ghost shows = { λ _ line answer e. SpyShows line answer e };
+
+    fn emit_line(&self, line: &str, fault: &mut SinkError) -> Result<Self::Took, Self::Refused> {
+        self.writer.lock(&self.rt).write(line.as_bytes(), fault)
+    }
+}
+
+impl<R: Wait + Drop, A: Allocator + Clone> AnsweringFlush for BufferedSpyMetricSink<R, A> {
+    type Flushed = Flushed<SpyLines<R, A>>;
+
+    type Unflushed = Refused<SpyLines<R, A>>;
 
     ghost may_flush = { λ _ answer. IsQueueFlush answer };
 
+    ghost shows_flush = { λ _ answer e. SpyShowsFlush answer e };
+
+    fn flush_lines(&self, fault: &mut SinkError) -> Result<Self::Flushed, Self::Unflushed> {
+        self.writer.lock(&self.rt).flush(fault)
+    }
+}
+
+impl<R: Wait + Drop, A: Allocator + Clone> MetricSink for BufferedSpyMetricSink<R, A> {
+    ghost may_answer = { λ _ metric answer.
+        IsQueueAnswer metric answer × IsAnswered metric answer };
+
+    ghost may_flush = { λ _ answer. IsQueueFlush answer × IsFlushAnswered answer };
+
+    ghost flush_may_succeed = { λ _ held. (tt, answered_by_holding_nothing held) };
+
+    #[inline(always)]
     fn emit(&self, metric: &str) -> Result<usize, SinkError> {
-        self.writer.lock(&self.rt).write(metric.as_bytes())
+        emit_by(self, metric)
     }
 
     fn flush(&self) -> Result<(), SinkError> {
-        self.writer.lock(&self.rt).flush()
+        flush_by(self)
     }
-
-    ghost flush_may_succeed = { λ _. tt };
 }
 
 // The held text goes out first. Then the writer is dropped, and with it the one handle of the queue.
@@ -115,7 +152,6 @@ impl<R: Wait + Drop, A: Allocator + Clone> Drop for BufferedSpyMetricSink<R, A> 
             writer,
             capacity: _,
         } = self;
-        let mut lines = writer.into_inner();
-        let _ = lines.flush();
+        writer.into_inner().finish();
     }
 }

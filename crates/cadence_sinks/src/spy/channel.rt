@@ -1,10 +1,13 @@
 //! The queue between a spy and its receiver, and its two ends.
+ghost use Rattle.std.specs.Prelude.{◌≡◌, IfOk, vec_items};
 ghost use Rattle.cadence_errors.specs.Errors.{MayOnlyRunOutOfMemory};
-ghost use Rattle.cadence_queuing.specs.Answers.{IsQueueAnswer};
+ghost use Rattle.cadence_queuing.specs.Answers.{IsCopyQueued, IsQueueAnswer};
+ghost use Rattle.cadence_shared.specs.Opened.{opened};
+ghost use Rattle.cadence_shared.specs.Shown.{queued_bytes, text_of};
 
 use cadence_errors::{MetricResult, SinkError};
 use cadence_flow::queue::Taken;
-use cadence_shared::SharedQueue;
+use cadence_shared::{Accepted, Queued, Refusal, SharedQueue};
 use std::alloc::{Allocator, Global};
 use std::sync::{Arc, Wait};
 
@@ -38,7 +41,7 @@ impl<R: Wait + Drop, A: Allocator> SpyReceiver<R, A> {
 
 impl<R: Wait + Drop, A: Allocator> Drop for SpyReceiver<R, A> {
     fn drop(self) {
-        self.messages.stop(&self.rt);
+        drop(self.messages.stop_shown(&self.rt));
         let SpyReceiver { rt: _, messages: _ } = self;
     }
 }
@@ -80,17 +83,47 @@ impl<R: Wait + Drop, A: Allocator + Clone> Sender<R, A> {
     pub fn send(&self, bytes: &[u8]) -> Result<usize, SinkError>
         ensures { IsQueueAnswer bytes.now result }
     {
-        self.messages.submit_with(&self.rt, || {
+        match self.offer(bytes) {
+            Ok(accepted) => {
+                drop(accepted.into_dropped());
+                Ok(bytes.len())
+            }
+            Err(refusal) => Err(self.messages.why(&refusal).into()),
+        }
+    }
+
+    /// Adds a copy of the line, as `send` does, and returns an answer of a sink.
+    pub fn send_line(
+        &self,
+        line: &str,
+        fault: &mut SinkError,
+    ) -> Result<Queued<Vec<u8, A>, A>, Refusal<Vec<u8, A>, A>>
+        ensures answer { IsQueueAnswer line.now (opened queued_bytes result fault.new) }
+        ensures copy { IsCopyQueued vec_items line.now result }
+    {
+        match self.offer(line.as_bytes()) {
+            Ok(accepted) => Ok(accepted.with_bytes(line.len())),
+            Err(refusal) => {
+                *fault = self.messages.why(&refusal).into();
+                Err(refusal)
+            }
+        }
+    }
+
+    // Adds a copy of the bytes at the end of the queue.
+    fn offer(&self, bytes: &[u8]) -> Result<Accepted<Vec<u8, A>, A>, Refusal<Vec<u8, A>, A>>
+        ensures { IfOk result (λ a. vec_items (text_of a) ≡ bytes.now) }
+    {
+        self.messages.offer(&self.rt, |_older| {
             let alloc = self.alloc.clone()?;
             Vec::from_slice(alloc, bytes)
-        })?;
-        Ok(bytes.len())
+        })
     }
 }
 
 impl<R: Wait + Drop, A: Allocator> Drop for Sender<R, A> {
     fn drop(self) {
-        self.messages.drop_handle(&self.rt);
+        drop(self.messages.drop_handle_shown(&self.rt));
         let Sender {
             rt: _,
             alloc: _,

@@ -1,10 +1,12 @@
 //! A sink for tests that makes each line a message of its receiver.
+ghost use Rattle.std.specs.Prelude.{vec_items};
 ghost use Rattle.cadence_errors.specs.Errors.{MayOnlyRunOutOfMemory};
-ghost use Rattle.cadence_queuing.specs.Answers.{IsQueueAnswer};
+ghost use Rattle.cadence_queuing.specs.Answers.{IsCopyQueued, IsQueueAnswer};
+ghost use Rattle.cadence_shared.specs.Answered.{IsAnswered};
 
 use super::channel::{Sender, SpyReceiver, new_channel};
-use crate::MetricSink;
 use cadence_errors::{MetricResult, SinkError};
+use cadence_shared::{AnsweringSink, MetricSink, Queued, Refusal, emit_by};
 use std::alloc::{Allocator, Global};
 use std::sync::Wait;
 
@@ -42,12 +44,28 @@ impl<R: Wait + Clone + Drop, A: Allocator + Clone> SpyMetricSink<R, A> {
     }
 }
 
-impl<R: Wait + Drop, A: Allocator + Clone> MetricSink for SpyMetricSink<R, A> {
+impl<R: Wait + Drop, A: Allocator + Clone> AnsweringSink for SpyMetricSink<R, A> {
+    type Took = Queued<Vec<u8, A>, A>;
+
+    type Refused = Refusal<Vec<u8, A>, A>;
+
     ghost may_answer = { λ _ metric answer. IsQueueAnswer metric answer };
 
-    fn emit(&self, metric: &str) -> Result<usize, SinkError> {
-        self.sender.send(metric.as_bytes())
-    }
+    ghost shows = { λ _ line answer _. IsCopyQueued vec_items line answer };
 
-    ghost flush_may_succeed = { λ _. tt };
+    fn emit_line(&self, line: &str, fault: &mut SinkError) -> Result<Self::Took, Self::Refused> {
+        self.sender.send_line(line, fault)
+    }
+}
+
+impl<R: Wait + Drop, A: Allocator + Clone> MetricSink for SpyMetricSink<R, A> {
+    ghost may_answer = { λ _ metric answer.
+        IsQueueAnswer metric answer × IsAnswered metric answer };
+
+    ghost flush_may_succeed = { λ _ _. tt };
+
+    #[inline(always)]
+    fn emit(&self, metric: &str) -> Result<usize, SinkError> {
+        emit_by(self, metric)
+    }
 }

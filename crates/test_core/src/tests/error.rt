@@ -87,3 +87,31 @@ fn a_described_error_keeps_its_kind_and_text(rt: HostRuntime) -> Result<(), Fail
     assert!(rt; has_its_kind_and_text(rt.alloc(), ErrorKind::InvalidInput, text)?);
     Ok(())
 }
+
+// Texts, each with what a description of it keeps: 72 bytes, or with three dots at the end as many whole characters as
+// leave room for these.
+const KEPT: &[(&str, &str)] = &[
+    (
+        "aaaaaaaaaaaaaaaaaaaaaaaaaaaaaaaaaaaaaaaaaaaaaaaaaaaaaaaaaaaaaaaaaaaaaaaa",
+        "aaaaaaaaaaaaaaaaaaaaaaaaaaaaaaaaaaaaaaaaaaaaaaaaaaaaaaaaaaaaaaaaaaaaaaaa",
+    ),
+    (
+        "aaaaaaaaaaaaaaaaaaaaaaaaaaaaaaaaaaaaaaaaaaaaaaaaaaaaaaaaaaaaaaaaaaaaaaaab",
+        "aaaaaaaaaaaaaaaaaaaaaaaaaaaaaaaaaaaaaaaaaaaaaaaaaaaaaaaaaaaaaaaaaaaaa...",
+    ),
+    (
+        "äääääääääääääääääääääääääääääääääääaaa",
+        "ääääääääääääääääääääääääääääääääää...",
+    ),
+];
+
+#[test]
+fn a_long_text_is_cut_at_a_character(rt: HostRuntime) {
+    for (text, kept) in KEPT {
+        let error = MetricError::from((ErrorKind::InvalidInput, *text));
+        assert!(rt;
+            has_kind_and_text(rt.alloc(), &error, ErrorKind::InvalidInput, kept),
+            "{kept}"
+        );
+    }
+}

@@ -2,7 +2,7 @@
 //! that wait for each other show that a waiting thread is woken, which no contract says. No result depends on when it
 //! is woken.
 use cadence_errors::{MetricResult, SinkError};
-use cadence_flow::queue::{QueueCore, QueuePolicy, Taken};
+use cadence_flow::queue::{QueueCore, QueueError, QueuePolicy, Taken};
 use cadence_shared::{SharedQueue, WorkerEnd};
 use std::alloc::{AllocError, Allocator, Global};
 use std::sync::Wait;
@@ -54,9 +54,9 @@ enum Step {
     // The text is accepted.
     Submit(char),
     // The text is made, and accepted.
-    SubmitWith(char),
+    Offer(char),
     // The text can't be made, because memory runs out, and the call says so.
-    SubmitNone,
+    OfferNone,
     // The text is refused, and comes back.
     Refuse(char, Reason),
     // This is the text that is taken.
@@ -94,10 +94,10 @@ fn is_refused<A: Allocator + Clone>(
 fn runs_step<A: Allocator + Clone>(queue: &mut QueueCore<char, A>, step: Step) -> bool {
     match step {
         Step::Submit(text) => queue.submit(text).is_ok(),
-        Step::SubmitWith(text) => queue.submit_with(|| Ok(text)).is_ok(),
-        Step::SubmitNone => {
-            let answer = queue.submit_with(|| Err(AllocError));
-            matches!(answer, Err(SinkError::OutOfMemory))
+        Step::Offer(text) => queue.offer(|| Ok(text)).is_ok(),
+        Step::OfferNone => {
+            let answer = queue.offer(|| Err(AllocError));
+            matches!(answer, Err(QueueError::OutOfMemory))
         }
         Step::Refuse(text, reason) => is_refused(queue, text, reason),
         Step::Take(text) => is_text(queue.take(), text),
@@ -151,7 +151,7 @@ const HANDLES: &[Step] = &[
 const COUNTED: &[Step] = &[
     Step::Idle,
     Step::Submit('A'),
-    Step::SubmitWith('B'),
+    Step::Offer('B'),
     Step::Take('A'),
     Step::Counts(2, 1, 0),
     Step::Wait("B"),
@@ -178,7 +178,7 @@ const DROPPED: &[Step] = &[
     Step::Submit('A'),
     Step::Submit('B'),
     Step::Submit('C'),
-    Step::SubmitNone,
+    Step::OfferNone,
     Step::Wait("BC"),
     Step::Counts(3, 0, 1),
 ];
@@ -254,10 +254,21 @@ fn taker_gets_a_submit(rt: HostRuntime) -> Result<(), Fail> {
     Ok(())
 }
 
+// Offers a text, and returns whether it is accepted.
+fn accepts<R: Wait>(rt: &R, queue: &SharedQueue<char>, text: char) -> bool {
+    match queue.offer(rt, |_older| Ok(text)) {
+        Ok(accepted) => {
+            let _ = accepted.into_dropped();
+            true
+        }
+        Err(_) => false,
+    }
+}
+
 #[test]
 fn shared_queue_keeps_its_capacity(rt: HostRuntime) -> Result<(), Fail> {
     let queue = SharedQueue::new(rt.alloc(), Some(1))?;
-    assert!(rt; queue.submit_with(&rt, || Ok('A')).is_ok());
+    assert!(rt; accepts(&rt, &queue, 'A'));
     assert!(rt; matches!(queue.submit(&rt, 'B'), Err((SinkError::ChannelFull, 'B'))));
     assert!(rt; is_text(queue.try_take(&rt), 'A'));
     assert!(rt; matches!(queue.try_take(&rt), Taken::Empty));
@@ -268,7 +279,7 @@ fn shared_queue_keeps_its_capacity(rt: HostRuntime) -> Result<(), Fail> {
 fn drops_its_oldest<R: Wait>(rt: &R, queue: &SharedQueue<char>) -> bool {
     matches!(queue.submit(rt, 'A'), Ok(None))
         && matches!(queue.submit(rt, 'B'), Ok(Some('A')))
-        && queue.submit_with(rt, || Ok('C')).is_ok()
+        && accepts(rt, queue, 'C')
 }
 
 #[test]
@@ -296,12 +307,7 @@ fn taker_is_stopped(rt: HostRuntime) -> Result<(), Fail> {
     );
     assert!(rt; got.is_none());
     assert!(rt; matches!(queue.try_take(&rt), Taken::Ended));
-    assert!(rt;
-        matches!(
-            queue.submit_with(&rt, || Ok('A')),
-            Err(SinkError::ChannelDisconnected)
-        )
-    );
+    assert!(rt; !accepts(&rt, &queue, 'A'));
     Ok(())
 }
 

@@ -1,6 +1,10 @@
 //! The records that only proofs read take no memory: a type with one has the size of the type without it.
 use cadence_flow::io::{LineBuffer, PacketLog};
-use cadence_shared::{GhostList, RecordedPacker, RecordedWriter, WholePacker};
+use cadence_flow::queue::{QueueError, Taken};
+use cadence_shared::{
+    Accepted, End, GhostList, Left, RecordedPacker, RecordedWriter, Refusal, Stopped, Took,
+    WholePacker,
+};
 use std::mem::size_of;
 
 #[test]
@@ -10,4 +14,15 @@ fn a_ledger_takes_no_byte(rt: HostRuntime) {
     let of_lines = size_of::<LineBuffer<PacketLog>>();
     assert!(rt; size_of::<RecordedPacker<PacketLog>>() == of_lines);
     assert!(rt; size_of::<WholePacker<PacketLog>>() == of_lines);
+}
+
+// The states that an answer of a shared queue shows take no memory either.
+#[test]
+fn a_state_takes_no_byte(rt: HostRuntime) {
+    assert!(rt; size_of::<Accepted<u64>>() == size_of::<Option<u64>>());
+    assert!(rt; size_of::<Refusal<u64>>() == size_of::<QueueError>());
+    assert!(rt; size_of::<Took<u64>>() == size_of::<Taken<u64>>());
+    assert!(rt; size_of::<Stopped<u64>>() == 0);
+    assert!(rt; size_of::<Left<u64>>() == 0);
+    assert!(rt; size_of::<End<u64>>() == 0);
 }

@@ -1,6 +1,6 @@
 //! Counts of a sink that clones share.
 use cadence_errors::SinkError;
-use cadence_flow::stats::SinkStats;
+use cadence_flow::stats::{SinkStats, Unread};
 use cadence_shared::SocketStats;
 use std::test::Fail;
 use std::thread;
@@ -30,8 +30,8 @@ fn each_count_by_itself(rt: HostRuntime) -> Result<(), Fail> {
     stats.incr_packets_sent();
     stats.incr_bytes_dropped(20);
     stats.incr_packets_dropped();
-    stats.note_count(Some(3), 4);
-    stats.note_count(None, 5);
+    assert!(rt; stats.count(Unread::of(Some(3), b"four"), 4) == Some(3));
+    assert!(rt; stats.count(Unread::of(None, b"fives"), 5).is_none());
     let counts = SinkStats::from(&stats);
     assert!(rt; counts.bytes_sent == 13 && counts.packets_sent == 2);
     assert!(rt; counts.bytes_dropped == 25 && counts.packets_dropped == 2);

@@ -1,7 +1,7 @@
 //! A taker of a shared queue: which texts it takes, how many at once, and what it leaves. It takes at most as many
 //! texts at once as fit a 32nd of the queue's capacity, at least 1 and at most 32; the counts below follow from that.
 use cadence_errors::SinkError;
-use cadence_flow::queue::QueuePolicy;
+use cadence_flow::queue::{QueueError, QueuePolicy};
 use cadence_shared::{SharedQueue, Taker, TakerRoom};
 use std::process::Abort;
 use std::sync::Wait;
@@ -38,19 +38,24 @@ fn are_next<R: Wait>(rt: &R, taker: &mut Taker<'_, char>, texts: &str) -> bool {
     true
 }
 
-// Submits a text by `submit_with` and by `submit`. Returns whether both refuse it, as full if `is_full` is set and
-// otherwise as stopped, and whether the text of `submit_with` isn't made.
+// Adds a text by `offer` and by `submit`. Returns whether both refuse it, as full if `is_full` is set and otherwise as
+// stopped, and whether the text of `offer` isn't made.
 fn both_calls_refuse<R: Wait>(rt: &R, queue: &SharedQueue<char>, is_full: bool) -> bool {
     let is_made = AtomicBool::new(false);
-    let answer = queue.submit_with(rt, || {
+    let answer = queue.offer(rt, |_older| {
         is_made.store(true, Ordering::SeqCst);
         Ok('Z')
     });
-    let is_wanted = match (answer, queue.submit(rt, 'Z')) {
-        (Err(SinkError::ChannelFull), Err((SinkError::ChannelFull, 'Z'))) => is_full,
-        (Err(SinkError::ChannelDisconnected), Err((SinkError::ChannelDisconnected, 'Z'))) => {
-            !is_full
+    let why = match answer {
+        Ok(accepted) => {
+            let _ = accepted.into_dropped();
+            return false;
         }
+        Err(refusal) => queue.why(&refusal),
+    };
+    let is_wanted = match (why, queue.submit(rt, 'Z')) {
+        (QueueError::Full, Err((SinkError::ChannelFull, 'Z'))) => is_full,
+        (QueueError::Stopped, Err((SinkError::ChannelDisconnected, 'Z'))) => !is_full,
         _ => false,
     };
     is_wanted && !is_made.load(Ordering::SeqCst)
@@ -229,7 +234,7 @@ fn submit_one_by_one<R: Wait>(
     taken: &AtomicU64,
 ) -> bool {
     for turn in 0..TURNS {
-        if queue.submit_with(rt, || Ok(name)).is_err() {
+        if queue.submit(rt, name).is_err() {
             return false;
         }
         for _ in rt.forever() {

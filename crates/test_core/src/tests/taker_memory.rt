@@ -27,7 +27,13 @@ fn requests_of<R: Wait>(
         }
         None => String::from_str(heap.clone()?, line),
     });
-    answer.is_ok().then_some(left.wrapping_sub(heap.left()))
+    match answer {
+        Ok(accepted) => {
+            let _ = accepted.into_dropped();
+            Some(left.wrapping_sub(heap.left()))
+        }
+        Err(_) => None,
+    }
 }
 
 // Takes the next line, and gives its memory back. Returns whether it is this line.

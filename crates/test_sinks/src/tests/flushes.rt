@@ -93,23 +93,33 @@ fn a_busy_worker_flushes_between_lines(rt: HostRuntime) -> Result<(), Fail> {
     watch.assert_reads(6)
 }
 
+// Asserts that a flush which fails twice is tried again after each `wait` milliseconds, though no line comes. `errors` is
+// how often it failed before.
+fn assert_tries_again<R: Runtime + Clock>(
+    watch: &Watch<R>,
+    wait: u64,
+    errors: u64,
+) -> Result<(), Fail> {
+    for failed in 1..3 {
+        watch.move_to(wait.wrapping_mul(failed));
+        watch.assert_notes(&["flush"])?;
+        watch.assert_errors(errors.wrapping_add(failed))?;
+        watch.assert_reads(6)?;
+    }
+    watch.set_refuses(false);
+    watch.move_to(wait.wrapping_mul(3));
+    watch.assert_notes(&["flush"])?;
+    watch.assert_rests()?;
+    watch.assert_errors(errors.wrapping_add(2))
+}
+
 #[test]
 fn a_failed_flush_is_tried_again(rt: HostRuntime) -> Result<(), Fail> {
     let (watch, sink) = make_queue(&rt, rt.alloc(), 5)?;
     watch.set_refuses(true);
     assert_passes(&watch, &sink)?;
     watch.assert_reads(6)?;
-    for failed in 1..3 {
-        watch.move_to(5 * failed);
-        watch.assert_notes(&["flush"])?;
-        watch.assert_errors(failed)?;
-        watch.assert_reads(6)?;
-    }
-    watch.set_refuses(false);
-    watch.move_to(15);
-    watch.assert_notes(&["flush"])?;
-    watch.assert_rests()?;
-    watch.assert_errors(2)
+    assert_tries_again(&watch, 5, 0)
 }
 
 #[test]
@@ -124,32 +134,41 @@ fn the_end_of_a_worker_is_a_flush(rt: HostRuntime) -> Result<(), Fail> {
     assert_next_message(&receiver, "a:1|c\nb:1|c\n")
 }
 
-// Asserts that each line is flushed when the worker has no more, and that a failed flush is tried again after the next
-// line and not before it.
+// Asserts that each line is flushed when the worker has no more.
 fn assert_flushes_each<R: Runtime + Clock>(
     watch: &Watch<R>,
     sink: &NotedQueue<R>,
 ) -> Result<(), Fail> {
-    for refuses in [false, true, false] {
-        watch.set_refuses(refuses);
+    for _ in 0..2 {
         assert_passes(watch, sink)?;
         watch.assert_notes(&["flush"])?;
         watch.assert_rests()?;
     }
-    watch.assert_errors(1)
+    Ok(())
 }
 
 #[test]
 fn a_period_of_0_flushes_each_line(rt: HostRuntime) -> Result<(), Fail> {
     let (watch, sink) = make_queue(&rt, rt.alloc(), 0)?;
-    assert_flushes_each(&watch, &sink)
+    assert_flushes_each(&watch, &sink)?;
+    watch.set_refuses(true);
+    assert_passes(&watch, &sink)?;
+    watch.assert_notes(&["flush"])?;
+    watch.assert_reads(6)?;
+    assert_tries_again(&watch, 1, 1)
 }
 
 #[test]
 fn without_a_clock_each_line_is_flushed(rt: HostRuntime) -> Result<(), Fail> {
     let (watch, sink) = make_queue(&rt, rt.alloc(), 5)?;
     watch.stage.is_broken.store(true, Ordering::SeqCst);
-    assert_flushes_each(&watch, &sink)
+    assert_flushes_each(&watch, &sink)?;
+    watch.set_refuses(true);
+    assert_passes(&watch, &sink)?;
+    watch.assert_notes(&["flush", "flush", "flush"])?;
+    watch.set_refuses(false);
+    watch.assert_last_flushes()?;
+    watch.assert_rests()
 }
 
 #[test]

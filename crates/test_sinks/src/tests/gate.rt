@@ -71,7 +71,7 @@ impl<R: Wait + Drop> MetricSink for GatedSink<R> {
         7
     }
 
-    ghost flush_may_succeed = { λ _. tt };
+    ghost flush_may_succeed = { λ _ _. tt };
 }
 
 /// What a test sees of a gated sink: its gate, the lines that come to the gate, and the lines that pass it.

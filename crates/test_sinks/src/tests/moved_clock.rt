@@ -53,7 +53,7 @@ impl<R: Wait + Threads + Clone + Drop> Clone for MovedClock<R> {
     }
 }
 
-impl<R: Wait + Threads + Drop> Clock for MovedClock<R> {
+impl<R: Wait + Threads + Clock + Drop> Clock for MovedClock<R> {
     fn monotonic(&self) -> io::Result<Duration> {
         self.stage.readings.fetch_add(1, Ordering::SeqCst);
         if self.stage.is_broken.load(Ordering::SeqCst) {
@@ -64,6 +64,11 @@ impl<R: Wait + Threads + Drop> Clock for MovedClock<R> {
 
     fn since_1970(&self) -> io::Result<Duration> {
         self.monotonic()
+    }
+
+    // sleeps in real time
+    fn sleep(&self, duration: Duration) {
+        self.rt.sleep(duration)
     }
 }
 
@@ -111,7 +116,7 @@ impl<R: Wait + Drop> MetricSink for NotingSink<R> {
         5
     }
 
-    ghost flush_may_succeed = { λ _. tt };
+    ghost flush_may_succeed = { λ _ _. tt };
 }
 
 /// What a test sees of a noting sink, and the test's own runtime.
@@ -231,6 +236,19 @@ impl<R: Runtime + Clock> Watch<R> {
             return Err(Fail::new("it doesn't wait for the clock"));
         }
         Ok(())
+    }
+
+    /// Waits for 60 milliseconds, and asserts that nothing but flushes was noted until then.
+    pub fn assert_last_flushes(&self) -> Result<(), Fail> {
+        self.sleep(60);
+        for _ in 0..PATIENCE {
+            match self.notes.try_recv() {
+                Some(note) if note.as_slice() == "flush".as_bytes() => {}
+                Some(_) => return Err(Fail::new("another note than a flush")),
+                None => return Ok(()),
+            }
+        }
+        Err(Fail::new("too many flushes"))
     }
 
     /// Waits until the worker has read the clock after its last flush. Asserts that it doesn't read it again, and that

@@ -1,7 +1,8 @@
 use Rattle.std.proofs.Common.{rules, ◌∷◌, [], append-nil, subst}
 use Rattle.cadence_cli.proofs.Reading.{read_whole}
 use Rattle.cadence_send.specs.Sent.{TakesTexts, texts_of}
-use Rattle.cadence_send.proofs.Feeding.{consumes_more, consumes_none, fed_flushed, fed_more, fed_none, fed_whole, of_known}
+use Rattle.cadence_send.proofs.Feeding.{consumes_more, consumes_none, fed_flushed, fed_more, fed_none, fed_some, fed_then_some, fed_whole}
+use Rattle.cadence_send.proofs.Feeding.{first_none, first_taken, of_known, on_err, takes_none}
 use Rattle.cadence_send.proofs.engine.take_input.Goals as goal
 
 pub loop-init : goal.loop-init
@@ -13,8 +14,8 @@ loop-init g c =
           c.args.defaults.now c.args.lines.now,
     )
 
-pub returns-in-Ok-eq0 : goal.returns-in-Ok-eq0
-returns-in-Ok-eq0 g c =
+pub returns-in-Ok-eq0-clause-all : goal.returns-in-Ok-eq0-clause-all
+returns-in-Ok-eq0-clause-all g c =
     let kind = g.T.PacketWriter.kind in
     let history = g.T.PacketWriter.history in
     let d = c.args.defaults.now in
@@ -35,5 +36,67 @@ loop-preserved g c =
       consumes_more _ _ _ got _ consumed c.in-Ok.ensures.bytes.0,
       fed_flushed kind history d c.args.lines.now c.feed.new.lines c.keep_pace.new.lines _ _
           (fed_more kind history d c.args.lines.now c.loop.lines c.feed.new.lines got _ c.loop.buffers.waiting.items _ fed
-          c.in_ok-feed-in-Ok.ensures) c.in_ok-keep_pace.ensures,
+          c.in_ok-feed-in-Ok.ensures.all) c.keep_pace.ensures,
     )
+
+pub returns-in_err-clone-clause-first : goal.returns-in_err-clone-clause-first
+returns-in_err-clone-clause-first g c =
+    on_err c.from_residual.result
+    (first_none g.T.PacketWriter.kind g.T.PacketWriter.history c.args.defaults.now c.args.lines.now (g.I.Read.remaining c.args.input.now))
+
+pub returns-in_err-clone-2-clause-first : goal.returns-in_err-clone-2-clause-first
+returns-in_err-clone-2-clause-first g c =
+    on_err c.from_residual-in_err-clone-2.result
+    (first_none g.T.PacketWriter.kind g.T.PacketWriter.history c.args.defaults.now c.args.lines.now (g.I.Read.remaining c.args.input.now))
+
+pub returns-in_err-unread-in-Ok-eq0-clause-first : goal.returns-in_err-unread-in-Ok-eq0-clause-first
+returns-in_err-unread-in-Ok-eq0-clause-first g c =
+    let kind = g.T.PacketWriter.kind in
+    let history = g.T.PacketWriter.history in
+    let d = c.args.defaults.now in
+    let (got, consumed, fed) = c.loop.invariant in
+    on_err c.from_residual-in_err-unread-in-Ok-eq0.result
+    (first_taken kind history d c.args.lines.now c.take_text_end.new.lines _ _ got consumed
+    (fed_some kind history d c.args.lines.now c.loop.lines c.take_text_end.new.lines got c.loop.buffers.waiting.items fed
+    c.in_err-unread-in-Ok-eq0.ensures.kept))
+
+pub returns-in_err-feed-in-Ok-clause-first : goal.returns-in_err-feed-in-Ok-clause-first
+returns-in_err-feed-in-Ok-clause-first g c =
+    let kind = g.T.PacketWriter.kind in
+    let history = g.T.PacketWriter.history in
+    let d = c.args.defaults.now in
+    let (got, consumed, fed) = c.loop.invariant in
+    on_err c.from_residual-in_err-feed-in-Ok.result
+    (first_taken kind history d c.args.lines.now c.feed.new.lines _ _ _ (consumes_more _ _ _ got _ consumed c.in-Ok.ensures.bytes.0)
+    (fed_then_some kind history d c.args.lines.now c.loop.lines c.feed.new.lines got _ c.loop.buffers.waiting.items fed
+    c.in_err-feed-in-Ok.ensures.some))
+
+pub returns-in-Err-clause-first : goal.returns-in-Err-clause-first
+returns-in-Err-clause-first g c =
+    let kind = g.T.PacketWriter.kind in
+    let history = g.T.PacketWriter.history in
+    let d = c.args.defaults.now in
+    let (got, consumed, fed) = c.loop.invariant in
+    first_taken kind history d c.args.lines.now c.loop.lines _ _ got consumed
+    (fed_some kind history d c.args.lines.now c.loop.lines c.loop.lines got c.loop.buffers.waiting.items fed (takes_none kind history c.loop.lines))
+
+pub returns-in_err-keep_pace-clause-first : goal.returns-in_err-keep_pace-clause-first
+returns-in_err-keep_pace-clause-first g c =
+    let kind = g.T.PacketWriter.kind in
+    let history = g.T.PacketWriter.history in
+    let d = c.args.defaults.now in
+    let (got, consumed, fed) = c.loop.invariant in
+    on_err c.from_residual-in_err-keep_pace.result
+    (first_taken kind history d c.args.lines.now c.keep_pace.new.lines _ _ _ (consumes_more _ _ _ got _ consumed c.in-Ok.ensures.bytes.0)
+    (fed_some kind history d c.args.lines.now c.feed.new.lines c.keep_pace.new.lines _ _
+    (fed_more kind history d c.args.lines.now c.loop.lines c.feed.new.lines got _ c.loop.buffers.waiting.items _ fed c.in_ok-feed-in-Ok.ensures.all)
+    c.keep_pace.ensures))
+
+pub returns-clause-first : goal.returns-clause-first
+returns-clause-first g c =
+    let kind = g.T.PacketWriter.kind in
+    let history = g.T.PacketWriter.history in
+    let d = c.args.defaults.now in
+    let (got, consumed, fed) = c.loop.invariant in
+    first_taken kind history d c.args.lines.now c.loop.lines _ _ got consumed
+    (fed_some kind history d c.args.lines.now c.loop.lines c.loop.lines got c.loop.buffers.waiting.items fed (takes_none kind history c.loop.lines))

@@ -1,5 +1,6 @@
 //! Calls whose requests for memory are refused in turn, and how many requests a call makes.
 
+use super::sending::{CountingSink, make_counter};
 use cadence::client::{ClientSettings, StatsdClient};
 use cadence::decimal::Decimal;
 use cadence::prelude::*;
@@ -7,16 +8,18 @@ use cadence::schedule::{Call, CallOption, CallValue};
 use cadence::sinks::{MetricSink, NopMetricSink};
 use cadence::types::{ErrorKind, Metric, MetricError, MetricResult, SinkError};
 use std::alloc::{AllocError, Allocator, Global};
+use std::sync::Arc;
+use std::sync::atomic::{AtomicU64, Ordering};
 use std::test::Fail;
 use std::time::Duration;
 use test_tools::{RefusingAllocator, each_refused};
 
-// The client of these tests, whose sink takes every line and does nothing.
-type Client = StatsdClient<RefusingAllocator<Global>, NopMetricSink>;
+// The client of these tests, whose sink takes every line and counts its calls.
+type Client = StatsdClient<RefusingAllocator<Global>, CountingSink>;
 
 // Makes a client with default tags and a container. That takes eight requests for memory.
-fn make_client(heap: &RefusingAllocator<Global>) -> MetricResult<Client> {
-    StatsdClient::builder(heap.clone()?, "p", NopMetricSink)
+fn make_client(heap: &RefusingAllocator<Global>, calls: Arc<AtomicU64>) -> MetricResult<Client> {
+    StatsdClient::builder(heap.clone()?, "p", CountingSink { calls })
         .with_tag("a", "b")
         .with_tag_value("c")
         .with_container_id("id")
@@ -32,14 +35,23 @@ fn is_made<T: Drop>(answer: MetricResult<T>) -> Result<bool, Fail> {
     }
 }
 
-// Returns whether a metric was sent, which must have this line. It may only be refused because memory runs out.
-fn is_line<M: Metric + Drop>(sent: MetricResult<M>, line: &str) -> Result<bool, Fail> {
+// Returns whether a metric was sent, which must have this line. It may only be refused because memory runs out. The
+// first call of a client calls the sink once if it is sent, and not at all if it is refused.
+fn is_line<M: Metric + Drop>(
+    client: &Client,
+    sent: MetricResult<M>,
+    line: &str,
+) -> Result<bool, Fail> {
     if let Ok(metric) = &sent {
         if metric.as_metric_str() != line {
             return Err(Fail::new("another line"));
         }
     }
-    is_made(sent)
+    let is_sent = is_made(sent)?;
+    if client.sink().calls.load(Ordering::SeqCst) != u64::from(is_sent) {
+        return Err(Fail::new("another number of calls of the sink"));
+    }
+    Ok(is_sent)
 }
 
 // Makes a plain call, or one with a tag of its own. Returns whether there was memory for it. One kind is enough,
@@ -47,14 +59,18 @@ fn is_line<M: Metric + Drop>(sent: MetricResult<M>, line: &str) -> Result<bool, 
 fn sends(client: &Client, with_tag: bool) -> Result<bool, Fail> {
     if with_tag {
         let call = client.gauge_with_tags("k", 8u64).with_tag("d", "e");
-        return is_line(call.try_send(), "p.k:8|g|#a:b,c,d:e|c:id");
+        return is_line(client, call.try_send(), "p.k:8|g|#a:b,c,d:e|c:id");
     }
-    is_line(client.count("k", 3i64), "p.k:3|c|#a:b,c|c:id")
+    is_line(client, client.count("k", 3i64), "p.k:3|c|#a:b,c|c:id")
 }
 
 // Makes a client and a call. Returns whether there was memory for both.
-fn makes_client_and_sends(heap: &RefusingAllocator<Global>, with_tag: bool) -> Result<bool, Fail> {
-    match make_client(heap) {
+fn makes_client_and_sends(
+    alloc: Global,
+    heap: &RefusingAllocator<Global>,
+    with_tag: bool,
+) -> Result<bool, Fail> {
+    match make_client(heap, make_counter(alloc)?) {
         Ok(client) => sends(&client, with_tag),
         Err(error) => is_made::<Client>(Err(error)),
     }
@@ -63,7 +79,8 @@ fn makes_client_and_sends(heap: &RefusingAllocator<Global>, with_tag: bool) -> R
 #[test]
 fn a_call_is_sent_or_refused(rt: HostRuntime) -> Result<(), Fail> {
     for with_tag in [false, true] {
-        let granted = each_refused(rt.alloc(), |heap| makes_client_and_sends(&heap, with_tag))?;
+        let alloc = rt.alloc();
+        let granted = each_refused(alloc, |heap| makes_client_and_sends(alloc, &heap, with_tag))?;
         assert_eq!(rt; granted, Some(9), "eight for the client, and the line");
     }
     Ok(())
@@ -87,6 +104,7 @@ fn sends_long_line(client: &Client, tag: &str) -> Result<bool, Fail> {
     let rate = Decimal::new(5, 1)?;
     let call = client.incr_with_tags("k").with_sampling_rate(rate);
     is_line(
+        client,
         call.with_tag("d", tag)
             .with_tag_value(tag)
             .with_timestamp(7)
@@ -97,14 +115,14 @@ fn sends_long_line(client: &Client, tag: &str) -> Result<bool, Fail> {
 
 #[test]
 fn a_line_that_grows_is_sent_or_refused(rt: HostRuntime) -> Result<(), Fail> {
-    let tag = "f".repeat(rt.alloc(), 60)?;
-    let granted: Result<Option<u64>, Fail> = each_refused(
-        rt.alloc(),
-        |heap| match make_client(&heap) {
+    let alloc = rt.alloc();
+    let tag = "f".repeat(alloc, 60)?;
+    let granted: Result<Option<u64>, Fail> = each_refused(alloc, |heap| {
+        match make_client(&heap, make_counter(alloc)?) {
             Ok(client) => sends_long_line(&client, &tag),
             Err(_) => Ok(false),
-        },
-    );
+        }
+    });
     assert_eq!(rt;
         granted?,
         Some(10),

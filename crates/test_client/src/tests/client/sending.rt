@@ -35,13 +35,13 @@ impl MetricSink for RefusingSink {
         Err(SinkError::NothingWritten)
     }
 
-    ghost flush_may_succeed = { λ _. tt };
+    ghost flush_may_succeed = { λ _ _. tt };
 }
 
 // A sink that takes each line, and counts its calls. A flush counts as 100 calls.
 #[derive(Drop)]
-struct CountingSink {
-    calls: Arc<AtomicU64>,
+pub(super) struct CountingSink {
+    pub(super) calls: Arc<AtomicU64>,
 }
 
 impl MetricSink for CountingSink {
@@ -59,7 +59,7 @@ impl MetricSink for CountingSink {
         Ok(())
     }
 
-    ghost flush_may_succeed = { λ _. tt };
+    ghost flush_may_succeed = { λ _ _. tt };
 }
 
 // A handler that adds up the weights of its errors.
@@ -75,7 +75,7 @@ impl ErrorHandler for WeighingHandler {
 }
 
 // Makes a counter that is 0.
-fn make_counter(alloc: Global) -> Result<Arc<AtomicU64>, AllocError> {
+pub(super) fn make_counter(alloc: Global) -> Result<Arc<AtomicU64>, AllocError> {
     let zero = Arc::new(alloc, AtomicU64::new(0))?;
     Ok(zero)
 }

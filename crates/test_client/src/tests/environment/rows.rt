@@ -1,6 +1,7 @@
 //! Rows of variables, each with the destination and the tags that they say, or with the variable that can't be used.
 use super::given::{Given, Set};
 use cadence::line::lend_tag;
+use cadence::types::MetricError;
 use cadence_agent::{Destination, Environment, EnvironmentError, Variable};
 use std::alloc::Global;
 use std::test::Fail;
@@ -230,7 +231,7 @@ const LONG: &[u8] =
 const MALFORMED: &[(Variable, &str, &[&[u8]])] = &[
     (
         Variable::Url,
-        "DD_DOGSTATSD_URL of the environment wants udp://HOST, udp://HOST:PORT or unix:///PATH, as in DD_DOGSTATSD_URL=udp://127.0.0.1:8125",
+        "DD_DOGSTATSD_URL wants udp://HOST, udp://HOST:PORT or unix:///PATH",
         &[
             b"a",
             b"udp",
@@ -275,47 +276,47 @@ const MALFORMED: &[(Variable, &str, &[&[u8]])] = &[
     ),
     (
         Variable::AgentHost,
-        "DD_AGENT_HOST of the environment wants a host, as in DD_AGENT_HOST=127.0.0.1",
+        "DD_AGENT_HOST wants a host, as in DD_AGENT_HOST=127.0.0.1",
         HOSTS,
     ),
     (
         Variable::StatsdHost,
-        "STATSD_HOST of the environment wants a host, as in STATSD_HOST=127.0.0.1",
+        "STATSD_HOST wants a host, as in STATSD_HOST=127.0.0.1",
         HOSTS,
     ),
     (
         Variable::AgentPort,
-        "DD_DOGSTATSD_PORT of the environment wants a port, as in DD_DOGSTATSD_PORT=8125",
+        "DD_DOGSTATSD_PORT wants a port, as in DD_DOGSTATSD_PORT=8125",
         PORTS,
     ),
     (
         Variable::StatsdPort,
-        "STATSD_PORT of the environment wants a port, as in STATSD_PORT=8125",
+        "STATSD_PORT wants a port, as in STATSD_PORT=8125",
         PORTS,
     ),
     (
         Variable::Env,
-        "DD_ENV of the environment wants a text without commas, bars and newlines, as in DD_ENV=prod",
+        "DD_ENV wants no commas, bars or newlines, as in DD_ENV=prod",
         MARKED,
     ),
     (
         Variable::Service,
-        "DD_SERVICE of the environment wants a text without commas, bars and newlines, as in DD_SERVICE=shop",
+        "DD_SERVICE wants no commas, bars or newlines, as in DD_SERVICE=shop",
         MARKED,
     ),
     (
         Variable::Version,
-        "DD_VERSION of the environment wants a text without commas, bars and newlines, as in DD_VERSION=1.2.3",
+        "DD_VERSION wants no commas, bars or newlines, as in DD_VERSION=1.2.3",
         MARKED,
     ),
     (
         Variable::EntityId,
-        "DD_ENTITY_ID of the environment wants a text without commas, bars and newlines, as in DD_ENTITY_ID=9f2c",
+        "DD_ENTITY_ID wants no commas, bars or newlines, as in DD_ENTITY_ID=9f2c",
         MARKED,
     ),
     (
         Variable::Tags,
-        "DD_TAGS of the environment wants tags K:V or V without bars and newlines, as in DD_TAGS=team:shop,beta",
+        "DD_TAGS wants tags K:V or V, no bars or newlines, as in DD_TAGS=a:b,c",
         &[
             b"|", b"a|b", b"a,b|", b"a\nb", b"a:b,\n", b":v", b"a, :v", b"a :v", b":", b"\xff",
         ],
@@ -355,6 +356,9 @@ fn each_malformed_text_is_an_error_of_its_variable(rt: HostRuntime) -> Result<()
             };
             assert_eq!(rt; error, EnvironmentError::Malformed(*variable));
             assert_eq!(rt; format!(in rt.alloc(); "{error}")?.as_str(), *message);
+            // a description holds 72 bytes, and cuts off what is longer
+            let described = MetricError::from(error);
+            assert_eq!(rt; format!(in rt.alloc(); "{described}")?.as_str(), *message);
         }
     }
     Ok(())

@@ -71,7 +71,7 @@ impl<R: Wait + Drop> MetricSink for CountedSink<R> {
         self.stage.count(4)
     }
 
-    ghost flush_may_succeed = { λ _. tt };
+    ghost flush_may_succeed = { λ _ _. tt };
 }
 
 /// What a test has of a counted sink: its stage, and the lines that it took.

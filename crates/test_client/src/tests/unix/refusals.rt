@@ -8,7 +8,7 @@ use cadence_agent::{
     PathError, UnixSocket, buffered_unix_client, check_path, flushing_unix_client,
     queued_unix_client, unix_client,
 };
-use cadence_sinks::PathSocket;
+use cadence_sinks::{MAX_PACKET, PathSocket};
 use std::alloc::Global;
 use std::io;
 use std::net::Net;
@@ -96,6 +96,34 @@ fn the_longest_path_is_a_path(rt: HostRuntime) -> Result<(), Fail> {
         return Err(Fail::new("an error of another kind"));
     }
     Ok(())
+}
+
+// Asserts that a client is not made because a datagram can't hold the packets of its buffer.
+fn assert_too_large<C: Drop>(alloc: Global, made: MetricResult<C>) -> Result<(), Fail> {
+    let Err(error) = made else {
+        return Err(Fail::new("a client is made"));
+    };
+    let says = format!(in alloc; "{error}")?;
+    let text = "the capacity is more than a datagram holds, 65507 bytes";
+    if error.kind() != ErrorKind::InvalidInput || says.as_str() != text {
+        return Err(Fail::new(format_args!("another error: {error}")));
+    }
+    Ok(())
+}
+
+#[test]
+fn a_buffer_that_no_datagram_holds_is_refused(rt: HostRuntime) -> Result<(), Fail> {
+    let (alloc, hour, large) = (rt.alloc(), Duration::from_secs(3600), MAX_PACKET + 1);
+    let _largest = buffered_unix_client(&rt, alloc, "p", LONGEST, MAX_PACKET)?;
+    assert_too_large(alloc, buffered_unix_client(&rt, alloc, "p", LONGEST, large))?;
+    assert_too_large(
+        alloc,
+        queued_unix_client(&rt, alloc, "p", LONGEST, large, None),
+    )?;
+    assert_too_large(
+        alloc,
+        flushing_unix_client(&rt, alloc, "p", LONGEST, large, None, hour),
+    )
 }
 
 // Returns whether there was memory for each of the four clients and for a line.

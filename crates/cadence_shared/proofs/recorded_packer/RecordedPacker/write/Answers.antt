@@ -3,10 +3,10 @@ use Rattle.std.specs.Option.{ok_or}
 use Rattle.cadence_shared.proofs.PackerCut.{cut_writes, cut_refuses}
 use Rattle.cadence_shared.proofs.recorded_packer.RecordedPacker.write.Goals as goal
 
-pub invariant_of-self-in_default-clause-cut : goal.invariant_of-self-in_default-clause-cut
-invariant_of-self-in_default-clause-cut g c =
+pub invariant_of-self-in-None-clause-cut : goal.invariant_of-self-in-None-clause-cut
+invariant_of-self-in-None-clause-cut g c =
     let now = c.args.self.now in
-    let wrote = c.write-taken in
+    let wrote = c.write in
     let answer = ok_or wrote.result wrote.new.fault in
     let is : answer ≡ Err wrote.new.fault = search rules in
     cut_refuses g.W.PacketWriter.kind g.W.PacketWriter.history now.lines wrote.new.self now.accepted.items c.args.line.now answer
@@ -15,8 +15,8 @@ invariant_of-self-in_default-clause-cut g c =
 pub invariant_of-self-clause-cut : goal.invariant_of-self-clause-cut
 invariant_of-self-clause-cut g c =
     let now = c.args.self.now in
-    let wrote = c.write-taken in
+    let wrote = c.write in
     let answer = ok_or wrote.result wrote.new.fault in
-    let is : answer ≡ Ok c.in-Some.n = search rules in
+    let is : answer ≡ Ok c.in-Some.bytes = search rules in
     rw c.note.ensures (cut_writes g.W.PacketWriter.kind g.W.PacketWriter.history now.lines wrote.new.self now.accepted.items c.args.line.now
-    answer wrote.ensures.writes wrote.ensures.offers c.in-Some.n is now.cut)
+    answer wrote.ensures.writes wrote.ensures.offers c.in-Some.bytes is now.cut)

@@ -1,5 +1,5 @@
 use Rattle.cadence.specs.Sending.{IsMadeFrom}
-use Rattle.cadence.proofs.SendingLemmas.{has_line, sends_pending}
+use Rattle.cadence.proofs.SendingLemmas.{has_sent_call, sends_pending}
 use Rattle.cadence.proofs.client.builder.MetricBuilder.try_send.Goals as goal
 
 pub returns-in-Ok-clause-answers : goal.returns-in-Ok-clause-answers
@@ -11,5 +11,5 @@ returns-in-Ok-clause-answers g c =
 
 pub returns-in-Ok-clause-line : goal.returns-in-Ok-clause-line
 returns-in-Ok-clause-line g c =
-    has_line (g.C.MetricBackend.line_may_get c.args.self.client.now) (IsMadeFrom g.T.From.from_gives) c.args.self.draft c.send_line.result
+    has_sent_call (g.C.MetricBackend.line_may_get c.args.self.client.now) (IsMadeFrom g.T.From.from_gives) c.args.self.draft c.send_line.result
     (returns-in-Ok-clause-answers g c).is

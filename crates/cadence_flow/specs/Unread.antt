@@ -1,0 +1,11 @@
+-- What contracts see of a socket's answer that wasn't counted yet.
+use Rattle.std.specs.Prelude.{ℕ, Option}
+use Rattle.cadence_flow.specs.declared.stats.Unread.{Unread}
+
+-- how many bytes the socket took, or none if it refused the packet
+abbrev pub taken_of : Unread → Option ℕ
+taken_of a = a.taken
+
+-- the length of the packet
+abbrev pub len_of : Unread → ℕ
+len_of a = a.len.value

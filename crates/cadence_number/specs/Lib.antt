@@ -1,0 +1,4 @@
+pub mod Chances
+pub mod Duration
+pub mod Printed
+pub mod Trimmed

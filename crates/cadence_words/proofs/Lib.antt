@@ -1,0 +1,2 @@
+pub mod WordByWord
+pub mod WordCuts

@@ -1,0 +1,4 @@
+pub mod Asked
+pub mod Finds
+pub mod Lines
+pub mod TagWords

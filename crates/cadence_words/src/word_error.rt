@@ -1,0 +1,59 @@
+//! Why words can't be read.
+use cadence_cli::ReadError;
+use cadence_text::line::MetricType;
+use std::fmt;
+
+/// The part of a line that can't be read. Its text says what the part has to be.
+#[derive(Clone, Copy, Debug, PartialEq, Eq)]
+pub enum Part {
+    /// The line is not UTF-8.
+    Text,
+    /// The line has fewer than three words.
+    Words,
+    /// The kind is not one that a metric has.
+    Kind,
+    /// The name is empty or has a separator.
+    Name,
+    /// The value is not one that a metric of this kind has.
+    Value(MetricType),
+    /// A tag is empty, or has a separator that a tag can't have.
+    Tag,
+    /// The metric's line is longer than a datagram.
+    Length,
+}
+
+// Returns what the value of a metric of this kind has to be.
+fn wanted_value(kind: MetricType) -> &'static str {
+    match kind {
+        MetricType::Counter => "VALUE of c is a whole number, as in `c visits 1`",
+        MetricType::Timer => {
+            "VALUE of ms is whole milliseconds, or durations of whole milliseconds, as in `ms wait 12,1.25s`"
+        }
+        MetricType::Gauge => "VALUE of g is a number, as in `g load 0.75`",
+        MetricType::Meter => "VALUE of m is a whole number from 0, as in `m requests 1`",
+        MetricType::Histogram => {
+            "VALUE of h is numbers, or durations, which are sent in nanoseconds, as in `h size 0.75,12`"
+        }
+        MetricType::Set => "VALUE of s is a whole number and no name, as in `s users 42`",
+        MetricType::Distribution => "VALUE of d is numbers, as in `d size 0.75,12`",
+    }
+}
+
+impl fmt::Display for Part {
+    fn fmt<W: fmt::Write>(&self, f: &mut fmt::Formatter<W>) -> fmt::Result {
+        f.write_str(match self {
+            Part::Text => "not UTF-8: wants text, as in `c visits 1 page:home`",
+            Part::Words => "wants KIND NAME VALUE [TAG ..], as in `c visits 1 page:home`",
+            Part::Kind => "KIND is c, ms, g, m, h, s, d or the name of one, as in `count visits 1`",
+            Part::Name => "NAME has no colon, comma, bar or newline, as in `c site.visits 1`",
+            Part::Value(kind) => wanted_value(*kind),
+            Part::Tag => {
+                "TAG is K:V or V, and has no comma, bar or second colon, as in `c visits 1 page:home`"
+            }
+            Part::Length => "the metric is longer than a datagram can be",
+        })
+    }
+}
+
+/// Why words are not read: a part of them is unreadable, or memory ran out.
+pub type WordError = ReadError<Part>;

@@ -1,0 +1,227 @@
+//! The words of the command line: the options, which may stand before and after the other words.
+use cadence_cli::ReadError;
+use cadence_send::{OptionError, Options, Setting};
+use clap::{Arg, ArgAction, ArgMatches, Command, Error};
+use std::alloc::{AllocError, AllocFailed, Global};
+
+/// The version of this program.
+pub const VERSION: &str = "0.7.0";
+
+const USAGE: &str = "statsd_send [OPTIONS] KIND NAME VALUE [TAG ..]   sends one metric
+       statsd_send [OPTIONS]   reads one metric a line, and packs them";
+
+const NOTES: &str =
+    "KIND   c, ms, g, m, h, s, d, or count, time, gauge, meter, histogram, set, distribution
+VALUE  c, s   a whole number; of s, no name
+       m      a whole number from 0
+       ms     whole milliseconds, or a duration of them, as 1250ms or 1.25s
+       g, d   a number, as 1 or 0.75
+       h      a number, or a duration, which is sent in nanoseconds: 1.5ms is 1500000
+       ms, h and d take several, as 12,250, which a DogStatsD server of version 1.1 reads
+       g with a minus is a decrement to most Statsd servers; to DogStatsD it is the value;
+       a plus is never sent: g load +3 is the value 3
+       Numbers may also be as tools print them: .5, +1, 1e+06; not those of durations
+TAG    K:V or V; with --tag also one that begins with a dash
+
+Status: 0 sent, 1 input or sending failed, 2 words or lines that can't be read, 3 memory.
+As in: tail -f access.log | sed -un 's/.* \\([0-9]*\\) [0-9]*$/c hits 1 code:\\1/p' | statsd_send --flush-every 0
+";
+
+const DROP: &str = "drops a packet for which a Unix socket has no room, in place of waiting";
+
+const STRICT: &str = "refuses tags of the environment that have a second colon";
+
+const TARGET: &str = "Target";
+
+const METRICS: &str = "Each metric";
+
+const PACKETS: &str = "Packets";
+
+const TO: &str = "where to, or unix:PATH [by default DD_DOGSTATSD_URL of the environment,
+else DD_AGENT_HOST and DD_DOGSTATSD_PORT, else STATSD_HOST and
+STATSD_PORT, else 127.0.0.1:8125]";
+
+const PREFIX: &str = "begins each name, with a dot after it";
+
+const TAG: &str = "adds a tag, after those of DD_ENV, DD_SERVICE, DD_VERSION,
+DD_TAGS and DD_ENTITY_ID";
+
+const CONTAINER: &str = "adds the id of a container";
+
+const TIME: &str = "adds a time, in seconds since 1970";
+
+const RATE: &str = "says that the lines are a sample, so that the server multiplies
+them; it leaves out no line";
+
+const SAMPLE: &str = "sends each line with this chance, as 0.1, and says so as --rate
+does; the other lines are left out";
+
+const CAPACITY: &str = "how much a packet holds [by default 512]";
+
+const FLUSH_EVERY: &str = "sends buffered lines after each MS milliseconds, also while no
+input comes; with 0 no line waits; without this option lines wait
+until a packet is full or the input ends";
+
+// Returns the argument of an option that has a value. It may be there several times.
+fn option<'a>(
+    alloc: Global,
+    name: &'a str,
+    value: &'a str,
+    help: &'a str,
+    section: &'a str,
+) -> Arg<'a> {
+    Arg::new(alloc, name)
+        .long(name)
+        .action(ArgAction::Append)
+        .value_name(value)
+        .help(help)
+        .help_heading(section)
+}
+
+// Returns the argument of an option without a value. It may be there several times.
+fn flag<'a>(
+    alloc: Global,
+    name: &'a str,
+    help: &'a str,
+    section: &'a str,
+) -> Result<Arg<'a>, AllocError> {
+    Arg::new(alloc, name)
+        .long(name)
+        .action(ArgAction::SetTrue)
+        .help(help)
+        .help_heading(section)
+        .overrides_with(name)
+}
+
+// Returns what the command line may have.
+// It lives as long as the words that it reads, because the checker takes no longer lifetime for a shorter one here.
+fn command<'a>(alloc: Global) -> Result<Command<'a>, AllocError> {
+    let words = Arg::new(alloc, "words").num_args(0..).hide(true);
+    let sample = option(alloc, "sample", "CHANCE", SAMPLE, METRICS).conflicts_with("rate")?;
+    Command::new(alloc, "statsd_send")
+        .version(VERSION)
+        .override_usage(USAGE)
+        .after_help(NOTES)
+        .arg(words)?
+        .arg(option(alloc, "to", "HOST:PORT", TO, TARGET))?
+        .arg(option(alloc, "prefix", "NAME", PREFIX, METRICS))?
+        .arg(option(alloc, "tag", "TAG", TAG, METRICS))?
+        .arg(option(alloc, "container", "ID", CONTAINER, METRICS))?
+        .arg(option(alloc, "time", "SECONDS", TIME, METRICS))?
+        .arg(option(alloc, "rate", "NUMBER", RATE, METRICS))?
+        .arg(sample)?
+        .arg(option(alloc, "capacity", "BYTES", CAPACITY, PACKETS))?
+        .arg(option(alloc, "flush-every", "MS", FLUSH_EVERY, PACKETS))?
+        .arg(flag(alloc, "drop", DROP, TARGET)?)?
+        .arg(flag(alloc, "print", "prints the packets, and sends none", TARGET)?)?
+        .arg(flag(alloc, "strict", STRICT, METRICS)?)
+}
+
+/// What the command line asks for.
+#[derive(Drop)]
+pub struct Arguments<'a> {
+    /// The options.
+    pub options: Options<'a, Global>,
+    /// The words that are no options.
+    pub words: Vec<&'a str>,
+}
+
+/// Why the command line asks for no metrics.
+#[derive(Drop)]
+pub enum ArgumentError<'a> {
+    /// The words ask for help or for the version, or an option is not one of this program.
+    Refused(Error),
+    /// An option can't have its value.
+    Value(OptionError<'a>),
+    /// Memory ran out.
+    OutOfMemory,
+}
+
+impl From<Error> for ArgumentError<'_> {
+    fn from(error: Error) -> Self {
+        if error.kind() == clap::error::ErrorKind::OutOfMemory {
+            return ArgumentError::OutOfMemory;
+        }
+        ArgumentError::Refused(error)
+    }
+}
+
+impl From<AllocError> for ArgumentError<'_> {
+    fn from(_error: AllocError) -> Self {
+        ArgumentError::OutOfMemory
+    }
+}
+
+impl<T: Drop> From<AllocFailed<T>> for ArgumentError<'_> {
+    fn from(_error: AllocFailed<T>) -> Self {
+        ArgumentError::OutOfMemory
+    }
+}
+
+impl<'a> From<ReadError<OptionError<'a>>> for ArgumentError<'a> {
+    fn from(error: ReadError<OptionError<'a>>) -> Self {
+        match error {
+            ReadError::Unreadable(why) => ArgumentError::Value(why),
+            ReadError::OutOfMemory => ArgumentError::OutOfMemory,
+        }
+    }
+}
+
+/// Returns a word with a space before it if the word begins with a space, or with a dash and a digit or a dot. So a number
+/// below zero, as `-.5` or `-1,2`, is not taken for an option.
+pub fn guarded(alloc: Global, word: String) -> Result<String, AllocError> {
+    let is_guarded = match word.as_bytes() {
+        [b' ', ..] => true,
+        [b'-', b'0'..=b'9' | b'.', ..] => true,
+        _ => false,
+    };
+    if !is_guarded {
+        return Ok(word);
+    }
+    format!(in alloc; " {word}")
+}
+
+// Returns the word that `guarded` returned this for.
+fn unguarded(word: &str) -> &str {
+    word.strip_prefix(' ').unwrap_or(word)
+}
+
+// Sets the options that the matches have.
+fn set_options<'a>(
+    options: &mut Options<'a, Global>,
+    matches: &ArgMatches<'a>,
+) -> Result<(), ReadError<OptionError<'a>>> {
+    for setting in Setting::ALL {
+        let Some(values) = matches.get_strs(setting.name()) else {
+            continue;
+        };
+        for value in values {
+            options.set(setting, unguarded(value))?;
+        }
+    }
+    options.is_dropping = matches.get_flag("drop");
+    options.is_printing = matches.get_flag("print");
+    options.is_strict = matches.get_flag("strict");
+    Ok(())
+}
+
+/// Reads the command line: the name of the program, and then its words, each of them guarded.
+///
+/// # Errors
+/// `Refused` if the words ask for help or for the version, or have an option that this program lacks; `Value` if an
+/// option can't have its value; and `OutOfMemory`.
+pub fn read_arguments<'a>(
+    alloc: Global,
+    given: &'a [String],
+) -> Result<Arguments<'a>, ArgumentError<'a>> {
+    let matches = command(alloc)?.try_get_matches_from(given)?;
+    let mut options = Options::new(alloc);
+    set_options(&mut options, &matches)?;
+    let mut words = Vec::new(alloc);
+    if let Some(found) = matches.get_strs("words") {
+        for word in found {
+            words.push(unguarded(word))?;
+        }
+    }
+    Ok(Arguments { options, words })
+}

@@ -1,0 +1,176 @@
+//! The words of the command line.
+use cadence_environment::read_port;
+use cadence_listen::WatchFormat;
+use clap::error::ErrorKind;
+use clap::{Arg, ArgAction, Command, Error, value_parser};
+use std::alloc::{AllocError, Global};
+use std::fmt;
+
+const USAGE: &str = "statsd_watch [OPTIONS] [HOST:PORT | PORT | unix:PATH]";
+
+const ABOUT: &str =
+    "Receives packets, by default at 127.0.0.1:8125, and prints each metric as it comes.";
+
+const NOTES: &str =
+    "For a line that can't be read, its packet, its line, the first byte that can't be read and what is
+wanted there are written to the standard error, and the other lines are printed.
+
+Status: 0 all was read, 1 the socket or the output failed, 2 words or lines that can't be read, 3 memory.
+As in: statsd_watch --count 1 127.0.0.1:8125";
+
+/// Where packets are received.
+#[derive(Clone, Copy, Debug)]
+pub enum Place<'a> {
+    /// A host without brackets, and a port.
+    Host(&'a str, u16),
+    /// The path of a Unix datagram socket.
+    Path(&'a str),
+}
+
+impl fmt::Display for Place<'_> {
+    fn fmt<W: fmt::Write>(&self, f: &mut fmt::Formatter<W>) -> fmt::Result {
+        match self {
+            Place::Host(host, port) => write!(f, "{host}:{port}"),
+            Place::Path(path) => write!(f, "unix:{path}"),
+        }
+    }
+}
+
+/// What the command line asks for.
+#[derive(Drop)]
+pub struct Arguments<'a> {
+    /// Where packets are received.
+    pub place: Place<'a>,
+    /// How many packets are received, if there is an end.
+    pub count: Option<u64>,
+    /// For how many seconds packets are received, if there is an end.
+    pub seconds: Option<u64>,
+    /// Whether the time at which a packet came is printed.
+    pub has_time: bool,
+    /// Whether the sender of a packet is printed.
+    pub has_sender: bool,
+    /// How the metrics are printed.
+    pub format: WatchFormat,
+}
+
+/// Why the command line can't be followed.
+#[derive(Drop)]
+pub enum ArgumentError<'a> {
+    /// The words ask for help or for the version, or are not those of this program.
+    Refused(Error),
+    /// This is no place.
+    Place(&'a str),
+    /// Memory ran out.
+    OutOfMemory,
+}
+
+impl From<Error> for ArgumentError<'_> {
+    fn from(error: Error) -> Self {
+        if error.kind() == ErrorKind::OutOfMemory {
+            return ArgumentError::OutOfMemory;
+        }
+        ArgumentError::Refused(error)
+    }
+}
+
+impl From<AllocError> for ArgumentError<'_> {
+    fn from(_error: AllocError) -> Self {
+        ArgumentError::OutOfMemory
+    }
+}
+
+// Returns an option without a value.
+fn flag<'a>(alloc: Global, name: &'a str, help: &'a str) -> Arg<'a> {
+    Arg::new(alloc, name)
+        .long(name)
+        .action(ArgAction::SetTrue)
+        .help(help)
+}
+
+// Returns an option whose value is a whole number.
+fn number<'a>(alloc: Global, name: &'a str, value: &'a str, help: &'a str) -> Arg<'a> {
+    Arg::new(alloc, name)
+        .long(name)
+        .value_name(value)
+        .value_parser(value_parser!(u64))
+        .help(help)
+}
+
+// Returns what the command line may have.
+fn command<'a>(alloc: Global) -> Result<Command<'a>, AllocError> {
+    Command::new(alloc, "statsd_watch")
+        .version("0.7.0")
+        .about(ABOUT)
+        .override_usage(USAGE)
+        .after_help(NOTES)
+        .arg(Arg::new(alloc, "place").hide(true))?
+        .arg(number(alloc, "count", "N", "ends after N packets"))?
+        .arg(number(alloc, "for", "SECONDS", "ends after SECONDS seconds"))?
+        .arg(flag(
+            alloc,
+            "time",
+            "prints when the packet came, in seconds since 1970",
+        ))?
+        .arg(flag(alloc, "sender", "prints who sent the packet"))?
+        .arg(flag(
+            alloc,
+            "json",
+            "prints each metric as a JSON object in one line",
+        ))?
+        .arg(flag(
+            alloc,
+            "strict",
+            "prints no metric of a packet with a line that can't be read",
+        ))
+}
+
+// Reads HOST:PORT, PORT or unix:PATH.
+fn read_place(text: &str) -> Option<Place<'_>> {
+    if let Some(path) = text.strip_prefix("unix:") {
+        return if path.is_empty() {
+            None
+        } else {
+            Some(Place::Path(path))
+        };
+    }
+    if let Some(port) = read_port(text) {
+        return Some(Place::Host("127.0.0.1", port));
+    }
+    let (host, port) = text.rsplit_once(':')?;
+    let port = read_port(port)?;
+    let inner = match host.strip_prefix('[') {
+        Some(inner) => inner.strip_suffix(']')?,
+        None => host,
+    };
+    if inner.is_empty() {
+        return None;
+    }
+    Some(Place::Host(inner, port))
+}
+
+/// Reads the command line: the name of the program, and then its words.
+///
+/// # Errors
+/// `Refused` if the words ask for help or for the version, or are not those of this program; `Place` if the word that is
+/// no option is no place; and `OutOfMemory`.
+pub fn read_arguments<'a>(
+    alloc: Global,
+    words: &'a [String],
+) -> Result<Arguments<'a>, ArgumentError<'a>> {
+    let matches = command(alloc)?.try_get_matches_from(words)?;
+    let text = matches.get_str("place").unwrap_or("127.0.0.1:8125");
+    let Some(place) = read_place(text) else {
+        return Err(ArgumentError::Place(text));
+    };
+    Ok(Arguments {
+        place,
+        count: matches.get_one::<u64>("count"),
+        seconds: matches.get_one::<u64>("for"),
+        has_time: matches.get_flag("time"),
+        has_sender: matches.get_flag("sender"),
+        format: WatchFormat {
+            is_json: matches.get_flag("json"),
+            is_strict: matches.get_flag("strict"),
+        },
+    })
+}

@@ -1,0 +1,31 @@
+//! Every sink may be shared by threads, whatever the runtime.
+use super::moved_clock::Runtime;
+use cadence::sinks::{
+    BufferedSpyMetricSink, BufferedUdpMetricSink, BufferedUnixMetricSink, FlushingMetricSink,
+    NopMetricSink, QueuingMetricSink, SpyMetricSink, SpyReceiver, UdpMetricSink, UnixMetricSink,
+};
+use cadence_agent::{EnvironmentSink, QueuedEnvironmentSink, ReportingMetricSink, UnixSocket};
+
+// Compiles only for a type whose values may be sent to a thread and shared with one.
+fn require_shareable<T: Send + Sync>() {}
+
+fn require_shareable_sinks<R: Runtime>(_rt: &R) {
+    require_shareable::<NopMetricSink>();
+    require_shareable::<UdpMetricSink<R>>();
+    require_shareable::<BufferedUdpMetricSink<R>>();
+    require_shareable::<UnixMetricSink<UnixSocket, R>>();
+    require_shareable::<BufferedUnixMetricSink<UnixSocket, R>>();
+    require_shareable::<SpyMetricSink<R>>();
+    require_shareable::<BufferedSpyMetricSink<R>>();
+    require_shareable::<SpyReceiver<R>>();
+    require_shareable::<QueuingMetricSink<NopMetricSink, R>>();
+    require_shareable::<FlushingMetricSink<NopMetricSink, R>>();
+    require_shareable::<EnvironmentSink<R>>();
+    require_shareable::<QueuedEnvironmentSink<R>>();
+    require_shareable::<ReportingMetricSink<NopMetricSink, R>>();
+}
+
+#[test]
+fn each_sink_may_be_shared(rt: HostRuntime) {
+    require_shareable_sinks(&rt);
+}
