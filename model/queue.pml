@@ -1,4 +1,4 @@
-/* A model of the queue that threads share (shared_queue.rt and taker.rt of crates/cadence_shared/src). Callers offer
+/* A model of the queue that threads share (shared_queue.rt and taker.rt of crates/cadence_queue/src). Callers offer
    texts, and a worker takes several at once and hands them on one by one. The queue is stopped by a thread that then
    waits for the worker's end, or by the drop of its last handle. The queue uses the kit's Condvar, step by step, and a
    lock. The lock is a plain one, or, if KIT is 1, the kit's Mutex, step by step. README.md says what is checked, and
@@ -409,7 +409,7 @@ proctype Caller(byte me) {
 #endif
 }
 
-/* `QueuingMetricSink::stop_and_wait`: `SharedQueue::stop` and `WorkerEnd::wait`. */
+/* `QueuingMetricSink::stop_and_wait`: `SharedQueue::stop` and `Latch::wait`. */
 proctype Stopper() {
   LOCALS;
   LOCK(QUEUE);
@@ -569,9 +569,9 @@ finish:
 byte late;
 bool is_long;
 
-/* `Repeats::run`: `WorkerEnd::wait_within`, and then the work, unless the mark is set. If the clock can't be read, the
+/* `SharedWork::run`: `Latch::wait_within`, and then the work, unless the mark is set. If the clock can't be read, the
    time is over at once. */
-proctype Repeats() {
+proctype SharedWork() {
   LOCALS; bool is_over;
 again:
   LOCK(END);
@@ -596,7 +596,7 @@ progress_sleep:
   fi
 }
 
-/* The drop of a `Repeater`: `WorkerEnd::mark`, and the work once more. */
+/* The drop of a `Repeater`: `Latch::mark`, and the work once more. */
 proctype Owner() {
   LOCALS;
   LOCK(END);
@@ -610,7 +610,7 @@ proctype Owner() {
 init {
   atomic {
     if :: is_long = true :: is_long = false fi;
-    run Repeats();
+    run SharedWork();
     run Owner()
   };
   /* wait until each thread has ended */

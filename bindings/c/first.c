@@ -11,14 +11,16 @@ static void send_waiting(cadence_handle *client, int fd) {
     static uint8_t packet[65507];
     size_t length;
     uint32_t status;
-    while ((status = cadence_next(client, packet, sizeof packet, &length)) == CADENCE_OK || status == CADENCE_TOO_SMALL) {
+    while ((status = cadence_next(client, packet, sizeof packet, &length)) == CADENCE_OK
+           || status == CADENCE_TOO_SMALL) {
         if (status == CADENCE_OK && send(fd, packet, length, 0) < 0 && errno != EMSGSIZE) return;
         cadence_sent(client);
     }
 }
 
 int main(int argc, char **argv) {
-    const struct sockaddr_in to = { .sin_family = AF_INET, .sin_port = htons(8125), .sin_addr = { htonl(INADDR_LOOPBACK) } };
+    const struct in_addr here = { htonl(INADDR_LOOPBACK) };
+    const struct sockaddr_in to = { .sin_family = AF_INET, .sin_port = htons(8125), .sin_addr = here };
     const int fd = socket(AF_INET, SOCK_DGRAM, 0);
     if (connect(fd, (const struct sockaddr *)&to, sizeof to)) return 1;
 

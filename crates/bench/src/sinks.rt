@@ -70,7 +70,7 @@ pub fn emit_to_udp<R: Clock + Net + Wait + Clone + Drop>(
 /// Makes a queue over a sink. A queue of capacity 0 has no bound.
 pub fn make_queue<
     S: MetricSink + Send + Sync + 'static,
-    R: Wait + Threads + Clone + Drop + Send + Sync + 'static,
+    R: Wait + Clock + Threads + Clone + Drop + Send + Sync + 'static,
 >(rt: &R, alloc: Global, sink: S, capacity: usize) -> MetricResult<QueuingMetricSink<S, R>> {
     match capacity {
         0 => QueuingMetricSink::from(rt.clone()?, alloc, sink),

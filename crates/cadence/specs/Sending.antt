@@ -1,7 +1,7 @@
 -- What a builder of a metric stores, and what the calls that send a metric may return. A pending draft is the draft
 -- that a builder stores, or the error that it stores instead.
-use Rattle.std.specs.Prelude.{◌≡◌, ℕ, ◌⊎◌, List, [], Option, Some, None, Result, Ok, Err, IfOk, String, string_bytes}
-use Rattle.std.specs.Prelude.{Bool, true, false, IsTrue}
+use Rattle.std.specs.Prelude.{◌≡◌, ℕ, ◌⊎◌, List, [], Option, Some, None, Result, Ok, Err, IfOk, IfErr, IsErr, String}
+use Rattle.std.specs.Prelude.{Bool, IsTrue, string_bytes}
 use Rattle.std.specs.Option.{option_map}
 use Rattle.cadence_text.specs.declared.line.MetricType.{MetricType}
 use Rattle.cadence_errors.specs.declared.MetricError.{MetricError}
@@ -10,11 +10,11 @@ use Rattle.cadence_errors.specs.declared.SinkError.{SinkError}
 use Rattle.cadence_errors.specs.Errors.{IsInvalid, out_of_memory}
 use Rattle.cadence_text.specs.Draft.{Draft, draft_line, draft_of, with_tag_text}
 use Rattle.cadence_text.specs.Line.{line_of}
-use Rattle.cadence_text.specs.Metric.{Metric, Tag}
+use Rattle.cadence_text.specs.Metric.{Metric}
 use Rattle.cadence_value.specs.Number.{Number}
-use Rattle.cadence_schedule.specs.Call.{Choice, tagged, contained, timed, rated, MetricCall, metric_of_call, plain_call, with_choice}
-use Rattle.cadence_schedule.specs.Call.{allows_choice, numbers_if_allowed}
-use Rattle.cadence_schedule.specs.Settings.{Settings, FailsFor}
+use Rattle.cadence_settings.specs.Call.{Choice, tagged, contained, timed, rated, MetricCall, metric_of_call, plain_call, with_choice}
+use Rattle.cadence_settings.specs.Call.{allows_choice, numbers_if_allowed}
+use Rattle.cadence_settings.specs.Settings.{Settings, FailsFor}
 
 -- for each text, which results a sink may return for it
 abbrev pub SinkResults : Type 1
@@ -78,53 +78,21 @@ draft_with_choice d (contained c) = record d { container = Some c }
 draft_with_choice d (timed n) = record d { time = Some n }
 draft_with_choice d (rated r) = record d { rate = Some r }
 
--- An option that requests no memory changed the pending draft `old` to `new`: a draft has the option, and an error
--- stays.
-abbrev pub Chooses : Result Draft MetricError → Choice → Result Draft MetricError → Type 0
-Chooses (Err e) o new = new ≡ Err e
-Chooses (Ok d) o new = new ≡ Ok (draft_with_choice d o)
-
--- An option that requests no memory changed the pending draft `old` to `new`. A draft has the option if it is allowed
--- (`true`), and otherwise there is an invalid input. An error stays.
-abbrev pub ChoosesIf : Result Draft MetricError → Bool → Choice → Result Draft MetricError → Type 0
-ChoosesIf (Err e) allowed o new = new ≡ Err e
-ChoosesIf (Ok d) true o new = new ≡ Ok (draft_with_choice d o)
-ChoosesIf (Ok d) false o (Ok n) = ⊥
-ChoosesIf (Ok d) false o (Err e) = IsInvalid e
-
--- An option that requests memory changed the pending draft `old` to `new`. If the option is allowed (`true`), a draft
--- has the option or memory ran out, and otherwise there is an invalid input. An error stays.
-abbrev pub ChoosesOrFails : Result Draft MetricError → Bool → Choice → Result Draft MetricError → Type 0
-ChoosesOrFails (Err e) allowed o new = new ≡ Err e
-ChoosesOrFails (Ok d) allowed o (Ok n) = IsTrue allowed × (n ≡ draft_with_choice d o)
-ChoosesOrFails (Ok d) allowed o (Err e) = FailsFor allowed e
-
--- A tag was added to the pending draft, if the settings allow the tag.
-abbrev pub TagsOrFails : Settings → Result Draft MetricError → Tag → Result Draft MetricError → Type 0
-TagsOrFails settings old tag new = ChoosesOrFails old (allows_choice settings (tagged tag)) (tagged tag) new
-
--- `HasChosen`, `HasChosenIf` and `HasChosenOrFailed` are the facts `Chooses`, `ChoosesIf` and `ChoosesOrFails` as
--- records; in the last two, the settings say what is allowed. The contracts of a builder's calls name the records, so
--- that a proof about a chain of calls has one fact for each call and doesn't split it into cases.
-pub record HasChosen (old : Result Draft MetricError) (o : Choice) (new : Result Draft MetricError) : Type 0 where
-  pub is : Chooses old o new
-
-pub record HasChosenIf (settings : Settings) (old : Result Draft MetricError) (o : Choice) (new : Result Draft MetricError) : Type 0 where
-  pub is : ChoosesIf old (allows_choice settings o) o new
-
-pub record HasChosenOrFailed (settings : Settings) (old : Result Draft MetricError) (o : Choice) (new : Result Draft MetricError) : Type 0 where
-  pub is : ChoosesOrFails old (allows_choice settings o) o new
+-- An option changed the pending draft `old` to `new`. An error stays. A draft has the option if the settings allow it;
+-- otherwise there is an invalid input. Only an option that takes memory (`true`) may instead fail because memory ran out.
+-- It is a record, so that a proof about a chain of calls has one fact for each call and doesn't split it into cases.
+pub record AppliesOption (settings : Settings) (takes_memory : Bool) (old : Result Draft MetricError) (o : Choice)
+    (new : Result Draft MetricError) : Type 0 where
+  pub stays : IfErr old (λ e. new ≡ Err e)
+  pub applied : IfOk old (λ d. IfOk new (λ n. IsTrue (allows_choice settings o) × (n ≡ draft_with_choice d o)))
+  pub refused : IfOk old (λ _. IfErr new (FailsFor (allows_choice settings o)))
+  pub allowed : IfOk old (λ _. IsErr new → IsTrue (allows_choice settings o) → IsTrue takes_memory)
 
 -- A builder sent the line of its draft. If it stored an error, it returned this error instead.
-abbrev pub SendsPending : {M : Type 0} → SinkResults → (List ℕ → M → Type 0) → Result Draft MetricError → Result M MetricError → Type 0
-SendsPending may made (Err e) answer = answer ≡ Err e
-SendsPending may made (Ok d) answer = SendsLine may made (draft_line d) answer
-
--- `HasSentPending` is `SendsPending` as a record. Contracts name the record, so that a proof doesn't split it into
--- cases.
-pub record HasSentPending {M : Type 0} (may : SinkResults) (made : List ℕ → M → Type 0) (pending : Result Draft MetricError)
+pub record SendsPending {M : Type 0} (may : SinkResults) (made : List ℕ → M → Type 0) (pending : Result Draft MetricError)
     (answer : Result M MetricError) : Type 0 where
-  pub is : SendsPending may made pending answer
+  pub sent : IfOk pending (λ d. SendsLine may made (draft_line d) answer)
+  pub failed : IfErr pending (λ e. answer ≡ Err e)
 
 -- A pending draft is right for a call: it is the draft of the call's metric, or an error.
 abbrev pub StandsFor : Settings → MetricCall → Result Draft MetricError → Type 0
@@ -142,6 +110,6 @@ pub record HasSentCall {M : Type 0} (may : SinkResults) (made : List ℕ → M �
       → IfOk pending (λ _. SendsLine may made (line_of (metric_of_call settings call)) answer)
 
 -- A flush returned what the sink may return.
-abbrev pub Flushes : (Result (Unit {0}) SinkError → Type 0) → Result (Unit {0}) MetricError → Type 0
-Flushes may (Ok u) = may (Ok u)
-Flushes may (Err e) = (fault : SinkError) × (e ≡ Sink fault) × may (Err fault)
+abbrev pub FlushesSink : (Result (Unit {0}) SinkError → Type 0) → Result (Unit {0}) MetricError → Type 0
+FlushesSink may (Ok u) = may (Ok u)
+FlushesSink may (Err e) = (fault : SinkError) × (e ≡ Sink fault) × may (Err fault)

@@ -8,7 +8,7 @@ use Rattle.cadence.specs.declared.client.builder.MetricBuilder.{MetricBuilder}
 use Rattle.cadence.specs.declared.client.handler.BoxedErrorHandler.{BoxedErrorHandler}
 use Rattle.cadence.specs.declared.client.statsd_client.StatsdClient.{StatsdClient}
 use Rattle.cadence.specs.declared.client.client_builder.StatsdClientBuilder.{StatsdClientBuilder}
-use Rattle.cadence_schedule.specs.Settings.{Settings, FailsFor, allows_tag, with_default_tag}
+use Rattle.cadence_settings.specs.Settings.{Settings, FailsFor, allows_tag, with_default_tag}
 
 -- A builder has settings, or the first error of the calls that made them. A call changes them: an error stays. If the
 -- settings allow the change, the result is the changed settings, or memory ran out. Otherwise the result is the error of

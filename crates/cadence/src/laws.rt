@@ -2,12 +2,14 @@
 ghost use Rattle.std.specs.Prelude.{◌≡◌, ◌↔◌, ℕ, Bool, List, IsTrue, Result};
 ghost use Rattle.cadence_errors.specs.declared.MetricError.{MetricError};
 ghost use Rattle.cadence_text.specs.Draft.{Draft};
-ghost use Rattle.cadence_schedule.specs.Call.{Choice};
-ghost use Rattle.cadence.specs.Sending.{Chooses, ChoosesIf, ChoosesOrFails, StandsForMore};
+ghost use Rattle.cadence_settings.specs.Call.{Choice};
+ghost use Rattle.cadence_settings.specs.Settings.{Settings};
+ghost use Rattle.cadence.specs.Sending.{AppliesOption, StandsForMore};
 
 use crate::types::MetricText;
-use cadence_schedule::an_option_is_chosen;
-pub use cadence_schedule::{packets_read_one_way, strict_calls_are_free, tight_is_fewest};
+pub use cadence_schedule::{packets_read_one_way, tight_is_fewest};
+use cadence_settings::an_option_is_chosen;
+pub use cadence_settings::strict_calls_are_free;
 pub use cadence_text::laws::{
     free_texts_pass, line_reads_one_way, no_line_is_empty, packet_reads_one_way,
 };
@@ -17,12 +19,9 @@ use std::alloc::Allocator;
 /// States that if a builder has the draft of a call's metric, then after one more option it has the draft of the metric
 /// of this call with the option, or an error, which is right for any call.
 pub fn choosing_stands_for_more()
-    ensures chosen { (old new : Result Draft MetricError) (option : Choice) →
-        Chooses old option new → StandsForMore old option new }
-    ensures tested { (old new : Result Draft MetricError) (allowed : Bool) (option : Choice) →
-        ChoosesIf old allowed option new → StandsForMore old option new }
-    ensures held { (old new : Result Draft MetricError) (allowed : Bool) (option : Choice) →
-        ChoosesOrFails old allowed option new → StandsForMore old option new }
+    ensures { (settings : Settings) (takes_memory : Bool) (old new : Result Draft MetricError)
+        (option : Choice) → AppliesOption settings takes_memory old option new →
+        StandsForMore old option new }
 {
     an_option_is_chosen();
 }

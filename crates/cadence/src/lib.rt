@@ -1,7 +1,7 @@
 //! A Statsd client: a service makes a sink, a client over it, and calls the client's metrics.
 //!
 //! - `client`: the client, its builders and the traits of its metrics; `prelude`: these traits, to be imported whole
-//! - `sinks`: all sinks, and their builders; `ready`: clients and sinks over UDP, ready made
+//! - `sinks`: all sinks, and their builders; `ready`: sinks over UDP and a client over one, ready made
 //! - `types`: errors and metric types; `value`, `decimal`, `line`: numbers, and the line of a metric
 //! - `stats`: counts of what was sent; `io`: the packer; `queue`: queues; `resolve`: addresses of hosts
 //! - `ext`: what a service needs for values and metrics of its own types
@@ -17,12 +17,12 @@ pub mod queue;
 pub mod ready;
 pub mod resolve;
 pub mod schedule;
+pub mod sinks;
 pub mod stats;
 pub mod types;
 
 pub use cadence_flow::io;
 pub use cadence_resolve::DEFAULT_PORT;
-pub use cadence_sinks as sinks;
 pub use cadence_text::line;
 pub use cadence_value::value;
 pub use client::{BoxedHandler, ErrorHandler, MetricBuilder, StatsdClient, StatsdClientBuilder};
@@ -34,9 +34,9 @@ pub use queue::QueuePolicy;
 pub use ready::host;
 pub use sinks::{
     BufferedSpyMetricSink, BufferedUdpMetricSink, BufferedUdpMetricSinkBuilder,
-    BufferedUnixMetricSink, FlushingMetricSink, FlushingQueueBuilder, MetricSink, NopMetricSink,
-    QueuingMetricSink, QueuingMetricSinkBuilder, SpyMetricSink, Target, UdpMetricSink,
-    UdpMetricSinkBuilder, UnixMetricSink,
+    BufferedUnixMetricSink, FlushingMetricSink, MetricSink, NopMetricSink, QueuingMetricSink,
+    QueuingMetricSinkBuilder, SpyMetricSink, Target, UdpMetricSink, UdpMetricSinkBuilder,
+    UnixMetricSink,
 };
 pub use stats::SinkStats;
 pub use types::{

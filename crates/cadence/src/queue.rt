@@ -4,5 +4,6 @@ pub use cadence_audit::{
     AuditCall, AuditError, AuditReply, AuditedQueue, EndFault, Event, History, Seat, SubmitReply,
     Text,
 };
-pub use cadence_flow::queue::{QueueCore, QueueError, QueuePolicy, Taken};
-pub use cadence_shared::{Accepted, Left, Refusal, SharedQueue, Stopped, Took};
+pub use cadence_queue::{
+    Accepted, Left, QueueCore, QueueError, QueuePolicy, Refusal, SharedQueue, Stopped, Taken, Took,
+};

@@ -1,4 +1,4 @@
 //! Counts of the bytes and packets that were sent and dropped.
 
+pub use cadence_flow::SocketStats;
 pub use cadence_flow::stats::SinkStats;
-pub use cadence_shared::SocketStats;

@@ -1,4 +1,4 @@
--- Why a packet is not sent to a path, and why a socket, or a sink or a client to an agent, is not made.
+-- Why a packet is not sent to a path, and why a socket or a sink to an agent is not made.
 use Rattle.std.specs.Prelude.{◌≡◌, ⊤, ℕ, List, None, IsSome, string_bytes}
 use Rattle.std.specs.IoError.{error_kind, raw_os_error}
 use Rattle.std.specs.declared.io.ErrorKind.TheVariants as io_kind
@@ -27,8 +27,8 @@ abbrev pub IsSystemRefusal : MetricError → Type 0
 IsSystemRefusal (Sink e) = IsOfSystem e
 IsSystemRefusal _ = ⊥
 
--- A sink or a client is not made because its path has a fault, and then the kind is `InvalidInput`. If the path has none, then the system refused
--- the socket or the thread, or memory ran out.
+-- A sink is not made because its path has a fault, and then the kind is `InvalidInput`. If the path has none, then the system refused the
+-- socket, or memory ran out.
 abbrev pub IsUnixRefusal : List ℕ → MetricError → Type 0
 IsUnixRefusal path (Described k text) = (k ≡ kind.InvalidInput) × ((fault : PathError) × IsFault path fault)
 IsUnixRefusal path (Sink (Io e)) = IsPath path
@@ -40,16 +40,16 @@ abbrev pub MayBeInvalid : {A : Type 0} → Destination A → Type 0
 MayBeInvalid (place.Udp host port) = ⊤
 MayBeInvalid (place.Unix path) = (fault : PathError) × IsFault (string_bytes path) fault
 
--- A sink or a client to a destination is not made because that is an invalid input, because the system refused the lookup, the socket or the thread,
--- or because memory ran out.
+-- A sink to a destination is not made because that is an invalid input, because the system refused the lookup or the socket, or because memory
+-- ran out.
 abbrev pub IsPlaceRefusal : {A : Type 0} → Destination A → MetricError → Type 0
 IsPlaceRefusal destination (Described k text) = (k ≡ kind.InvalidInput) × MayBeInvalid destination
 IsPlaceRefusal destination (Sink (Io e)) = ⊤
 IsPlaceRefusal destination (Sink OutOfMemory) = ⊤
 IsPlaceRefusal destination _ = ⊥
 
--- A sink or a client to the place that the environment says is not made because a variable or that place is an invalid input, because the system
--- refused the lookup, the socket or the thread, or because memory ran out.
+-- A sink to the place that the environment says is not made because a variable or that place is an invalid input, because the system refused
+-- the lookup or the socket, or because memory ran out.
 abbrev pub IsEnvironmentRefusal : MetricError → Type 0
 IsEnvironmentRefusal (Described k text) = k ≡ kind.InvalidInput
 IsEnvironmentRefusal (Sink (Io e)) = ⊤

@@ -3,8 +3,8 @@ use Rattle.std.specs.Prelude.{ℕ, List, [], ◌∷◌}
 use Rattle.cadence_text.specs.declared.line.MetricType.TheVariants as kind
 use Rattle.cadence_text.specs.Line.{line_of}
 use Rattle.cadence_value.specs.Number.{natural}
-use Rattle.cadence_schedule.specs.Call.{metric_of_call, plain_call}
-use Rattle.cadence_schedule.specs.Settings.{Settings}
+use Rattle.cadence_settings.specs.Call.{metric_of_call, plain_call}
+use Rattle.cadence_settings.specs.Settings.{Settings}
 use Rattle.cadence_queuing.specs.Queuing.{repeated_work}
 use Rattle.cadence_agent.specs.Counts.{name_of}
 use Rattle.cadence_agent.specs.declared.reporting.counts.Growth.{Growth}

@@ -1,9 +1,7 @@
 -- What contracts show of a sink to the destination of an environment, and of a client with its tags.
-use Rattle.std.specs.Prelude.{◌≡◌, ◌++◌, ⊤, ℕ, List, Result, Ok, Err, false, string_bytes}
-use Rattle.cadence_errors.specs.Errors.{out_of_memory}
-use Rattle.cadence_errors.specs.declared.MetricError.{MetricError}
+use Rattle.std.specs.Prelude.{◌≡◌, ◌++◌, ℕ, List, string_bytes}
 use Rattle.cadence_text.specs.Metric.{Tag}
-use Rattle.cadence_schedule.specs.Settings.{Settings, settings_of}
+use Rattle.cadence_settings.specs.Settings.{Settings}
 use Rattle.cadence_sinks.specs.Buffers.{udp_buffer, unix_buffer}
 use Rattle.cadence_environment.specs.Paths.{IsPath}
 use Rattle.cadence_environment.specs.declared.destination.Destination.{Destination}
@@ -31,17 +29,3 @@ GoesTo _ _ = ⊥
 -- the settings with these default tags too, after their own
 abbrev pub with_tags : Settings → List Tag → Settings
 with_tags s tags = record s { tags = s.tags ++ tags }
-
--- If there are settings after the change, there were some before it, and these tags were added to them.
-abbrev pub AddsTags : List Tag → Result Settings MetricError → Result Settings MetricError → Type 0
-AddsTags tags old (Ok new) = (s : Settings) × (old ≡ Ok s) × (new ≡ with_tags s tags)
-AddsTags tags old (Err e) = ⊤
-
--- The settings are those of this prefix, and only default tags were added to them.
-abbrev pub HasOnlyTags : List ℕ → Settings → Type 0
-HasOnlyTags prefix s = s ≡ with_tags (settings_of prefix) s.tags
-
--- There are settings that aren't strict, which allow each text, or there are none because memory ran out.
-abbrev pub RefusesNoText : Result Settings MetricError → Type 0
-RefusesNoText (Ok s) = s.strict ≡ false
-RefusesNoText (Err e) = e ≡ out_of_memory

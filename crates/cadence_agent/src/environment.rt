@@ -1,10 +1,9 @@
-//! A sink and a client to the place that the environment says, ready made.
+//! A sink to the place that the environment says, ready made, and the builder of a client with its tags.
 
+mod builder;
 mod ready;
 mod sink;
 
-pub use ready::{
-    EnvironmentClient, QueuedEnvironmentClient, QueuedEnvironmentSink, client_of,
-    environment_client, environment_sink, flushing_client_of, flushing_environment_client, sink_to,
-};
+pub use builder::EnvironmentExt;
+pub use ready::{environment_sink, sink_to};
 pub use sink::EnvironmentSink;

@@ -12,12 +12,12 @@ use Rattle.std.proofs.lemmas.List.Sums.{sum_by-append}
 use Rattle.std.proofs.lemmas.List.Folds.{list_any-append}
 use Rattle.cadence_errors.specs.declared.SinkError.{SinkError}
 use Rattle.cadence_errors.specs.declared.SinkError.TheVariants as refusal
-use Rattle.cadence_flow.specs.QueueState.{Queue}
-use Rattle.cadence_flow.specs.Queue.{IsTaken, IsRefusal, Accepts, after_stop, is_full, lacks_room, drops_for_room, at_capacity}
-use Rattle.cadence_flow.specs.QueueModel.{by_take, IsQueueOf, IsAccepted, IsNext}
-use Rattle.cadence_flow.specs.declared.queue.policy.QueuePolicy.TheVariants.{Refuse}
-use Rattle.cadence_flow.specs.declared.queue.queue_core.Taken.{Taken}
-use Rattle.cadence_flow.specs.declared.queue.queue_core.Taken.TheVariants as taken
+use Rattle.cadence_queue.specs.QueueState.{Queue}
+use Rattle.cadence_queue.specs.Queue.{IsTaken, IsRefusal, Accepts, after_stop, is_full, lacks_room, drops_for_room, at_capacity}
+use Rattle.cadence_queue.specs.QueueModel.{by_take, IsQueueOf, IsAccepted, IsNext}
+use Rattle.cadence_queue.specs.declared.policy.QueuePolicy.TheVariants.{Refuse}
+use Rattle.cadence_queue.specs.declared.queue_core.Taken.{Taken}
+use Rattle.cadence_queue.specs.declared.queue_core.Taken.TheVariants as taken
 use Rattle.cadence_audit.specs.declared.event.Event.{Event}
 use Rattle.cadence_audit.specs.declared.event.AuditCall.{AuditCall}
 use Rattle.cadence_audit.specs.declared.event.AuditCall.TheVariants as call

@@ -3,9 +3,9 @@
 use Rattle.std.specs.Prelude.{◌≡◌, ℕ, ◌==◌, Bool, true, false, if◌then◌else◌, List, [], ◌∷◌, ◌++◌, length}
 use Rattle.std.specs.Prelude.{take, drop, slice_get, count_by, Option, Some}
 use Rattle.std.specs.List.{list_any, flat_map}
-use Rattle.cadence_flow.specs.Queue.{at_capacity}
-use Rattle.cadence_flow.specs.declared.queue.queue_core.Taken.{Taken}
-use Rattle.cadence_flow.specs.declared.queue.queue_core.Taken.TheVariants as taken
+use Rattle.cadence_queue.specs.Queue.{at_capacity}
+use Rattle.cadence_queue.specs.declared.queue_core.Taken.{Taken}
+use Rattle.cadence_queue.specs.declared.queue_core.Taken.TheVariants as taken
 use Rattle.cadence_audit.specs.declared.event.Event.{Event}
 use Rattle.cadence_audit.specs.declared.event.AuditCall.{AuditCall}
 use Rattle.cadence_audit.specs.declared.event.AuditCall.TheVariants as call

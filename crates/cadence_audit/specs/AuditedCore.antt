@@ -2,9 +2,9 @@
 use Rattle.std.specs.Prelude.{◌≡◌, ℕ, ◌<◌, List, [], ◌∷◌, ◌++◌, length, slice_index, map, Option, Result, Ok, Err, MatchResult}
 use Rattle.cadence_errors.specs.declared.SinkError.{SinkError}
 use Rattle.cadence_errors.specs.declared.SinkError.TheVariants as refusal
-use Rattle.cadence_flow.specs.QueueState.{Queue}
-use Rattle.cadence_flow.specs.QueueModel.{Exit, by_take, IsQueueOf}
-use Rattle.cadence_flow.specs.declared.queue.policy.QueuePolicy.TheVariants.{Refuse}
+use Rattle.cadence_queue.specs.QueueState.{Queue}
+use Rattle.cadence_queue.specs.QueueModel.{Exit, by_take, IsQueueOf}
+use Rattle.cadence_queue.specs.declared.policy.QueuePolicy.TheVariants.{Refuse}
 use Rattle.cadence_audit.specs.declared.event.Event.{Event}
 use Rattle.cadence_audit.specs.declared.event.AuditCall.{AuditCall}
 use Rattle.cadence_audit.specs.declared.event.AuditReply.{AuditReply}

@@ -11,7 +11,7 @@ use super::event::{AuditCall, AuditReply, Event, SubmitReply};
 use super::seat::Seat;
 use super::text::Text;
 use cadence_errors::{MetricResult, SinkError};
-use cadence_flow::queue::{QueueCore, Taken};
+use cadence_queue::{QueueCore, Taken};
 use std::alloc::{AllocError, Allocator, Global};
 use std::marker::Model;
 

@@ -1,6 +1,6 @@
 //! The events of an audited queue: its calls, each with its reply.
 use super::text::Text;
-use cadence_flow::queue::Taken;
+use cadence_queue::Taken;
 use std::alloc::{Allocator, Global};
 
 /// The reply of an audited queue to a submit.

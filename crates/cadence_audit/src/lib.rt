@@ -29,7 +29,7 @@ mod text;
 
 use audited_core::AuditedCore;
 use cadence_errors::MetricResult;
-use cadence_flow::queue::Taken;
+use cadence_queue::Taken;
 pub use errors::{AuditError, EndFault};
 pub use event::{AuditCall, AuditReply, Event, SubmitReply};
 pub use history::History;

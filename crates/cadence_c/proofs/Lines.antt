@@ -8,8 +8,8 @@ use Rattle.cadence_text.specs.Draft.{draft_of, head_text}
 use Rattle.cadence_text.specs.declared.line.MetricType.{MetricType}
 use Rattle.cadence_text.specs.Metric.{Metric, Tag, with_tag}
 use Rattle.cadence_value.specs.Number.{Number}
-use Rattle.cadence_schedule.specs.Call.{metric_of_call, plain_call}
-use Rattle.cadence_schedule.specs.Settings.{Settings}
+use Rattle.cadence_settings.specs.Call.{metric_of_call, plain_call}
+use Rattle.cadence_settings.specs.Settings.{Settings}
 use Rattle.cadence_c.specs.Calls.{IsMetricOfCall, IsLineOfCall, IsRateOf, prefix_alone, c_tag, kind_named, line_of_call, metric_with, with_c_tags}
 use Rattle.cadence_c.specs.declared.call.COptions.{COptions}
 use Rattle.cadence_c.specs.declared.call.CTag.{CTag}

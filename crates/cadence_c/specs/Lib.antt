@@ -1,6 +1,6 @@
 pub mod Status
 pub mod Calls
-pub mod State
+pub mod ClientState
 pub mod Results
 pub mod Slot
 pub mod Run

@@ -29,10 +29,10 @@ ghost use Rattle.cadence_value.specs.Values.{numbers_of};
 ghost use Rattle.cadence_c.specs.Handle.{client_of, IsOpenAnd, OnOpen};
 ghost use Rattle.cadence_c.specs.Results.{Keeps, UnchangedUnlessOk};
 ghost use Rattle.cadence_c.specs.Calls.{AreValidDecimals, AreNumbersOf, IsUtf8IfKnown, IsUtf8Tag, c_tag, durations_of};
-ghost use Rattle.cadence_c.specs.State.{allows_prefix, policy_named, strict_named, AddsDefaultTag, AllowsTag, AllowsText, AreCountsOf, DropsOldest, Flushes, ForbidsTag, ForbidsText, HasNoPacket, IsNew, IsOldest, IsOldestLength, KeepsLine, LacksRoomForHeld, LacksRoomForLine, SetsDefaultContainer};
+ghost use Rattle.cadence_c.specs.ClientState.{allows_prefix, policy_named, strict_named, AddsClientTag, AllowsTag, AllowsText, AreCountsOf, DropsOldest, PacksHeld, ForbidsTag, ForbidsText, HasNoPacket, IsNew, IsOldest, IsOldestLength, KeepsLine, LacksRoomForHeld, LacksRoomForLine, SetsDefaultContainer};
 ghost use Rattle.cadence_c.specs.Status.{CADENCE_FULL, CADENCE_INVALID, CADENCE_NOT_UTF8, CADENCE_NO_CLIENT, CADENCE_NO_MEMORY, CADENCE_NO_PACKET, CADENCE_OK, CADENCE_SEPARATOR, CADENCE_TOO_SMALL, IsOkOr};
 
-use cadence_flow::queue::QueuePolicy;
+use cadence_queue::QueuePolicy;
 use cadence_value::value::MetricValue;
 use call::{CDecimal, COptions, CTag, tag_of, text_of};
 use client::{CCounts, Client};
@@ -112,7 +112,7 @@ pub extern "C" fn cadence_free(alloc: Global, handle: &mut Handle)
 #[unsafe(no_mangle)]
 pub extern "C" fn cadence_add_tag(alloc: Global, handle: &mut Handle, tag: &CTag<'_>) -> u32
     ensures added { result ≡ CADENCE_OK →
-        OnOpen (AddsDefaultTag (c_tag tag.now)) handle.old handle.new }
+        OnOpen (AddsClientTag (c_tag tag.now)) handle.old handle.new }
     ensures allowed { result ≡ CADENCE_OK → IsOpenAnd handle.old (AllowsTag (c_tag tag.now)) }
     ensures forbidden { result ≡ CADENCE_SEPARATOR →
         IsOpenAnd handle.old (ForbidsTag (c_tag tag.now)) }
@@ -280,7 +280,7 @@ pub extern "C" fn cadence_line(alloc: Global, handle: &mut Handle, line: &[u8]) 
 /// Makes a packet of the held text, if there is any.
 #[unsafe(no_mangle)]
 pub extern "C" fn cadence_flush(alloc: Global, handle: &mut Handle) -> u32
-    ensures flushed { result ≡ CADENCE_OK → OnOpen Flushes handle.old handle.new }
+    ensures flushed { result ≡ CADENCE_OK → OnOpen PacksHeld handle.old handle.new }
     ensures refused { UnchangedUnlessOk result handle.old handle.new }
     ensures full { result ≡ CADENCE_FULL → IsOpenAnd handle.old LacksRoomForHeld }
     ensures statuses { IsOkOr (CADENCE_NO_CLIENT ∷ CADENCE_NO_MEMORY ∷ CADENCE_FULL ∷ []) result }

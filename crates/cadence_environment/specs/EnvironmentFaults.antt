@@ -29,9 +29,9 @@ IsRead v Tags = v.tags.now ≢ []
 IsRead v EntityId = v.entity_id.now ≢ []
 
 -- The error names a variable that is set and that no other one overrides, or says that memory ran out.
-abbrev pub IsRefusal : Variables → EnvironmentError → Type 0
-IsRefusal v (Malformed variable) = IsRead v variable
-IsRefusal v OutOfMemory = ⊤
+abbrev pub IsRefusedVariable : Variables → EnvironmentError → Type 0
+IsRefusedVariable v (Malformed variable) = IsRead v variable
+IsRefusedVariable v OutOfMemory = ⊤
 
 -- The error names this variable, which is set, or says that memory ran out.
 abbrev pub IsSetFault : Variable → List ℕ → EnvironmentError → Type 0

@@ -6,9 +6,9 @@ use Rattle.cadence_text.specs.Metric.{Tag, keyed, unkeyed}
 use Rattle.cadence_environment.specs.declared.variables.Variables.{Variables}
 
 -- whether a text has some byte
-abbrev pub has_some : List ℕ → Bool
-has_some [] = false
-has_some (c ∷ cs) = true
+abbrev pub has_bytes : List ℕ → Bool
+has_bytes [] = false
+has_bytes (c ∷ cs) = true
 
 -- the text without the spaces at its front
 abbrev pub without_front : List ℕ → List ℕ
@@ -27,21 +27,21 @@ trimmed text = without_end (without_front text)
 abbrev pub pieces_of : List ℕ → List (List ℕ)
 pieces_of text = cond (list_any (λ b. b == 44) text) (slice_split (λ b. b == 44) text) (slice_split (λ b. b == 32) text)
 
--- the tag that a text says if it is cut at this place: a key and a text, or a text alone
-abbrev pub tag_cut_at : List ℕ → Option ℕ → Tag
-tag_cut_at text None = unkeyed text
-tag_cut_at text (Some place) = keyed (take place text) (drop (place + 1) text)
+-- the tag that a text says if it is split at this place: a key and a text, or a text alone
+abbrev pub tag_split_at : List ℕ → Option ℕ → Tag
+tag_split_at text None = unkeyed text
+tag_split_at text (Some place) = keyed (take place text) (drop (place + 1) text)
 
--- the tag that a text says: it is cut at its first colon
+-- the tag that a text says: it is split at its first colon
 abbrev pub tag_of_text : List ℕ → Tag
-tag_of_text text = tag_cut_at text (position (λ b. b == 58) text)
+tag_of_text text = tag_split_at text (position (λ b. b == 58) text)
 
 -- whether a variable of its own, which is set, says the tag of this key
 abbrev pub is_overridden : Variables → Option (List ℕ) → Bool
 is_overridden v None = false
 is_overridden v (Some key) =
-    (bytes_eq key (codes "env") && has_some v.env.now) || ((bytes_eq key (codes "service") && has_some v.service.now)
-    || (bytes_eq key (codes "version") && has_some v.version.now))
+    (bytes_eq key (codes "env") && has_bytes v.env.now) || ((bytes_eq key (codes "service") && has_bytes v.service.now)
+    || (bytes_eq key (codes "version") && has_bytes v.version.now))
 
 -- the tags of a text without spaces round it: none if it is empty, or if a variable of its own says the tag
 abbrev pub listed_tags : Variables → List ℕ → List Tag

@@ -3,14 +3,14 @@ ghost use Rattle.std.specs.Prelude.{◌≡◌, ◌≢◌, ◌↔◌, All, IfErr,
 ghost use Rattle.cadence_value.specs.Finds.{Finds, HasNone};
 ghost use Rattle.cadence_environment.specs.Destinations.{EndsWithPort, IsAuthority, IsHost, IsHostByte, IsPort, NamesHost};
 ghost use Rattle.cadence_environment.specs.Destinations.{SaysHost, SaysHostAndPort, SaysPath, SaysPlace, SaysPort, SaysUrl};
-ghost use Rattle.cadence_environment.specs.EnvironmentFaults.{IsFaultOf, IsPairFault, IsRefusal, IsSetFault};
+ghost use Rattle.cadence_environment.specs.EnvironmentFaults.{IsFaultOf, IsPairFault, IsRefusedVariable, IsSetFault};
 ghost use Rattle.cadence_environment.specs.declared.variables.Variable.TheVariants as variable;
 
 use crate::error::EnvironmentError;
 use crate::path::check_path;
 use crate::variables::{Variable, Variables};
 use cadence_resolve::DEFAULT_PORT;
-use cadence_value::bytes::cut_text;
+use cadence_value::bytes::split_text_once;
 use std::alloc::{Allocator, Global};
 use std::net::Ipv6Addr;
 
@@ -55,7 +55,7 @@ fn is_host(text: &str) -> bool
 
 // Returns whether a text is an address of IPv6. It may have a zone, as in `fe80::1%eth0`.
 fn is_ipv6(text: &str) -> bool {
-    let address = match cut_text(text, b'%') {
+    let address = match split_text_once(text, b'%') {
         Some((_, zone)) if zone.is_empty() || zone.contains('%') || zone.contains(':') => {
             return false;
         }
@@ -109,13 +109,13 @@ fn read_authority(text: &str) -> Option<(&str, u16)>
     ensures { IfSome result (λ parts. IsAuthority text.now parts.0.now parts.1) }
 {
     if let Some(inner) = text.strip_prefix('[') {
-        let (host, rest) = cut_text(inner, b']')?;
+        let (host, rest) = split_text_once(inner, b']')?;
         if !is_ipv6(host) {
             return None;
         }
         return with_host(host, read_url_port(rest)?);
     }
-    match cut_text(text, b':') {
+    match split_text_once(text, b':') {
         Some((host, port)) => with_host(host, read_port(port)?),
         None => with_host(text, DEFAULT_PORT),
     }
@@ -203,7 +203,7 @@ pub(crate) fn read_destination<A: Allocator>(
     variables: &Variables<'_>,
 ) -> Result<Destination<A>, EnvironmentError>
     ensures said { IfOk result (SaysPlace variables.now) }
-    ensures refused { IfErr result (IsRefusal variables.now) }
+    ensures refused { IfErr result (IsRefusedVariable variables.now) }
 {
     if !variables.url.is_empty() {
         return read_url(alloc, variables.url);

@@ -2,7 +2,7 @@
 ghost use Rattle.std.specs.Prelude.{◌≡◌, IfErr, IfOk, map};
 ghost use Rattle.cadence_text.specs.Owned.{tag_of_owned};
 ghost use Rattle.cadence_environment.specs.Destinations.{SaysPlace};
-ghost use Rattle.cadence_environment.specs.EnvironmentFaults.{IsRefusal};
+ghost use Rattle.cadence_environment.specs.EnvironmentFaults.{IsRefusedVariable};
 ghost use Rattle.cadence_environment.specs.TagTexts.{tags_said};
 
 use crate::destination::{Destination, read_destination};
@@ -53,7 +53,7 @@ impl<A: Allocator + Clone> Environment<A> {
     ) -> Result<Environment<A>, EnvironmentError>
         ensures place { IfOk result (λ e. SaysPlace variables.now (destination_of e)) }
         ensures tags { IfOk result (λ e. tags_of e ≡ tags_said variables.now) }
-        ensures refused { IfErr result (IsRefusal variables.now) }
+        ensures refused { IfErr result (IsRefusedVariable variables.now) }
     {
         let destination = read_destination(alloc.clone()?, variables)?;
         let tags = read_tags(alloc, variables)?;

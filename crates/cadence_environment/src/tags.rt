@@ -4,7 +4,7 @@ ghost use Rattle.std.specs.Option.{option_copied};
 ghost use Rattle.cadence_text.specs.Owned.{tag_of_owned};
 ghost use Rattle.cadence_text.specs.Record.{tag_of};
 ghost use Rattle.std.specs.List.{flat_map, slice_split};
-ghost use Rattle.cadence_environment.specs.EnvironmentFaults.{IsFaultOf, IsRefusal, IsSetFault};
+ghost use Rattle.cadence_environment.specs.EnvironmentFaults.{IsFaultOf, IsRefusedVariable, IsSetFault};
 ghost use Rattle.cadence_environment.specs.declared.variables.Variable.TheVariants as variable;
 ghost use Rattle.cadence_environment.specs.TagTexts.{is_overridden, own_tag, piece_tags, pieces_of, tag_of_text, tags_said};
 
@@ -116,7 +116,7 @@ fn push_piece<A: Allocator + Clone>(
 }
 
 // Returns the pieces between the commas of a text.
-fn cut_at_commas<A: Allocator>(alloc: A, text: &str) -> Result<Vec<&str, A>, AllocError>
+fn split_at_commas<A: Allocator>(alloc: A, text: &str) -> Result<Vec<&str, A>, AllocError>
     ensures { IfOk result (λ pieces.
         map (λ w. w.now) pieces.items ≡ slice_split (λ b. b == 44) text.now) }
 {
@@ -124,7 +124,7 @@ fn cut_at_commas<A: Allocator>(alloc: A, text: &str) -> Result<Vec<&str, A>, All
 }
 
 // Returns the pieces between the spaces of a text.
-fn cut_at_spaces<A: Allocator>(alloc: A, text: &str) -> Result<Vec<&str, A>, AllocError>
+fn split_at_spaces<A: Allocator>(alloc: A, text: &str) -> Result<Vec<&str, A>, AllocError>
     ensures { IfOk result (λ pieces.
         map (λ w. w.now) pieces.items ≡ slice_split (λ b. b == 32) text.now) }
 {
@@ -132,13 +132,13 @@ fn cut_at_spaces<A: Allocator>(alloc: A, text: &str) -> Result<Vec<&str, A>, All
 }
 
 // Returns the pieces of a text: those between its commas, or those between its spaces if it has no comma.
-fn cut_pieces<A: Allocator>(alloc: A, text: &str) -> Result<Vec<&str, A>, AllocError>
+fn split_pieces<A: Allocator>(alloc: A, text: &str) -> Result<Vec<&str, A>, AllocError>
     ensures { IfOk result (λ pieces. map (λ w. w.now) pieces.items ≡ pieces_of text.now) }
 {
     if text.as_bytes().contains(&b',') {
-        return cut_at_commas(alloc, text);
+        return split_at_commas(alloc, text);
     }
-    cut_at_spaces(alloc, text)
+    split_at_spaces(alloc, text)
 }
 
 // Adds the tags of pieces.
@@ -173,7 +173,7 @@ fn push_listed<A: Allocator + Clone>(
     if text.contains('|') || text.contains('\n') {
         return Err(EnvironmentError::Malformed(Variable::Tags));
     }
-    let pieces = cut_pieces(tags.allocator().clone()?, text)?;
+    let pieces = split_pieces(tags.allocator().clone()?, text)?;
     push_pieces(tags, variables, &pieces)
 }
 
@@ -183,7 +183,7 @@ pub(crate) fn read_tags<A: Allocator + Clone>(
     variables: &Variables<'_>,
 ) -> Result<Tags<A>, EnvironmentError>
     ensures said { IfOk result (λ tags. map tag_of_owned tags.items ≡ tags_said variables.now) }
-    ensures refused { IfErr result (IsRefusal variables.now) }
+    ensures refused { IfErr result (IsRefusedVariable variables.now) }
 {
     let mut tags = Vec::new(alloc);
     push_own(&mut tags, "env", Variable::Env, variables.env)?;

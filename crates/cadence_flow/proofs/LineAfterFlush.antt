@@ -1,23 +1,15 @@
 -- What writing a line does (`Writes`), if it doesn't fit beside the held text, and the flush before it succeeded.
 use Rattle.std.proofs.Common.{◌≡◌, ℕ, ◌+◌, ◌-◌, ◌<◌, ◌≤◌, true, [], ◌∷◌, ◌++◌, List}
-use Rattle.std.proofs.Common.{length, length-drop, take, drop, ap, ◌∙◌, sym, arith, take_all, ◌%◌, ◌^◌, refl, subst}
+use Rattle.std.proofs.Common.{length, take, ap, ◌∙◌, sym, arith, take_all, ◌%◌, ◌^◌, refl, subst}
 use Rattle.std.proofs.Common.{Bool, if◌then◌else◌, Ok, Err, Result, inl}
 use Rattle.std.proofs.lemmas.Bool.{false≢true, le-ltb}
 use Rattle.std.proofs.lemmas.List.{append-nil, drop_all}
 use Rattle.std.specs.List.{concat}
 use Rattle.cadence_errors.specs.declared.SinkError.{SinkError}
 use Rattle.cadence_flow.specs.Frame.{Format, size_of, is_oversize, frame_of, held_packet}
-use Rattle.cadence_flow.specs.Packer.{Flushes, PackerState, Writes, rest_or, taken_of, whole_text}
+use Rattle.cadence_flow.specs.Packer.{Flushes, PackerState, Writes, rest_or, taken_of_held, whole_text}
 use Rattle.cadence_flow.specs.Writer.{Extends, PacketHistory, RefusedNothing, WriterKind, Sends, WritesPacket, after_packet}
 use Rattle.cadence_flow.proofs.Histories.{concat-push, Sends-then, Extends-trans, Extends-refl}
-
--- A line and its ending that are put behind an empty buffer are all that the buffer has.
-pub behind_nothing : (start : ℕ) (before mid after line ending : List ℕ) → start ≤ length before - 1 → drop start before ≡ []
-    → mid ≡ before ++ line → after ≡ mid ++ ending → drop start after ≡ line ++ ending
-behind_nothing start [] mid after line ending within none is more =
-    subst (λ k. drop k after ≡ line ++ ending) {x = 0} (omega arith) (more ∙ ap (λ l. l ++ ending) is)
-behind_nothing start (b ∷ bs) mid after line ending within none is more =
-    absurd (omega (arith, ap length none, length-drop start (b ∷ bs)))
 
 -- If nothing is held, the packets are all text.
 nothing_held : (s : PackerState) → s.held ≡ [] → whole_text s ≡ concat s.history.packets
@@ -113,7 +105,7 @@ module _ (kind : WriterKind) (old mid new : PackerState) (format : Format) (line
       }
     where
       Sends-same : Sends old.history mid.history old.held → new.history.packets ≡ mid.history.packets
-          → Sends old.history new.history (taken_of old.held new.held)
+          → Sends old.history new.history (taken_of_held old.held new.held)
       Sends-same s e =
           record {
             more = s.more;

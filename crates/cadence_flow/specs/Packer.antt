@@ -54,8 +54,8 @@ pub record PackerState : Type 0 where
   pub held : List ℕ
 
 -- the state of a packer, if this is how a writer shows its history
-abbrev pub state_of : {W : Type 0} → (W → PacketHistory) → Packer W → PackerState
-state_of history p = record { history = history p.writer; held = p.held }
+abbrev pub packer_state : {W : Type 0} → (W → PacketHistory) → Packer W → PackerState
+packer_state history p = record { history = history p.writer; held = p.held }
 
 -- all text that a packer was given: the packets that its writer took, joined, and then the held text
 abbrev pub whole_text : PackerState → List ℕ
@@ -68,8 +68,8 @@ given_by format line (Ok n) = frame_of format line n
 given_by format line (Err e) = []
 
 -- the part of the held text that the writer took, if this rest of it is left
-abbrev pub taken_of : List ℕ → List ℕ → List ℕ
-taken_of held rest = take (length held - length rest) held
+abbrev pub taken_of_held : List ℕ → List ℕ → List ℕ
+taken_of_held held rest = take (length held - length rest) held
 
 -- the held text, or the line if nothing is held
 abbrev pub rest_or : List ℕ → List ℕ → List ℕ
@@ -107,7 +107,7 @@ pub record Flushes {A : Type 0} (kind : WriterKind) (old new : PackerState) (res
   pub idle : old.held ≡ [] → IsOk result × (new.history ≡ old.history)
   -- after `Ok` nothing was refused, and an error has a cause
   pub none_refused : OnOk result (RefusedNothing old.history new.history)
-  pub cause : IfErr result (HasCause kind old.history new.history (taken_of old.held new.held) new.held)
+  pub cause : IfErr result (HasCause kind old.history new.history (taken_of_held old.held new.held) new.held)
   -- no byte is lost, added or moved, and no packet is empty
   pub text : WhenItReports kind (whole_text new ≡ whole_text old)
   pub extends : WhenItReports kind (Extends old.history new.history)
@@ -150,7 +150,7 @@ pub record SendsAlone (kind : WriterKind) (old new : PackerState) (line : List �
 pub record FailsToWrite (kind : WriterKind) (format : Format) (old new : PackerState) (line : List ℕ) (e : SinkError) : Type 0 where
   pub keeps_end : IsEndOf old.held new.held
   pub keeps_some : WhenNotOversize format line (0 < length new.held)
-  pub cause : HasCause kind old.history new.history (taken_of old.held new.held) (rest_or new.held line) e
+  pub cause : HasCause kind old.history new.history (taken_of_held old.held new.held) (rest_or new.held line) e
   pub sent : WhenItReports kind (WhenItTakesWhole kind
       (new.held ≡ [] → new.history.packets ≡ old.history.packets ++ held_packet old.held))
   pub refused : WhenItReports kind (WhenItTakesWhole kind
@@ -184,7 +184,7 @@ pub record WritesLine {W : Type 0} (kind : W → WriterKind) (history : W → Pa
   pub same_format : new.format ≡ old.format
   -- a line that fits is held, and nothing else changes
   pub only_held : Fits old line → new ≡ with_line_held old line
-  pub writes : Writes (kind old.writer) old.format (state_of history old) (state_of history new) line result
+  pub writes : Writes (kind old.writer) old.format (packer_state history old) (packer_state history new) line result
 
 -- How a packer holds a line: it returns whether the line fits, and holds a line that does.
 pub record HoldsLine {W : Type 0} (old new : Packer W) (line : List ℕ) (result : Bool) : Type 0 where
@@ -199,7 +199,7 @@ pub record FlushesHeld {W : Type 0} {A : Type 0} (kind : W → WriterKind) (hist
   pub same_format : new.format ≡ old.format
   -- if nothing is held, nothing changes
   pub untouched : old.held ≡ [] → new ≡ old
-  pub flushes : Flushes (kind old.writer) (state_of history old) (state_of history new) result
+  pub flushes : Flushes (kind old.writer) (packer_state history old) (packer_state history new) result
 
 -- Replacing the writer returns the old writer and the held text; or it gives the new writer back, and nothing changed.
 pub record ReplacesWriter {W Z : Type 0} (old new : Packer W) (writer : W) (result : Result (W × Vec ℕ Z) W) : Type 0 where

@@ -3,8 +3,8 @@ use Rattle.std.specs.Prelude.{ℕ, Option}
 use Rattle.cadence_flow.specs.declared.stats.Unread.{Unread}
 
 -- how many bytes the socket took, or none if it refused the packet
-abbrev pub taken_of : Unread → Option ℕ
-taken_of a = a.taken
+abbrev pub count_taken : Unread → Option ℕ
+count_taken a = a.taken
 
 -- the length of the packet
 abbrev pub len_of : Unread → ℕ

@@ -1,17 +1,20 @@
 //! The packer, which puts lines into packets, and the writers that it writes packets to.
 //!
-//! - `line_buffer`: the packer, and what it does to its buffer
+//! - `held_lines`: lines that are held until they are a packet
+//! - `line_buffer`: the packer, which writes the held lines to a writer
 //! - `multi_line_writer`: the packer with the interface of the Rust crate, which flushes when it is dropped
 //! - `writer`: the trait of a writer of packets
 //! - `packet_log`: a writer that keeps its packets in memory
 //! - `refusals`: how many packets a writer refused
 
+mod held_lines;
 mod line_buffer;
 mod multi_line_writer;
 mod packet_log;
 mod refusals;
 mod writer;
 
+pub use held_lines::HeldLines;
 pub use line_buffer::LineBuffer;
 pub use multi_line_writer::MultiLineWriter;
 pub use packet_log::{Answer, PacketLog};

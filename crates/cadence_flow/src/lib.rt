@@ -1,10 +1,37 @@
-//! What a sink is built of, for one thread: no function of this crate takes a lock.
+//! What lines flow through, below the sinks themselves: the trait of all sinks and their answers, the packer with a record of
+//! its past, the counts of a socket, and how a lock is taken. A record exists in proofs only: it costs neither memory nor
+//! time.
 //!
-//! - `io`: the packer, which puts lines into packets, and the writers that it writes packets to
-//! - `queue`: the queue between the callers of a sink and its worker
-//! - `stats`: the counts of what a sink sent and dropped
+//! - `io`: the packer, the writers of packets below it, and a writer that keeps its packets
+//! - `stats`: sums of bytes and packets
+//! - `metric_sink`: the trait of all sinks, and a sink that drops each line
+//! - `answering_sink`: the one body of `emit` and of `flush` of the library's own sinks
+//! - `recorded_packer`: a packer with a record of the lines that it accepted, over a writer with a record of the packets
+//!   that it was offered, and the answers that only this packer makes
+//! - `ghost_list`: a list that exists in proofs only
+//! - `socket_stats`: the counts of a socket, under a lock
+//! - `lock`: how a lock is taken
+//! - `thread`: starts a thread that does a job
+//! - `handler`: a caller's closure that receives the errors of a sink or of a resolver
 #![tactic(auto)]
 
+mod answering_sink;
+mod ghost_list;
+mod handler;
 pub mod io;
-pub mod queue;
+mod lock;
+mod metric_sink;
+mod recorded_packer;
+mod socket_stats;
 pub mod stats;
+pub mod thread;
+
+pub use answering_sink::{
+    AnsweringFlush, AnsweringSink, Closed, Opened, Opener, emit_by, flush_by,
+};
+pub use ghost_list::GhostList;
+pub use handler::{Handler, SinkErrorHandler};
+pub use lock::{acquire, spin};
+pub use metric_sink::{MetricSink, NopMetricSink};
+pub use recorded_packer::{Flushed, Packed, RecordedPacker, RecordedWriter, Refused};
+pub use socket_stats::{Dropped, Sent, SocketStats};

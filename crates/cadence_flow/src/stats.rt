@@ -20,7 +20,7 @@ pub struct SinkStats {
 impl SinkStats {
     ghost use Rattle.std.specs.Prelude.{◌≡◌, ◌+◌, ◌%◌, ◌^◌, IfSome, None};
     ghost use Rattle.cadence_flow.specs.Sums.{after_answer, after_refused, after_taken};
-    ghost use Rattle.cadence_flow.specs.Unread.{len_of, taken_of};
+    ghost use Rattle.cadence_flow.specs.Unread.{len_of, count_taken};
 
     /// Adds one packet sent, of which the writer took `n` bytes.
     pub fn add_taken(&mut self, n: usize)
@@ -53,7 +53,7 @@ impl SinkStats {
     /// is a packet sent, with `n` bytes, and `None` is a packet dropped, with `len` bytes.
     pub fn count(&mut self, answer: Unread, len: usize) -> Option<usize>
         requires { len ≡ len_of answer }
-        ensures same { result ≡ taken_of answer }
+        ensures same { result ≡ count_taken answer }
         ensures taken { IfSome result (λ n. self.new ≡ after_taken self.old n) }
         ensures refused { result ≡ None → self.new ≡ after_refused self.old len }
     {
@@ -107,11 +107,11 @@ pub struct Unread {
 
 impl Unread {
     ghost use Rattle.std.specs.Prelude.{◌≡◌, length};
-    ghost use Rattle.cadence_flow.specs.Unread.{len_of, taken_of};
+    ghost use Rattle.cadence_flow.specs.Unread.{len_of, count_taken};
 
     /// Keeps what a socket answered for this packet: how many bytes it took, or `None` if it refused the packet.
     pub fn of(taken: Option<usize>, packet: &[u8]) -> Unread
-        ensures taken { taken_of result ≡ taken }
+        ensures taken { count_taken result ≡ taken }
         ensures len { len_of result ≡ length packet.now }
     {
         Unread {

@@ -14,13 +14,13 @@ use Rattle.cadence_schedule.specs.declared.steps.Step.{Step}
 use Rattle.cadence_schedule.specs.Headline.{ReportsWhole, packets_of}
 use Rattle.cadence_schedule.specs.Packets.{IsPacketOfOnly, ReadsAs}
 use Rattle.cadence_schedule.specs.Report.{Outcome}
-use Rattle.cadence_schedule.specs.Settings.{Settings}
+use Rattle.cadence_settings.specs.Settings.{Settings}
 use Rattle.cadence_read.specs.Listed.{AreListed, IsListed, IsListOf}
-use Rattle.cadence_listen.specs.RunRead.{IsNewWhole, IsRun, given_to, kept_metrics, texts_of}
+use Rattle.cadence_listen.specs.RunRead.{IsNewWhole, IsRun, given_to, kept_metrics, texts_of_run}
 
 each_listed : (ms : List Metric) → AllByRecursion IsFreeOfSeparators ms → AllByRecursion IsRepresentable ms → AllByRecursion IsListed ms
-each_listed [] free said = tt
-each_listed (m ∷ ms) (free, frees) (said, saids) = (record { representable = said; free = free }, each_listed ms frees saids)
+each_listed [] free representable = tt
+each_listed (m ∷ ms) (free, frees) (representable, saids) = (record { representable = representable; free = free }, each_listed ms frees saids)
 
 split_append : {X : Type 0} (P : X → Type 0) (xs ys : List X) → AllByRecursion P (xs ++ ys) → AllByRecursion P xs × AllByRecursion P ys
 split_append P [] ys h = (tt, h)
@@ -28,11 +28,11 @@ split_append P (x ∷ xs) ys (h, hs) = let (front, back) = split_append P xs ys 
 
 lists_listed : (lists : List (List Metric)) (packets : List (List ℕ)) → AllZip IsPacketOfOnly lists packets
     → AllByRecursion IsRepresentable (flat_map (λ list. list) lists) → AllZip IsListOf packets lists
-lists_listed [] [] h said = tt
-lists_listed [] (p ∷ ps) h said = absurd h
-lists_listed (x ∷ xs) [] h said = absurd h
-lists_listed (x ∷ xs) (p ∷ ps) (one, rest) said =
-    let (here, later) = split_append IsRepresentable x (flat_map (λ list. list) xs) said in (
+lists_listed [] [] h representable = tt
+lists_listed [] (p ∷ ps) h representable = absurd h
+lists_listed (x ∷ xs) [] h representable = absurd h
+lists_listed (x ∷ xs) (p ∷ ps) (one, rest) representable =
+    let (here, later) = split_append IsRepresentable x (flat_map (λ list. list) xs) representable in (
       record { listed = All-from_recursion IsListed x (each_listed x (recursion_from_All IsFreeOfSeparators x one.free) here); whole = one.reads },
       lists_listed xs ps rest later,
     )
@@ -59,9 +59,9 @@ with_held packets (byte ∷ rest) lists h = (lists, h, refl)
 
 reads_listed : (metrics : List Metric) (packets : List (List ℕ)) (held : List ℕ) → All IsRepresentable metrics → ReadsAs metrics packets held
     → AreListed (packets ++ held ∷ []) metrics
-reads_listed metrics packets held said (lists, joined, zipped) =
+reads_listed metrics packets held representable (lists, joined, zipped) =
     let each : AllByRecursion IsRepresentable (flat_map (λ list. list) lists) =
-    subst (AllByRecursion IsRepresentable) (sym joined) (recursion_from_All IsRepresentable metrics said) in
+    subst (AllByRecursion IsRepresentable) (sym joined) (recursion_from_All IsRepresentable metrics representable) in
     subst (AreListed (packets ++ held ∷ [])) joined (with_held packets held lists (lists_listed lists (packets ++ held_packet held) zipped each))
 
 -- If the metrics of the kept calls have no separators, then the packets and the held text are the packets of these
@@ -70,7 +70,7 @@ pub kept_listed : {A : Type 0} (settings : Settings) (capacity : ℕ) (queue : O
     (outcome : Outcome LogState A)
     → IsNewWhole log → IsRun (given_to settings capacity queue steps log) outcome
     → All IsFreeOfSeparators (kept_metrics (given_to settings capacity queue steps log) outcome)
-    → AreListed (texts_of outcome) (kept_metrics (given_to settings capacity queue steps log) outcome)
+    → AreListed (texts_of_run outcome) (kept_metrics (given_to settings capacity queue steps log) outcome)
 kept_listed settings capacity queue steps log outcome (script, new, whole) run free =
     let given = given_to settings capacity queue steps log in
     let kind : ReportsWhole (log_kind log) = (refl, ap (λ l. has_no_short l.script) new ∙ whole) in
@@ -78,4 +78,4 @@ kept_listed settings capacity queue steps log outcome (script, new, whole) run f
     ap (λ (l : LogState). packets_of log_history (given_to settings capacity queue steps l) outcome) new in
     let reads = run.beside.one_reading kind refl free in
     subst (λ ps. AreListed (ps ++ outcome.held ∷ []) (kept_metrics given outcome)) packets
-    (reads_listed (kept_metrics given outcome) (packets_of log_history given outcome) outcome.held run.beside.said reads)
+    (reads_listed (kept_metrics given outcome) (packets_of log_history given outcome) outcome.held run.beside.representable reads)

@@ -7,9 +7,9 @@ use Rattle.cadence_flow.specs.declared.io.packet_log.Answer.{Answer}
 use Rattle.cadence_schedule.specs.declared.steps.Step.{Step}
 use Rattle.cadence_schedule.specs.Headline.{Given, given_of, HasHeadline, IsAccounted, turns_of}
 use Rattle.cadence_schedule.specs.RunHistory.{kept}
-use Rattle.cadence_flow.specs.declared.queue.policy.QueuePolicy.TheVariants.{Refuse}
+use Rattle.cadence_queue.specs.declared.policy.QueuePolicy.TheVariants.{Refuse}
 use Rattle.cadence_schedule.specs.Report.{Outcome}
-use Rattle.cadence_schedule.specs.Settings.{Settings}
+use Rattle.cadence_settings.specs.Settings.{Settings}
 use Rattle.cadence_read.specs.Listed.{AreListed}
 
 -- The log has no packets and no refusals yet, and none of its answers is short.
@@ -27,8 +27,8 @@ module _ {A : Type 0} where
     pub beside : IsAccounted log_history given outcome
 
   -- the packets of the log, and last the held text
-  abbrev pub texts_of : Outcome LogState A → List (List ℕ)
-  texts_of outcome = outcome.writer.packets ++ outcome.held ∷ []
+  abbrev pub texts_of_run : Outcome LogState A → List (List ℕ)
+  texts_of_run outcome = outcome.writer.packets ++ outcome.held ∷ []
 
   -- the metrics of the kept calls, in order: the calls that were accepted, and whose lines were handed on and not
   -- refused
@@ -40,5 +40,5 @@ module _ {A : Type 0} where
   abbrev pub IsUnreadable : LogState → Given A → Type 0
   IsUnreadable log given =
       (outcome : Outcome LogState A) × IsRun given outcome
-      × ((metrics : List Metric) → AreListed (texts_of outcome) metrics → ⊥)
+      × ((metrics : List Metric) → AreListed (texts_of_run outcome) metrics → ⊥)
       × (IsNewWhole log → All IsFreeOfSeparators (kept_metrics given outcome) → ⊥)

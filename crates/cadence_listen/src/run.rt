@@ -5,11 +5,12 @@ ghost use Rattle.cadence_text.specs.Owned.{metrics_of};
 ghost use Rattle.cadence_schedule.specs.Report.{outcome_of};
 ghost use Rattle.cadence_read.specs.Listed.{AreListed};
 ghost use Rattle.cadence_read.specs.declared.fault.ReadFault.TheVariants.{NotMetrics};
-ghost use Rattle.cadence_listen.specs.RunRead.{IsNewWhole, IsRun, given_to, kept_metrics, IsUnreadable, texts_of};
+ghost use Rattle.cadence_listen.specs.RunRead.{IsNewWhole, IsRun, given_to, kept_metrics, IsUnreadable, texts_of_run};
 
 use cadence_flow::io::PacketLog;
 use cadence_read::{ReadFault, read_run};
-use cadence_schedule::{ClientSettings, Report, Step, run_schedule};
+use cadence_schedule::{Report, Step, run_schedule};
+use cadence_settings::ClientSettings;
 use cadence_text::line::OwnedMetric;
 use std::alloc::Allocator;
 
@@ -32,7 +33,7 @@ pub fn run_and_read<A: Allocator + Clone>(
     ensures run { IfOk result (λ both.
         IsRun (given_to settings.now capacity queue steps.now log) (outcome_of both.0)) }
     ensures read { IfOk result (λ both.
-        AreListed (texts_of (outcome_of both.0)) (metrics_of both.1)) }
+        AreListed (texts_of_run (outcome_of both.0)) (metrics_of both.1)) }
     ensures kept { let given = given_to settings.now capacity queue steps.now log in
         IsNewWhole log → IfOk result (λ both.
         All IsFreeOfSeparators (kept_metrics given (outcome_of both.0)) →

@@ -1,6 +1,6 @@
-pub mod Answers
-pub mod Flushes
+pub mod FlushTimes
 pub mod Queuing
 pub use Rattle.cadence_errors.specs.Errors
-pub use Rattle.cadence_resolve.specs.Handler
+pub use Rattle.cadence_flow.specs.Handler
 pub use Rattle.cadence_flow.specs.Writer
+pub use Rattle.cadence_queue.specs.Answers

@@ -1,4 +1,4 @@
--- What contracts show of a queuing sink, of its builders, of a repeater and of a flushing sink, whose fields are private.
+-- What contracts show of a queuing sink, of its builder, of a repeater and of a flushing sink, whose fields are private.
 use Rattle.std.specs.Prelude.{◌≡◌, ◌≢◌, ℕ, List, Option, None, Result, Err}
 use Rattle.std.specs.Arc.{arc_value}
 use Rattle.std.specs.Option.{option_map}
@@ -6,17 +6,16 @@ use Rattle.std.specs.declared.time.Duration.{Duration}
 use Rattle.std.specs.declared.dyn_box.DynBox.{DynBox}
 use Rattle.cadence_errors.specs.declared.SinkError.{SinkError}
 use Rattle.cadence_errors.specs.declared.SinkError.TheVariants.{ChannelFull, Io, OutOfMemory}
-use Rattle.cadence_queuing.specs.Answers.{IsQueueAnswer}
+use Rattle.cadence_queue.specs.Answers.{IsQueueAnswer}
 use Rattle.cadence_errors.specs.declared.MetricError.{MetricError}
 use Rattle.cadence_errors.specs.declared.MetricError.TheVariants.{Sink}
-use Rattle.cadence_flow.specs.declared.queue.policy.QueuePolicy.{QueuePolicy}
-use Rattle.cadence_shared.specs.SharedQueue.{bound_of, rule_of}
-use Rattle.cadence_resolve.specs.Handler.{closure_of}
+use Rattle.cadence_queue.specs.declared.policy.QueuePolicy.{QueuePolicy}
+use Rattle.cadence_queue.specs.SharedQueue.{bound_of, rule_of}
+use Rattle.cadence_flow.specs.Handler.{closure_of}
 use Rattle.cadence_queuing.specs.declared.flushing.FlushingMetricSink.{FlushingMetricSink}
 use Rattle.cadence_queuing.specs.declared.repeater.Repeater.{Repeater}
 use Rattle.cadence_queuing.specs.declared.queuing.sink.QueuingMetricSink.{QueuingMetricSink}
 use Rattle.cadence_queuing.specs.declared.queuing.builder.QueuingMetricSinkBuilder.{QueuingMetricSinkBuilder}
-use Rattle.cadence_queuing.specs.declared.queuing.builder.FlushingQueueBuilder.{FlushingQueueBuilder}
 
 -- A queuing or a flushing sink is not made because memory ran out, or because the thread could not be started.
 abbrev pub IsQueuingRefusal : MetricError → Type 0
@@ -67,10 +66,6 @@ module _ {A Y : Type 0} {G : Y → Type 0} {g : _} where
   abbrev pub handler_of : QueuingMetricSinkBuilder A Y G g → Option (DynBox Y A G)
   handler_of b = option_map closure_of b.handler
 
-  -- the settings of a builder with a period, beside its period
-  abbrev pub settings_of : FlushingQueueBuilder A Y G g → QueuingMetricSinkBuilder A Y G g
-  settings_of b = b.settings
-
-  -- the period of such a builder
-  abbrev pub flush_period_of : FlushingQueueBuilder A Y G g → Duration
+  -- after which time the worker that a builder starts flushes the wrapped sink, or none if it never does
+  abbrev pub flush_period_of : QueuingMetricSinkBuilder A Y G g → Option Duration
   flush_period_of b = b.period

@@ -1,8 +1,8 @@
 //! When a worker that flushes by time has to flush.
-ghost use Rattle.std.specs.Prelude.{◌≡◌, ◌+◌, ◌-◌, ◌≤◌, ◌<◌, false, true, IfNone, IfSome};
+ghost use Rattle.std.specs.Prelude.{◌≡◌, ◌+◌, ◌-◌, ◌≤◌, ◌<◌, false, true, IfNone, IfSome, is_some};
 ghost use Rattle.std.specs.Duration.{as_nanos};
 ghost use Rattle.std.specs.Time.{instant_nanos};
-ghost use Rattle.cadence_queuing.specs.Flushes.{IsTimeLeft, CountsAs, shortest_wait};
+ghost use Rattle.cadence_queuing.specs.FlushTimes.{IsTimeLeft, CountsAs, CountsAsIfAny, shortest_wait};
 
 use std::time::{Duration, Instant};
 
@@ -13,11 +13,11 @@ const SHORTEST_WAIT: u64 = 1;
 /// since. It reads no clock: each call is given the time, or `None` if the clock couldn't be read.
 #[derive(Drop)]
 pub struct FlushTimer {
-    /// The longest time between two flushes, if lines come.
-    pub period: Duration,
+    /// The longest time between two flushes, if lines come. Without a period no flush is ever owed.
+    pub period: Option<Duration>,
     /// When the sink was last flushed, or else when the worker began. `None` if the clock couldn't be read then.
     pub last: Option<Instant>,
-    /// Whether a line was handed on since the last flush that succeeded.
+    /// Whether there is a period, and a line was handed on since the last flush that succeeded.
     pub owes_flush: bool,
 }
 
@@ -41,31 +41,42 @@ fn time_left(period: Duration, last: Instant, now: Instant) -> Option<Duration>
     if left.is_zero() { None } else { Some(left) }
 }
 
+// Returns the period that a worker keeps if it is given this one.
+fn kept_period(period: Duration) -> Duration
+    ensures { CountsAs period result }
+{
+    if period.is_zero() {
+        period
+    } else {
+        at_least_shortest(period)
+    }
+}
+
 impl FlushTimer {
-    /// Starts a period at this time. No line was handed on yet. A period above 0 and below one millisecond counts as
-    /// one millisecond.
-    pub fn start(period: Duration, now: Option<Instant>) -> FlushTimer
-        ensures period { CountsAs period result.period }
+    /// Starts a period at this time, if there is one. No line was handed on yet. A period above 0 and below one
+    /// millisecond counts as one millisecond.
+    pub fn start(period: Option<Duration>, now: Option<Instant>) -> FlushTimer
+        ensures period { CountsAsIfAny period result.period }
         ensures last { result.last ≡ now }
         ensures owes { result.owes_flush ≡ false }
     {
+        let period = match period {
+            Some(period) => Some(kept_period(period)),
+            None => None,
+        };
         FlushTimer {
-            period: if period.is_zero() {
-                period
-            } else {
-                at_least_shortest(period)
-            },
+            period,
             last: now,
             owes_flush: false,
         }
     }
 
-    /// Notes that a line was handed on.
+    /// Notes that a line was handed on. If there is a period, a flush is owed then.
     pub fn note_line(&mut self)
-        ensures owes { self.new.owes_flush ≡ true }
+        ensures owes { self.new.owes_flush ≡ is_some self.new.period }
         ensures same { (self.new.period ≡ self.old.period) × (self.new.last ≡ self.old.last) }
     {
-        self.owes_flush = true;
+        self.owes_flush = self.period.is_some();
     }
 
     /// Notes that the sink was flushed at this time. If the flush failed, the next one is still owed.
@@ -81,13 +92,13 @@ impl FlushTimer {
         }
     }
 
-    /// Returns how much of the period since the last flush is left at this time. `None` means that nothing is left, or
-    /// that the clock couldn't be read.
+    /// Returns how much of the period since the last flush is left at this time. `None` means that nothing is left,
+    /// that the clock couldn't be read, or that there is no period.
     pub fn left(&self, now: Option<Instant>) -> Option<Duration>
         ensures { IsTimeLeft self.now.period self.now.last now result }
     {
-        match (self.last, now) {
-            (Some(last), Some(now)) => time_left(self.period, last, now),
+        match (self.period, self.last, now) {
+            (Some(period), Some(last), Some(now)) => time_left(period, last, now),
             _ => None,
         }
     }

@@ -2,10 +2,10 @@
 ghost use Rattle.std.specs.Prelude.{◌≡◌, IfErr, IfOk};
 ghost use Rattle.cadence_queuing.specs.Queuing.{IsQueuingRefusal, flushed_sink};
 
-use crate::repeater::{Repeated, Repeater};
-use crate::{Handler, MetricSink, SinkErrorHandler};
+use crate::repeater::{PeriodicWork, Repeater};
 use cadence_errors::{MetricResult, SinkError};
 use cadence_flow::stats::SinkStats;
+use cadence_flow::{Handler, MetricSink, SinkErrorHandler};
 use std::alloc::{Allocator, Global};
 use std::sync::Wait;
 use std::thread::Threads;
@@ -13,12 +13,12 @@ use std::time::{Clock, Duration};
 
 /// The work of flushing a sink.
 #[derive(Drop)]
-pub struct Flushes<S: MetricSink> {
+pub struct FlushWork<S: MetricSink> {
     pub sink: S,
 }
 
-impl<S: MetricSink> Repeated for Flushes<S> {
-    fn repeat<R: Wait>(&self, _rt: &R) -> Result<(), SinkError> {
+impl<S: MetricSink> PeriodicWork for FlushWork<S> {
+    fn do_once<R: Wait>(&self, _rt: &R) -> Result<(), SinkError> {
         self.sink.flush()
     }
 }
@@ -36,7 +36,7 @@ impl<S: MetricSink> Repeated for Flushes<S> {
 /// ```
 #[derive(Drop)]
 pub struct FlushingMetricSink<S: MetricSink, R: Wait + Drop, A: Allocator = Global> {
-    repeater: Repeater<Flushes<S>, R, A>,
+    repeater: Repeater<FlushWork<S>, R, A>,
 }
 
 impl<
@@ -51,7 +51,7 @@ impl<
         ensures wrapped { IfOk result (λ f. flushed_sink f ≡ sink) }
         ensures refused { IfErr result IsQueuingRefusal }
     {
-        let repeater = Repeater::start(rt, alloc, Flushes { sink }, period, None)?;
+        let repeater = Repeater::start(rt, alloc, FlushWork { sink }, period, None)?;
         Ok(FlushingMetricSink { repeater })
     }
 
@@ -70,7 +70,7 @@ impl<
         ensures refused { IfErr result IsQueuingRefusal }
     {
         let handler = Some(Handler::new(handler));
-        let repeater = Repeater::start(rt, alloc, Flushes { sink }, period, handler)?;
+        let repeater = Repeater::start(rt, alloc, FlushWork { sink }, period, handler)?;
         Ok(FlushingMetricSink { repeater })
     }
 }
@@ -91,8 +91,8 @@ impl<S: MetricSink, R: Wait + Drop, A: Allocator> MetricSink for FlushingMetricS
 
     ghost flush_may_succeed = { λ f. S.flush_may_succeed (flushed_sink f) };
 
-    fn emit(&self, metric: &str) -> Result<usize, SinkError> {
-        self.sink().emit(metric)
+    fn emit(&self, line: &str) -> Result<usize, SinkError> {
+        self.sink().emit(line)
     }
 
     fn flush(&self) -> Result<(), SinkError> {

@@ -1,5 +1,4 @@
-//! The sinks that share another sink with a thread: the queuing sink and the flushing sink. The trait of all sinks is that
-//! of `cadence_shared`, which this crate passes on.
+//! The sinks that share another sink with a thread: the queuing sink and the flushing sink.
 //!
 //! - `flush_timer`: when a worker that flushes by time has to flush
 //! - `flushing`: a sink that is flushed by a thread again and again
@@ -14,9 +13,7 @@ mod queuing;
 mod repeater;
 mod worklist;
 
-pub use cadence_resolve::{Handler, SinkErrorHandler};
-pub use cadence_shared::{MetricSink, NopMetricSink};
 pub use flushing::FlushingMetricSink;
-pub use queuing::{FlushingQueueBuilder, QueuingMetricSink, QueuingMetricSinkBuilder};
-pub use repeater::{Repeated, Repeater};
+pub use queuing::{QueuingMetricSink, QueuingMetricSinkBuilder};
+pub use repeater::{PeriodicWork, Repeater};
 pub use worklist::{Worklist, work};

@@ -2,10 +2,10 @@
 ghost use Rattle.std.specs.Prelude.{◌≡◌, IfErr, IfOk};
 ghost use Rattle.cadence_queuing.specs.Queuing.{IsQueuingRefusal, repeated_work};
 
-use crate::Handler;
 use cadence_errors::{MetricResult, SinkError};
-use cadence_resolve::thread::{Job, start};
-use cadence_shared::WorkerEnd;
+use cadence_flow::Handler;
+use cadence_flow::thread::{Job, start};
+use cadence_queue::Latch;
 use std::alloc::{Allocator, Global};
 use std::sync::{Arc, Wait};
 use std::thread::{self, Threads};
@@ -15,19 +15,19 @@ use std::time::{Clock, Duration, Instant};
 const SHORTEST_PERIOD: u64 = 1;
 
 /// Work that a thread does again and again.
-pub trait Repeated: Drop {
+pub trait PeriodicWork: Drop {
     /// Does the work once.
-    fn repeat<R: Wait>(&self, rt: &R) -> Result<(), SinkError>;
+    fn do_once<R: Wait>(&self, rt: &R) -> Result<(), SinkError>;
 }
 
 // What the owner and the thread share. The mark is set when the thread has to end.
 #[derive(Drop)]
-struct Repeats<W: Repeated> {
+struct SharedWork<W: PeriodicWork> {
     work: W,
-    end: WorkerEnd,
+    end: Latch,
 }
 
-impl<W: Repeated> Repeats<W> {
+impl<W: PeriodicWork> SharedWork<W> {
     // Does the work after each period, until the mark is set. An error goes to the handler.
     fn run<R: Wait + Clock, A: Allocator>(
         &self,
@@ -43,7 +43,7 @@ impl<W: Repeated> Repeats<W> {
             if Instant::now(rt).is_err() {
                 thread::sleep(rt, period);
             }
-            if let (Err(fault), Some(handler)) = (self.work.repeat(rt), handler) {
+            if let (Err(fault), Some(handler)) = (self.work.do_once(rt), handler) {
                 handler.handle(fault);
             }
         }
@@ -52,13 +52,13 @@ impl<W: Repeated> Repeats<W> {
 
 // What the thread needs beside the handler.
 #[derive(Drop)]
-struct Thread<W: Repeated, R: Wait + Clock + Drop, A: Allocator> {
+struct Thread<W: PeriodicWork, R: Wait + Clock + Drop, A: Allocator> {
     rt: R,
-    shared: Arc<Repeats<W>, A>,
+    shared: Arc<SharedWork<W>, A>,
     period: Duration,
 }
 
-impl<W: Repeated, R: Wait + Clock + Drop, A: Allocator> Job<Option<Handler<A>>>
+impl<W: PeriodicWork, R: Wait + Clock + Drop, A: Allocator> Job<Option<Handler<A>>>
     for Thread<W, R, A> {
     fn run(self, handler: Option<Handler<A>>) {
         self.shared.run(&self.rt, self.period, &handler)
@@ -69,13 +69,13 @@ impl<W: Repeated, R: Wait + Clock + Drop, A: Allocator> Job<Option<Handler<A>>>
 ///
 /// The drop stops the thread and doesn't wait for it. Then it does the work once more, and drops the error of this. It
 /// keeps the runtime `R`, whose locks it takes.
-pub struct Repeater<W: Repeated, R: Wait + Drop, A: Allocator = Global> {
+pub struct Repeater<W: PeriodicWork, R: Wait + Drop, A: Allocator = Global> {
     rt: R,
-    shared: Arc<Repeats<W>, A>,
+    shared: Arc<SharedWork<W>, A>,
 }
 
 impl<
-    W: Repeated + Send + Sync + 'static,
+    W: PeriodicWork + Send + Sync + 'static,
     R: Wait + Clock + Threads + Clone + Drop + Send + Sync + 'static,
     A: Allocator + Clone + Send + Sync + 'static,
 > Repeater<W, R, A> {
@@ -92,9 +92,9 @@ impl<
         ensures work { IfOk result (λ r. repeated_work r ≡ work) }
         ensures refused { IfErr result IsQueuingRefusal }
     {
-        let end = WorkerEnd::new();
+        let end = Latch::new();
         let shortest = Duration::from_millis(SHORTEST_PERIOD);
-        let shared = Arc::new(alloc, Repeats { work, end })?;
+        let shared = Arc::new(alloc, SharedWork { work, end })?;
         let thread = Thread {
             rt: rt.clone()?,
             shared: shared.clone()?,
@@ -105,7 +105,7 @@ impl<
     }
 }
 
-impl<W: Repeated, R: Wait + Drop, A: Allocator> Repeater<W, R, A> {
+impl<W: PeriodicWork, R: Wait + Drop, A: Allocator> Repeater<W, R, A> {
     /// Returns the work.
     pub fn work(&self) -> &W
         ensures { result.now ≡ repeated_work self.now }
@@ -119,10 +119,10 @@ impl<W: Repeated, R: Wait + Drop, A: Allocator> Repeater<W, R, A> {
     }
 }
 
-impl<W: Repeated, R: Wait + Drop, A: Allocator> Drop for Repeater<W, R, A> {
+impl<W: PeriodicWork, R: Wait + Drop, A: Allocator> Drop for Repeater<W, R, A> {
     fn drop(self) {
         self.shared.end.mark(&self.rt);
-        let _ = self.shared.work.repeat(&self.rt);
+        let _ = self.shared.work.do_once(&self.rt);
         let Repeater { rt: _, shared: _ } = self;
     }
 }

@@ -10,9 +10,9 @@ use Rattle.cadence_text.specs.Line.{tag_text}
 use Rattle.cadence_text.specs.Metric.{Tag}
 use Rattle.cadence_value.specs.Number.{Number, decimal_text, number_text, numbers_text, joined_texts}
 use Rattle.cadence_value.specs.Finds.{HasNone, PrintsAs}
-use Rattle.cadence_value.proofs.SplitTexts.{Lacks, lacks_no, cut_at, each_image, each_mapped}
-use Rattle.cadence_value.proofs.Digits.{decimal_text_once}
-use Rattle.cadence_text.proofs.LineText.{joined_texts-joined, keyed_text, key_text-keyed, plain_lacks_colon, number_lacks, tag_lacks}
+use Rattle.cadence_value.proofs.lists.SplitTexts.{Lacks, lacks_no, cut_at, each_image, each_mapped}
+use Rattle.cadence_value.proofs.digits.Digits.{decimal_text_once}
+use Rattle.cadence_text.proofs.grammar.LineText.{joined_texts-joined, keyed_text, key_text-keyed, plain_lacks_colon, number_lacks, tag_lacks}
 use Rattle.cadence_read.specs.declared.fault.ReadFault.{ReadFault}
 use Rattle.cadence_read.specs.declared.fault.ReadFault.TheVariants.{NotMetrics, OutOfMemory}
 use Rattle.cadence_read.specs.LineTexts.{pieces_left, tags_text}

@@ -18,10 +18,10 @@ use Rattle.cadence_text.specs.Metric.{Metric, Tag}
 use Rattle.cadence_value.specs.Number.{IsDecimal, Number, decimal_text, number_text, numbers_text}
 use Rattle.cadence_text.specs.OneReading.{IsFreeText, IsFreeTag, IsNoSeparator}
 use Rattle.cadence_text.specs.Representable.{IsRepresentableTag}
-use Rattle.cadence_value.proofs.SplitTexts.{Lacks, Stops, cut_at}
-use Rattle.cadence_text.proofs.LineText.{marked, parts_of, front_of, last_of, rate_part, tags_part, container_part, time_part}
-use Rattle.cadence_text.proofs.LineText.{joined_texts-joined, line_of-joined, lacks_bars}
-use Rattle.cadence_read.specs.LineTexts.{LineTexts, tags_text, texts_of, field_part, field_parts, parts_of_texts, pieces_left, IsMarked}
+use Rattle.cadence_value.proofs.lists.SplitTexts.{Lacks, Stops, cut_at}
+use Rattle.cadence_text.proofs.grammar.LineText.{marked, parts_of, front_of, last_of, rate_part, tags_part, container_part, time_part}
+use Rattle.cadence_text.proofs.grammar.LineText.{joined_texts-joined, line_of-joined, lacks_bars}
+use Rattle.cadence_read.specs.LineTexts.{LineTexts, tags_text, field_texts, field_part, field_parts, parts_of_texts, pieces_left, IsMarked}
 use Rattle.cadence_read.specs.Listed.{IsListed, IsListedTag, IsText}
 use Rattle.cadence_read.proofs.Pieces.{named_front, pieces, pieces-joined}
 
@@ -160,11 +160,11 @@ time_same : (o : Option ℕ) → field_part (codes "T") (option_map decimal_text
 time_same (Some t) = refl
 time_same None = refl
 
-pub parts_same : (m : Metric) → parts_of_texts (texts_of m) ≡ parts_of m
+pub parts_same : (m : Metric) → parts_of_texts (field_texts m) ≡ parts_of m
 parts_same m =
     let front : m.name ++ (58 ∷ numbers_text m.numbers) ≡ front_of m = ap (λ t. m.name ++ (58 ∷ t)) (joined_texts-joined 58 number_text m.numbers) in
     let later = ap₂ (λ a b. a ++ b) (container_same m.container) (time_same m.time) in
-    let last : field_parts (texts_of m) ≡ last_of m = ap₂ (λ a b. a ++ b) (rate_same m.rate) (ap₂ (λ a b. a ++ b) (tags_same m.tags) later) in
+    let last : field_parts (field_texts m) ≡ last_of m = ap₂ (λ a b. a ++ b) (rate_same m.rate) (ap₂ (λ a b. a ++ b) (tags_same m.tags) later) in
     ap₂ (λ a b. a ∷ kind_text m.kind ∷ b) front last
 
 -- A text that may be missing is in UTF-8 and has no separators exactly if it is both.
@@ -215,12 +215,12 @@ key_listed tag h = text_some tag.key h.free.key h.representable.key
 pub text_listed : (tag : Tag) → IsListedTag tag → IsText tag.text
 text_listed tag h = (h.free.text, h.representable.text)
 
-pub line_cut : (m : Metric) (line : List ℕ) → IsListed m → line_of m ≡ line → parts_of_texts (texts_of m) ≡ pieces 124 line
+pub line_cut : (m : Metric) (line : List ℕ) → IsListed m → line_of m ≡ line → parts_of_texts (field_texts m) ≡ pieces 124 line
 line_cut m line h e =
     parts_same m ∙ sym (pieces-joined 124 (front_of m) (kind_text m.kind ∷ last_of m) (lacks_bars m h.free))
     ∙ ap (pieces 124) (sym (line_of-joined m) ∙ e)
 
-pub line_found : (m : Metric) (line : List ℕ) → parts_of_texts (texts_of m) ≡ pieces 124 line → line_of m ≡ line
+pub line_found : (m : Metric) (line : List ℕ) → parts_of_texts (field_texts m) ≡ pieces 124 line → line_of m ≡ line
 line_found m line e = line_of-joined m ∙ ap (join_with_byte 124) (sym (parts_same m) ∙ e) ∙ join_with_byte-slice_split 124 line
 
 -- The name of a metric that can be read has no colon.
@@ -228,12 +228,12 @@ pub name_plain : (m : Metric) → IsListed m → All (λ byte. byte ≢ 58) m.na
 name_plain m h = All-weaker IsNoSeparator (λ byte. byte ≢ 58) (λ b p. p.0) m.name h.free.name
 
 -- A metric that can be read has this line exactly if its fields have these texts.
-pub line_from_texts : (m : Metric) (line : List ℕ) (t : LineTexts) → parts_of_texts t ≡ pieces 124 line → texts_of m ≡ t → line_of m ≡ line
+pub line_from_texts : (m : Metric) (line : List ℕ) (t : LineTexts) → parts_of_texts t ≡ pieces 124 line → field_texts m ≡ t → line_of m ≡ line
 line_from_texts m line t parts e = line_found m line (ap parts_of_texts e ∙ parts)
 
 pub texts_from_line : (m : Metric) (line : List ℕ) (t : LineTexts) → IsListed m → All (λ byte. byte ≢ 58) t.name
-    → parts_of_texts t ≡ pieces 124 line → line_of m ≡ line → texts_of m ≡ t
-texts_from_line m line t h plain parts e = texts_once (texts_of m) t (name_plain m h) plain (line_cut m line h e ∙ sym parts)
+    → parts_of_texts t ≡ pieces 124 line → line_of m ≡ line → field_texts m ≡ t
+texts_from_line m line t h plain parts e = texts_once (field_texts m) t (name_plain m h) plain (line_cut m line h e ∙ sym parts)
 
 -- A text without separators has no colon, no bar and no newline.
 pub plain_colon : (name : List ℕ) → All IsNoSeparator name → All (λ byte. byte ≢ 58) name
@@ -283,5 +283,5 @@ taken_fields t parts r1 r2 r3 r4 h1 h2 h3 h4 none =
 
 -- The line of a metric that can be read begins with its name and a colon.
 pub line_named : (m : Metric) (line : List ℕ) → IsListed m → line_of m ≡ line
-    → line ≡ m.name ++ 58 ∷ join_with_byte 124 (numbers_text m.numbers ∷ kind_text m.kind ∷ field_parts (texts_of m))
-line_named m line h e = named_front 124 line m.name (numbers_text m.numbers) (kind_text m.kind ∷ field_parts (texts_of m)) (sym (line_cut m line h e))
+    → line ≡ m.name ++ 58 ∷ join_with_byte 124 (numbers_text m.numbers ∷ kind_text m.kind ∷ field_parts (field_texts m))
+line_named m line h e = named_front 124 line m.name (numbers_text m.numbers) (kind_text m.kind ∷ field_parts (field_texts m)) (sym (line_cut m line h e))

@@ -15,8 +15,8 @@ use Rattle.cadence_text.specs.Metric.{Metric}
 use Rattle.cadence_text.specs.OneReading.{IsFreeOfSeparators, IsPacketOf, lines_of}
 use Rattle.cadence_text.specs.Owned.{metric_of_owned, metrics_of}
 use Rattle.cadence_text.specs.declared.line.record.owned.OwnedMetric.{OwnedMetric}
-use Rattle.cadence_value.proofs.SplitTexts.{Lacks, lacks_no, each_mapped}
-use Rattle.cadence_text.proofs.LineText.{line_lacks, packet_once}
+use Rattle.cadence_value.proofs.lists.SplitTexts.{Lacks, lacks_no, each_mapped}
+use Rattle.cadence_text.proofs.grammar.LineText.{line_lacks, packet_once}
 use Rattle.cadence_read.specs.declared.fault.ReadFault.{ReadFault}
 use Rattle.cadence_read.specs.declared.fault.ReadFault.TheVariants.{NotMetrics, OutOfMemory}
 use Rattle.cadence_read.specs.Listed.{IsListed, IsListOf, ReadsPacket}

@@ -1,4 +1,4 @@
--- Texts that are cut at each mark, and the values that are read from the pieces.
+-- Texts that are split at each mark, and the values that are read from the pieces.
 use Rattle.std.proofs.Common.{◌≡◌, ◌≢◌, ℕ, ◌<◌, List, [], ◌∷◌, ◌++◌, length, map, get_or, refl, sym, ap, ◌∙◌, subst, arith, eqb, false}
 use Rattle.std.proofs.Common.{Option, Some, None}
 use Rattle.std.specs.List.{All, AllByRecursion, join_with_byte, slice_split}
@@ -6,11 +6,11 @@ use Rattle.std.proofs.lemmas.Bool.{ne_eqb, eq-eqb}
 use Rattle.std.proofs.lemmas.List.{append_assoc, append-nil, length-append, map-append}
 use Rattle.std.proofs.lemmas.List.Elements.{All-from_recursion, All-push, recursion_from_All}
 use Rattle.std.proofs.lemmas.List.Splits.{slice_split_none, slice_split_at, slice_split-cons_no, join_with_byte-slice_split, length-slice_split}
-use Rattle.cadence_value.proofs.SplitTexts.{Lacks, each_append}
+use Rattle.cadence_value.proofs.lists.SplitTexts.{Lacks, each_append}
 use Rattle.cadence_read.specs.LineTexts.{pieces_left}
 use Rattle.cadence_value.specs.Finds.{HasNone, PrintsAs}
 
--- the pieces of a text, cut at each such byte
+-- the pieces of a text, split at each such byte
 abbrev pub pieces : ℕ → List ℕ → List (List ℕ)
 pieces c text = slice_split (λ b. eqb b c) text
 
@@ -25,7 +25,7 @@ pieces-none c xs h = slice_split_none (λ b. eqb b c) xs (none_is c xs h)
 pub pieces-at : (c : ℕ) (xs ys : List ℕ) → All (λ b. b ≢ c) xs → pieces c (xs ++ c ∷ ys) ≡ xs ∷ pieces c ys
 pieces-at c xs ys h = slice_split_at (λ b. eqb b c) xs c ys (none_is c xs h) (eq-eqb c c refl)
 
--- Pieces without the byte, joined by it and then cut at it, are the same pieces.
+-- Pieces without the byte, joined by it and then split at it, are the same pieces.
 pub pieces-joined : (c : ℕ) (x : List ℕ) (xs : List (List ℕ)) → AllByRecursion (Lacks c) (x ∷ xs) → pieces c (join_with_byte c (x ∷ xs)) ≡ x ∷ xs
 pieces-joined c x [] (h, hs) = pieces-none c x (All-from_recursion (λ b. b ≢ c) x h)
 pieces-joined c x (y ∷ ys) (h, hs) =
@@ -81,7 +81,7 @@ refused_at Good shown ys before left later all piece so_far next none good e =
 pub read_all : (read all : List (List ℕ)) (mark : ℕ) (left : Option (List ℕ)) → left ≡ None → read ++ pieces_left mark left ≡ all → read ≡ all
 read_all read all mark left none e = sym (append-nil read) ∙ ap (λ o. read ++ pieces_left mark o) (sym none) ∙ e
 
--- A text that is cut at each mark has a first piece.
+-- A text that is split at each mark has a first piece.
 pub first_piece : (c : ℕ) (text : List ℕ) → (piece : List ℕ) × (later : List (List ℕ)) × (pieces c text ≡ piece ∷ later)
 first_piece c text = at (pieces c text) (omega (arith, length-slice_split (λ b. eqb b c) text)) refl
   where

@@ -5,7 +5,7 @@ use Rattle.std.specs.Option.{option_map, option_copied}
 use Rattle.cadence_text.specs.Line.{kind_text, tag_text}
 use Rattle.cadence_text.specs.Metric.{Metric, Tag}
 use Rattle.cadence_value.specs.Number.{decimal_text, number_text, joined_texts, numbers_text}
-use Rattle.cadence_read.specs.declared.cuts.TextsOfLine.{TextsOfLine}
+use Rattle.cadence_read.specs.declared.splitting.TextsOfLine.{TextsOfLine}
 
 -- the texts of a line's fields, each without the mark that begins its field
 pub record LineTexts : Type 0 where
@@ -23,8 +23,8 @@ tags_text [] = None
 tags_text (tag ∷ tags) = Some (joined_texts (codes ",") tag_text (tag ∷ tags))
 
 -- the texts of a metric's fields
-abbrev pub texts_of : Metric → LineTexts
-texts_of m = record {
+abbrev pub field_texts : Metric → LineTexts
+field_texts m = record {
   name = m.name;
   numbers = numbers_text m.numbers;
   kind = kind_text m.kind;
@@ -48,7 +48,7 @@ field_parts t =
 abbrev pub parts_of_texts : LineTexts → List (List ℕ)
 parts_of_texts t = (t.name ++ (codes ":" ++ t.numbers)) ∷ t.kind ∷ field_parts t
 
--- the pieces, cut at each mark, of the text that is left, or none if no text is left
+-- the pieces, split at each mark, of the text that is left, or none if no text is left
 abbrev pub pieces_left : ℕ → Option (List ℕ) → List (List ℕ)
 pieces_left mark None = []
 pieces_left mark (Some text) = slice_split (λ byte. byte == mark) text
@@ -59,7 +59,7 @@ abbrev pub IsMarked : List ℕ → List (List ℕ) → Option (List ℕ) → Lis
 IsMarked mark parts (Some text) rest = parts ≡ (mark ++ text) ∷ rest
 IsMarked mark parts None rest = (rest ≡ parts) × ((text : List ℕ) (more : List (List ℕ)) → parts ≡ (mark ++ text) ∷ more → ⊥)
 
--- the texts that `cut_line` cut from a line
+-- the texts that `split_fields` split from a line
 abbrev pub line_texts : TextsOfLine → LineTexts
 line_texts t = record {
   name = t.name.now;

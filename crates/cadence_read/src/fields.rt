@@ -12,10 +12,10 @@ ghost use Rattle.cadence_read.specs.Listed.{IsListedTag, IsText};
 ghost use Rattle.cadence_value.specs.Finds.{Reads};
 ghost use Rattle.cadence_read.specs.Reads.{ReadsOrFails};
 
-use crate::cuts::cut_piece;
 use crate::fault::ReadFault;
+use crate::splitting::split_piece;
 use cadence_text::line::{MetricType, OwnedTag, is_free};
-use cadence_value::bytes::cut;
+use cadence_value::bytes::split_once;
 use cadence_value::decimal::{Decimal, read_number, read_whole};
 use std::alloc::Allocator;
 
@@ -54,7 +54,7 @@ pub(crate) fn read_numbers<A: Allocator>(
     let mut numbers = Vec::with_capacity(alloc, 1)?;
     let mut left = Some(text);
     while let Some(text) = left {
-        let (piece, others) = cut_piece(text, b':');
+        let (piece, others) = split_piece(text, b':');
         let Some(number) = read_number(piece) else {
             return Err(ReadFault::NotMetrics);
         };
@@ -89,7 +89,7 @@ pub(crate) fn read_rate(text: Option<&[u8]>) -> Result<Option<Decimal>, ReadFaul
 fn read_tag<A: Allocator + Clone>(alloc: &A, text: &[u8]) -> Result<OwnedTag<A>, ReadFault>
     ensures { ReadsOrFails IsListedTag tag_text text.now tag_of_owned result }
 {
-    let Some((key, text)) = cut(text, b':') else {
+    let Some((key, text)) = split_once(text, b':') else {
         let text = read_text(alloc.clone()?, text)?;
         return Ok((None, text));
     };
@@ -111,7 +111,7 @@ pub(crate) fn read_tags<A: Allocator + Clone>(
     let mut tags = Vec::new(alloc.clone()?);
     let mut left = text;
     while let Some(text) = left {
-        let (piece, others) = cut_piece(text, b',');
+        let (piece, others) = split_piece(text, b',');
         let tag = read_tag(alloc, piece)?;
         tags.push(tag)?;
         left = others;

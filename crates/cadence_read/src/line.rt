@@ -3,15 +3,15 @@ ghost use Rattle.std.specs.Prelude.{◌∷◌, ◌++◌, All};
 ghost use Rattle.cadence_text.specs.Line.{line_of};
 ghost use Rattle.cadence_text.specs.OneReading.{IsNoSeparator};
 ghost use Rattle.cadence_text.specs.Owned.{metric_of_owned};
-ghost use Rattle.cadence_read.specs.LineTexts.{texts_of, line_texts};
+ghost use Rattle.cadence_read.specs.LineTexts.{field_texts, line_texts};
 ghost use Rattle.cadence_read.specs.Listed.{IsListed};
 ghost use Rattle.cadence_read.specs.Reads.{ReadsOrFails};
 
-use crate::cuts::{TextsOfLine, cut_line, cut_name, plain_texts};
 use crate::fault::ReadFault;
 use crate::fields::{
     read_container, read_free, read_kind, read_numbers, read_rate, read_tags, read_time,
 };
+use crate::splitting::{TextsOfLine, plain_texts, split_fields, split_name};
 use cadence_text::line::OwnedMetric;
 use std::alloc::Allocator;
 
@@ -24,7 +24,7 @@ fn read_texts<A: Allocator + Clone>(
     texts: TextsOfLine<'_>,
 ) -> Result<OwnedMetric<A>, ReadFault>
     requires { All IsNoSeparator texts.name.now }
-    ensures { ReadsOrFails IsListed texts_of (line_texts texts.entry) metric_of_owned result }
+    ensures { ReadsOrFails IsListed field_texts (line_texts texts.entry) metric_of_owned result }
 {
     let Some(kind) = read_kind(texts.kind) else {
         return Err(ReadFault::NotMetrics);
@@ -58,7 +58,7 @@ pub(crate) fn read_named<A: Allocator + Clone>(
     requires { All IsNoSeparator name.now }
     ensures { ReadsOrFails IsListed line_of (name.now ++ 58 ∷ rest.now) metric_of_owned result }
 {
-    let Some(texts) = cut_line(name, rest) else {
+    let Some(texts) = split_fields(name, rest) else {
         return Err(ReadFault::NotMetrics);
     };
     if texts.is_plain() {
@@ -74,7 +74,7 @@ pub(crate) fn read_named<A: Allocator + Clone>(
 pub fn read_line<A: Allocator + Clone>(alloc: &A, line: &[u8]) -> Result<OwnedMetric<A>, ReadFault>
     ensures { ReadsOrFails IsListed line_of line.now metric_of_owned result }
 {
-    let Some((name, rest)) = cut_name(line) else {
+    let Some((name, rest)) = split_name(line) else {
         return Err(ReadFault::NotMetrics);
     };
     read_named(alloc, name, rest)

@@ -8,9 +8,9 @@ ghost use Rattle.cadence_read.specs.Listed.{AreListed, IsListed, IsListOf, Reads
 ghost use Rattle.cadence_read.specs.Reads.{ReadsOrFails};
 ghost use Rattle.cadence_read.specs.declared.fault.ReadFault.TheVariants.{NotMetrics};
 
-use crate::cuts::{cut_name, cut_piece};
 use crate::fault::ReadFault;
 use crate::line::{read_line, read_named};
+use crate::splitting::{split_name, split_piece};
 use cadence_text::line::OwnedMetric;
 use std::alloc::Allocator;
 
@@ -37,10 +37,10 @@ fn read_lines<A: Allocator + Clone>(
     let mut metrics = Vec::with_capacity(alloc.clone()?, room_for(lines))?;
     let mut left = Some(lines);
     while let Some(text) = left {
-        let Some((name, rest)) = cut_name(text) else {
+        let Some((name, rest)) = split_name(text) else {
             return Err(ReadFault::NotMetrics);
         };
-        let (fields, others) = cut_piece(rest, b'\n');
+        let (fields, others) = split_piece(rest, b'\n');
         let metric = read_named(alloc, name, fields)?;
         metrics.push(metric)?;
         left = others;

@@ -2,5 +2,4 @@ pub mod Address
 pub mod Lookups
 pub mod Preferred
 pub mod Refusals
-pub mod Handler
 pub use Rattle.cadence_errors.specs.Errors

@@ -1,6 +1,5 @@
 //! The address that a UDP sink sends to. It is looked up once, or by a thread again and again.
 //!
-//! - `handler`: a caller's closure that receives the errors of a sink or of a resolver
 //! - `lookup`: looks up the addresses of a name, and sleeps between two lookups
 //! - `periodic`: a resolver that looks its name up again after each period
 //! - `preferred`: the address of a host to which a socket of its own is bound: IPv4 comes first
@@ -8,10 +7,8 @@
 //! - `resolver_core`: the address of a name after each lookup, without a thread or a lock
 //! - `socket`: a socket that can send to an address
 //! - `target`: an address, or a host's name and a port
-//! - `thread`: starts a thread that does a job
 #![tactic(auto)]
 
-mod handler;
 mod lookup;
 mod periodic;
 mod preferred;
@@ -19,9 +16,7 @@ mod resolver;
 mod resolver_core;
 mod socket;
 mod target;
-pub mod thread;
 
-pub use handler::{Handler, SinkErrorHandler};
 pub use lookup::{Lookup, NameLookup, Sleeper};
 pub use periodic::PeriodicResolver;
 pub use preferred::{address_of, find_address};

@@ -1,7 +1,8 @@
 //! A resolver that looks its name up again after each period.
 use super::resolver_core::ResolverCore;
-use super::{Handler, Lookup, NameLookup, Sleeper};
+use super::{Lookup, NameLookup, Sleeper};
 use cadence_errors::{MetricResult, SinkError};
+use cadence_flow::Handler;
 use std::alloc::Allocator;
 use std::net::SocketAddr;
 use std::sync::{Condvar, Mutex, Wait};

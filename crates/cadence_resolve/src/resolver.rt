@@ -4,9 +4,10 @@ ghost use Rattle.cadence_resolve.specs.Refusals.{IsSocketRefusal, IsTargetRefusa
 
 use super::lookup::{TargetLookup, host_addresses};
 use super::resolver_core::ResolverCore;
-use super::thread::{Job, start};
-use super::{Handler, PeriodicResolver, Target};
+use super::{PeriodicResolver, Target};
 use cadence_errors::MetricResult;
+use cadence_flow::Handler;
+use cadence_flow::thread::{Job, start};
 use std::alloc::Allocator;
 use std::marker::Model;
 use std::net::{Net, SocketAddr, TcpListener, TcpStream};

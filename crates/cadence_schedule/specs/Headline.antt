@@ -9,18 +9,18 @@ use Rattle.cadence_text.specs.OneReading.{IsFreeOfSeparators}
 use Rattle.cadence_text.specs.Representable.{IsRepresentable}
 use Rattle.cadence_flow.specs.Frame.{Format, size_of, stream, taken_stream}
 use Rattle.cadence_flow.specs.Writer.{PacketHistory, WriterKind, Extends}
-use Rattle.cadence_flow.specs.declared.queue.policy.QueuePolicy.{QueuePolicy}
+use Rattle.cadence_queue.specs.declared.policy.QueuePolicy.{QueuePolicy}
 use Rattle.cadence_flow.specs.declared.stats.SinkStats.{SinkStats}
-use Rattle.cadence_schedule.specs.declared.call.Call.{Call}
+use Rattle.cadence_settings.specs.declared.call.Call.{Call}
 use Rattle.cadence_schedule.specs.declared.steps.Step.{Step}
-use Rattle.cadence_schedule.specs.CallData.{metric_of_data}
+use Rattle.cadence_settings.specs.CallData.{metric_of_data}
 use Rattle.cadence_schedule.specs.RunHistory.{Turn, accepted, taken_count, dropped_count, left_count, kept, kept_counts, in_hand}
 use Rattle.cadence_schedule.specs.RunHistory.{is_stopped, error_count, marks, refusals}
 use Rattle.cadence_schedule.specs.Packets.{ArePacketsOf, ReadsAs}
 use Rattle.cadence_schedule.specs.Plan.{groups_of, IsTight, IsFewest, IsCutLate}
 use Rattle.cadence_schedule.specs.Replies.{MayReplyAfter}
 use Rattle.cadence_schedule.specs.Report.{Outcome}
-use Rattle.cadence_schedule.specs.Settings.{Settings}
+use Rattle.cadence_settings.specs.Settings.{Settings}
 
 -- what a run is given: the metric of each call, whether the settings are strict, the writer's kind and its history
 -- before the run, the packer's capacity and ending, the queue's capacity and policy, and the steps
@@ -156,7 +156,7 @@ module _ {W A : Type 0} (history : W → PacketHistory) (given : Given A) (outco
     -- The packets that the writer had taken before the run come first in its history.
     pub earlier : given.kind.reports ≡ true → Extends given.before after_of
     -- The kept metrics have texts in UTF-8, numbers that a `Decimal` holds, and times of 64 bits.
-    pub said : All IsRepresentable (kept given.metric_of turns_of)
+    pub representable : All IsRepresentable (kept given.metric_of turns_of)
     -- With the newline as ending, and kept metrics that are free of separators: a listener reads the kept metrics, and
     -- no others.
     pub one_reading : ReportsWhole given.kind → given.format.ending ≡ codes "\n" → All IsFreeOfSeparators (kept given.metric_of turns_of)

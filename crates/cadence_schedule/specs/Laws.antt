@@ -1,12 +1,10 @@
 -- Laws that follow from the definitions. src/laws.rt has a function for each, whose contract is the law.
-use Rattle.std.specs.Prelude.{◌≡◌, ℕ, List, All, IsTrue, codes, map}
+use Rattle.std.specs.Prelude.{ℕ, List, All, codes, map}
 use Rattle.cadence_text.specs.Line.{line_of}
 use Rattle.cadence_text.specs.OneReading.{IsFreeOfSeparators}
 use Rattle.cadence_text.specs.Metric.{Metric}
-use Rattle.cadence_schedule.specs.Call.{Choice, MetricCall, allows_call, chosen, metric_of_call, with_choice}
 use Rattle.cadence_schedule.specs.Packets.{ArePacketsOf, ReadsAs}
 use Rattle.cadence_schedule.specs.Plan.{IsTight, IsFewest}
-use Rattle.cadence_schedule.specs.Settings.{Settings, is_free_settings}
 
 -- No admissible plan has fewer packets than a tight plan of the same sizes.
 abbrev pub LeastPackets : Type 0
@@ -20,16 +18,3 @@ PacketsReadOneWay =
     → All IsFreeOfSeparators metrics
     → ArePacketsOf (record { capacity = capacity; ending = codes "\n" }) marks refusals (map line_of metrics) plan packets held
     → ReadsAs metrics packets held
-
--- Applying an option to the metric of a call gives the metric of the call with that option added.
-abbrev pub OptionsAreChosen : Type 0
-OptionsAreChosen =
-    (settings : Settings) (call : MetricCall) (option : Choice)
-    → chosen (metric_of_call settings call) option ≡ metric_of_call settings (with_choice call option)
-
--- If settings are strict and no text of them has a separator, the metric of each call that they allow is free of
--- separators.
-abbrev pub StrictCallsAreFree : Type 0
-StrictCallsAreFree =
-    (settings : Settings) (call : MetricCall) → IsTrue settings.strict → IsTrue (is_free_settings settings)
-    → IsTrue (allows_call settings call) → IsFreeOfSeparators (metric_of_call settings call)

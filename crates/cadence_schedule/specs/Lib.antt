@@ -1,6 +1,3 @@
-pub mod Call
-pub mod CallData
-pub mod DraftErrors
 pub mod Headline
 pub mod RunHistory
 pub mod Laws
@@ -11,12 +8,12 @@ pub mod Replies
 pub mod RunOutcome
 pub mod Report
 pub mod Running
-pub mod Settings
-pub mod SettingsParts
 pub use Rattle.cadence_errors.specs.Errors
 pub use Rattle.cadence_text.specs.Line
 pub use Rattle.cadence_text.specs.Metric
 pub use Rattle.cadence_text.specs.OneReading
 pub use Rattle.cadence_value.specs.Values
 pub use Rattle.cadence_flow.specs.Writer
-pub use Rattle.cadence_flow.specs.Queue
+pub use Rattle.cadence_queue.specs.Queue
+pub use Rattle.cadence_settings.specs.Call
+pub use Rattle.cadence_settings.specs.CallData

@@ -5,20 +5,20 @@ use Rattle.std.specs.Prelude.{false, length, drop}
 use Rattle.std.specs.Option.{option_to_list}
 use Rattle.cadence_flow.specs.Frame.{Format, size_of}
 use Rattle.cadence_flow.specs.Packer.{PackerState, Writes, Flushes}
-use Rattle.cadence_flow.specs.Queue.{at_capacity, drops_for_room}
-use Rattle.cadence_flow.specs.declared.queue.policy.QueuePolicy.{QueuePolicy}
+use Rattle.cadence_queue.specs.Queue.{at_capacity, drops_for_room}
+use Rattle.cadence_queue.specs.declared.policy.QueuePolicy.{QueuePolicy}
 use Rattle.cadence_flow.specs.Writer.{PacketHistory, WriterKind}
 use Rattle.cadence_errors.specs.declared.MetricError.{MetricError}
 use Rattle.cadence_errors.specs.declared.SinkError.{SinkError}
 use Rattle.cadence_errors.specs.Errors.{IsInvalid, out_of_memory}
-use Rattle.cadence_schedule.specs.declared.call.Call.{Call}
+use Rattle.cadence_settings.specs.declared.call.Call.{Call}
 use Rattle.cadence_schedule.specs.declared.steps.Step.TheVariants as step
 use Rattle.cadence_schedule.specs.declared.steps.Reply.TheVariants as reply
 use Rattle.cadence_schedule.specs.RunHistory.{Turn}
 use Rattle.cadence_schedule.specs.Replies.{CallReplies}
 
 -- the state of a run between two steps
-pub record State : Type 0 where
+pub record RunState : Type 0 where
   -- the lines that wait in the queue, the oldest first
   pub waiting : List (List ℕ)
   -- whether the queue is stopped
@@ -37,7 +37,7 @@ pub record State : Type 0 where
   pub held : List ℕ
 
 -- the state of the packer
-abbrev pub packer_of : State → PackerState
+abbrev pub packer_of : RunState → PackerState
 packer_of s = record { history = s.history; held = s.held }
 
 -- whether the packer holds text that has room for the line and its ending
@@ -59,16 +59,10 @@ abbrev pub CountsLine : Format → List ℕ → List ℕ → Result ℕ SinkErro
 CountsLine format held line (Ok n) old new = (held ≢ [] → HasLast old) → Counted (joins_held format held line) old new
 CountsLine format held line (Err e) old new = new ≡ old
 
--- The error says why a call has no line to submit: a duration of it passes 64 bits, strict settings refuse a text of it, or
--- memory ran out.
-abbrev pub LineFails : Option (List ℕ) → MetricError → Type 0
-LineFails None e = IsInvalid e
-LineFails (Some line) e = e ≡ out_of_memory
-
 -- by the line of each call, the writer's kind, the packer's capacity and ending, and the queue's capacity and policy
 module _ {A : Type 0} (line_of : Call A → Option (List ℕ)) (kind : WriterKind) (format : Format) (queue : Option ℕ) (policy : QueuePolicy) where
   -- The step with this reply leads from the old state to the new one.
-  abbrev pub Moves : State → Turn A → State → Type 0
+  abbrev pub Moves : RunState → Turn A → RunState → Type 0
   Moves old (step.Call call, reply.Called (Ok n)) new =
       CallReplies (line_of call) old.stopped (at_capacity queue old.waiting) (drops_for_room policy old.waiting) (reply.Called (Ok n))
       × (new ≡ record old { waiting = old.waiting ++ option_to_list (line_of call); submitted = (old.submitted + 1) % 2 ^ 64 })
@@ -99,6 +93,6 @@ module _ {A : Type 0} (line_of : Call A → Option (List ℕ)) (kind : WriterKin
   Moves old _ new = ⊥
 
   -- The steps, each with its reply, lead from the old state to the new one.
-  abbrev pub Runs : State → List (Turn A) → State → Type 0
+  abbrev pub Runs : RunState → List (Turn A) → RunState → Type 0
   Runs old [] new = new ≡ old
-  Runs old (turn ∷ turns) new = (mid : State) × Moves old turn mid × Runs mid turns new
+  Runs old (turn ∷ turns) new = (mid : RunState) × Moves old turn mid × Runs mid turns new

@@ -6,9 +6,9 @@ use Rattle.cadence_errors.specs.declared.SinkError.{SinkError}
 use Rattle.cadence_errors.specs.declared.SinkError.TheVariants.{ChannelFull, ChannelDisconnected, NothingWritten}
 use Rattle.cadence_errors.specs.Errors.{IsInvalid, out_of_memory}
 use Rattle.cadence_flow.specs.Frame.{Format, is_oversize}
-use Rattle.cadence_flow.specs.Queue.{at_capacity, drops_for_room}
-use Rattle.cadence_flow.specs.declared.queue.policy.QueuePolicy.{QueuePolicy}
-use Rattle.cadence_schedule.specs.declared.call.Call.{Call}
+use Rattle.cadence_queue.specs.Queue.{at_capacity, drops_for_room}
+use Rattle.cadence_queue.specs.declared.policy.QueuePolicy.{QueuePolicy}
+use Rattle.cadence_settings.specs.declared.call.Call.{Call}
 use Rattle.cadence_schedule.specs.declared.steps.Step.TheVariants as step
 use Rattle.cadence_schedule.specs.declared.steps.Reply.{Reply}
 use Rattle.cadence_schedule.specs.declared.steps.Reply.TheVariants as reply

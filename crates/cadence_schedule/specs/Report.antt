@@ -2,7 +2,7 @@
 use Rattle.std.specs.Prelude.{ℕ, List, Option, string_bytes}
 use Rattle.std.specs.Option.{option_map}
 use Rattle.std.specs.declared.string.String.{String}
-use Rattle.cadence_flow.specs.QueueState.{Queue}
+use Rattle.cadence_queue.specs.QueueState.{Queue}
 use Rattle.cadence_flow.specs.declared.stats.SinkStats.{SinkStats}
 use Rattle.cadence_schedule.specs.declared.reports.Report.{Report}
 use Rattle.cadence_schedule.specs.declared.steps.Reply.{Reply}

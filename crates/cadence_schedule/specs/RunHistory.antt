@@ -4,8 +4,8 @@ use Rattle.std.specs.Prelude.{ℕ, ◌+◌, ◌==◌, List, [], ◌∷◌, ◌++
 use Rattle.std.specs.Prelude.{count_by, if◌then◌else◌}
 use Rattle.std.specs.List.{flat_map, list_any}
 use Rattle.std.specs.Option.{option_to_list}
-use Rattle.cadence_flow.specs.QueueModel.{Exit, by_take, by_drop}
-use Rattle.cadence_schedule.specs.declared.call.Call.{Call}
+use Rattle.cadence_queue.specs.QueueModel.{Exit, by_take, by_drop}
+use Rattle.cadence_settings.specs.declared.call.Call.{Call}
 use Rattle.cadence_schedule.specs.declared.steps.Step.{Step}
 use Rattle.cadence_schedule.specs.declared.steps.Step.TheVariants as step
 use Rattle.cadence_schedule.specs.declared.steps.Reply.{Reply}

@@ -2,18 +2,18 @@
 use Rattle.std.specs.Prelude.{◌≡◌, ℕ, ◌+◌, ◌<◌, ◌≤◌, ◌^◌, List, [], Option, None, Vec, map, string_bytes, vec_len, vec_capacity}
 use Rattle.std.specs.Option.{option_map}
 use Rattle.cadence_flow.specs.Packer.{new_packer}
-use Rattle.cadence_flow.specs.Queue.{new_queue}
+use Rattle.cadence_queue.specs.Queue.{new_queue}
 use Rattle.cadence_flow.specs.Writer.{PacketHistory, WriterKind}
-use Rattle.cadence_flow.specs.declared.queue.policy.QueuePolicy.{QueuePolicy}
-use Rattle.cadence_schedule.specs.declared.call.Call.{Call}
+use Rattle.cadence_queue.specs.declared.policy.QueuePolicy.{QueuePolicy}
+use Rattle.cadence_settings.specs.declared.call.Call.{Call}
 use Rattle.cadence_schedule.specs.declared.running.Running.{Running}
 use Rattle.cadence_schedule.specs.declared.steps.Reply.{Reply}
 use Rattle.cadence_schedule.specs.RunHistory.{Turn}
-use Rattle.cadence_schedule.specs.Moves.{State, Moves}
+use Rattle.cadence_schedule.specs.Moves.{RunState, Moves}
 
 -- the state of a run
-abbrev pub state_of : {P A : Type 0} → (P → PacketHistory) → Running P A → State
-state_of history_of run = record {
+abbrev pub run_state : {P A : Type 0} → (P → PacketHistory) → Running P A → RunState
+run_state history_of run = record {
   waiting = map string_bytes run.queue.waiting;
   stopped = run.queue.stopped;
   submitted = run.queue.submitted;
@@ -42,8 +42,8 @@ pub record IsAtStart {P A : Type 0} (capacity : ℕ) (ending : List ℕ) (queue 
 -- the queue's capacity and policy, and it adds at most one number to the cut.
 pub record MakesTurn {P A : Type 0} (kind : P → WriterKind) (history : P → PacketHistory) (line_of : Call A → Option (List ℕ))
     (old : Running P A) (turn : Turn A) (new : Running P A) : Type 0 where
-  pub moves : Moves line_of (kind old.packer.writer) old.packer.format old.queue.capacity old.queue.policy (state_of history old) turn
-      (state_of history new)
+  pub moves : Moves line_of (kind old.packer.writer) old.packer.format old.queue.capacity old.queue.policy (run_state history old) turn
+      (run_state history new)
   pub same_kind : kind new.packer.writer ≡ kind old.packer.writer
   pub same_format : new.packer.format ≡ old.packer.format
   pub same_queue : new.queue.capacity ≡ old.queue.capacity

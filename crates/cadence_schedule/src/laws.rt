@@ -1,8 +1,8 @@
 //! Laws that follow from the definitions. Each function does nothing when it runs: its contract is a law, and a proof
 //! that needs the law cites the call.
-ghost use Rattle.cadence_schedule.specs.Laws.{LeastPackets, OptionsAreChosen, PacketsReadOneWay, StrictCallsAreFree};
+ghost use Rattle.cadence_schedule.specs.Laws.{LeastPackets, PacketsReadOneWay};
 
-use cadence_text::laws::{free_texts_pass, packet_reads_one_way};
+use cadence_text::laws::packet_reads_one_way;
 
 /// States that no admissible plan of packets has fewer packets than a tight plan of the same lines.
 pub fn tight_is_fewest()
@@ -15,17 +15,4 @@ pub fn packets_read_one_way()
     ensures { PacketsReadOneWay }
 {
     packet_reads_one_way();
-}
-
-/// States that applying an option to the metric of a call gives the metric of the call with that option added.
-pub fn an_option_is_chosen()
-    ensures { OptionsAreChosen }
-{}
-
-/// States that the metric of each call that strict settings allow is free of separators, if no text of the settings has
-/// one.
-pub fn strict_calls_are_free()
-    ensures { StrictCallsAreFree }
-{
-    free_texts_pass();
 }

@@ -4,8 +4,8 @@ use super::counting::CountingWriter;
 use super::running::Running;
 use super::steps::Reply;
 use cadence_flow::io::PacketWriter;
-use cadence_flow::queue::QueueCore;
 use cadence_flow::stats::SinkStats;
+use cadence_queue::QueueCore;
 use std::alloc::{Allocator, Global};
 
 /// The report of a run, as [`run_schedule_with`](crate::run_schedule_with) returns it. Dropping it sends nothing: the

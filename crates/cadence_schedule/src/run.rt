@@ -1,25 +1,25 @@
 //! The run of a schedule. The contract of `run_schedule_with` is the headline of this project.
 ghost use Rattle.std.specs.Prelude.{◌≡◌, ◌+◌, ◌<◌, ◌≤◌, ◌^◌, [], All, length, vec_len, vec_capacity, IfOk, IfErr};
 ghost use Rattle.std.specs.List.{zip};
-ghost use Rattle.cadence_flow.specs.Queue.{new_queue};
+ghost use Rattle.cadence_queue.specs.Queue.{new_queue};
 ghost use Rattle.cadence_text.specs.Representable.{IsRepresentable};
-ghost use Rattle.cadence_schedule.specs.CallData.{line_of_data, metric_of_data};
+ghost use Rattle.cadence_settings.specs.CallData.{line_of_data, metric_of_data};
 ghost use Rattle.cadence_schedule.specs.Headline.{given_of, HasHeadline, IsAccounted};
 ghost use Rattle.cadence_schedule.specs.RunHistory.{accepted, dropped_count};
 ghost use Rattle.cadence_schedule.specs.Moves.{Runs};
 ghost use Rattle.cadence_schedule.specs.Report.{outcome_of};
-ghost use Rattle.cadence_schedule.specs.Running.{IsAtStart, state_of};
-ghost use Rattle.cadence_flow.specs.declared.queue.policy.QueuePolicy.TheVariants.{Refuse};
+ghost use Rattle.cadence_schedule.specs.Running.{IsAtStart, run_state};
+ghost use Rattle.cadence_queue.specs.declared.policy.QueuePolicy.TheVariants.{Refuse};
 
 use super::counting::CountingWriter;
-use super::laws::{packets_read_one_way, strict_calls_are_free, tight_is_fewest};
+use super::laws::{packets_read_one_way, tight_is_fewest};
 use super::reports::Report;
 use super::running::Running;
-use super::settings::ClientSettings;
 use super::steps::{Reply, Step};
 use cadence_errors::MetricResult;
 use cadence_flow::io::{LineBuffer, PacketWriter};
-use cadence_flow::queue::{QueueCore, QueuePolicy};
+use cadence_queue::{QueueCore, QueuePolicy};
+use cadence_settings::{ClientSettings, strict_calls_are_free};
 use cadence_text::laws::no_line_is_empty;
 use std::alloc::Allocator;
 
@@ -85,9 +85,9 @@ fn run_steps<P: PacketWriter, A: Allocator + Clone>(
     requires replies { (replies.old.items ≡ []) × (length steps.now ≤ vec_capacity replies.old) }
     ensures runs { Runs (line_of_data settings.now) (P.kind running.old.packer.writer)
         running.old.packer.format running.old.queue.capacity running.old.queue.policy
-        (state_of P.history running.old)
-        (zip steps.now replies.new.items) (state_of P.history running.new) }
-    ensures said { All IsRepresentable (accepted (metric_of_data settings.now)
+        (run_state P.history running.old)
+        (zip steps.now replies.new.items) (run_state P.history running.new) }
+    ensures representable { All IsRepresentable (accepted (metric_of_data settings.now)
         (zip steps.now replies.new.items)) }
     ensures one_each { length replies.new.items ≡ length steps.now }
     ensures same_kind { P.kind running.new.packer.writer ≡ P.kind running.old.packer.writer }

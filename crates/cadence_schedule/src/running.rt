@@ -2,12 +2,11 @@
 ghost use Rattle.std.specs.Prelude.{◌+◌, ◌<◌, ◌≤◌, IsTrue, vec_len, vec_capacity};
 ghost use Rattle.cadence_schedule.specs.Moves.{HasLast, Counted};
 
-use super::call::Call;
-use super::settings::ClientSettings;
 use super::steps::{Reply, Step};
 use cadence_errors::{MetricError, SinkError};
 use cadence_flow::io::{LineBuffer, PacketWriter};
-use cadence_flow::queue::{QueueCore, Taken};
+use cadence_queue::{QueueCore, Taken};
+use cadence_settings::{Call, ClientSettings};
 use std::alloc::{Allocator, Global};
 
 // The queue, the line in the worker's hand, the packer over its writer, and the cut: how many lines each packet has,
@@ -39,7 +38,7 @@ fn count_line<A: Allocator>(cut: &mut Vec<usize, A>, joins: bool)
 impl<P: PacketWriter, A: Allocator + Clone> Running<P, A> {
     ghost use Rattle.std.specs.Prelude.{◌≡◌, ◌<◌, All, vec_len, vec_capacity};
     ghost use Rattle.cadence_text.specs.Representable.{IsRepresentable};
-    ghost use Rattle.cadence_schedule.specs.CallData.{line_of_data, metric_of_data};
+    ghost use Rattle.cadence_settings.specs.CallData.{line_of_data, metric_of_data};
     ghost use Rattle.cadence_schedule.specs.RunHistory.{accepted_by};
     ghost use Rattle.cadence_schedule.specs.Moves.{joins_held};
     ghost use Rattle.cadence_schedule.specs.Running.{MakesTurn};
@@ -49,7 +48,7 @@ impl<P: PacketWriter, A: Allocator + Clone> Running<P, A> {
     fn call(&mut self, settings: &ClientSettings<A>, call: &Call<A>) -> Reply
         ensures turn { MakesTurn P.kind P.history (line_of_data settings.now)
             self.old (step.Call call.now, result) self.new }
-        ensures said { All IsRepresentable (accepted_by (metric_of_data settings.now)
+        ensures representable { All IsRepresentable (accepted_by (metric_of_data settings.now)
             (step.Call call.now, result)) }
     {
         let line = match settings.line_of(call) {
@@ -133,7 +132,7 @@ impl<P: PacketWriter, A: Allocator + Clone> Running<P, A> {
         requires { vec_len self.old.cut < vec_capacity self.old.cut }
         ensures turn { MakesTurn P.kind P.history (line_of_data settings.now)
             self.old (step.now, result) self.new }
-        ensures said { All IsRepresentable
+        ensures representable { All IsRepresentable
             (accepted_by (metric_of_data settings.now) (step.now, result)) }
     {
         match step {

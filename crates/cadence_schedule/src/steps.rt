@@ -1,7 +1,7 @@
 //! The steps of a schedule and their replies.
 
-use super::call::Call;
 use cadence_errors::{MetricResult, SinkError};
+use cadence_settings::Call;
 use std::alloc::{Allocator, Global};
 
 /// One step of a schedule. Callers make calls; one worker takes lines from the queue and hands them to the packer.

@@ -3,7 +3,7 @@ ghost use Rattle.std.specs.Prelude.{◌≤◌};
 ghost use Rattle.cadence_script.specs.Words.{bytes_left};
 
 use crate::words::{BadLine, LineError, Words, number, signed_number, text_of};
-use cadence_schedule::{Call, CallOption, CallValue};
+use cadence_settings::{Call, CallOption, CallValue};
 use cadence_text::line::MetricType;
 use cadence_value::decimal::Decimal;
 use std::alloc::Allocator;

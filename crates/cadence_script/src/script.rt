@@ -5,8 +5,9 @@ use crate::words::{BadLine, LineError, Words, number, text_of};
 use cadence_cli::ReportError;
 use cadence_errors::MetricError;
 use cadence_flow::io::{Answer, DEFAULT_CAPACITY};
-use cadence_flow::queue::QueuePolicy;
-use cadence_schedule::{ClientSettings, Step};
+use cadence_queue::QueuePolicy;
+use cadence_schedule::Step;
+use cadence_settings::ClientSettings;
 use std::alloc::{AllocError, Allocator};
 use thiserror::Error;
 

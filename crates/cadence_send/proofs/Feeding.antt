@@ -11,25 +11,25 @@ use Rattle.std.proofs.lemmas.List.Elements.{All-append, All-nil, All-cons, recur
 use Rattle.std.proofs.lemmas.List.Splits.{slice_split_none, slice_split_at}
 use Rattle.cadence_errors.specs.declared.SinkError.{SinkError}
 use Rattle.cadence_flow.specs.Frame.{Format, frame, frame_of, is_oversize, stream}
-use Rattle.cadence_flow.specs.Packer.{FlushesHeld, Packer, WritesLine, given_by, state_of, whole_text}
+use Rattle.cadence_flow.specs.Packer.{FlushesHeld, Packer, WritesLine, given_by, packer_state, whole_text}
 use Rattle.cadence_flow.specs.Writer.{PacketHistory, WriterKind}
 use Rattle.cadence_send.specs.Fed.{Feeds, FeedsSome, IsOneText, with_newlines}
-use Rattle.cadence_send.specs.Sent.{AreLinesOf, Gives, SendsTexts, TakesFirst, TakesLines, TakesTexts, texts_of}
+use Rattle.cadence_send.specs.Sent.{AreLinesOf, Gives, SendsTexts, TakesFirst, TakesLines, TakesTexts, texts_of_input}
 use Rattle.cadence_words.specs.declared.defaults.Defaults.{Defaults}
 
 -- A text without a newline is one text.
-one_text : (text : List ℕ) → IsOneText text → texts_of text ≡ text ∷ []
+one_text : (text : List ℕ) → IsOneText text → texts_of_input text ≡ text ∷ []
 one_text text h = slice_split_none (λ b. eqb b 10) text (λ k d inside. ne_eqb _ 10 (h k d inside))
 
--- Texts with a newline after each are cut at their newlines into the same texts.
+-- Texts with a newline after each are split at their newlines into the same texts.
 pub texts_of-with_newlines : (texts : List (List ℕ)) (rest : List ℕ) → All IsOneText texts
-    → texts_of (with_newlines texts ++ rest) ≡ texts ++ texts_of rest
+    → texts_of_input (with_newlines texts ++ rest) ≡ texts ++ texts_of_input rest
 texts_of-with_newlines texts rest h = by_text texts (recursion_from_All IsOneText texts h)
   where
-    by_text : (ts : List (List ℕ)) → AllByRecursion IsOneText ts → texts_of (with_newlines ts ++ rest) ≡ ts ++ texts_of rest
+    by_text : (ts : List (List ℕ)) → AllByRecursion IsOneText ts → texts_of_input (with_newlines ts ++ rest) ≡ ts ++ texts_of_input rest
     by_text [] h = refl
     by_text (t ∷ ts) (one, others) =
-        ap texts_of (append_assoc (t ++ 10 ∷ []) (with_newlines ts) rest ∙ append_assoc t (10 ∷ []) (with_newlines ts ++ rest))
+        ap texts_of_input (append_assoc (t ++ 10 ∷ []) (with_newlines ts) rest ∙ append_assoc t (10 ∷ []) (with_newlines ts ++ rest))
         ∙ slice_split_at (λ b. eqb b 10) t 10 (with_newlines ts ++ rest) (λ k d inside. ne_eqb _ 10 (one k d inside)) refl
         ∙ ap (λ ps. t ∷ ps) (by_text ts others)
 
@@ -53,7 +53,7 @@ lines_more d texts more lines others (given, zip, are) (given', zip', are') = (
 module _ {W : Type 0} (kind : W → WriterKind) (history : W → PacketHistory) where
   -- A packer that takes lines and then more lines takes all of them.
   pub takes_none : (p : Packer W) → TakesLines kind history p p []
-  takes_none p = record { same_kind = refl; same_format = refl; text = λ reports whole. sym (append-nil (whole_text (state_of history p))) }
+  takes_none p = record { same_kind = refl; same_format = refl; text = λ reports whole. sym (append-nil (whole_text (packer_state history p))) }
 
   pub takes_more : (p q r : Packer W) (lines others : List (List ℕ)) → TakesLines kind history p q lines
       → TakesLines kind history q r others → TakesLines kind history p r (lines ++ others)
@@ -63,8 +63,8 @@ module _ {W : Type 0} (kind : W → WriterKind) (history : W → PacketHistory) 
     text = λ reports whole.
         k.text (ap (λ (x : WriterKind). x.reports) h.same_kind ∙ reports) (ap (λ (x : WriterKind). x.takes_whole) h.same_kind ∙ whole)
         ∙ ap₂ (λ t f. t ++ stream f others) (h.text reports whole) h.same_format
-        ∙ append_assoc (whole_text (state_of history p)) (stream p.format lines) (stream p.format others)
-        ∙ ap (λ s. whole_text (state_of history p) ++ s) (sym (flat_map-append (frame p.format) lines others));
+        ∙ append_assoc (whole_text (packer_state history p)) (stream p.format lines) (stream p.format others)
+        ∙ ap (λ s. whole_text (packer_state history p) ++ s) (sym (flat_map-append (frame p.format) lines others));
   }
 
   frame_whole : (f : Format) (line : List ℕ) (n : ℕ) → n ≡ length line → frame_of f line n ≡ frame f line
@@ -82,8 +82,8 @@ module _ {W : Type 0} (kind : W → WriterKind) (history : W → PacketHistory) 
     same_format = h.same_format;
     text = λ reports whole.
         let count : n ≡ length line = subst (λ a. IfOk a (λ m. m ≡ length line)) e (h.writes.count.takes_whole whole) in
-        h.writes.text reports ∙ ap (λ a. whole_text (state_of history p) ++ given_by p.format line a) e
-        ∙ ap (λ t. whole_text (state_of history p) ++ t) (frame_whole p.format line n count ∙ sym (append-nil (frame p.format line)));
+        h.writes.text reports ∙ ap (λ a. whole_text (packer_state history p) ++ given_by p.format line a) e
+        ∙ ap (λ t. whole_text (packer_state history p) ++ t) (frame_whole p.format line n count ∙ sym (append-nil (frame p.format line)));
   }
 
   -- A packer that fails to write a line takes no line.
@@ -92,7 +92,7 @@ module _ {W : Type 0} (kind : W → WriterKind) (history : W → PacketHistory) 
   error_takes p q line e r is h = record {
     same_kind = h.same_kind;
     same_format = h.same_format;
-    text = λ reports whole. h.writes.text reports ∙ ap (λ a. whole_text (state_of history p) ++ given_by p.format line a) is;
+    text = λ reports whole. h.writes.text reports ∙ ap (λ a. whole_text (packer_state history p) ++ given_by p.format line a) is;
   }
 
   -- A flush takes no lines.
@@ -100,7 +100,7 @@ module _ {W : Type 0} (kind : W → WriterKind) (history : W → PacketHistory) 
   flush_takes p q r h = record {
     same_kind = h.same_kind;
     same_format = h.same_format;
-    text = λ reports whole. h.flushes.text reports ∙ sym (append-nil (whole_text (state_of history p)));
+    text = λ reports whole. h.flushes.text reports ∙ sym (append-nil (whole_text (packer_state history p)));
   }
 
   module _ {Z : Type 0} (d : Defaults Z) where
@@ -213,20 +213,20 @@ module _ {W : Type 0} (kind : W → WriterKind) (history : W → PacketHistory) 
 
     -- If a run ends early, the first texts of the whole input were taken.
     pub first_taken : (p q : Packer W) (known now : Option (List ℕ)) (got : List ℕ) → Consumes known now got
-        → FeedsSome d kind history p q [] got → IfSome known (λ text. TakesFirst d kind history p q (texts_of text))
+        → FeedsSome d kind history p q [] got → IfSome known (λ text. TakesFirst d kind history p q (texts_of_input text))
     first_taken p q None now got consumed h = tt
     first_taken p q (Some all) None got consumed h = absurd consumed
     first_taken p q (Some all) (Some left) got consumed h = record {
       front = h.texts;
-      rest = texts_of (h.rest ++ left);
-      cut = ap texts_of (consumed ∙ ap (λ t. t ++ left) h.cut ∙ append_assoc (with_newlines h.texts) h.rest left)
+      rest = texts_of_input (h.rest ++ left);
+      cut = ap texts_of_input (consumed ∙ ap (λ t. t ++ left) h.cut ∙ append_assoc (with_newlines h.texts) h.rest left)
           ∙ texts_of-with_newlines h.texts (h.rest ++ left) h.each;
       taken = h.taken;
     }
 
-    pub first_none : (p : Packer W) (known : Option (List ℕ)) → IfSome known (λ text. TakesFirst d kind history p p (texts_of text))
+    pub first_none : (p : Packer W) (known : Option (List ℕ)) → IfSome known (λ text. TakesFirst d kind history p p (texts_of_input text))
     first_none p None = tt
-    first_none p (Some all) = record { front = []; rest = texts_of all; cut = refl; taken = texts_none p }
+    first_none p (Some all) = record { front = []; rest = texts_of_input all; cut = refl; taken = texts_none p }
 
     pub fed_none : (p : Packer W) → Feeds d kind history p p [] [] []
     fed_none p = record { texts = []; cut = refl; each = All-nil IsOneText; rest = All-nil (λ b. b ≢ 10); taken = texts_none p }
@@ -244,10 +244,10 @@ module _ {W : Type 0} (kind : W → WriterKind) (history : W → PacketHistory) 
 
     -- At the end of the input, the last text is taken, although no newline ends it.
     pub fed_whole : (p q r : Packer W) (input waiting : List ℕ) → Feeds d kind history p q [] input waiting
-        → TakesTexts d kind history q r (waiting ∷ []) → TakesTexts d kind history p r (texts_of input)
+        → TakesTexts d kind history q r (waiting ∷ []) → TakesTexts d kind history p r (texts_of_input input)
     fed_whole p q r input waiting h last =
         subst (TakesTexts d kind history p r)
-        (sym (ap texts_of h.cut ∙ texts_of-with_newlines h.texts waiting h.each ∙ ap (λ ts. h.texts ++ ts) (one_text waiting h.rest)))
+        (sym (ap texts_of_input h.cut ∙ texts_of-with_newlines h.texts waiting h.each ∙ ap (λ ts. h.texts ++ ts) (one_text waiting h.rest)))
         (texts_more p q r h.texts (waiting ∷ []) h.taken last)
 
 pub on_err : {A E P : Type 0} (r : Result A E) → P → OnErr r P
@@ -272,8 +272,8 @@ of_known (Some left) got P e h = subst P e h
 
 -- If texts are taken and then the held text is sent, the lines of the texts are sent.
 pub sent_all : {W Z : Type 0} (kind : W → WriterKind) (history : W → PacketHistory) (d : Defaults Z) (known : Option (List ℕ)) (p q r : Packer W)
-    → IfSome known (λ text. TakesTexts d kind history p q (texts_of text)) → TakesLines kind history q r [] → r.held ≡ []
-    → IfSome known (λ text. SendsTexts d kind history p r (texts_of text))
+    → IfSome known (λ text. TakesTexts d kind history p q (texts_of_input text)) → TakesLines kind history q r [] → r.held ≡ []
+    → IfSome known (λ text. SendsTexts d kind history p r (texts_of_input text))
 sent_all kind history d None p q r taken flushed none = tt
 sent_all kind history d (Some text) p q r taken flushed none = record {
   taken = record {
@@ -291,14 +291,14 @@ word_sent kind history p q r line n a e written flushed =
 
 -- If the first texts were taken and then the held text is sent, the same texts were taken.
 pub first_flushed : {W Z : Type 0} (kind : W → WriterKind) (history : W → PacketHistory) (d : Defaults Z) (known : Option (List ℕ)) (p q r : Packer W)
-    → IfSome known (λ text. TakesFirst d kind history p q (texts_of text)) → TakesLines kind history q r []
-    → IfSome known (λ text. TakesFirst d kind history p r (texts_of text))
+    → IfSome known (λ text. TakesFirst d kind history p q (texts_of_input text)) → TakesLines kind history q r []
+    → IfSome known (λ text. TakesFirst d kind history p r (texts_of_input text))
 first_flushed kind history d None p q r h flushed = tt
 first_flushed kind history d (Some text) p q r h flushed =
     record { front = h.front; rest = h.rest; cut = h.cut; taken = texts_kept kind history d p q r h.front h.taken flushed }
 
 -- If all texts were taken, the first ones were.
 pub first_of_all : {W Z : Type 0} (kind : W → WriterKind) (history : W → PacketHistory) (d : Defaults Z) (known : Option (List ℕ)) (p q : Packer W)
-    → IfSome known (λ text. TakesTexts d kind history p q (texts_of text)) → IfSome known (λ text. TakesFirst d kind history p q (texts_of text))
+    → IfSome known (λ text. TakesTexts d kind history p q (texts_of_input text)) → IfSome known (λ text. TakesFirst d kind history p q (texts_of_input text))
 first_of_all kind history d None p q h = tt
-first_of_all kind history d (Some text) p q h = record { front = texts_of text; rest = []; cut = sym (append-nil (texts_of text)); taken = h }
+first_of_all kind history d (Some text) p q h = record { front = texts_of_input text; rest = []; cut = sym (append-nil (texts_of_input text)); taken = h }

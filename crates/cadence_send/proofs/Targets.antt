@@ -1,4 +1,4 @@
--- Addresses: texts that are cut at their last colon.
+-- Addresses: texts that are split at their last colon.
 use Rattle.std.proofs.Common.{◌≡◌, ℕ, ◌<◌, List, ◌∷◌, ◌++◌, length, take, drop, Option, Some, None, sym, ap, ◌∙◌, true, lit<}
 use Rattle.std.specs.Prelude.{is_some}
 use Rattle.std.specs.Str.Pattern.{RFindsChar, SplitsAroundMatch}

@@ -3,7 +3,7 @@ use Rattle.std.specs.Prelude.{[], ◌∷◌, ◌≡◌, ℕ, ◌==◌, ◌-◌, 
 use Rattle.std.specs.Prelude.{if◌then◌else◌, length, slice_index, take}
 use Rattle.std.specs.List.{AllZip, filter_map, slice_split}
 use Rattle.cadence_flow.specs.Frame.{stream}
-use Rattle.cadence_flow.specs.Packer.{Packer, state_of, whole_text}
+use Rattle.cadence_flow.specs.Packer.{Packer, packer_state, whole_text}
 use Rattle.cadence_flow.specs.Writer.{PacketHistory, WriterKind}
 use Rattle.cadence_words.specs.Lines.{IsLineOfText, IsLineOfWords}
 use Rattle.cadence_words.specs.declared.defaults.Defaults.{Defaults}
@@ -17,18 +17,18 @@ abbrev pub IsGiven : {Z : Type 0} → Defaults Z → (List ℕ → Type 0) → L
 IsGiven d IsLine line = IsLine line × (length line ≤ d.longest)
 
 -- There is no line, or one that is longer than a line may be.
-abbrev pub HasNone : {Z : Type 0} → Defaults Z → (List ℕ → Type 0) → Type 0
-HasNone d IsLine = ((line : List ℕ) → IsLine line → ⊥) ⊎ ((line : List ℕ) × IsLine line × (d.longest < length line))
+abbrev pub HasNoLine : {Z : Type 0} → Defaults Z → (List ℕ → Type 0) → Type 0
+HasNoLine d IsLine = ((line : List ℕ) → IsLine line → ⊥) ⊎ ((line : List ℕ) × IsLine line × (d.longest < length line))
 
 -- The text, without a carriage return at its end, asks for a metric with this line. If there is no line, the text asks
 -- for no metric, or for one whose line is longer than a line may be.
 abbrev pub Gives : {Z : Type 0} → Defaults Z → List ℕ → Option (List ℕ) → Type 0
 Gives d text (Some line) = IsGiven d (IsLineOfText d (without_return text)) line
-Gives d text None = HasNone d (IsLineOfText d (without_return text))
+Gives d text None = HasNoLine d (IsLineOfText d (without_return text))
 
 -- the texts between the newlines of an input
-abbrev pub texts_of : List ℕ → List (List ℕ)
-texts_of input = slice_split (λ b. b == 10) input
+abbrev pub texts_of_input : List ℕ → List (List ℕ)
+texts_of_input input = slice_split (λ b. b == 10) input
 
 -- These are the lines of the texts that ask for a metric, in order.
 abbrev pub AreLinesOf : {Z : Type 0} → Defaults Z → List (List ℕ) → List (List ℕ) → Type 0
@@ -40,7 +40,7 @@ pub record TakesLines {W : Type 0} (kind : W → WriterKind) (history : W → Pa
   pub same_kind : kind new.writer ≡ kind old.writer
   pub same_format : new.format ≡ old.format
   pub text : (kind old.writer).reports ≡ true → (kind old.writer).takes_whole ≡ true
-      → whole_text (state_of history new) ≡ whole_text (state_of history old) ++ stream old.format lines
+      → whole_text (packer_state history new) ≡ whole_text (packer_state history old) ++ stream old.format lines
 
 -- The packer took the lines of the texts that ask for a metric.
 pub record TakesTexts {W Z : Type 0} (d : Defaults Z) (kind : W → WriterKind) (history : W → PacketHistory) (old new : Packer W)
@@ -70,4 +70,4 @@ abbrev pub SendsWords : {W Z X : Type 0} → Defaults Z → (W → WriterKind) �
     → Option X → Type 0
 SendsWords d kind history old new words None =
     (line : List ℕ) × IsGiven d (IsLineOfWords d words) line × TakesLines kind history old new (line ∷ []) × (new.held ≡ [])
-SendsWords d kind history old new words (Some why) = HasNone d (IsLineOfWords d words) × (new ≡ old)
+SendsWords d kind history old new words (Some why) = HasNoLine d (IsLineOfWords d words) × (new ≡ old)

@@ -9,7 +9,7 @@ use Rattle.cadence_send.specs.Sent.{AreLinesOf}
 use Rattle.cadence_send.specs.declared.lasting.LastingWriter.{LastingWriter}
 use Rattle.cadence_send.specs.declared.lasting.Losses.{Losses}
 use Rattle.cadence_words.specs.declared.defaults.Defaults.{Defaults}
-use Rattle.cadence_shared.specs.RecordedWriter.{packets_of}
+use Rattle.cadence_flow.specs.RecordedWriter.{packets_of}
 
 module _ {T E A : Type 0} where
   -- the writer below

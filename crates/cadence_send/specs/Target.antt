@@ -15,9 +15,9 @@ pub record IsTarget (text : List ℕ) : Type 0 where
   pub is : IsPort rest port
 
 -- The place is a host and a port, or a path that is not empty.
-abbrev pub IsPlace : Destination → Type 0
-IsPlace (Host text) = IsTarget text.now
-IsPlace (Unix path) = 0 < length path.now
+abbrev pub IsUsablePlace : Destination → Type 0
+IsUsablePlace (Host text) = IsTarget text.now
+IsUsablePlace (Unix path) = 0 < length path.now
 
 -- The text says this place: a host and a port, or `unix:` and a path that is not empty.
 abbrev pub SaysDestination : List ℕ → Destination → Type 0
@@ -26,4 +26,4 @@ SaysDestination text (Unix path) = (text ≡ codes "unix:" ++ path.now) × (0 < 
 
 -- If the options have a place, it is a host and a port, or a path that is not empty.
 abbrev pub SaysWhere : {Z : Type 0} → Options Z → Type 0
-SaysWhere options = IfSome options.to IsPlace
+SaysWhere options = IfSome options.to IsUsablePlace

@@ -1,7 +1,7 @@
 //! Takes the lines of an input as it arrives, with any reader, any writer of packets and any writer of errors.
 ghost use Rattle.std.specs.Prelude.{◌≡◌, ◌⊎◌, ◌∷◌, ◌++◌, [], IfNone, IfSome, OnErr, OnOk};
 ghost use Rattle.cadence_send.specs.Fed.{Feeds, FeedsSome, IsOneText};
-ghost use Rattle.cadence_send.specs.Sent.{TakesFirst, TakesLines, TakesTexts, texts_of, without_return};
+ghost use Rattle.cadence_send.specs.Sent.{TakesFirst, TakesLines, TakesTexts, texts_of_input, without_return};
 
 use crate::pace::Pace;
 use cadence_errors::SinkError;
@@ -122,8 +122,8 @@ fn without_return(text: &[u8]) -> &[u8]
 }
 
 // Gives the metric's line of a text to the packer, unless it is longer than a line may be. A carriage return at the end
-// of the text is no part of it. If the text has words and no line is given, this function returns the part that can't be
-// read. The line is written into the buffer.
+// of the text is no part of it. If the text has words and no line is given, this function returns the part that can't
+// be read. The line is written into the buffer.
 fn take_text<T: PacketWriter, A: Allocator + Clone>(
     alloc: &A,
     defaults: &Defaults<A>,
@@ -171,9 +171,9 @@ fn take_text_end<T: PacketWriter, A: Allocator + Clone>(
     Ok(unread)
 }
 
-// Returns the bytes before the first newline, and those after it. This is `cadence_value::bytes::cut` with `memchr`,
-// which is faster for long texts.
-pub(crate) fn cut_line(bytes: &[u8]) -> Option<(&[u8], &[u8])>
+// Returns the bytes before the first newline, and those after it. This is `cadence_value::bytes::split_once` with
+// `memchr`, which is faster for long texts.
+pub(crate) fn split_line(bytes: &[u8]) -> Option<(&[u8], &[u8])>
     ensures none { IfNone result (IsOneText bytes.now) }
     ensures front { IfSome result (λ parts. IsOneText parts.0.now) }
     ensures whole { IfSome result (λ parts. bytes.now ≡ parts.0.now ++ 10 ∷ parts.1.now) }
@@ -199,7 +199,7 @@ fn feed<T: PacketWriter, E: Write, A: Allocator + Clone>(
         buffers.old.waiting.items bytes.now) }
 {
     let mut left = bytes;
-    while let Some((front, others)) = cut_line(left) {
+    while let Some((front, others)) = split_line(left) {
         let unread = take_text_end(alloc, defaults, lines, buffers, front)?;
         counts.count_text(unread, errors);
         left = others;
@@ -230,8 +230,8 @@ fn keep_pace<T: PacketWriter, P: Pace, A: Allocator>(
 
 /// Reads the lines of the input, and gives the metric's line of each to the packer. For a line that can't be read, its
 /// number and the reason are written to `errors`. An error of `errors` is ignored. After each piece of input, the held
-/// text is sent if the pace says that it is due, now or before more input comes. The text that is held at the end of the
-/// input is not sent.
+/// text is sent if the pace says that it is due, now or before more input comes. The text that is held at the end of
+/// the input is not sent.
 ///
 /// # Errors
 /// `Input` if the reader fails, `Writer` if a packet is refused, and `OutOfMemory`. The lines before the error were
@@ -251,9 +251,9 @@ where
     P: Pace,
     A: Allocator + Clone,
     ensures all { OnOk result (IfSome (I.remaining input.old) (λ text.
-        TakesTexts defaults.now T.kind T.history lines.old lines.new (texts_of text))) }
+        TakesTexts defaults.now T.kind T.history lines.old lines.new (texts_of_input text))) }
     ensures first { OnErr result (IfSome (I.remaining input.old) (λ text.
-        TakesFirst defaults.now T.kind T.history lines.old lines.new (texts_of text))) }
+        TakesFirst defaults.now T.kind T.history lines.old lines.new (texts_of_input text))) }
 {
     let mut counts = TextCounts {
         texts: 0,

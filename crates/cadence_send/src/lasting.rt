@@ -1,13 +1,13 @@
 //! A writer of packets for a stream: it outlives refusals, and counts what is lost.
 ghost use Rattle.std.specs.Prelude.{◌≡◌, ◌==◌, count_by, length};
-ghost use Rattle.cadence_shared.specs.RecordedWriter.{packets_of};
+ghost use Rattle.cadence_flow.specs.RecordedWriter.{packets_of};
 ghost use Rattle.cadence_send.specs.Losses.{fates_of, lines_of_packet, losses_of};
 
 use crate::nowhere::{Nowhere, note_packet};
 use crate::outlet::Outlet;
 use cadence_errors::SinkError;
 use cadence_flow::io::{PacketWriter, Refusals};
-use cadence_shared::{GhostList, RecordedWriter};
+use cadence_flow::{GhostList, RecordedWriter};
 use std::alloc::Allocator;
 use std::io::Write;
 

@@ -2,11 +2,11 @@
 ghost use Rattle.std.specs.Prelude.{◌≡◌, ◌∷◌, ◌++◌, []};
 ghost use Rattle.cadence_flow.specs.Writer.{history_of, no_refusals};
 ghost use Rattle.cadence_send.specs.Losses.{nowhere_kind};
-ghost use Rattle.cadence_shared.specs.RecordedWriter.{packets_of};
+ghost use Rattle.cadence_flow.specs.RecordedWriter.{packets_of};
 
 use cadence_errors::SinkError;
+use cadence_flow::RecordedWriter;
 use cadence_flow::io::PacketWriter;
-use cadence_shared::RecordedWriter;
 
 // A writer without memory that takes each packet and does nothing with it.
 #[derive(Drop)]

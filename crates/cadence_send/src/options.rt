@@ -6,11 +6,10 @@ use cadence_cli::ReadError;
 use cadence_environment::read_port;
 use cadence_errors::MetricError;
 use cadence_flow::io::DEFAULT_CAPACITY;
-use cadence_number::{Chance, read_printed};
-use cadence_schedule::ClientSettings;
+use cadence_settings::ClientSettings;
 use cadence_text::line::{OwnedTag, Tag, lend_tag};
 use cadence_value::decimal::Decimal;
-use cadence_words::{Defaults, is_word, read_tag};
+use cadence_words::{Chance, Defaults, is_word, read_printed, read_tag};
 use std::alloc::Allocator;
 use std::fmt;
 

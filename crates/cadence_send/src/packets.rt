@@ -3,7 +3,7 @@ ghost use Rattle.std.specs.Prelude.{◌≡◌, ◌≤◌, [], true, length, Matc
 ghost use Rattle.cadence_flow.specs.Writer.{history_of};
 ghost use Rattle.cadence_send.specs.Writers.{is_packet_error, packet_writer_kind};
 
-use crate::engine::cut_line;
+use crate::engine::split_line;
 use cadence_cli::push_bytes;
 use cadence_errors::SinkError;
 use cadence_flow::io::{PacketWriter, Refusals};
@@ -48,7 +48,7 @@ fn are_plain(bytes: &[u8]) -> bool {
 // Adds lines without other escapes than those of their newlines.
 fn push_lines<A: Allocator>(text: &mut Vec<u8, A>, bytes: &[u8]) -> Result<(), AllocError> {
     let mut left = bytes;
-    while let Some((line, others)) = cut_line(left) {
+    while let Some((line, others)) = split_line(left) {
         text.extend_from_slice(line)?;
         text.extend_from_slice(b"\\n")?;
         left = others;

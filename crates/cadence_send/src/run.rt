@@ -1,7 +1,7 @@
 //! Sends one metric, or those of an input, and returns the exit status.
 ghost use Rattle.std.specs.Prelude.{◌≡◌, ◌≤◌, ◌⊎◌, [], IfSome, IsOk, OnErr, OnOk, IfOk, map};
 ghost use Rattle.cadence_send.specs.Losses.{losses_of};
-ghost use Rattle.cadence_send.specs.Sent.{SendsTexts, SendsWords, TakesFirst, TakesLines, texts_of};
+ghost use Rattle.cadence_send.specs.Sent.{SendsTexts, SendsWords, TakesFirst, TakesLines, texts_of_input};
 ghost use Rattle.cadence_send.specs.Streams.{Accounts, AccountsFirst, fates_in};
 
 use crate::engine::{RunError, TextCounts, take_input};
@@ -45,9 +45,9 @@ where
     P: Pace,
     A: Allocator + Clone,
     ensures all { OnOk result (IfSome (I.remaining input.old) (λ text.
-        SendsTexts defaults.now T.kind T.history lines.old lines.new (texts_of text))) }
+        SendsTexts defaults.now T.kind T.history lines.old lines.new (texts_of_input text))) }
     ensures first { OnErr result (IfSome (I.remaining input.old) (λ text.
-        TakesFirst defaults.now T.kind T.history lines.old lines.new (texts_of text))) }
+        TakesFirst defaults.now T.kind T.history lines.old lines.new (texts_of_input text))) }
 {
     let taken = take_input(alloc, defaults, lines, input, errors, pace);
     let flushed = flush_all(lines);
@@ -165,7 +165,7 @@ where
     A: Allocator + Clone,
     ensures status { result ≤ 3 }
     ensures sent { (result ≡ 0) ⊎ (result ≡ 2) → IfSome (I.remaining input.old) (λ text.
-        SendsTexts defaults.now T.kind T.history lines.old lines.new (texts_of text)) }
+        SendsTexts defaults.now T.kind T.history lines.old lines.new (texts_of_input text)) }
 {
     let ended = send_input(alloc, defaults, lines, input, errors, pace);
     report_end(ended, outlet, errors)
@@ -194,10 +194,10 @@ where
     P: Pace,
     A: Allocator + Clone,
     ensures whole { OnOk result (IfSome (I.remaining input.old) (λ text.
-        Accounts defaults.now lines.old lines.new (texts_of text))) }
+        Accounts defaults.now lines.old lines.new (texts_of_input text))) }
     ensures none_held { OnOk result (IfSome (I.remaining input.old) (λ _. lines.new.held ≡ [])) }
     ensures first { OnErr result (IfSome (I.remaining input.old) (λ text.
-        AccountsFirst defaults.now lines.old lines.new (texts_of text))) }
+        AccountsFirst defaults.now lines.old lines.new (texts_of_input text))) }
 {
     send_input(alloc, defaults, lines, input, errors, pace)
 }
@@ -245,7 +245,7 @@ where
     A: Allocator + Clone,
     ensures status { result ≤ 3 }
     ensures sent { (result ≡ 0) ⊎ (result ≡ 2) → IfSome (I.remaining input.old) (λ text.
-        Accounts defaults.now lines.old lines.new (texts_of text)) }
+        Accounts defaults.now lines.old lines.new (texts_of_input text)) }
     ensures none_lost { (result ≡ 0) ⊎ (result ≡ 2) →
         (losses_of (fates_in lines.new.writer)).packets ≡ 0 }
 {

@@ -4,6 +4,6 @@ use Rattle.cadence_resolve.specs.declared.target.Target.{Target}
 use Rattle.cadence_resolve.specs.declared.target.Target.TheVariants.{Name}
 
 -- The target is a host with this name and this port.
-abbrev pub IsHost : {A : Type 0} → List ℕ → ℕ → Target A → Type 0
-IsHost name port (Name host number) = (string_bytes host ≡ name) × (number ≡ port)
-IsHost name port _ = ⊥
+abbrev pub IsHostTarget : {A : Type 0} → List ℕ → ℕ → Target A → Type 0
+IsHostTarget name port (Name host number) = (string_bytes host ≡ name) × (number ≡ port)
+IsHostTarget name port _ = ⊥

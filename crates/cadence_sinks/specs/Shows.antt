@@ -2,19 +2,20 @@
 use Rattle.std.specs.Prelude.{◌≡◌, ◌<◌, ◌⊎◌, ℕ, Bool, List, [], Result, IfOk, length}
 use Rattle.cadence_errors.specs.declared.SinkError.{SinkError}
 use Rattle.cadence_flow.specs.Writer.{history_of}
-use Rattle.cadence_queuing.specs.Answers.{queue_kind}
-use Rattle.cadence_shared.specs.Packed.{ShowsFlush, ShowsLine, bytes_of, returned_of}
-use Rattle.cadence_shared.specs.declared.recorded_packer.RecordedPacker.{RecordedPacker}
-use Rattle.cadence_shared.specs.declared.recorded_packer.answers.Flushed.{Flushed}
-use Rattle.cadence_shared.specs.declared.recorded_packer.answers.Packed.{Packed}
-use Rattle.cadence_shared.specs.declared.recorded_packer.answers.Refused.{Refused}
+use Rattle.cadence_queue.specs.Answers.{queue_kind}
+use Rattle.cadence_flow.specs.Packed.{ShowsFlush, ShowsLine, bytes_of, returned_of}
+use Rattle.cadence_flow.specs.declared.recorded_packer.RecordedPacker.{RecordedPacker}
+use Rattle.cadence_flow.specs.declared.recorded_packer.answers.Flushed.{Flushed}
+use Rattle.cadence_flow.specs.declared.recorded_packer.answers.Packed.{Packed}
+use Rattle.cadence_flow.specs.declared.recorded_packer.answers.Refused.{Refused}
 use Rattle.cadence_sinks.specs.Sockets.{socket_kind}
+use Rattle.cadence_sinks.specs.declared.datagram.CountedSocket.{CountedSocket}
 use Rattle.cadence_sinks.specs.declared.datagram.SocketWriter.{SocketWriter}
 use Rattle.cadence_sinks.specs.declared.spy.buffered.MessageWriter.{MessageWriter}
 
 -- the packer of a sink over a socket
 abbrev pub SocketLines : Type 0 → Type 0 → Type 0 → Type 0
-SocketLines D R A = RecordedPacker (SocketWriter D R A) A
+SocketLines D R A = RecordedPacker (SocketWriter (CountedSocket D R A)) A
 
 -- the packer of a spy
 abbrev pub SpyLines : Type 0 → Type 0 → Type 0

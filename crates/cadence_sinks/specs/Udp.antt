@@ -4,7 +4,7 @@ use Rattle.std.specs.Option.{option_map}
 use Rattle.std.specs.declared.dyn_box.DynBox.{DynBox}
 use Rattle.std.specs.declared.alloc.Global.{Global}
 use Rattle.std.specs.declared.time.Duration.{Duration}
-use Rattle.cadence_resolve.specs.Handler.{closure_of}
+use Rattle.cadence_flow.specs.Handler.{closure_of}
 use Rattle.cadence_resolve.specs.Lookups.{KeepsAddress, is_periodic}
 use Rattle.cadence_resolve.specs.declared.target.Target.{Target}
 use Rattle.cadence_sinks.specs.declared.udp.BufferedUdpMetricSinkBuilder.{BufferedUdpMetricSinkBuilder}
@@ -32,10 +32,6 @@ module _ {Y : Type 0} {G : Y → Type 0} {g : _} where
   abbrev pub buffered_capacity_of : BufferedUdpMetricSinkBuilder Y G g → Option ℕ
   buffered_capacity_of b = b.capacity
 
-  -- the time between two lookups that the builder of a buffered sink has, or none
-  abbrev pub buffered_period_of : BufferedUdpMetricSinkBuilder Y G g → Option Duration
-  buffered_period_of b = b.period
-
-  -- the closure that receives the errors of lookups, if the builder of a buffered sink has one
-  abbrev pub buffered_handler_of : BufferedUdpMetricSinkBuilder Y G g → Option (DynBox Y Global G)
-  buffered_handler_of b = option_map closure_of b.handler
+  -- the builder with the settings of the lookups, inside the builder of a buffered sink
+  abbrev pub lookups_of : BufferedUdpMetricSinkBuilder Y G g → UdpMetricSinkBuilder Y G g
+  lookups_of b = b.lookups

@@ -3,19 +3,17 @@ ghost use Rattle.std.specs.Option.{ok_or};
 ghost use Rattle.std.specs.Prelude.{◌≡◌, [], Bool, IfOk, length};
 ghost use Rattle.cadence_errors.specs.Errors.{MayOnlyRunOutOfMemory};
 ghost use Rattle.cadence_errors.specs.declared.SinkError.{SinkError};
-ghost use Rattle.cadence_flow.specs.Unread.{len_of, taken_of};
+ghost use Rattle.cadence_flow.specs.Unread.{len_of, count_taken};
 ghost use Rattle.cadence_flow.specs.Writer.{history_of};
-ghost use Rattle.cadence_shared.specs.Opened.{opened};
-ghost use Rattle.cadence_shared.specs.Sent.{bytes_sent};
+ghost use Rattle.cadence_flow.specs.Opened.{opened};
+ghost use Rattle.cadence_flow.specs.Sent.{bytes_sent};
 ghost use Rattle.cadence_sinks.specs.Buffers.{buffer_of};
 ghost use Rattle.cadence_sinks.specs.Sockets.{IsBufferedAnswer, IsBufferedFlush, IsSocketAnswer, socket_kind};
 
 use cadence_errors::{MetricResult, SinkError};
 use cadence_flow::io::{PacketWriter, Refusals};
 use cadence_flow::stats::{SinkStats, Unread};
-use cadence_shared::{
-    Dropped, Flushed, Packed, RecordedPacker, Refused, Sent, SocketStats, acquire,
-};
+use cadence_flow::{Dropped, Flushed, Packed, RecordedPacker, Refused, Sent, SocketStats, acquire};
 use std::alloc::Allocator;
 use std::sync::{Mutex, Wait};
 
@@ -28,8 +26,19 @@ pub trait DatagramSocket: Drop {
     /// it. After an error it is `None`, and the error is in `fault`. A `Result` in its place would be as wide as the
     /// widest error, and each function that passes one on copies all of it.
     fn send(&self, packet: &[u8], fault: &mut SinkError) -> Unread
-        ensures answer { IsSocketAnswer may_give packet.now (ok_or (taken_of result) fault.new) }
+        ensures answer { IsSocketAnswer may_give packet.now (ok_or (count_taken result) fault.new) }
         ensures len { len_of result ≡ length packet.now };
+}
+
+/// A socket that sends each packet as a datagram, for a writer that owns it.
+pub trait PacketSocket: Drop {
+    /// The errors that the socket may return.
+    ghost may_give: { SinkError → Bool };
+
+    /// Sends a packet, and returns how many of its first bytes were taken. After an error it is `None`, and the error is
+    /// in `fault`.
+    fn send_packet(&mut self, packet: &[u8], fault: &mut SinkError) -> Option<usize>
+        ensures { IsSocketAnswer may_give packet.now (ok_or result fault.new) };
 }
 
 /// A socket whose results are counted: the bytes and packets that were sent, and those that were dropped.
@@ -49,16 +58,6 @@ impl<D: DatagramSocket, R: Wait + Drop, A: Allocator> CountedSocket<D, R, A> {
         Ok(CountedSocket { socket, stats })
     }
 
-    /// Sends a packet, and counts the result.
-    // Without this hint a line of `bench udp 16 20` takes 14 instructions more.
-    #[inline(always)]
-    pub fn send(&self, packet: &[u8], fault: &mut SinkError) -> Option<usize>
-        ensures { IsSocketAnswer D.may_give packet.now (ok_or result fault.new) }
-    {
-        self.stats
-            .count(self.socket.send(packet, fault), packet.len())
-    }
-
     /// Sends a line alone, and counts the result.
     pub fn send_line(&self, line: &str, fault: &mut SinkError) -> Result<Sent, Dropped>
         ensures { IsSocketAnswer D.may_give line.now (opened bytes_sent result fault.new) }
@@ -74,17 +73,40 @@ impl<D: DatagramSocket, R: Wait + Drop, A: Allocator> CountedSocket<D, R, A> {
     }
 }
 
-/// Writes packets to a socket. Contracts don't see its packets; the packer around it records them.
+/// Each result is counted.
+impl<D: DatagramSocket, R: Wait + Drop, A: Allocator> PacketSocket for CountedSocket<D, R, A> {
+    ghost may_give = { D.may_give };
+
+    // Without this hint a line of `bench udp 16 20` takes 14 instructions more.
+    #[inline(always)]
+    fn send_packet(&mut self, packet: &[u8], fault: &mut SinkError) -> Option<usize> {
+        self.stats
+            .count(self.socket.send(packet, fault), packet.len())
+    }
+}
+
+/// Writes packets to a socket, and counts those that the socket refused. Its contract says nothing of the packets that
+/// were sent: a `RecordedPacker` around it records them.
 #[derive(Drop)]
-pub struct SocketWriter<D: DatagramSocket, R: Wait + Drop, A: Allocator> {
-    socket: CountedSocket<D, R, A>,
+pub struct SocketWriter<S> {
+    socket: S,
     refusals: Refusals,
 }
 
-impl<D: DatagramSocket, R: Wait + Drop, A: Allocator> PacketWriter for SocketWriter<D, R, A> {
+impl<S: PacketSocket> SocketWriter<S> {
+    /// Makes a writer to this socket, which has refused no packet yet.
+    pub fn new(socket: S) -> Self {
+        SocketWriter {
+            socket,
+            refusals: Refusals::none(),
+        }
+    }
+}
+
+impl<S: PacketSocket> PacketWriter for SocketWriter<S> {
     ghost history = { λ w. history_of [] w.refusals };
 
-    ghost kind = { λ _. socket_kind D.may_give };
+    ghost kind = { λ _. socket_kind S.may_give };
 
     fn write_packet(&mut self, packet: &[u8]) -> Result<usize, SinkError> {
         let mut fault = SinkError::NothingWritten;
@@ -94,7 +116,7 @@ impl<D: DatagramSocket, R: Wait + Drop, A: Allocator> PacketWriter for SocketWri
     // Without this hint a line of `bench udp 16 20` takes 17 instructions more.
     #[inline(always)]
     fn write_packet_narrow(&mut self, packet: &[u8], fault: &mut SinkError) -> Option<usize> {
-        let taken = self.socket.send(packet, fault);
+        let taken = self.socket.send_packet(packet, fault);
         if taken.is_none() {
             self.refusals.add(packet.len());
         }
@@ -103,7 +125,7 @@ impl<D: DatagramSocket, R: Wait + Drop, A: Allocator> PacketWriter for SocketWri
 }
 
 /// The packer of a packed socket.
-pub type SocketLines<D, R, A> = RecordedPacker<SocketWriter<D, R, A>, A>;
+pub type SocketLines<D, R, A> = RecordedPacker<SocketWriter<CountedSocket<D, R, A>>, A>;
 
 /// Packs lines, each followed by a newline, into the packets of a counted socket. The packer and its record, which only
 /// proofs read, are under a lock. The drop of a `PackedSocket` tries one flush.
@@ -122,11 +144,7 @@ impl<D: DatagramSocket, R: Wait + Clone + Drop, A: Allocator + Clone> PackedSock
     {
         let socket = CountedSocket::new(rt.clone()?, alloc.clone()?, socket)?;
         let stats = socket.stats.clone()?;
-        let writer = SocketWriter {
-            socket,
-            refusals: Refusals::none(),
-        };
-        let lines = RecordedPacker::new(alloc, writer, capacity)?;
+        let lines = RecordedPacker::new(alloc, SocketWriter::new(socket), capacity)?;
         Ok(PackedSocket {
             rt,
             writer: Mutex::new(lines),
@@ -138,9 +156,9 @@ impl<D: DatagramSocket, R: Wait + Clone + Drop, A: Allocator + Clone> PackedSock
 
 impl<D: DatagramSocket, R: Wait + Drop, A: Allocator> PackedSocket<D, R, A> {
     ghost use Rattle.cadence_flow.specs.Packer.{Fits};
-    ghost use Rattle.cadence_shared.specs.Opened.{opened_flush};
-    ghost use Rattle.cadence_shared.specs.Packed.{bytes_of};
-    ghost use Rattle.cadence_shared.specs.RecordedPacker.{packer_of};
+    ghost use Rattle.cadence_flow.specs.Opened.{opened_flush};
+    ghost use Rattle.cadence_flow.specs.Packed.{bytes_of};
+    ghost use Rattle.cadence_flow.specs.RecordedPacker.{packer_of};
     ghost use Rattle.cadence_sinks.specs.Shows.{SocketShows, SocketShowsFlush};
 
     /// Buffers or sends the line of a metric, under the lock. There are three cases:

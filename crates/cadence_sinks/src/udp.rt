@@ -2,22 +2,21 @@
 //! datagrams.
 ghost use Rattle.std.specs.Prelude.{◌≡◌, false, IfOk, IfErr, Some, None, is_some, unwrap_or};
 ghost use Rattle.cadence_resolve.specs.Refusals.{IsSocketRefusal, IsTargetRefusal};
-ghost use Rattle.cadence_shared.specs.Answered.{IsAnswered, IsFlushAnswered, answered_by_holding_nothing};
+ghost use Rattle.cadence_flow.specs.Answered.{IsAnswered, IsFlushAnswered, answered_by_holding_nothing};
 ghost use Rattle.cadence_sinks.specs.Buffers.{udp_buffer};
 ghost use Rattle.cadence_sinks.specs.Shows.{SocketShows, SocketShowsFlush};
 ghost use Rattle.cadence_sinks.specs.Sockets.{IsBufferedAnswer, IsBufferedFlush, IsSocketAnswer, is_io};
-ghost use Rattle.cadence_sinks.specs.Udp.{SendsTo, period_of, handler_of, looks_up_again, buffered_capacity_of, buffered_period_of, buffered_handler_of};
+ghost use Rattle.cadence_sinks.specs.Udp.{SendsTo, period_of, handler_of, looks_up_again, buffered_capacity_of, lookups_of};
 
 use crate::datagram::{CountedSocket, DatagramSocket, PackedSocket, SocketLines};
-use crate::{Handler, SinkErrorHandler, Target};
 use cadence_errors::{MetricResult, SinkError};
 use cadence_flow::io::DEFAULT_CAPACITY;
 use cadence_flow::stats::{SinkStats, Unread};
-use cadence_resolve::{Resolver, ResolverRuntime, StaticResolver};
-use cadence_shared::{
-    AnsweringFlush, AnsweringSink, Dropped, Flushed, MetricSink, Packed, Refused, Sent, emit_by,
-    flush_by,
+use cadence_flow::{
+    AnsweringFlush, AnsweringSink, Dropped, Flushed, Handler, MetricSink, Packed, Refused, Sent,
+    SinkErrorHandler, emit_by, flush_by,
 };
+use cadence_resolve::{Resolver, ResolverRuntime, StaticResolver, Target};
 use std::alloc::{Allocator, Global};
 use std::net::{Net, UdpSocket};
 use std::sync::Wait;
@@ -95,7 +94,7 @@ impl<R: Wait + Drop, A: Allocator> AnsweringSink for UdpMetricSink<R, A> {
 
     type Refused = Dropped;
 
-    ghost may_answer = { λ _ metric answer. IsSocketAnswer is_io metric answer };
+    ghost may_answer = { λ _ line answer. IsSocketAnswer is_io line answer };
 
     fn emit_line(&self, line: &str, fault: &mut SinkError) -> Result<Self::Took, Self::Refused> {
         self.socket.send_line(line, fault)
@@ -103,14 +102,14 @@ impl<R: Wait + Drop, A: Allocator> AnsweringSink for UdpMetricSink<R, A> {
 }
 
 impl<R: Wait + Drop, A: Allocator> MetricSink for UdpMetricSink<R, A> {
-    ghost may_answer = { λ _ metric answer.
-        IsSocketAnswer is_io metric answer × IsAnswered metric answer };
+    ghost may_answer = { λ _ line answer.
+        IsSocketAnswer is_io line answer × IsAnswered line answer };
 
     ghost flush_may_succeed = { λ _ _. tt };
 
     #[inline(always)]
-    fn emit(&self, metric: &str) -> Result<usize, SinkError> {
-        emit_by(self, metric)
+    fn emit(&self, line: &str) -> Result<usize, SinkError> {
+        emit_by(self, line)
     }
 
     fn stats(&self) -> SinkStats {
@@ -242,8 +241,8 @@ impl<R: Wait + Drop, A: Allocator> BufferedUdpMetricSink<R, A> {
     /// Returns a builder without any setting.
     pub fn builder() -> BufferedUdpMetricSinkBuilder
         ensures capacity { buffered_capacity_of result ≡ None }
-        ensures period { buffered_period_of result ≡ None }
-        ensures handler { buffered_handler_of result ≡ None }
+        ensures period { period_of (lookups_of result) ≡ None }
+        ensures handler { handler_of (lookups_of result) ≡ None }
     {
         BufferedUdpMetricSinkBuilder::new()
     }
@@ -254,7 +253,7 @@ impl<R: Wait + Drop, A: Allocator> AnsweringSink for BufferedUdpMetricSink<R, A>
 
     type Refused = Refused<SocketLines<UdpPeer<R, A>, R, A>>;
 
-    ghost may_answer = { λ s metric answer. IsBufferedAnswer is_io (udp_buffer s) metric answer };
+    ghost may_answer = { λ s line answer. IsBufferedAnswer is_io (udp_buffer s) line answer };
 
     ghost shows = { λ s line answer e. SocketShows is_io (udp_buffer s) line answer e };
 
@@ -280,16 +279,16 @@ impl<R: Wait + Drop, A: Allocator> AnsweringFlush for BufferedUdpMetricSink<R, A
 }
 
 impl<R: Wait + Drop, A: Allocator> MetricSink for BufferedUdpMetricSink<R, A> {
-    ghost may_answer = { λ s metric answer.
-        IsBufferedAnswer is_io (udp_buffer s) metric answer × IsAnswered metric answer };
+    ghost may_answer = { λ s line answer.
+        IsBufferedAnswer is_io (udp_buffer s) line answer × IsAnswered line answer };
 
     ghost may_flush = { λ _ answer. IsBufferedFlush is_io answer × IsFlushAnswered answer };
 
     ghost flush_may_succeed = { λ _ held. (tt, answered_by_holding_nothing held) };
 
     #[inline(always)]
-    fn emit(&self, metric: &str) -> Result<usize, SinkError> {
-        emit_by(self, metric)
+    fn emit(&self, line: &str) -> Result<usize, SinkError> {
+        emit_by(self, line)
     }
 
     fn flush(&self) -> Result<(), SinkError> {
@@ -303,26 +302,22 @@ impl<R: Wait + Drop, A: Allocator> MetricSink for BufferedUdpMetricSink<R, A> {
 
 /// Makes a `BufferedUdpMetricSink`. Without a capacity the buffer has 512 bytes. Without a period the target is looked
 /// up once.
-// This type has each method of `UdpMetricSinkBuilder` again: both are types of the Rust crate, and types can't share
-// methods.
 #[derive(Drop)]
 pub struct BufferedUdpMetricSinkBuilder {
     capacity: Option<usize>,
-    period: Option<Duration>,
-    handler: Option<Handler>,
+    lookups: UdpMetricSinkBuilder,
 }
 
 impl BufferedUdpMetricSinkBuilder {
     /// Returns a builder without any setting.
     pub fn new() -> Self
         ensures capacity { buffered_capacity_of result ≡ None }
-        ensures period { buffered_period_of result ≡ None }
-        ensures handler { buffered_handler_of result ≡ None }
+        ensures period { period_of (lookups_of result) ≡ None }
+        ensures handler { handler_of (lookups_of result) ≡ None }
     {
         BufferedUdpMetricSinkBuilder {
             capacity: None,
-            period: None,
-            handler: None,
+            lookups: UdpMetricSinkBuilder::new(),
         }
     }
 
@@ -330,35 +325,35 @@ impl BufferedUdpMetricSinkBuilder {
     /// `BufferedUdpMetricSink` says.
     pub fn with_capacity(mut self, capacity: usize) -> Self
         ensures capacity { buffered_capacity_of result ≡ Some capacity }
-        ensures period { buffered_period_of result ≡ buffered_period_of self }
-        ensures handler { buffered_handler_of result ≡ buffered_handler_of self }
+        ensures lookups { lookups_of result ≡ lookups_of self }
     {
         self.capacity = Some(capacity);
         self
     }
 
-    /// Lets a thread look the target up again after each period. The thread sleeps in between. A period below one
-    /// millisecond counts as one millisecond. The drop of the sink wakes the thread, which then ends after one more
-    /// lookup at the latest.
-    pub fn with_resolver_period(mut self, period: Duration) -> Self
+    /// Sets a period, as `UdpMetricSinkBuilder::with_resolver_period` does.
+    pub fn with_resolver_period(self, period: Duration) -> Self
         ensures capacity { buffered_capacity_of result ≡ buffered_capacity_of self }
-        ensures period { buffered_period_of result ≡ Some period }
-        ensures handler { buffered_handler_of result ≡ buffered_handler_of self }
+        ensures period { period_of (lookups_of result) ≡ Some period }
+        ensures handler { handler_of (lookups_of result) ≡ handler_of (lookups_of self) }
     {
-        self.period = Some(period);
-        self
+        BufferedUdpMetricSinkBuilder {
+            capacity: self.capacity,
+            lookups: self.lookups.with_resolver_period(period),
+        }
     }
 
-    /// Sets the handler of lookups after the first one. It receives the error of each lookup that fails, and
-    /// `NoAddresses` if one gives no address. It runs in the thread that looks up. Without a period it is never called.
-    pub fn with_resolver_error_handler(mut self, handler: SinkErrorHandler) -> Self
+    /// Sets the handler of lookups, as `UdpMetricSinkBuilder::with_resolver_error_handler` does.
+    pub fn with_resolver_error_handler(self, handler: SinkErrorHandler) -> Self
         requires { IsAlwaysCallable handler }
         ensures capacity { buffered_capacity_of result ≡ buffered_capacity_of self }
-        ensures period { buffered_period_of result ≡ buffered_period_of self }
-        ensures handler { buffered_handler_of result ≡ Some handler }
+        ensures period { period_of (lookups_of result) ≡ period_of (lookups_of self) }
+        ensures handler { handler_of (lookups_of result) ≡ Some handler }
     {
-        self.handler = Some(Handler::new(handler));
-        self
+        BufferedUdpMetricSinkBuilder {
+            capacity: self.capacity,
+            lookups: self.lookups.with_resolver_error_handler(handler),
+        }
     }
 
     /// Makes the sink over a socket that the caller bound, and starts the thread of its resolver if there is a period.
@@ -375,11 +370,12 @@ impl BufferedUdpMetricSinkBuilder {
         ensures buffer { IfOk result (λ s.
             udp_buffer s ≡ unwrap_or (buffered_capacity_of self) 512) }
         ensures refused { IfErr result (λ e. IsSocketRefusal e) }
-        ensures once { buffered_period_of self ≡ None →
+        ensures once { period_of (lookups_of self) ≡ None →
             IfErr result (λ e. IsTargetRefusal target e) }
     {
         let capacity = self.capacity.unwrap_or(DEFAULT_CAPACITY);
-        let resolver = Resolver::new(&rt, &alloc, target, self.period, self.handler)?;
+        let UdpMetricSinkBuilder { period, handler } = self.lookups;
+        let resolver = Resolver::new(&rt, &alloc, target, period, handler)?;
         let socket = PackedSocket::new(rt, alloc, UdpPeer { socket, resolver }, capacity)?;
         Ok(BufferedUdpMetricSink { socket })
     }

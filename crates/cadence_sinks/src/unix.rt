@@ -2,7 +2,7 @@
 ghost use Rattle.std.specs.Prelude.{◌≡◌, Bool, true, IfOk};
 ghost use Rattle.cadence_errors.specs.Errors.{MayOnlyRunOutOfMemory};
 ghost use Rattle.cadence_errors.specs.declared.SinkError.{SinkError};
-ghost use Rattle.cadence_shared.specs.Answered.{IsAnswered, IsFlushAnswered, answered_by_holding_nothing};
+ghost use Rattle.cadence_flow.specs.Answered.{IsAnswered, IsFlushAnswered, answered_by_holding_nothing};
 ghost use Rattle.cadence_sinks.specs.Buffers.{unix_buffer};
 ghost use Rattle.cadence_sinks.specs.Shows.{SocketShows, SocketShowsFlush};
 ghost use Rattle.cadence_sinks.specs.Sockets.{IsBufferedAnswer, IsBufferedFlush, IsSocketAnswer};
@@ -12,7 +12,7 @@ use super::datagram::{CountedSocket, DatagramSocket, PackedSocket, SocketLines};
 use cadence_errors::{MetricResult, SinkError};
 use cadence_flow::io::DEFAULT_CAPACITY;
 use cadence_flow::stats::{SinkStats, Unread};
-use cadence_shared::{
+use cadence_flow::{
     AnsweringFlush, AnsweringSink, Dropped, Flushed, MetricSink, Packed, Refused, Sent, emit_by,
     flush_by,
 };
@@ -82,7 +82,7 @@ impl<P: PathSocket, R: Wait + Drop, A: Allocator> AnsweringSink for UnixMetricSi
 
     type Refused = Dropped;
 
-    ghost may_answer = { λ _ metric answer. IsSocketAnswer P.may_give metric answer };
+    ghost may_answer = { λ _ line answer. IsSocketAnswer P.may_give line answer };
 
     fn emit_line(&self, line: &str, fault: &mut SinkError) -> Result<Self::Took, Self::Refused> {
         self.socket.send_line(line, fault)
@@ -90,14 +90,14 @@ impl<P: PathSocket, R: Wait + Drop, A: Allocator> AnsweringSink for UnixMetricSi
 }
 
 impl<P: PathSocket, R: Wait + Drop, A: Allocator> MetricSink for UnixMetricSink<P, R, A> {
-    ghost may_answer = { λ _ metric answer.
-        IsSocketAnswer P.may_give metric answer × IsAnswered metric answer };
+    ghost may_answer = { λ _ line answer.
+        IsSocketAnswer P.may_give line answer × IsAnswered line answer };
 
     ghost flush_may_succeed = { λ _ _. tt };
 
     #[inline(always)]
-    fn emit(&self, metric: &str) -> Result<usize, SinkError> {
-        emit_by(self, metric)
+    fn emit(&self, line: &str) -> Result<usize, SinkError> {
+        emit_by(self, line)
     }
 
     fn stats(&self) -> SinkStats {
@@ -161,8 +161,8 @@ impl<P: PathSocket, R: Wait + Drop, A: Allocator> AnsweringSink
 
     type Refused = Refused<SocketLines<PathPeer<P, A>, R, A>>;
 
-    ghost may_answer = { λ s metric answer.
-        IsBufferedAnswer P.may_give (unix_buffer s) metric answer };
+    ghost may_answer = { λ s line answer.
+        IsBufferedAnswer P.may_give (unix_buffer s) line answer };
 
     ghost shows = { λ s line answer e. SocketShows P.may_give (unix_buffer s) line answer e };
 
@@ -187,16 +187,16 @@ impl<P: PathSocket, R: Wait + Drop, A: Allocator> AnsweringFlush
 }
 
 impl<P: PathSocket, R: Wait + Drop, A: Allocator> MetricSink for BufferedUnixMetricSink<P, R, A> {
-    ghost may_answer = { λ s metric answer.
-        IsBufferedAnswer P.may_give (unix_buffer s) metric answer × IsAnswered metric answer };
+    ghost may_answer = { λ s line answer.
+        IsBufferedAnswer P.may_give (unix_buffer s) line answer × IsAnswered line answer };
 
     ghost may_flush = { λ _ answer. IsBufferedFlush P.may_give answer × IsFlushAnswered answer };
 
     ghost flush_may_succeed = { λ _ held. (tt, answered_by_holding_nothing held) };
 
     #[inline(always)]
-    fn emit(&self, metric: &str) -> Result<usize, SinkError> {
-        emit_by(self, metric)
+    fn emit(&self, line: &str) -> Result<usize, SinkError> {
+        emit_by(self, line)
     }
 
     fn flush(&self) -> Result<(), SinkError> {

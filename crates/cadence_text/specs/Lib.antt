@@ -8,7 +8,7 @@ pub mod MetricInMemory
 pub mod OneReading
 pub mod FreeTexts
 pub mod Record
-pub mod Sink
+pub mod PieceWriters
 pub mod Owned
 pub mod Rate
 pub mod Representable

@@ -16,7 +16,7 @@ pub fn packet_reads_one_way()
 {}
 
 /// States that no line is empty. Does nothing when it is called.
-#[tactic(auto, using(crate::proofs::LineText::line_is_not_empty))]
+#[tactic(auto, using(crate::proofs::grammar::LineText::line_is_not_empty))]
 pub fn no_line_is_empty()
     ensures { NoLineIsEmpty }
 {}

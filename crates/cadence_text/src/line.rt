@@ -13,7 +13,7 @@ mod separators;
 mod tag;
 mod window;
 
-use cadence_value::text::LineSink;
+use cadence_value::text::PieceWriter;
 pub use draft::{DraftLine, Head, TagsText};
 pub use record::{OwnedMetric, Record};
 pub use separators::{first_separator, is_free};
@@ -68,7 +68,7 @@ impl MetricType {
 
     // Writes a bar and the type text. It does so byte by byte, because `take_piece` calls the C library to copy a text,
     // and that call takes some 30 instructions even for one or two bytes.
-    fn push_to<S: LineSink>(self, line: &mut S)
+    fn push_to<S: PieceWriter>(self, line: &mut S)
         ensures { Takes S.ends_as line.old (codes "|" ++ kind_text self) line.new }
     {
         line.take_byte(b'|');

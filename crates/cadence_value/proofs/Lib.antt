@@ -1,11 +1,5 @@
-pub mod PowersOfTen
-pub mod Digits
-pub mod PaddedDigits
-pub mod SplitTexts
-pub mod NumberText
-pub mod DurationNumbers
-pub mod DigitsRead
-pub mod NumberRead
-pub mod SignedDigits
-pub mod LoopElements
-pub mod WholeNumberText
+-- Start with `digits/NumberText`: different numbers have different texts. `reading` reads such a text again, and rests on
+-- `digits`. `lists/SplitTexts` is about texts that split in one way only.
+pub mod digits
+pub mod reading
+pub mod lists

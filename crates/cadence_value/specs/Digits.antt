@@ -1,11 +1,11 @@
 -- The number that a sign and the digits on each side of a dot denote. `w` are the digits before the dot, `f` those
 -- after it.
-use Rattle.std.specs.Prelude.{◌≡◌, ◌≢◌, ℕ, ◌+◌, ◌-◌, ◌*◌, ◌^◌, ◌<◌, ◌≤◌, Bool, true, if◌then◌else◌, List, length, slice_index, ℤ, pos}
+use Rattle.std.specs.Prelude.{◌≡◌, ◌≢◌, ℕ, ◌+◌, ◌-◌, ◌*◌, ◌^◌, ◌<◌, ◌≤◌, Bool, true, if◌then◌else◌, List, [], ◌∷◌, ◌++◌, codes, length, slice_index, ℤ, pos}
 use Rattle.std.specs.Prelude.{neg_ℤ, Result, Ok, Err}
 use Rattle.std.specs.Int.RustNames.{FitsSigned}
 use Rattle.std.specs.Str.Parse.{AllDigits, IsNumeral, digits_value}
 use mir.Syntax.{w128}
-use Rattle.cadence_value.specs.Number.{Number, number, IsDecimal}
+use Rattle.cadence_value.specs.Number.{Number, number, number_text, IsDecimal}
 use Rattle.cadence_value.specs.declared.decimal.read.ParseDecimalError.{ParseDecimalError}
 use Rattle.cadence_value.specs.declared.decimal.read.ParseDecimalError.TheVariants.{NotANumber, TooManyPlaces, TooLarge}
 
@@ -27,10 +27,30 @@ pub record ArePlain (w f : List ℕ) : Type 0 where
   pub first : 1 < length w → slice_index w 0 ≢ 48
   pub fraction : AllDigits 10 f
 
+-- The digits are `ArePlain`, at most 30 of them come after the dot, and as one whole number they fit 128 bits.
+pub record HaveSize (w f : List ℕ) : Type 0 where
+  pub plain : ArePlain w f
+  pub places : length f ≤ 30
+  pub small : joined_digits w f < 2 ^ 128
+
 -- The digits are `ArePlain`, and there is no minus before a zero.
 pub record AreSigned (below : Bool) (w f : List ℕ) : Type 0 where
   pub plain : ArePlain w f
   pub nonzero : below ≡ true → 0 < joined_digits w f
+
+-- a dot and the digits after it, or nothing if there are none
+abbrev pub dotted : List ℕ → List ℕ
+dotted [] = []
+dotted (d ∷ ds) = 46 ∷ d ∷ ds
+
+-- the text that consists of a minus or nothing and of the digits on each side of a dot
+abbrev pub digits_text : Bool → List ℕ → List ℕ → List ℕ
+digits_text below w f = (if below then codes "-" else []) ++ (w ++ dotted f)
+
+-- The text consists of these parts, and if it is a number's text, the digits are `AreSigned`.
+pub record HasParts (text : List ℕ) (below : Bool) (w f : List ℕ) : Type 0 where
+  pub shown : digits_text below w f ≡ text
+  pub only : (n : Number) → number_text n ≡ text → AreSigned below w f
 
 -- The last digit after the dot, if there is one, is not 0.
 abbrev pub EndsPlain : List ℕ → Type 0

@@ -1,16 +1,14 @@
 //! Exact decimal numbers, for values and sampling rates with digits after the dot.
-ghost use Rattle.std.specs.Prelude.{◌≡◌, ◌^◌, ◌≤◌, ◌↔◌, ◌<◌, ◌++◌, Some, true, IsOk, IfOk, IfErr, codes};
-ghost use Rattle.std.specs.Fmt.{DisplaysOnOk};
+ghost use Rattle.std.specs.Prelude.{◌≡◌, ◌^◌, ◌≤◌, ◌↔◌, ◌<◌, true, IsOk, IfOk, IfErr};
 ghost use Rattle.cadence_errors.specs.Errors.{IsInvalid};
-ghost use Rattle.cadence_value.specs.Number.{IsLowestForm, Number, decimal_text, padded_digits, is_lowest, number, number_text, IsDecimal};
+ghost use Rattle.cadence_value.specs.Number.{IsLowestForm, Number, is_lowest, number, IsDecimal};
 
 use cadence_errors::{ErrorKind, MetricError, MetricResult};
-use std::fmt;
 use std::marker::Model;
 
 mod read;
 
-pub use read::{ParseDecimalError, read_number, read_whole};
+pub use read::{ParseDecimalError, read_number, read_whole, signed_number};
 
 /// The most digits that a `Decimal` can have after the dot.
 pub const MAX_PLACES: u8 = 30;
@@ -80,48 +78,6 @@ impl Decimal {
     }
 }
 
-// A type whose values are numbers. The ghost member says which number a value is.
-pub(crate) trait AsDecimal {
-    ghost number: { Self → Number };
-
-    fn as_decimal(&self) -> Decimal
-        ensures { result ≡ number self.now };
-}
-
-impl AsDecimal for i64 {
-    ghost use Rattle.cadence_value.specs.Number.{whole};
-
-    ghost number = { whole };
-
-    fn as_decimal(&self) -> Decimal {
-        Decimal {
-            mantissa: i128::from(*self),
-            places: 0,
-        }
-    }
-}
-
-impl AsDecimal for u64 {
-    ghost use Rattle.cadence_value.specs.Number.{natural};
-
-    ghost number = { natural };
-
-    fn as_decimal(&self) -> Decimal {
-        Decimal {
-            mantissa: i128::from(*self),
-            places: 0,
-        }
-    }
-}
-
-impl AsDecimal for Decimal {
-    ghost number = { λ n. n };
-
-    fn as_decimal(&self) -> Decimal {
-        *self
-    }
-}
-
 /// Returns ten to the power of `places`.
 pub fn power_of_ten(places: u8) -> u128
     requires { places ≤ 30 }
@@ -129,41 +85,4 @@ pub fn power_of_ten(places: u8) -> u128
     ensures positive { 0 < result }
 {
     10u128.pow(u32::from(places))
-}
-
-// Writes the digits of a whole number, without leading zeros.
-fn write_whole<W: fmt::Write>(f: &mut fmt::Formatter<W>, whole: u128) -> fmt::Result
-    ensures { DisplaysOnOk W.write_str_gives f.old result (Some (decimal_text whole)) f.new }
-{
-    write!(f, "{whole}")
-}
-
-// Writes a dot and then `fraction`, filled with zeros in front up to `places` digits.
-fn write_places<W: fmt::Write>(f: &mut fmt::Formatter<W>, fraction: u128, places: u8) -> fmt::Result
-    requires { 0 < places }
-    ensures { DisplaysOnOk W.write_str_gives f.old result
-        (Some (codes "." ++ padded_digits places (decimal_text fraction))) f.new }
-{
-    let width = usize::from(places);
-    write!(f, ".{fraction:0width$}")
-}
-
-/// Prints a minus if the number is below zero, then the digits of the whole part without leading zeros, and, if
-/// `places` is above 0, a dot and exactly that many digits.
-impl fmt::Display for Decimal {
-    ghost output = { λ n. Some (number_text n) };
-
-    fn fmt<W: fmt::Write>(&self, f: &mut fmt::Formatter<W>) -> fmt::Result {
-        let Decimal { mantissa, places } = *self;
-        let magnitude = mantissa.unsigned_abs();
-        let scale = power_of_ten(places);
-        if mantissa < 0 {
-            f.write_str("-")?;
-        }
-        write_whole(f, magnitude / scale)?;
-        if places > 0 {
-            write_places(f, magnitude % scale, places)?;
-        }
-        Ok(())
-    }
 }

@@ -1,8 +1,9 @@
-//! Writes the texts of numbers and of values, piece by piece: `sink` has the traits of what takes the pieces, and
-//! `numbers` writes digits, decimals and whole values.
+//! Writes the texts of numbers and of values, piece by piece: `writer` has the traits of what takes the pieces,
+//! `numbers` writes digits, decimals and whole values, and `display` prints decimals and values.
 
+mod display;
 mod numbers;
-mod sink;
+mod writer;
 
 pub use numbers::{number_len, push_digits, push_number, push_value, push_wide_digits, wide_len};
-pub use sink::{ByteSink, LineSink};
+pub use writer::{DigitWriter, PieceWriter};

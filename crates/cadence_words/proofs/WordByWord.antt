@@ -10,9 +10,9 @@ use Rattle.std.proofs.lemmas.List.Elements.{recursion_from_All}
 use Rattle.std.proofs.lemmas.List.Splits.{slice_split_none}
 use Rattle.std.proofs.lemmas.Slice.Zip.{all_zipped_more, AllZip-long}
 use Rattle.cadence_words.specs.Asked.{AddsTags, AreHead, IsNumberWord, IsPlainWord, IsTagWord, IsValueWord, AllowsSeveral, words_of}
-use Rattle.cadence_number.specs.Duration.{IsDurationWord}
+use Rattle.cadence_words.specs.Duration.{IsDurationWord}
 use Rattle.cadence_value.specs.Finds.{Finds}
-use Rattle.cadence_words.specs.Finds.{FailsAs, FindsOrFails}
+use Rattle.cadence_words.specs.Finds.{FailsAsWord, FindsOrFails}
 use Rattle.cadence_cli.specs.declared.read_error.ReadError.{ReadError}
 use Rattle.cadence_words.specs.declared.word_error.Part.{Part}
 use Rattle.cadence_cli.specs.declared.read_error.ReadError.TheVariants.{Unreadable, OutOfMemory}
@@ -20,13 +20,13 @@ use Rattle.cadence_words.specs.Lines.{IsLineOfText, IsLineOfWords, asked_metric,
 use Rattle.cadence_text.specs.Draft.{Draft, draft_of}
 use Rattle.cadence_text.specs.Line.{line_of}
 use Rattle.cadence_words.specs.declared.defaults.Defaults.{Defaults}
-use Rattle.cadence_schedule.specs.Call.{metric_of_call, plain_call}
-use Rattle.cadence_schedule.specs.Settings.{Settings}
-use Rattle.cadence_text.proofs.LineText.{key_text-keyed, keyed_text, plain_lacks_colon}
+use Rattle.cadence_settings.specs.Call.{metric_of_call, plain_call}
+use Rattle.cadence_settings.specs.Settings.{Settings}
+use Rattle.cadence_text.proofs.grammar.LineText.{key_text-keyed, keyed_text, plain_lacks_colon}
 use Rattle.cadence_text.specs.declared.line.MetricType.{MetricType}
 use Rattle.cadence_text.specs.Metric.{Metric, Tag, with_tag}
 use Rattle.cadence_text.specs.OneReading.{IsFreeText}
-use Rattle.cadence_value.proofs.SplitTexts.{Lacks, cut_at, lacks_no}
+use Rattle.cadence_value.proofs.lists.SplitTexts.{Lacks, cut_at, lacks_no}
 use Rattle.cadence_value.specs.Number.{Number}
 
 -- the texts of borrowed words
@@ -70,7 +70,7 @@ three_words (w1 ∷ w2 ∷ w3 ∷ ws) k n v long = ap (λ others. w1.now ∷ w2.
 
 -- If each value with the property has a part, and there is no such part, then no value has the property.
 pub hands_on : {C X Y W : Type 0} (Has : X → Type 0) (view : C → X) (HasPart : Y → Type 0) (r : Result C (ReadError W)) (error : ReadError W)
-    → r ≡ Err error → ((x : X) → Has x → (y : Y) × HasPart y) → FailsAs HasPart error → FindsOrFails Has view r
+    → r ≡ Err error → ((x : X) → Has x → (y : Y) × HasPart y) → FailsAsWord HasPart error → FindsOrFails Has view r
 hands_on Has view HasPart r (Unreadable why) is from none = rw is (λ x h. let p = from x h in none p.0 p.1)
 hands_on Has view HasPart r OutOfMemory is from none = rw is tt
 
@@ -153,7 +153,7 @@ tag_of_word (w ∷ front) rest word (t ∷ tags) h = tag_of_word front rest word
 
 -- If one of the words is no tag, then the words are not all tags.
 pub tags_fail : (words : List (List ℕ)) (word : List ℕ) (old new : Draft) (r : Result (Unit {0}) (ReadError Part)) (fault : ReadError Part)
-    → r ≡ Err fault → ((tags : List Tag) → AllZip IsTagWord words tags → (tag : Tag) × IsTagWord word tag) → FailsAs (IsTagWord word) fault
+    → r ≡ Err fault → ((tags : List Tag) → AllZip IsTagWord words tags → (tag : Tag) × IsTagWord word tag) → FailsAsWord (IsTagWord word) fault
     → AddsTags words old new r
 tags_fail words word old new r (Unreadable part) is from none = rw is (λ tags h. let p = from tags h in none p.0 p.1)
 tags_fail words word old new r OutOfMemory is from none = rw is tt

@@ -5,12 +5,12 @@ use Rattle.cadence_cli.specs.declared.read_error.ReadError.TheVariants.{Unreadab
 use Rattle.cadence_value.specs.Finds.{HasNone}
 
 -- If the error is `Unreadable`, no value has the property. If memory ran out, nothing is known.
-abbrev pub FailsAs : {X W : Type 0} → (X → Type 0) → ReadError W → Type 0
-FailsAs Has (Unreadable why) = HasNone Has
-FailsAs Has OutOfMemory = ⊤
+abbrev pub FailsAsWord : {X W : Type 0} → (X → Type 0) → ReadError W → Type 0
+FailsAsWord Has (Unreadable why) = HasNone Has
+FailsAsWord Has OutOfMemory = ⊤
 
 -- If the search returns a value, then that value, as `view` sees it, has the property. If it returns an error, it is
--- one that `FailsAs` allows.
+-- one that `FailsAsWord` allows.
 abbrev pub FindsOrFails : {C X W : Type 0} → (X → Type 0) → (C → X) → Result C (ReadError W) → Type 0
 FindsOrFails Has view (Ok c) = Has (view c)
-FindsOrFails Has view (Err error) = FailsAs Has error
+FindsOrFails Has view (Err error) = FailsAsWord Has error

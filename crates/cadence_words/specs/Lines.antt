@@ -1,7 +1,7 @@
 -- The lines of the metrics that words ask for.
 use Rattle.std.specs.Prelude.{◌≡◌, ◌++◌, List, ℕ}
 use Rattle.std.specs.Str.{IsUtf8}
-use Rattle.cadence_schedule.specs.Call.{metric_of_call, plain_call}
+use Rattle.cadence_settings.specs.Call.{metric_of_call, plain_call}
 use Rattle.cadence_text.specs.Line.{line_of}
 use Rattle.cadence_text.specs.Metric.{Metric}
 use Rattle.cadence_words.specs.Asked.{AskFor, Asked, words_of}

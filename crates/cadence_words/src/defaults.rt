@@ -1,5 +1,5 @@
 //! What a command line adds to each metric.
-use cadence_schedule::ClientSettings;
+use cadence_settings::ClientSettings;
 use cadence_value::decimal::Decimal;
 use std::alloc::{Allocator, Global};
 

@@ -1,19 +1,35 @@
-//! Makes the line of a metric from the words that ask for it.
+//! Makes the line of a metric from the words that ask for it, whose numbers are written as tools print them; and takes
+//! samples of lines with a chance that is such a number.
 //!
+//! - `decimal`: reads decimal numbers in the form of a line.
 //! - `defaults`: what a command line adds to each metric.
+//! - `digits`: the digits of a number, and the number that they and an exponent make.
+//! - `duration`: reads durations.
 //! - `line`: writes the line of a metric from its words.
+//! - `parts`: splits a number into its sign, its digits and its exponent.
+//! - `printed`: reads numbers as tools print them.
+//! - `sample`: lets only a random sample of lines pass.
 //! - `value`: reads the value of a metric.
 //! - `word_error`: why words can't be read.
-//! - `words`: cuts a line into words, and reads single words.
+//! - `words`: splits a line into words, and reads single words.
 #![tactic(auto)]
 
+mod decimal;
 mod defaults;
+mod digits;
+mod duration;
 mod line;
+mod parts;
+mod printed;
+mod sample;
 mod value;
 mod word_error;
 mod words;
 
 pub use defaults::Defaults;
+pub use duration::read_duration;
 pub use line::{write_line_of_text, write_line_of_words};
+pub use printed::read_printed;
+pub use sample::{Chance, SampledReader, Sampler};
 pub use word_error::{Part, WordError};
 pub use words::{is_word, read_tag};

@@ -1,6 +1,6 @@
 //! Writes the line of a metric from the words that ask for it.
 ghost use Rattle.std.specs.Prelude.{◌≡◌, ◌∷◌, List, IfOk, None, map};
-ghost use Rattle.cadence_schedule.specs.Call.{metric_of_call, plain_call};
+ghost use Rattle.cadence_settings.specs.Call.{metric_of_call, plain_call};
 ghost use Rattle.cadence_words.specs.Asked.{AddsTag, AddsTags, AreHead, head_of, words_of};
 ghost use Rattle.cadence_words.specs.Finds.{FindsOrFails};
 ghost use Rattle.cadence_words.specs.Lines.{IsLineOfText, IsLineOfWords, with_rate_and_time};
@@ -12,7 +12,7 @@ ghost use Rattle.cadence_value.specs.Values.{numbers_of};
 use crate::defaults::Defaults;
 use crate::value::read_value;
 use crate::word_error::{Part, WordError};
-use crate::words::{cut_word, is_word, read_kind, read_tag, utf8_text};
+use crate::words::{is_word, read_kind, read_tag, split_word, utf8_text};
 use cadence_text::line::{DraftLine, MetricType};
 use cadence_value::decimal::Decimal;
 use cadence_value::value::MetricValue;
@@ -65,7 +65,7 @@ fn add_all<A: Allocator>(draft: &mut DraftLine<'_, A>, text: &str) -> Result<(),
     ensures { AddsTags (words_of text.now) draft.old draft.new result }
 {
     let mut left = text;
-    while let Some((word, others)) = cut_word(left) {
+    while let Some((word, others)) = split_word(left) {
         add_tag(draft, word)?;
         left = others;
     }
@@ -190,13 +190,13 @@ fn write_line_of_str<A: Allocator + Clone>(
     ensures { FindsOrFails (IsLineOfWords defaults.now (words_of text.now))
         (λ _. buffer.new.items) result }
 {
-    let Some((kind, after_kind)) = cut_word(text) else {
+    let Some((kind, after_kind)) = split_word(text) else {
         return Err(WordError::Unreadable(Part::Words));
     };
-    let Some((name, after_name)) = cut_word(after_kind) else {
+    let Some((name, after_name)) = split_word(after_kind) else {
         return Err(WordError::Unreadable(Part::Words));
     };
-    let Some((value, tags)) = cut_word(after_name) else {
+    let Some((value, tags)) = split_word(after_name) else {
         return Err(WordError::Unreadable(Part::Words));
     };
     write_line(alloc, defaults, buffer, kind, name, value, Tags::Text(tags))

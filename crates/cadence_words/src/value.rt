@@ -7,8 +7,8 @@ ghost use Rattle.cadence_value.specs.Finds.{Finds};
 ghost use Rattle.cadence_value.specs.Values.{numbers_of};
 
 use crate::word_error::{Part, WordError};
-use crate::words::cut_items;
-use cadence_number::{read_duration, read_printed};
+use crate::words::split_items;
+use crate::{read_duration, read_printed};
 use cadence_text::line::MetricType;
 use cadence_value::decimal::Decimal;
 use cadence_value::value::MetricValue;
@@ -113,7 +113,7 @@ pub(crate) fn read_value<A: Allocator + Clone>(
             None => Err(WordError::Unreadable(Part::Value(kind))),
         };
     }
-    let items = cut_items(alloc.clone()?, word)?;
+    let items = split_items(alloc.clone()?, word)?;
     if items.len() != 1 && !allows_several(kind) {
         return Err(WordError::Unreadable(Part::Value(kind)));
     }

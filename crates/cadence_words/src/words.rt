@@ -1,4 +1,4 @@
-//! Cuts a line into words, and reads single words.
+//! Splits a line into words, and reads single words.
 ghost use Rattle.std.specs.Prelude.{◌≡◌, ◌↔◌, ◌==◌, ◌∷◌, [], IfNone, IfOk, IfSome, IsTrue, map};
 ghost use Rattle.std.specs.List.{slice_split};
 ghost use Rattle.std.specs.Option.{option_map};
@@ -8,7 +8,7 @@ ghost use Rattle.cadence_value.specs.Finds.{Finds};
 ghost use Rattle.cadence_text.specs.Record.{tag_of};
 
 use cadence_text::line::{MetricType, Tag, is_free};
-use cadence_value::bytes::cut_text;
+use cadence_value::bytes::split_text_once;
 use std::alloc::{AllocError, Allocator};
 use std::str;
 
@@ -57,7 +57,7 @@ pub fn read_tag(word: &str) -> Option<Tag<'_>>
     if word.is_empty() {
         return None;
     }
-    let Some((key, text)) = cut_text(word, b':') else {
+    let Some((key, text)) = split_text_once(word, b':') else {
         if !is_free(word.as_bytes()) {
             return None;
         }
@@ -79,13 +79,13 @@ pub fn read_tag(word: &str) -> Option<Tag<'_>>
 }
 
 // Returns the first word of a text, and the text after it.
-pub(crate) fn cut_word(text: &str) -> Option<(&str, &str)>
+pub(crate) fn split_word(text: &str) -> Option<(&str, &str)>
     ensures none { IfNone result (words_of text.now ≡ []) }
     ensures some { IfSome result
         (λ parts. words_of text.now ≡ parts.0.now ∷ words_of parts.1.now) }
 {
     let mut left = text;
-    while let Some((word, others)) = cut_text(left, b' ') {
+    while let Some((word, others)) = split_text_once(left, b' ') {
         if !word.is_empty() {
             return Some((word, others));
         }
@@ -98,7 +98,7 @@ pub(crate) fn cut_word(text: &str) -> Option<(&str, &str)>
 }
 
 // Returns the items between the commas of a text.
-pub(crate) fn cut_items<A: Allocator>(alloc: A, text: &str) -> Result<Vec<&str, A>, AllocError>
+pub(crate) fn split_items<A: Allocator>(alloc: A, text: &str) -> Result<Vec<&str, A>, AllocError>
     ensures { IfOk result (λ items.
         map (λ w. w.now) items.items ≡ slice_split (λ b. b == 44) text.now) }
 {

@@ -16,10 +16,11 @@ use cadence::{
     QueuingMetricSink, QueuingMetricSinkBuilder, SinkError, SpyMetricSink, StatsdClient, Target,
     UdpMetricSink, UdpMetricSinkBuilder, UnixMetricSink,
 };
-use cadence_agent::{UnixSocket, unix_client};
+use cadence_agent::{Environment, EnvironmentExt, UnixSocket, sink_to, unix_sink};
 use cadence_read::{ReadFault, read_packet};
 use example_service::runtime::Runtime;
 use std::alloc::Global;
+use std::env::Env;
 use std::net::{Ipv4Addr, SocketAddr, UdpSocket};
 use std::time::Duration;
 
@@ -126,7 +127,7 @@ fn spy_packet<R: Runtime>(rt: &R, alloc: Global) -> MetricResult<Option<Vec<u8>>
     Ok(message)
 }
 
-// The examples of the builders of queuing sinks. Returns how many lines the queue accepted.
+// The example of `QueuingMetricSinkBuilder`. Returns how many lines the queue accepted.
 fn queue_lines<R: Runtime, S: MetricSink + Send + Sync + 'static>(
     rt: &R,
     alloc: Global,
@@ -134,20 +135,7 @@ fn queue_lines<R: Runtime, S: MetricSink + Send + Sync + 'static>(
 ) -> MetricResult<u64> {
     let builder = QueuingMetricSinkBuilder::new()
         .with_capacity(1000)
-        .with_policy(QueuePolicy::DropOldest);
-    let sink = builder.build(rt.clone()?, alloc, inner)?;
-    sink.emit("p.visits:1|c")?;
-    sink.stop_and_wait();
-    Ok(sink.submitted())
-}
-
-fn queue_lines_by_time<R: Runtime, S: MetricSink + Send + Sync + 'static>(
-    rt: &R,
-    alloc: Global,
-    inner: S,
-) -> MetricResult<u64> {
-    let builder = QueuingMetricSinkBuilder::new()
-        .with_capacity(1000)
+        .with_policy(QueuePolicy::DropOldest)
         .with_flush_period(Duration::from_secs(1));
     let sink = builder.build(rt.clone()?, alloc, inner)?;
     sink.emit("p.visits:1|c")?;
@@ -177,8 +165,7 @@ fn add_queues<R: Runtime>(rt: &R, alloc: Global, text: &mut String) -> MetricRes
         writeln!(text, "{}", sent.trim_end())?;
     }
     let queued = queue_lines(rt, alloc, NopMetricSink)?;
-    let timed = queue_lines_by_time(rt, alloc, NopMetricSink)?;
-    writeln!(text, "{queued} and {timed} lines queued")?;
+    writeln!(text, "{queued} line queued")?;
     let (receiver, sink) = SpyMetricSink::new(rt.clone()?, alloc)?;
     queue_and_stop(rt, alloc, sink)?;
     add_all(alloc, text, &receiver)
@@ -256,11 +243,21 @@ fn send_to_nobody<R: Runtime>(rt: &R, alloc: Global) -> MetricResult<usize> {
     Ok(sink.emit("p.visits:1|c")?)
 }
 
-// The example of `unix_client`. Nobody listens at the path.
+// The example of `unix_sink`. Nobody listens at the path.
 fn count_for_nobody<R: Runtime>(rt: &R, alloc: Global) -> MetricResult<()> {
-    let client = unix_client(rt, alloc, "my.service", "/run/statsd.sock")?;
+    let sink = unix_sink(rt, alloc, "/run/statsd.sock")?;
+    let client = StatsdClient::from_sink(alloc, "my.service", sink)?;
     client.incr("visits")?;
     Ok(())
+}
+
+/// Runs the example of `EnvironmentExt`: counts over a client that sends where the environment says.
+pub fn count_by_environment<R: Runtime + Env>(rt: &R, alloc: Global) -> MetricResult<()> {
+    let environment = Environment::read(&(rt, alloc))?;
+    let sink = sink_to(rt, alloc, environment.destination())?;
+    let client = environment.builder(alloc, "my.service", sink).build()?;
+    client.incr("visits")?;
+    client.flush()
 }
 
 // The example of `MetricError`. Returns whether a call found the queue full.

@@ -2,11 +2,11 @@
 
 use cadence::client::ErrorHandler;
 use cadence::prelude::*;
-use cadence::ready::{QueuedUdpSink, host, queued_udp_sink_with, udp_sink};
+use cadence::ready::{buffered_udp_sink, host, udp_sink};
 use cadence::types::SinkError;
 use cadence::{
-    DEFAULT_PORT, MetricError, MetricResult, MetricSink, QueuingMetricSinkBuilder, StatsdClient,
-    UdpMetricSink,
+    BufferedUdpMetricSink, DEFAULT_PORT, MetricError, MetricResult, MetricSink, QueuingMetricSink,
+    QueuingMetricSinkBuilder, StatsdClient, UdpMetricSink,
 };
 use example_service::runtime::Runtime;
 use std::alloc::Global;
@@ -69,14 +69,15 @@ pub fn counting_queue<R: Runtime>(
     rt: &R,
     alloc: Global,
     number: Arc<AtomicU64>,
-) -> MetricResult<QueuedUdpSink<R>> {
+) -> MetricResult<QueuingMetricSink<BufferedUdpMetricSink<R>, R>> {
     let queue = QueuingMetricSinkBuilder::new().with_error_handler(Box::new(
         alloc,
         move |_e: SinkError| {
             number.fetch_add(1, Ordering::SeqCst);
         },
     )?);
-    queued_udp_sink_with(rt, alloc, host(alloc, "localhost", 8125)?, 1432, queue)
+    let sink = buffered_udp_sink(rt, alloc, host(alloc, "localhost", 8125)?, 1432)?;
+    queue.build(rt.clone()?, alloc, sink)
 }
 
 /// Sends a line that is too long for a datagram through a queue, and returns how many lines the worker lost.

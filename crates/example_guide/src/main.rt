@@ -51,7 +51,7 @@ fn main(rt: HostRuntime) -> MetricResult<()> {
     let id = process::id(rt.process());
     let path = format!(in alloc; "/tmp/statsd-{id}.sock")?;
     print!(rt; "{}", unix::report(&rt, alloc, &path)?)?;
-    unix::count_by_environment(&rt, alloc)?;
+    documented::count_by_environment(&rt, alloc)?;
     unix::count_within_a_second(&rt, alloc)?;
     ported::send_over_re_resolving_sink(&rt, alloc)?;
 

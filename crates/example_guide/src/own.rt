@@ -15,8 +15,8 @@ pub struct MySink;
 impl MetricSink for MySink {
     ghost may_answer = { λ _ line answer. answer ≡ Ok (length line) };
 
-    fn emit(&self, metric: &str) -> Result<usize, SinkError> {
-        Ok(metric.len())
+    fn emit(&self, line: &str) -> Result<usize, SinkError> {
+        Ok(line.len())
     }
 
     ghost flush_may_succeed = { λ _ _. tt };
@@ -31,11 +31,11 @@ impl MetricSink for AnySink {
 
     ghost may_flush = { λ _ _. Unit {0} };
 
-    fn emit(&self, metric: &str) -> Result<usize, SinkError> {
-        if metric.len() > 1000 {
+    fn emit(&self, line: &str) -> Result<usize, SinkError> {
+        if line.len() > 1000 {
             return Err(SinkError::PacketRefused);
         }
-        Ok(metric.len())
+        Ok(line.len())
     }
 
     fn flush(&self) -> Result<(), SinkError> {

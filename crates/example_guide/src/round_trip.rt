@@ -3,9 +3,11 @@
 //! Datagrams on the loopback address arrive in order here, so the text is the same in each run.
 
 use cadence::prelude::*;
-use cadence::ready::{buffered_udp_sink, flushing_udp_client, queued_udp_client};
+use cadence::ready::buffered_udp_sink;
 use cadence::sinks::Target;
-use cadence::{MetricResult, MetricSink, StatsdClient};
+use cadence::{
+    MetricResult, MetricSink, QueuingMetricSink, QueuingMetricSinkBuilder, StatsdClient,
+};
 use cadence_agent::ReportingMetricSink;
 use example_service::runtime::Runtime;
 use example_service::service;
@@ -16,8 +18,9 @@ use std::time::Duration;
 // Sends three lines, and returns how many datagrams that took. Of at most 64 bytes, a datagram holds the first two
 // lines (44 bytes with their newlines), but not the third one (27 bytes) as well.
 fn send_three<R: Runtime>(rt: &R, alloc: Global, server: SocketAddr) -> MetricResult<u64> {
-    let target = Target::Addr(server);
-    let client = queued_udp_client(rt, alloc, "my.service", target, 64, None)?;
+    let inner = buffered_udp_sink(rt, alloc, Target::Addr(server), 64)?;
+    let sink = QueuingMetricSink::from(rt.clone()?, alloc, inner)?;
+    let client = StatsdClient::from_sink(alloc, "my.service", sink)?;
     client.count("visits", 3)?;
     client.incr("logins")?;
     client.time("startup", 1250u64)?;
@@ -41,9 +44,12 @@ fn receive(alloc: Global, server: &UdpSocket, count: u64) -> MetricResult<String
 // Sends a line over a client that flushes by time, and returns the datagram. The client is neither flushed nor stopped
 // before the datagram has come.
 fn receive_by_time<R: Runtime>(rt: &R, alloc: Global, server: &UdpSocket) -> MetricResult<String> {
-    let target = Target::Addr(server.local_addr()?);
-    let period = Duration::from_millis(20);
-    let client = flushing_udp_client(rt, alloc, "my.service", target, 64, Some(10), period)?;
+    let inner = buffered_udp_sink(rt, alloc, Target::Addr(server.local_addr()?), 64)?;
+    let queue = QueuingMetricSinkBuilder::new()
+        .with_capacity(10)
+        .with_flush_period(Duration::from_millis(20));
+    let sink = queue.build(rt.clone()?, alloc, inner)?;
+    let client = StatsdClient::from_sink(alloc, "my.service", sink)?;
     client.incr("alive")?;
     let text = receive(alloc, server, 1)?;
     client.sink().stop_and_wait();

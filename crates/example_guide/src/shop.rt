@@ -3,12 +3,15 @@
 use cadence::client::ErrorHandler;
 use cadence::decimal::Decimal;
 use cadence::prelude::*;
-use cadence::ready::{BufferedUdpClient, buffered_udp_sink, host, queued_udp_client};
-use cadence::{DEFAULT_PORT, MetricResult, MetricSink, StatsdClient};
+use cadence::ready::{buffered_udp_sink, host};
+use cadence::{BufferedUdpMetricSink, MetricResult, MetricSink, QueuingMetricSink, StatsdClient};
 use example_service::runtime::Runtime;
 use std::alloc::Global;
 
-pub fn connect<R: Runtime>(rt: &R, alloc: Global) -> MetricResult<BufferedUdpClient<R>> {
+pub fn connect<R: Runtime>(
+    rt: &R,
+    alloc: Global,
+) -> MetricResult<StatsdClient<Global, BufferedUdpMetricSink<R>>> {
     let sink = buffered_udp_sink(rt, alloc, host(alloc, "localhost", 8125)?, 1432)?;
     StatsdClient::builder(alloc, "my.service", sink)
         .with_tag("env", "prod")
@@ -32,11 +35,11 @@ impl<S: MetricSink, H: ErrorHandler> Shop<S, H> {
     }
 }
 
-/// Sells over a ready-made client, which sends through a queue.
+/// Sells over a client that sends through a queue.
 pub fn sell_over_a_queue<R: Runtime>(rt: &R, alloc: Global) -> MetricResult<()> {
-    let target = host(alloc, "localhost", DEFAULT_PORT)?;
-    let client = queued_udp_client(rt, alloc, "my.service", target, 1432, Some(1000))?;
-    Shop::new(client).sell(1999)
+    let inner = buffered_udp_sink(rt, alloc, host(alloc, "localhost", 8125)?, 1432)?;
+    let sink = QueuingMetricSink::with_capacity(rt.clone()?, alloc, inner, 1000)?;
+    Shop::new(StatsdClient::from_sink(alloc, "my.service", sink)?).sell(1999)
 }
 
 /// Sells over the client of `connect`, which packs lines.

@@ -2,14 +2,13 @@
 
 use cadence::prelude::*;
 use cadence::queue::QueuePolicy;
-use cadence::ready::{
-    QueuedUdpClient, buffered_udp_sink, host, queued_udp_sink, queued_udp_sink_with, udp_sink,
-};
+use cadence::ready::{buffered_udp_sink, host, udp_sink};
 use cadence::sinks::PathSocket;
 use cadence::types::SinkError;
 use cadence::{
-    BufferedSpyMetricSink, BufferedUnixMetricSink, FlushingMetricSink, MetricResult, MetricSink,
-    NopMetricSink, QueuingMetricSinkBuilder, SpyMetricSink, StatsdClient, UnixMetricSink,
+    BufferedSpyMetricSink, BufferedUdpMetricSink, BufferedUnixMetricSink, FlushingMetricSink,
+    MetricResult, MetricSink, NopMetricSink, QueuingMetricSink, QueuingMetricSinkBuilder,
+    SpyMetricSink, StatsdClient, UnixMetricSink,
 };
 use example_service::runtime::Runtime;
 use std::alloc::Global;
@@ -37,8 +36,8 @@ pub fn send_over_buffered_udp<R: Runtime>(rt: &R, alloc: Global) -> MetricResult
 }
 
 pub fn send_over_queue<R: Runtime>(rt: &R, alloc: Global) -> MetricResult<()> {
-    let target = host(alloc, "localhost", 8125)?;
-    let sink = queued_udp_sink(rt, alloc, target, 1432, Some(1000))?;
+    let inner = buffered_udp_sink(rt, alloc, host(alloc, "localhost", 8125)?, 1432)?;
+    let sink = QueuingMetricSink::with_capacity(rt.clone()?, alloc, inner, 1000)?;
     let client = StatsdClient::from_sink(alloc, "p", sink)?;
     client.incr("visits")?;
     client.sink().stop_and_wait();
@@ -54,18 +53,20 @@ pub fn send_each_second<R: Runtime>(rt: &R, alloc: Global) -> MetricResult<()> {
     Ok(())
 }
 
-pub fn make_latest_client<R: Runtime>(rt: &R, alloc: Global) -> MetricResult<QueuedUdpClient<R>> {
-    let target = host(alloc, "localhost", 8125)?;
+pub fn make_latest_sink<R: Runtime>(
+    rt: &R,
+    alloc: Global,
+) -> MetricResult<QueuingMetricSink<BufferedUdpMetricSink<R>, R>> {
+    let inner = buffered_udp_sink(rt, alloc, host(alloc, "localhost", 8125)?, 1432)?;
     let queue = QueuingMetricSinkBuilder::new()
         .with_capacity(100)
         .with_policy(QueuePolicy::DropOldest);
-    let sink = queued_udp_sink_with(rt, alloc, target, 1432, queue)?;
-    StatsdClient::from_sink(alloc, "my.service", sink)
+    queue.build(rt.clone()?, alloc, inner)
 }
 
 /// Sends over a queue that drops its oldest line, and returns how many lines it dropped.
 pub fn send_latest<R: Runtime>(rt: &R, alloc: Global) -> MetricResult<u64> {
-    let client = make_latest_client(rt, alloc)?;
+    let client = StatsdClient::from_sink(alloc, "my.service", make_latest_sink(rt, alloc)?)?;
     client.gauge("depth", 17)?;
     client.sink().stop_and_wait();
     Ok(client.sink().dropped())

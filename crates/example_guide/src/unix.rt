@@ -2,10 +2,10 @@
 //! its datagrams. The server is another one after half of the lines, as an agent is that restarts.
 
 use cadence::prelude::*;
-use cadence::{MetricResult, MetricSink};
+use cadence::{MetricResult, MetricSink, QueuingMetricSinkBuilder, StatsdClient};
 use cadence_agent::{
-    BufferedUnixClient, UnixClient, UnixSocket, buffered_unix_client, environment_client,
-    flushing_environment_client, flushing_unix_client, unix_client,
+    BufferedUnixSink, Environment, EnvironmentExt, UnixSink, UnixSocket, buffered_unix_sink,
+    sink_to, unix_sink,
 };
 use example_service::runtime::Runtime;
 use std::alloc::Global;
@@ -18,25 +18,25 @@ use std::os::fd::{AsFd, OwnedFd};
 use std::os::unix::net::{SocketAddr, UnixStream};
 use std::time::Duration;
 
-/// Counts over a client that sends where the environment says.
-pub fn count_by_environment<R: Runtime + Env>(rt: &R, alloc: Global) -> MetricResult<()> {
-    let client = environment_client(rt, alloc, "my.service")?;
-    client.incr("visits")?;
-    client.flush()
-}
-
 /// Counts over a client of the environment whose worker sends what it has within a second.
 pub fn count_within_a_second<R: Runtime + Env>(rt: &R, alloc: Global) -> MetricResult<()> {
-    let period = Duration::from_secs(1);
-    let client = flushing_environment_client(rt, alloc, "my.service", Some(1000), period)?;
+    let environment = Environment::read(&(rt, alloc))?;
+    let inner = sink_to(rt, alloc, environment.destination())?;
+    let queue = QueuingMetricSinkBuilder::new().with_flush_period(Duration::from_secs(1));
+    let sink = queue.build(rt.clone()?, alloc, inner)?;
+    let client = environment.builder(alloc, "my.service", sink).build()?;
     client.incr("visits")?;
     client.sink().stop_and_wait();
     client.flush()
 }
 
 pub fn send_to_agent<R: Runtime>(rt: &R, alloc: Global, path: &str) -> MetricResult<()> {
-    let period = Duration::from_secs(1);
-    let client = flushing_unix_client(rt, alloc, "my.service", path, 1432, Some(1000), period)?;
+    let queue = QueuingMetricSinkBuilder::new()
+        .with_capacity(1000)
+        .with_flush_period(Duration::from_secs(1));
+    let inner = buffered_unix_sink(rt, alloc, path, 1432)?;
+    let sink = queue.build(rt.clone()?, alloc, inner)?;
+    let client = StatsdClient::from_sink(alloc, "my.service", sink)?;
     client.incr("visits")?;
     client.sink().stop_and_wait();
     client.flush()?;
@@ -44,7 +44,10 @@ pub fn send_to_agent<R: Runtime>(rt: &R, alloc: Global, path: &str) -> MetricRes
 }
 
 // Sends a line over each of two clients.
-fn send_two<R: Runtime>(plain: &UnixClient<R>, packed: &BufferedUnixClient<R>) -> MetricResult<()> {
+fn send_two<R: Runtime>(
+    plain: &StatsdClient<Global, UnixSink<R>>,
+    packed: &StatsdClient<Global, BufferedUnixSink<R>>,
+) -> MetricResult<()> {
     plain.gauge("load", 17)?;
     packed.count("logins", 2)?;
     packed.flush()?;
@@ -73,8 +76,9 @@ fn receive_all(alloc: Global, mut server: &UnixStream, text: &mut String) -> Met
 
 /// Returns the datagrams that two servers receive, one after the other at the same path.
 pub fn report<R: Runtime + Files>(rt: &R, alloc: Global, path: &str) -> MetricResult<String> {
-    let plain = unix_client(rt, alloc, "my.service", path)?;
-    let packed = buffered_unix_client(rt, alloc, "my.service", path, 512)?;
+    let plain = StatsdClient::from_sink(alloc, "my.service", unix_sink(rt, alloc, path)?)?;
+    let packed = buffered_unix_sink(rt, alloc, path, 512)?;
+    let packed = StatsdClient::from_sink(alloc, "my.service", packed)?;
     let mut text = String::new(alloc);
     for _ in 0..2 {
         let server = bind_server(rt, path)?;

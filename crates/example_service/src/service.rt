@@ -2,8 +2,11 @@
 
 use crate::runtime::Runtime;
 use cadence::prelude::*;
-use cadence::ready::{QueuedUdpSink, buffered_udp_sink};
-use cadence::{MetricResult, MetricSink, QueuingMetricSinkBuilder, StatsdClient, Target};
+use cadence::ready::buffered_udp_sink;
+use cadence::{
+    BufferedUdpMetricSink, MetricResult, MetricSink, QueuingMetricSink, QueuingMetricSinkBuilder,
+    StatsdClient, Target,
+};
 use std::alloc::Global;
 use std::sync::Arc;
 use std::sync::atomic::{AtomicU64, Ordering};
@@ -16,7 +19,7 @@ fn make_sink<R: Runtime>(
     alloc: Global,
     server: Target,
     errors: Arc<AtomicU64>,
-) -> MetricResult<QueuedUdpSink<R>> {
+) -> MetricResult<QueuingMetricSink<BufferedUdpMetricSink<R>, R>> {
     let queue = QueuingMetricSinkBuilder::new()
         .with_capacity(1000)
         .with_error_handler(Box::new(alloc, move |_error| {

@@ -1,35 +1,32 @@
 //! `statsd_send`: sends the metric of its words, or the metrics of its standard input.
 //!
 //! - `arguments`: the words of the command line.
-//! - `host`: sends packets to a host, whose name is looked up again and again.
+//! - `host`: a socket that sends each packet to a host, whose name is looked up again and again.
 //! - `pace`: a pace that follows the clock.
 //! - `place`: the place to which packets are sent, and where it comes from.
-//! - `target`: looks up the address of a host.
-//! - `unix`: sends packets to the path of a Unix socket.
+//! - `unix`: a socket that sends each packet to one path.
 #![tactic(auto)]
 
 mod arguments;
 mod host;
 mod pace;
 mod place;
-mod target;
 mod unix;
 
 use crate::arguments::{ArgumentError, Arguments, guarded, read_arguments};
-use crate::host::{HostWriter, LONGEST_DATAGRAM};
+use crate::host::{LONGEST_DATAGRAM, SocketOfHost};
 use crate::pace::Every;
-use crate::place::{Place, Target, check_destination, find_place};
-use crate::target::find_address;
-use crate::unix::PathWriter;
-use cadence_agent::{Environment, EnvironmentError, UnixSocket};
+use crate::place::{Place, check_destination, find_place};
+use crate::unix::SocketOfPath;
+use cadence_agent::{Destination, Environment, EnvironmentError, UnixSocket};
 use cadence_errors::{ErrorKind as MetricErrorKind, MetricError};
 use cadence_flow::io::{LineBuffer, PacketWriter};
-use cadence_number::{SampledReader, Sampler};
-use cadence_resolve::bind_socket;
+use cadence_resolve::{bind_socket, find_address};
 use cadence_send::{
     LastingWriter, Options, Outlet, PacketPrinter, RunError, run_input, run_stream, run_words,
 };
-use cadence_words::Defaults;
+use cadence_sinks::SocketWriter;
+use cadence_words::{Defaults, SampledReader, Sampler};
 use rand::make_rng;
 use rand::rngs::SmallRng;
 use std::alloc::{AllocError, Global};
@@ -162,8 +159,10 @@ fn send(rt: &HostRuntime, arguments: &Arguments<'_>) -> ExitCode {
         Err(error) => return exit_with_error(rt, error.status(), error),
     };
     match &place.target {
-        Target::Host(host, port) => send_to_host(rt, arguments, defaults, &place, host, *port),
-        Target::Path(path) => send_to_path(rt, arguments, defaults, &place, path),
+        Destination::Udp { host, port } => {
+            send_to_host(rt, arguments, defaults, &place, host, *port)
+        }
+        Destination::Unix { path } => send_to_path(rt, arguments, defaults, &place, path),
     }
 }
 
@@ -208,22 +207,35 @@ fn send_to_host(
     port: u16,
 ) -> ExitCode {
     let address = match find_address(rt, (host, port)) {
-        Ok(address) => address,
-        Err(why) => {
-            let (step, status) = ("find", why.status());
-            return exit_with_error(rt, status, Failed { step, place, why });
+        Ok(Some(address)) => address,
+        Ok(None) => return exit_without_address(rt, 1, place, "the host has no address"),
+        Err(why) if why.kind() == ErrorKind::OutOfMemory => {
+            return exit_without_address(rt, 3, place, OUT_OF_MEMORY);
         }
+        Err(why) => return exit_without_address(rt, 1, place, why),
     };
     let Ok(clock) = rt.clone() else {
         return exit_with_error(rt, 3, OUT_OF_MEMORY);
     };
     match bind_socket(rt, address) {
         Ok(socket) => {
-            let writer = HostWriter::new(clock, host, port, socket, address);
+            let socket = SocketOfHost::new(clock, host, port, socket, address);
+            let writer = SocketWriter::new(socket);
             send_with(rt, arguments, defaults, place, writer, LONGEST_DATAGRAM)
         }
         Err(why) => exit_without_socket(rt, place, why),
     }
+}
+
+// Prints to the standard error why there is no address, and returns the exit status.
+fn exit_without_address<T: fmt::Display + Drop>(
+    rt: &HostRuntime,
+    status: u8,
+    place: &Place,
+    why: T,
+) -> ExitCode {
+    let step = "find";
+    exit_with_error(rt, status, Failed { step, place, why })
 }
 
 // Sends to the path of a Unix socket. Returns the exit status.
@@ -243,7 +255,7 @@ fn send_to_path(
     match socket {
         Ok(socket) => {
             let longest = socket.longest_packet();
-            let writer = PathWriter::new(socket, path);
+            let writer = SocketWriter::new(SocketOfPath { socket, path });
             send_with(rt, arguments, defaults, place, writer, longest)
         }
         Err(why) => exit_without_socket(rt, place, why),

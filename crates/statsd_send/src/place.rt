@@ -1,26 +1,15 @@
 //! The place to which packets are sent, and where it comes from.
-use cadence_agent::{
-    Destination as Agent, Environment, EnvironmentError, PathError, Variable, check_path,
-};
+use cadence_agent::{Destination, Environment, EnvironmentError, PathError, Variable, check_path};
 use cadence_environment::read_port;
-use cadence_send::Destination;
+use cadence_send::Destination as Asked;
 use std::alloc::AllocError;
 use std::{env, fmt};
-
-/// Where packets are sent.
-#[derive(Drop)]
-pub enum Target {
-    /// A host, which is a name or an address without brackets, and a port.
-    Host(String, u16),
-    /// The path of a Unix datagram socket, which `check_path` accepts.
-    Path(String),
-}
 
 /// The place to which packets are sent.
 #[derive(Drop)]
 pub struct Place {
     /// Where packets are sent.
-    pub target: Target,
+    pub target: Destination,
     /// The target as a text: HOST:PORT or unix:PATH.
     pub text: String,
     /// The option or the variable that names the target.
@@ -110,7 +99,10 @@ fn place_of_host(
         format!(in alloc; "{host}:{port}")?
     };
     Ok(Place {
-        target: Target::Host(String::from_str(alloc, host)?, port),
+        target: Destination::Udp {
+            host: String::from_str(alloc, host)?,
+            port,
+        },
         text,
         source,
     })
@@ -120,7 +112,9 @@ fn place_of_host(
 fn place_of_path(rt: &HostRuntime, path: &str, source: &'static str) -> Result<Place, AllocError> {
     let alloc = rt.alloc();
     Ok(Place {
-        target: Target::Path(String::from_str(alloc, path)?),
+        target: Destination::Unix {
+            path: String::from_str(alloc, path)?,
+        },
         text: format!(in alloc; "unix:{path}")?,
         source,
     })
@@ -130,8 +124,8 @@ fn place_of_path(rt: &HostRuntime, path: &str, source: &'static str) -> Result<P
 ///
 /// # Errors
 /// `Path`.
-pub fn check_destination(to: Option<Destination<'_>>) -> Result<(), PlaceError<'_>> {
-    let Some(Destination::Unix(path)) = to else {
+pub fn check_destination(to: Option<Asked<'_>>) -> Result<(), PlaceError<'_>> {
+    let Some(Asked::Unix(path)) = to else {
         return Ok(());
     };
     match check_path(path) {
@@ -144,20 +138,19 @@ pub fn check_destination(to: Option<Destination<'_>>) -> Result<(), PlaceError<'
 ///
 /// # Errors
 /// `Environment` if a variable can't be used, and `OutOfMemory`.
-pub fn find_place<'a>(
-    rt: &HostRuntime,
-    to: Option<Destination<'a>>,
-) -> Result<Place, PlaceError<'a>> {
+pub fn find_place<'a>(rt: &HostRuntime, to: Option<Asked<'a>>) -> Result<Place, PlaceError<'a>> {
     match to {
-        Some(Destination::Unix(path)) => Ok(place_of_path(rt, path, "--to")?),
-        Some(Destination::Host(target)) => {
+        Some(Asked::Unix(path)) => Ok(place_of_path(rt, path, "--to")?),
+        Some(Asked::Host(target)) => {
             let (host, port) = target.rsplit_once(':').unwrap_or((target, ""));
             let port = read_port(port).unwrap_or(8125);
             Ok(place_of_host(rt, without_brackets(host), port, "--to")?)
         }
         None => match Environment::read_destination(rt)? {
-            Agent::Udp { host, port } => Ok(place_of_host(rt, &host, port, source_of(rt))?),
-            Agent::Unix { path } => Ok(place_of_path(rt, &path, source_of(rt))?),
+            Destination::Udp { host, port } => {
+                Ok(place_of_host(rt, &host, port, source_of(rt))?)
+            }
+            Destination::Unix { path } => Ok(place_of_path(rt, &path, source_of(rt))?),
         },
     }
 }

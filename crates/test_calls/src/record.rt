@@ -153,14 +153,14 @@ impl<R: Wait + Drop> RecordingSink<R> {
 impl<R: Wait + Drop> MetricSink for RecordingSink<R> {
     ghost may_answer = { λ _ _ _. Unit {0} };
 
-    fn emit(&self, metric: &str) -> Result<usize, SinkError> {
+    fn emit(&self, line: &str) -> Result<usize, SinkError> {
         let state = &self.state;
         if state.has_line.swap(true, Ordering::SeqCst) {
             set(&state.had_two_lines);
         }
-        state.record.lock(&self.rt).note(metric);
+        state.record.lock(&self.rt).note(line);
         state.has_line.store(false, Ordering::SeqCst);
-        Ok(metric.len())
+        Ok(line.len())
     }
 
     ghost flush_may_succeed = { λ _ _. tt };

@@ -1,7 +1,7 @@
 //! Makes each sink that has a thread.
 use cadence::sinks::FlushingMetricSink;
 use cadence::types::{MetricError, MetricResult, SinkError};
-use cadence::{MetricSink, QueuingMetricSink, QueuingMetricSinkBuilder};
+use cadence::{MetricSink, QueuingMetricSink};
 use cadence_agent::ReportingMetricSink;
 use std::alloc::Global;
 use std::sync::atomic::{AtomicU64, Ordering};
@@ -22,8 +22,8 @@ pub struct WrappedSink {
 impl MetricSink for WrappedSink {
     ghost may_answer = { λ _ _ _. Unit {0} };
 
-    fn emit(&self, metric: &str) -> Result<usize, SinkError> {
-        Ok(metric.len())
+    fn emit(&self, line: &str) -> Result<usize, SinkError> {
+        Ok(line.len())
     }
 
     ghost flush_may_succeed = { λ _ _. tt };
@@ -40,18 +40,12 @@ impl Drop for WrappedSink {
 #[derive(Clone, Copy)]
 pub enum Maker {
     Queuing,
-    FlushingQueue,
     Flushing,
     Reporting,
 }
 
 /// All of them.
-pub const MAKERS: [Maker; 4] = [
-    Maker::Queuing,
-    Maker::FlushingQueue,
-    Maker::Flushing,
-    Maker::Reporting,
-];
+pub const MAKERS: [Maker; 3] = [Maker::Queuing, Maker::Flushing, Maker::Reporting];
 
 // The period of each sink that has one.
 fn an_hour() -> Duration {
@@ -63,7 +57,6 @@ impl Maker {
     pub fn name(self) -> &'static str {
         match self {
             Maker::Queuing => "QueuingMetricSink",
-            Maker::FlushingQueue => "QueuingMetricSink with a flush period",
             Maker::Flushing => "FlushingMetricSink",
             Maker::Reporting => "ReportingMetricSink",
         }
@@ -73,7 +66,6 @@ impl Maker {
     pub fn make<R: Runtime>(self, rt: &R, alloc: Global, sink: WrappedSink) -> MetricResult<()> {
         match self {
             Maker::Queuing => make_queuing(rt, alloc, sink),
-            Maker::FlushingQueue => make_flushing_queue(rt, alloc, sink),
             Maker::Flushing => make_flushing(rt, alloc, sink),
             Maker::Reporting => make_reporting(rt, alloc, sink),
         }
@@ -82,12 +74,6 @@ impl Maker {
 
 fn make_queuing<R: Runtime>(rt: &R, alloc: Global, sink: WrappedSink) -> MetricResult<()> {
     let _made = QueuingMetricSink::from(rt.clone()?, alloc, sink)?;
-    Ok(())
-}
-
-fn make_flushing_queue<R: Runtime>(rt: &R, alloc: Global, sink: WrappedSink) -> MetricResult<()> {
-    let builder = QueuingMetricSinkBuilder::new().with_flush_period(an_hour());
-    let _made = builder.build(rt.clone()?, alloc, sink)?;
     Ok(())
 }
 

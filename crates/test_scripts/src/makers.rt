@@ -58,7 +58,7 @@ enum Maker {
 }
 
 // The constructors, each with its name.
-const MAKERS: [(&str, Maker); 28] = [
+const MAKERS: [(&str, Maker); 25] = [
     ("SpyMetricSink::new", Maker::Spy(SpyMaker::New)),
     (
         "SpyMetricSink::with_capacity",
@@ -124,11 +124,8 @@ const MAKERS: [(&str, Maker); 28] = [
         "the same with a period",
         Maker::Udp(UdpMaker::BuiltBufferedWithPeriod),
     ),
-    ("udp_client", Maker::Udp(UdpMaker::Client)),
-    ("buffered_udp_client", Maker::Udp(UdpMaker::BufferedClient)),
-    ("queued_udp_client", Maker::Udp(UdpMaker::QueuedClient)),
-    ("flushing_udp_client", Maker::Udp(UdpMaker::FlushingClient)),
-    ("flushing_udp_sink_with", Maker::Udp(UdpMaker::FlushingSink)),
+    ("udp_sink", Maker::Udp(UdpMaker::Ready)),
+    ("buffered_udp_client", Maker::Udp(UdpMaker::Client)),
 ];
 
 // A socket that takes each packet.

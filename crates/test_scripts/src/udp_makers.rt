@@ -1,12 +1,10 @@
-//! The constructors of sinks and clients over UDP.
+//! The constructors of sinks over UDP, and of a client over one.
 use crate::memory::{Heap, has_memory_for_a_line};
-use cadence::ready::{
-    buffered_udp_client, flushing_udp_client, flushing_udp_sink_with, queued_udp_client, udp_client,
-};
+use cadence::ready::{buffered_udp_client, udp_sink};
 use cadence::sinks::{ResolverRuntime, Target};
 use cadence::{
-    BufferedUdpMetricSink, BufferedUdpMetricSinkBuilder, MetricResult, QueuingMetricSinkBuilder,
-    UdpMetricSink, UdpMetricSinkBuilder,
+    BufferedUdpMetricSink, BufferedUdpMetricSinkBuilder, MetricResult, UdpMetricSink,
+    UdpMetricSinkBuilder,
 };
 use std::io;
 use std::net::{Ipv4Addr, SocketAddr, UdpSocket};
@@ -24,12 +22,10 @@ pub enum UdpMaker {
     BuiltBuffered,
     /// By a builder, with a buffer and with a period after which the host is looked up again.
     BuiltBufferedWithPeriod,
+    /// Ready made, with a socket of its own.
+    Ready,
+    /// A client over a buffered sink, ready made.
     Client,
-    BufferedClient,
-    QueuedClient,
-    FlushingClient,
-    /// A queuing sink, ready made, whose worker flushes by time.
-    FlushingSink,
 }
 
 /// Returns a period that doesn't end while the program runs, so that no later lookup takes memory.
@@ -55,9 +51,9 @@ impl UdpMaker {
             UdpMaker::From | UdpMaker::Built | UdpMaker::BuiltWithPeriod => {
                 has_memory_for_a_line(&self.make_unbuffered(rt, heap, to)?)
             }
-            UdpMaker::Client | UdpMaker::BufferedClient => self.client_has_memory(rt, heap, to),
-            UdpMaker::QueuedClient | UdpMaker::FlushingClient | UdpMaker::FlushingSink => {
-                self.queued_has_memory(rt, heap, to)
+            UdpMaker::Ready => has_memory_for_a_line(&udp_sink(rt, heap, to)?),
+            UdpMaker::Client => {
+                has_memory_for_a_line(buffered_udp_client(rt, heap, "p", to, 16)?.sink())
             }
             _ => has_memory_for_a_line(&self.make_buffered(rt, heap, to)?),
         }
@@ -103,42 +99,6 @@ impl UdpMaker {
                 );
                 builder.build(own, heap, to, socket)
             }
-        }
-    }
-
-    // Returns whether there was memory for a ready-made client, and for a line and a flush of its sink.
-    fn client_has_memory<R: ResolverRuntime>(
-        self,
-        rt: &R,
-        heap: Heap,
-        to: Target<Heap>,
-    ) -> MetricResult<bool> {
-        match self {
-            UdpMaker::Client => has_memory_for_a_line(udp_client(rt, heap, "p", to)?.sink()),
-            _ => has_memory_for_a_line(buffered_udp_client(rt, heap, "p", to, 16)?.sink()),
-        }
-    }
-
-    // Returns whether there was memory for a ready-made queue or a client over one, and for a line and a flush of the queue.
-    fn queued_has_memory<R: ResolverRuntime>(
-        self,
-        rt: &R,
-        heap: Heap,
-        to: Target<Heap>,
-    ) -> MetricResult<bool> {
-        let hour = long_period();
-        match self {
-            UdpMaker::FlushingClient => {
-                let client = flushing_udp_client(rt, heap, "p", to, 16, Some(1), hour)?;
-                has_memory_for_a_line(client.sink())
-            }
-            UdpMaker::FlushingSink => {
-                let queue = QueuingMetricSinkBuilder::new()
-                    .with_capacity(1)
-                    .with_flush_period(hour);
-                has_memory_for_a_line(&flushing_udp_sink_with(rt, heap, to, 16, queue)?)
-            }
-            _ => has_memory_for_a_line(queued_udp_client(rt, heap, "p", to, 16, Some(1))?.sink()),
         }
     }
 }

@@ -13,6 +13,7 @@ use std::alloc::Global;
 use std::net::{Net, UdpSocket};
 use std::sync::Wait;
 use std::thread::Threads;
+use std::time::Clock;
 
 // Makes a buffered Unix sink of the list's capacity, over a socket that answers as the list says, and the socket's log.
 fn make_unix_sink<R: Wait + Clone + Drop>(
@@ -70,7 +71,7 @@ fn queue_matches_at_the_end<S: MetricSink, R: Wait + Drop>(
 
 /// Returns whether a queue over a buffered Unix sink accepts each line of the list, and after a stop matches the run of
 /// these lines. The list's flushes are left out.
-pub fn queue_matches<R: Wait + Threads + Clone + Drop + Send + Sync + 'static>(
+pub fn queue_matches<R: Wait + Clock + Threads + Clone + Drop + Send + Sync + 'static>(
     rt: &R,
     alloc: Global,
     list: &List,

@@ -11,6 +11,7 @@ use std::alloc::{AllocError, Global};
 use std::sync::Wait;
 use std::thread;
 use std::thread::Threads;
+use std::time::Clock;
 
 /// The capacity of a buffered sink, in bytes.
 pub const CAPACITY: usize = 64;
@@ -148,7 +149,7 @@ pub fn shared_sink_matches<R: Wait + Threads, S: MetricSink + Sync>(
 
 /// Returns whether a queue over a sink, which two threads share, matches the run of this capacity.
 pub fn shared_queue_matches<
-    R: Wait + Threads + Clone + Drop + Send + Sync + 'static,
+    R: Wait + Clock + Threads + Clone + Drop + Send + Sync + 'static,
     S: MetricSink + Send + Sync + 'static,
 >(rt: &R, alloc: Global, capacity: usize, sink: S, log: Log) -> MetricResult<bool> {
     let queue = QueuingMetricSink::from(rt.clone()?, alloc, sink)?;

@@ -4,7 +4,7 @@ ghost use Rattle.cadence.specs.Sending.{StartsPlain};
 
 use crate::types::Metric;
 use cadence_errors::{MetricError, MetricResult, SinkError};
-use cadence_schedule::ClientSettings;
+use cadence_settings::ClientSettings;
 use cadence_text::line::{DraftLine, MetricType};
 use cadence_value::value::MetricValue;
 use std::alloc::Allocator;
@@ -18,7 +18,7 @@ pub trait MetricBackend: Sealed {
     ghost use Rattle.std.specs.Prelude.{◌≡◌, ℕ, IsTrue, List, Result};
     ghost use Rattle.cadence_errors.specs.declared.SinkError.{SinkError};
     ghost use Rattle.cadence.specs.Sending.{SendsText};
-    ghost use Rattle.cadence_schedule.specs.Settings.{Settings, is_free_settings};
+    ghost use Rattle.cadence_settings.specs.Settings.{Settings, is_free_settings};
 
     /// The allocator of its metrics.
     type Memory: Allocator + Clone;

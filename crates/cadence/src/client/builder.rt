@@ -1,19 +1,19 @@
 //! A metric that is being built.
 ghost use Rattle.std.specs.Option.{option_copied};
-ghost use Rattle.std.specs.Prelude.{◌≡◌, IfErr, IsErr};
-ghost use Rattle.cadence_schedule.specs.DraftErrors.{IsSameError};
+ghost use Rattle.std.specs.Prelude.{◌≡◌, false, true, IfErr, IsErr};
+ghost use Rattle.cadence_settings.specs.DraftErrors.{IsSameError};
 ghost use Rattle.cadence_text.specs.Draft.{draft_line};
-ghost use Rattle.cadence_schedule.specs.Call.{tagged, contained, timed, rated};
+ghost use Rattle.cadence_settings.specs.Call.{tagged, contained, timed, rated};
 ghost use Rattle.cadence_text.specs.Metric.{keyed, unkeyed};
-ghost use Rattle.cadence.specs.Sending.{TagsOrFails, HasChosen, HasChosenIf, HasChosenOrFailed, StandsForMore};
-ghost use Rattle.cadence.specs.Sending.{HasSentCall, HasSentPending, IsMadeFrom, SendsLine};
+ghost use Rattle.cadence.specs.Sending.{AppliesOption, StandsForMore};
+ghost use Rattle.cadence.specs.Sending.{HasSentCall, SendsPending, IsMadeFrom, SendsLine};
 
 use crate::client::backend::MetricBackend;
 use crate::client::statsd_client::StatsdClient;
 use crate::laws::choosing_stands_for_more;
 use crate::types::Metric;
 use cadence_errors::{MetricError, MetricResult};
-use cadence_schedule::{DraftError, tag_is_free, text_is_free};
+use cadence_settings::{DraftError, tag_is_free, text_is_free};
 use cadence_text::line::{DraftLine, Tag};
 use cadence_value::decimal::Decimal;
 use std::marker::PhantomData;
@@ -96,8 +96,8 @@ impl<'m, 'c, T: Metric + From<String<C::Memory>>, C: MetricBackend> MetricBuilde
     // Without this hint a call of `bench count_tags` takes 258 instructions more.
     #[inline(always)]
     fn add_tag(&mut self, key: Option<&'m str>, text: &'m str)
-        ensures pending { TagsOrFails (C.settings (backend_of self.old)) (pending_of self.old)
-            (record { key = option_copied key.entry; text = text.now }) (pending_of self.new) }
+        ensures pending { AppliesOption (C.settings (backend_of self.old)) true (pending_of self.old)
+            (tagged (record { key = option_copied key.entry; text = text.now })) (pending_of self.new) }
         ensures client { backend_of self.new ≡ backend_of self.old }
     {
         let Ok(draft) = &mut self.draft else {
@@ -111,12 +111,50 @@ impl<'m, 'c, T: Metric + From<String<C::Memory>>, C: MetricBackend> MetricBuilde
         }
     }
 
+    // Sets the container of the draft, or stores an error in place of the draft.
+    fn set_container(&mut self, container_id: &'m str)
+        ensures pending { AppliesOption (C.settings (backend_of self.old)) false
+            (pending_of self.old) (contained container_id.now) (pending_of self.new) }
+        ensures client { backend_of self.new ≡ backend_of self.old }
+    {
+        let allowed = !self.client.is_strict() || text_is_free(container_id);
+        if let Ok(draft) = &mut self.draft {
+            if allowed {
+                draft.set_container(container_id);
+            } else {
+                self.fail(DraftError::Separator);
+            }
+        }
+    }
+
+    // Sets the time of the draft.
+    fn set_time(&mut self, timestamp: u64)
+        ensures pending { AppliesOption (C.settings (backend_of self.old)) false
+            (pending_of self.old) (timed timestamp) (pending_of self.new) }
+        ensures client { backend_of self.new ≡ backend_of self.old }
+    {
+        if let Ok(draft) = &mut self.draft {
+            draft.set_time(timestamp);
+        }
+    }
+
+    // Sets the rate of the draft.
+    fn set_rate(&mut self, rate: Decimal)
+        ensures pending { AppliesOption (C.settings (backend_of self.old)) false
+            (pending_of self.old) (rated rate) (pending_of self.new) }
+        ensures client { backend_of self.new ≡ backend_of self.old }
+    {
+        if let Ok(draft) = &mut self.draft {
+            draft.set_rate(rate);
+        }
+    }
+
     /// Adds a tag with a key, after the default tags and the earlier ones. `try_send` returns an error if memory runs out,
     /// or a strict client finds a separator in the tag.
     // Without this hint a call of `bench count_tags` takes 133 instructions more.
     #[inline(always)]
     pub fn with_tag(mut self, key: &'m str, value: &'m str) -> Self
-        ensures pending { HasChosenOrFailed (C.settings (backend_of self.entry))
+        ensures pending { AppliesOption (C.settings (backend_of self.entry)) true
             (pending_of self.entry) (tagged (keyed key.now value.now)) (pending_of result) }
         ensures call { StandsForMore (pending_of self.entry)
             (tagged (keyed key.now value.now)) (pending_of result) }
@@ -129,7 +167,7 @@ impl<'m, 'c, T: Metric + From<String<C::Memory>>, C: MetricBackend> MetricBuilde
 
     /// Adds a tag without a key, after the default tags and the earlier ones. The errors are those of `with_tag`.
     pub fn with_tag_value(mut self, value: &'m str) -> Self
-        ensures pending { HasChosenOrFailed (C.settings (backend_of self.entry))
+        ensures pending { AppliesOption (C.settings (backend_of self.entry)) true
             (pending_of self.entry) (tagged (unkeyed value.now)) (pending_of result) }
         ensures call { StandsForMore (pending_of self.entry)
             (tagged (unkeyed value.now)) (pending_of result) }
@@ -143,34 +181,26 @@ impl<'m, 'c, T: Metric + From<String<C::Memory>>, C: MetricBackend> MetricBuilde
     /// Sets the container, in place of the default one or an earlier one. `try_send` returns an error if a strict client
     /// finds a separator in it.
     pub fn with_container_id(mut self, container_id: &'m str) -> Self
-        ensures pending { HasChosenIf (C.settings (backend_of self.entry)) (pending_of self.entry)
-            (contained container_id.now) (pending_of result) }
+        ensures pending { AppliesOption (C.settings (backend_of self.entry)) false
+            (pending_of self.entry) (contained container_id.now) (pending_of result) }
         ensures call { StandsForMore (pending_of self.entry)
             (contained container_id.now) (pending_of result) }
         ensures client { backend_of result ≡ backend_of self.entry }
     {
         choosing_stands_for_more();
-        let allowed = !self.client.is_strict() || text_is_free(container_id);
-        if let Ok(draft) = &mut self.draft {
-            if allowed {
-                draft.set_container(container_id);
-            } else {
-                self.fail(DraftError::Separator);
-            }
-        }
+        self.set_container(container_id);
         self
     }
 
     /// Sets the time, in place of an earlier one. DogStatsD reads it as seconds since 1970.
     pub fn with_timestamp(mut self, timestamp: u64) -> Self
-        ensures pending { HasChosen (pending_of self.entry) (timed timestamp) (pending_of result) }
+        ensures pending { AppliesOption (C.settings (backend_of self.entry)) false
+            (pending_of self.entry) (timed timestamp) (pending_of result) }
         ensures call { StandsForMore (pending_of self.entry) (timed timestamp) (pending_of result) }
         ensures client { backend_of result ≡ backend_of self.entry }
     {
         choosing_stands_for_more();
-        if let Ok(draft) = &mut self.draft {
-            draft.set_time(timestamp);
-        }
+        self.set_time(timestamp);
         self
     }
 
@@ -178,14 +208,13 @@ impl<'m, 'c, T: Metric + From<String<C::Memory>>, C: MetricBackend> MetricBuilde
     /// example 0.1. The server scales by it. The client doesn't sample: it sends every call, and it doesn't check that
     /// the rate is between 0 and 1.
     pub fn with_sampling_rate(mut self, rate: Decimal) -> Self
-        ensures pending { HasChosen (pending_of self.entry) (rated rate) (pending_of result) }
+        ensures pending { AppliesOption (C.settings (backend_of self.entry)) false
+            (pending_of self.entry) (rated rate) (pending_of result) }
         ensures call { StandsForMore (pending_of self.entry) (rated rate) (pending_of result) }
         ensures client { backend_of result ≡ backend_of self.entry }
     {
         choosing_stands_for_more();
-        if let Ok(draft) = &mut self.draft {
-            draft.set_rate(rate);
-        }
+        self.set_rate(rate);
         self
     }
 
@@ -197,7 +226,7 @@ impl<'m, 'c, T: Metric + From<String<C::Memory>>, C: MetricBackend> MetricBuilde
     // Without this hint a call of `bench count_tags` takes 7 instructions more.
     #[inline(always)]
     pub fn try_send(self) -> MetricResult<T>
-        ensures answers { HasSentPending (C.line_may_get (backend_of self.entry))
+        ensures answers { SendsPending (C.line_may_get (backend_of self.entry))
             (IsMadeFrom T.from_gives) (pending_of self.entry) result }
         ensures line { HasSentCall (C.line_may_get (backend_of self.entry))
             (IsMadeFrom T.from_gives) (pending_of self.entry) result }

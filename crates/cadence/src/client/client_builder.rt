@@ -3,13 +3,13 @@ ghost use Rattle.std.specs.Prelude.{◌≡◌, Err, IfErr, IfOk};
 ghost use Rattle.std.specs.Option.{option_copied};
 ghost use Rattle.cadence_errors.specs.Errors.{Makes, MayOnlyRunOutOfMemory};
 ghost use Rattle.cadence_text.specs.Metric.{keyed, unkeyed};
-ghost use Rattle.cadence_schedule.specs.Settings.{allows_text, is_free_settings, with_default_container, with_strict_texts};
+ghost use Rattle.cadence_settings.specs.Settings.{allows_text, is_free_settings, with_default_container, with_strict_texts};
 
 use crate::client::handler::{BoxedErrorHandler, BoxedHandler, ErrorHandler, NopErrorHandler};
 use crate::client::statsd_client::{BoxedSink, StatsdClient};
 use cadence_errors::MetricResult;
-use cadence_schedule::ClientSettings;
-use cadence_sinks::MetricSink;
+use cadence_flow::MetricSink;
+use cadence_settings::ClientSettings;
 use std::alloc::{Allocator, Global};
 
 /// Makes a client. After an error the later calls change nothing, and `build` returns the error.
@@ -132,7 +132,7 @@ impl<A: Allocator + Clone, S: MetricSink, H: ErrorHandler> StatsdClientBuilder<A
 
 impl<A: Allocator + Clone, S: MetricSink> StatsdClient<A, S> {
     ghost use Rattle.cadence.specs.Shown.{settings_of_client, sink_of_client, settings_of_builder, sink_of_builder};
-    ghost use Rattle.cadence_schedule.specs.Settings.{settings_of};
+    ghost use Rattle.cadence_settings.specs.Settings.{settings_of};
 
     /// Makes a client with a prefix and a sink, without defaults. It drops the errors of `send`. The only error has the
     /// kind `OutOfMemory`; the sink is dropped then.

@@ -22,7 +22,7 @@ impl ErrorHandler for NopErrorHandler {
 pub type BoxedHandler<A = Global> = Box<dyn Fn(MetricError) + Send + Sync, A>;
 
 /// Stores a closure that may be called at any time. `StatsdClientBuilder::with_error_handler` makes such a handler.
-// `Handler` of `cadence_resolve` is the same struct for a `SinkError`, and a comment there says why they are two.
+// `Handler` of `cadence_flow` is the same struct for a `SinkError`, and a comment there says why they are two.
 #[derive(Drop)]
 pub struct BoxedErrorHandler<A: Allocator = Global> {
     call: BoxedHandler<A>,

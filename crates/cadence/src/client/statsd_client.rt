@@ -1,15 +1,15 @@
 //! The client.
 ghost use Rattle.std.specs.Prelude.{◌≡◌};
 ghost use Rattle.cadence_value.specs.Values.{Converts};
-ghost use Rattle.cadence.specs.Sending.{Flushes, SendsPlain};
+ghost use Rattle.cadence.specs.Sending.{FlushesSink, SendsPlain};
 ghost use Rattle.cadence.specs.Shown.{settings_of_client, sink_of_client};
 
 use crate::client::backend::{CallBackend, MetricBackend, Sealed};
 use crate::client::handler::{ErrorHandler, NopErrorHandler};
 use crate::types::{Metric, MetricKind, MetricText};
 use cadence_errors::{MetricError, MetricResult};
-use cadence_schedule::ClientSettings;
-use cadence_sinks::MetricSink;
+use cadence_flow::MetricSink;
+use cadence_settings::ClientSettings;
 use cadence_value::value::MetricValue;
 use std::alloc::{Allocator, Global};
 
@@ -46,7 +46,7 @@ impl<A: Allocator + Clone, S: MetricSink, H: ErrorHandler> StatsdClient<A, S, H>
 
     /// Flushes the sink, which then sends its held text. The error is the sink's, as `MetricError::Sink`.
     pub fn flush(&self) -> MetricResult<()>
-        ensures { Flushes (S.may_flush (sink_of_client self.now)) result }
+        ensures { FlushesSink (S.may_flush (sink_of_client self.now)) result }
     {
         self.sink.flush()?;
         Ok(())

@@ -15,7 +15,7 @@ use crate::client::handler::ErrorHandler;
 use crate::client::statsd_client::StatsdClient;
 use crate::types::{Counter, Distribution, Gauge, Histogram, Meter, Set, Timer};
 use cadence_errors::MetricResult;
-use cadence_sinks::MetricSink;
+use cadence_flow::MetricSink;
 use cadence_text::line::MetricType;
 use cadence_value::value::{
     ToCounterValue, ToDistributionValue, ToGaugeValue, ToHistogramValue, ToMeterValue, ToSetValue,

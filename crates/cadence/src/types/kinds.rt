@@ -13,6 +13,7 @@ pub trait MetricKind {
     const TYPE: MetricType;
 }
 
+/// The kind of a counter.
 #[derive(Drop)]
 pub enum Counter {}
 
@@ -22,6 +23,7 @@ impl MetricKind for Counter {
     const TYPE: MetricType = MetricType::Counter;
 }
 
+/// The kind of a timer.
 #[derive(Drop)]
 pub enum Timer {}
 
@@ -31,6 +33,7 @@ impl MetricKind for Timer {
     const TYPE: MetricType = MetricType::Timer;
 }
 
+/// The kind of a gauge.
 #[derive(Drop)]
 pub enum Gauge {}
 
@@ -40,6 +43,7 @@ impl MetricKind for Gauge {
     const TYPE: MetricType = MetricType::Gauge;
 }
 
+/// The kind of a meter.
 #[derive(Drop)]
 pub enum Meter {}
 
@@ -49,6 +53,7 @@ impl MetricKind for Meter {
     const TYPE: MetricType = MetricType::Meter;
 }
 
+/// The kind of a histogram.
 #[derive(Drop)]
 pub enum Histogram {}
 
@@ -58,6 +63,7 @@ impl MetricKind for Histogram {
     const TYPE: MetricType = MetricType::Histogram;
 }
 
+/// The kind of a distribution.
 #[derive(Drop)]
 pub enum Distribution {}
 
@@ -67,6 +73,7 @@ impl MetricKind for Distribution {
     const TYPE: MetricType = MetricType::Distribution;
 }
 
+/// The kind of a set.
 #[derive(Drop)]
 pub enum Set {}
 

@@ -1,12 +1,12 @@
 //! A sink to the place that the environment says.
 ghost use Rattle.cadence_agent.specs.Shown.{environment_buffer};
-ghost use Rattle.cadence_shared.specs.Answered.{IsAnswered, IsFlushAnswered, answered_by_holding_nothing};
+ghost use Rattle.cadence_flow.specs.Answered.{IsAnswered, IsFlushAnswered, answered_by_holding_nothing};
 ghost use Rattle.cadence_sinks.specs.Sockets.{IsBufferedAnswer, IsBufferedFlush, is_io};
 
 use crate::unix::BufferedUnixSink;
 use cadence_errors::SinkError;
+use cadence_flow::MetricSink;
 use cadence_flow::stats::SinkStats;
-use cadence_queuing::MetricSink;
 use cadence_sinks::BufferedUdpMetricSink;
 use std::alloc::{Allocator, Global};
 use std::sync::Wait;
@@ -22,15 +22,15 @@ pub enum EnvironmentSink<R: Wait + Drop, A: Allocator = Global> {
 
 /// Passes each call on to the buffered sink.
 impl<R: Wait + Drop, A: Allocator> MetricSink for EnvironmentSink<R, A> {
-    ghost may_answer = { λ s metric answer.
-        IsBufferedAnswer is_io (environment_buffer s) metric answer × IsAnswered metric answer };
+    ghost may_answer = { λ s line answer.
+        IsBufferedAnswer is_io (environment_buffer s) line answer × IsAnswered line answer };
 
     ghost may_flush = { λ _ answer. IsBufferedFlush is_io answer × IsFlushAnswered answer };
 
-    fn emit(&self, metric: &str) -> Result<usize, SinkError> {
+    fn emit(&self, line: &str) -> Result<usize, SinkError> {
         match self {
-            EnvironmentSink::Udp(sink) => sink.emit(metric),
-            EnvironmentSink::Unix(sink) => sink.emit(metric),
+            EnvironmentSink::Udp(sink) => sink.emit(line),
+            EnvironmentSink::Unix(sink) => sink.emit(line),
         }
     }
 

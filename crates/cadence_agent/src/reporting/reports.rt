@@ -1,14 +1,15 @@
 //! What a reporting sink shares with its thread, and one report.
 ghost use Rattle.std.specs.Prelude.{◌≡◌, IfErr, IfOk, OnOk, string_bytes};
 ghost use Rattle.cadence_queuing.specs.Queuing.{IsQueuingRefusal};
-ghost use Rattle.cadence_schedule.specs.Settings.{settings_of};
+ghost use Rattle.cadence_settings.specs.Settings.{settings_of};
 ghost use Rattle.cadence_agent.specs.Reports.{line_of_growth};
 
 use super::counts::{Growth, SinkCounts, growths_between};
 use cadence::value::MetricValue;
 use cadence_errors::{MetricResult, SinkError};
-use cadence_queuing::{MetricSink, Repeated};
-use cadence_schedule::ClientSettings;
+use cadence_flow::MetricSink;
+use cadence_queuing::PeriodicWork;
+use cadence_settings::ClientSettings;
 use cadence_text::line::MetricType;
 use std::alloc::{AllocError, Allocator};
 use std::sync::atomic::{AtomicU64, Ordering};
@@ -64,10 +65,10 @@ impl<S: MetricSink, A: Allocator + Clone> Reports<S, A> {
     }
 
     /// Emits a line into the sink, and counts it if the sink refuses it.
-    pub fn emit(&self, metric: &str) -> Result<usize, SinkError>
-        ensures { S.may_answer self.now.sink metric.now result }
+    pub fn emit(&self, line: &str) -> Result<usize, SinkError>
+        ensures { S.may_answer self.now.sink line.now result }
     {
-        let answer = self.sink.emit(metric);
+        let answer = self.sink.emit(line);
         if answer.is_err() {
             self.refused.fetch_add(1, Ordering::SeqCst);
         }
@@ -116,10 +117,10 @@ impl<S: MetricSink, A: Allocator + Clone> Reports<S, A> {
     }
 }
 
-impl<S: MetricSink, A: Allocator + Clone> Repeated for Reports<S, A> {
+impl<S: MetricSink, A: Allocator + Clone> PeriodicWork for Reports<S, A> {
     /// Sends a counter for each count that grew since the last report. What a counter couldn't report stays for the next
     /// report. The error is that of the last counter that failed, or that memory ran out for the list of counters.
-    fn repeat<R: Wait>(&self, rt: &R) -> Result<(), SinkError> {
+    fn do_once<R: Wait>(&self, rt: &R) -> Result<(), SinkError> {
         let growths = self.take_growths(rt)?;
         let mut answer = Ok(());
         for growth in growths {

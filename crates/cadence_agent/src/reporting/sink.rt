@@ -1,13 +1,14 @@
 //! A sink that sends its own counts again and again.
 ghost use Rattle.std.specs.Prelude.{◌≡◌, IfErr, IfOk};
 ghost use Rattle.cadence_queuing.specs.Queuing.{IsQueuingRefusal};
-ghost use Rattle.cadence_schedule.specs.Settings.{settings_of};
+ghost use Rattle.cadence_settings.specs.Settings.{settings_of};
 ghost use Rattle.cadence_agent.specs.Reports.{report_settings, reported_sink};
 
 use super::reports::Reports;
 use cadence::SinkStats;
 use cadence_errors::{MetricResult, SinkError};
-use cadence_queuing::{Handler, MetricSink, Repeated, Repeater, SinkErrorHandler};
+use cadence_flow::{Handler, MetricSink, SinkErrorHandler};
+use cadence_queuing::{PeriodicWork, Repeater};
 use std::alloc::{Allocator, Global};
 use std::sync::Wait;
 use std::thread::Threads;
@@ -97,7 +98,7 @@ impl<S: MetricSink, R: Wait + Drop, A: Allocator + Clone> ReportingMetricSink<S,
     /// # Errors
     /// `OutOfMemory`, and what the wrapped sink returns for a counter. What the report left out, the next one adds.
     pub fn report(&self) -> MetricResult<()> {
-        self.repeater.work().repeat(self.repeater.runtime())?;
+        self.repeater.work().do_once(self.repeater.runtime())?;
         Ok(())
     }
 }
@@ -110,8 +111,8 @@ impl<S: MetricSink, R: Wait + Drop, A: Allocator + Clone> MetricSink
 
     ghost flush_may_succeed = { λ f. S.flush_may_succeed (reported_sink f) };
 
-    fn emit(&self, metric: &str) -> Result<usize, SinkError> {
-        self.repeater.work().emit(metric)
+    fn emit(&self, line: &str) -> Result<usize, SinkError> {
+        self.repeater.work().emit(line)
     }
 
     fn flush(&self) -> Result<(), SinkError> {

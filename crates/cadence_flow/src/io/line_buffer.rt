@@ -1,12 +1,11 @@
-//! The packer: a buffer of lines that wait to be written as one packet. The held text begins at `start` in the buffer.
-//! The bytes before `start` have been written already, so a short count moves no bytes.
-ghost use Rattle.std.specs.Prelude.{◌≡◌, ◌+◌, ◌-◌, ◌<◌, ◌≤◌, ◌∷◌, ◌++◌, [], length, take, drop, true, is_ok, vec_len, vec_capacity, ◌↔◌, OnOk, OnErr, IfErr, IsTrue};
+//! The packer: lines that are held until they are written as one packet.
+ghost use Rattle.std.specs.Prelude.{◌≡◌, ◌<◌, ◌≤◌, ◌∷◌, ◌++◌, [], length, take, drop, true, is_ok, vec_len, ◌↔◌, OnOk, OnErr, IfErr, IsTrue};
 ghost use Rattle.std.specs.Option.{ok_or};
 ghost use Rattle.cadence_flow.specs.Offers.{FlushesOffers, SendsOffers};
 ghost use Rattle.cadence_flow.specs.Packer.{Flushes, HasCause};
 ghost use Rattle.cadence_flow.specs.Writer.{RefusedNothing, Sends};
 
-use super::PacketWriter;
+use super::{HeldLines, PacketWriter};
 use cadence_errors::SinkError;
 use std::alloc::{Allocator, Global};
 use std::marker::Model;
@@ -21,29 +20,17 @@ use std::mem;
 #[derive(Drop)]
 pub struct LineBuffer<T, A: Allocator = Global> {
     inner: T,
-    // the held text is what begins at `start`; if nothing is held, the buffer is empty and `start` is 0
-    held: Vec<u8, A>,
-    start: usize,
-    capacity: usize,
-    ending: Vec<u8, A>,
+    lines: HeldLines<A>,
 }
 
 impl<T, A: Allocator> Model for LineBuffer<T, A> {
-    ghost use Rattle.std.specs.Prelude.{◌≤◌, ◌-◌, length, drop, vec_capacity};
     ghost use Rattle.cadence_flow.specs.Packer.{Packer, packer_code};
 
     ghost Value = { Packer T };
 
     ghost coded = { packer_code T.code };
 
-    ghost view = { λ w. record {
-      writer = w.inner;
-      held = drop w.start w.held.items;
-      format = record { capacity = w.capacity; ending = w.ending.items };
-    } };
-
-    ghost invariant = { λ w. (length w.held.items ≤ w.capacity)
-        × (w.capacity ≤ vec_capacity w.held) × (w.start ≤ length w.held.items - 1) };
+    ghost view = { λ w. record { writer = w.inner; held = w.lines.text; format = w.lines.format } };
 }
 
 impl<T: PacketWriter, A: Allocator + Clone> LineBuffer<T, A> {
@@ -66,22 +53,10 @@ impl<T: PacketWriter, A: Allocator + Clone> LineBuffer<T, A> {
     pub fn with_ending(alloc: A, inner: T, capacity: usize, ending: &str) -> Result<Self, T>
         ensures { MakesPacker inner capacity ending.now result }
     {
-        let Ok(second) = alloc.clone() else {
+        let Ok(lines) = HeldLines::with_ending(alloc, capacity, ending) else {
             return Err(inner);
         };
-        let Ok(held) = Vec::with_capacity(alloc, capacity) else {
-            return Err(inner);
-        };
-        let Ok(ending) = Vec::from_slice(second, ending.as_bytes()) else {
-            return Err(inner);
-        };
-        Ok(LineBuffer {
-            inner,
-            held,
-            start: 0,
-            capacity,
-            ending,
-        })
+        Ok(LineBuffer { inner, lines })
     }
 }
 
@@ -125,19 +100,17 @@ impl<T: PacketWriter, A: Allocator> LineBuffer<T, A> {
             line.now (ok_or result fault.new) }
     {
         self.flush(fault)?;
-        if line.len() + self.ending.len() > self.capacity {
-            return self.inner.write_packet_narrow(line, fault);
+        if self.lines.hold(line) {
+            return Some(line.len());
         }
-        append(&mut self.held, line);
-        append_ending(&mut self.held, self.ending.as_slice());
-        Some(line.len())
+        self.inner.write_packet_narrow(line, fault)
     }
 
     /// Returns whether a line and its ending fit the capacity beside the held text.
     pub fn fits(&self, line: &[u8]) -> bool
         ensures { IsTrue result ↔ Fits self.now line.now }
     {
-        line.len() + self.ending.len() <= self.capacity - self.held.len() + self.start
+        self.lines.fits(line)
     }
 
     /// Holds a line and its ending if they fit beside the held text, and returns whether they did. Otherwise nothing
@@ -147,15 +120,7 @@ impl<T: PacketWriter, A: Allocator> LineBuffer<T, A> {
     pub fn hold(&mut self, line: &[u8]) -> bool
         ensures { HoldsLine self.old self.new line.now result }
     {
-        let required = line.len() + self.ending.len();
-        if self.capacity - self.held.len() < required
-            && !make_room(&mut self.held, &mut self.start, self.capacity, required)
-        {
-            return false;
-        }
-        append(&mut self.held, line);
-        append_ending(&mut self.held, self.ending.as_slice());
-        true
+        self.lines.hold(line)
     }
 
     /// Writes the held text as one packet. If the writer takes only a part of it, the rest is written as one more
@@ -170,10 +135,10 @@ impl<T: PacketWriter, A: Allocator> LineBuffer<T, A> {
         ensures offers { FlushesOffers (T.offers self.old.writer)
             (T.offers self.new.writer) self.old.held (is_ok (ok_or result fault.new)) }
     {
-        if self.held.is_empty() {
+        if self.lines.is_empty() {
             return Some(());
         }
-        send_held(&mut self.held, &mut self.start, &mut self.inner, fault)
+        send_held(&mut self.lines, &mut self.inner, fault)
     }
 
     /// Returns the held text, which waits to be written. It is at most `capacity` bytes long.
@@ -181,7 +146,7 @@ impl<T: PacketWriter, A: Allocator> LineBuffer<T, A> {
         ensures text { result.now ≡ self.now.held }
         ensures bound { length self.now.held ≤ self.now.format.capacity }
     {
-        &self.held[self.start..]
+        self.lines.text()
     }
 
     /// Returns the writer.
@@ -207,11 +172,9 @@ impl<T: PacketWriter, A: Allocator> LineBuffer<T, A> {
     pub fn replace_writer(&mut self, alloc: A, writer: T) -> Result<(T, Vec<u8, A>), T>
         ensures { ReplacesWriter self.old self.new writer result }
     {
-        let Ok(room) = Vec::with_capacity(alloc, self.capacity) else {
+        let Ok(held) = self.lines.take_text(alloc) else {
             return Err(writer);
         };
-        let mut held = mem::replace(&mut self.held, room);
-        move_to_front(&mut held, &mut self.start);
         let inner = mem::replace(&mut self.inner, writer);
         Ok((inner, held))
     }
@@ -222,115 +185,8 @@ impl<T: PacketWriter, A: Allocator> LineBuffer<T, A> {
         ensures text { result.1.items ≡ self.held }
         ensures bound { vec_len result.1 ≤ self.format.capacity }
     {
-        let LineBuffer {
-            inner: writer,
-            held: mut text,
-            mut start,
-            capacity: _,
-            ending: _,
-        } = self;
-        move_to_front(&mut text, &mut start);
-        (writer, text)
-    }
-}
-
-/// Removes the first `n` bytes of the held text by moving `start`. If no held text is left, empties the buffer.
-fn skip_front<A: Allocator>(bytes: &mut Vec<u8, A>, start: &mut usize, n: usize)
-    requires { start.old + n ≤ vec_len bytes.old }
-    ensures rest { drop start.new bytes.new.items ≡ drop n (drop start.old bytes.old.items) }
-    ensures start { start.new ≤ vec_len bytes.new - 1 }
-    ensures len { vec_len bytes.new ≤ vec_len bytes.old }
-    ensures capacity { vec_capacity bytes.new ≡ vec_capacity bytes.old }
-{
-    *start += n;
-    if *start == bytes.len() {
-        bytes.clear();
-        *start = 0;
-    }
-}
-
-/// Copies the held text to the front of the buffer.
-#[cold]
-// Without this hint a line of `bench udp 512 20` takes 3 instructions more.
-#[inline(never)]
-fn copy_to_front(bytes: &mut [u8], start: usize)
-    requires { start ≤ length bytes.old }
-    ensures len { length bytes.new ≡ length bytes.old }
-    ensures front { take (length bytes.old - start) bytes.new ≡ drop start bytes.old }
-{
-    if start > 0 {
-        let len = bytes.len();
-        bytes.copy_within(start..len, 0);
-    }
-}
-
-/// Moves the held text to the front of the buffer. It takes the parts of the packer and not a reference to the packer,
-/// so that the packer's fields can stay in registers.
-fn move_to_front<A: Allocator>(bytes: &mut Vec<u8, A>, start: &mut usize)
-    requires { start.old ≤ vec_len bytes.old }
-    ensures start { start.new ≡ 0 }
-    ensures items { bytes.new.items ≡ drop start.old bytes.old.items }
-    ensures capacity { vec_capacity bytes.new ≡ vec_capacity bytes.old }
-{
-    let len = bytes.len();
-    copy_to_front(bytes.as_mut_slice(), *start);
-    bytes.truncate(len - *start);
-    *start = 0;
-}
-
-/// Moves the held text to the front of the buffer if `n` more bytes fit behind it there, and returns whether they do.
-/// It is called if they don't fit where the held text is now.
-fn make_room<A: Allocator>(
-    bytes: &mut Vec<u8, A>,
-    start: &mut usize,
-    capacity: usize,
-    n: usize,
-) -> bool
-    requires start { start.old ≤ vec_len bytes.old - 1 }
-    requires bound { vec_len bytes.old ≤ capacity }
-    requires none { capacity < vec_len bytes.old + n }
-    ensures exact { IsTrue result ↔ (vec_len bytes.old - start.old) + n ≤ capacity }
-    ensures room { IsTrue result → vec_len bytes.new + n ≤ capacity }
-    ensures text { drop start.new bytes.new.items ≡ drop start.old bytes.old.items }
-    ensures start { start.new ≤ vec_len bytes.new - 1 }
-    ensures len { vec_len bytes.new ≤ vec_len bytes.old }
-    ensures capacity { vec_capacity bytes.new ≡ vec_capacity bytes.old }
-{
-    if *start == 0 || n > capacity - bytes.len() + *start {
-        return false;
-    }
-    move_to_front(bytes, start);
-    true
-}
-
-/// Appends bytes to the buffer, which has room for them.
-// Without this hint a counter of `bindings/c/speed.c` takes 2 instructions more.
-#[inline(always)]
-fn append<A: Allocator>(held: &mut Vec<u8, A>, bytes: &[u8])
-    requires { vec_len held.old + length bytes.now ≤ vec_capacity held.old }
-    ensures items { held.new.items ≡ held.old.items ++ bytes.now }
-    ensures capacity { vec_capacity held.old ≤ vec_capacity held.new }
-{
-    // never true: it lets the compiler leave out the code that grows the buffer
-    if bytes.len() > held.capacity() - held.len() {
-        unreachable!()
-    }
-    let Ok(()) = held.extend_from_slice(bytes) else {
-        unreachable!()
-    };
-}
-
-/// Appends a line's ending to the buffer, which has room for it. Most endings are one byte, and pushing one byte is
-/// faster than copying a slice.
-fn append_ending<A: Allocator>(held: &mut Vec<u8, A>, ending: &[u8])
-    requires { vec_len held.old + length ending.now ≤ vec_capacity held.old }
-    ensures items { held.new.items ≡ held.old.items ++ ending.now }
-    ensures capacity { vec_capacity held.old ≤ vec_capacity held.new }
-{
-    if let [byte] = ending {
-        held.push_reserved(*byte);
-    } else {
-        append(held, ending);
+        let LineBuffer { inner, lines } = self;
+        (inner, lines.into_text())
     }
 }
 
@@ -374,24 +230,21 @@ fn send<T: PacketWriter>(bytes: &[u8], to: &mut T, fault: &mut SinkError) -> (us
 
 /// Sends the held text as `send` does, and removes what the writer took from it.
 fn send_held<T: PacketWriter, A: Allocator>(
-    held: &mut Vec<u8, A>,
-    start: &mut usize,
+    lines: &mut HeldLines<A>,
     to: &mut T,
     fault: &mut SinkError,
 ) -> Option<()>
-    requires { start.old < vec_len held.old }
+    requires { 0 < length lines.old.text }
     ensures same_kind { T.kind to.new ≡ T.kind to.old }
+    ensures same_format { lines.new.format ≡ lines.old.format }
     ensures flushes { Flushes (T.kind to.old)
-        (record { history = T.history to.old; held = drop start.old held.old.items })
-        (record { history = T.history to.new; held = drop start.new held.new.items })
+        (record { history = T.history to.old; held = lines.old.text })
+        (record { history = T.history to.new; held = lines.new.text })
         (ok_or result fault.new) }
     ensures offers { FlushesOffers (T.offers to.old) (T.offers to.new)
-        (drop start.old held.old.items) (is_ok (ok_or result fault.new)) }
-    ensures start { start.new ≤ vec_len held.new - 1 }
-    ensures len { vec_len held.new ≤ vec_len held.old }
-    ensures capacity { vec_capacity held.new ≡ vec_capacity held.old }
+        lines.old.text (is_ok (ok_or result fault.new)) }
 {
-    let (sent, result) = send(&held[*start..], to, fault);
-    skip_front(held, start, sent);
+    let (sent, result) = send(lines.text(), to, fault);
+    lines.skip(sent);
     result
 }

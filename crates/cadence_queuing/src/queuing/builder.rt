@@ -1,28 +1,28 @@
 //! The builder of a queuing sink, which starts its worker.
 ghost use Rattle.std.specs.Prelude.{◌≡◌, IfOk, IfErr, Some, None};
-ghost use Rattle.cadence_queuing.specs.Queuing.{IsQueuingRefusal, wrapped_sink, queue_capacity, queue_policy, flush_period, capacity_of, policy_of, handler_of, flush_period_of, settings_of};
-ghost use Rattle.cadence_flow.specs.declared.queue.policy.QueuePolicy.TheVariants.{Refuse};
+ghost use Rattle.cadence_queuing.specs.Queuing.{IsQueuingRefusal, wrapped_sink, queue_capacity, queue_policy, flush_period, capacity_of, policy_of, handler_of, flush_period_of};
+ghost use Rattle.cadence_queue.specs.declared.policy.QueuePolicy.TheVariants.{Refuse};
 
 use super::QueuingMetricSink;
-use super::flushing_worker::FlushingWorker;
 use super::worker::{Part, Shared, Worker};
-use crate::{Handler, MetricSink, SinkErrorHandler};
 use cadence_errors::MetricResult;
-use cadence_flow::queue::QueuePolicy;
-use cadence_resolve::thread::start;
-use cadence_shared::{SharedQueue, WorkerEnd};
+use cadence_flow::thread::start;
+use cadence_flow::{Handler, MetricSink, SinkErrorHandler};
+use cadence_queue::{Latch, QueuePolicy, SharedQueue};
 use std::alloc::{Allocator, Global};
 use std::sync::{Arc, Wait};
 use std::thread::Threads;
 use std::time::{Clock, Duration};
 
 /// Makes a `QueuingMetricSink`. Without a capacity its queue has no bound. Without a policy a full queue refuses lines.
-/// Without a handler the errors of the wrapped sink are dropped.
+/// Without a handler the errors of the wrapped sink are dropped. Without a flush period the worker never flushes the
+/// wrapped sink.
 ///
 /// ```text
 /// let builder = QueuingMetricSinkBuilder::new()
 ///     .with_capacity(1000)
-///     .with_policy(QueuePolicy::DropOldest);
+///     .with_policy(QueuePolicy::DropOldest)
+///     .with_flush_period(Duration::from_secs(1));
 /// let sink = builder.build(rt.clone()?, alloc, inner)?;
 /// ```
 #[derive(Drop)]
@@ -30,6 +30,7 @@ pub struct QueuingMetricSinkBuilder<A: Allocator = Global> {
     capacity: Option<usize>,
     policy: QueuePolicy,
     handler: Option<Handler<A>>,
+    period: Option<Duration>,
 }
 
 impl<A: Allocator> QueuingMetricSinkBuilder<A> {
@@ -38,11 +39,13 @@ impl<A: Allocator> QueuingMetricSinkBuilder<A> {
         ensures capacity { capacity_of result ≡ None }
         ensures policy { policy_of result ≡ Refuse }
         ensures handler { handler_of result ≡ None }
+        ensures period { flush_period_of result ≡ None }
     {
         QueuingMetricSinkBuilder {
             capacity: None,
             policy: QueuePolicy::Refuse,
             handler: None,
+            period: None,
         }
     }
 
@@ -51,6 +54,7 @@ impl<A: Allocator> QueuingMetricSinkBuilder<A> {
         ensures capacity { capacity_of result ≡ Some capacity }
         ensures policy { policy_of result ≡ policy_of self }
         ensures handler { handler_of result ≡ handler_of self }
+        ensures period { flush_period_of result ≡ flush_period_of self }
     {
         self.capacity = Some(capacity);
         self
@@ -62,63 +66,69 @@ impl<A: Allocator> QueuingMetricSinkBuilder<A> {
         ensures capacity { capacity_of result ≡ capacity_of self }
         ensures policy { policy_of result ≡ policy }
         ensures handler { handler_of result ≡ handler_of self }
+        ensures period { flush_period_of result ≡ flush_period_of self }
     {
         self.policy = policy;
         self
     }
 
-    /// Sets the handler, which receives the error of each line that the wrapped sink refuses. It runs in the worker
-    /// thread while no lock is held, so it may `emit` into the same queue. A handler that owns a handle of this queue
-    /// keeps the queue and its worker alive until somebody stops the queue.
+    /// Sets the handler, which receives the error of each line that the wrapped sink refuses, and of each flush of the
+    /// worker that fails. It runs in the worker thread while no lock is held, so it may `emit` into the same queue. A
+    /// handler that owns a handle of this queue keeps the queue and its worker alive until somebody stops the queue.
     pub fn with_error_handler(mut self, handler: SinkErrorHandler<A>) -> Self
         requires { IsAlwaysCallable handler }
         ensures capacity { capacity_of result ≡ capacity_of self }
         ensures policy { policy_of result ≡ policy_of self }
         ensures handler { handler_of result ≡ Some handler }
+        ensures period { flush_period_of result ≡ flush_period_of self }
     {
         self.handler = Some(Handler::new(handler));
         self
     }
-}
 
-impl<A: Allocator> QueuingMetricSinkBuilder<A> {
     /// Sets a period. The worker flushes the wrapped sink if this time has passed since its last flush and it has
     /// handed on a line since, so no line waits longer in a buffer, also if no more lines come, unless flushes fail. A
-    /// period above 0 and below one millisecond counts as one millisecond. This is the last setting. The runtime of
-    /// such a queue needs a clock.
-    pub fn with_flush_period(self, period: Duration) -> FlushingQueueBuilder<A>
-        ensures period { flush_period_of result ≡ period }
-        ensures settings { settings_of result ≡ self }
+    /// period above 0 and below one millisecond counts as one millisecond.
+    ///
+    /// The worker flushes the wrapped sink between two lines. It looks for a due flush before it takes more lines out of
+    /// the queue, at most 32 at a time. While a line that it has handed on was not flushed yet, it sleeps at most until
+    /// the flush is due; otherwise it sleeps until a line comes. It also flushes the sink at its end. The error of a
+    /// failed flush goes to the error handler, and the flush is tried again after one more period. Between two tries the
+    /// worker looks at the queue, so it still takes lines and sees a stop if each flush fails. With a period of 0, and
+    /// if the clock can't be read, it flushes the sink whenever it has no more lines in hand, and tries a failed flush
+    /// again after each look at the queue, and after a millisecond if no line comes.
+    pub fn with_flush_period(mut self, period: Duration) -> Self
+        ensures capacity { capacity_of result ≡ capacity_of self }
+        ensures policy { policy_of result ≡ policy_of self }
+        ensures handler { handler_of result ≡ handler_of self }
+        ensures period { flush_period_of result ≡ Some period }
     {
-        FlushingQueueBuilder {
-            settings: self,
-            period,
-        }
+        self.period = Some(period);
+        self
     }
 }
 
-// Makes a sink whose worker is not started yet. If the sink is dropped, its queue is stopped.
+// Makes a sink with these settings whose worker is not started yet. If the sink is dropped, its queue is stopped.
 fn make_sink<S: MetricSink, R: Wait + Drop, A: Allocator + Clone>(
     rt: R,
     alloc: A,
     sink: S,
-    settings: (Option<usize>, QueuePolicy, Option<Duration>),
+    builder: &QueuingMetricSinkBuilder<A>,
 ) -> MetricResult<QueuingMetricSink<S, R, A>>
     ensures wrapped { IfOk result (λ q. wrapped_sink q ≡ sink) }
-    ensures capacity { IfOk result (λ q. queue_capacity q ≡ settings.0) }
-    ensures policy { IfOk result (λ q. queue_policy q ≡ settings.1) }
-    ensures period { IfOk result (λ q. flush_period q ≡ settings.2) }
+    ensures capacity { IfOk result (λ q. queue_capacity q ≡ capacity_of builder.now) }
+    ensures policy { IfOk result (λ q. queue_policy q ≡ policy_of builder.now) }
+    ensures period { IfOk result (λ q. flush_period q ≡ flush_period_of builder.now) }
     ensures refused { IfErr result IsQueuingRefusal }
 {
-    let (capacity, policy, period) = settings;
-    let queue = SharedQueue::with_policy(alloc.clone()?, capacity, policy)?;
+    let queue = SharedQueue::with_policy(alloc.clone()?, builder.capacity, builder.policy)?;
     let shared = Shared {
         sink,
         queue,
-        period,
+        period: builder.period,
     };
     let shared = Arc::new(alloc.clone()?, shared)?;
-    let end = Arc::new(alloc.clone()?, WorkerEnd::new())?;
+    let end = Arc::new(alloc.clone()?, Latch::new())?;
     Ok(QueuingMetricSink {
         rt,
         alloc,
@@ -147,70 +157,24 @@ impl<A: Allocator + Clone + Send + Sync + 'static> QueuingMetricSinkBuilder<A> {
     /// started. The wrapped sink is dropped then.
     pub fn build<
         S: MetricSink + Send + Sync + 'static,
-        R: Wait + Threads + Clone + Drop + Send + Sync + 'static,
+        R: Wait + Clock + Threads + Clone + Drop + Send + Sync + 'static,
     >(self, rt: R, alloc: A, sink: S) -> MetricResult<QueuingMetricSink<S, R, A>>
         ensures wrapped { IfOk result (λ q. wrapped_sink q ≡ sink) }
         ensures capacity { IfOk result (λ q. queue_capacity q ≡ capacity_of self) }
         ensures policy { IfOk result (λ q. queue_policy q ≡ policy_of self) }
-        ensures period { IfOk result (λ q. flush_period q ≡ None) }
+        ensures period { IfOk result (λ q. flush_period q ≡ flush_period_of self) }
         ensures refused { IfErr result IsQueuingRefusal }
     {
-        let sink = make_sink(rt, alloc, sink, (self.capacity, self.policy, None))?;
+        let sink = make_sink(rt, alloc, sink, &self)?;
         let worker = make_worker(&sink)?;
         start(&sink.rt, worker, self.handler)?;
         Ok(sink)
     }
 }
 
-/// Makes a `QueuingMetricSink` whose worker flushes the wrapped sink by time.
-/// `QueuingMetricSinkBuilder::with_flush_period` makes it.
-///
-/// ```text
-/// let builder = QueuingMetricSinkBuilder::new()
-///     .with_capacity(1000)
-///     .with_flush_period(Duration::from_secs(1));
-/// let sink = builder.build(rt.clone()?, alloc, inner)?;
-/// ```
-#[derive(Drop)]
-pub struct FlushingQueueBuilder<A: Allocator = Global> {
-    settings: QueuingMetricSinkBuilder<A>,
-    period: Duration,
-}
-
-impl<A: Allocator + Clone + Send + Sync + 'static> FlushingQueueBuilder<A> {
-    /// Makes the sink and starts its worker thread. The errors are `OutOfMemory`, and `Io` if the thread can't be
-    /// started. The wrapped sink is dropped then.
-    ///
-    /// The worker flushes the wrapped sink between two lines. It looks for a due flush before it takes more lines out of
-    /// the queue, at most 32 at a time. While a line that it has handed on was not flushed yet, it sleeps at most until
-    /// the flush is due; otherwise it sleeps until a line comes. It also flushes the sink at its end. The error of a
-    /// failed flush goes to the error handler, and the flush is tried again after one more period. Between two tries the
-    /// worker looks at the queue, so it still takes lines and sees a stop if each flush fails. With a period of 0, and
-    /// if the clock can't be read, it flushes the sink whenever it has no more lines in hand, and tries a failed flush
-    /// again after each look at the queue, and after a millisecond if no line comes.
-    pub fn build<
-        S: MetricSink + Send + Sync + 'static,
-        R: Wait + Clock + Threads + Clone + Drop + Send + Sync + 'static,
-    >(self, rt: R, alloc: A, sink: S) -> MetricResult<QueuingMetricSink<S, R, A>>
-        ensures wrapped { IfOk result (λ q. wrapped_sink q ≡ sink) }
-        ensures capacity { IfOk result (λ q. queue_capacity q ≡ capacity_of (settings_of self)) }
-        ensures policy { IfOk result (λ q. queue_policy q ≡ policy_of (settings_of self)) }
-        ensures period { IfOk result (λ q. flush_period q ≡ Some (flush_period_of self)) }
-        ensures refused { IfErr result IsQueuingRefusal }
-    {
-        let FlushingQueueBuilder { settings, period } = self;
-        let wanted = (settings.capacity, settings.policy, Some(period));
-        let sink = make_sink(rt, alloc, sink, wanted)?;
-        let worker = make_worker(&sink)?;
-        let worker = FlushingWorker { worker, period };
-        start(&sink.rt, worker, settings.handler)?;
-        Ok(sink)
-    }
-}
-
 impl<
     S: MetricSink + Send + Sync + 'static,
-    R: Wait + Threads + Clone + Drop + Send + Sync + 'static,
+    R: Wait + Clock + Threads + Clone + Drop + Send + Sync + 'static,
     A: Allocator + Clone + Send + Sync + 'static,
 > QueuingMetricSink<S, R, A> {
     /// Makes a sink with an unbounded queue, and starts its worker thread. The errors are `OutOfMemory`, and `Io` if
@@ -245,6 +209,7 @@ impl<S: MetricSink, R: Wait + Drop, A: Allocator> QueuingMetricSink<S, R, A> {
         ensures capacity { capacity_of result ≡ None }
         ensures policy { policy_of result ≡ Refuse }
         ensures handler { handler_of result ≡ None }
+        ensures period { flush_period_of result ≡ None }
     {
         QueuingMetricSinkBuilder::new()
     }

@@ -2,22 +2,22 @@
 use Rattle.std.proofs.Common.{◌≡◌, ◌≢◌, ℕ, ◌+◌, ◌%◌, ◌^◌, ◌<◌, List, [], ◌∷◌, ◌++◌, Option, Some, length, refl, sym, ap, arith, subst}
 use Rattle.std.proofs.lemmas.List.{append-nil, append_assoc, length-append}
 use Rattle.cadence_flow.specs.Frame.{Format}
-use Rattle.cadence_flow.specs.declared.queue.policy.QueuePolicy.{QueuePolicy}
+use Rattle.cadence_queue.specs.declared.policy.QueuePolicy.{QueuePolicy}
 use Rattle.cadence_flow.specs.Writer.{PacketHistory, WriterKind}
-use Rattle.cadence_schedule.specs.declared.call.Call.{Call}
+use Rattle.cadence_settings.specs.declared.call.Call.{Call}
 use Rattle.cadence_schedule.specs.RunHistory.{Turn}
-use Rattle.cadence_schedule.specs.Moves.{State, Runs}
+use Rattle.cadence_schedule.specs.Moves.{RunState, Runs}
 use Rattle.cadence_schedule.proofs.packets.CutSoFar.{no_lines}
 use Rattle.cadence_schedule.proofs.history.QueueAndHand.{at_start, queue_none}
 use Rattle.cadence_schedule.proofs.headline.EachTurn.{After, turn}
 
 module _ {A : Type 0} (line_of : Call A → Option (List ℕ)) (filled : (call : Call A) (line : List ℕ) → line_of call ≡ Some line → line ≢ [])
     (kind : WriterKind) (format : Format) (queue : Option ℕ) (policy : QueuePolicy) (start : PacketHistory) where
-  abbrev Holds : List (Turn A) → State → Type 0
+  abbrev Holds : List (Turn A) → RunState → Type 0
   Holds h s = After line_of filled kind format queue policy start h s
 
   -- A list of turns keeps what holds.
-  runs_after : (before turns : List (Turn A)) (old new : State) → length before + length turns < 2 ^ 64 → Holds before old
+  runs_after : (before turns : List (Turn A)) (old new : RunState) → length before + length turns < 2 ^ 64 → Holds before old
       → Runs line_of kind format queue policy old turns new → Holds (before ++ turns) new
   runs_after before [] old new short a same = subst (λ s. Holds (before ++ []) s) (sym same) (subst (λ h. Holds h old) (sym (append-nil before)) a)
   runs_after before (t ∷ turns) old new short a (mid, first, rest) =
@@ -41,7 +41,7 @@ module _ {A : Type 0} (line_of : Call A → Option (List ℕ)) (filled : (call :
 -- All of it holds after a whole run that begins in the state before the first step.
 pub run_after : {A : Type 0} (line_of : Call A → Option (List ℕ)) (filled : (call : Call A) (line : List ℕ) → line_of call ≡ Some line
     → line ≢ []) (kind kind0 : WriterKind) (format format0 : Format) (queue queue0 : Option ℕ) (policy policy0 : QueuePolicy)
-    (start : PacketHistory) (s0 s1 : State) (turns : List (Turn A))
+    (start : PacketHistory) (s0 s1 : RunState) (turns : List (Turn A))
     → kind0 ≡ kind → format0 ≡ format → queue0 ≡ queue → policy0 ≡ policy → s0 ≡ at_start start → length turns < 2 ^ 64
     → Runs line_of kind0 format0 queue0 policy0 s0 turns s1 → After line_of filled kind format queue policy start turns s1
 run_after line_of filled kind kind0 format format0 queue queue0 policy policy0 start s0 s1 turns k f q p s short runs =

@@ -9,14 +9,14 @@ use Rattle.std.proofs.lemmas.List.Concat.{flat_map-append}
 use Rattle.cadence_errors.specs.declared.SinkError.{SinkError}
 use Rattle.cadence_flow.specs.Frame.{Format, frame_of, held_packet, taken_stream}
 use Rattle.cadence_flow.specs.Packer.{Writes, Flushes, whole_text}
-use Rattle.cadence_flow.specs.Queue.{at_capacity, drops_for_room}
-use Rattle.cadence_flow.specs.declared.queue.policy.QueuePolicy.{QueuePolicy}
+use Rattle.cadence_queue.specs.Queue.{at_capacity, drops_for_room}
+use Rattle.cadence_queue.specs.declared.policy.QueuePolicy.{QueuePolicy}
 use Rattle.cadence_flow.specs.Writer.{PacketHistory, WriterKind, Extends}
-use Rattle.cadence_schedule.specs.declared.call.Call.{Call}
+use Rattle.cadence_settings.specs.declared.call.Call.{Call}
 use Rattle.cadence_schedule.specs.RunHistory.{Turn, takes_text, drops_text, left_count, outcome_by, handed_count, stops, is_stopped, error_count}
 use Rattle.cadence_schedule.specs.RunHistory.{is_error, accepted, accepted_by, kept, kept_counts, marks, mark_at, refusals, refusal_at}
 use Rattle.cadence_schedule.specs.Replies.{MayReply, MayReplyAfter}
-use Rattle.cadence_schedule.specs.Moves.{State, Moves, HasLast, CountsLine, packer_of}
+use Rattle.cadence_schedule.specs.Moves.{RunState, Moves, HasLast, CountsLine, packer_of}
 use Rattle.cadence_flow.proofs.Histories.{Extends-trans}
 use Rattle.cadence_schedule.proofs.packets.ListEnds.{joined}
 use Rattle.cadence_schedule.proofs.history.OneTurnMore.{marks-push, refusals-push, replies-push, error_count-push}
@@ -30,7 +30,7 @@ use Rattle.cadence_schedule.proofs.packets.PackerSteps.{packer, written, refused
 use Rattle.cadence_schedule.specs.declared.steps.Step.TheVariants as step
 use Rattle.cadence_schedule.specs.declared.steps.Reply.TheVariants as reply
 
-same_queue : (s : State) → SameQueue s s
+same_queue : (s : RunState) → SameQueue s s
 same_queue s = record { waiting = refl; stopped = refl; submitted = refl; drained = refl; dropped = refl }
 
 module _ {A : Type 0} (line_of : Call A → Option (List ℕ)) (filled : (call : Call A) (line : List ℕ) → line_of call ≡ Some line → line ≢ [])
@@ -50,7 +50,7 @@ module _ {A : Type 0} (line_of : Call A → Option (List ℕ)) (filled : (call :
     pub text : whole_text (packer history held) ≡ concat start.packets ++ taken_stream format (kept_counts line_of h)
 
   -- All of this holds after these turns.
-  pub record After (h : List (Turn A)) (s : State) : Type 0 where
+  pub record After (h : List (Turn A)) (s : RunState) : Type 0 where
     pub replies : MayReplyAfter line_of kind.may_give kind.takes_whole format queue policy [] h
     pub line : QueueAfter line_of queue h s
     pub text : kind.reports ≡ true → TextAfter h s.history s.held
@@ -110,7 +110,7 @@ module _ {A : Type 0} (line_of : Call A → Option (List ℕ)) (filled : (call :
   }
 
   -- What holds is kept by a turn that does not change the packer.
-  leaves_packer : (h : List (Turn A)) (t : Turn A) (s s' : State) → After h s
+  leaves_packer : (h : List (Turn A)) (t : Turn A) (s s' : RunState) → After h s
       → MayReply line_of kind.may_give kind.takes_whole format queue policy h t → QueueAfter line_of queue (h ++ t ∷ []) s'
       → s'.cut ≡ s.cut → s'.history ≡ s.history → s'.held ≡ s.held
       → outcome_by t ≡ [] → ((n : ℕ) → mark_at line_of n t ≡ []) → ((n : ℕ) → refusal_at line_of n t ≡ []) → is_error t ≡ false
@@ -132,7 +132,7 @@ module _ {A : Type 0} (line_of : Call A → Option (List ℕ)) (filled : (call :
       }
 
   -- What holds is kept by a turn that changes nothing.
-  only_answers : (h : List (Turn A)) (t : Turn A) (s s' : State) → s' ≡ s → After h s
+  only_answers : (h : List (Turn A)) (t : Turn A) (s s' : RunState) → s' ≡ s → After h s
       → MayReply line_of kind.may_give kind.takes_whole format queue policy h t
       → accepted_by line_of t ≡ [] → takes_text t ≡ false → drops_text t ≡ false → outcome_by t ≡ [] → stops t ≡ false
       → ((n : ℕ) → mark_at line_of n t ≡ []) → ((n : ℕ) → refusal_at line_of n t ≡ []) → is_error t ≡ false
@@ -188,7 +188,7 @@ module _ {A : Type 0} (line_of : Call A → Option (List ℕ)) (filled : (call :
   }
 
   -- What holds is kept by a hand that returned Ok.
-  hand_kept : (h : List (Turn A)) (old new : State) (n : ℕ) (line : List ℕ) → length h + 1 < 2 ^ 64 → After h old → old.in_hand ≡ Some line
+  hand_kept : (h : List (Turn A)) (old new : RunState) (n : ℕ) (line : List ℕ) → length h + 1 < 2 ^ 64 → After h old → old.in_hand ≡ Some line
       → Writes kind format (packer_of old) (packer_of new) line (Ok n) → CountsLine format old.held line (Ok n) old.cut new.cut
       → After (h ++ (step.Hand, reply.Handed (Ok n)) ∷ []) (record old { in_hand = None; cut = new.cut; history = new.history; held = new.held })
   hand_kept h old new n line short a some w counts =
@@ -230,7 +230,7 @@ module _ {A : Type 0} (line_of : Call A → Option (List ℕ)) (filled : (call :
       }
 
   -- What holds is kept by a hand that returned an error.
-  hand_refused : (h : List (Turn A)) (old new : State) (e : SinkError) (line : List ℕ) → After h old → old.in_hand ≡ Some line
+  hand_refused : (h : List (Turn A)) (old new : RunState) (e : SinkError) (line : List ℕ) → After h old → old.in_hand ≡ Some line
       → Writes kind format (packer_of old) (packer_of new) line (Err e) → CountsLine format old.held line (Err e) old.cut new.cut
       → After (h ++ (step.Hand, reply.Handed (Err e)) ∷ []) (record old { in_hand = None; cut = new.cut; history = new.history; held = new.held })
   hand_refused h old new e line a some w counts = record {
@@ -267,7 +267,7 @@ module _ {A : Type 0} (line_of : Call A → Option (List ℕ)) (filled : (call :
   }
 
   -- What holds is kept by a flush that returned Ok.
-  flush_done : (h : List (Turn A)) (old new : State) (done : Unit) → After h old
+  flush_done : (h : List (Turn A)) (old new : RunState) (done : Unit) → After h old
       → Flushes {A = Unit} kind (packer_of old) (packer_of new) (Ok done)
       → After (h ++ (step.Flush, reply.Flushed (Ok done)) ∷ []) (record old { history = new.history; held = new.held })
   flush_done h old new done a f =
@@ -304,7 +304,7 @@ module _ {A : Type 0} (line_of : Call A → Option (List ℕ)) (filled : (call :
       }
 
   -- What holds is kept by a flush that returned an error.
-  flush_failed : (h : List (Turn A)) (old new : State) (e : SinkError) → After h old
+  flush_failed : (h : List (Turn A)) (old new : RunState) (e : SinkError) → After h old
       → Flushes {A = Unit} kind (packer_of old) (packer_of new) (Err e)
       → After (h ++ (step.Flush, reply.Flushed (Err e)) ∷ []) (record old { history = new.history; held = new.held })
   flush_failed h old new e a f =
@@ -338,7 +338,7 @@ module _ {A : Type 0} (line_of : Call A → Option (List ℕ)) (filled : (call :
       }
 
   -- Each turn keeps what holds.
-  pub turn : (h : List (Turn A)) (old : State) (t : Turn A) (new : State) → length h + 1 < 2 ^ 64 → After h old
+  pub turn : (h : List (Turn A)) (old : RunState) (t : Turn A) (new : RunState) → length h + 1 < 2 ^ 64 → After h old
       → Moves line_of kind format queue policy old t new → After (h ++ t ∷ []) new
   turn h old (step.Call call, reply.Called (Err e)) new short a (answer, same) =
       only_answers h (step.Call call, reply.Called (Err e)) old new same a

@@ -10,9 +10,9 @@ use Rattle.std.proofs.lemmas.List.Sums.{sum_by-cons}
 use Rattle.cadence_flow.specs.Frame.{Format, size_of, frame, stream, held_packet, taken_stream}
 use Rattle.cadence_flow.specs.Sums.{less, start_of, counted_kind, start_if, zero_sums}
 use Rattle.cadence_flow.specs.Writer.{PacketHistory, WriterKind, Extends}
-use Rattle.cadence_flow.specs.declared.queue.policy.QueuePolicy.{QueuePolicy}
+use Rattle.cadence_queue.specs.declared.policy.QueuePolicy.{QueuePolicy}
 use Rattle.cadence_flow.specs.declared.stats.SinkStats.{SinkStats}
-use Rattle.cadence_schedule.specs.declared.call.Call.{Call}
+use Rattle.cadence_settings.specs.declared.call.Call.{Call}
 use Rattle.cadence_schedule.specs.declared.steps.Step.TheVariants as step
 use Rattle.cadence_schedule.specs.declared.steps.Reply.TheVariants as reply
 use Rattle.cadence_schedule.specs.Headline.{packets_between, AreSumsBetween}
@@ -21,7 +21,7 @@ use Rattle.cadence_schedule.specs.RunHistory.{is_error, marks}
 use Rattle.cadence_schedule.specs.RunHistory.{refusals, refusal_at, places_after}
 use Rattle.cadence_schedule.specs.Packets.{ArePacketsOf}
 use Rattle.cadence_schedule.specs.Plan.{groups_of, IsTight, IsCutLate}
-use Rattle.cadence_schedule.specs.Moves.{State}
+use Rattle.cadence_schedule.specs.Moves.{RunState}
 use Rattle.cadence_schedule.proofs.packets.ListEnds.{joined}
 use Rattle.cadence_schedule.proofs.packets.CutLengths.{shown, shown_late}
 use Rattle.cadence_schedule.proofs.headline.EachTurn.{After}
@@ -84,7 +84,7 @@ module _ {A : Type 0} (line_of : Call A → Option (List ℕ)) where
   accepted_le (t ∷ h) = omega (arith, length-append (accepted_by line_of t) (accepted line_of h), accepted_one t, accepted_le h)
 
   module _ (filled : (call : Call A) (line : List ℕ) → line_of call ≡ Some line → line ≢ []) (kind : WriterKind) (format : Format)
-      (queue : Option ℕ) (policy : QueuePolicy) (start : PacketHistory) (h : List (Turn A)) (s : State)
+      (queue : Option ℕ) (policy : QueuePolicy) (start : PacketHistory) (h : List (Turn A)) (s : RunState)
       (a : After line_of filled kind format queue policy start h s) where
     pub run_taken : kind.reports ≡ true → concat (packets_between start s.history) ++ s.held ≡ taken_stream format (kept_counts line_of h)
     run_taken reports =

@@ -7,12 +7,12 @@ use Rattle.std.proofs.lemmas.List.Concat.{flat_map-append}
 use Rattle.std.proofs.lemmas.List.Elements.{All-append}
 use Rattle.cadence_flow.specs.Frame.{Format}
 use Rattle.cadence_flow.specs.Writer.{WriterKind}
-use Rattle.cadence_flow.specs.declared.queue.policy.QueuePolicy.{QueuePolicy}
-use Rattle.cadence_schedule.specs.declared.call.Call.{Call}
+use Rattle.cadence_queue.specs.declared.policy.QueuePolicy.{QueuePolicy}
+use Rattle.cadence_settings.specs.declared.call.Call.{Call}
 use Rattle.cadence_schedule.specs.declared.steps.Step.{Step}
 use Rattle.cadence_schedule.specs.declared.steps.Reply.{Reply}
 use Rattle.cadence_schedule.specs.RunHistory.{Turn, accepted, accepted_by}
-use Rattle.cadence_schedule.specs.Moves.{State, Moves, Runs}
+use Rattle.cadence_schedule.specs.Moves.{RunState, Moves, Runs}
 
 module _ {A : Type 0} where
   zip_push : (xs : List (Step A)) (ys : List Reply) (x : Step A) (y : Reply) → length xs ≡ length ys
@@ -39,13 +39,13 @@ module _ {A : Type 0} where
       (All-append P (accepted of (zip xs ys)) (accepted_by of (x, y)) before here))
 
   module _ (line_of : Call A → Option (List ℕ)) (kind : WriterKind) (format : Format) (queue : Option ℕ) (policy : QueuePolicy) where
-    runs_more : (old mid new : State) (turns : List (Turn A)) (t : Turn A) → Runs line_of kind format queue policy old turns mid
+    runs_more : (old mid new : RunState) (turns : List (Turn A)) (t : Turn A) → Runs line_of kind format queue policy old turns mid
         → Moves line_of kind format queue policy mid t new → Runs line_of kind format queue policy old (turns ++ t ∷ []) new
     runs_more old mid new [] t same move = (new, subst (λ s. Moves line_of kind format queue policy s t new) same move, refl)
     runs_more old mid new (u ∷ turns) t (next, first, rest) move = (next, first, runs_more next mid new turns t rest move)
 
     -- A run and one step more with its reply are a run.
-    pub runs_push : (old mid new : State) (xs xs' : List (Step A)) (ys ys' : List Reply) (x : Step A) (y : Reply) → length xs ≡ length ys
+    pub runs_push : (old mid new : RunState) (xs xs' : List (Step A)) (ys ys' : List Reply) (x : Step A) (y : Reply) → length xs ≡ length ys
         → xs' ≡ xs ++ x ∷ [] → ys' ≡ ys ++ y ∷ []
         → Runs line_of kind format queue policy old (zip xs ys) mid → Moves line_of kind format queue policy mid (x, y) new
         → Runs line_of kind format queue policy old (zip xs' ys') new
@@ -55,7 +55,7 @@ module _ {A : Type 0} where
 
   -- A move stays one if the kind, the format, the capacity and the policy of the queue are replaced by equal ones.
   pub moves_along : (line_of : Call A → Option (List ℕ)) (kind kind' : WriterKind) (format format' : Format) (queue queue' : Option ℕ)
-      (policy policy' : QueuePolicy) (old : State) (t : Turn A) (new : State)
+      (policy policy' : QueuePolicy) (old : RunState) (t : Turn A) (new : RunState)
       → kind ≡ kind' → format ≡ format' → queue ≡ queue' → policy ≡ policy' → Moves line_of kind format queue policy old t new
       → Moves line_of kind' format' queue' policy' old t new
   moves_along line_of kind kind' format format' queue queue' policy policy' old t new k f q p move =

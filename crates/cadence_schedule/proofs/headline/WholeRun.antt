@@ -6,28 +6,29 @@ use Rattle.std.specs.Option.{option_map}
 use Rattle.cadence_flow.specs.Frame.{Format}
 use Rattle.cadence_flow.specs.Sums.{counted_kind, zero_sums}
 use Rattle.cadence_flow.specs.Writer.{PacketHistory, WriterKind}
-use Rattle.cadence_flow.specs.declared.queue.policy.QueuePolicy.{QueuePolicy}
+use Rattle.cadence_queue.specs.declared.policy.QueuePolicy.{QueuePolicy}
 use Rattle.cadence_text.specs.Line.{line_of}
 use Rattle.cadence_text.specs.Metric.{Metric}
 use Rattle.cadence_text.specs.OneReading.{IsFreeOfSeparators}
 use Rattle.cadence_text.specs.Representable.{IsRepresentable}
-use Rattle.cadence_schedule.specs.declared.call.Call.{Call}
+use Rattle.cadence_settings.specs.declared.call.Call.{Call}
 use Rattle.cadence_schedule.specs.declared.counting.CountingWriter.{CountingWriter}
 use Rattle.cadence_schedule.specs.declared.running.Running.{Running}
 use Rattle.cadence_schedule.specs.declared.steps.Reply.{Reply}
 use Rattle.cadence_schedule.specs.declared.steps.Step.{Step}
-use Rattle.cadence_schedule.specs.CallData.{line_of_data, metric_of_data}
+use Rattle.cadence_settings.specs.CallData.{line_of_data, metric_of_data}
 use Rattle.cadence_schedule.specs.Headline.{given_of, packets_between, HasHeadline, IsAccounted, ReportsWhole}
 use Rattle.cadence_schedule.specs.RunHistory.{Turn, accepted, kept, marks, refusals}
-use Rattle.cadence_schedule.specs.Laws.{LeastPackets, PacketsReadOneWay, StrictCallsAreFree}
-use Rattle.cadence_schedule.specs.Moves.{State, Runs}
+use Rattle.cadence_schedule.specs.Laws.{LeastPackets, PacketsReadOneWay}
+use Rattle.cadence_settings.specs.Laws.{StrictCallsAreFree}
+use Rattle.cadence_schedule.specs.Moves.{RunState, Runs}
 use Rattle.cadence_schedule.specs.Packets.{ArePacketsOf, ReadsAs}
 use Rattle.cadence_schedule.specs.RunOutcome.{outcome_after}
-use Rattle.cadence_schedule.specs.Running.{IsAtStart, state_of}
-use Rattle.cadence_schedule.specs.Settings.{Settings, is_free_settings}
+use Rattle.cadence_schedule.specs.Running.{IsAtStart, run_state}
+use Rattle.cadence_settings.specs.Settings.{Settings, is_free_settings}
 use Rattle.cadence_schedule.proofs.history.KeptMetrics.{all_accepted, all_kept, kept_mapped}
-use Rattle.cadence_schedule.proofs.calls.FreeTexts.{strict_data_free}
-use Rattle.cadence_schedule.proofs.calls.NonemptyLines.{line_filled}
+use Rattle.cadence_settings.proofs.calls.FreeTexts.{strict_data_free}
+use Rattle.cadence_settings.proofs.calls.NonemptyLines.{line_filled}
 use Rattle.cadence_schedule.proofs.headline.AfterRun.{run_after}
 use Rattle.cadence_schedule.proofs.headline.FinishedRun.{run_taken, run_stream, run_cut, run_late, run_tight, run_submitted, run_drained}
 use Rattle.cadence_schedule.proofs.headline.FinishedRun.{run_dropped, run_sums}
@@ -46,7 +47,7 @@ module _ {W A : Type 0} (kind_of : W → WriterKind) (history_of : W → PacketH
   module _ (law : (metric : Metric) → 0 < length (line_of metric)) (begun run : Running (CountingWriter W) A) (none replies : Vec Reply A)
       (start : IsAtStart capacity ending queue policy (length steps) (record { inner = writer; stats = zero_sums }) begun none)
       (runs : Runs (line_of_data settings) (counted begun.packer.writer) begun.packer.format begun.queue.capacity begun.queue.policy
-      (state_of inner begun) (zip steps replies.items) (state_of inner run))
+      (run_state inner begun) (zip steps replies.items) (run_state inner run))
       (one_each : length replies.items ≡ length steps) (same_kind : counted run.packer.writer ≡ counted begun.packer.writer)
       (same_format : run.packer.format ≡ begun.packer.format) (same_queue : run.queue.capacity ≡ begun.queue.capacity)
       (same_policy : run.queue.policy ≡ begun.queue.policy) where
@@ -65,8 +66,8 @@ module _ {W A : Type 0} (kind_of : W → WriterKind) (history_of : W → PacketH
     abbrev kind : WriterKind
     kind = counted_kind (kind_of writer) (history_of writer) zero_sums
 
-    abbrev ended : State
-    ended = state_of inner run
+    abbrev ended : RunState
+    ended = run_state inner run
 
     short : length (zip steps replies.items) < 2 ^ 64
     short = omega (arith, length-zip steps replies.items (sym one_each), start.few)
@@ -74,7 +75,7 @@ module _ {W A : Type 0} (kind_of : W → WriterKind) (history_of : W → PacketH
     kind_is : counted begun.packer.writer ≡ kind
     kind_is = ap (λ p. counted p.writer) start.packer_is
 
-    began : state_of inner begun ≡ at_start before
+    began : run_state inner begun ≡ at_start before
     began = λ i. record {
       waiting = map string_bytes (start.queue_is i).waiting;
       stopped = (start.queue_is i).stopped;
@@ -92,7 +93,7 @@ module _ {W A : Type 0} (kind_of : W → WriterKind) (history_of : W → PacketH
 
     after : After lines filled kind format queue policy before turns ended
     after =
-        run_after lines filled kind _ format _ queue _ policy _ before (state_of inner begun) ended turns kind_is
+        run_after lines filled kind _ format _ queue _ policy _ before (run_state inner begun) ended turns kind_is
         (ap (λ p. p.format) start.packer_is) (ap (λ q. q.capacity) start.queue_is) (ap (λ q. q.policy) start.queue_is) began short runs
 
     -- the headline
@@ -153,7 +154,7 @@ module _ {W A : Type 0} (kind_of : W → WriterKind) (history_of : W → PacketH
           run_sums (kind_of writer) (kind_of run.packer.writer.inner) before (history_of run.packer.writer.inner) run.packer.writer.stats
           (same_kind ∙ kind_is) reports (after.text reports).extends bytes packets;
       earlier = λ reports. (after.text reports).extends;
-      said = all_kept IsRepresentable (metric_of_data settings) turns each;
+      representable = all_kept IsRepresentable (metric_of_data settings) turns each;
       one_reading = λ whole newline plain. reading reads whole newline plain;
       strict_free = λ strict. free_kept law free strict;
       strict_reading = λ whole newline strict. reading reads whole newline (free_kept law free strict);

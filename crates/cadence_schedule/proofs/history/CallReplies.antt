@@ -3,7 +3,7 @@ use Rattle.std.proofs.Common.{◌≡◌, ℕ, List, Option, Some, None, Ok, Err,
 use Rattle.cadence_schedule.specs.declared.steps.Reply.{Reply}
 use Rattle.cadence_schedule.specs.declared.steps.Reply.TheVariants as reply
 use Rattle.cadence_errors.specs.declared.MetricError.{MetricError}
-use Rattle.cadence_schedule.specs.Moves.{LineFails}
+use Rattle.cadence_settings.specs.CallData.{LineFails}
 use Rattle.cadence_schedule.specs.Replies.{CallReplies}
 
 -- If a call was accepted, it has a line, the queue was neither stopped nor full, and the reply is the length of the

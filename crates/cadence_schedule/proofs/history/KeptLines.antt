@@ -6,7 +6,7 @@ use Rattle.std.specs.Option.{option_to_list}
 use Rattle.std.specs.List.{AllByRecursion}
 use Rattle.std.proofs.lemmas.List.{append-nil, length-append, length-map}
 use Rattle.cadence_errors.specs.declared.SinkError.{SinkError}
-use Rattle.cadence_schedule.specs.declared.call.Call.{Call}
+use Rattle.cadence_settings.specs.declared.call.Call.{Call}
 use Rattle.cadence_schedule.specs.declared.steps.Step.TheVariants as step
 use Rattle.cadence_schedule.specs.declared.steps.Reply.TheVariants as reply
 use Rattle.cadence_schedule.specs.RunHistory.{Turn, with_answers, without_dropped, taken_count, left_count, exits, exit_by, outcomes}
@@ -14,7 +14,7 @@ use Rattle.cadence_schedule.specs.RunHistory.{outcome_by, handed_count}
 use Rattle.cadence_schedule.specs.RunHistory.{accepted, accepted_by, undropped_lines, kept, kept_counts}
 use Rattle.cadence_schedule.proofs.history.OneTurnMore.{accepted-push, outcomes-push, with_answers-longer, with_answers-some}
 use Rattle.cadence_schedule.proofs.history.OneTurnMore.{with_answers-none, length-with_answers}
-use Rattle.cadence_value.proofs.SplitTexts.{each_append}
+use Rattle.cadence_value.proofs.lists.SplitTexts.{each_append}
 use Rattle.cadence_schedule.proofs.history.KeptMetrics.{each_undropped}
 use Rattle.cadence_schedule.proofs.history.UndroppedLines.{exits-push, out, length-out, undropped_lines_is, undropped_lines-push}
 

@@ -5,8 +5,8 @@ use Rattle.std.specs.List.{AllByRecursion}
 use Rattle.std.specs.Option.{option_map, option_to_list}
 use Rattle.std.proofs.lemmas.List.{map-append}
 use Rattle.std.proofs.lemmas.List.Elements.{All-append, All-nil, All-cons, All-from_recursion, recursion_from_All}
-use Rattle.cadence_flow.specs.QueueModel.{Exit, by_take, by_drop}
-use Rattle.cadence_schedule.specs.declared.call.Call.{Call}
+use Rattle.cadence_queue.specs.QueueModel.{Exit, by_take, by_drop}
+use Rattle.cadence_settings.specs.declared.call.Call.{Call}
 use Rattle.cadence_schedule.specs.declared.steps.Step.TheVariants as step
 use Rattle.cadence_schedule.specs.declared.steps.Reply.TheVariants as reply
 use Rattle.cadence_schedule.specs.RunHistory.{Turn, with_answers, without_dropped, outcomes, exits, accepted, accepted_by, undropped_lines, kept}

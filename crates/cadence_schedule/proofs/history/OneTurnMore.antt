@@ -7,9 +7,9 @@ use Rattle.std.proofs.lemmas.List.Concat.{flat_map-append}
 use Rattle.std.proofs.lemmas.List.Sums.{sum_by_push}
 use Rattle.std.proofs.lemmas.List.Folds.{list_any-append}
 use Rattle.cadence_flow.specs.Frame.{Format}
-use Rattle.cadence_flow.specs.declared.queue.policy.QueuePolicy.{QueuePolicy}
+use Rattle.cadence_queue.specs.declared.policy.QueuePolicy.{QueuePolicy}
 use Rattle.cadence_errors.specs.declared.SinkError.{SinkError}
-use Rattle.cadence_schedule.specs.declared.call.Call.{Call}
+use Rattle.cadence_settings.specs.declared.call.Call.{Call}
 use Rattle.cadence_schedule.specs.RunHistory.{Turn, with_answers, taken_count, takes_text, dropped_count, drops_text, outcomes, outcome_by, stops}
 use Rattle.cadence_schedule.specs.RunHistory.{is_stopped, error_count, is_error, accepted, accepted_by, kept, places_after, marks, mark_at}
 use Rattle.cadence_schedule.specs.RunHistory.{refusals, refusal_at}

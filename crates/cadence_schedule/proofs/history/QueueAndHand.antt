@@ -5,17 +5,17 @@ use Rattle.std.specs.Prelude.{slice_get, ◌==◌}
 use Rattle.std.specs.Option.{option_to_list}
 use Rattle.std.proofs.lemmas.List.{append-nil, length-append, drop-append-le, drop_at}
 use Rattle.std.proofs.lemmas.Bool.{cases_lt, cond-true, cond-false, eq-eqb, ne_eqb, leb-false}
-use Rattle.cadence_flow.specs.Queue.{at_capacity, drops_for_room}
-use Rattle.cadence_flow.specs.declared.queue.policy.QueuePolicy.{QueuePolicy}
-use Rattle.cadence_flow.specs.declared.queue.policy.QueuePolicy.TheVariants.{Refuse, DropOldest}
-use Rattle.cadence_flow.specs.QueueState.{IsWithin}
-use Rattle.cadence_schedule.specs.declared.call.Call.{Call}
+use Rattle.cadence_queue.specs.Queue.{at_capacity, drops_for_room}
+use Rattle.cadence_queue.specs.declared.policy.QueuePolicy.{QueuePolicy}
+use Rattle.cadence_queue.specs.declared.policy.QueuePolicy.TheVariants.{Refuse, DropOldest}
+use Rattle.cadence_queue.specs.QueueState.{IsWithin}
+use Rattle.cadence_settings.specs.declared.call.Call.{Call}
 use Rattle.cadence_schedule.specs.declared.steps.Step.TheVariants as step
 use Rattle.cadence_schedule.specs.declared.steps.Reply.TheVariants as reply
 use Rattle.cadence_schedule.specs.RunHistory.{Turn, taken_count, takes_text, dropped_count, drops_text, left_count, outcomes, outcome_by}
 use Rattle.cadence_schedule.specs.RunHistory.{handed_count, stops}
 use Rattle.cadence_schedule.specs.RunHistory.{is_stopped, accepted, accepted_by, undropped_lines, in_hand}
-use Rattle.cadence_schedule.specs.Moves.{State}
+use Rattle.cadence_schedule.specs.Moves.{RunState}
 use Rattle.cadence_flow.specs.Writer.{PacketHistory}
 use Rattle.cadence_schedule.proofs.history.OneTurnMore.{or_no, accepted-push, outcomes-push, taken_count-push, dropped_count-push, stopped-push}
 use Rattle.cadence_schedule.proofs.history.UndroppedLines.{out, length-out, undropped_lines_is, undropped_lines-push, undropped_lines-take}
@@ -76,12 +76,12 @@ within_less None line rest within = tt
 within_less (Some capacity) line rest within = omega arith
 
 -- the state before the first step, over a writer with this history
-abbrev pub at_start : PacketHistory → State
+abbrev pub at_start : PacketHistory → RunState
 at_start history =
     record { waiting = []; stopped = false; submitted = 0; drained = 0; dropped = 0; in_hand = None; cut = []; history = history; held = [] }
 
 -- The two states have the same queue.
-pub record SameQueue (old new : State) : Type 0 where
+pub record SameQueue (old new : RunState) : Type 0 where
   pub waiting : new.waiting ≡ old.waiting
   pub stopped : new.stopped ≡ old.stopped
   pub submitted : new.submitted ≡ old.submitted
@@ -89,7 +89,7 @@ pub record SameQueue (old new : State) : Type 0 where
   pub dropped : new.dropped ≡ old.dropped
 
 module _ {A : Type 0} (line_of : Call A → Option (List ℕ)) (queue : Option ℕ) where
-  pub record QueueAfter (h : List (Turn A)) (s : State) : Type 0 where
+  pub record QueueAfter (h : List (Turn A)) (s : RunState) : Type 0 where
     pub handed_le : handed_count h ≤ taken_count h
     pub ahead : taken_count h ≤ handed_count h + 1
     pub within : left_count h ≤ length (accepted line_of h)
@@ -167,7 +167,7 @@ module _ {A : Type 0} (line_of : Call A → Option (List ℕ)) (queue : Option �
       (cases_lt (handed_count h) (taken_count h))
 
   -- If the hand is empty, as many lines were handed on as were taken.
-  pub empty_hand : (h : List (Turn A)) (s : State) → QueueAfter h s → s.in_hand ≡ None → taken_count h ≡ handed_count h
+  pub empty_hand : (h : List (Turn A)) (s : RunState) → QueueAfter h s → s.in_hand ≡ None → taken_count h ≡ handed_count h
   empty_hand h s q e =
       ⊎_elim
       (λ (more : handed_count h < taken_count h). absurd (slice_get_some (undropped_lines line_of h) (handed_count h) (omega (arith, long h q.within))
@@ -177,7 +177,7 @@ module _ {A : Type 0} (line_of : Call A → Option (List ℕ)) (queue : Option �
       (cases_lt (handed_count h) (taken_count h))
 
   -- If a line is in hand, it is the next undropped line after those that were handed on.
-  pub full_hand : (h : List (Turn A)) (s : State) (line : List ℕ) → QueueAfter h s → s.in_hand ≡ Some line
+  pub full_hand : (h : List (Turn A)) (s : RunState) (line : List ℕ) → QueueAfter h s → s.in_hand ≡ Some line
       → (taken_count h ≡ handed_count h + 1) × (slice_get (undropped_lines line_of h) (handed_count h) ≡ Some line)
   full_hand h s line q e =
       ⊎_elim
@@ -191,7 +191,7 @@ module _ {A : Type 0} (line_of : Call A → Option (List ℕ)) (queue : Option �
       (cases_lt (handed_count h) (taken_count h))
 
   -- The queue and the hand stay right after a turn that accepts, takes, drops, hands on and stops nothing.
-  pub quiet : (h : List (Turn A)) (t : Turn A) (s s' : State) → SameQueue s s' → s'.in_hand ≡ s.in_hand → accepted_by line_of t ≡ []
+  pub quiet : (h : List (Turn A)) (t : Turn A) (s s' : RunState) → SameQueue s s' → s'.in_hand ≡ s.in_hand → accepted_by line_of t ≡ []
       → takes_text t ≡ false → drops_text t ≡ false → outcome_by t ≡ [] → stops t ≡ false → QueueAfter h s → QueueAfter (h ++ t ∷ []) s'
   quiet h t s s' same hand a k d b z q =
       let w : Grows h (h ++ t ∷ []) [] 0 0 0 false = grows h t [] [] false false false a b k d z in
@@ -211,7 +211,7 @@ module _ {A : Type 0} (line_of : Call A → Option (List ℕ)) (queue : Option �
       }
 
   -- The queue and the hand stay right after a call that is accepted by a queue that is not full.
-  pub queue_call : (h : List (Turn A)) (call : Call A) (n : ℕ) (line : List ℕ) (s : State) → line_of call ≡ Some line
+  pub queue_call : (h : List (Turn A)) (call : Call A) (n : ℕ) (line : List ℕ) (s : RunState) → line_of call ≡ Some line
       → at_capacity queue s.waiting ≡ false → QueueAfter h s
       → QueueAfter (h ++ (step.Call call, reply.Called (Ok n)) ∷ []) (record
       s { waiting = s.waiting ++ option_to_list (line_of call); submitted = (s.submitted + 1) % 2 ^ 64 })
@@ -236,7 +236,7 @@ module _ {A : Type 0} (line_of : Call A → Option (List ℕ)) (queue : Option �
       }
 
   -- The queue and the hand stay right after a call that is accepted by a full queue, which drops its oldest line.
-  pub queue_drop : (policy : QueuePolicy) (h : List (Turn A)) (call : Call A) (n m : ℕ) (line oldest : List ℕ) (s : State)
+  pub queue_drop : (policy : QueuePolicy) (h : List (Turn A)) (call : Call A) (n m : ℕ) (line oldest : List ℕ) (s : RunState)
       → line_of call ≡ Some line → drops_for_room policy s.waiting ≡ Some oldest → QueueAfter h s
       → QueueAfter (h ++ (step.Call call, reply.CallDropped n m) ∷ [])
       (record s {
@@ -283,7 +283,7 @@ module _ {A : Type 0} (line_of : Call A → Option (List ℕ)) (queue : Option �
       (drop_at (out line_of h) (line ∷ rest) (length (out line_of h)) refl)
 
   -- The queue and the hand stay right after a take that gets a line.
-  pub queue_take : (h : List (Turn A)) (n : ℕ) (line : List ℕ) (rest : List (List ℕ)) (s : State) → QueueAfter h s → s.in_hand ≡ None
+  pub queue_take : (h : List (Turn A)) (n : ℕ) (line : List ℕ) (rest : List (List ℕ)) (s : RunState) → QueueAfter h s → s.in_hand ≡ None
       → s.waiting ≡ line ∷ rest
       → QueueAfter (h ++ (step.Take, reply.Text n) ∷ []) (record s { waiting = rest; drained = (s.drained + 1) % 2 ^ 64; in_hand = Some line })
   queue_take h n line rest s q none front =
@@ -312,7 +312,7 @@ module _ {A : Type 0} (line_of : Call A → Option (List ℕ)) (queue : Option �
       }
 
   -- The queue and the hand stay right after a turn that hands on one line.
-  pub queue_hand : (h : List (Turn A)) (t : Turn A) (o : Option ℕ) (line : List ℕ) (s s' : State) → SameQueue s s' → s'.in_hand ≡ None
+  pub queue_hand : (h : List (Turn A)) (t : Turn A) (o : Option ℕ) (line : List ℕ) (s s' : RunState) → SameQueue s s' → s'.in_hand ≡ None
       → accepted_by line_of t ≡ [] → takes_text t ≡ false → drops_text t ≡ false → outcome_by t ≡ o ∷ [] → stops t ≡ false → QueueAfter h s
       → s.in_hand ≡ Some line → QueueAfter (h ++ t ∷ []) s'
   queue_hand h t o line s s' same none a k d b z q some =
@@ -334,7 +334,7 @@ module _ {A : Type 0} (line_of : Call A → Option (List ℕ)) (queue : Option �
       }
 
   -- The queue and the hand stay right after a stop.
-  pub queue_stop : (h : List (Turn A)) (s : State) → QueueAfter h s → QueueAfter (h ++ (step.Stop, reply.Stopped) ∷ []) (record s { stopped = true })
+  pub queue_stop : (h : List (Turn A)) (s : RunState) → QueueAfter h s → QueueAfter (h ++ (step.Stop, reply.Stopped) ∷ []) (record s { stopped = true })
   queue_stop h s q =
       let w : Grows h (h ++ (step.Stop, reply.Stopped) ∷ []) [] 0 0 0 true =
       grows h (step.Stop, reply.Stopped) [] [] false false true refl refl refl refl refl in

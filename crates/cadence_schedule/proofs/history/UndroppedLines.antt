@@ -3,8 +3,8 @@ use Rattle.std.proofs.Common.{◌≡◌, ℕ, ◌+◌, ◌≤◌, ◌∙◌, Lis
 use Rattle.std.proofs.lemmas.List.{append-nil, append_assoc, length-append}
 use Rattle.std.proofs.lemmas.List.Concat.{flat_map-append}
 use Rattle.std.proofs.lemmas.List.Sums.{sum_by-append, sum_by-cons}
-use Rattle.cadence_flow.specs.QueueModel.{Exit, by_take, by_drop, is_take}
-use Rattle.cadence_schedule.specs.declared.call.Call.{Call}
+use Rattle.cadence_queue.specs.QueueModel.{Exit, by_take, by_drop, is_take}
+use Rattle.cadence_settings.specs.declared.call.Call.{Call}
 use Rattle.cadence_schedule.specs.declared.steps.Step.TheVariants as step
 use Rattle.cadence_schedule.specs.declared.steps.Reply.TheVariants as reply
 use Rattle.cadence_schedule.specs.RunHistory.{Turn, without_dropped, taken_count, takes_text, drops_text, left_count, exits, exit_by}

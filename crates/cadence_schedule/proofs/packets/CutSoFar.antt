@@ -10,7 +10,7 @@ use Rattle.std.proofs.lemmas.List.Elements.{Contains-push_cases, Contains-append
 use Rattle.std.proofs.lemmas.Bool.{cases_lt, le-ltb, lt-ltb, cond-true, cond-false}
 use Rattle.cadence_schedule.specs.Plan.{FitsPacket, PassesWithNext}
 use Rattle.cadence_flow.specs.Frame.{Format, size_of, frame, stream, held_packet}
-use Rattle.cadence_value.proofs.SplitTexts.{each_append}
+use Rattle.cadence_value.proofs.lists.SplitTexts.{each_append}
 use Rattle.cadence_schedule.proofs.plans.PlanGroups.{sum-cons, not_at}
 use Rattle.cadence_schedule.proofs.packets.ListEnds.{ends, split_end, neighbours_end, joined}
 

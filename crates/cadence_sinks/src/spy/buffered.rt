@@ -2,17 +2,17 @@
 ghost use Rattle.std.specs.Prelude.{◌≡◌, [], IfOk, unwrap_or};
 ghost use Rattle.cadence_errors.specs.Errors.{MayOnlyRunOutOfMemory};
 ghost use Rattle.cadence_flow.specs.Writer.{history_of};
-ghost use Rattle.cadence_queuing.specs.Answers.{IsQueueAnswer, IsQueueFlush, queue_kind};
-ghost use Rattle.cadence_shared.specs.Answered.{IsAnswered, IsFlushAnswered, answered_by_holding_nothing};
+ghost use Rattle.cadence_queue.specs.Answers.{IsQueueAnswer, IsQueueFlush, queue_kind};
+ghost use Rattle.cadence_flow.specs.Answered.{IsAnswered, IsFlushAnswered, answered_by_holding_nothing};
 ghost use Rattle.cadence_sinks.specs.Buffers.{spy_buffer};
 ghost use Rattle.cadence_sinks.specs.Shows.{SpyShows, SpyShowsFlush};
 
 use super::channel::{Sender, SpyReceiver, new_channel};
 use cadence_errors::{MetricResult, SinkError};
 use cadence_flow::io::{DEFAULT_CAPACITY, PacketWriter, Refusals};
-use cadence_shared::{
-    AnsweringFlush, AnsweringSink, Flushed, MetricSink, Packed, RecordedPacker, Refused,
-    WholePacker, emit_by, flush_by,
+use cadence_flow::{
+    AnsweringFlush, AnsweringSink, Flushed, MetricSink, Packed, RecordedPacker, Refused, emit_by,
+    flush_by,
 };
 use std::alloc::{Allocator, Global};
 use std::sync::{Mutex, Wait};
@@ -37,6 +37,9 @@ impl<R: Wait + Drop, A: Allocator + Clone> PacketWriter for MessageWriter<R, A> 
     }
 }
 
+// The packer of a spy.
+type SpyLines<R, A> = RecordedPacker<MessageWriter<R, A>, A>;
+
 /// A sink for tests that buffers lines, each followed by a newline, and makes the held text a message of its receiver
 /// when the next line doesn't fit, at a flush, and when it is dropped.
 ///
@@ -54,7 +57,7 @@ impl<R: Wait + Drop, A: Allocator + Clone> PacketWriter for MessageWriter<R, A> 
 /// ```
 pub struct BufferedSpyMetricSink<R: Wait + Drop, A: Allocator + Clone = Global> {
     rt: R,
-    writer: Mutex<WholePacker<MessageWriter<R, A>, A>>,
+    writer: Mutex<SpyLines<R, A>>,
     capacity: usize,
 }
 
@@ -85,7 +88,7 @@ impl<R: Wait + Clone + Drop, A: Allocator + Clone> BufferedSpyMetricSink<R, A> {
             refusals: Refusals::none(),
         };
         let capacity = buffer.unwrap_or(DEFAULT_CAPACITY);
-        let lines = WholePacker::new(alloc, inner, capacity)?;
+        let lines = RecordedPacker::new(alloc, inner, capacity)?;
         let sink = BufferedSpyMetricSink {
             rt,
             writer: Mutex::new(lines),
@@ -95,15 +98,12 @@ impl<R: Wait + Clone + Drop, A: Allocator + Clone> BufferedSpyMetricSink<R, A> {
     }
 }
 
-// The packer of a spy.
-type SpyLines<R, A> = RecordedPacker<MessageWriter<R, A>, A>;
-
 impl<R: Wait + Drop, A: Allocator + Clone> AnsweringSink for BufferedSpyMetricSink<R, A> {
     type Took = Packed<SpyLines<R, A>>;
 
     type Refused = Refused<SpyLines<R, A>>;
 
-    ghost may_answer = { λ _ metric answer. IsQueueAnswer metric answer };
+    ghost may_answer = { λ _ line answer. IsQueueAnswer line answer };
 
     ghost shows = { λ _ line answer e. SpyShows line answer e };
 
@@ -127,16 +127,16 @@ impl<R: Wait + Drop, A: Allocator + Clone> AnsweringFlush for BufferedSpyMetricS
 }
 
 impl<R: Wait + Drop, A: Allocator + Clone> MetricSink for BufferedSpyMetricSink<R, A> {
-    ghost may_answer = { λ _ metric answer.
-        IsQueueAnswer metric answer × IsAnswered metric answer };
+    ghost may_answer = { λ _ line answer.
+        IsQueueAnswer line answer × IsAnswered line answer };
 
     ghost may_flush = { λ _ answer. IsQueueFlush answer × IsFlushAnswered answer };
 
     ghost flush_may_succeed = { λ _ held. (tt, answered_by_holding_nothing held) };
 
     #[inline(always)]
-    fn emit(&self, metric: &str) -> Result<usize, SinkError> {
-        emit_by(self, metric)
+    fn emit(&self, line: &str) -> Result<usize, SinkError> {
+        emit_by(self, line)
     }
 
     fn flush(&self) -> Result<(), SinkError> {

@@ -1,13 +1,12 @@
 //! The queue between a spy and its receiver, and its two ends.
 ghost use Rattle.std.specs.Prelude.{◌≡◌, IfOk, vec_items};
 ghost use Rattle.cadence_errors.specs.Errors.{MayOnlyRunOutOfMemory};
-ghost use Rattle.cadence_queuing.specs.Answers.{IsCopyQueued, IsQueueAnswer};
-ghost use Rattle.cadence_shared.specs.Opened.{opened};
-ghost use Rattle.cadence_shared.specs.Shown.{queued_bytes, text_of};
+ghost use Rattle.cadence_queue.specs.Answers.{IsCopyQueued, IsQueueAnswer};
+ghost use Rattle.cadence_flow.specs.Opened.{opened};
+ghost use Rattle.cadence_queue.specs.Shown.{queued_bytes, text_of};
 
 use cadence_errors::{MetricResult, SinkError};
-use cadence_flow::queue::Taken;
-use cadence_shared::{Accepted, Queued, Refusal, SharedQueue};
+use cadence_queue::{Accepted, Queued, Refusal, SharedQueue, Taken};
 use std::alloc::{Allocator, Global};
 use std::sync::{Arc, Wait};
 

@@ -1,12 +1,13 @@
 //! A sink for tests that makes each line a message of its receiver.
 ghost use Rattle.std.specs.Prelude.{vec_items};
 ghost use Rattle.cadence_errors.specs.Errors.{MayOnlyRunOutOfMemory};
-ghost use Rattle.cadence_queuing.specs.Answers.{IsCopyQueued, IsQueueAnswer};
-ghost use Rattle.cadence_shared.specs.Answered.{IsAnswered};
+ghost use Rattle.cadence_queue.specs.Answers.{IsCopyQueued, IsQueueAnswer};
+ghost use Rattle.cadence_flow.specs.Answered.{IsAnswered};
 
 use super::channel::{Sender, SpyReceiver, new_channel};
 use cadence_errors::{MetricResult, SinkError};
-use cadence_shared::{AnsweringSink, MetricSink, Queued, Refusal, emit_by};
+use cadence_flow::{AnsweringSink, MetricSink, emit_by};
+use cadence_queue::{Queued, Refusal};
 use std::alloc::{Allocator, Global};
 use std::sync::Wait;
 
@@ -49,7 +50,7 @@ impl<R: Wait + Drop, A: Allocator + Clone> AnsweringSink for SpyMetricSink<R, A>
 
     type Refused = Refusal<Vec<u8, A>, A>;
 
-    ghost may_answer = { λ _ metric answer. IsQueueAnswer metric answer };
+    ghost may_answer = { λ _ line answer. IsQueueAnswer line answer };
 
     ghost shows = { λ _ line answer _. IsCopyQueued vec_items line answer };
 
@@ -59,13 +60,13 @@ impl<R: Wait + Drop, A: Allocator + Clone> AnsweringSink for SpyMetricSink<R, A>
 }
 
 impl<R: Wait + Drop, A: Allocator + Clone> MetricSink for SpyMetricSink<R, A> {
-    ghost may_answer = { λ _ metric answer.
-        IsQueueAnswer metric answer × IsAnswered metric answer };
+    ghost may_answer = { λ _ line answer.
+        IsQueueAnswer line answer × IsAnswered line answer };
 
     ghost flush_may_succeed = { λ _ _. tt };
 
     #[inline(always)]
-    fn emit(&self, metric: &str) -> Result<usize, SinkError> {
-        emit_by(self, metric)
+    fn emit(&self, line: &str) -> Result<usize, SinkError> {
+        emit_by(self, line)
     }
 }

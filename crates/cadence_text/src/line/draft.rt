@@ -2,6 +2,9 @@
 //!
 //! Every line that the library makes is made by a draft: the line of a plain call, of a builder, of a call in a
 //! schedule, of a C call and of the words of a command line.
+//!
+//! A clause `representable` is a fact about the arguments, for proofs: they are texts in UTF-8 and
+//! numbers in range.
 ghost use Rattle.std.specs.Prelude.{◌≡◌, ◌+◌, ◌++◌, ◌<◌, ◌≤◌, [], IfOk, OnErr, OnOk, length};
 ghost use Rattle.std.specs.Prelude.{◌^◌, IfSome, IsUtf8, string_bytes};
 ghost use Rattle.std.specs.Option.{option_copied};
@@ -22,7 +25,7 @@ use crate::line::options::{Rate, insert_rate, last_room};
 use crate::line::pieces::{push_last, push_lead, push_tag};
 use crate::line::tag::Tag;
 use cadence_value::decimal::Decimal;
-use cadence_value::text::{LineSink, push_value};
+use cadence_value::text::{PieceWriter, push_value};
 use cadence_value::value::MetricValue;
 use std::alloc::{AllocError, Allocator, Global};
 use std::marker::Model;
@@ -43,7 +46,7 @@ pub struct Head<'a, A: Allocator = Global> {
 // Without this hint a call of `bench count` takes 72 instructions more.
 #[inline(always)]
 #[tactic(auto, using(std::proofs::lemmas::Grind::common_steps))]
-pub(crate) fn push_head<S: LineSink, A: Allocator>(line: &mut S, head: &Head<'_, A>)
+pub(crate) fn push_head<S: PieceWriter, A: Allocator>(line: &mut S, head: &Head<'_, A>)
     ensures taken { Takes S.ends_as line.old (text_of_head head.now) line.new }
     ensures prefix { IsTextInMemory head.now.prefix.now }
     ensures key { IsTextInMemory head.now.key.now }
@@ -87,7 +90,7 @@ fn add_to<A: Allocator>(line: &mut LineBuf<A>, begun: bool, tag: &Tag<'_>) -> Re
     ensures ok { OnOk result (line.new.bytes.items ≡
         line.old.bytes.items ++ (lead begun ++ tag_text (tag_of tag.now))) }
     ensures utf8 { OnOk result (IsUtf8 (lead begun ++ tag_text (tag_of tag.now))) }
-    ensures said { OnOk result (IsRepresentableTag (tag_of tag.now)) }
+    ensures representable { OnOk result (IsRepresentableTag (tag_of tag.now)) }
     ensures err { OnErr result (line.new.bytes.items ≡ line.old.bytes.items) }
 {
     let Some(room) = tag_room(tag) else {
@@ -181,7 +184,7 @@ fn written<'a, A: Allocator, B: Allocator>(
     requires first { first ≡ length (text_of_head head.now) }
     requires room { first + length tags.now ≤ line.end }
     ensures draft { result ≡ draft_of_head head.now tags.now (option_copied container.entry) }
-    ensures said { IsRepresentableHead head.now }
+    ensures representable { IsRepresentableHead head.now }
 {
     let mut line = line;
     push_head(&mut line, head);
@@ -231,7 +234,7 @@ impl<'a, A: Allocator> DraftLine<'a, A> {
     ) -> Result<DraftLine<'a, A>, AllocError>
         ensures draft { IfOk result (λ draft.
             draft ≡ draft_of_head head.now tags.now (option_copied container.entry)) }
-        ensures said { OnOk result (IsRepresentableHead head.now) }
+        ensures representable { OnOk result (IsRepresentableHead head.now) }
     {
         let (first, room) = room_for(head, tags, more)?;
         let line = LineBuf::with_room(alloc, room)?;
@@ -249,7 +252,7 @@ impl<'a, A: Allocator> DraftLine<'a, A> {
     ) -> Result<DraftLine<'a, A>, AllocError>
         ensures draft { IfOk result (λ draft.
             draft ≡ draft_of_head head.now tags.now (option_copied container.entry)) }
-        ensures said { OnOk result (IsRepresentableHead head.now) }
+        ensures representable { OnOk result (IsRepresentableHead head.now) }
     {
         let (first, room) = room_for(head, tags, more)?;
         let line = LineBuf::in_buffer(buffer, room)?;
@@ -260,12 +263,12 @@ impl<'a, A: Allocator> DraftLine<'a, A> {
     /// which says that memory ran out, the draft is unchanged.
     // Without this hint a call of `bench count_tags` takes 281 instructions more.
     #[inline(always)]
-    #[tactic(auto, using(crate::proofs::DraftText::tag_of_metric))]
+    #[tactic(auto, using(crate::proofs::writing::DraftText::tag_of_metric))]
     pub fn add_tag(&mut self, tag: Tag<'_>) -> Result<(), AllocError>
         ensures ok { OnOk result (self.new ≡ with_tag_text self.old (tag_of tag.entry)) }
         ensures metric { OnOk result ((m : Metric) → self.old ≡ draft_of m →
             self.new ≡ draft_of (with_tag m (tag_of tag.entry))) }
-        ensures said { OnOk result (IsRepresentableTag (tag_of tag.entry)) }
+        ensures representable { OnOk result (IsRepresentableTag (tag_of tag.entry)) }
         ensures err { OnErr result (self.new ≡ self.old) }
     {
         let begun = self.line.len() > self.head;
@@ -275,7 +278,7 @@ impl<'a, A: Allocator> DraftLine<'a, A> {
     /// Sets the sampling rate, in place of an earlier one. The rate isn't checked to be between 0 and 1.
     pub fn set_rate(&mut self, rate: Decimal)
         ensures rate { self.new ≡ record self.old { rate = Some rate } }
-        ensures said { IsDecimal rate }
+        ensures representable { IsDecimal rate }
     {
         self.rate = Some(Rate::of(rate));
     }
@@ -283,7 +286,7 @@ impl<'a, A: Allocator> DraftLine<'a, A> {
     /// Sets the id of the container (DogStatsD), in place of an earlier one.
     pub fn set_container(&mut self, container: &'a str)
         ensures container { self.new ≡ record self.old { container = Some container.now } }
-        ensures said { IsUtf8 container.now }
+        ensures representable { IsUtf8 container.now }
     {
         self.container = Some(container);
     }
@@ -291,7 +294,7 @@ impl<'a, A: Allocator> DraftLine<'a, A> {
     /// Sets the timestamp (DogStatsD, in seconds since 1970), in place of an earlier one.
     pub fn set_time(&mut self, time: u64)
         ensures time { self.new ≡ record self.old { time = Some time } }
-        ensures said { time < 2 ^ 64 }
+        ensures representable { time < 2 ^ 64 }
     {
         self.time = Some(time);
     }
@@ -300,7 +303,7 @@ impl<'a, A: Allocator> DraftLine<'a, A> {
     /// time. The only error is that memory ran out; the draft is dropped then.
     // Without this hint a call of `bench count` takes 77 instructions more.
     #[inline(always)]
-    #[tactic(auto, using(crate::proofs::DraftText::line_of_metric))]
+    #[tactic(auto, using(crate::proofs::writing::DraftText::line_of_metric))]
     pub fn into_text(self) -> Result<String<A>, AllocError>
         ensures text { IfOk result (λ text. string_bytes text ≡ draft_line self.entry) }
         ensures metric { IfOk result (λ text. (m : Metric) → self.entry ≡ draft_of m →
@@ -313,7 +316,7 @@ impl<'a, A: Allocator> DraftLine<'a, A> {
     /// one of `into_text`.
     // Without this hint a counter of `bindings/c/speed.c` takes 31 instructions more.
     #[inline(always)]
-    #[tactic(auto, using(crate::proofs::DraftText::line_of_metric))]
+    #[tactic(auto, using(crate::proofs::writing::DraftText::line_of_metric))]
     pub fn into_bytes(self) -> Result<Vec<u8, A>, AllocError>
         ensures text { IfOk result (λ line. line.items ≡ draft_line self.entry) }
         ensures metric { IfOk result (λ line. (m : Metric) → self.entry ≡ draft_of m →

@@ -1,17 +1,17 @@
-//! The two sinks for the pieces of a line: a counter of bytes, which measures a line, and a buffer of the measured
+//! The two writers for the pieces of a line: a counter of bytes, which measures a line, and a buffer of the measured
 //! length, into which the line is written.
 //!
-//! A `LineSink` can't refuse a piece. So a piece that is too long for the buffer empties the buffer, and the functions
-//! that reserve its room prove that this never happens.
+//! A `PieceWriter` can't refuse a piece. So a piece that is too long for the buffer empties the buffer, and the
+//! functions that reserve its room prove that this never happens.
 ghost use Rattle.std.specs.Prelude.{◌≡◌, ◌≤◌, ◌+◌, ◌++◌, ◌%◌, ◌^◌, [], IfOk, IsUtf8, OnOk, drop, length, string_bytes, take};
 ghost use Rattle.std.specs.Vec.{vec_capacity};
 
 use cadence_value::text::{
-    ByteSink, LineSink, number_len, push_digits, push_wide_digits, wide_len,
+    DigitWriter, PieceWriter, number_len, push_digits, push_wide_digits, wide_len,
 };
 use std::alloc::{AllocError, Allocator};
 
-/// A `LineSink` that only counts the bytes, modulo 2 to the 128.
+/// A `PieceWriter` that only counts the bytes, modulo 2 to the 128.
 #[derive(Clone, Copy)]
 pub(crate) struct LengthCounter {
     length: u128,
@@ -37,8 +37,8 @@ impl LengthCounter {
     }
 }
 
-impl LineSink for LengthCounter {
-    ghost use Rattle.cadence_text.specs.Sink.{counter_ends};
+impl PieceWriter for LengthCounter {
+    ghost use Rattle.cadence_text.specs.PieceWriters.{counter_ends};
 
     ghost ends_as = { counter_ends };
 
@@ -71,8 +71,8 @@ fn turn_left(text: &mut [u8], count: usize)
     text.reverse();
 }
 
-/// A `LineSink` that writes the bytes into a buffer of a fixed length. `end` is the length that was reserved. Contracts
-/// promise that a text that fits into this length is written. They promise nothing of a longer text.
+/// A `PieceWriter` that writes the bytes into a buffer of a fixed length. `end` is the length that was reserved.
+/// Contracts promise that a text that fits into this length is written. They promise nothing of a longer text.
 #[derive(Drop)]
 pub(crate) struct LineBuf<A: Allocator> {
     bytes: Vec<u8, A>,
@@ -82,7 +82,7 @@ pub(crate) struct LineBuf<A: Allocator> {
 }
 
 impl<A: Allocator> LineBuf<A> {
-    ghost use Rattle.cadence_text.specs.Sink.{rotated_text};
+    ghost use Rattle.cadence_text.specs.PieceWriters.{rotated_text};
 
     /// Returns an empty buffer of `length` bytes. It takes memory once, and only that much.
     pub(crate) fn with_room(alloc: A, length: usize) -> Result<LineBuf<A>, AllocError>
@@ -183,8 +183,8 @@ impl<A: Allocator> LineBuf<A> {
     }
 }
 
-impl<A: Allocator> ByteSink for LineBuf<A> {
-    ghost use Rattle.cadence_text.specs.Sink.{line_buf_ends};
+impl<A: Allocator> DigitWriter for LineBuf<A> {
+    ghost use Rattle.cadence_text.specs.PieceWriters.{line_buf_ends};
 
     ghost ends_as = { line_buf_ends };
 
@@ -196,8 +196,8 @@ impl<A: Allocator> ByteSink for LineBuf<A> {
     }
 }
 
-impl<A: Allocator> LineSink for LineBuf<A> {
-    ghost use Rattle.cadence_text.specs.Sink.{line_buf_ends};
+impl<A: Allocator> PieceWriter for LineBuf<A> {
+    ghost use Rattle.cadence_text.specs.PieceWriters.{line_buf_ends};
 
     ghost ends_as = { line_buf_ends };
 

@@ -10,7 +10,7 @@ ghost use Rattle.cadence_value.specs.Takes.{Takes};
 use crate::line::line_buf::{LengthCounter, LineBuf};
 use crate::line::pieces::push_rate_of;
 use cadence_value::decimal::Decimal;
-use cadence_value::text::{LineSink, number_len};
+use cadence_value::text::{PieceWriter, number_len};
 use std::alloc::{AllocError, Allocator};
 use std::marker::Model;
 
@@ -67,7 +67,7 @@ impl Rate {
 }
 
 // Writes the field of a stored rate, or nothing if there is none.
-fn push_kept_rate<S: LineSink>(line: &mut S, rate: &Option<Rate>)
+fn push_kept_rate<S: PieceWriter>(line: &mut S, rate: &Option<Rate>)
     ensures taken { Takes S.ends_as line.old (rate_field rate.now) line.new }
     ensures sized { IfSome rate.now IsDecimal }
 {

@@ -10,13 +10,13 @@ ghost use Rattle.cadence_text.specs.MetricInMemory.{AreTagsInMemory, IsTagInMemo
 
 use crate::line::tag::Tag;
 use cadence_value::decimal::Decimal;
-use cadence_value::text::{LineSink, push_number};
+use cadence_value::text::{PieceWriter, push_number};
 use core::mem;
 
 // Writes what comes before a tag: a comma after another tag, and `|#` before the first one.
 // Without this hint a counter with tags of `bindings/c/speed.c` takes 13 instructions more.
 #[inline(always)]
-pub(crate) fn push_lead<S: LineSink>(line: &mut S, begun: bool)
+pub(crate) fn push_lead<S: PieceWriter>(line: &mut S, begun: bool)
     ensures { Takes S.ends_as line.old (lead begun) line.new }
 {
     if begun {
@@ -29,7 +29,7 @@ pub(crate) fn push_lead<S: LineSink>(line: &mut S, begun: bool)
 
 // Without this hint a call of `bench count_tags` takes 153 instructions more.
 #[inline(always)]
-pub(crate) fn push_tag<S: LineSink>(line: &mut S, tag: &Tag<'_>)
+pub(crate) fn push_tag<S: PieceWriter>(line: &mut S, tag: &Tag<'_>)
     ensures taken { Takes S.ends_as line.old (tag_text (tag_of tag.now)) line.new }
     ensures sized { IsTagInMemory (tag_of tag.now) }
 {
@@ -42,7 +42,7 @@ pub(crate) fn push_tag<S: LineSink>(line: &mut S, tag: &Tag<'_>)
 
 // Returns the line with tags at its end. `mem::replace_with` moves the line into a local variable and back, so that the
 // compiler keeps the line's length in a register. It takes a function that returns a pair, hence the unit.
-fn line_with_tags<S: LineSink>(line: S, tags: &[Tag<'_>]) -> (S, ())
+fn line_with_tags<S: PieceWriter>(line: S, tags: &[Tag<'_>]) -> (S, ())
     ensures taken { Takes S.ends_as line (tags_field (map tag_of tags.now)) result.0 }
     ensures sized { AreTagsInMemory (map tag_of tags.now) }
     ensures few { length (map tag_of tags.now) < 2 ^ 58 }
@@ -60,7 +60,7 @@ fn line_with_tags<S: LineSink>(line: S, tags: &[Tag<'_>]) -> (S, ())
     (line, ())
 }
 
-pub(crate) fn push_tags<S: LineSink>(line: &mut S, tags: &[Tag<'_>])
+pub(crate) fn push_tags<S: PieceWriter>(line: &mut S, tags: &[Tag<'_>])
     ensures taken { Takes S.ends_as line.old (tags_field (map tag_of tags.now)) line.new }
     ensures sized { AreTagsInMemory (map tag_of tags.now) }
     ensures few { length (map tag_of tags.now) < 2 ^ 58 }
@@ -71,7 +71,7 @@ pub(crate) fn push_tags<S: LineSink>(line: &mut S, tags: &[Tag<'_>])
 }
 
 // Writes the fields of a container and a time, which end a line.
-pub(crate) fn push_last<S: LineSink>(line: &mut S, container: Option<&str>, time: Option<u64>)
+pub(crate) fn push_last<S: PieceWriter>(line: &mut S, container: Option<&str>, time: Option<u64>)
     ensures taken { Takes S.ends_as line.old
         (container_field (option_copied container.entry) ++ time_field time) line.new }
     ensures container { IfSome (option_copied container.entry) IsTextInMemory }
@@ -90,7 +90,7 @@ pub(crate) fn push_last<S: LineSink>(line: &mut S, container: Option<&str>, time
     }
 }
 
-pub(crate) fn push_rate<S: LineSink>(line: &mut S, rate: Option<Decimal>)
+pub(crate) fn push_rate<S: PieceWriter>(line: &mut S, rate: Option<Decimal>)
     ensures taken { Takes S.ends_as line.old (rate_field rate) line.new }
     ensures sized { IfSome rate IsDecimal }
 {
@@ -100,7 +100,7 @@ pub(crate) fn push_rate<S: LineSink>(line: &mut S, rate: Option<Decimal>)
 }
 
 // Writes the field of the rate `mantissa` over 10 to the power of `places`.
-pub(crate) fn push_rate_of<S: LineSink>(line: &mut S, mantissa: i128, places: u8)
+pub(crate) fn push_rate_of<S: PieceWriter>(line: &mut S, mantissa: i128, places: u8)
     requires { places ≤ 30 }
     ensures { Takes S.ends_as line.old (rate_field (Some (number mantissa places))) line.new }
 {

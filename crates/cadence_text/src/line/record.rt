@@ -10,7 +10,7 @@ use crate::line::pieces::{push_last, push_rate, push_tags};
 use crate::line::tag::Tag;
 use cadence_errors::MetricResult;
 use cadence_value::decimal::Decimal;
-use cadence_value::text::LineSink;
+use cadence_value::text::PieceWriter;
 use cadence_value::value::MetricValue;
 pub use owned::OwnedMetric;
 use std::alloc::{AllocError, Allocator, Global};
@@ -133,7 +133,7 @@ impl<'a, A: Allocator> Record<'a, A> {
     }
 
     #[tactic(auto, using(std::proofs::lemmas::Grind::common_steps), unfolding(crate::specs::Line::line_of))]
-    fn push_line<S: LineSink>(&self, line: &mut S)
+    fn push_line<S: PieceWriter>(&self, line: &mut S)
         ensures taken { Takes S.ends_as line.old (line_of self.now) line.new }
         ensures sized { IsMetricInMemory self.now }
     {
@@ -176,11 +176,11 @@ impl<'a, A: Allocator> Record<'a, A> {
     /// text, rate, tags, container, time. It takes memory once, as many bytes as the line has (`line_len`).
     ///
     /// The only error is `SinkError::OutOfMemory`: memory ran out, or the length passes `usize::MAX`.
-    #[tactic(auto, using(crate::proofs::LineText::line_is_not_empty, crate::proofs::LineLength::record_said))]
+    #[tactic(auto, using(crate::proofs::grammar::LineText::line_is_not_empty, crate::proofs::writing::LineLength::record_said))]
     pub fn format<B: Allocator>(&self, alloc: B) -> MetricResult<String<B>>
         ensures line { IfOk result (λ line. string_bytes line ≡ line_of self.now) }
         ensures refused { MayOnlyRunOutOfMemory result }
-        ensures said { OnOk result (IsRepresentable self.now) }
+        ensures representable { OnOk result (IsRepresentable self.now) }
         ensures not_empty { 0 < length (line_of self.now) }
     {
         let mut line = self.reserved(alloc)?;

@@ -1,7 +1,7 @@
 //! A window on a part of a line. The line is written to it without being stored as a whole, so it takes no memory.
 ghost use Rattle.std.specs.Prelude.{◌≡◌, ◌≤◌, []};
 
-use cadence_value::text::{ByteSink, LineSink, push_digits, push_wide_digits};
+use cadence_value::text::{DigitWriter, PieceWriter, push_digits, push_wide_digits};
 
 /// The most bytes that a window stores.
 pub(crate) const WINDOW: usize = 512;
@@ -19,7 +19,7 @@ pub(crate) struct Window {
 
 impl Window {
     ghost use Rattle.cadence_value.specs.Takes.{Takes};
-    ghost use Rattle.cadence_text.specs.Sink.{window_ends, window_text};
+    ghost use Rattle.cadence_text.specs.PieceWriters.{window_ends, window_text};
 
     // Returns an empty window that skips this many bytes.
     pub(crate) fn after(skip: u128) -> Window
@@ -67,8 +67,8 @@ impl Window {
     }
 }
 
-impl ByteSink for Window {
-    ghost use Rattle.cadence_text.specs.Sink.{window_ends};
+impl DigitWriter for Window {
+    ghost use Rattle.cadence_text.specs.PieceWriters.{window_ends};
 
     ghost ends_as = { window_ends };
 
@@ -77,8 +77,8 @@ impl ByteSink for Window {
     }
 }
 
-impl LineSink for Window {
-    ghost use Rattle.cadence_text.specs.Sink.{window_ends};
+impl PieceWriter for Window {
+    ghost use Rattle.cadence_text.specs.PieceWriters.{window_ends};
 
     ghost ends_as = { window_ends };
 

@@ -1,18 +1,16 @@
-//! Reads decimals from texts. `read_number` reads only the text that a decimal prints, and `FromStr` also reads zeros
-//! at the end of the places.
-ghost use Rattle.std.specs.Prelude.{Bool, true, false, if◌then◌else◌, codes, [], slice_index, ℕ, ◌≡◌, ◌≢◌, ◌∷◌, ◌++◌, ◌-◌, ◌<◌, ◌≤◌, ◌^◌, ◌↔◌, All, IsTrue, SomeIff, length, replicate, unsigned_abs, FitsSigned};
+//! Reads decimals from texts. `read_number` reads only the text that a decimal prints. `FromStr` also reads zeros at
+//! the end of the places: it cuts them off. Both then read the digits in one way, by `number_of`.
+ghost use Rattle.std.specs.Prelude.{Bool, true, false, if◌then◌else◌, codes, [], slice_index, ◌≡◌, ◌≢◌, ◌++◌, ◌<◌, ◌≤◌, ◌^◌, ◌↔◌, Err, IfNone, IfSome, IsTrue, SomeIff, length, FitsSigned};
 ghost use mir.Syntax.{w128};
-ghost use Rattle.std.specs.Int.{is_negative};
 ghost use Rattle.std.specs.Str.Parse.{AllDigits, IsNumeral, digits_value};
 ghost use Rattle.cadence_errors.specs.Errors.{IsInvalid};
-ghost use Rattle.cadence_value.specs.Digits.{ArePlain, EndsPlain, ReadsDigits, joined_digits};
-ghost use Rattle.cadence_value.specs.Magnitude.{IsMagnitude, magnitude_text};
-ghost use Rattle.cadence_value.specs.Number.{decimal_text, is_lowest, number, number_text, IsDecimal};
+ghost use Rattle.cadence_value.specs.Digits.{ArePlain, EndsPlain, HasParts, HaveSize, ReadsDigits, joined_digits, signed_integer};
+ghost use Rattle.cadence_value.specs.Number.{Number, decimal_text, number_text, IsDecimal};
 ghost use Rattle.cadence_value.specs.Finds.{Reads};
 ghost use Rattle.cadence_value.specs.DenotedNumber.{ReadsDecimal};
 
 use super::{Decimal, MAX_PLACES, power_of_ten};
-use crate::bytes::cut;
+use crate::bytes::{split_once, trim_end_zeros};
 use cadence_errors::{ErrorKind, MetricError};
 use std::error::Error;
 use std::fmt;
@@ -59,7 +57,7 @@ impl From<ParseDecimalError> for MetricError {
 
 // Returns the number that digits denote, also with zeros in front. `None` if the text is not digits or the number does
 // not fit 128 bits.
-#[tactic(auto, using(crate::proofs::DigitsRead::numeral_utf8))]
+#[tactic(auto, using(crate::proofs::reading::DigitsRead::numeral_utf8))]
 fn read_long(text: &[u8]) -> Option<u128>
     ensures { SomeIff result (IsNumeral 10 text.now × (digits_value 10 text.now < 2 ^ 128))
         (digits_value 10 text.now) }
@@ -115,51 +113,19 @@ pub fn read_whole(text: &[u8]) -> Option<u128>
     read_digits(text)
 }
 
-// Returns the magnitude and the places of the number that prints as these two texts with a dot between them.
-fn read_dotted(whole: &[u8], fraction: &[u8]) -> Option<(u128, u8)>
-    requires { All (λ byte. byte ≢ 46) whole.now }
-    ensures { Reads IsMagnitude (λ m. magnitude_text m.0 m.1)
-        (whole.now ++ 46 ∷ fraction.now) result }
+/// Returns the signed number of this magnitude, if it fits 128 bits.
+pub fn signed_number(is_below: bool, size: u128) -> Option<i128>
+    ensures { SomeIff result (FitsSigned w128 (signed_integer is_below size))
+        (signed_integer is_below size) }
 {
-    if fraction.is_empty() || fraction.len() > usize::from(MAX_PLACES) {
-        return None;
+    if is_below {
+        return 0i128.checked_sub_unsigned(size);
     }
-    let places = fraction.len() as u8;
-    let whole = read_whole(whole)?;
-    let fraction = read_digits(fraction)?;
-    let size = whole
-        .checked_mul(power_of_ten(places))?
-        .checked_add(fraction)?;
-    Some((size, places))
-}
-
-// Returns the magnitude and the places of the number that prints as this text without a sign.
-fn read_magnitude(text: &[u8]) -> Option<(u128, u8)>
-    ensures { Reads IsMagnitude (λ m. magnitude_text m.0 m.1) text.now result }
-{
-    let Some((whole, fraction)) = cut(text, b'.') else {
-        let size = read_whole(text)?;
-        return Some((size, 0));
-    };
-    read_dotted(whole, fraction)
-}
-
-// Returns the signed number of this magnitude. `None` for a negative zero, or if the number does not fit 128 bits.
-fn signed_number(is_below: bool, size: u128) -> Option<i128>
-    ensures { Reads {Y = Bool × ℕ} (FitsSigned w128) (λ z. (is_negative z, unsigned_abs z))
-        (is_below, size) result }
-{
-    if !is_below {
-        return i128::try_from(size).ok();
-    }
-    if size == 0 {
-        return None;
-    }
-    0i128.checked_sub_unsigned(size)
+    i128::try_from(size).ok()
 }
 
 // Returns whether the text begins with a minus, and the text without that minus.
-fn cut_sign(text: &[u8]) -> (bool, &[u8])
+fn split_sign(text: &[u8]) -> (bool, &[u8])
     ensures whole { text.now ≡ (if result.0 then codes "-" else []) ++ result.1.now }
     ensures first { result.0 ≡ false → slice_index text.now 0 ≢ 45 }
 {
@@ -169,31 +135,20 @@ fn cut_sign(text: &[u8]) -> (bool, &[u8])
     }
 }
 
-// Returns the decimal with this mantissa and these places, or `None` if they are not in lowest form.
-fn decimal_in_lowest_form(mantissa: i128, places: u8) -> Option<Decimal>
-    requires { places ≤ 30 }
-    ensures { SomeIff result (is_lowest mantissa places ≡ true) (number mantissa places) }
+// Splits a text at its sign and at its dot. Returns whether it begins with a minus, and the texts on each side of the
+// dot. Returns `None` if there is a dot and nothing comes after it.
+fn split(text: &[u8]) -> Option<(bool, &[u8], &[u8])>
+    ensures none { IfNone result ((n : Number) → number_text n ≢ text.now) }
+    ensures parts { IfSome result (λ p. HasParts text.now p.0 p.1.now p.2.now) }
 {
-    if places == 0 {
-        return Some(Decimal { mantissa, places });
-    }
-    if mantissa % 10 == 0 {
+    let (is_below, unsigned) = split_sign(text);
+    let Some((whole, fraction)) = split_once(unsigned, b'.') else {
+        return Some((is_below, unsigned, &[]));
+    };
+    if fraction.is_empty() {
         return None;
     }
-    Some(Decimal { mantissa, places })
-}
-
-/// Returns the decimal that prints as exactly this text. Takes no memory.
-///
-/// Returns `None` if no decimal prints so. Each decimal has one text, so a text with needless zeros, a plus, a minus
-/// before zero, or without digits on one side of the dot is not read. `FromStr` reads needless zeros at the end too.
-pub fn read_number(text: &[u8]) -> Option<Decimal>
-    ensures { Reads IsDecimal number_text text.now result }
-{
-    let (is_below, unsigned) = cut_sign(text);
-    let (size, places) = read_magnitude(unsigned)?;
-    let mantissa = signed_number(is_below, size)?;
-    decimal_in_lowest_form(mantissa, places)
+    Some((is_below, whole, fraction))
 }
 
 // Returns whether each byte is a digit.
@@ -218,14 +173,16 @@ fn are_plain(whole: &[u8], fraction: &[u8]) -> bool
     are_digits(whole) && are_digits(fraction)
 }
 
-// Returns the digits on both sides of the dot as one whole number: 1250 for 12.50. `None` if it does not fit 128 bits.
-fn whole_of(whole: &[u8], fraction: &[u8]) -> Option<u128>
-    requires plain { ArePlain whole.now fraction.now }
-    requires places { length fraction.now ≤ 30 }
-    ensures { SomeIff result (joined_digits whole.now fraction.now < 2 ^ 128)
+// Returns the digits on both sides of the dot as one whole number: 1250 for 12.50. `None` if they begin with a needless
+// zero, if they aren't digits, if too many come after the dot, or if the number does not fit 128 bits.
+fn size_of(whole: &[u8], fraction: &[u8]) -> Option<u128>
+    ensures { SomeIff result (HaveSize whole.now fraction.now)
         (joined_digits whole.now fraction.now) }
 {
-    let size = read_digits(whole)?;
+    if fraction.len() > usize::from(MAX_PLACES) {
+        return None;
+    }
+    let size = read_whole(whole)?;
     if fraction.is_empty() {
         return Some(size);
     }
@@ -234,17 +191,20 @@ fn whole_of(whole: &[u8], fraction: &[u8]) -> Option<u128>
         .checked_add(rest)
 }
 
-// Returns the digits without the zeros at their end.
-fn trim_end_zeros(digits: &[u8]) -> &[u8]
-    ensures zeros { digits.now ≡ result.now
-        ++ replicate (length digits.now - length result.now) 48 }
-    ensures plain { EndsPlain result.now }
+// Returns why digits have no size.
+#[cold]
+fn why_none(whole: &[u8], fraction: &[u8]) -> ParseDecimalError
+    requires plain { EndsPlain fraction.now }
+    requires none { HaveSize whole.now fraction.now → ⊥ }
+    ensures { (below : Bool) → ReadsDigits below whole.now fraction.now (Err result) }
 {
-    let mut count = digits.len();
-    while count > 0 && digits[count - 1] == b'0' {
-        count -= 1;
+    if !are_plain(whole, fraction) {
+        return ParseDecimalError::NotANumber;
     }
-    &digits[..count]
+    if fraction.len() > usize::from(MAX_PLACES) {
+        return ParseDecimalError::TooManyPlaces;
+    }
+    ParseDecimalError::TooLarge
 }
 
 // Returns the decimal with this sign and these digits on each side of the dot. The last digit after the dot is not 0.
@@ -252,37 +212,48 @@ fn number_of(is_below: bool, whole: &[u8], fraction: &[u8]) -> Result<Decimal, P
     requires { EndsPlain fraction.now }
     ensures { ReadsDigits is_below whole.now fraction.now result }
 {
-    if !are_plain(whole, fraction) {
-        return Err(ParseDecimalError::NotANumber);
-    }
-    if fraction.len() > usize::from(MAX_PLACES) {
-        return Err(ParseDecimalError::TooManyPlaces);
-    }
-    let places = fraction.len() as u8;
-    let Some(size) = whole_of(whole, fraction) else {
-        return Err(ParseDecimalError::TooLarge);
+    let Some(size) = size_of(whole, fraction) else {
+        return Err(why_none(whole, fraction));
     };
     if is_below && size == 0 {
         return Err(ParseDecimalError::NotANumber);
     }
+    let places = fraction.len() as u8;
     match signed_number(is_below, size) {
         Some(mantissa) => Ok(Decimal { mantissa, places }),
         None => Err(ParseDecimalError::TooLarge),
     }
 }
 
+// Returns whether the last digit, if there is one, is not 0.
+fn ends_plain(digits: &[u8]) -> bool
+    ensures { IsTrue result ↔ EndsPlain digits.now }
+{
+    digits.last() != Some(&b'0')
+}
+
+/// Returns the decimal that prints as exactly this text. Takes no memory.
+///
+/// Returns `None` if no decimal prints so. Each decimal has one text, so a text with needless zeros, a plus, a minus
+/// before zero, or without digits on one side of the dot is not read. `FromStr` reads needless zeros at the end too.
+pub fn read_number(text: &[u8]) -> Option<Decimal>
+    ensures { Reads IsDecimal number_text text.now result }
+{
+    let (is_below, whole, fraction) = split(text)?;
+    if !ends_plain(fraction) {
+        return None;
+    }
+    number_of(is_below, whole, fraction).ok()
+}
+
 // Returns the decimal that a text denotes, also if there are zeros at the end of its places.
 fn read(text: &[u8]) -> Result<Decimal, ParseDecimalError>
     ensures { ReadsDecimal text.now result }
 {
-    let (is_below, unsigned) = cut_sign(text);
-    let Some((whole, digits)) = cut(unsigned, b'.') else {
-        return number_of(is_below, unsigned, &[]);
-    };
-    if digits.is_empty() {
+    let Some((is_below, whole, fraction)) = split(text) else {
         return Err(ParseDecimalError::NotANumber);
-    }
-    number_of(is_below, whole, trim_end_zeros(digits))
+    };
+    number_of(is_below, whole, trim_end_zeros(fraction))
 }
 
 /// Reads the number exactly. Zeros at the end of the places are accepted: `"1.50"` is read as 1.5. Takes no memory.

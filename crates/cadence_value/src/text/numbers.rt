@@ -1,18 +1,19 @@
 //! Writes the digits of whole numbers, two at a time, and the texts of decimals and of values, whose numbers have colons
 //! between them. Counts how many digits a number has.
 ghost use Rattle.std.specs.Prelude.{◌≡◌, ◌+◌, ◌++◌, ◌∷◌, ◌/◌, ◌%◌, ◌^◌, ◌<◌, ◌≤◌, ◌-◌, [], codes, length, map, replicate};
-ghost use Rattle.cadence_value.specs.Number.{IsDecimal, Number, decimal_text, number, number_text, numbers_text, places_text};
+ghost use Rattle.cadence_value.specs.Number.{IsDecimal, decimal_text, number, number_text, numbers_text, places_text};
 ghost use Rattle.cadence_value.specs.Takes.{AreNumbersInMemory, Takes};
 ghost use Rattle.cadence_value.specs.Values.{numbers_of};
 
 use crate::decimal;
 use crate::decimal::Decimal;
-use crate::text::sink::{ByteSink, LineSink};
+use crate::number::IsNumber;
+use crate::text::writer::{DigitWriter, PieceWriter};
 use crate::value::MetricValue;
 use std::alloc::Allocator;
 
 // Writes one digit.
-fn push_digit<S: ByteSink>(line: &mut S, digit: u64)
+fn push_digit<S: DigitWriter>(line: &mut S, digit: u64)
     requires { digit < 10 }
     ensures { Takes S.ends_as line.old ((48 + digit) ∷ []) line.new }
 {
@@ -20,7 +21,7 @@ fn push_digit<S: ByteSink>(line: &mut S, digit: u64)
 }
 
 // Writes two digits, also if the first one is 0.
-fn push_pair<S: ByteSink>(line: &mut S, pair: u64)
+fn push_pair<S: DigitWriter>(line: &mut S, pair: u64)
     requires { pair < 100 }
     ensures { Takes S.ends_as line.old ((48 + pair / 10) ∷ (48 + pair % 10) ∷ []) line.new }
 {
@@ -29,7 +30,7 @@ fn push_pair<S: ByteSink>(line: &mut S, pair: u64)
 }
 
 // Writes the one or two digits of a number below 100.
-fn push_first<S: ByteSink>(line: &mut S, number: u64)
+fn push_first<S: DigitWriter>(line: &mut S, number: u64)
     requires { number < 100 }
     ensures { Takes S.ends_as line.old (decimal_text number) line.new }
 {
@@ -40,7 +41,7 @@ fn push_first<S: ByteSink>(line: &mut S, number: u64)
 }
 
 // Writes the one to four digits of a number below 10,000.
-fn push_short<S: ByteSink>(line: &mut S, number: u64)
+fn push_short<S: DigitWriter>(line: &mut S, number: u64)
     requires { number < 10000 }
     ensures { Takes S.ends_as line.old (decimal_text number) line.new }
 {
@@ -52,7 +53,7 @@ fn push_short<S: ByteSink>(line: &mut S, number: u64)
 }
 
 // Writes the digits of any number.
-fn push_long<S: ByteSink>(line: &mut S, number: u64)
+fn push_long<S: DigitWriter>(line: &mut S, number: u64)
     ensures { Takes S.ends_as line.old (decimal_text number) line.new }
 {
     if number < 10_000 {
@@ -64,7 +65,7 @@ fn push_long<S: ByteSink>(line: &mut S, number: u64)
 }
 
 /// Writes the digits of a number, without leading zeros.
-pub fn push_digits<S: ByteSink>(line: &mut S, number: u64)
+pub fn push_digits<S: DigitWriter>(line: &mut S, number: u64)
     ensures { Takes S.ends_as line.old (decimal_text number) line.new }
 {
     if number < 10_000 {
@@ -74,7 +75,7 @@ pub fn push_digits<S: ByteSink>(line: &mut S, number: u64)
 }
 
 /// Writes the digits of a number of 128 bits, without leading zeros.
-pub fn push_wide_digits<S: ByteSink>(line: &mut S, number: u128)
+pub fn push_wide_digits<S: DigitWriter>(line: &mut S, number: u128)
     ensures { Takes S.ends_as line.old (decimal_text number) line.new }
 {
     if let Ok(small) = u64::try_from(number) {
@@ -124,22 +125,16 @@ pub fn wide_len(number: u128) -> usize
     count + number_len(left as u64)
 }
 
-// A number that can be written into a line. The ghost member says which number a value is.
-trait PushNumber {
-    ghost number: { Self → Number };
-
-    fn push_to<S: LineSink>(&self, line: &mut S)
-        ensures taken { Takes S.ends_as line.old (number_text (number self.now)) line.new }
-        ensures sized { IsDecimal (number self.now) };
+// A number that can be written into a line.
+pub(super) trait PushNumber: IsNumber {
+    fn push_to<S: PieceWriter>(&self, line: &mut S)
+        ensures taken { Takes S.ends_as line.old (number_text (Self.number self.now)) line.new }
+        ensures sized { IsDecimal (Self.number self.now) };
 }
 
 impl PushNumber for i64 {
-    ghost use Rattle.cadence_value.specs.Number.{whole};
-
-    ghost number = { whole };
-
-    #[tactic(auto, using(crate::proofs::WholeNumberText::whole_text))]
-    fn push_to<S: LineSink>(&self, line: &mut S) {
+    #[tactic(auto, using(crate::proofs::digits::WholeNumberText::whole_text))]
+    fn push_to<S: PieceWriter>(&self, line: &mut S) {
         if *self < 0 {
             line.take_byte(b'-');
         }
@@ -148,26 +143,20 @@ impl PushNumber for i64 {
 }
 
 impl PushNumber for u64 {
-    ghost use Rattle.cadence_value.specs.Number.{natural};
-
-    ghost number = { natural };
-
-    #[tactic(auto, using(crate::proofs::WholeNumberText::whole_text))]
-    fn push_to<S: LineSink>(&self, line: &mut S) {
+    #[tactic(auto, using(crate::proofs::digits::WholeNumberText::whole_text))]
+    fn push_to<S: PieceWriter>(&self, line: &mut S) {
         line.take_number(*self);
     }
 }
 
 impl PushNumber for Decimal {
-    ghost number = { λ n. n };
-
-    fn push_to<S: LineSink>(&self, line: &mut S) {
+    fn push_to<S: PieceWriter>(&self, line: &mut S) {
         push_number(line, self.mantissa(), self.places());
     }
 }
 
 /// Writes the number `mantissa` divided by 10 to the power of `places`, with exactly `places` digits after the dot.
-pub fn push_number<S: LineSink>(line: &mut S, mantissa: i128, places: u8)
+pub fn push_number<S: PieceWriter>(line: &mut S, mantissa: i128, places: u8)
     requires { places ≤ 30 }
     ensures { Takes S.ends_as line.old (number_text (number mantissa places)) line.new }
 {
@@ -186,7 +175,7 @@ fn power_of_ten(places: u8) -> u64
 }
 
 // Writes `magnitude` divided by 10 to the power of `places`. Most magnitudes fit 64 bits, in which dividing is faster.
-fn push_magnitude<S: LineSink>(line: &mut S, magnitude: u128, places: u8)
+fn push_magnitude<S: PieceWriter>(line: &mut S, magnitude: u128, places: u8)
     requires { places ≤ 30 }
     ensures { Takes S.ends_as line.old
         (decimal_text (magnitude / 10 ^ places) ++ places_text magnitude places) line.new }
@@ -206,7 +195,7 @@ fn push_magnitude<S: LineSink>(line: &mut S, magnitude: u128, places: u8)
 }
 
 // Writes `magnitude` divided by 10 to the power of `places`, for a magnitude of 64 bits.
-fn push_small<S: LineSink>(line: &mut S, magnitude: u64, places: u8)
+fn push_small<S: PieceWriter>(line: &mut S, magnitude: u64, places: u8)
     requires { places ≤ 19 }
     ensures { Takes S.ends_as line.old
         (decimal_text (magnitude / 10 ^ places) ++ places_text magnitude places) line.new }
@@ -221,7 +210,7 @@ fn push_small<S: LineSink>(line: &mut S, magnitude: u64, places: u8)
 }
 
 // Writes a dot, and then the zeros that fill a fraction of `digits` digits up to `places` digits.
-fn push_dot<S: LineSink>(line: &mut S, places: u8, digits: usize)
+fn push_dot<S: PieceWriter>(line: &mut S, places: u8, digits: usize)
     ensures { Takes S.ends_as line.old (codes "." ++ replicate (places - digits) 48) line.new }
 {
     line.take_byte(b'.');
@@ -231,7 +220,7 @@ fn push_dot<S: LineSink>(line: &mut S, places: u8, digits: usize)
 }
 
 // Writes the numbers of a list, with a colon between each two.
-fn push_list<S: LineSink, T: PushNumber>(line: &mut S, numbers: &[T])
+fn push_list<S: PieceWriter, T: PushNumber>(line: &mut S, numbers: &[T])
     ensures taken { Takes S.ends_as line.old (numbers_text (map T.number numbers.now)) line.new }
     ensures sized { AreNumbersInMemory (map T.number numbers.now) }
 {
@@ -248,7 +237,7 @@ fn push_list<S: LineSink, T: PushNumber>(line: &mut S, numbers: &[T])
 /// Writes the numbers of a value, with a colon between each two. An empty list writes nothing.
 // Without this hint a call of `bench count` takes 34 instructions more.
 #[inline(always)]
-pub fn push_value<S: LineSink, A: Allocator>(line: &mut S, value: &MetricValue<A>)
+pub fn push_value<S: PieceWriter, A: Allocator>(line: &mut S, value: &MetricValue<A>)
     ensures taken { Takes S.ends_as line.old (numbers_text (numbers_of value.now)) line.new }
     ensures sized { AreNumbersInMemory (numbers_of value.now) }
 {

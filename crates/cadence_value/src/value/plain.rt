@@ -4,6 +4,7 @@ ghost use Rattle.cadence_value.specs.Number.{Number, natural, whole};
 ghost use Rattle.cadence_value.specs.Values.{Converts, ConvertsInPlace, numbers_of};
 
 use crate::decimal::Decimal;
+use crate::number::IsNumber;
 use crate::value::MetricValue;
 use cadence_errors::MetricResult;
 use std::alloc::Allocator;
@@ -27,13 +28,10 @@ pub trait ToCounterValue<A: Allocator> {
 /// A whole number type that a counter accepts: `i64`, `i32`, `u64` and `u32`.
 ///
 /// It does not name an allocator, so that the literal in `client.count("key", 3)` has Rust's default type, `i32`.
-pub trait WholeNumber {
-    // The number that a value is.
-    ghost number: { Self → Number };
-
+pub trait WholeNumber: IsNumber {
     /// Returns the value that has this one number.
     fn to_value<A: Allocator>(self) -> MetricValue<A>
-        ensures { numbers_of result ≡ number self ∷ [] };
+        ensures { numbers_of result ≡ Self.number self ∷ [] };
 }
 
 /// Converts `i64`, `i32`, `u64` and `u32`. It always succeeds.
@@ -48,32 +46,24 @@ impl<A: Allocator, T: WholeNumber> ToCounterValue<A> for T {
 }
 
 impl WholeNumber for i64 {
-    ghost number = { whole };
-
     fn to_value<A: Allocator>(self) -> MetricValue<A> {
         MetricValue::Signed(self)
     }
 }
 
 impl WholeNumber for i32 {
-    ghost number = { whole };
-
     fn to_value<A: Allocator>(self) -> MetricValue<A> {
         MetricValue::Signed(i64::from(self))
     }
 }
 
 impl WholeNumber for u64 {
-    ghost number = { natural };
-
     fn to_value<A: Allocator>(self) -> MetricValue<A> {
         MetricValue::Unsigned(self)
     }
 }
 
 impl WholeNumber for u32 {
-    ghost number = { natural };
-
     fn to_value<A: Allocator>(self) -> MetricValue<A> {
         MetricValue::Unsigned(u64::from(self))
     }

@@ -1,23 +1,20 @@
-//! Clients to an agent that flush by time. Each test moves the clock itself; a worker with a period of five milliseconds
+//! Queues to an agent that flush by time. Each test moves the clock itself; a worker with a period of five milliseconds
 //! looks at it after as many milliseconds of real time.
 use super::moved_clock::{MovedClock, Runtime, Variables};
 use super::unix::sending::path_of;
 use super::unix::server::{Server, bind_server, unlink};
 use cadence::prelude::*;
 use cadence::{ErrorKind, MetricResult, MetricSink, QueuingMetricSinkBuilder};
-use cadence_agent::{
-    Environment, environment_client, environment_sink, flushing_client_of,
-    flushing_environment_client, flushing_unix_client, flushing_unix_sink_with,
-};
+use cadence_agent::{Environment, EnvironmentExt, buffered_unix_sink, environment_sink, sink_to};
 use std::alloc::Global;
 use std::fs::Files;
 use std::test::Fail;
 use std::time::Duration;
 
-// The period of each client, in milliseconds.
+// The period of each queue, in milliseconds.
 const PERIOD: u64 = 5;
 
-// Asserts that a line which the client has got is sent as soon as the moved clock shows the period, and not before.
+// Asserts that a line which the queue has got is sent as soon as the moved clock shows the period, and not before.
 fn assert_sends_by_time<R: Runtime>(
     clock: &MovedClock<R>,
     server: &Server,
@@ -32,30 +29,19 @@ fn assert_sends_by_time<R: Runtime>(
     server.assert_comes(clock.runtime(), datagram)
 }
 
-fn assert_client_sends<R: Runtime + Files>(rt: &R, alloc: Global, path: &str) -> Result<(), Fail> {
-    let server = bind_server(rt, path)?;
-    let clock = MovedClock::new(rt, alloc, Vec::new(alloc))?;
-    let period = Duration::from_millis(PERIOD);
-    let client = flushing_unix_client(&clock, alloc, "p", path, 64, Some(9), period)?;
-    client.incr("a")?;
-    client.incr("b")?;
-    assert_sends_by_time(&clock, &server, "p.a:1|c\np.b:1|c\n")?;
-    unlink(rt, path)
-}
-
-#[test]
-fn a_unix_client_sends_after_its_period(rt: HostRuntime) -> Result<(), Fail> {
-    assert_client_sends(&rt, rt.alloc(), &path_of(&rt, "period")?)
+// Makes the builder of a queue of nine lines with this period.
+fn queue_with_period() -> QueuingMetricSinkBuilder {
+    QueuingMetricSinkBuilder::new()
+        .with_capacity(9)
+        .with_flush_period(Duration::from_millis(PERIOD))
 }
 
 // The buffer has room for two of the lines. The third one sends them, and is sent itself by time.
 fn assert_sink_sends<R: Runtime + Files>(rt: &R, alloc: Global, path: &str) -> Result<(), Fail> {
     let server = bind_server(rt, path)?;
     let clock = MovedClock::new(rt, alloc, Vec::new(alloc))?;
-    let queue = QueuingMetricSinkBuilder::new()
-        .with_capacity(9)
-        .with_flush_period(Duration::from_millis(PERIOD));
-    let sink = flushing_unix_sink_with(&clock, alloc, path, 16, queue)?;
+    let inner = buffered_unix_sink(&clock, alloc, path, 16)?;
+    let sink = queue_with_period().build(clock.clone()?, alloc, inner)?;
     for line in ["p.a:1|c", "p.b:1|c", "p.c:1|c"] {
         if sink.emit(line)? != 7 {
             return Err(Fail::new("another count of bytes"));
@@ -83,6 +69,7 @@ fn variables_of(alloc: Global, path: &str) -> Result<Variables, Fail> {
     Ok(variables)
 }
 
+// A line that comes after the flush is sent when the queue stops, before the next period is over.
 fn assert_environment_sends<R: Runtime + Files>(
     rt: &R,
     alloc: Global,
@@ -90,25 +77,10 @@ fn assert_environment_sends<R: Runtime + Files>(
 ) -> Result<(), Fail> {
     let server = bind_server(rt, path)?;
     let clock = MovedClock::new(rt, alloc, variables_of(alloc, path)?)?;
-    let period = Duration::from_millis(PERIOD);
-    let client = flushing_environment_client(&clock, alloc, "p", Some(9), period)?;
-    client.incr("a")?;
-    assert_sends_by_time(&clock, &server, "p.a:1|c|#env:prod\n")?;
-    unlink(rt, path)
-}
-
-#[test]
-fn a_client_of_the_environment_sends_after_its_period(rt: HostRuntime) -> Result<(), Fail> {
-    assert_environment_sends(&rt, rt.alloc(), &path_of(&rt, "environment-period")?)
-}
-
-// A line that comes after the flush is sent when the client stops, before the next period is over.
-fn assert_stop_sends<R: Runtime + Files>(rt: &R, alloc: Global, path: &str) -> Result<(), Fail> {
-    let server = bind_server(rt, path)?;
-    let clock = MovedClock::new(rt, alloc, variables_of(alloc, path)?)?;
     let environment = Environment::read(&(&clock, alloc))?;
-    let period = Duration::from_millis(PERIOD);
-    let client = flushing_client_of(&clock, alloc, "p", &environment, None, period)?;
+    let inner = sink_to(&clock, alloc, environment.destination())?;
+    let sink = queue_with_period().build(clock.clone()?, alloc, inner)?;
+    let client = environment.builder(alloc, "p", sink).build()?;
     client.incr("a")?;
     assert_sends_by_time(&clock, &server, "p.a:1|c|#env:prod\n")?;
     client.incr("b")?;
@@ -118,8 +90,8 @@ fn assert_stop_sends<R: Runtime + Files>(rt: &R, alloc: Global, path: &str) -> R
 }
 
 #[test]
-fn a_client_of_given_variables_sends_after_its_period(rt: HostRuntime) -> Result<(), Fail> {
-    assert_stop_sends(&rt, rt.alloc(), &path_of(&rt, "given-period")?)
+fn a_client_of_the_environment_sends_after_its_period(rt: HostRuntime) -> Result<(), Fail> {
+    assert_environment_sends(&rt, rt.alloc(), &path_of(&rt, "environment-period")?)
 }
 
 // Asserts that nothing was made, because this variable is malformed.
@@ -144,10 +116,6 @@ fn assert_all_name<R: Runtime>(rt: &R, alloc: Global, name: &str) -> Result<(), 
         ))?;
         let clock = MovedClock::new(rt, alloc, variables)?;
         assert_names(alloc, environment_sink(&clock, alloc), name)?;
-        assert_names(alloc, environment_client(&clock, alloc, "p"), name)?;
-        let period = Duration::from_millis(PERIOD);
-        let made = flushing_environment_client(&clock, alloc, "p", Some(9), period);
-        assert_names(alloc, made, name)?;
     }
     Ok(())
 }

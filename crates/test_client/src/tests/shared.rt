@@ -4,7 +4,7 @@ use cadence::sinks::{
     BufferedSpyMetricSink, BufferedUdpMetricSink, BufferedUnixMetricSink, FlushingMetricSink,
     NopMetricSink, QueuingMetricSink, SpyMetricSink, SpyReceiver, UdpMetricSink, UnixMetricSink,
 };
-use cadence_agent::{EnvironmentSink, QueuedEnvironmentSink, ReportingMetricSink, UnixSocket};
+use cadence_agent::{EnvironmentSink, ReportingMetricSink, UnixSocket};
 
 // Compiles only for a type whose values may be sent to a thread and shared with one.
 fn require_shareable<T: Send + Sync>() {}
@@ -21,7 +21,7 @@ fn require_shareable_sinks<R: Runtime>(_rt: &R) {
     require_shareable::<QueuingMetricSink<NopMetricSink, R>>();
     require_shareable::<FlushingMetricSink<NopMetricSink, R>>();
     require_shareable::<EnvironmentSink<R>>();
-    require_shareable::<QueuedEnvironmentSink<R>>();
+    require_shareable::<QueuingMetricSink<EnvironmentSink<R>, R>>();
     require_shareable::<ReportingMetricSink<NopMetricSink, R>>();
 }
 

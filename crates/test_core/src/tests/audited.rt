@@ -3,7 +3,7 @@
 //! calls.
 use super::audited_callers::runs_callers_in_threads;
 use cadence_audit::{AuditError, AuditedQueue, EndFault, Event, History, Seat, SubmitReply};
-use cadence_flow::queue::Taken;
+use cadence_queue::Taken;
 use std::alloc::{AllocError, Global};
 use std::sync::Wait;
 use std::sync::atomic::{AtomicU64, Ordering};

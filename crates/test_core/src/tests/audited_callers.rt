@@ -1,7 +1,7 @@
 //! Callers of an audited queue, each in a thread. How many texts a queue with a bound accepts depends on the threads'
 //! turns, so the counts are compared with each other.
 use cadence_audit::{AuditedQueue, Seat, SubmitReply};
-use cadence_flow::queue::Taken;
+use cadence_queue::Taken;
 use std::alloc::Global;
 use std::sync::Wait;
 use std::test::Fail;

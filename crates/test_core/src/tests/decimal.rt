@@ -5,7 +5,7 @@ ghost use Rattle.cadence_value.specs.Number.{IsLowestForm};
 
 use super::error::has_kind_and_text;
 use cadence_errors::{ErrorKind, MetricError, MetricResult};
-use cadence_value::decimal::{Decimal, ParseDecimalError};
+use cadence_value::decimal::{Decimal, ParseDecimalError, read_number};
 use std::alloc::Global;
 use std::hash::{DefaultHasher, Hash, Hasher};
 use std::test::Fail;
@@ -97,6 +97,20 @@ fn is_read(alloc: Global, text: &str, own: &str) -> bool {
 fn a_text_is_read_as_its_number(rt: HostRuntime) {
     for (text, own) in NUMBERS {
         assert!(rt; is_read(rt.alloc(), text, own), "{text}");
+    }
+}
+
+#[test]
+fn only_a_printed_text_is_read_back(rt: HostRuntime) {
+    for (text, own) in NUMBERS {
+        let read = read_number(text.as_bytes());
+        assert!(rt;
+            read.is_some() == (text == own) && read_number(own.as_bytes()).is_some(),
+            "{text}"
+        );
+    }
+    for (text, _error) in REFUSED {
+        assert!(rt; read_number(text.as_bytes()).is_none(), "{text}");
     }
 }
 

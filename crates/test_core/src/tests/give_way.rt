@@ -1,7 +1,7 @@
 //! How long a worker waits for the lock of a full queue beside a caller that never stops asking, counted in calls of
 //! this caller.
 
-use cadence_shared::SharedQueue;
+use cadence_queue::SharedQueue;
 use std::alloc::{AllocError, Global};
 use std::sync::Wait;
 use std::sync::atomic::{AtomicBool, AtomicU64, Ordering};

@@ -114,7 +114,7 @@ struct LentWriter<'a> {
 }
 
 impl<'a> PacketWriter for LentWriter<'a> {
-    ghost use Rattle.cadence_flow.specs.Tests.{no_history, silent_kind};
+    ghost use Rattle.test_core.specs.SilentWriter.{no_history, silent_kind};
 
     ghost history = { λ _. no_history };
 

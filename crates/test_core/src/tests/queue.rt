@@ -2,8 +2,7 @@
 //! that wait for each other show that a waiting thread is woken, which no contract says. No result depends on when it
 //! is woken.
 use cadence_errors::{MetricResult, SinkError};
-use cadence_flow::queue::{QueueCore, QueueError, QueuePolicy, Taken};
-use cadence_shared::{SharedQueue, WorkerEnd};
+use cadence_queue::{Latch, QueueCore, QueueError, QueuePolicy, SharedQueue, Taken};
 use std::alloc::{AllocError, Allocator, Global};
 use std::sync::Wait;
 use std::sync::atomic::{AtomicBool, Ordering};
@@ -332,7 +331,7 @@ fn taker_outlives_the_handles(rt: HostRuntime) -> Result<(), Fail> {
 
 #[test]
 fn end_mark_is_waited_for(rt: HostRuntime) -> Result<(), Fail> {
-    let (end, is_marked) = (WorkerEnd::new(), AtomicBool::new(false));
+    let (end, is_marked) = (Latch::new(), AtomicBool::new(false));
     let (was_marked, _) = thread::join(
         &rt,
         || {
@@ -352,7 +351,7 @@ fn end_mark_is_waited_for(rt: HostRuntime) -> Result<(), Fail> {
 
 #[test]
 fn an_end_mark_is_waited_for_within_a_time(rt: HostRuntime) -> Result<(), Fail> {
-    let (end, time) = (WorkerEnd::new(), Duration::from_millis(2));
+    let (end, time) = (Latch::new(), Duration::from_millis(2));
     assert!(rt; !end.wait_within(&rt, time));
     let (is_marked, _) = thread::join(
         &rt,

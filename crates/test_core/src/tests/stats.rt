@@ -1,7 +1,7 @@
 //! Counts of a sink that clones share.
 use cadence_errors::SinkError;
+use cadence_flow::SocketStats;
 use cadence_flow::stats::{SinkStats, Unread};
-use cadence_shared::SocketStats;
 use std::test::Fail;
 use std::thread;
 use test_tools::RefusingAllocator;

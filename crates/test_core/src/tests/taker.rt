@@ -1,8 +1,7 @@
 //! A taker of a shared queue: which texts it takes, how many at once, and what it leaves. It takes at most as many
 //! texts at once as fit a 32nd of the queue's capacity, at least 1 and at most 32; the counts below follow from that.
 use cadence_errors::SinkError;
-use cadence_flow::queue::{QueueError, QueuePolicy};
-use cadence_shared::{SharedQueue, Taker, TakerRoom};
+use cadence_queue::{QueueError, QueuePolicy, SharedQueue, Taker, TakerRoom};
 use std::process::Abort;
 use std::sync::Wait;
 use std::sync::atomic::{AtomicBool, AtomicU64, Ordering};

@@ -1,6 +1,6 @@
 //! The memory of lines that a taker gives back, which later lines use.
 use cadence_errors::MetricResult;
-use cadence_shared::{SharedQueue, Taker};
+use cadence_queue::{SharedQueue, Taker};
 use std::alloc::Global;
 use std::sync::Wait;
 use std::test::Fail;

@@ -1,5 +1,5 @@
 //! Numbers as tools print them, and the texts that are none.
-use cadence_number::read_printed;
+use cadence_words::read_printed;
 use std::alloc::Global;
 use std::test::Fail;
 

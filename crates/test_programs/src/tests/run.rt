@@ -1,7 +1,8 @@
 //! A line that is read, and runs whose packets are read back.
 use cadence_flow::io::PacketLog;
 use cadence_listen::{ReadFault, read_line, read_run, run_and_read};
-use cadence_schedule::{Call, CallValue, ClientSettings, Step};
+use cadence_schedule::Step;
+use cadence_settings::{Call, CallValue, ClientSettings};
 use cadence_text::line::{MetricType, OwnedMetric};
 use std::alloc::{Allocator, Global};
 use std::test::Fail;

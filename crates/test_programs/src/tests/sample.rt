@@ -1,6 +1,6 @@
 //! A random sample of lines: how many of many lines pass, and that the others become blank.
-use cadence_number::{SampledReader, Sampler};
 use cadence_send::{Options, Setting};
+use cadence_words::{SampledReader, Sampler};
 use rand::rngs::SmallRng;
 use rand_core::SeedableRng;
 use std::alloc::Global;

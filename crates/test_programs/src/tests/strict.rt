@@ -2,7 +2,8 @@
 use cadence_errors::{ErrorKind, MetricError, MetricResult};
 use cadence_flow::io::PacketLog;
 use cadence_listen::run_and_read;
-use cadence_schedule::{Call, CallOption, CallValue, ClientSettings, Reply, Step};
+use cadence_schedule::{Reply, Step};
+use cadence_settings::{Call, CallOption, CallValue, ClientSettings};
 use cadence_text::line::{MetricType, OwnedMetric};
 use cadence_value::value::MetricValue;
 use std::alloc::Global;

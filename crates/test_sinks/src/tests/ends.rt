@@ -3,10 +3,9 @@
 use super::moved_clock::make_noting_sink;
 use super::steps::{Runtime, assert_accepts, assert_messages};
 use cadence_errors::SinkError;
-use cadence_sinks::{
-    BufferedSpyMetricSink, FlushingMetricSink, MetricSink, QueuingMetricSink,
-    QueuingMetricSinkBuilder,
-};
+use cadence_flow::MetricSink;
+use cadence_queuing::{FlushingMetricSink, QueuingMetricSink, QueuingMetricSinkBuilder};
+use cadence_sinks::BufferedSpyMetricSink;
 use std::alloc::Global;
 use std::sync::Arc;
 use std::sync::atomic::{AtomicBool, AtomicU64, Ordering};
@@ -84,9 +83,9 @@ impl MetricSink for TryingSink {
 
     ghost may_flush = { λ _ _. Unit {0} };
 
-    fn emit(&self, metric: &str) -> Result<usize, SinkError> {
+    fn emit(&self, line: &str) -> Result<usize, SinkError> {
         self.tries.lines.fetch_add(1, Ordering::SeqCst);
-        Ok(metric.len())
+        Ok(line.len())
     }
 
     fn flush(&self) -> Result<(), SinkError> {

@@ -6,10 +6,9 @@ use super::steps::{
     assert_next_message, assert_refuses_flush,
 };
 use cadence_errors::{MetricError, MetricResult, SinkError};
-use cadence_sinks::{
-    BufferedSpyMetricSink, FlushingMetricSink, MetricSink, NopMetricSink, QueuingMetricSink,
-    QueuingMetricSinkBuilder,
-};
+use cadence_flow::{MetricSink, NopMetricSink};
+use cadence_queuing::{FlushingMetricSink, QueuingMetricSink, QueuingMetricSinkBuilder};
+use cadence_sinks::BufferedSpyMetricSink;
 use std::alloc::Global;
 use std::sync::Arc;
 use std::sync::atomic::Ordering;

@@ -2,8 +2,10 @@
 //! in the queue.
 use super::steps::{Runtime, assert_accepts, assert_messages, make_spy};
 use cadence_errors::SinkError;
+use cadence_flow::MetricSink;
 use cadence_flow::stats::SinkStats;
-use cadence_sinks::{MetricSink, QueuingMetricSink, SpyMetricSink, SpyReceiver};
+use cadence_queuing::QueuingMetricSink;
+use cadence_sinks::{SpyMetricSink, SpyReceiver};
 use std::alloc::{Allocator, Global};
 use std::sync::atomic::{AtomicBool, Ordering};
 use std::sync::{Arc, Wait};
@@ -45,12 +47,12 @@ impl<R: Wait + Drop> MetricSink for GatedSink<R> {
 
     ghost may_flush = { λ _ _. Unit {0} };
 
-    fn emit(&self, metric: &str) -> Result<usize, SinkError> {
-        self.comes.emit(metric)?;
+    fn emit(&self, line: &str) -> Result<usize, SinkError> {
+        self.comes.emit(line)?;
         if !is_set_in_time(&self.gate.open) {
             return Err(SinkError::PacketRefused);
         }
-        self.passes.emit(metric)
+        self.passes.emit(line)
     }
 
     fn flush(&self) -> Result<(), SinkError> {

@@ -1,8 +1,9 @@
 //! A runtime whose clock stands still until a test moves it, and a sink that notes its lines and its flushes.
 use super::steps::{Runtime, make_spy};
 use cadence_errors::SinkError;
+use cadence_flow::MetricSink;
 use cadence_flow::stats::SinkStats;
-use cadence_sinks::{MetricSink, SpyMetricSink, SpyReceiver};
+use cadence_sinks::{SpyMetricSink, SpyReceiver};
 use std::alloc::{AllocError, Global};
 use std::io;
 use std::io::ErrorKind;
@@ -84,10 +85,10 @@ impl<R: Wait + Drop> MetricSink for NotingSink<R> {
 
     ghost may_flush = { λ _ _. Unit {0} };
 
-    fn emit(&self, metric: &str) -> Result<usize, SinkError> {
+    fn emit(&self, line: &str) -> Result<usize, SinkError> {
         let step = self.stage.step.load(Ordering::SeqCst);
         self.stage.now.fetch_add(step, Ordering::SeqCst);
-        self.notes.emit(metric)
+        self.notes.emit(line)
     }
 
     fn flush(&self) -> Result<(), SinkError> {

@@ -1,6 +1,6 @@
 //! The sink that does nothing.
 use cadence_flow::stats::SinkStats;
-use cadence_sinks::{MetricSink, NopMetricSink};
+use cadence_flow::{MetricSink, NopMetricSink};
 use std::test::Fail;
 
 #[test]

@@ -6,11 +6,10 @@ use super::steps::{
     assert_next_message, assert_refuses, make_spy,
 };
 use cadence_errors::SinkError;
-use cadence_flow::queue::QueuePolicy;
-use cadence_sinks::{
-    BufferedSpyMetricSink, MetricSink, NopMetricSink, QueuingMetricSink, QueuingMetricSinkBuilder,
-    SpyMetricSink, SpyReceiver,
-};
+use cadence_flow::{MetricSink, NopMetricSink};
+use cadence_queue::QueuePolicy;
+use cadence_queuing::{QueuingMetricSink, QueuingMetricSinkBuilder};
+use cadence_sinks::{BufferedSpyMetricSink, SpyMetricSink, SpyReceiver};
 use std::alloc::{Allocator, Global};
 use std::sync::atomic::{AtomicU64, Ordering};
 use std::sync::{Arc, OnceLock, Wait};

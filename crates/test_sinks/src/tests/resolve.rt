@@ -1,9 +1,9 @@
 //! Resolvers: which address they have after a lookup, a host that can't be found, each request for memory of a first
 //! lookup refused, and the thread that looks up again and again. The sleeper of the tests doesn't sleep.
 use cadence_errors::{ErrorKind, MetricError, SinkError};
+use cadence_flow::{Handler, SinkErrorHandler};
 use cadence_resolve::{
-    Handler, Lookup, NameLookup, PeriodicResolver, Resolver, ResolverCore, SinkErrorHandler,
-    Sleeper, StaticResolver, Target,
+    Lookup, NameLookup, PeriodicResolver, Resolver, ResolverCore, Sleeper, StaticResolver, Target,
 };
 use std::alloc::Global;
 use std::net::{Ipv4Addr, Net, SocketAddr};

@@ -1,6 +1,6 @@
 //! Sockets on the loopback address.
 use super::steps::assert_accepts;
-use cadence_sinks::MetricSink;
+use cadence_flow::MetricSink;
 use std::io;
 use std::net::{Ipv4Addr, Net, SocketAddr, UdpSocket};
 use std::test::Fail;

@@ -1,16 +1,18 @@
 //! Calls of a sink and of a spy's receiver that assert their result.
 use cadence_errors::SinkError;
+use cadence_flow::MetricSink;
 use cadence_flow::stats::SinkStats;
-use cadence_sinks::{MetricSink, SpyMetricSink, SpyReceiver};
+use cadence_sinks::{SpyMetricSink, SpyReceiver};
 use std::alloc::{Allocator, Global};
 use std::sync::Wait;
 use std::test::Fail;
 use std::thread::Threads;
+use std::time::Clock;
 
 /// A runtime under which a queue can have a worker. Each type that meets these bounds implements this trait.
-pub trait Runtime: Wait + Threads + Clone + Drop + Send + Sync + 'static {}
+pub trait Runtime: Wait + Clock + Threads + Clone + Drop + Send + Sync + 'static {}
 
-impl<R: Wait + Threads + Clone + Drop + Send + Sync + 'static> Runtime for R {}
+impl<R: Wait + Clock + Threads + Clone + Drop + Send + Sync + 'static> Runtime for R {}
 
 /// Makes a spy, and the receiver of its messages.
 pub fn make_spy<R: Wait + Clone + Drop>(

@@ -4,9 +4,10 @@ use super::sockets::{
 };
 use super::steps::{WantedError, assert_accepts, assert_counts, assert_flushes, assert_refuses};
 use cadence_errors::{MetricError, MetricResult, SinkError};
+use cadence_flow::{MetricSink, SinkErrorHandler};
+use cadence_resolve::{ResolverRuntime, Target};
 use cadence_sinks::{
-    BufferedUdpMetricSink, BufferedUdpMetricSinkBuilder, MetricSink, ResolverRuntime,
-    SinkErrorHandler, Target, UdpMetricSink, UdpMetricSinkBuilder,
+    BufferedUdpMetricSink, BufferedUdpMetricSinkBuilder, UdpMetricSink, UdpMetricSinkBuilder,
 };
 use std::alloc::{AllocError, Global};
 use std::net::{Ipv4Addr, Net, SocketAddr, UdpSocket};

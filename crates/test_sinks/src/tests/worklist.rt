@@ -1,7 +1,7 @@
 //! The loop of a worker, over a list in memory in place of a queue.
 ghost use Rattle.std.specs.Prelude.{◌≡◌, ◌≤◌, take, true, vec_len};
 
-use cadence_sinks::{Worklist, work};
+use cadence_queuing::{Worklist, work};
 use std::test::Fail;
 
 // A list of texts in memory, which notes the texts that were handed on.

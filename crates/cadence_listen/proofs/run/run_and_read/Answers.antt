@@ -5,7 +5,7 @@ use Rattle.cadence_flow.specs.Log.{LogState}
 use Rattle.cadence_schedule.specs.Report.{outcome_of}
 use Rattle.cadence_read.specs.declared.fault.ReadFault.TheVariants.{NotMetrics}
 use Rattle.cadence_read.specs.Listed.{AreListed}
-use Rattle.cadence_listen.specs.RunRead.{IsRun, given_to, kept_metrics, texts_of}
+use Rattle.cadence_listen.specs.RunRead.{IsRun, given_to, kept_metrics, texts_of_run}
 use Rattle.cadence_listen.proofs.RunReads.{kept_listed}
 use Rattle.cadence_listen.proofs.run.run_and_read.Goals as goal
 
@@ -14,14 +14,14 @@ returns-in_err-metrics-clause-refused g c e =
     let outcome = outcome_of c.in-Ok.report in
     let given = given_to c.args.settings.now c.args.capacity c.args.queue c.args.steps.now c.args.log in
     let items = λ (packet : Vec ℕ g.row.A.Denot). packet.items in
-    let texts : map items c.packets.result.now ++ c.held.result.now ∷ [] ≡ texts_of (outcome_of c.in-Ok.report) =
+    let texts : map items c.packets.result.now ++ c.held.result.now ∷ [] ≡ texts_of_run (outcome_of c.in-Ok.report) =
     ap₂ (λ ps h. ps ++ h ∷ []) (c.packets.ensures
     ∙ ap (λ (l : LogState). l.packets) c.writer.ensures) c.held.ensures in
     let run : IsRun given (outcome_of c.in-Ok.report) = record { headline = c.in-Ok.ensures.headline.0; beside = c.in-Ok.ensures.headline.1 } in
     let is : c.from_residual-in_err-metrics.result ≡ Err c.in_err-metrics.field-0.0 = search rules in
     let fault : c.in_err-metrics.field-0.0 ≡ NotMetrics = cc (e, is) in
     let none =
-    λ (metrics : List Metric) (h : AreListed (texts_of (outcome_of c.in-Ok.report)) metrics). c.in_err-metrics.ensures.refused
+    λ (metrics : List Metric) (h : AreListed (texts_of_run (outcome_of c.in-Ok.report)) metrics). c.in_err-metrics.ensures.refused
     (ap Err fault) metrics (subst (λ ts. AreListed ts metrics) (sym texts) h) in (
       outcome,
       run,
@@ -33,7 +33,7 @@ returns-in_err-metrics-clause-refused g c e =
 pub returns-clause-read : goal.returns-clause-read
 returns-clause-read g c =
     let items = λ (packet : Vec ℕ g.row.A.Denot). packet.items in
-    let texts : map items c.packets.result.now ++ c.held.result.now ∷ [] ≡ texts_of (outcome_of c.in-Ok.report) =
+    let texts : map items c.packets.result.now ++ c.held.result.now ∷ [] ≡ texts_of_run (outcome_of c.in-Ok.report) =
     ap₂ (λ ps h. ps ++ h ∷ []) (c.packets.ensures
     ∙ ap (λ (l : LogState). l.packets) c.writer.ensures) c.held.ensures in
     subst (λ ts. AreListed ts (metrics_of c.in_ok-metrics.metrics)) texts c.in_ok-metrics.ensures.found
@@ -43,7 +43,7 @@ returns-clause-kept g c new free =
     let outcome = outcome_of c.in-Ok.report in
     let given = given_to c.args.settings.now c.args.capacity c.args.queue c.args.steps.now c.args.log in
     let items = λ (packet : Vec ℕ g.row.A.Denot). packet.items in
-    let texts : map items c.packets.result.now ++ c.held.result.now ∷ [] ≡ texts_of (outcome_of c.in-Ok.report) =
+    let texts : map items c.packets.result.now ++ c.held.result.now ∷ [] ≡ texts_of_run (outcome_of c.in-Ok.report) =
     ap₂ (λ ps h. ps ++ h ∷ []) (c.packets.ensures
     ∙ ap (λ (l : LogState). l.packets) c.writer.ensures) c.held.ensures in
     let run : IsRun given (outcome_of c.in-Ok.report) = record { headline = c.in-Ok.ensures.headline.0; beside = c.in-Ok.ensures.headline.1 } in

@@ -14,9 +14,9 @@ returns-in_default-read_number g c = λ ns is.
     let some : option_copied c.loop-left.left ≡ Some c.in-Some.text.now = search rules in
     let filled : 0 < length c.args.text.now = grind arith in
     refused_at IsDecimal number_text ns (map number_text (map (λ (n : Number). n) c.loop-left.numbers.items)) (pieces_left 58 left)
-    (pieces_left 58 (option_copied c.cut_piece.result.1)) (pieces 58 text) c.cut_piece.result.0.now
+    (pieces_left 58 (option_copied c.split_piece.result.1)) (pieces 58 text) c.split_piece.result.0.now
     c.loop-left.invariant.read (ap (pieces_left 58) some
-    ∙ c.cut_piece.ensures) c.in_default-read_number.ensures is.0 (numbers_pieces ns text filled is.1)
+    ∙ c.split_piece.ensures) c.in_default-read_number.ensures is.0 (numbers_pieces ns text filled is.1)
 
 pub loop-left-preserved : goal.loop-left-preserved
 loop-left-preserved g c =
@@ -24,15 +24,15 @@ loop-left-preserved g c =
     let more : c.push.new.self.items ≡ c.loop-left.numbers.items ++ c.in-Some-read_number.number ∷ [] = search rules in
     let (read, good) =
     read_more IsDecimal number_text (λ (n : Number). n) c.loop-left.numbers.items c.push.new.self.items c.in-Some-read_number.number
-    c.cut_piece.result.0.now (pieces_left 58 (option_copied c.cut_piece.result.1)) (pieces 58 c.args.text.now)
+    c.split_piece.result.0.now (pieces_left 58 (option_copied c.split_piece.result.1)) (pieces 58 c.args.text.now)
     (pieces_left 58 (option_copied c.loop-left.left))
-    more c.loop-left.invariant.read (ap (pieces_left 58) some ∙ c.cut_piece.ensures) c.loop-left.invariant.good c.in-Some-read_number.ensures in
+    more c.loop-left.invariant.read (ap (pieces_left 58) some ∙ c.split_piece.ensures) c.loop-left.invariant.good c.in-Some-read_number.ensures in
     record { read = read; good = good }
 
 pub loop-left-smaller : goal.loop-left-smaller
 loop-left-smaller g c =
     let some : option_copied c.loop-left.left ≡ Some c.in-Some.text.now = search rules in
-    omega (arith, ap (λ o. length (pieces_left 58 o)) some, ap (λ ps. length ps) c.cut_piece.ensures)
+    omega (arith, ap (λ o. length (pieces_left 58 o)) some, ap (λ ps. length ps) c.split_piece.ensures)
 
 pub returns : goal.returns
 returns g c =

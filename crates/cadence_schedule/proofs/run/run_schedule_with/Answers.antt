@@ -29,7 +29,7 @@ returns-in-Ok-clause-headline g c =
     subst (λ o. HasHeadline g.W.PacketWriter.history given o × IsAccounted g.W.PacketWriter.history given o) (sym ended.outcome) (
       headline c.tight_is_fewest.ensures,
       beside c.packets_read_one_way.ensures c.strict_calls_are_free.ensures
-          (λ strict. c.is_strict.ensures.free (c.is_strict.ensures.strict ∙ strict)) call.said
+          (λ strict. c.is_strict.ensures.free (c.is_strict.ensures.strict ∙ strict)) call.representable
           (subst (λ o. length o.held ≤ c.run_steps.new.running.packer.format.capacity) ended.outcome ended.held)
           (subst (λ o. o.stats.bytes_sent < 2 ^ 64) ended.outcome ended.bytes_sent)
           (subst (λ o. o.stats.packets_sent < 2 ^ 64) ended.outcome ended.packets_sent),

@@ -3,9 +3,9 @@ use Rattle.std.specs.List.{zip}
 use Rattle.std.proofs.lemmas.List.{take_all, take_more, length-take-le, length_push}
 use Rattle.cadence_text.specs.Representable.{IsRepresentable}
 use Rattle.cadence_schedule.specs.declared.steps.Step.{Step}
-use Rattle.cadence_schedule.specs.CallData.{line_of_data, metric_of_data}
+use Rattle.cadence_settings.specs.CallData.{line_of_data, metric_of_data}
 use Rattle.cadence_schedule.specs.RunHistory.{accepted}
-use Rattle.cadence_schedule.specs.Running.{state_of}
+use Rattle.cadence_schedule.specs.Running.{run_state}
 use Rattle.cadence_schedule.proofs.headline.RunOfTurns.{accepted_push, runs_push, moves_along}
 use Rattle.cadence_schedule.proofs.run.run_steps.Goals as goal
 
@@ -36,18 +36,18 @@ loop-step-preserved g c =
       runs =
           runs_push (line_of_data c.args.settings.now) (g.P.PacketWriter.kind first.packer.writer) first.packer.format first.queue.capacity
           first.queue.policy
-          (state_of g.P.PacketWriter.history first) (state_of g.P.PacketWriter.history c.loop-step.running)
-          (state_of g.P.PacketWriter.history c.step-reply.new.self)
+          (run_state g.P.PacketWriter.history first) (run_state g.P.PacketWriter.history c.loop-step.running)
+          (run_state g.P.PacketWriter.history c.step-reply.new.self)
           (take i steps) (take (i + 1) steps) replies c.push.new.self.items one answer short more c.in-Ok.ensures.items before.runs
           (moves_along (line_of_data c.args.settings.now) _ _ _ _ _ _ _ _ _ _ _ before.same_kind before.same_format before.same_queue
           before.same_policy call.turn.moves);
-      said =
+      representable =
           accepted_push IsRepresentable (metric_of_data c.args.settings.now) (take i steps) (take (i + 1) steps) replies c.push.new.self.items one
-          answer short more c.in-Ok.ensures.items before.said call.said;
+          answer short more c.in-Ok.ensures.items before.representable call.representable;
     }
 
-pub returns-clause-said : goal.returns-clause-said
-returns-clause-said g c =
+pub returns-clause-representable : goal.returns-clause-representable
+returns-clause-representable g c =
     let steps = c.args.steps.now in
     subst (λ (some : List (Step g.row.A.Denot)). All IsRepresentable (accepted (metric_of_data c.args.settings.now)
-    (zip some c.loop-step.replies.items))) (take_all c.loop-step.step-index steps c.loop-step-test.false) c.loop-step.invariant.said
+    (zip some c.loop-step.replies.items))) (take_all c.loop-step.step-index steps c.loop-step-test.false) c.loop-step.invariant.representable

@@ -1,10 +1,10 @@
 use Rattle.std.proofs.Common.{◌≡◌, ◌+◌, ◌≤◌, All, length, take, vec_len, vec_capacity}
 use Rattle.std.specs.List.{zip}
 use Rattle.cadence_text.specs.Representable.{IsRepresentable}
-use Rattle.cadence_schedule.specs.CallData.{line_of_data, metric_of_data}
+use Rattle.cadence_settings.specs.CallData.{line_of_data, metric_of_data}
 use Rattle.cadence_schedule.specs.RunHistory.{accepted}
 use Rattle.cadence_schedule.specs.Moves.{Runs}
-use Rattle.cadence_schedule.specs.Running.{state_of}
+use Rattle.cadence_schedule.specs.Running.{run_state}
 use Rattle.cadence_schedule.proofs.run.run_steps.Given as goal
 
 abbrev pub invariant-loop-step : goal.invariant-loop-step
@@ -20,7 +20,7 @@ invariant-loop-step g l =
       same_queue : l.running.queue.capacity ≡ first.queue.capacity;
       same_policy : l.running.queue.policy ≡ first.queue.policy;
       runs : Runs (line_of_data l.settings) (g.P.PacketWriter.kind first.packer.writer) first.packer.format first.queue.capacity
-          first.queue.policy (state_of g.P.PacketWriter.history first) (zip (take l.step-index l.steps) l.replies.items)
-          (state_of g.P.PacketWriter.history l.running);
-      said : All IsRepresentable (accepted (metric_of_data l.settings) (zip (take l.step-index l.steps) l.replies.items));
+          first.queue.policy (run_state g.P.PacketWriter.history first) (zip (take l.step-index l.steps) l.replies.items)
+          (run_state g.P.PacketWriter.history l.running);
+      representable : All IsRepresentable (accepted (metric_of_data l.settings) (zip (take l.step-index l.steps) l.replies.items));
     }

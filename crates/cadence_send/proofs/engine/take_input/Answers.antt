@@ -1,6 +1,6 @@
 use Rattle.std.proofs.Common.{rules, ◌∷◌, [], append-nil, subst}
 use Rattle.cadence_cli.proofs.Reading.{read_whole}
-use Rattle.cadence_send.specs.Sent.{TakesTexts, texts_of}
+use Rattle.cadence_send.specs.Sent.{TakesTexts, texts_of_input}
 use Rattle.cadence_send.proofs.Feeding.{consumes_more, consumes_none, fed_flushed, fed_more, fed_none, fed_some, fed_then_some, fed_whole}
 use Rattle.cadence_send.proofs.Feeding.{first_none, first_taken, of_known, on_err, takes_none}
 use Rattle.cadence_send.proofs.engine.take_input.Goals as goal
@@ -20,7 +20,7 @@ returns-in-Ok-eq0-clause-all g c =
     let history = g.T.PacketWriter.history in
     let d = c.args.defaults.now in
     let (got, consumed, fed) = c.loop.invariant in
-    of_known (g.I.Read.remaining c.args.input.now) got (λ text. TakesTexts d kind history c.args.lines.now c.take_text_end.new.lines (texts_of text))
+    of_known (g.I.Read.remaining c.args.input.now) got (λ text. TakesTexts d kind history c.args.lines.now c.take_text_end.new.lines (texts_of_input text))
     (read_whole _ _ _ _ _ c.in-Ok-eq0.field-0 c.in-Ok-eq0.field-0-test (search rules) consumed c.in-Ok-eq0.ensures.bytes)
     (fed_whole kind history d c.args.lines.now c.loop.lines c.take_text_end.new.lines got c.loop.buffers.waiting.items fed
     (subst (λ t. TakesTexts d kind history c.loop.lines c.take_text_end.new.lines (t ∷ [])) (append-nil c.loop.buffers.waiting.items)

@@ -1,5 +1,5 @@
-use Rattle.cadence_text.proofs.FreeTexts.{free_if_any, free_if_any_from, free_tag, free_tag_from}
-use Rattle.cadence_text.proofs.FreeTexts.{free_tags, free_tags_from, free_text, free_text_from}
+use Rattle.cadence_text.proofs.grammar.FreeTexts.{free_if_any, free_if_any_from, free_tag, free_tag_from}
+use Rattle.cadence_text.proofs.grammar.FreeTexts.{free_tags, free_tags_from, free_text, free_text_from}
 use Rattle.cadence_text.proofs.laws.free_texts_pass.Goals as goal
 
 pub returns : goal.returns

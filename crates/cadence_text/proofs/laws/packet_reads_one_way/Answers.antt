@@ -1,4 +1,4 @@
-use Rattle.cadence_text.proofs.LineText.{packet_once}
+use Rattle.cadence_text.proofs.grammar.LineText.{packet_once}
 use Rattle.cadence_text.proofs.laws.packet_reads_one_way.Goals as goal
 
 pub returns : goal.returns

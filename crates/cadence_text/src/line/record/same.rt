@@ -3,7 +3,7 @@ ghost use Rattle.std.specs.Prelude.{◌≡◌, ◌↔◌, IsTrue, drop, take};
 ghost use Rattle.cadence_text.specs.Line.{line_of};
 ghost use Rattle.cadence_text.specs.OneReading.{IsFreeOfSeparators};
 ghost use Rattle.cadence_text.specs.MetricInMemory.{IsMetricInMemory};
-ghost use Rattle.cadence_text.specs.Sink.{window_text};
+ghost use Rattle.cadence_text.specs.PieceWriters.{window_text};
 
 use super::Record;
 use crate::line::window::{WINDOW, Window};

@@ -1,4 +1,4 @@
-use Rattle.cadence_value.proofs.PowersOfTen.{ten_to_fits, ten_to_pos}
+use Rattle.cadence_value.proofs.digits.PowersOfTen.{ten_to_fits, ten_to_pos}
 use Rattle.cadence_value.proofs.decimal.power_of_ten.Goals as goal
 
 pub pow-requires : goal.pow-requires

@@ -11,7 +11,7 @@ returns-in_default g c = no_word c.args.defaults.now (words_of c.args.text.now) 
 pub returns : goal.returns
 returns g c =
     let are = c.in-Some.ensures.some
-    ∙ ap (λ ws. c.in-Some.kind.now ∷ ws) (c.in-Some-cut_word.ensures.some
-    ∙ ap (λ ws. c.in-Some-cut_word.name.now ∷ ws) c.in-Some-cut_word-2.ensures.some) in
+    ∙ ap (λ ws. c.in-Some.kind.now ∷ ws) (c.in-Some-split_word.ensures.some
+    ∙ ap (λ ws. c.in-Some-split_word.name.now ∷ ws) c.in-Some-split_word-2.ensures.some) in
     subst (λ ws. FindsOrFails (IsLineOfWords c.args.defaults.now ws) (λ _. c.write_line.new.buffer.items) c.write_line.result) (sym are)
     c.write_line.ensures

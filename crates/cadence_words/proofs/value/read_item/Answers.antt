@@ -1,5 +1,5 @@
 use Rattle.std.proofs.Common.{rules, ◌≡◌, subst}
-use Rattle.cadence_number.specs.Duration.{IsDurationWord}
+use Rattle.cadence_words.specs.Duration.{IsDurationWord}
 use Rattle.cadence_value.specs.Finds.{Finds}
 use Rattle.cadence_words.proofs.WordByWord.{neither}
 use Rattle.cadence_words.proofs.value.read_item.Goals as goal

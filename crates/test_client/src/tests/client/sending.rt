@@ -26,7 +26,7 @@ impl MetricSink for RefusingSink {
 
     ghost may_flush = { λ _ _. Unit {0} };
 
-    fn emit(&self, _metric: &str) -> Result<usize, SinkError> {
+    fn emit(&self, _line: &str) -> Result<usize, SinkError> {
         self.calls.fetch_add(1, Ordering::SeqCst);
         Err(SinkError::PacketRefused)
     }
@@ -47,9 +47,9 @@ pub(super) struct CountingSink {
 impl MetricSink for CountingSink {
     ghost may_answer = { λ _ line answer. answer ≡ Ok (length line) };
 
-    fn emit(&self, metric: &str) -> Result<usize, SinkError> {
+    fn emit(&self, line: &str) -> Result<usize, SinkError> {
         self.calls.fetch_add(1, Ordering::SeqCst);
-        Ok(metric.len())
+        Ok(line.len())
     }
 
     ghost may_flush = { λ _ _. Unit {0} };

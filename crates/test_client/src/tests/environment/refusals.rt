@@ -1,14 +1,12 @@
 //! Each request for memory of the environment refused in turn.
 use super::given::Given;
-use crate::tests::moved_clock::Runtime;
 use cadence::prelude::*;
 use cadence::types::{ErrorKind, MetricError, MetricResult, SinkError};
-use cadence_agent::{
-    Environment, EnvironmentError, EnvironmentSink, client_of, flushing_client_of,
-};
+use cadence_agent::{Environment, EnvironmentError, EnvironmentExt, EnvironmentSink, sink_to};
 use std::alloc::Global;
+use std::net::Net;
+use std::sync::Wait;
 use std::test::Fail;
-use std::time::Duration;
 use test_tools::{RefusingAllocator, each_refused};
 
 // The heap of these tests.
@@ -45,21 +43,20 @@ fn each_request_of_a_reading_may_be_refused(rt: HostRuntime) -> Result<(), Fail>
     Ok(())
 }
 
-// Makes a client of what the environment says, and sends a line of it. Makes one that flushes by time too.
-fn send_line<R: Runtime>(rt: &R, alloc: Global, heap: Heap) -> MetricResult<()> {
+// Makes a client of what the environment says, and sends a line of it.
+fn send_line<R: Net + Wait + Clone + Drop>(rt: &R, alloc: Global, heap: Heap) -> MetricResult<()> {
     let environment = Environment::read(&(GIVEN, alloc))?;
-    let client = client_of(rt, heap.clone()?, "p", &environment)?;
+    let sink = sink_to(rt, heap.clone()?, environment.destination())?;
+    let client = environment.builder(heap, "p", sink).build()?;
     client.count("k", 1)?;
     if let EnvironmentSink::Unix(_) = client.sink() {
         return Err(MetricError::from((ErrorKind::InvalidInput, "a path")));
     }
-    let hour = Duration::from_secs(3600);
-    flushing_client_of(rt, heap, "p", &environment, Some(1), hour)?.incr("k")?;
     Ok(())
 }
 
-// Returns whether there was memory for the clients and their lines.
-fn is_sent<R: Runtime>(rt: &R, alloc: Global, heap: Heap) -> Result<bool, Fail> {
+// Returns whether there was memory for the client and its line.
+fn is_sent<R: Net + Wait + Clone + Drop>(rt: &R, alloc: Global, heap: Heap) -> Result<bool, Fail> {
     match send_line(rt, alloc, heap) {
         Ok(()) => Ok(true),
         Err(MetricError::Sink(SinkError::OutOfMemory)) => Ok(false),

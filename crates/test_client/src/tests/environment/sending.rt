@@ -2,16 +2,24 @@
 use super::given::Given;
 use crate::tests::unix::sending::path_of;
 use crate::tests::unix::server::{bind_server, unlink};
-use cadence::MetricSink;
 use cadence::prelude::*;
-use cadence::types::SinkError;
-use cadence_agent::{
-    Environment, EnvironmentSink, client_of, environment_client, environment_sink,
-    flushing_environment_client,
-};
-use std::net::{Ipv4Addr, SocketAddr, UdpSocket};
+use cadence::{Metric, MetricResult, StatsdClient};
+use cadence_agent::{Environment, EnvironmentExt, EnvironmentSink, environment_sink, sink_to};
+use std::alloc::Global;
+use std::net::{Ipv4Addr, Net, SocketAddr, UdpSocket};
+use std::sync::Wait;
 use std::test::Fail;
 use std::time::Duration;
+
+// Makes a client to where the environment says, with its tags.
+fn client_of<R: Net + Wait + Clone + Drop>(
+    rt: &R,
+    alloc: Global,
+    environment: &Environment,
+) -> MetricResult<StatsdClient<Global, EnvironmentSink<R>>> {
+    let sink = sink_to(rt, alloc, environment.destination())?;
+    environment.builder(alloc, "p", sink).build()
+}
 
 #[test]
 fn a_server_gets_the_tags_over_udp(rt: HostRuntime) -> Result<(), Fail> {
@@ -27,7 +35,7 @@ fn a_server_gets_the_tags_over_udp(rt: HostRuntime) -> Result<(), Fail> {
         ],
     };
     let environment = Environment::read(&(given, rt.alloc()))?;
-    let client = client_of(&rt, rt.alloc(), "p", &environment)?;
+    let client = client_of(&rt, rt.alloc(), &environment)?;
     client
         .count_with_tags("k", 1)
         .with_tag("a", "b")
@@ -52,39 +60,25 @@ fn a_server_gets_the_tags_at_a_path(rt: HostRuntime) -> Result<(), Fail> {
     };
     let server = bind_server(&rt, &path)?;
     let environment = Environment::read(&(given, rt.alloc()))?;
-    let client = client_of(&rt, rt.alloc(), "p", &environment)?;
+    let client = client_of(&rt, rt.alloc(), &environment)?;
     client.count("k", 1)?;
     client.flush()?;
     unlink(&rt, &path)?;
     server.assert_datagrams(&["p.k:1|c|#service:shop,dd.internal.entity_id:9f2c\n"])
 }
 
-// The process of the tests has none of the variables, so both send to this machine over UDP.
+// The process of the tests has none of the variables, so both send to this machine over UDP, without tags.
 #[test]
 fn the_environment_of_the_process_is_read(rt: HostRuntime) -> Result<(), Fail> {
-    let client = environment_client(&rt, rt.alloc(), "p")?;
-    client.count("k", 1)?;
     if let EnvironmentSink::Unix(_) = environment_sink(&rt, rt.alloc())? {
         return Err(Fail::new("a path"));
     }
+    let environment = Environment::read(&(&rt, rt.alloc()))?;
+    let client = client_of(&rt, rt.alloc(), &environment)?;
+    let line = client.count("k", 1)?;
+    assert_eq!(rt; line.as_metric_str(), "p.k:1|c");
     match client.sink() {
         EnvironmentSink::Udp(_) => Ok(()),
         EnvironmentSink::Unix(_) => Err(Fail::new("a path")),
     }
-}
-
-// The queue is full, so it refuses the line. A client with another bound, or with none, would take it.
-#[test]
-fn a_client_of_the_environment_has_its_bound(rt: HostRuntime) -> Result<(), Fail> {
-    let hour = Duration::from_secs(3600);
-    let full = flushing_environment_client(&rt, rt.alloc(), "p", Some(0), hour)?;
-    let Err(error) = full.incr("a") else {
-        return Err(Fail::new("a queue without room takes a line"));
-    };
-    assert!(rt; matches!(error.sink_error(), Some(SinkError::ChannelFull)));
-    let client = flushing_environment_client(&rt, rt.alloc(), "p", Some(1), hour)?;
-    client.incr("a")?;
-    client.sink().stop_and_wait();
-    assert_eq!(rt; client.sink().stats().bytes_sent, 8);
-    Ok(())
 }

@@ -47,11 +47,11 @@ impl<R: Wait + Drop> MetricSink for CountedSink<R> {
 
     ghost may_flush = { λ _ _. Unit {0} };
 
-    fn emit(&self, metric: &str) -> Result<usize, SinkError> {
+    fn emit(&self, line: &str) -> Result<usize, SinkError> {
         if self.stage.refuses.load(Ordering::SeqCst) {
             return Err(SinkError::ChannelFull);
         }
-        self.notes.emit(metric)
+        self.notes.emit(line)
     }
 
     fn flush(&self) -> Result<(), SinkError> {

@@ -2,8 +2,8 @@
 use super::server::{bind_server, unlink};
 use cadence::prelude::*;
 use cadence::types::SinkError;
-use cadence::{MetricError, MetricResult, MetricSink};
-use cadence_agent::{UnixClient, buffered_unix_client, queued_unix_client, unix_client};
+use cadence::{MetricError, MetricResult, MetricSink, StatsdClient};
+use cadence_agent::{UnixSink, buffered_unix_sink, unix_sink};
 use std::alloc::Global;
 use std::fs::Files;
 use std::io::ErrorKind;
@@ -18,6 +18,18 @@ pub fn path_of(rt: &HostRuntime, name: &str) -> Result<String, Fail> {
     Ok(format!(in rt.alloc(); "/tmp/cadence-{id}-{name}")?)
 }
 
+// A client that sends each line to a path.
+type UnixClient<R> = StatsdClient<Global, UnixSink<R>>;
+
+// Makes a client that sends each line to a path.
+fn client_to<R: Net + Wait + Clone + Drop>(
+    rt: &R,
+    alloc: Global,
+    path: &str,
+) -> MetricResult<UnixClient<R>> {
+    StatsdClient::from_sink(alloc, "p", unix_sink(rt, alloc, path)?)
+}
+
 // Returns the kind of the system's error, if the call failed with one.
 pub fn io_kind<T: Drop>(answer: MetricResult<T>) -> Option<ErrorKind> {
     match answer {
@@ -30,7 +42,7 @@ pub fn io_kind<T: Drop>(answer: MetricResult<T>) -> Option<ErrorKind> {
 fn a_client_sends_each_line(rt: HostRuntime) -> Result<(), Fail> {
     let path = path_of(&rt, "each")?;
     let server = bind_server(&rt, &path)?;
-    let client = unix_client(&rt, rt.alloc(), "p", &path)?;
+    let client = client_to(&rt, rt.alloc(), &path)?;
     client.incr("a")?;
     client.gauge("b", 7)?;
     unlink(&rt, &path)?;
@@ -41,24 +53,11 @@ fn a_client_sends_each_line(rt: HostRuntime) -> Result<(), Fail> {
 fn a_buffered_client_packs_lines(rt: HostRuntime) -> Result<(), Fail> {
     let path = path_of(&rt, "packed")?;
     let server = bind_server(&rt, &path)?;
-    let client = buffered_unix_client(&rt, rt.alloc(), "p", &path, 16)?;
+    let sink = buffered_unix_sink(&rt, rt.alloc(), &path, 16)?;
+    let client = StatsdClient::from_sink(rt.alloc(), "p", sink)?;
     client.incr("a")?;
     client.incr("b")?;
     client.incr("c")?;
-    client.flush()?;
-    unlink(&rt, &path)?;
-    server.assert_datagrams(&["p.a:1|c\np.b:1|c\n", "p.c:1|c\n"])
-}
-
-#[test]
-fn a_queued_client_sends_at_its_stop(rt: HostRuntime) -> Result<(), Fail> {
-    let path = path_of(&rt, "queued")?;
-    let server = bind_server(&rt, &path)?;
-    let client = queued_unix_client(&rt, rt.alloc(), "p", &path, 16, Some(9))?;
-    client.incr("a")?;
-    client.incr("b")?;
-    client.incr("c")?;
-    client.sink().stop_and_wait();
     client.flush()?;
     unlink(&rt, &path)?;
     server.assert_datagrams(&["p.a:1|c\np.b:1|c\n", "p.c:1|c\n"])
@@ -78,7 +77,7 @@ fn assert_reaches<R: Files + Net + Wait + Drop>(
 #[test]
 fn a_server_that_restarts_is_found_again(rt: HostRuntime) -> Result<(), Fail> {
     let path = path_of(&rt, "restarts")?;
-    let client = unix_client(&rt, rt.alloc(), "p", &path)?;
+    let client = client_to(&rt, rt.alloc(), &path)?;
     let unbound = io_kind(client.incr("a"));
     assert_reaches(&rt, &client, &path)?;
     let closed = io_kind(client.incr("a"));
@@ -114,7 +113,7 @@ fn first_refusal<R: Wait + Drop>(client: &UnixClient<R>) -> Option<ErrorKind> {
 fn a_server_that_does_not_read_is_not_waited_for(rt: HostRuntime) -> Result<(), Fail> {
     let path = path_of(&rt, "full")?;
     let _server = bind_server(&rt, &path)?;
-    let client = unix_client(&rt, rt.alloc(), "p", &path)?;
+    let client = client_to(&rt, rt.alloc(), &path)?;
     let refused = first_refusal(&client);
     unlink(&rt, &path)?;
     if refused != Some(ErrorKind::WouldBlock) {

@@ -1,7 +1,7 @@
 use Rattle.std.proofs.Common.{map, refl, rules, string_bytes}
-use Rattle.cadence_flow.specs.Queue.{at_capacity, drops_for_room}
+use Rattle.cadence_queue.specs.Queue.{at_capacity, drops_for_room}
 use Rattle.cadence_text.specs.Representable.{IsRepresentable}
-use Rattle.cadence_schedule.specs.CallData.{line_of_data, metric_of_data}
+use Rattle.cadence_settings.specs.CallData.{line_of_data, metric_of_data}
 use Rattle.cadence_schedule.proofs.history.CallReplies.{call_fails}
 use Rattle.cadence_schedule.proofs.history.KeptMetrics.{all_of_option}
 use Rattle.cadence_schedule.proofs.running.Running.call.Goals as goal
@@ -24,8 +24,8 @@ returns-in-Err-clause-turn g c =
       cut_room = search rules;
     }
 
-pub returns-in-Ok-None-clause-said : goal.returns-in-Ok-None-clause-said
-returns-in-Ok-None-clause-said g c = all_of_option IsRepresentable (metric_of_data c.args.settings.now c.args.call.now) c.in-Ok.ensures.said
+pub returns-in-Ok-None-clause-representable : goal.returns-in-Ok-None-clause-representable
+returns-in-Ok-None-clause-representable g c = all_of_option IsRepresentable (metric_of_data c.args.settings.now c.args.call.now) c.in-Ok.ensures.representable
 
-pub returns-in-Ok-Some-clause-said : goal.returns-in-Ok-Some-clause-said
-returns-in-Ok-Some-clause-said g c = all_of_option IsRepresentable (metric_of_data c.args.settings.now c.args.call.now) c.in-Ok.ensures.said
+pub returns-in-Ok-Some-clause-representable : goal.returns-in-Ok-Some-clause-representable
+returns-in-Ok-Some-clause-representable g c = all_of_option IsRepresentable (metric_of_data c.args.settings.now c.args.call.now) c.in-Ok.ensures.representable

@@ -1,4 +1,4 @@
-use Rattle.cadence_schedule.specs.CallData.{line_of_data}
+use Rattle.cadence_settings.specs.CallData.{line_of_data}
 use Rattle.cadence_schedule.proofs.running.Running.step.Goals as goal
 
 pub returns-in-Take-clause-turn : goal.returns-in-Take-clause-turn

@@ -2,7 +2,7 @@ use Rattle.std.proofs.Common.{◌≡◌, arith, ap, refl, map, None, Some}
 use Rattle.std.specs.Prelude.{string_bytes}
 use Rattle.std.specs.Option.{option_map}
 use Rattle.std.proofs.lemmas.Grind.{common_steps}
-use Rattle.cadence_schedule.specs.Running.{state_of}
+use Rattle.cadence_schedule.specs.Running.{run_state}
 use Rattle.cadence_schedule.proofs.running.Running.take.Goals as goal
 
 pub returns-in-Text : goal.returns-in-Text
@@ -19,7 +19,7 @@ returns-in-Text g c = λ line_of.
           map string_bytes c.take.new.self.waiting,
           ap (map string_bytes) queues.0,
           omega arith,
-          (λ i. record (state_of g.P.PacketWriter.history c.args.self.now) {
+          (λ i. record (run_state g.P.PacketWriter.history c.args.self.now) {
             waiting = map string_bytes c.take.new.self.waiting;
             drained =
                 (queues.1 i).drained;

@@ -1,5 +1,5 @@
 use Rattle.std.proofs.Common.{◌≡◌, ◌∷◌, ◌++◌, [], subst, true, false}
-use Rattle.cadence_shared.specs.RecordedWriter.{packets_of}
+use Rattle.cadence_flow.specs.RecordedWriter.{packets_of}
 use Rattle.cadence_send.specs.Streams.{fates_in}
 use Rattle.cadence_send.proofs.Fates.{fates_more, losses_lost, losses_sent, paired_more}
 use Rattle.cadence_send.proofs.lasting.LastingWriter.count.Goals as goal

@@ -2,10 +2,10 @@ use Rattle.std.proofs.Common.{◌≡◌, ◌+◌, ◌≤◌, ◌∙◌, [], ◌+
 use Rattle.cadence_text.specs.Draft.{lead}
 use Rattle.cadence_text.specs.Line.{tag_text}
 use Rattle.cadence_text.specs.Record.{tag_of}
-use Rattle.cadence_text.specs.Sink.{text_up_to}
-use Rattle.cadence_text.proofs.DraftText.{lead_short, tag_utf8}
-use Rattle.cadence_text.proofs.LineLength.{said_tag}
-use Rattle.cadence_text.proofs.SinkEnds.{filled_more}
+use Rattle.cadence_text.specs.PieceWriters.{text_up_to}
+use Rattle.cadence_text.proofs.writing.DraftText.{lead_short, tag_utf8}
+use Rattle.cadence_text.proofs.writing.LineLength.{said_tag}
+use Rattle.cadence_text.proofs.writing.WriterEnds.{filled_more}
 use Rattle.cadence_text.proofs.line.draft.add_to.Goals as goal
 
 pub returns-clause-ok : goal.returns-clause-ok
@@ -25,5 +25,5 @@ returns-clause-ok g c =
 pub returns-clause-utf8 : goal.returns-clause-utf8
 returns-clause-utf8 g c = tag_utf8 c.args.begun (tag_of c.args.tag.now) c.push_tag.ensures.sized
 
-pub returns-clause-said : goal.returns-clause-said
-returns-clause-said g c = said_tag (tag_of c.args.tag.now) c.push_tag.ensures.sized
+pub returns-clause-representable : goal.returns-clause-representable
+returns-clause-representable g c = said_tag (tag_of c.args.tag.now) c.push_tag.ensures.sized

@@ -1,7 +1,7 @@
 use Rattle.std.proofs.Common.{◌≡◌, ◌+◌, [], ◌++◌, arith, length, rules}
 use Rattle.std.specs.Option.{option_copied}
 use Rattle.cadence_text.specs.Line.{container_field, time_field}
-use Rattle.cadence_text.proofs.SinkEnds.{filled_more}
+use Rattle.cadence_text.proofs.writing.WriterEnds.{filled_more}
 use Rattle.cadence_text.proofs.line.draft.end_with.Goals as goal
 
 pub returns : goal.returns

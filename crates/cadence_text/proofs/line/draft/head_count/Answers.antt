@@ -1,8 +1,8 @@
 use Rattle.std.proofs.Common.{◌+◌, ◌%◌, ◌<◌, ◌^◌, ◌∙◌, [], ◌++◌, ap, arith, length, replicate}
 use Rattle.cadence_value.specs.Values.{numbers_of}
 use Rattle.cadence_text.specs.DraftParts.{text_of_head}
-use Rattle.cadence_text.proofs.LineLength.{head_is_short}
-use Rattle.cadence_text.proofs.SinkEnds.{counted_whole}
+use Rattle.cadence_text.proofs.writing.LineLength.{head_is_short}
+use Rattle.cadence_text.proofs.writing.WriterEnds.{counted_whole}
 use Rattle.cadence_text.proofs.line.draft.head_count.Goals as goal
 
 pub returns : goal.returns

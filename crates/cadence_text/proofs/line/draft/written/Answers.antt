@@ -5,10 +5,10 @@ use Rattle.std.specs.Str.{IsUtf8}
 use Rattle.std.proofs.lemmas.Str.{IsUtf8-had}
 use Rattle.cadence_value.specs.Values.{numbers_of}
 use Rattle.cadence_text.specs.DraftParts.{text_of_head}
-use Rattle.cadence_text.specs.Sink.{text_up_to}
-use Rattle.cadence_text.proofs.DraftText.{cut_new, cut_first, cut_last}
-use Rattle.cadence_text.proofs.LineLength.{head_is_some, joined_utf8}
-use Rattle.cadence_text.proofs.SinkEnds.{filled_more}
+use Rattle.cadence_text.specs.PieceWriters.{text_up_to}
+use Rattle.cadence_text.proofs.writing.DraftText.{cut_new, cut_first, cut_last}
+use Rattle.cadence_text.proofs.writing.LineLength.{head_is_some, joined_utf8}
+use Rattle.cadence_text.proofs.writing.WriterEnds.{filled_more}
 use Rattle.cadence_text.proofs.line.draft.written.Goals as goal
 
 pub invariant_of-result : goal.invariant_of-result
@@ -53,8 +53,8 @@ returns-clause-draft g c =
       time = None;
     }
 
-pub returns-clause-said : goal.returns-clause-said
-returns-clause-said g c =
+pub returns-clause-representable : goal.returns-clause-representable
+returns-clause-representable g c =
     let parts = c.args.head.now in
     record {
       name = joined_utf8 parts.prefix.now parts.key.now c.push_head.ensures.prefix.1 c.push_head.ensures.key.1;

@@ -1,7 +1,7 @@
 use Rattle.std.proofs.Common.{ℕ, ◌≡◌, ◌+◌, ◌<◌, ◌%◌, ◌^◌, ◌∙◌, [], ◌++◌, ap, arith, length, replicate, rules}
 use Rattle.cadence_text.specs.Line.{rate_field}
-use Rattle.cadence_text.proofs.LineLength.{rate_short}
-use Rattle.cadence_text.proofs.SinkEnds.{counted_written}
+use Rattle.cadence_text.proofs.writing.LineLength.{rate_short}
+use Rattle.cadence_text.proofs.writing.WriterEnds.{counted_written}
 use Rattle.cadence_text.proofs.line.options.add_rate.Goals as goal
 
 pub returns : goal.returns

@@ -2,8 +2,8 @@ use Rattle.std.proofs.Common.{◌≡◌, ◌-◌, ◌∙◌, ◌++◌, ap, ap₂
 use Rattle.std.specs.Str.{IsUtf8}
 use Rattle.std.proofs.lemmas.Str.{IsUtf8-had}
 use Rattle.cadence_text.specs.Line.{rate_field}
-use Rattle.cadence_text.specs.Sink.{rotated_text}
-use Rattle.cadence_text.proofs.DraftText.{rate_between, rate_utf8}
+use Rattle.cadence_text.specs.PieceWriters.{rotated_text}
+use Rattle.cadence_text.proofs.writing.DraftText.{rate_between, rate_utf8}
 use Rattle.cadence_text.proofs.line.options.insert_rate.Goals as goal
 
 pub turn-requires-clause-within : goal.turn-requires-clause-within

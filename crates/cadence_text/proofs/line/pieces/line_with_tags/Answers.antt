@@ -4,7 +4,7 @@ use Rattle.std.proofs.lemmas.List.{length-map}
 use Rattle.std.proofs.lemmas.List.Elements.{All-more}
 use Rattle.cadence_text.specs.Record.{tag_of}
 use Rattle.cadence_text.specs.MetricInMemory.{IsTagInMemory}
-use Rattle.cadence_value.proofs.LoopElements.{All-split}
+use Rattle.cadence_value.proofs.lists.LoopElements.{All-split}
 use Rattle.cadence_text.proofs.line.pieces.line_with_tags.Goals as goal
 
 pub loop-tag-preserved : goal.loop-tag-preserved

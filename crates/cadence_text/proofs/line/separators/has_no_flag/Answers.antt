@@ -1,6 +1,6 @@
 use Rattle.std.proofs.Common.{get_or}
 use Rattle.std.proofs.lemmas.Bool.{eq-eqb, eqb-true}
-use Rattle.cadence_text.proofs.SeparatorTable.{flag_says}
+use Rattle.cadence_text.proofs.grammar.SeparatorTable.{flag_says}
 use Rattle.cadence_text.proofs.line.separators.has_no_flag.Goals as goal
 
 pub returns : goal.returns

@@ -1,5 +1,5 @@
 use Rattle.std.proofs.Common.{length, nat_eq, refl}
-use Rattle.cadence_text.proofs.FreeTexts.{free_at_end, tested_text}
+use Rattle.cadence_text.proofs.grammar.FreeTexts.{free_at_end, tested_text}
 use Rattle.cadence_text.proofs.line.separators.is_free.Goals as goal
 
 pub returns-clause-free : goal.returns-clause-free

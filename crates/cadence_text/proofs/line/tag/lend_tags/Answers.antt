@@ -1,7 +1,7 @@
 use Rattle.std.proofs.Common.{rules, ◌≡◌, ◌∷◌, [], ◌++◌, ap, ◌∙◌, map}
 use Rattle.cadence_text.specs.Owned.{tag_of_owned}
 use Rattle.cadence_text.specs.Record.{tag_of}
-use Rattle.cadence_text.proofs.ConvertedLists.{mapped_more, mapped_all}
+use Rattle.cadence_text.proofs.writing.ConvertedLists.{mapped_more, mapped_all}
 use Rattle.cadence_text.proofs.line.tag.lend_tags.Goals as goal
 
 pub loop-tag-preserved : goal.loop-tag-preserved

@@ -1,7 +1,7 @@
 use Rattle.std.proofs.Common.{rules, ◌≡◌, ◌-◌, ℤ, pos, FitsSigned, to_z, arith, int_div, int_rem, sym, ◌∙◌, ap}
 use Rattle.std.proofs.lemmas.Int.{to_z-of_z}
 use mir.Syntax.{w128}
-use Rattle.cadence_value.proofs.PowersOfTen.{tenth_is}
+use Rattle.cadence_value.proofs.digits.PowersOfTen.{tenth_is}
 use Rattle.cadence_value.proofs.decimal.Decimal.new.Goals as goal
 
 pub loop-places-preserved : goal.loop-places-preserved

@@ -1,6 +1,6 @@
 use Rattle.std.proofs.Common.{◌≡◌, true, false}
 use Rattle.std.proofs.lemmas.Int.Digits.{digits_more}
-use Rattle.cadence_value.proofs.DigitsRead.{not_digit}
+use Rattle.cadence_value.proofs.reading.DigitsRead.{not_digit}
 use Rattle.cadence_value.proofs.decimal.read.are_digits.Goals as goal
 
 pub returns-then-not-is_ascii_digit : goal.returns-then-not-is_ascii_digit

@@ -4,7 +4,7 @@ use Rattle.std.specs.Str.Parse.{digits_value}
 use Rattle.std.proofs.lemmas.Int.Digits.{digits_more, digits_value_more}
 use Rattle.std.proofs.lemmas.List.{length-take-le}
 use Rattle.std.proofs.lemmas.Str.{digit_value_digit}
-use Rattle.cadence_value.proofs.DigitsRead.{not_digit, short_fits}
+use Rattle.cadence_value.proofs.reading.DigitsRead.{not_digit, short_fits}
 use Rattle.cadence_value.proofs.decimal.read.read_short.Goals as goal
 
 pub returns-then-not-is_ascii_digit : goal.returns-then-not-is_ascii_digit

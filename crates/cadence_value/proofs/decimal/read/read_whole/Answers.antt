@@ -1,5 +1,5 @@
 use Rattle.std.proofs.Common.{rules, arith}
-use Rattle.cadence_value.proofs.DigitsRead.{whole_read, zero_refused}
+use Rattle.cadence_value.proofs.reading.DigitsRead.{whole_read, zero_refused}
 use Rattle.cadence_value.proofs.decimal.read.read_whole.Goals as goal
 use Rattle.cadence_value.proofs.decimal.read.read_whole.Goals.{else-text-gt1-via-then-text-gt1+else-text-eq48, else-text-gt1-via-else-text-gt1}
 

@@ -1,5 +1,5 @@
 use Rattle.std.proofs.Common.{◌^◌, ◌≤◌, ◌∙◌, append_assoc, arith, rules}
-use Rattle.cadence_value.proofs.Digits.{text_pair}
+use Rattle.cadence_value.proofs.digits.Digits.{text_pair}
 use Rattle.cadence_value.proofs.text.numbers.+push_wide_digits.Goals as goal
 
 pub returns : goal.returns

@@ -1,5 +1,5 @@
 use Rattle.std.proofs.Common.{arith}
-use Rattle.cadence_value.proofs.Digits.{length-decimal_text-le, length_four}
+use Rattle.cadence_value.proofs.digits.Digits.{length-decimal_text-le, length_four}
 use Rattle.cadence_value.proofs.text.numbers.number_len.Goals as goal
 
 pub overflow_add-count : goal.overflow_add-count

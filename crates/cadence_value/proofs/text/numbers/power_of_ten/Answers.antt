@@ -1,6 +1,6 @@
 use Rattle.std.proofs.Common.{ℕ, ◌^◌, ◌<◌, ◌≤◌, lit<, arith}
 use Rattle.std.proofs.Math.Nat.{pow-le-pow_right}
-use Rattle.cadence_value.proofs.PowersOfTen.{ten_to_pos}
+use Rattle.cadence_value.proofs.digits.PowersOfTen.{ten_to_pos}
 use Rattle.cadence_value.proofs.text.numbers.power_of_ten.Goals as goal
 
 ten_to_fits_word : (k : ℕ) → k ≤ 19 → 10 ^ k < 2 ^ 64

@@ -1,5 +1,5 @@
 use Rattle.std.proofs.Common.{arith}
-use Rattle.cadence_value.proofs.Digits.{text_digit, text_two}
+use Rattle.cadence_value.proofs.digits.Digits.{text_digit, text_two}
 use Rattle.cadence_value.proofs.text.numbers.push_first.Goals as goal
 
 pub returns-then-number-lt10 : goal.returns-then-number-lt10

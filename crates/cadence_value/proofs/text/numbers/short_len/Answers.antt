@@ -1,5 +1,5 @@
 use Rattle.std.proofs.Common.{◌/◌, arith}
-use Rattle.cadence_value.proofs.Digits.{length_digit, length_pair, length_two}
+use Rattle.cadence_value.proofs.digits.Digits.{length_digit, length_pair, length_two}
 use Rattle.cadence_value.proofs.text.numbers.short_len.Goals as goal
 
 pub returns-then-number-lt10 : goal.returns-then-number-lt10

@@ -1,7 +1,7 @@
 use Rattle.std.proofs.Common.{◌^◌, ◌<◌, All, ap, map}
 use Rattle.cadence_value.specs.Values.{count_in}
 use Rattle.cadence_value.specs.Number.{natural}
-use Rattle.cadence_value.proofs.DurationNumbers.{Converts-refused, none_where_one_passes, numbers_that_fit}
+use Rattle.cadence_value.proofs.digits.DurationNumbers.{Converts-refused, none_where_one_passes, numbers_that_fit}
 use Rattle.cadence_value.proofs.value.durations.numbers_in.Goals as goal
 
 pub returns-then-not-all_fit : goal.returns-then-not-all_fit

@@ -3,7 +3,7 @@ use Rattle.std.specs.Prelude.{nat_lt}
 use Rattle.cadence_text.specs.Draft.{lead}
 use Rattle.cadence_text.specs.Line.{tag_text}
 use Rattle.cadence_text.specs.Record.{tag_of}
-use Rattle.cadence_text.proofs.DraftText.{cut_added}
+use Rattle.cadence_text.proofs.writing.DraftText.{cut_added}
 use Rattle.cadence_text.proofs.line.draft.DraftLine.add_tag.Goals as goal
 
 pub invariant_of-self : goal.invariant_of-self

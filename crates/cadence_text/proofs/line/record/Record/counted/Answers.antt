@@ -1,7 +1,7 @@
 use Rattle.std.proofs.Common.{◌+◌, ◌%◌, ◌<◌, ◌^◌, ◌∙◌, [], ◌++◌, ap, arith, length, replicate}
 use Rattle.cadence_text.specs.Line.{line_of}
-use Rattle.cadence_text.proofs.LineLength.{line_is_short}
-use Rattle.cadence_text.proofs.SinkEnds.{counted_whole}
+use Rattle.cadence_text.proofs.writing.LineLength.{line_is_short}
+use Rattle.cadence_text.proofs.writing.WriterEnds.{counted_whole}
 use Rattle.cadence_text.proofs.line.record.Record.counted.Goals as goal
 
 pub returns : goal.returns

@@ -1,7 +1,7 @@
 use Rattle.std.proofs.Common.{◌∙◌, []}
 use Rattle.cadence_text.specs.Line.{line_of}
-use Rattle.cadence_text.proofs.LineText.{line_is_not_empty}
-use Rattle.cadence_text.proofs.SinkEnds.{filled_whole}
+use Rattle.cadence_text.proofs.grammar.LineText.{line_is_not_empty}
+use Rattle.cadence_text.proofs.writing.WriterEnds.{filled_whole}
 use Rattle.cadence_text.proofs.line.record.Record.format.Goals as goal
 
 pub returns-clause-line : goal.returns-clause-line

@@ -1,9 +1,9 @@
 use Rattle.std.proofs.Common.{◌≡◌, ◌≤◌, ◌<◌, ◌^◌, ap, ◌∙◌, arith, rules, drop, length, take}
 use Rattle.std.proofs.lemmas.List.{length-take, length-drop}
 use Rattle.cadence_text.specs.Line.{line_of}
-use Rattle.cadence_text.proofs.LineLength.{line_is_short}
-use Rattle.cadence_text.proofs.LineText.{line_once}
-use Rattle.cadence_text.proofs.WindowText.{alike_further, alike_whole, windows_alike}
+use Rattle.cadence_text.proofs.writing.LineLength.{line_is_short}
+use Rattle.cadence_text.proofs.grammar.LineText.{line_once}
+use Rattle.cadence_text.proofs.writing.WindowText.{alike_further, alike_whole, windows_alike}
 use Rattle.cadence_text.proofs.line.record.Record.same_line.Goals as goal
 
 pub returns-then-shown-lt-WINDOW-clause-lines : goal.returns-then-shown-lt-WINDOW-clause-lines

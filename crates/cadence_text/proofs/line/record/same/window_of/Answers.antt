@@ -1,7 +1,7 @@
 use Rattle.std.proofs.Common.{[], ◌-◌}
 use Rattle.cadence_text.specs.Line.{line_of}
-use Rattle.cadence_text.specs.Sink.{window_text}
-use Rattle.cadence_text.proofs.WindowText.{window_whole}
+use Rattle.cadence_text.specs.PieceWriters.{window_text}
+use Rattle.cadence_text.proofs.writing.WindowText.{window_whole}
 use Rattle.cadence_text.proofs.line.record.same.window_of.Goals as goal
 
 pub returns-clause-shown : goal.returns-clause-shown

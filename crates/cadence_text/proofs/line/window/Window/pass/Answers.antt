@@ -1,6 +1,6 @@
 use Rattle.std.proofs.Common.{◌++◌, ◌-◌, ap, take}
-use Rattle.cadence_text.specs.Sink.{window_text}
-use Rattle.cadence_text.proofs.WindowText.{passed}
+use Rattle.cadence_text.specs.PieceWriters.{window_text}
+use Rattle.cadence_text.proofs.writing.WindowText.{passed}
 use Rattle.cadence_text.proofs.line.window.Window.pass.Goals as goal
 
 pub returns-then-length-self : goal.returns-then-length-self

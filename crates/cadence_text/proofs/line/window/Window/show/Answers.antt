@@ -1,7 +1,7 @@
 use Rattle.std.proofs.Common.{◌≡◌, ◌+◌, ◌-◌, ◌++◌, ap, ◌∙◌, arith, take, length}
 use Rattle.std.proofs.lemmas.List.{length-take-le}
 use Rattle.std.proofs.lemmas.Slice.{take-put_mid}
-use Rattle.cadence_text.proofs.WindowText.{window_shows}
+use Rattle.cadence_text.proofs.writing.WindowText.{window_shows}
 use Rattle.cadence_text.proofs.line.window.Window.show.Goals as goal
 
 pub returns : goal.returns

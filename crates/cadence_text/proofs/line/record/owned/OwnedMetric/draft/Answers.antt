@@ -4,7 +4,7 @@ use Rattle.cadence_text.specs.Draft.{draft_of}
 use Rattle.cadence_text.specs.Metric.{Metric, Tag, with_tag}
 use Rattle.cadence_text.specs.Owned.{metric_of_owned, tag_of_owned}
 use Rattle.cadence_text.specs.Record.{tag_of}
-use Rattle.cadence_text.proofs.ConvertedLists.{mapped_more}
+use Rattle.cadence_text.proofs.writing.ConvertedLists.{mapped_more}
 use Rattle.cadence_text.proofs.line.record.owned.OwnedMetric.draft.Goals as goal
 
 pub loop-tag-preserved : goal.loop-tag-preserved

@@ -1,0 +1,121 @@
+//! The one body of `emit` and of `flush` of the library's own sinks.
+//!
+//! A sink of the library doesn't answer a line by a number of its own. Its `emit_line` returns an answer that only the
+//! packer, the queue, or what counts the packets of its socket, can make. Nobody can let such an answer go, and only `emit_by` opens
+//! it. So an `emit_line` that does nothing, or writes a line twice, doesn't compile.
+ghost use Rattle.std.specs.Prelude.{◌≡◌, List, ℕ, Result};
+ghost use Rattle.cadence_errors.specs.declared.SinkError.{SinkError};
+ghost use Rattle.cadence_flow.specs.Answered.{IsAnswered, IsFlushAnswered};
+ghost use Rattle.cadence_flow.specs.Opened.{opened, opened_flush};
+
+use cadence_errors::SinkError;
+
+/// The right to open an answer. Only this module makes one.
+#[derive(Clone, Copy)]
+pub struct Opener {
+    of: (),
+}
+
+/// An answer for a line that was taken.
+pub trait Opened {
+    /// How many bytes of the line were taken.
+    ghost bytes: { Self → ℕ };
+
+    /// Returns how many bytes of the line were taken.
+    fn open(self, by: Opener) -> usize
+        ensures { result ≡ bytes self };
+}
+
+/// An answer for a line that was refused, or for a flush.
+pub trait Closed {
+    /// Lets the answer go.
+    fn close(self, by: Opener);
+}
+
+/// A sink of the library. Its answers are made by what takes the line, and by nothing else.
+///
+/// The error of a refused line is in `fault`, because a `Result` with an error in it is as wide as the widest error, and
+/// each function that passes one on copies all of it.
+pub trait AnsweringSink: Drop {
+    /// The answer for a line that was taken.
+    type Took: Opened;
+    /// The answer for a line that was refused.
+    type Refused: Closed;
+
+    /// The results that a line may get.
+    ghost may_answer: { Self → List ℕ → Result ℕ SinkError → Type 0 };
+
+    /// What an answer for a line shows of the step that took or refused the line. By default it shows nothing.
+    ghost shows: { Self → List ℕ → Result Self.Took Self.Refused → SinkError → Type 0 } = { λ _ _ _ _. Unit {0} };
+
+    /// Takes a line.
+    fn emit_line(&self, line: &str, fault: &mut SinkError) -> Result<Self::Took, Self::Refused>
+        ensures answer { may_answer self.now line.now (opened Self.Took.bytes result fault.new) }
+        ensures shows { shows self.now line.now result fault.new };
+}
+
+/// A sink of the library that holds text. The answer for a flush is made by what holds the text, and by nothing else.
+pub trait AnsweringFlush: Drop {
+    /// The answer for a flush that succeeded.
+    type Flushed: Closed;
+    /// The answer for a flush that failed.
+    type Unflushed: Closed;
+
+    /// The results that a flush may get.
+    ghost may_flush: { Self → Result (Unit {0}) SinkError → Type 0 };
+
+    /// What an answer for a flush shows of the flush. By default it shows nothing.
+    ghost shows_flush: { Self → Result Self.Flushed Self.Unflushed → SinkError → Type 0 } = { λ _ _ _. Unit {0} };
+
+    /// Sends the held text.
+    fn flush_lines(&self, fault: &mut SinkError) -> Result<Self::Flushed, Self::Unflushed>
+        ensures answer { may_flush self.now (opened_flush result fault.new) }
+        ensures shows { shows_flush self.now result fault.new };
+}
+
+/// Gives a line to a sink of the library, and returns what its answer says. This is the body of `emit` of each of these
+/// sinks. Only its results are answered, in the sense of `IsAnswered`, so none of these sinks can answer by itself.
+// Each sink has an `impl` of `MetricSink` of its own over these two functions. One `impl` for all of them can't make a
+// box of a sink that is dropped by code.
+#[inline(always)]
+pub fn emit_by<S: AnsweringSink>(sink: &S, line: &str) -> Result<usize, SinkError>
+    ensures may { S.may_answer sink.now line.now result }
+    ensures answered { IsAnswered line.now result }
+{
+    answers();
+    let mut fault = SinkError::NothingWritten;
+    match sink.emit_line(line, &mut fault) {
+        Ok(took) => Ok(took.open(Opener { of: () })),
+        Err(refused) => {
+            refused.close(Opener { of: () });
+            Err(fault)
+        }
+    }
+}
+
+/// Flushes a sink of the library. This is the body of `flush` of each of these sinks that holds text. Its results are
+/// answered too.
+pub fn flush_by<S: AnsweringFlush>(sink: &S) -> Result<(), SinkError>
+    ensures may { S.may_flush sink.now result }
+    ensures answered { IsFlushAnswered result }
+{
+    answers();
+    let mut fault = SinkError::NothingWritten;
+    match sink.flush_lines(&mut fault) {
+        Ok(flushed) => {
+            flushed.close(Opener { of: () });
+            Ok(())
+        }
+        Err(refused) => {
+            refused.close(Opener { of: () });
+            Err(fault)
+        }
+    }
+}
+
+// Says that the results of this module are answered. The call compiles to no code.
+#[inline(always)]
+fn answers()
+    ensures line { (line : List ℕ) → (r : Result ℕ SinkError) → IsAnswered line r }
+    ensures flush { (r : Result (Unit {0}) SinkError) → IsFlushAnswered r }
+{}

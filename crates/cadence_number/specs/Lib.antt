@@ -1,4 +1,0 @@
-pub mod Chances
-pub mod Duration
-pub mod Printed
-pub mod Trimmed

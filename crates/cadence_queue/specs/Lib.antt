@@ -1,0 +1,12 @@
+pub mod Answers
+pub mod Queue
+pub mod QueueModel
+pub mod QueueRoom
+pub mod QueueState
+pub mod QueuePast
+pub mod QueueTaken
+pub mod RecordedQueue
+pub mod SharedQueue
+pub mod Shown
+pub mod Taker
+pub use Rattle.cadence_errors.specs.Errors

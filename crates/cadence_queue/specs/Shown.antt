@@ -1,0 +1,53 @@
+-- What contracts see of the answers of a shared queue, which show the states between which it made a step.
+use Rattle.std.specs.Prelude.{◌≡◌, ℕ, ◌<◌, Option, Some, None, List, [], length}
+use Rattle.cadence_queue.specs.QueueState.{Queue}
+use Rattle.cadence_queue.specs.declared.queue_core.Taken.{Taken}
+use Rattle.cadence_queue.specs.declared.queue_error.QueueError.{QueueError}
+use Rattle.cadence_queue.specs.declared.shown.Accepted.{Accepted}
+use Rattle.cadence_queue.specs.declared.shown.Queued.{Queued}
+use Rattle.cadence_queue.specs.declared.shown.Refusal.{Refusal}
+use Rattle.cadence_queue.specs.declared.shown.Took.{Took}
+use Rattle.cadence_queue.specs.declared.shown.End.{End}
+
+module _ {T A : Type 0} where
+  -- the text that was accepted
+  abbrev pub text_of : Accepted T A → T
+  text_of a = a.text.value
+
+  -- the text that a full queue dropped for the accepted one, or none
+  abbrev pub dropped_of : Accepted T A → Option T
+  dropped_of a = a.dropped
+
+  -- the state in which the text was accepted
+  abbrev pub before_of : Accepted T A → Queue T
+  before_of a = a.before.value
+
+  -- the state after that
+  abbrev pub after_of : Accepted T A → Queue T
+  after_of a = a.after.value
+
+  -- how many bytes the caller gets of a queued line
+  abbrev pub queued_bytes : Queued T A → ℕ
+  queued_bytes q = q.bytes
+
+  -- what the queue shows of it
+  abbrev pub accepted_of : Queued T A → Accepted T A
+  accepted_of q = q.accepted
+
+  -- why a queue refused a text
+  abbrev pub why_of : Refusal T A → QueueError
+  why_of r = r.why
+
+  -- the state in which it refused the text
+  abbrev pub at_of : Refusal T A → Queue T
+  at_of r = r.at.value
+
+  -- what a take returned
+  abbrev pub taken_of : Took T A → Taken T
+  taken_of t = t.taken
+
+  -- These are the texts that were moved out of a queue which has a text or is stopped: at least one, or none if the
+  -- queue has come to its end.
+  abbrev pub AreMoved : Option (End T A) → List T → Type 0
+  AreMoved None texts = 0 < length texts
+  AreMoved (Some _) texts = texts ≡ []

@@ -1,0 +1,38 @@
+//! The queue of texts between the callers of a sink and its worker: for one thread, and under a lock. It carries a record of
+//! its past, which exists in proofs only: it costs neither memory nor time.
+//!
+//! - `queue_core`: the queue for one thread
+//! - `policy`: what a full queue does with one more text
+//! - `queue_error`: why a queue refuses a text
+//! - `text_ring`: the ring that stores the texts
+//! - `recorded_queue`: a queue with a record of the texts that it accepted and of those that were taken
+//! - `shared_queue`: a recorded queue under a lock
+//! - `under_lock`: what lies under that lock
+//! - `shown`: what a call of a shared queue shows of the step that it made under the lock
+//! - `taking`: how texts are taken out of a shared queue
+//! - `taker`: how the worker takes them, several at a time
+//! - `backoff`: how long the worker waits between two looks at an empty queue
+//! - `latch`: a mark that one thread sets and that others wait for
+#![tactic(auto)]
+
+mod backoff;
+mod latch;
+mod policy;
+mod queue_core;
+mod queue_error;
+mod recorded_queue;
+mod shared_queue;
+mod shown;
+mod taker;
+mod taking;
+mod text_ring;
+mod under_lock;
+
+pub use latch::Latch;
+pub use policy::QueuePolicy;
+pub use queue_core::{QueueCore, Taken};
+pub use queue_error::QueueError;
+pub use shared_queue::SharedQueue;
+pub use shown::{Accepted, End, Left, Queued, Refusal, Stopped, Took};
+pub use taker::{Taker, TakerRoom};
+pub use text_ring::TextRing;

@@ -1,0 +1,275 @@
+//! A queue of texts that threads share, with a record of its past that only proofs read.
+ghost use Rattle.std.specs.Prelude.{◌≡◌, ◌≢◌, IfErr, IfOk, None, Ok, Err, Option, IsTrue};
+ghost use Rattle.std.specs.declared.alloc.AllocError.{AllocError};
+ghost use Rattle.cadence_errors.specs.declared.SinkError.TheVariants.{ChannelFull};
+ghost use Rattle.cadence_queue.specs.Queue.{IsQueueRefusal, error_of, is_open};
+ghost use Rattle.cadence_queue.specs.QueueRoom.{IsBounded, OnlyWantsRoom};
+ghost use Rattle.cadence_queue.specs.declared.policy.QueuePolicy.TheVariants.{Refuse};
+ghost use Rattle.cadence_queue.specs.declared.queue_error.QueueError.TheVariants.{Full};
+ghost use Rattle.cadence_queue.specs.RecordedQueue.{core_of};
+ghost use Rattle.cadence_queue.specs.SharedQueue.{bound_of, rule_of};
+ghost use Rattle.cadence_queue.specs.Shown.{at_of, text_of, why_of};
+
+use super::backoff::give_way;
+use super::recorded_queue::RecordedQueue;
+use super::shown::{Accepted, Left, Refusal, Stopped};
+use super::under_lock::UnderLock;
+use crate::{QueueError, QueuePolicy};
+use cadence_errors::{MetricResult, SinkError};
+use cadence_flow::acquire;
+use std::alloc::{AllocError, Allocator, Global};
+use std::snapshot::Snapshot;
+use std::sync::{Condvar, Mutex, MutexGuard, Wait};
+
+/// A queue of texts under a lock, which threads share by reference. Each call takes the lock and does one step of a
+/// `QueueCore`; a `Taker` does several takes in a row. What lies under the lock is a `RecordedQueue`, so whenever the
+/// lock is free, each text that the queue accepted so far was taken or dropped, or it waits.
+///
+/// `offer` and the calls whose names end in `_shown` also show, in proofs, the states of the queue between which they made
+/// their step. No call lets a text go, so none loses one under the lock: a text may be of a type that can't be dropped.
+/// `M` is the type of the memory of a text that was handed on already, which `offer` lends to a later text.
+#[derive(Drop)]
+pub struct SharedQueue<T, A: Allocator = Global, M = T> {
+    pub(super) state: Mutex<UnderLock<T, A, M>>,
+    // a text came to an idle queue, or the queue was stopped
+    pub(super) changed: Condvar,
+    capacity: Option<usize>,
+    policy: QueuePolicy,
+}
+
+impl<T, A: Allocator + Clone> SharedQueue<T, A> {
+    /// Makes an empty queue with one handle. At most `capacity` texts wait in it, and a full queue refuses more; `None`
+    /// means that any number may wait. A queue with a capacity takes the memory for all its texts now. The only error
+    /// is `OutOfMemory`.
+    pub fn new(alloc: A, capacity: Option<usize>) -> MetricResult<Self>
+        ensures capacity { IfOk result (λ q. bound_of q ≡ capacity) }
+        ensures policy { IfOk result (λ q. rule_of q ≡ Refuse) }
+        ensures refused { OnlyWantsRoom capacity result }
+    {
+        SharedQueue::with_policy(alloc, capacity, QueuePolicy::Refuse)
+    }
+
+    /// Makes an empty queue with one handle, as `new` does, and with this policy for a full queue.
+    pub fn with_policy(alloc: A, capacity: Option<usize>, policy: QueuePolicy) -> MetricResult<Self>
+        ensures capacity { IfOk result (λ q. bound_of q ≡ capacity) }
+        ensures policy { IfOk result (λ q. rule_of q ≡ policy) }
+        ensures refused { OnlyWantsRoom capacity result }
+    {
+        Ok(SharedQueue::of(RecordedQueue::new(alloc, capacity, policy)?))
+    }
+}
+
+impl<T, A: Allocator, M> SharedQueue<T, A, M> {
+    // Puts a queue under a lock. Its capacity and its policy can be read outside the lock.
+    fn of(queue: RecordedQueue<T, A>) -> Self
+        ensures capacity { bound_of result ≡ (core_of queue).capacity }
+        ensures policy { rule_of result ≡ (core_of queue).policy }
+    {
+        let (capacity, policy) = (queue.core().capacity(), queue.core().policy());
+        SharedQueue {
+            state: Mutex::new(UnderLock {
+                queue,
+                spares: None,
+            }),
+            changed: Condvar::new(),
+            capacity,
+            policy,
+        }
+    }
+
+    /// Returns how many texts may wait, or `None` if any number may. It takes no lock.
+    pub fn capacity(&self) -> Option<usize>
+        ensures { result ≡ bound_of self.now }
+    {
+        self.capacity
+    }
+
+    /// Returns why this queue refused a text.
+    // A contract can't say that the capacity under the lock is the one outside. So if there is none outside, a refusal
+    // that says that the queue is full, which no run reaches, counts as one for want of memory. That is how the contracts
+    // can promise that a queue without a capacity is never full.
+    pub fn why(&self, refusal: &Refusal<T, A>) -> QueueError
+        ensures reason { bound_of self.now ≢ None → result ≡ why_of refusal.now }
+        ensures refusal { IsQueueRefusal (error_of result) }
+        ensures unbounded { bound_of self.now ≡ None → result ≢ Full }
+    {
+        match refusal.why() {
+            QueueError::Full if self.capacity.is_none() => QueueError::OutOfMemory,
+            why => why,
+        }
+    }
+}
+
+impl<T, A: Allocator + Clone, M: Drop> SharedQueue<T, A, M> {
+    /// Adds a text at the end, and wakes the threads that wait for one. It doesn't wait for room: if the queue is full, it
+    /// gives way to the worker once, for a moment, and then decides.
+    ///
+    /// Returns the text that a full queue dropped for the new one, if it dropped one. The errors are
+    /// `ChannelDisconnected` if the queue is stopped, `ChannelFull` if it is full and drops no text, and `OutOfMemory`.
+    /// After an error the text comes back, and the queue has not changed.
+    pub fn submit(&self, rt: &impl Wait, text: T) -> Result<Option<T>, (SinkError, T)>
+        ensures refused { IfErr result (λ e. IsQueueRefusal e.0 × (e.1 ≡ text)) }
+        ensures unbounded { bound_of self.now ≡ None → IfErr result (λ e. e.0 ≢ ChannelFull) }
+    {
+        match self.submit_shown(rt, text) {
+            Ok(accepted) => Ok(accepted.into_dropped()),
+            Err((refusal, text)) => Err((self.why(&refusal).into(), text)),
+        }
+    }
+
+    /// Adds a text at the end, as `submit` does, and shows the step or the refusal.
+    pub fn submit_shown(
+        &self,
+        rt: &impl Wait,
+        text: T,
+    ) -> Result<Accepted<T, A>, (Refusal<T, A>, T)>
+        ensures accepted { IfOk result (λ a. text_of a ≡ text) }
+        ensures refused { IfErr result (λ e. e.1 ≡ text) }
+        ensures bounded { IfErr result (λ e. IsBounded (at_of e.0).capacity →
+            IsTrue (is_open (at_of e.0)) → ⊥) }
+    {
+        let mut state = self.enter(rt);
+        let idle = state.queue.core().is_idle();
+        let (before, text_added) = (Snapshot::of(state.queue.core()), Snapshot::of(&text));
+        let answer = state.queue.add(text);
+        let after = Snapshot::of(state.queue.core());
+        drop(state);
+        self.wake(idle && answer.is_ok());
+        match answer {
+            Ok(dropped) => Ok(Accepted {
+                dropped,
+                text: text_added,
+                before,
+                after,
+            }),
+            Err((why, text)) => Err((Refusal { why, at: before }, text)),
+        }
+    }
+
+    /// Adds the text that `make` makes at the end, as `submit` does, and shows the step or the refusal.
+    ///
+    /// `make` is called only if the queue would accept a text and has room for it. It is called under the lock, so it must
+    /// not call the queue. It gets a text that the worker has handed on already, if there is one, and may make the new
+    /// text in the memory of that one.
+    pub fn offer<F: FnOnce(Option<M>) -> Result<T, AllocError>>(
+        &self,
+        rt: &impl Wait,
+        make: F,
+    ) -> Result<Accepted<T, A>, Refusal<T, A>>
+        requires { F.IsAlwaysCallable make }
+        ensures made { IfOk result (λ a. (older : Option M) × F.post make older (Ok (text_of a))) }
+        ensures bounded { IfErr result (λ e. IsBounded (at_of e).capacity →
+            IsTrue (is_open (at_of e)) →
+            (older : Option M) × (error : AllocError) × F.post make older (Err error)) }
+    {
+        let mut state = self.enter(rt);
+        let idle = state.queue.core().is_idle();
+        let spare = state.spare();
+        let before = Snapshot::of(state.queue.core());
+        let answer = state.queue.offer(|| make(spare));
+        let after = Snapshot::of(state.queue.core());
+        drop(state);
+        self.wake(idle && answer.is_ok());
+        match answer {
+            Ok((dropped, text)) => Ok(Accepted {
+                dropped,
+                text,
+                before,
+                after,
+            }),
+            Err(why) => Err(Refusal { why, at: before }),
+        }
+    }
+}
+
+impl<T, A: Allocator, M> SharedQueue<T, A, M> {
+    // Takes the lock for a caller that adds a text. If the queue is full, the caller gives way once.
+    fn enter(&self, rt: &impl Wait) -> MutexGuard<'_, UnderLock<T, A, M>> {
+        let state = acquire(&self.state, rt);
+        if !state.queue.core().is_full() {
+            return state;
+        }
+        self.enter_late(rt, state)
+    }
+
+    // Releases the lock of a full queue for a moment, so that the worker can take it, and then takes it again. A caller
+    // that asks a full queue again and again would otherwise keep the lock from the worker, which wants to empty it. It is
+    // a function of its own, so that `enter` is short enough to be inlined.
+    #[cold]
+    fn enter_late<'a>(
+        &'a self,
+        rt: &impl Wait,
+        state: MutexGuard<'a, UnderLock<T, A, M>>,
+    ) -> MutexGuard<'a, UnderLock<T, A, M>> {
+        if state.queue.core().is_stopped() {
+            return state;
+        }
+        drop(state);
+        give_way();
+        acquire(&self.state, rt)
+    }
+
+    // Wakes the threads that wait for a text, if one came to an idle queue. While a queue isn't idle, no thread waits.
+    fn wake(&self, has_come: bool) {
+        if has_come {
+            self.changed.notify_all();
+        }
+    }
+
+    /// Stops the queue: it refuses texts from now on. Texts that wait can still be taken. Wakes the threads that wait.
+    pub fn stop(&self, rt: &impl Wait) {
+        drop(self.stop_shown(rt));
+    }
+
+    /// Stops the queue, as `stop` does, and shows the step.
+    pub fn stop_shown(&self, rt: &impl Wait) -> Stopped<T, A> {
+        let mut state = self.state.lock(rt);
+        let before = Snapshot::of(state.queue.core());
+        state.queue.stop();
+        let after = Snapshot::of(state.queue.core());
+        drop(state);
+        self.changed.notify_all();
+        Stopped { before, after }
+    }
+
+    /// Counts one more handle.
+    pub fn add_handle(&self, rt: &impl Wait) {
+        self.state.lock(rt).queue.add_handle();
+    }
+
+    /// Counts one handle less. If it was the last one, stops the queue. Wakes the threads that wait.
+    pub fn drop_handle(&self, rt: &impl Wait) {
+        drop(self.drop_handle_shown(rt));
+    }
+
+    /// Counts one handle less, as `drop_handle` does, and shows the step.
+    pub fn drop_handle_shown(&self, rt: &impl Wait) -> Left<T, A> {
+        let mut state = self.state.lock(rt);
+        let before = Snapshot::of(state.queue.core());
+        state.queue.drop_handle();
+        let after = Snapshot::of(state.queue.core());
+        drop(state);
+        self.changed.notify_all();
+        Left { before, after }
+    }
+
+    /// Returns how many texts wait.
+    pub fn waiting(&self, rt: &impl Wait) -> usize {
+        self.state.lock(rt).queue.core().waiting()
+    }
+
+    /// Returns how many texts the queue has accepted so far, modulo 2^64.
+    pub fn submitted(&self, rt: &impl Wait) -> u64 {
+        self.state.lock(rt).queue.core().submitted()
+    }
+
+    /// Returns how many texts were taken so far, modulo 2^64.
+    pub fn drained(&self, rt: &impl Wait) -> u64 {
+        self.state.lock(rt).queue.core().drained()
+    }
+
+    /// Returns how many texts a full queue has dropped so far to make room, modulo 2^64.
+    pub fn dropped(&self, rt: &impl Wait) -> u64 {
+        self.state.lock(rt).queue.core().dropped()
+    }
+}

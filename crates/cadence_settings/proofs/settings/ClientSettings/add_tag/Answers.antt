@@ -1,0 +1,60 @@
+use Rattle.std.proofs.Common.{◌≡◌, List, Option, String, [], ◌∷◌, ◌++◌, map, ap, ◌∙◌, rules, subst, sym}
+use Rattle.std.proofs.lemmas.List.{map-append}
+use Rattle.std.specs.Option.{option_copied}
+use Rattle.cadence_text.specs.Metric.{Tag}
+use Rattle.cadence_text.proofs.writing.DraftText.{added_tag}
+use Rattle.cadence_text.specs.Owned.{tag_of_owned}
+use Rattle.std.specs.Prelude.{IsTrue}
+use Rattle.cadence_text.specs.Line.{tags_field}
+use Rattle.cadence_settings.proofs.calls.FreeTexts.{free_with_tag}
+use Rattle.cadence_settings.specs.Settings.{Settings, allows_tag, is_free_settings, with_default_tag}
+use Rattle.cadence_settings.specs.SettingsParts.{settings_seen}
+use Rattle.cadence_settings.proofs.settings.ClientSettings.add_tag.Goals as goal
+
+pub invariant_of-self-2 : goal.invariant_of-self-2
+invariant_of-self-2 g c =
+    let inside = c.self.inside in
+    let tags = inside.tags.items in
+    let tag : Option (String g.row.A.Denot) × String g.row.A.Denot = (c.match-key.key, c.in_ok-text.text) in
+    let given : Tag = record { key = option_copied c.args.key; text = c.args.text.now } in
+    let same : tag_of_owned tag ≡ given = search rules in
+    let allowed : IsTrue (allows_tag c.args.self.now given) = sym c.allows_tag.ensures
+    ∙ c.if-not-allows_tag.false in
+    let items : map tag_of_owned c.push_reserved.new.self.items ≡ map tag_of_owned tags ++ given ∷ [] =
+    cc (
+      map-append tag_of_owned tags (tag ∷ []),
+      same,
+      c.in_ok-reserve.ensures.items,
+      c.push_reserved.ensures.items,
+    ) in
+    let text : c.add.new.self ≡ tags_field (map tag_of_owned c.push_reserved.new.self.items) =
+    cc (
+      added_tag (map tag_of_owned tags) (tag_of_owned tag),
+      map-append tag_of_owned tags (tag ∷ []),
+      c.self.invariant.text,
+      c.in_ok-add.ensures.ok,
+      c.in_ok-reserve.ensures.items,
+      c.push_reserved.ensures.items,
+    ) in
+    record {
+      text = text;
+      free = λ strict. subst (λ (l : List Tag). IsTrue (is_free_settings (record (settings_seen inside) { tags = l }))) (sym items)
+          (free_with_tag (settings_seen inside) given strict (c.self.invariant.free strict)
+          (subst (λ (s : Settings). IsTrue (allows_tag s given)) (sym c.self.view_is) allowed));
+    }
+
+pub returns-clause-ok : goal.returns-clause-ok
+returns-clause-ok g c =
+    let inside = c.self.inside in
+    let tag : Option (String g.row.A.Denot) × String g.row.A.Denot = (c.match-key.key, c.in_ok-text.text) in
+    let given : Tag = record { key = option_copied c.args.key; text = c.args.text.now } in
+    let same : tag_of_owned tag ≡ given = search rules in
+    let before = map tag_of_owned inside.tags.items in
+    let tags : map tag_of_owned c.push_reserved.new.self.items ≡ before ++ given ∷ [] =
+    cc (
+      map-append tag_of_owned inside.tags.items (tag ∷ []),
+      c.in_ok-reserve.ensures.items,
+      c.push_reserved.ensures.items,
+    ) in
+    ap (λ (l : List Tag). record (settings_seen inside) { tags = l }) tags
+    ∙ ap (λ (s : Settings). with_default_tag s given) c.self.view_is

@@ -1,0 +1,24 @@
+use Rattle.std.proofs.Common.{◌≡◌, ◌∙◌, rules, string_bytes, subst}
+use Rattle.std.specs.Option.{option_copied, option_map}
+use Rattle.std.specs.Prelude.{map}
+use Rattle.cadence_value.specs.Values.{numbers_of}
+use Rattle.cadence_text.specs.Draft.{draft_of}
+use Rattle.cadence_text.specs.Line.{tags_field}
+use Rattle.cadence_text.specs.Owned.{tag_of_owned}
+use Rattle.cadence_settings.specs.Call.{metric_of_call, plain_call}
+use Rattle.cadence_settings.specs.Settings.{Settings}
+use Rattle.cadence_settings.specs.SettingsParts.{settings_seen}
+use Rattle.cadence_settings.proofs.calls.CallOptions.{draft_of_call}
+use Rattle.cadence_settings.proofs.settings.ClientSettings.draft_in_buffer.Goals as goal
+
+pub returns-clause-draft : goal.returns-clause-draft
+returns-clause-draft g c =
+    let inside = c.self.inside in
+    let call = plain_call c.args.kind c.args.key.now (numbers_of c.args.value) in
+    let prefix : c.deref.result.now ≡ string_bytes inside.prefix = search rules in
+    let tags : c.as_str-tags.result.now ≡ tags_field (map tag_of_owned inside.tags.items) = search rules in
+    let container : option_copied c.container.result ≡ option_map string_bytes inside.container = search rules in
+    let same =
+    draft_of_call (settings_seen inside) c.args.kind c.deref.result.now c.args.key.now c.as_str-tags.result.now (option_copied c.container.result)
+    (numbers_of c.args.value) prefix tags container in
+    subst (λ (s : Settings). c.in_ok-draft.draft ≡ draft_of (metric_of_call s call)) c.self.view_is (c.in_ok-draft.ensures.draft ∙ same)

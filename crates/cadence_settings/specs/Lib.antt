@@ -1,0 +1,11 @@
+pub mod Call
+pub mod CallData
+pub mod DraftErrors
+pub mod Laws
+pub mod Settings
+pub mod SettingsParts
+pub use Rattle.cadence_errors.specs.Errors
+pub use Rattle.cadence_text.specs.Line
+pub use Rattle.cadence_text.specs.Metric
+pub use Rattle.cadence_text.specs.OneReading
+pub use Rattle.cadence_value.specs.Values

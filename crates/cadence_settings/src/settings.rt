@@ -1,0 +1,309 @@
+//! The settings of a client: the prefix, the default tags and the default container that it adds to each call, and the
+//! lines and drafts of calls with them. `record` makes records of calls in place of lines, and `strict` has the tests of
+//! strict settings.
+mod record;
+mod strict;
+
+ghost use Rattle.std.specs.Prelude.{◌≡◌, IfOk, IfErr, IfSome, IsTrue, OnErr, OnOk, Some, string_bytes};
+ghost use Rattle.std.specs.Option.{option_copied};
+ghost use Rattle.cadence_text.specs.Draft.{draft_of};
+ghost use Rattle.cadence_text.specs.Line.{line_of};
+ghost use Rattle.cadence_text.specs.Representable.{IsRepresentable};
+ghost use Rattle.cadence_value.specs.Values.{numbers_of};
+ghost use Rattle.cadence_settings.specs.Settings.{client_prefix, without_dots, settings_of, with_default_tag, with_default_container};
+ghost use Rattle.cadence_settings.specs.Settings.{FailsFor, allows_tag, allows_text};
+ghost use Rattle.cadence_settings.specs.Call.{metric_of_call, plain_call};
+ghost use Rattle.cadence_settings.specs.DraftErrors.{DraftFails};
+ghost use Rattle.cadence_settings.specs.CallData.{line_of_data, metric_of_data};
+ghost use Rattle.cadence_settings.specs.CallData.{LineFails};
+
+use super::call::{Call, choose_all};
+use cadence_errors::{MetricError, MetricResult};
+use cadence_text::line::{DraftLine, Head, MetricType, OwnedTag, TagsText, lend_tag};
+use cadence_value::value::MetricValue;
+use std::alloc::{AllocError, Allocator, Global};
+use std::marker::Model;
+pub use strict::{DraftError, tag_is_free, text_is_free};
+
+// How many bytes a draft reserves for the tags and other options of the call itself.
+const OWN_BYTES: usize = 96;
+
+// Returns the text without its trailing dots.
+fn without_trailing_dots(prefix: &str) -> &str
+    ensures { result.now ≡ without_dots prefix.now }
+{
+    let mut kept = prefix;
+    while let Some(shorter) = kept.strip_suffix('.') {
+        kept = shorter;
+    }
+    kept
+}
+
+// Returns the prefix as each line begins with it. The only error is that memory ran out.
+fn formatted_prefix<A: Allocator>(alloc: A, prefix: &str) -> Result<String<A>, AllocError>
+    ensures { IfOk result (λ s. string_bytes s ≡ client_prefix prefix.now) }
+{
+    if prefix.is_empty() {
+        return String::from_str(alloc, "");
+    }
+    let kept = without_trailing_dots(prefix);
+    let mut text = String::with_capacity(alloc, kept.len().saturating_add(1))?;
+    text.push_str(kept)?;
+    text.push('.')?;
+    Ok(text)
+}
+
+/// What a client adds to each call: its prefix, its default tags and its default container. Settings can be strict: then
+/// they refuse each text with a colon, a comma, a bar or a newline, so that no text can change another metric.
+///
+/// Contracts see the value as a `Settings` of the definitions.
+#[derive(Drop)]
+pub struct ClientSettings<A: Allocator = Global> {
+    prefix: String<A>,
+    tags: Vec<OwnedTag<A>, A>,
+    // The tags as a line has them, so that a call copies one text.
+    text: TagsText<A>,
+    container: Option<String<A>>,
+    strict: bool,
+}
+
+impl<A: Allocator> Model for ClientSettings<A> {
+    ghost use Rattle.cadence_settings.specs.Settings.{Settings};
+
+    ghost Value = { Settings };
+
+    ghost use Rattle.cadence_settings.specs.SettingsParts.{IsInOrder, settings_seen};
+
+    ghost view = { settings_seen };
+
+    ghost invariant = { IsInOrder };
+}
+
+impl<A: Allocator + Clone> ClientSettings<A> {
+    ghost use Rattle.cadence_errors.specs.Errors.{Makes};
+
+    /// Returns settings with this prefix, without default tags and without a default container. They are not strict.
+    ///
+    /// An empty prefix adds nothing to a name. Any other prefix loses its trailing dots, and then one dot is added. The
+    /// Rust crate does so too.
+    ///
+    /// # Errors
+    /// `SinkError::OutOfMemory`, and no other.
+    pub fn new(alloc: A, prefix: &str) -> MetricResult<ClientSettings<A>>
+        ensures { Makes (settings_of prefix.now) result }
+    {
+        Ok(ClientSettings {
+            prefix: formatted_prefix(alloc.clone()?, prefix)?,
+            text: TagsText::new(alloc.clone()?),
+            tags: Vec::new(alloc),
+            container: None,
+            strict: false,
+        })
+    }
+
+    // Returns whether the settings allow a text.
+    fn allows_text(&self, text: &str) -> bool
+        ensures { result ≡ allows_text self.now text.now }
+    {
+        !self.strict || text_is_free(text)
+    }
+
+    // Returns whether the settings allow a tag.
+    fn allows_tag(&self, key: Option<&str>, text: &str) -> bool
+        ensures { result ≡ allows_tag self.now
+            (record { key = option_copied key.entry; text = text.now }) }
+    {
+        !self.strict || tag_is_free(key, text)
+    }
+
+    /// Adds a default tag after those that the settings have: `key:text`, or `text` alone if `key` is `None`.
+    ///
+    /// # Errors
+    /// An error of kind `InvalidInput` (`separator in a text`) if and only if the settings are strict and a text of the
+    /// tag has a separator. Otherwise `SinkError::OutOfMemory`. After an error the settings are unchanged.
+    pub fn add_tag(&mut self, key: Option<&str>, text: &str) -> MetricResult<()>
+        ensures ok { OnOk result (self.new ≡
+            with_default_tag self.old (record { key = option_copied key.entry; text = text.now })) }
+        ensures allowed { OnOk result (IsTrue
+            (allows_tag self.old (record { key = option_copied key.entry; text = text.now }))) }
+        ensures err { IfErr result (FailsFor
+            (allows_tag self.old (record { key = option_copied key.entry; text = text.now }))) }
+        ensures kept { OnErr result (self.new ≡ self.old) }
+    {
+        if !self.allows_tag(key, text) {
+            return Err(MetricError::from(DraftError::Separator));
+        }
+        let alloc = self.tags.allocator();
+        let key = match key {
+            Some(key) => Some(String::from_str(alloc.clone()?, key)?),
+            None => None,
+        };
+        let text = String::from_str(alloc.clone()?, text)?;
+        let tag = (key, text);
+        self.tags.reserve(1)?;
+        self.text.add(lend_tag(&tag))?;
+        self.tags.push_reserved(tag);
+        Ok(())
+    }
+
+    /// Sets the default container, which replaces an earlier one.
+    ///
+    /// # Errors
+    /// An error of kind `InvalidInput` (`separator in a text`) if and only if the settings are strict and the container
+    /// has a separator. Otherwise `SinkError::OutOfMemory`. After an error the settings are unchanged.
+    pub fn set_container(&mut self, container: &str) -> MetricResult<()>
+        ensures ok { OnOk result (self.new ≡ with_default_container self.old container.now) }
+        ensures allowed { OnOk result (IsTrue (allows_text self.old container.now)) }
+        ensures err { IfErr result (FailsFor (allows_text self.old container.now)) }
+        ensures kept { OnErr result (self.new ≡ self.old) }
+    {
+        if !self.allows_text(container) {
+            return Err(MetricError::from(DraftError::Separator));
+        }
+        let alloc = self.tags.allocator().clone()?;
+        self.container = Some(String::from_str(alloc, container)?);
+        Ok(())
+    }
+
+    // Returns the default container.
+    fn container(&self) -> Option<&str>
+        ensures { option_copied result ≡ (self.now).container }
+    {
+        self.container.as_ref().map(|id| id.as_str())
+    }
+
+    /// Returns the draft of the line of a call without options. The draft begins with the prefix and has the default
+    /// tags and the default container, and room for some tags of the call itself. Its buffer is allocated at once.
+    ///
+    /// # Errors
+    /// `DraftError::Separator` if and only if the settings are strict and the key has a separator. Otherwise
+    /// `DraftError::OutOfMemory`.
+    pub fn draft<'a>(
+        &'a self,
+        key: &str,
+        kind: MetricType,
+        value: MetricValue<A>,
+    ) -> Result<DraftLine<'a, A>, DraftError>
+        ensures draft { IfOk result (λ draft. draft ≡
+            draft_of (metric_of_call self.now (plain_call kind key.now (numbers_of value)))) }
+        ensures representable { OnOk result
+            (IsRepresentable
+            (metric_of_call self.now (plain_call kind key.now (numbers_of value)))) }
+        ensures allowed { OnOk result (IsTrue (allows_text self.now key.now)) }
+        ensures refused { IfErr result (DraftFails (allows_text self.now key.now)) }
+    {
+        if !self.allows_text(key) {
+            return Err(DraftError::Separator);
+        }
+        Ok(self.draft_with(key, kind, value, OWN_BYTES)?)
+    }
+
+    // Returns the draft of the line of a call without options, with room for `room` bytes of options. It tests no text.
+    // Without this hint a call of `bench count` takes 134 instructions more.
+    #[inline(always)]
+    fn draft_with<'a>(
+        &'a self,
+        key: &str,
+        kind: MetricType,
+        value: MetricValue<A>,
+        room: usize,
+    ) -> Result<DraftLine<'a, A>, AllocError>
+        ensures draft { IfOk result (λ draft. draft ≡
+            draft_of (metric_of_call self.now (plain_call kind key.now (numbers_of value)))) }
+        ensures representable { OnOk result
+            (IsRepresentable
+            (metric_of_call self.now (plain_call kind key.now (numbers_of value)))) }
+    {
+        let head = Head {
+            prefix: &self.prefix,
+            key,
+            value,
+            kind,
+        };
+        let alloc = self.tags.allocator().clone()?;
+        DraftLine::new(alloc, &head, self.text.as_str(), self.container(), room)
+    }
+
+    /// Returns what `draft` returns, but writes it into a buffer of the caller's, whose text is lost. It takes memory
+    /// only if the buffer is too short. The errors are those of `draft`, and after an error the buffer is freed.
+    // Without this hint a counter with tags of `bindings/c/speed.c` takes 13 instructions more.
+    #[inline(always)]
+    pub fn draft_in_buffer<'a>(
+        &'a self,
+        buffer: Vec<u8, A>,
+        key: &str,
+        kind: MetricType,
+        value: MetricValue<A>,
+    ) -> Result<DraftLine<'a, A>, DraftError>
+        ensures draft { IfOk result (λ draft. draft ≡
+            draft_of (metric_of_call self.now (plain_call kind key.now (numbers_of value)))) }
+        ensures allowed { OnOk result (IsTrue (allows_text self.now key.now)) }
+        ensures refused { IfErr result (DraftFails (allows_text self.now key.now)) }
+    {
+        if !self.allows_text(key) {
+            return Err(DraftError::Separator);
+        }
+        let head = Head {
+            prefix: &self.prefix,
+            key,
+            value,
+            kind,
+        };
+        let tags = self.text.as_str();
+        let draft = DraftLine::in_buffer(buffer, &head, tags, self.container(), OWN_BYTES)?;
+        Ok(draft)
+    }
+
+    /// Returns the line of a call without options, with the prefix and the defaults of these settings. It takes memory
+    /// by one request, of exactly the length of the line.
+    ///
+    /// # Errors
+    /// Those of `draft`.
+    // Without this hint a call of `bench count` takes 91 instructions more.
+    #[inline(always)]
+    pub fn line(
+        &self,
+        key: &str,
+        kind: MetricType,
+        value: MetricValue<A>,
+    ) -> Result<String<A>, DraftError>
+        ensures line { IfOk result (λ text. string_bytes text ≡
+            line_of (metric_of_call self.now (plain_call kind key.now (numbers_of value)))) }
+        ensures allowed { OnOk result (IsTrue (allows_text self.now key.now)) }
+        ensures refused { IfErr result (DraftFails (allows_text self.now key.now)) }
+    {
+        if !self.allows_text(key) {
+            return Err(DraftError::Separator);
+        }
+        let room = match &self.container {
+            Some(id) => id.len().saturating_add(3),
+            None => 0,
+        };
+        Ok(self.draft_with(key, kind, value, room)?.into_text()?)
+    }
+
+    /// Returns the line of a call that is kept as data, with the prefix and the defaults of these settings and the
+    /// options of the call. It is made by the same drafts as the lines of a client's builder.
+    ///
+    /// # Errors
+    /// An error of kind `InvalidInput` if and only if a duration of the call passes `u64::MAX` in the unit of its kind
+    /// (`u64 overflow`), which is milliseconds for a timer and nanoseconds for a histogram, or the settings are strict
+    /// and a text of the call has a separator (`separator in a text`). The first one counts if both are so. Otherwise the
+    /// only error is `SinkError::OutOfMemory`.
+    pub fn line_of<'a>(&'a self, call: &'a Call<A>) -> MetricResult<String<A>>
+        ensures line { IfOk result (λ line.
+            line_of_data self.now call.now ≡ Some (string_bytes line)) }
+        ensures refused { IfErr result (LineFails (line_of_data self.now call.now)) }
+        ensures representable { OnOk result
+            (IfSome (metric_of_data self.now call.now) IsRepresentable) }
+    {
+        let value = match self.value_of(call) {
+            Ok(value) => value,
+            Err(error) => return Err(error),
+        };
+        let mut draft = self.draft_with(&call.key, call.value.kind(), value, OWN_BYTES)?;
+        choose_all(&mut draft, &call.options)?;
+        let line = draft.into_text()?;
+        Ok(line)
+    }
+}

@@ -1,0 +1,168 @@
+//! Strict settings: the tests of texts for separators, and the error of a text that has one.
+ghost use Rattle.std.specs.Prelude.{◌≡◌, IfErr, IsFalse, IsTrue, OnOk, OnErr, map, option_copied};
+ghost use Rattle.std.specs.List.{list_all};
+ghost use Rattle.cadence_errors.specs.Errors.{IsInvalid, out_of_memory};
+ghost use Rattle.cadence_text.specs.Owned.{tag_of_owned};
+ghost use Rattle.cadence_settings.specs.DraftErrors.{IsSameError};
+ghost use Rattle.cadence_text.specs.FreeTexts.{is_free_if_any, is_free_tag, is_free_text};
+ghost use Rattle.cadence_settings.specs.declared.settings.strict.DraftError.TheVariants.{OutOfMemory};
+
+use super::ClientSettings;
+use crate::call::Call;
+use cadence_errors::{ErrorKind, MetricError, MetricResult};
+use cadence_text::line::{OwnedTag, is_free, lend_tag};
+use cadence_value::value::MetricValue;
+use std::alloc::{AllocError, Allocator};
+
+/// Why the draft or the line of a call was not made.
+#[derive(Clone, Copy, Debug, PartialEq, Eq)]
+pub enum DraftError {
+    /// The settings are strict, and a text has a colon, a comma, a bar or a newline.
+    Separator,
+    /// The allocator refused memory, or the length of the line passes `usize::MAX`.
+    OutOfMemory,
+}
+
+/// A refused allocation is `DraftError::OutOfMemory`.
+impl From<AllocError> for DraftError {
+    ghost from_gives = { λ _ e. e ≡ OutOfMemory };
+
+    fn from(_error: AllocError) -> DraftError {
+        DraftError::OutOfMemory
+    }
+}
+
+/// `DraftError::Separator` is an error of kind `InvalidInput` (`separator in a text`), and `DraftError::OutOfMemory` is
+/// `SinkError::OutOfMemory`.
+impl From<DraftError> for MetricError {
+    ghost from_gives = { IsSameError };
+
+    fn from(error: DraftError) -> MetricError {
+        match error {
+            DraftError::Separator => {
+                MetricError::from((ErrorKind::InvalidInput, "separator in a text"))
+            }
+            DraftError::OutOfMemory => MetricError::from(AllocError),
+        }
+    }
+}
+
+/// Returns whether a text has no colon, comma, bar or newline.
+pub fn text_is_free(text: &str) -> bool
+    ensures { result ≡ is_free_text text.now }
+{
+    is_free(text.as_bytes())
+}
+
+// Returns whether a text has no separator, if there is a text.
+fn any_is_free(text: Option<&str>) -> bool
+    ensures { result ≡ is_free_if_any (option_copied text.entry) }
+{
+    match text {
+        Some(text) => text_is_free(text),
+        None => true,
+    }
+}
+
+/// Returns whether neither the key of a tag, if it has one, nor its text has a colon, comma, bar or newline.
+pub fn tag_is_free(key: Option<&str>, text: &str) -> bool
+    ensures { result ≡ is_free_tag (record { key = option_copied key.entry; text = text.now }) }
+{
+    any_is_free(key) && text_is_free(text)
+}
+
+// Returns whether no tag of the list has a separator.
+fn tags_are_free<A: Allocator>(tags: &[OwnedTag<A>]) -> bool
+    ensures { result ≡ list_all is_free_tag (map tag_of_owned tags.now) }
+{
+    for owned in tags {
+        let tag = lend_tag(owned);
+        if !tag_is_free(tag.key, tag.text) {
+            return false;
+        }
+    }
+    true
+}
+
+// Returns the error of a call that has a separator in a text: the error of its value, if the value doesn't fit, and
+// otherwise that of the separator.
+#[cold]
+fn unfree_error<V: Drop>(value: MetricResult<V>) -> MetricError
+    ensures { IsInvalid result }
+{
+    match value {
+        Err(MetricError::Described(ErrorKind::InvalidInput, text)) => {
+            MetricError::Described(ErrorKind::InvalidInput, text)
+        }
+        _ => MetricError::from(DraftError::Separator),
+    }
+}
+
+impl<A: Allocator + Clone> ClientSettings<A> {
+    ghost use Rattle.cadence_value.specs.Values.{Converts};
+    ghost use Rattle.cadence_settings.specs.CallData.{numbers_of_data};
+    ghost use Rattle.cadence_settings.specs.Settings.{allows_text, is_free_settings, with_strict_texts};
+
+    /// Makes the settings strict. From then on each call, default tag and default container with a separator in a text
+    /// is refused: a colon, a comma, a bar or a newline. So no text of a call can make, change or split a metric.
+    ///
+    /// # Errors
+    /// An error of kind `InvalidInput` (`separator in a text`) if and only if the prefix, a default tag or the default
+    /// container has a separator. Then the settings are unchanged.
+    pub fn set_strict(&mut self) -> MetricResult<()>
+        ensures ok { OnOk result (self.new ≡ with_strict_texts self.old) }
+        ensures free { OnOk result (IsTrue (is_free_settings self.old)) }
+        ensures err { IfErr result IsInvalid }
+        ensures unfree { OnErr result (IsFalse (is_free_settings self.old)) }
+        ensures kept { OnErr result (self.new ≡ self.old) }
+    {
+        if !self.is_free() {
+            return Err(MetricError::from(DraftError::Separator));
+        }
+        self.strict = true;
+        Ok(())
+    }
+
+    /// Returns whether the settings are strict.
+    pub fn is_strict(&self) -> bool
+        ensures strict { result ≡ self.now.strict }
+        ensures free { IsTrue result → IsTrue (is_free_settings self.now) }
+    {
+        self.strict
+    }
+
+    // Returns whether no text of the settings has a separator.
+    fn is_free(&self) -> bool
+        ensures { result ≡ is_free_settings self.now }
+    {
+        if !text_is_free(&self.prefix) || !tags_are_free(&self.tags) {
+            return false;
+        }
+        any_is_free(self.container())
+    }
+
+    /// Returns the error of a call without options whose value gave this error: the same one, if the settings allow the
+    /// key or the value doesn't fit, and otherwise the error of kind `InvalidInput` (`separator in a text`). So a call
+    /// that is refused for its texts is refused so too if memory ran out for its value.
+    #[cold]
+    pub fn value_error(&self, key: &str, error: MetricError) -> MetricError
+        ensures allowed { IsTrue (allows_text self.now key.now) → result ≡ error }
+        ensures refused { IsFalse (allows_text self.now key.now) → IsInvalid result }
+    {
+        if self.allows_text(key) {
+            return error;
+        }
+        unfree_error::<()>(Err(error))
+    }
+
+    // Returns the value of a call. If the settings don't allow the call, the error is of kind `InvalidInput`.
+    pub(super) fn value_of(&self, call: &Call<A>) -> MetricResult<MetricValue<A>>
+        ensures { Converts (numbers_of_data self.now call.now) result }
+    {
+        let value = call.value.convert();
+        if self.strict && !call.is_free() {
+            return Err(unfree_error(value));
+        }
+        value
+    }
+}

@@ -1,5 +1,0 @@
-use Rattle.cadence_shared.specs.Held.{nothing_is_held}
-use Rattle.cadence_shared.proofs.metric_sink.holds_nothing.Goals as goal
-
-pub returns : goal.returns
-returns c = nothing_is_held

@@ -1,0 +1,4 @@
+-- Reading numbers: digits and a sign determine one number.
+pub mod DigitsRead
+pub mod NumberRead
+pub mod SignedDigits

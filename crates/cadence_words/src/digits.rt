@@ -1,0 +1,108 @@
+//! The digits of a number, and the number that they and an exponent make.
+ghost use Rattle.std.specs.Prelude.{◌≡◌, ◌≢◌, ◌⊎◌, ◌+◌, ◌-◌, ◌*◌, ◌%◌, ◌^◌, ◌<◌, ◌≤◌, ◌++◌, SomeIff, FitsSigned, length, replicate};
+ghost use Rattle.std.specs.Str.Parse.{AllDigits, digits_value, digits_value_after};
+ghost use Rattle.cadence_words.specs.Printed.{IsOfDigits};
+ghost use Rattle.cadence_words.specs.Trimmed.{IsTrimmed};
+ghost use Rattle.cadence_value.specs.Digits.{signed_integer};
+ghost use Rattle.cadence_value.specs.Finds.{Finds};
+ghost use Rattle.cadence_value.specs.Number.{IsDecimal, IsLowestForm};
+
+use crate::parts::shifts_of;
+use cadence_value::bytes::trim_end_zeros;
+use cadence_value::decimal::{Decimal, signed_number};
+
+// The most zeros that a number of 128 bits can end in, and the most decimal places of a `Decimal`.
+const MOST_ZEROS: u128 = 38;
+
+const MOST_PLACES: u128 = 30;
+
+// Returns the number that digits say if they come after those of `start`.
+fn read_digits(start: u128, digits: &[u8]) -> Option<u128>
+    ensures { SomeIff result (AllDigits 10 digits.now
+        × (digits_value_after 10 start digits.now < 2 ^ 128))
+        (digits_value_after 10 start digits.now) }
+{
+    let mut value = start;
+    for byte in digits {
+        if !byte.is_ascii_digit() {
+            return None;
+        }
+        value = value
+            .checked_mul(10)?
+            .checked_add(u128::from(*byte - b'0'))?;
+    }
+    Some(value)
+}
+
+// The digits of a number without the zeros at their end.
+#[derive(Clone, Copy)]
+struct Significant<'a> {
+    whole: &'a [u8],
+    fraction: &'a [u8],
+    // How many zeros there were.
+    zeros: u128,
+}
+
+// Cuts the zeros at the end off the digits before and after a dot.
+fn trim_both<'a>(whole: &'a [u8], fraction: &'a [u8]) -> Significant<'a>
+    ensures { IsTrimmed whole.now fraction.now
+        (result.whole.now ++ result.fraction.now) result.zeros }
+{
+    let places = trim_end_zeros(fraction);
+    if !places.is_empty() {
+        return Significant {
+            whole,
+            fraction: places,
+            zeros: (fraction.len() - places.len()) as u128,
+        };
+    }
+    let digits = trim_end_zeros(whole);
+    Significant {
+        whole: digits,
+        fraction: places,
+        zeros: (whole.len() - digits.len()) as u128 + fraction.len() as u128,
+    }
+}
+
+// Returns the decimal of a number with these zeros after it, divided by a power of ten.
+fn scaled(is_below: bool, size: u128, raised: u128, lowered: u128) -> Option<Decimal>
+    requires { size % 10 ≡ 0 → size ≡ 0 }
+    ensures { Finds (λ n. IsDecimal n
+        × IsLowestForm (signed_integer is_below (size * 10 ^ raised)) lowered n) result }
+{
+    if size == 0 {
+        return Decimal::new(0, 0).ok();
+    }
+    let zeros = raised.saturating_sub(lowered);
+    let places = lowered.saturating_sub(raised);
+    if zeros > MOST_ZEROS || places > MOST_PLACES {
+        return None;
+    }
+    let size = size.checked_mul(10u128.pow(zeros as u32))?;
+    let mantissa = signed_number(is_below, size)?;
+    let Ok(number) = Decimal::new(mantissa, places as u8) else {
+        return None;
+    };
+    Some(number)
+}
+
+// Returns the decimal of the digits before and after a dot, with this exponent.
+pub(crate) fn number_of(
+    is_below: bool,
+    whole: &[u8],
+    fraction: &[u8],
+    exponent: i32,
+) -> Option<Decimal>
+    ensures { Finds (λ n. IsDecimal n
+        × IsOfDigits is_below whole.now fraction.now exponent n) result }
+{
+    if whole.len() + fraction.len() == 0 {
+        return None;
+    }
+    let digits = trim_both(whole, fraction);
+    let front = read_digits(0, digits.whole)?;
+    let size = read_digits(front, digits.fraction)?;
+    let (raised, lowered) = shifts_of(exponent);
+    let places = fraction.len() as u128 + u128::from(lowered);
+    scaled(is_below, size, digits.zeros + u128::from(raised), places)
+}

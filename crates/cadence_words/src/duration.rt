@@ -1,0 +1,127 @@
+//! Reads durations: a number and a unit, as in `1.25s`.
+ghost use Rattle.std.specs.Prelude.{◌≡◌, ◌≤◌, ◌<◌, ◌^◌, ◌++◌, All, IfNone, IfSome, SomeIff, slice_index};
+ghost use Rattle.cadence_words.specs.Duration.{CountsNanos, IsDurationWord, IsNanos, IsTimeWord, unit_tens, unit_text};
+ghost use Rattle.cadence_text.specs.declared.line.MetricType.TheVariants.{Timer};
+ghost use Rattle.cadence_value.specs.Finds.{Finds};
+ghost use Rattle.cadence_value.specs.Number.{natural};
+
+use crate::decimal::read_bytes;
+use cadence_text::line::MetricType;
+use cadence_value::decimal::{Decimal, power_of_ten};
+
+// A unit of time.
+#[derive(Clone, Copy)]
+pub(crate) enum Unit {
+    Second,
+    Milli,
+    Micro,
+    Nano,
+}
+
+impl Unit {
+    // Returns the number `n` for which the unit is 10 to the power of `n` nanoseconds.
+    fn tens(self) -> u8
+        ensures value { result ≡ unit_tens self }
+        ensures most { result ≤ 9 }
+    {
+        match self {
+            Unit::Second => 9,
+            Unit::Milli => 6,
+            Unit::Micro => 3,
+            Unit::Nano => 0,
+        }
+    }
+}
+
+// Returns the unit that a word names.
+fn read_unit(word: &[u8]) -> Option<Unit>
+    ensures { Finds (λ unit. unit_text unit ≡ word.now) result }
+{
+    match word {
+        [b's'] => Some(Unit::Second),
+        [b'm', b's'] => Some(Unit::Milli),
+        [b'u', b's'] => Some(Unit::Micro),
+        [b'n', b's'] => Some(Unit::Nano),
+        _ => None,
+    }
+}
+
+// Splits a word before the first byte that comes after the digits in ASCII, as all letters do.
+fn cut_unit(word: &[u8]) -> Option<(&[u8], &[u8])>
+    ensures none { IfNone result (All (λ byte. byte ≤ 57) word.now) }
+    ensures front { IfSome result (λ parts. All (λ byte. byte ≤ 57) parts.0.now) }
+    ensures rest { IfSome result (λ parts. 57 < slice_index parts.1.now 0) }
+    ensures whole { IfSome result (λ parts. word.now ≡ parts.0.now ++ parts.1.now) }
+{
+    let at = word.iter().position(|byte| *byte > b'9')?;
+    Some((&word[..at], &word[at..]))
+}
+
+// Returns how many nanoseconds a number of units is. Returns `None` for a negative number, or if the number of
+// nanoseconds is not whole or doesn't fit 128 bits.
+fn nanos_of(number: Decimal, unit: Unit) -> Option<u128>
+    ensures { Finds (λ nanos. IsNanos number unit nanos × (nanos < 2 ^ 128)) result }
+{
+    let (places, tens) = (number.places(), unit.tens());
+    if places > tens {
+        return None;
+    }
+    let size = u128::try_from(number.mantissa()).ok()?;
+    size.checked_mul(power_of_ten(tens - places))
+}
+
+// Returns how many nanoseconds a word says.
+fn read_nanos(word: &[u8]) -> Option<u128>
+    ensures { Finds (λ nanos. IsTimeWord word.now nanos × (nanos < 2 ^ 128)) result }
+{
+    let (digits, unit) = cut_unit(word)?;
+    let unit = read_unit(unit)?;
+    let number = read_bytes(digits)?;
+    nanos_of(number, unit)
+}
+
+// Returns how many milliseconds a number of nanoseconds is, if that is a whole number.
+fn whole_millis(nanos: u128) -> Option<u128>
+    ensures { Finds (CountsNanos Timer nanos) result }
+{
+    if nanos % 1_000_000 != 0 {
+        return None;
+    }
+    Some(nanos / 1_000_000)
+}
+
+// Returns the value of a duration for this kind of metric: milliseconds for a timer, if there is a whole number of them,
+// and nanoseconds for a histogram. The other kinds don't take durations.
+fn count_of(kind: MetricType, nanos: u128) -> Option<u128>
+    ensures { Finds (CountsNanos kind nanos) result }
+{
+    match kind {
+        MetricType::Timer => whole_millis(nanos),
+        MetricType::Histogram => Some(nanos),
+        _ => None,
+    }
+}
+
+// Returns the value if it fits 64 bits.
+fn in_64_bits(count: u128) -> Option<u64>
+    ensures { SomeIff result (count < 2 ^ 64) count }
+{
+    u64::try_from(count).ok()
+}
+
+// Returns a whole number as a decimal.
+fn whole_decimal(count: u64) -> Option<Decimal>
+    ensures { Finds (λ n. n ≡ natural count) result }
+{
+    Decimal::new(i128::from(count), 0).ok()
+}
+
+/// Returns the value, for this kind of metric, of the duration that a word says. Takes no memory.
+pub fn read_duration(kind: MetricType, word: &[u8]) -> Option<Decimal>
+    ensures { Finds (IsDurationWord kind word.now) result }
+{
+    let nanos = read_nanos(word)?;
+    let count = count_of(kind, nanos)?;
+    let fits = in_64_bits(count)?;
+    whole_decimal(fits)
+}

@@ -1,0 +1,22 @@
+//! Reads numbers as tools print them.
+ghost use Rattle.cadence_words.specs.Printed.{SaysNumber};
+ghost use Rattle.cadence_value.specs.Finds.{Finds};
+ghost use Rattle.cadence_value.specs.Number.{IsDecimal};
+
+use crate::digits::number_of;
+use crate::parts::{cut_dot, cut_exponent, cut_sign};
+use cadence_value::decimal::Decimal;
+
+/// Returns the decimal number that a text says: digits with at most one dot, perhaps with a plus or a minus before them,
+/// and perhaps with an exponent after them, as in `.5`, `+1`, `-0.0` and `1.5e+06`. These are the finite numbers that
+/// the `f64` of Rust reads, but they are read exactly. Takes no memory.
+///
+/// Returns `None` if the text says no number, if its exponent does not fit 32 bits, or if no `Decimal` is that number.
+pub fn read_printed(text: &str) -> Option<Decimal>
+    ensures { Finds (λ n. IsDecimal n × SaysNumber text.now n) result }
+{
+    let (is_below, unsigned) = cut_sign(text.as_bytes());
+    let (front, exponent) = cut_exponent(unsigned)?;
+    let (whole, fraction) = cut_dot(front);
+    number_of(is_below, whole, fraction, exponent)
+}
