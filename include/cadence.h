@@ -1,37 +1,58 @@
 /* The proved Statsd formatter and packer, for C and C++.
  *
- * A client formats the lines of metrics and packs them into packets. It starts no thread, takes no lock and opens no
- * socket: the host asks for the oldest finished packet (cadence_next), sends it, and then drops it (cadence_sent).
+ *     const cadence_settings settings = cadence_settings_of("my.service.");
+ *     cadence_handle client = CADENCE_CLOSED;
+ *     cadence_open(&client, 1432, 8, CADENCE_DROP_OLDEST);
+ *     cadence_count(&client, &settings, "visits", 1, NULL);
+ *     cadence_flush(&client);
+ *     while (cadence_next(&client, packet, sizeof packet, &length) == CADENCE_OK)
+ *         if (send(fd, packet, length, 0) >= 0) cadence_sent(&client); else break;
+ *     cadence_free(&client);
+ *
+ * Settings are what each line has: a prefix, default tags, a default container, and whether they are strict. They are
+ * texts in memory of the host, so any number of threads and clients may read them at the same time. A client packs the
+ * lines of metrics into packets. It starts no thread, takes no lock and opens no socket: the host asks for the oldest
+ * finished packet (cadence_next), sends it, and then drops it (cadence_sent). A host that packs lines by itself needs
+ * no client: cadence_format_signed and the calls after it write one line each.
+ *
+ * The last part of this header has the calls for texts that end with a zero byte: cadence_settings_of,
+ * cadence_settings_make, cadence_count, cadence_gauge, cadence_time_millis and others.
  *
  * What the host must ensure:
  * - Only one call at a time uses a handle. Give each thread its own handle, or guard a handle with a lock. A handle may
  *   move to another thread under such a lock. Never copy a handle: it has one owner.
  * - A pointer points to as many values as the length beside it says. During a call no other thread writes what the call
  *   reads, and no other thread reads or writes what it writes. If the length is 0, the pointer may be null. A pointer
- *   without a length is never null.
+ *   without a length is never null. What a call writes is not what it reads.
  * - malloc, realloc and free belong to one allocator. Make no call from a signal handler, or where malloc may not be
  *   called. The forked child of a process with threads is such a place, unless its C library allows malloc there, as
  *   glibc does. A forked child has a copy of what its parent holds. The child must make a new client, because otherwise
  *   both processes send the same packets.
  *
- * Each call of a client except cadence_free returns a status. If the status is not CADENCE_OK, the client is as it was
- * before the call. If several statuses apply, a call returns the first one in this list:
- * - cadence_new: CADENCE_NOT_UTF8, CADENCE_INVALID, CADENCE_NO_MEMORY for the prefix, CADENCE_SEPARATOR,
- *   CADENCE_NO_MEMORY.
- * - cadence_add_tag, cadence_set_container: CADENCE_NOT_UTF8, CADENCE_NO_CLIENT, CADENCE_SEPARATOR, CADENCE_NO_MEMORY.
- * - cadence_signed, cadence_unsigned, cadence_decimal, cadence_duration:
+ * Each call but cadence_free and cadence_version returns a status. If the status is not CADENCE_OK, the client is as it
+ * was before the call. If several statuses apply, a call returns the first one in this list:
+ * - cadence_open: CADENCE_INVALID, CADENCE_NO_MEMORY.
+ * - cadence_signed, cadence_unsigned, cadence_decimal, cadence_floating, cadence_duration:
  *   - for the values, CADENCE_INVALID if the call is cadence_duration and the kind has no durations, CADENCE_NO_MEMORY
- *     if there is not exactly one value and memory runs out, CADENCE_INVALID if a decimal has over 30 places;
+ *     if there is not exactly one value and memory runs out, CADENCE_INVALID if a decimal has over 30 places, or a
+ *     double is NaN, infinite or too large;
  *   - CADENCE_NO_CLIENT;
- *   - for the rest of the call, CADENCE_NOT_UTF8 for the key, CADENCE_INVALID for the kind, CADENCE_NOT_UTF8 for the
- *     container or a tag, CADENCE_INVALID for the rate, CADENCE_SEPARATOR, CADENCE_NO_MEMORY for the line;
+ *   - for the rest of the call, CADENCE_NOT_UTF8 for the settings and the key, CADENCE_INVALID for the kind,
+ *     CADENCE_NOT_UTF8 for the container or a tag, CADENCE_INVALID for the rate, CADENCE_SEPARATOR, CADENCE_NO_MEMORY
+ *     for the line;
  *   - CADENCE_FULL, CADENCE_NO_MEMORY for the packet.
  * - cadence_line, cadence_flush: CADENCE_NO_CLIENT, CADENCE_FULL, CADENCE_NO_MEMORY.
  * - cadence_next: CADENCE_NO_CLIENT, CADENCE_NO_PACKET, CADENCE_TOO_SMALL. cadence_sent: the first two.
+ * - cadence_held: CADENCE_NO_CLIENT, CADENCE_TOO_SMALL. cadence_drop_held: CADENCE_NO_CLIENT, CADENCE_FULL.
  * - cadence_counts: CADENCE_NO_CLIENT.
- * - cadence_format_signed, cadence_format_unsigned, cadence_format_decimal, cadence_format_duration: the above for the
- *   values, CADENCE_NOT_UTF8 for the prefix, the above for the rest of the call without CADENCE_SEPARATOR,
- *   CADENCE_TOO_SMALL.
+ * - cadence_format_signed, cadence_format_unsigned, cadence_format_decimal, cadence_format_floating,
+ *   cadence_format_duration: the above for the values, the above for the rest of the call, CADENCE_TOO_SMALL.
+ * - cadence_decimal_of_double, cadence_rounded_of_double: CADENCE_INVALID.
+ * - cadence_destination, cadence_environment_tags: CADENCE_VARIABLE, CADENCE_NO_MEMORY, CADENCE_TOO_SMALL.
+ *   cadence_variable_text: CADENCE_INVALID, CADENCE_NO_MEMORY, CADENCE_TOO_SMALL.
+ * - cadence_prefix_text: CADENCE_NOT_UTF8, CADENCE_NO_MEMORY, CADENCE_SEPARATOR, CADENCE_TOO_SMALL. cadence_tags_text:
+ *   CADENCE_NOT_UTF8, CADENCE_SEPARATOR, CADENCE_NO_MEMORY, CADENCE_TOO_SMALL. cadence_test_text: the first two of
+ *   these.
  *
  * Link with libcadence_c.a, which needs only the C library besides, or with libcadence_c.so, which exports only these
  * calls. Both are for Linux on x86-64 with the instructions of x86-64-v2 (SSE4.2).
@@ -50,10 +71,13 @@
 #include <string.h>
 
 #ifdef __cplusplus
+#include <type_traits>
 #define CADENCE_NULL nullptr
+#define CADENCE_BYTES(text) reinterpret_cast<const uint8_t *>(text)
 extern "C" {
 #else
 #define CADENCE_NULL NULL
+#define CADENCE_BYTES(text) ((const uint8_t *)(text))
 #endif
 
 /* A client, or none. Initialize it with CADENCE_CLOSED, which is zeros. Only the library may use its fields. */
@@ -70,22 +94,18 @@ enum {
     CADENCE_NO_CLIENT = 1, /* the handle is closed: it has no client */
     CADENCE_NO_MEMORY = 2, /* memory ran out */
     CADENCE_FULL = 3,      /* there is no room for the packets that the call makes: send a packet, then try again */
-    CADENCE_INVALID = 4,   /* no such kind or policy, fewer than 2 packets, over 30 places, no durations in this kind */
+    CADENCE_INVALID = 4,   /* no such kind or policy, fewer than 2 packets, no durations in this kind, a bad number */
     CADENCE_NOT_UTF8 = 5,  /* a text is not UTF-8 */
     CADENCE_NO_PACKET = 6, /* no packet waits */
     CADENCE_TOO_SMALL = 7, /* the buffer is too small: *length is the size that is needed, in bytes */
-    CADENCE_SEPARATOR = 8  /* the client is strict, and a text has a ':', a ',', a '|' or a newline */
+    CADENCE_SEPARATOR = 8, /* the settings are strict, and a text has a ':', a ',', a '|' or a newline */
+    CADENCE_VARIABLE = 9   /* a variable of the environment can't be used: *variable is its number */
 };
 
 /* What a client does if as many packets wait as may wait, and a call makes one more. */
 enum {
     CADENCE_REFUSE = 0,     /* the call returns CADENCE_FULL */
-    CADENCE_DROP_OLDEST = 1, /* the client drops its oldest packet and counts it; no call returns CADENCE_FULL */
-    /* One of the two or-ed with this makes a strict client. It refuses each call with a ':', a ',', a '|' or a newline
-     * in the key, in the key or the text of a tag, or in the container, and keeps no line of it. The prefix, a default
-     * tag and the default container are tested when they are set. So no text can make, change or split a metric. Texts
-     * that are `known` are tested too. The line of cadence_line is not tested. */
-    CADENCE_STRICT = 256
+    CADENCE_DROP_OLDEST = 1 /* the client drops its oldest packet and counts it; no call returns CADENCE_FULL */
 };
 
 /* The kinds of metrics. */
@@ -116,12 +136,32 @@ typedef struct cadence_tag {
     bool keyed;
 } cadence_tag;
 
-/* What a call adds to its metric. The tags come after the client's. If `contained` is set, the container replaces the
- * client's. If `rated` is set, the metric has a sampling rate. If `timed` is set, it has a time, in the unit that the
- * server reads (seconds for DogStatsD). No call samples: each one keeps its line, and the server scales by the rate.
- * Texts are printed as they are, with any separators in them, unless the client is strict. If `known` is set, the host
- * must ensure that all texts of the call are UTF-8: its key, those of the options, and the prefix of a line without a
- * client. They are then not tested for that. Otherwise each is tested once. */
+/* What each line has: the bytes that its name begins with (a prefix and its dot, as cadence_prefix_text makes them),
+ * the text of its default tags (as cadence_tags_text makes it), and its default container if `contained` is set. If
+ * `strict` is set, each call with a ':', a ',', a '|' or a newline in the key, in the key or the text of a tag, or in
+ * the container is refused, also if its texts are `known`. The texts of the settings themselves are tested when they
+ * are made: cadence_prefix_text and cadence_tags_text test theirs, and cadence_test_text a container. So no text can
+ * make, change or split a metric. The line of cadence_line is not tested. */
+typedef struct cadence_settings {
+    const uint8_t *prefix;
+    size_t prefix_len;
+    const uint8_t *tags;
+    size_t tags_len;
+    const uint8_t *container;
+    size_t container_len;
+    bool contained;
+    bool strict;
+} cadence_settings;
+
+/* Settings that add nothing, and that are not strict. */
+#define CADENCE_NO_SETTINGS { CADENCE_NULL, 0, CADENCE_NULL, 0, CADENCE_NULL, 0, false, false }
+
+/* What a call adds to its metric. The tags come after the default ones. If `contained` is set, the container replaces
+ * the default one. If `rated` is set, the metric has a sampling rate. If `timed` is set, it has a time, in the unit
+ * that the server reads (seconds for DogStatsD). No call samples: each one keeps its line, and the server scales by the
+ * rate. Texts are printed as they are, with any separators in them, unless the settings are strict. If `known` is set,
+ * the host must ensure that all texts of the call are UTF-8: its key, and those of the options and the settings. They
+ * are then not tested for that. Otherwise each is tested once. */
 typedef struct cadence_options {
     const cadence_tag *tags;
     size_t tags_len;
@@ -148,43 +188,39 @@ typedef struct cadence_counts_of {
     uint64_t dropped;
 } cadence_counts_of;
 
-/* Makes a client in a handle, and frees an earlier client there with its packets. An empty prefix prints nothing. Any
- * other prefix is printed with exactly one dot at its end. `capacity` is how many bytes a packet holds. `packets` is
- * how many packets may wait, at least 2. The call allocates 24 bytes for each of `packets`, and `capacity` bytes for
- * the packet that is being filled; each packet that waits has its own memory. Returns CADENCE_OK, CADENCE_NOT_UTF8 for
- * the prefix, CADENCE_INVALID for the policy or for `packets`, CADENCE_SEPARATOR for the prefix if the policy has
- * CADENCE_STRICT, or CADENCE_NO_MEMORY; after these four the handle is as it was. */
-uint32_t cadence_new(cadence_handle *handle, const uint8_t *prefix, size_t prefix_len, size_t capacity, size_t packets,
-                     uint32_t policy);
+/* Makes a client in a handle, and frees an earlier client there with its packets. `capacity` is how many bytes a packet
+ * holds. `packets` is how many packets may wait, at least 2. The call allocates 24 bytes for each of `packets`, and
+ * `capacity` bytes for the packet that is being filled; each packet that waits has its own memory. Returns CADENCE_OK,
+ * CADENCE_INVALID for the policy or for `packets`, or CADENCE_NO_MEMORY; after these two the handle is as it was. */
+uint32_t cadence_open(cadence_handle *handle, size_t capacity, size_t packets, uint32_t policy);
 
 /* Frees the client with its held text and its packets, and closes the handle. A closed handle stays closed. */
 void cadence_free(cadence_handle *handle);
 
-/* Adds a default tag after the others. Later calls print it. Returns CADENCE_OK, CADENCE_NO_CLIENT, CADENCE_NOT_UTF8,
- * CADENCE_SEPARATOR if the client is strict, or CADENCE_NO_MEMORY. */
-uint32_t cadence_add_tag(cadence_handle *handle, const cadence_tag *tag);
-
-/* Sets the default container, in place of an earlier one. Later calls print it. Returns CADENCE_OK, CADENCE_NO_CLIENT,
- * CADENCE_NOT_UTF8, CADENCE_SEPARATOR if the client is strict, or CADENCE_NO_MEMORY. */
-uint32_t cadence_set_container(cadence_handle *handle, const uint8_t *container, size_t container_len);
-
-/* These four calls keep the line of a metric: the client's prefix and the key, the values with a colon between each
- * two, the kind, and the options. The line is held with a newline if it fits into the packet that is being filled.
- * Otherwise the held text becomes a packet first. A line that is longer than the capacity with its newline then becomes
- * a packet of its own, without the newline. The client keeps the buffer of the longest line that these calls made, so
- * most calls allocate nothing. They return CADENCE_OK, CADENCE_NO_CLIENT, CADENCE_NOT_UTF8 for the key, a tag or the
- * container, CADENCE_INVALID for the kind, a value or the rate, CADENCE_SEPARATOR for the key, a tag or the container
- * if the client is strict, CADENCE_NO_MEMORY or CADENCE_FULL. */
-uint32_t cadence_signed(cadence_handle *handle, uint32_t kind, const uint8_t *key, size_t key_len,
-                        const int64_t *values, size_t values_len, const cadence_options *options);
-uint32_t cadence_unsigned(cadence_handle *handle, uint32_t kind, const uint8_t *key, size_t key_len,
-                          const uint64_t *values, size_t values_len, const cadence_options *options);
-uint32_t cadence_decimal(cadence_handle *handle, uint32_t kind, const uint8_t *key, size_t key_len,
-                         const cadence_decimal_number *values, size_t values_len, const cadence_options *options);
+/* These five calls keep the line of a metric: the prefix and the key, the values with a colon between each two, the
+ * kind, the default tags, and the options. The line is held with a newline if it fits into the packet that is being
+ * filled. Otherwise the held text becomes a packet first. A line that is longer than the capacity with its newline then
+ * becomes a packet of its own, without the newline. The client keeps the buffer of the longest line that these calls
+ * made, so most calls allocate nothing. They return CADENCE_OK, CADENCE_NO_CLIENT, CADENCE_NOT_UTF8 for a text of the
+ * settings, the key, a tag or the container, CADENCE_INVALID for the kind, a value or the rate, CADENCE_SEPARATOR for
+ * the key, a tag or the container if the settings are strict, CADENCE_NO_MEMORY or CADENCE_FULL. */
+uint32_t cadence_signed(cadence_handle *handle, const cadence_settings *settings, uint32_t kind, const uint8_t *key,
+                        size_t key_len, const int64_t *values, size_t values_len, const cadence_options *options);
+uint32_t cadence_unsigned(cadence_handle *handle, const cadence_settings *settings, uint32_t kind, const uint8_t *key,
+                          size_t key_len, const uint64_t *values, size_t values_len, const cadence_options *options);
+uint32_t cadence_decimal(cadence_handle *handle, const cadence_settings *settings, uint32_t kind, const uint8_t *key,
+                         size_t key_len, const cadence_decimal_number *values, size_t values_len,
+                         const cadence_options *options);
+/* Keeps a metric of doubles. Each is printed as a decimal: the shortest one that is read as the double, or, if that has
+ * more than 30 places, this one rounded to 30 places. A zero of either sign is 0. In a timer the decimal is rounded to
+ * six places, and a double nearer to 0 than 10 to the power of -7 is 0. The call returns CADENCE_INVALID if a double is
+ * NaN, infinite, or more than 2 to the power of 127 away from 0. */
+uint32_t cadence_floating(cadence_handle *handle, const cadence_settings *settings, uint32_t kind, const uint8_t *key,
+                          size_t key_len, const double *values, size_t values_len, const cadence_options *options);
 /* Keeps a metric of durations in nanoseconds. A timer prints whole milliseconds, rounded down, and a histogram prints
  * nanoseconds. The call returns CADENCE_INVALID for the other kinds. */
-uint32_t cadence_duration(cadence_handle *handle, uint32_t kind, const uint8_t *key, size_t key_len,
-                          const uint64_t *nanos, size_t nanos_len, const cadence_options *options);
+uint32_t cadence_duration(cadence_handle *handle, const cadence_settings *settings, uint32_t kind, const uint8_t *key,
+                          size_t key_len, const uint64_t *nanos, size_t nanos_len, const cadence_options *options);
 
 /* Keeps a line that the host has made, without testing its bytes. The line is packed like the lines of the calls above.
  * Returns CADENCE_OK, CADENCE_NO_CLIENT, CADENCE_NO_MEMORY or CADENCE_FULL. */
@@ -204,32 +240,116 @@ uint32_t cadence_next(cadence_handle *handle, uint8_t *buf, size_t buf_len, size
  * CADENCE_NO_PACKET. */
 uint32_t cadence_sent(cadence_handle *handle);
 
+/* Copies the held text into `buf`, for a host that sends it at once, and sets *length to its length in bytes. The text
+ * stays held. Returns CADENCE_OK; CADENCE_NO_CLIENT, with *length 0; or CADENCE_TOO_SMALL, with the length of the text
+ * in *length. */
+uint32_t cadence_held(cadence_handle *handle, uint8_t *buf, size_t buf_len, size_t *length);
+
+/* Drops the held text, after the host has sent it. Returns CADENCE_OK, CADENCE_NO_CLIENT, or CADENCE_FULL if a packet
+ * waits, because it comes before the held text; the text is still held then. */
+uint32_t cadence_drop_held(cadence_handle *handle);
+
 /* Writes the counts of the client into *counts. Returns CADENCE_OK, or CADENCE_NO_CLIENT with *counts unchanged. */
 uint32_t cadence_counts(cadence_handle *handle, cadence_counts_of *counts);
 
-/* These four calls write one line into `out`, without a newline, and set *length to its length in bytes. They need no
- * client, so threads may make them at the same time. The prefix is printed as it is. They return CADENCE_OK;
- * CADENCE_TOO_SMALL, with the length of the line in *length; or CADENCE_NOT_UTF8, CADENCE_INVALID or CADENCE_NO_MEMORY,
- * with *length 0. cadence_format_duration prints durations like cadence_duration. */
-uint32_t cadence_format_signed(const uint8_t *prefix, size_t prefix_len, uint32_t kind, const uint8_t *key,
-                               size_t key_len, const int64_t *values, size_t values_len,
-                               const cadence_options *options, uint8_t *out, size_t out_len, size_t *length);
-uint32_t cadence_format_unsigned(const uint8_t *prefix, size_t prefix_len, uint32_t kind, const uint8_t *key,
-                                 size_t key_len, const uint64_t *values, size_t values_len,
-                                 const cadence_options *options, uint8_t *out, size_t out_len, size_t *length);
-uint32_t cadence_format_decimal(const uint8_t *prefix, size_t prefix_len, uint32_t kind, const uint8_t *key,
-                                size_t key_len, const cadence_decimal_number *values, size_t values_len,
-                                const cadence_options *options, uint8_t *out, size_t out_len, size_t *length);
-uint32_t cadence_format_duration(const uint8_t *prefix, size_t prefix_len, uint32_t kind, const uint8_t *key,
-                                 size_t key_len, const uint64_t *nanos, size_t nanos_len,
-                                 const cadence_options *options, uint8_t *out, size_t out_len, size_t *length);
+/* These five calls write one line into `out`, without a newline, and set *length to its length in bytes. They need no
+ * client and share nothing but the settings, which they only read, so threads may make them at the same time. They
+ * return CADENCE_OK; CADENCE_TOO_SMALL, with the length of the line in *length; or CADENCE_NOT_UTF8, CADENCE_INVALID,
+ * CADENCE_SEPARATOR or CADENCE_NO_MEMORY, with *length 0. cadence_format_floating prints doubles like cadence_floating,
+ * and cadence_format_duration prints durations like cadence_duration. */
+uint32_t cadence_format_signed(const cadence_settings *settings, uint32_t kind, const uint8_t *key, size_t key_len,
+                               const int64_t *values, size_t values_len, const cadence_options *options, uint8_t *out,
+                               size_t out_len, size_t *length);
+uint32_t cadence_format_unsigned(const cadence_settings *settings, uint32_t kind, const uint8_t *key, size_t key_len,
+                                 const uint64_t *values, size_t values_len, const cadence_options *options,
+                                 uint8_t *out, size_t out_len, size_t *length);
+uint32_t cadence_format_decimal(const cadence_settings *settings, uint32_t kind, const uint8_t *key, size_t key_len,
+                                const cadence_decimal_number *values, size_t values_len, const cadence_options *options,
+                                uint8_t *out, size_t out_len, size_t *length);
+uint32_t cadence_format_floating(const cadence_settings *settings, uint32_t kind, const uint8_t *key, size_t key_len,
+                                 const double *values, size_t values_len, const cadence_options *options, uint8_t *out,
+                                 size_t out_len, size_t *length);
+uint32_t cadence_format_duration(const cadence_settings *settings, uint32_t kind, const uint8_t *key, size_t key_len,
+                                 const uint64_t *nanos, size_t nanos_len, const cadence_options *options, uint8_t *out,
+                                 size_t out_len, size_t *length);
+
+/* Writes what each name of a prefix begins with into `out`, and sets *length to its length in bytes: nothing if the
+ * prefix is empty, and otherwise the prefix with exactly one dot at its end. If `strict` is set, a prefix with a
+ * separator is refused. Needs no client. Returns CADENCE_OK; CADENCE_TOO_SMALL, with the length of the text in *length;
+ * or CADENCE_NOT_UTF8, CADENCE_SEPARATOR or CADENCE_NO_MEMORY, with *length 0. */
+uint32_t cadence_prefix_text(const uint8_t *prefix, size_t prefix_len, bool strict, uint8_t *out, size_t out_len,
+                             size_t *length);
+
+/* Writes the text of default tags into `out`, in the form in which a line has them, and sets *length to its length in
+ * bytes. If `strict` is set, tags with a separator are refused. It returns what cadence_prefix_text returns. */
+uint32_t cadence_tags_text(const cadence_tag *tags, size_t tags_len, bool strict, uint8_t *out, size_t out_len,
+                           size_t *length);
+
+/* Tests a text, as a default container of strict settings. Returns CADENCE_OK; CADENCE_NOT_UTF8; or CADENCE_SEPARATOR
+ * if the text has a ':', a ',', a '|' or a newline. */
+uint32_t cadence_test_text(const uint8_t *text, size_t text_len);
+
+/* Sets *number to the decimal as which cadence_floating prints the double in a gauge, for a host that needs the number,
+ * as for a sampling rate. Needs no client. Returns CADENCE_OK, or CADENCE_INVALID with *number unchanged, if
+ * cadence_floating returns that, or if the mantissa of the decimal needs more than 63 bits, as from 2 to the power of
+ * 63 on. */
+uint32_t cadence_decimal_of_double(double value, cadence_decimal_number *number);
+
+/* The same, with the decimal as which cadence_floating prints the double in a timer. */
+uint32_t cadence_rounded_of_double(double value, cadence_decimal_number *number);
+
+/* The values of the variables of the environment: DD_DOGSTATSD_URL, DD_AGENT_HOST, DD_DOGSTATSD_PORT, STATSD_HOST,
+ * STATSD_PORT, DD_ENV, DD_SERVICE, DD_VERSION, DD_TAGS and DD_ENTITY_ID. A variable that isn't set has the empty text.
+ * The number of a variable is its place here, from 0 on; cadence_variable_name returns its name. */
+typedef struct cadence_variables {
+    const uint8_t *url;
+    size_t url_len;
+    const uint8_t *agent_host;
+    size_t agent_host_len;
+    const uint8_t *agent_port;
+    size_t agent_port_len;
+    const uint8_t *statsd_host;
+    size_t statsd_host_len;
+    const uint8_t *statsd_port;
+    size_t statsd_port_len;
+    const uint8_t *env;
+    size_t env_len;
+    const uint8_t *service;
+    size_t service_len;
+    const uint8_t *version;
+    size_t version_len;
+    const uint8_t *tags;
+    size_t tags_len;
+    const uint8_t *entity_id;
+    size_t entity_id_len;
+} cadence_variables;
+
+/* Writes where the variables say to send into `out`, and sets *length to the length of that text in bytes: a host,
+ * which is a name or an address without brackets, with its port in *port; or the absolute path of a Unix datagram
+ * socket, with *port 0. DD_DOGSTATSD_URL wins over all others, and DD_AGENT_HOST and DD_DOGSTATSD_PORT over the rest.
+ * By default it is 127.0.0.1 and 8125. Needs no client. Returns CADENCE_OK; CADENCE_TOO_SMALL, with the length of the
+ * text in *length; or CADENCE_VARIABLE, with the number of the variable in *variable, or CADENCE_NO_MEMORY, with
+ * *length 0. A variable that another one overrides is not tested. */
+uint32_t cadence_destination(const cadence_variables *variables, uint8_t *out, size_t out_len, size_t *length,
+                             uint16_t *port, uint32_t *variable);
+
+/* Writes the text of the default tags that the variables say into `out`, as cadence_tags_text does, and returns what
+ * cadence_destination returns. No text of them has a ',', a '|' or a newline, and no key has a ':', so the text can be
+ * cut into the tags again. */
+uint32_t cadence_environment_tags(const cadence_variables *variables, uint8_t *out, size_t out_len, size_t *length,
+                                  uint32_t *variable);
+
+/* Writes into `out` what a variable wants, in words that begin with its name, and sets *length to the length of that
+ * text in bytes. Returns CADENCE_OK; CADENCE_TOO_SMALL, with that length; or CADENCE_INVALID or CADENCE_NO_MEMORY, with
+ * *length 0. */
+uint32_t cadence_variable_text(uint32_t variable, uint8_t *out, size_t out_len, size_t *length);
 
 /* Returns the version of the linked library. CADENCE_VERSION is the version of this header. */
 const char *cadence_version(void);
 
 /* The functions below are C code in this header. They make the calls above for texts that end with a zero byte. A null
- * prefix, key or text is an empty one, and null options are CADENCE_NO_OPTIONS. Each returns the status of the call
- * that it makes. */
+ * prefix, key or text is an empty one, null settings are CADENCE_NO_SETTINGS, and null options are CADENCE_NO_OPTIONS.
+ * Each returns the status of the call that it makes. */
 
 /* Returns a status in words. */
 static inline const char *cadence_status_text(uint32_t status) {
@@ -242,7 +362,8 @@ static inline const char *cadence_status_text(uint32_t status) {
     case CADENCE_NOT_UTF8: return "a text is no UTF-8 (CADENCE_NOT_UTF8)";
     case CADENCE_NO_PACKET: return "no packet waits (CADENCE_NO_PACKET)";
     case CADENCE_TOO_SMALL: return "the buffer is too small (CADENCE_TOO_SMALL)";
-    case CADENCE_SEPARATOR: return "a text has a separator, and the client is strict (CADENCE_SEPARATOR)";
+    case CADENCE_SEPARATOR: return "a text has a separator, and the settings are strict (CADENCE_SEPARATOR)";
+    case CADENCE_VARIABLE: return "a variable of the environment can't be used (CADENCE_VARIABLE)";
     default: return "no status of cadence.h";
     }
 }
@@ -251,13 +372,35 @@ static inline size_t cadence_length_of(const char *text) {
     return text != CADENCE_NULL ? strlen(text) : 0;
 }
 
+/* Returns the name of a variable, or null if none has the number. */
+static inline const char *cadence_variable_name(uint32_t variable) {
+    static const char *const names[] = { "DD_DOGSTATSD_URL", "DD_AGENT_HOST", "DD_DOGSTATSD_PORT", "STATSD_HOST",
+                                         "STATSD_PORT",      "DD_ENV",        "DD_SERVICE",        "DD_VERSION",
+                                         "DD_TAGS",          "DD_ENTITY_ID" };
+    return variable < sizeof names / sizeof names[0] ? names[variable] : CADENCE_NULL;
+}
+
+/* Returns the values of the variables, each as a function returns it for its name, or null if it isn't set: for example
+ * getenv. They point to the values, so keep these alive. */
+static inline cadence_variables cadence_variables_of(char *(*value_of)(const char *name)) {
+    const char *at[10];
+    for (uint32_t i = 0; i < 10; i++) at[i] = value_of(cadence_variable_name(i));
+    cadence_variables variables;
+#define CADENCE_SET(field, i) (variables.field = CADENCE_BYTES(at[i]), variables.field##_len = cadence_length_of(at[i]))
+    CADENCE_SET(url, 0), CADENCE_SET(agent_host, 1), CADENCE_SET(agent_port, 2), CADENCE_SET(statsd_host, 3);
+    CADENCE_SET(statsd_port, 4), CADENCE_SET(env, 5), CADENCE_SET(service, 6), CADENCE_SET(version, 7);
+    CADENCE_SET(tags, 8), CADENCE_SET(entity_id, 9);
+#undef CADENCE_SET
+    return variables;
+}
+
 /* Returns a tag of a key and a text, or of the text alone if the key is null. The tag points to both, so keep them
  * alive. */
 static inline cadence_tag cadence_tag_of(const char *key, const char *text) {
     cadence_tag tag;
-    tag.key = (const uint8_t *)key;
+    tag.key = CADENCE_BYTES(key);
     tag.key_len = cadence_length_of(key);
-    tag.text = (const uint8_t *)text;
+    tag.text = CADENCE_BYTES(text);
     tag.text_len = cadence_length_of(text);
     tag.keyed = key != CADENCE_NULL;
     return tag;
@@ -271,80 +414,136 @@ static inline cadence_options cadence_options_of(const cadence_tag *tags, size_t
     return options;
 }
 
-/* Makes a client in a handle, like cadence_new. */
-static inline uint32_t cadence_open(cadence_handle *handle, const char *prefix, size_t capacity, size_t packets,
-                                    uint32_t policy) {
-    return cadence_new(handle, (const uint8_t *)prefix, cadence_length_of(prefix), capacity, packets, policy);
+/* Returns settings that begin each line with a text, and add nothing else: a prefix with its dot, as "my.service.".
+ * They point to the text, so keep it alive. */
+static inline cadence_settings cadence_settings_of(const char *prefix) {
+    cadence_settings settings = CADENCE_NO_SETTINGS;
+    settings.prefix = CADENCE_BYTES(prefix);
+    settings.prefix_len = cadence_length_of(prefix);
+    return settings;
 }
 
-/* Adds a default tag, like cadence_add_tag. If the key is null, the tag is the text alone. */
-static inline uint32_t cadence_default_tag(cadence_handle *handle, const char *key, const char *text) {
-    const cadence_tag tag = cadence_tag_of(key, text);
-    return cadence_add_tag(handle, &tag);
-}
-
-/* Sets the default container, like cadence_set_container. */
-static inline uint32_t cadence_default_container(cadence_handle *handle, const char *container) {
-    return cadence_set_container(handle, (const uint8_t *)container, cadence_length_of(container));
+/* Makes settings of a prefix, default tags, a default container, which may be null, and whether they are strict. Their
+ * texts are in `room`, and the settings point there and to the container, so keep both alive. Returns CADENCE_OK, or
+ * the status of the call that refuses a text; CADENCE_TOO_SMALL says that the room is too small. */
+static inline uint32_t cadence_settings_make(cadence_settings *settings, const char *prefix, const cadence_tag *tags,
+                                             size_t tags_len, const char *container, bool strict, uint8_t *room,
+                                             size_t room_len) {
+    cadence_settings made = CADENCE_NO_SETTINGS;
+    uint32_t status =
+        cadence_prefix_text(CADENCE_BYTES(prefix), cadence_length_of(prefix), strict, room, room_len, &made.prefix_len);
+    if (status != CADENCE_OK) return status;
+    made.prefix = room;
+    made.tags = room + made.prefix_len;
+    status =
+        cadence_tags_text(tags, tags_len, strict, room + made.prefix_len, room_len - made.prefix_len, &made.tags_len);
+    if (status != CADENCE_OK) return status;
+    made.container = CADENCE_BYTES(container);
+    made.container_len = cadence_length_of(container);
+    made.contained = container != CADENCE_NULL;
+    made.strict = strict;
+    if (strict && made.contained) status = cadence_test_text(made.container, made.container_len);
+    if (status == CADENCE_OK) *settings = made;
+    return status;
 }
 
 /* Keeps a metric of one whole number, like cadence_signed. */
-static inline uint32_t cadence_whole(cadence_handle *handle, uint32_t kind, const char *key, int64_t value,
-                                     const cadence_options *options) {
+static inline uint32_t cadence_whole(cadence_handle *handle, const cadence_settings *settings, uint32_t kind,
+                                     const char *key, int64_t value, const cadence_options *options) {
     const cadence_options none = CADENCE_NO_OPTIONS;
-    return cadence_signed(handle, kind, (const uint8_t *)key, cadence_length_of(key), &value, 1,
-                          options != CADENCE_NULL ? options : &none);
+    const cadence_settings nothing = CADENCE_NO_SETTINGS;
+    return cadence_signed(handle, settings != CADENCE_NULL ? settings : &nothing, kind, CADENCE_BYTES(key),
+                          cadence_length_of(key), &value, 1, options != CADENCE_NULL ? options : &none);
 }
 
 /* Keeps a metric of one decimal number, like cadence_decimal: mantissa divided by 10 to the power of places. */
-static inline uint32_t cadence_parts(cadence_handle *handle, uint32_t kind, const char *key, int64_t mantissa,
-                                     uint8_t places, const cadence_options *options) {
+static inline uint32_t cadence_parts(cadence_handle *handle, const cadence_settings *settings, uint32_t kind,
+                                     const char *key, int64_t mantissa, uint8_t places,
+                                     const cadence_options *options) {
     const cadence_options none = CADENCE_NO_OPTIONS;
+    const cadence_settings nothing = CADENCE_NO_SETTINGS;
     cadence_decimal_number value;
     value.mantissa = mantissa;
     value.places = places;
-    return cadence_decimal(handle, kind, (const uint8_t *)key, cadence_length_of(key), &value, 1,
-                           options != CADENCE_NULL ? options : &none);
+    return cadence_decimal(handle, settings != CADENCE_NULL ? settings : &nothing, kind, CADENCE_BYTES(key),
+                           cadence_length_of(key), &value, 1, options != CADENCE_NULL ? options : &none);
 }
 
-/* Adds to a counter. */
-static inline uint32_t cadence_count(cadence_handle *handle, const char *key, int64_t value,
-                                     const cadence_options *options) {
-    return cadence_whole(handle, CADENCE_COUNTER, key, value, options);
-}
-
-/* Sets a gauge. Many servers read a value below 0 as a change to the gauge. */
-static inline uint32_t cadence_gauge(cadence_handle *handle, const char *key, int64_t value,
-                                     const cadence_options *options) {
-    return cadence_whole(handle, CADENCE_GAUGE, key, value, options);
-}
-
-/* Keeps a time in milliseconds. */
-static inline uint32_t cadence_time_millis(cadence_handle *handle, const char *key, int64_t millis,
-                                           const cadence_options *options) {
-    return cadence_whole(handle, CADENCE_TIMER, key, millis, options);
+/* Keeps a metric of one double, like cadence_floating. */
+static inline uint32_t cadence_double(cadence_handle *handle, const cadence_settings *settings, uint32_t kind,
+                                      const char *key, double value, const cadence_options *options) {
+    const cadence_options none = CADENCE_NO_OPTIONS;
+    const cadence_settings nothing = CADENCE_NO_SETTINGS;
+    return cadence_floating(handle, settings != CADENCE_NULL ? settings : &nothing, kind, CADENCE_BYTES(key),
+                            cadence_length_of(key), &value, 1, options != CADENCE_NULL ? options : &none);
 }
 
 /* Keeps a time in nanoseconds. It is printed in milliseconds with up to six places, which cadence_duration would drop.
  * */
-static inline uint32_t cadence_time_nanos(cadence_handle *handle, const char *key, int64_t nanos,
-                                          const cadence_options *options) {
-    return cadence_parts(handle, CADENCE_TIMER, key, nanos, 6, options);
-}
-
-/* Adds a value to a distribution. */
-static inline uint32_t cadence_distribute(cadence_handle *handle, const char *key, int64_t value,
-                                          const cadence_options *options) {
-    return cadence_whole(handle, CADENCE_DISTRIBUTION, key, value, options);
+static inline uint32_t cadence_time_nanos(cadence_handle *handle, const cadence_settings *settings, const char *key,
+                                          int64_t nanos, const cadence_options *options) {
+    return cadence_parts(handle, settings, CADENCE_TIMER, key, nanos, 6, options);
 }
 
 /* Keeps a line that the host has made, like cadence_line. */
 static inline uint32_t cadence_raw(cadence_handle *handle, const char *line) {
-    return cadence_line(handle, (const uint8_t *)line, cadence_length_of(line));
+    return cadence_line(handle, CADENCE_BYTES(line), cadence_length_of(line));
 }
 
 #ifdef __cplusplus
 }
+
+/* Keeps a metric of one number: of a double or a float by cadence_double, and of an integer by cadence_whole. */
+template <typename T>
+inline typename std::enable_if<std::is_floating_point<T>::value, uint32_t>::type
+cadence_number(cadence_handle *handle, const cadence_settings *settings, uint32_t kind, const char *key, T value,
+               const cadence_options *options) {
+    return cadence_double(handle, settings, kind, key, static_cast<double>(value), options);
+}
+template <typename T>
+inline typename std::enable_if<!std::is_floating_point<T>::value, uint32_t>::type
+cadence_number(cadence_handle *handle, const cadence_settings *settings, uint32_t kind, const char *key, T value,
+               const cadence_options *options) {
+    return cadence_whole(handle, settings, kind, key, static_cast<int64_t>(value), options);
+}
+#define CADENCE_KEEPS(name, kind)                                                                                      \
+    template <typename T>                                                                                              \
+    inline uint32_t name(cadence_handle *handle, const cadence_settings *settings, const char *key, T value,           \
+                         const cadence_options *options) {                                                             \
+        return cadence_number(handle, settings, kind, key, value, options);                                            \
+    }
+#elif defined(__STDC_VERSION__) && __STDC_VERSION__ >= 201112L
+/* Keeps a metric of one number: of a double or a float by cadence_double, and of an integer by cadence_whole. */
+#define CADENCE_NUMBER(value)                                                                                          \
+    _Generic((value), float: cadence_double, double: cadence_double, long double: cadence_double,                      \
+             default: cadence_whole)
+#define cadence_number(handle, settings, kind, key, value, options) \
+    CADENCE_NUMBER(value)(handle, settings, kind, key, value, options)
+#else
+/* C99 can't choose a call by the type of a value. A double does not compile here, because of the |: write
+ * cadence_double. */
+#define cadence_number(handle, settings, kind, key, value, options)                                                    \
+    cadence_whole(handle, settings, kind, key, 0 | (value), options)
+#endif
+
+/* These keep a metric of one number, an integer or (from C11 and in C++) a double. Each returns what cadence_floating
+ * returns. Adds to a counter; sets a gauge; keeps a time in milliseconds, with up to six places of a double; adds a
+ * value to a distribution. Many servers read a gauge below 0 as a change of the gauge. */
+#ifdef __cplusplus
+CADENCE_KEEPS(cadence_count, CADENCE_COUNTER)
+CADENCE_KEEPS(cadence_gauge, CADENCE_GAUGE)
+CADENCE_KEEPS(cadence_time_millis, CADENCE_TIMER)
+CADENCE_KEEPS(cadence_distribute, CADENCE_DISTRIBUTION)
+#undef CADENCE_KEEPS
+#else
+#define cadence_count(handle, settings, key, value, options)                                                           \
+    cadence_number(handle, settings, CADENCE_COUNTER, key, value, options)
+#define cadence_gauge(handle, settings, key, value, options)                                                           \
+    cadence_number(handle, settings, CADENCE_GAUGE, key, value, options)
+#define cadence_time_millis(handle, settings, key, value, options)                                                     \
+    cadence_number(handle, settings, CADENCE_TIMER, key, value, options)
+#define cadence_distribute(handle, settings, key, value, options)                                                      \
+    cadence_number(handle, settings, CADENCE_DISTRIBUTION, key, value, options)
 #endif
 
 #endif

@@ -2,6 +2,7 @@
  * arguments are neither read nor tested, what stays after an error, and the functions of the header itself. It prints
  * each check that fails, and its exit status is then 1. It is valid C and C++. */
 #include <cadence.h>
+#include <math.h>
 #include <stdio.h>
 #include <string.h>
 
@@ -14,6 +15,7 @@ static const cadence_options none = CADENCE_NO_OPTIONS;
 static const int64_t one = 1;
 static const uint64_t nanos = 1;
 static const cadence_decimal_number many_places = { 1, 31 };
+static const cadence_settings nothing = CADENCE_NO_SETTINGS, bad_prefix = { BAD, NULL, 0, NULL, 0, false, false };
 
 static void fail(const char *what, int line) {
     printf("calls.c:%d: %s\n", line, what);
@@ -22,7 +24,7 @@ static void fail(const char *what, int line) {
 
 static cadence_handle opened(size_t capacity, uint32_t policy) {
     cadence_handle handle = CADENCE_CLOSED;
-    CHECK(cadence_open(&handle, "p", capacity, 2, policy) == CADENCE_OK);
+    CHECK(cadence_open(&handle, capacity, 2, policy) == CADENCE_OK);
     return handle;
 }
 
@@ -43,48 +45,122 @@ static void texts(void) {
     snprintf(version, sizeof version, "%d.%d.%d", CADENCE_VERSION_MAJOR, CADENCE_VERSION_MINOR, CADENCE_VERSION_PATCH);
     CHECK(strcmp(version, CADENCE_VERSION) == 0);
     CHECK(strcmp(version, cadence_version()) == 0);
-    for (uint32_t status = 0; status <= 9; status++) {
+    for (uint32_t status = 0; status <= 10; status++) {
         CHECK(strlen(cadence_status_text(status)) != 0);
         for (uint32_t other = 0; other < status; other++)
             CHECK(strcmp(cadence_status_text(status), cadence_status_text(other)) != 0);
     }
     CHECK(strstr(cadence_status_text(CADENCE_FULL), "(CADENCE_FULL)") != NULL);
-    CHECK(strcmp(cadence_status_text(9), cadence_status_text(UINT32_MAX)) == 0);
+    CHECK(strcmp(cadence_status_text(10), cadence_status_text(UINT32_MAX)) == 0);
 }
 
 static void helpers(void) {
     cadence_handle handle = opened(256, CADENCE_REFUSE);
+    uint8_t room[64];
+    cadence_settings settings;
     const cadence_tag tags[] = { cadence_tag_of("k", "v"), cadence_tag_of(NULL, "w"), cadence_tag_of("", NULL) };
+    const cadence_tag defaults[] = { cadence_tag_of("env", "prod"), cadence_tag_of(NULL, "beta") };
     const cadence_options tagged = cadence_options_of(tags, 3);
-    CHECK(cadence_count(&handle, "c", -7, &tagged) == CADENCE_OK && sends(&handle, "p.c:-7|c|#k:v,w,:\n"));
-    CHECK(cadence_default_tag(&handle, "env", "prod") == CADENCE_OK);
-    CHECK(cadence_default_tag(&handle, NULL, "beta") == CADENCE_OK);
-    CHECK(cadence_default_container(&handle, "id") == CADENCE_OK);
-    CHECK(cadence_gauge(&handle, "g", 5, NULL) == CADENCE_OK && sends(&handle, "p.g:5|g|#env:prod,beta|c:id\n"));
-    cadence_free(&handle);
-    CHECK(cadence_open(&handle, NULL, 256, 2, CADENCE_REFUSE) == CADENCE_OK);
-    CHECK(cadence_time_millis(&handle, "t", 320, NULL) == CADENCE_OK && sends(&handle, "t:320|ms\n"));
-    CHECK(cadence_time_nanos(&handle, "t", 1999999, NULL) == CADENCE_OK && sends(&handle, "t:1.999999|ms\n"));
-    CHECK(cadence_distribute(&handle, "d", 3, NULL) == CADENCE_OK && sends(&handle, "d:3|d\n"));
-    CHECK(cadence_whole(&handle, CADENCE_SET, "s", 3, NULL) == CADENCE_OK && sends(&handle, "s:3|s\n"));
-    CHECK(cadence_parts(&handle, CADENCE_GAUGE, "g", -1250, 3, NULL) == CADENCE_OK && sends(&handle, "g:-1.25|g\n"));
+    const cadence_settings prefix = cadence_settings_of("p.");
+    CHECK(cadence_count(&handle, &prefix, "c", -7, &tagged) == CADENCE_OK && sends(&handle, "p.c:-7|c|#k:v,w,:\n"));
+    CHECK(cadence_settings_make(&settings, "p", defaults, 2, "id", false, room, sizeof room) == CADENCE_OK);
+    CHECK(cadence_gauge(&handle, &settings, "g", 5, NULL) == CADENCE_OK && sends(&handle, "p.g:5|g|#env:prod,beta|c:id\n"));
+    CHECK(cadence_count(&handle, &settings, "c", 5, &tagged) == CADENCE_OK);
+    CHECK(sends(&handle, "p.c:5|c|#env:prod,beta,k:v,w,:|c:id\n"));
+    CHECK(cadence_time_millis(&handle, NULL, "t", 320, NULL) == CADENCE_OK && sends(&handle, "t:320|ms\n"));
+    CHECK(cadence_time_nanos(&handle, NULL, "t", 1999999, NULL) == CADENCE_OK && sends(&handle, "t:1.999999|ms\n"));
+    CHECK(cadence_distribute(&handle, NULL, "d", 3, NULL) == CADENCE_OK && sends(&handle, "d:3|d\n"));
+    CHECK(cadence_whole(&handle, NULL, CADENCE_SET, "s", 3, NULL) == CADENCE_OK && sends(&handle, "s:3|s\n"));
+    CHECK(cadence_parts(&handle, NULL, CADENCE_GAUGE, "g", -1250, 3, NULL) == CADENCE_OK && sends(&handle, "g:-1.25|g\n"));
     CHECK(cadence_raw(&handle, "own:1|c") == CADENCE_OK && sends(&handle, "own:1|c\n"));
-    CHECK(cadence_count(&handle, NULL, 1, NULL) == CADENCE_OK && sends(&handle, ":1|c\n"));
+    CHECK(cadence_count(&handle, NULL, NULL, 1, NULL) == CADENCE_OK && sends(&handle, ":1|c\n"));
     cadence_free(&handle);
+}
+
+/* Returns whether a double has this decimal, and rounded to six places this other one. */
+static bool has_decimals(double value, int64_t mantissa, uint8_t places, int64_t rounded, uint8_t rounded_places) {
+    cadence_decimal_number found = { 9, 9 }, six = { 9, 9 };
+    return cadence_decimal_of_double(value, &found) == CADENCE_OK && found.mantissa == mantissa && found.places == places
+        && cadence_rounded_of_double(value, &six) == CADENCE_OK && six.mantissa == rounded && six.places == rounded_places;
+}
+
+static bool has_no_decimal(double value) {
+    cadence_decimal_number found = { 9, 9 };
+    return cadence_decimal_of_double(value, &found) == CADENCE_INVALID && found.mantissa == 9 && found.places == 9;
+}
+
+static void doubles(void) {
+    cadence_handle handle = opened(256, CADENCE_REFUSE);
+    cadence_decimal_number found = { 9, 9 };
+    CHECK(has_decimals(0.0, 0, 0, 0, 0) && has_decimals(-0.0, 0, 0, 0, 0) && has_decimals(1.0, 1, 0, 1, 0));
+    CHECK(has_decimals(0.75, 75, 2, 75, 2) && has_decimals(-2.5, -25, 1, -25, 1) && has_decimals(0.1, 1, 1, 1, 1));
+    CHECK(has_decimals(3.141592653589793, 3141592653589793, 15, 3141593, 6) && has_decimals(1e-30, 1, 30, 0, 0));
+    CHECK(has_decimals(1e18, INT64_C(1000000000000000000), 0, INT64_C(1000000000000000000), 0));
+    CHECK(has_decimals(0.0000005, 5, 7, 1, 6) && has_decimals(-0.0000005, -5, 7, -1, 6));
+    CHECK(has_decimals(0.00000049, 49, 8, 0, 0) && has_decimals(1.2345675, 12345675, 7, 1234568, 6));
+    CHECK(has_decimals(9.999999999, 9999999999, 9, 10, 0));
+    CHECK(has_decimals(9223372036854774784.0, INT64_C(9223372036854775000), 0, INT64_C(9223372036854775000), 0));
+    CHECK(has_decimals(1.5e-30, 2, 30, 0, 0) && has_decimals(-1.5e-30, -2, 30, 0, 0) && has_decimals(1e-31, 0, 0, 0, 0));
+    CHECK(has_decimals(1.2345678901234567e-15, INT64_C(1234567890123457), 30, 0, 0) && has_decimals(5e-324, 0, 0, 0, 0));
+    CHECK(has_no_decimal(9223372036854775808.0) && has_no_decimal(1e300) && has_no_decimal((double)NAN));
+    CHECK(has_no_decimal((double)INFINITY) && has_no_decimal(-(double)INFINITY));
+    CHECK(cadence_rounded_of_double(5e-324, &found) == CADENCE_OK && found.mantissa == 0 && found.places == 0);
+    CHECK(cadence_double(&handle, NULL, CADENCE_GAUGE, "g", 0.75, NULL) == CADENCE_OK && sends(&handle, "g:0.75|g\n"));
+    CHECK(cadence_double(&handle, NULL, CADENCE_GAUGE, "g", (double)NAN, NULL) == CADENCE_INVALID);
+    CHECK(cadence_double(&handle, NULL, CADENCE_GAUGE, "g", 1e38, NULL) == CADENCE_OK);
+    CHECK(sends(&handle, "g:100000000000000000000000000000000000000|g\n"));
+    CHECK(cadence_double(&handle, NULL, CADENCE_GAUGE, "g", -1e39, NULL) == CADENCE_INVALID);
+    CHECK(cadence_double(&handle, NULL, CADENCE_TIMER, "t", 0.0000005, NULL) == CADENCE_OK && sends(&handle, "t:0.000001|ms\n"));
+#if defined(__cplusplus) || __STDC_VERSION__ >= 201112L
+    CHECK(cadence_gauge(&handle, NULL, "g", 0.75, NULL) == CADENCE_OK && sends(&handle, "g:0.75|g\n"));
+    CHECK(cadence_gauge(&handle, NULL, "g", 0.5f, NULL) == CADENCE_OK && sends(&handle, "g:0.5|g\n"));
+    CHECK(cadence_time_millis(&handle, NULL, "t", 1.23456789, NULL) == CADENCE_OK && sends(&handle, "t:1.234568|ms\n"));
+    CHECK(cadence_distribute(&handle, NULL, "d", -0.5, NULL) == CADENCE_OK && sends(&handle, "d:-0.5|d\n"));
+#endif
+    CHECK(cadence_gauge(&handle, NULL, "g", 75u, NULL) == CADENCE_OK && sends(&handle, "g:75|g\n"));
+    CHECK(cadence_count(&handle, NULL, "c", INT64_MIN, NULL) == CADENCE_OK && sends(&handle, "c:-9223372036854775808|c\n"));
+    cadence_free(&handle);
+}
+
+/* Returns whether a prefix gives this text. */
+static bool begins_with(const char *prefix, const char *text) {
+    uint8_t out[16];
+    size_t length = 9;
+    return cadence_prefix_text((const uint8_t *)prefix, strlen(prefix), true, out, sizeof out, &length) == CADENCE_OK
+        && length == strlen(text) && memcmp(out, text, length) == 0;
+}
+
+static void texts_of_settings(void) {
+    const cadence_tag bad_tag = { NULL, 0, BAD, false };
+    const cadence_tag tags[] = { cadence_tag_of("a", "b"), cadence_tag_of(NULL, "c:d") };
+    cadence_settings settings = CADENCE_NO_SETTINGS;
+    uint8_t out[16] = { 7 };
+    size_t length = 9;
+    CHECK(begins_with("", "") && begins_with("a", "a.") && begins_with("a.b..", "a.b.") && begins_with("...", "."));
+    CHECK(cadence_prefix_text(BAD, true, out, 0, &length) == CADENCE_NOT_UTF8 && length == 0);
+    CHECK(cadence_prefix_text(BYTES("a|"), true, out, 0, &length) == CADENCE_SEPARATOR && length == 0);
+    CHECK(cadence_prefix_text(BYTES("a|"), false, out, 2, &length) == CADENCE_TOO_SMALL && length == 3 && out[0] == 7);
+    CHECK(cadence_tags_text(&bad_tag, 1, true, out, 0, &length) == CADENCE_NOT_UTF8 && length == 0);
+    CHECK(cadence_tags_text(tags, 2, true, out, 0, &length) == CADENCE_SEPARATOR && length == 0);
+    CHECK(cadence_tags_text(tags, 2, false, out, 8, &length) == CADENCE_TOO_SMALL && length == 9 && out[0] == 7);
+    CHECK(cadence_tags_text(tags, 2, false, out, 9, &length) == CADENCE_OK && memcmp(out, "|#a:b,c:d", 9) == 0);
+    CHECK(cadence_tags_text(NULL, 0, true, NULL, 0, &length) == CADENCE_OK && length == 0);
+    CHECK(cadence_test_text(BAD) == CADENCE_NOT_UTF8 && cadence_test_text(BYTES("a b")) == CADENCE_OK);
+    CHECK(cadence_settings_make(&settings, "p", tags, 1, "id", true, out, 6) == CADENCE_TOO_SMALL && !settings.strict);
+    CHECK(cadence_settings_make(&settings, "p", tags, 1, "id", true, out, 7) == CADENCE_OK && settings.strict);
 }
 
 static void order_of_a_client(void) {
     cadence_handle closed = CADENCE_CLOSED;
-    const cadence_tag bad_tag = { NULL, 0, BAD, false };
-    CHECK(cadence_new(&closed, BAD, 8, 1, 9) == CADENCE_NOT_UTF8);
-    CHECK(cadence_new(&closed, BYTES("p"), SIZE_MAX, 2, 9) == CADENCE_INVALID);
-    CHECK(cadence_new(&closed, BYTES("p"), SIZE_MAX, 1, CADENCE_REFUSE) == CADENCE_INVALID);
-    CHECK(cadence_new(&closed, BYTES("p"), 8, SIZE_MAX / 32, CADENCE_REFUSE) == CADENCE_NO_MEMORY);
-    CHECK(cadence_new(&closed, BYTES("p"), SIZE_MAX / 2, 2, CADENCE_REFUSE) == CADENCE_NO_MEMORY);
-    CHECK(cadence_add_tag(&closed, &bad_tag) == CADENCE_NOT_UTF8);
-    CHECK(cadence_set_container(&closed, BAD) == CADENCE_NOT_UTF8);
+    CHECK(cadence_open(&closed, SIZE_MAX, 2, 9) == CADENCE_INVALID);
+    CHECK(cadence_open(&closed, SIZE_MAX, 1, CADENCE_REFUSE) == CADENCE_INVALID);
+    CHECK(cadence_open(&closed, 8, SIZE_MAX / 32, CADENCE_REFUSE) == CADENCE_NO_MEMORY);
+    CHECK(cadence_open(&closed, SIZE_MAX / 2, 2, CADENCE_REFUSE) == CADENCE_NO_MEMORY);
     CHECK(cadence_line(&closed, BAD) == CADENCE_NO_CLIENT && cadence_flush(&closed) == CADENCE_NO_CLIENT);
     CHECK(cadence_sent(&closed) == CADENCE_NO_CLIENT);
+    for (uint32_t policy = 0; policy < 600; policy++)
+        CHECK((cadence_open(&closed, 64, 2, policy) == CADENCE_OK) == (policy <= CADENCE_DROP_OLDEST));
+    cadence_free(&closed);
 }
 
 static void order_of_a_call(void) {
@@ -94,16 +170,17 @@ static void order_of_a_call(void) {
     bad_container.contained = bad_container.rated = bad_rate.rated = bad_tags.rated = true;
     bad_container.container = (const uint8_t *)"\xff", bad_container.container_len = 1;
     bad_container.rate = bad_rate.rate = bad_tags.rate = many_places;
-    CHECK(cadence_decimal(&closed, 9, BAD, &many_places, 1, &none) == CADENCE_INVALID);
-    CHECK(cadence_duration(&closed, CADENCE_GAUGE, BAD, &nanos, 1, &none) == CADENCE_INVALID);
-    CHECK(cadence_signed(&closed, 9, BAD, &one, 1, &none) == CADENCE_NO_CLIENT);
-    CHECK(cadence_signed(&open, 9, BAD, &one, 1, &none) == CADENCE_NOT_UTF8);
-    CHECK(cadence_signed(&open, 9, BYTES("k"), &one, 1, &bad_tags) == CADENCE_INVALID);
-    CHECK(cadence_signed(&open, 0, BYTES("k"), &one, 1, &bad_tags) == CADENCE_NOT_UTF8);
-    CHECK(cadence_signed(&open, 0, BYTES("k"), &one, 1, &bad_container) == CADENCE_NOT_UTF8);
+    CHECK(cadence_decimal(&closed, &bad_prefix, 9, BAD, &many_places, 1, &none) == CADENCE_INVALID);
+    CHECK(cadence_duration(&closed, &bad_prefix, CADENCE_GAUGE, BAD, &nanos, 1, &none) == CADENCE_INVALID);
+    CHECK(cadence_signed(&closed, &bad_prefix, 9, BAD, &one, 1, &none) == CADENCE_NO_CLIENT);
+    CHECK(cadence_signed(&open, &bad_prefix, 9, BYTES("k"), &one, 1, &none) == CADENCE_NOT_UTF8);
+    CHECK(cadence_signed(&open, &nothing, 9, BAD, &one, 1, &none) == CADENCE_NOT_UTF8);
+    CHECK(cadence_signed(&open, &nothing, 9, BYTES("k"), &one, 1, &bad_tags) == CADENCE_INVALID);
+    CHECK(cadence_signed(&open, &nothing, 0, BYTES("k"), &one, 1, &bad_tags) == CADENCE_NOT_UTF8);
+    CHECK(cadence_signed(&open, &nothing, 0, BYTES("k"), &one, 1, &bad_container) == CADENCE_NOT_UTF8);
     CHECK(cadence_raw(&open, "a") == CADENCE_OK && cadence_raw(&open, "b") == CADENCE_OK);
-    CHECK(cadence_signed(&open, 0, BYTES("k"), &one, 1, &bad_rate) == CADENCE_INVALID);
-    CHECK(cadence_signed(&open, 0, BYTES("k"), &one, 1, &none) == CADENCE_FULL);
+    CHECK(cadence_signed(&open, &nothing, 0, BYTES("k"), &one, 1, &bad_rate) == CADENCE_INVALID);
+    CHECK(cadence_signed(&open, &nothing, 0, BYTES("k"), &one, 1, &none) == CADENCE_FULL);
     CHECK(cadence_raw(&open, "c") == CADENCE_FULL);
     cadence_free(&open);
 }
@@ -111,90 +188,95 @@ static void order_of_a_call(void) {
 static void order_of_a_line(void) {
     const cadence_tag bad_tag = { NULL, 0, BAD, false };
     const cadence_options bad_tags = cadence_options_of(&bad_tag, 1);
+    const cadence_settings settings[] = { nothing, cadence_settings_of("p."), bad_prefix,
+                                          { NULL, 0, BAD, NULL, 0, false, false }, { NULL, 0, NULL, 0, BAD, true, false },
+                                          { NULL, 0, NULL, 0, BAD, false, false } };
     size_t length = 9;
-    CHECK(cadence_format_duration(BAD, 9, BAD, &nanos, 1, &none, NULL, 0, &length) == CADENCE_INVALID && length == 0);
-    CHECK(cadence_format_signed(BAD, 9, BYTES("k"), &one, 1, &none, NULL, 0, &length) == CADENCE_NOT_UTF8);
-    CHECK(cadence_format_signed(BYTES("p"), 9, BAD, &one, 1, &none, NULL, 0, &length) == CADENCE_NOT_UTF8);
-    CHECK(cadence_format_signed(BYTES("p"), 9, BYTES("k"), &one, 1, &bad_tags, NULL, 0, &length) == CADENCE_INVALID);
-    CHECK(cadence_format_signed(BYTES("p"), 0, BYTES("k"), &one, 1, &bad_tags, NULL, 0, &length) == CADENCE_NOT_UTF8);
-    CHECK(cadence_format_signed(BYTES("p"), 0, BYTES("k"), &one, 1, &none, NULL, 0, &length) == CADENCE_TOO_SMALL);
-    CHECK(length == 6);
+    CHECK(cadence_format_duration(&bad_prefix, 9, BAD, &nanos, 1, &none, NULL, 0, &length) == CADENCE_INVALID && length == 0);
+    CHECK(cadence_format_signed(&nothing, 9, BAD, &one, 1, &none, NULL, 0, &length) == CADENCE_NOT_UTF8);
+    CHECK(cadence_format_signed(&nothing, 9, BYTES("k"), &one, 1, &bad_tags, NULL, 0, &length) == CADENCE_INVALID);
+    CHECK(cadence_format_signed(&nothing, 0, BYTES("k"), &one, 1, &bad_tags, NULL, 0, &length) == CADENCE_NOT_UTF8);
+    for (int i = 0; i < 6; i++) {
+        const bool bad = i >= 2 && i <= 4; /* the last container is not read, since it is not set */
+        const uint32_t status = cadence_format_signed(&settings[i], 0, BYTES("k"), &one, 1, &none, NULL, 0, &length);
+        CHECK(status == (bad ? CADENCE_NOT_UTF8 : CADENCE_TOO_SMALL) && length == (bad ? 0 : i == 1 ? 7 : 5));
+    }
 }
 
-/* Returns whether a strict client refuses this text in each place of a call, known or not, and in its own texts. */
+/* Returns whether strict settings refuse this text in each place of a call, known or not, and as texts of their own. */
 static bool refuses(const char *text) {
-    static uint8_t packet[256];
-    cadence_handle handle = CADENCE_CLOSED;
+    static uint8_t packet[256], room[64];
+    cadence_handle handle = opened(64, CADENCE_REFUSE);
+    cadence_settings strict;
     const cadence_tag tags[] = { cadence_tag_of("k", "v"), cadence_tag_of(text, "v"), cadence_tag_of("k", text),
                                  cadence_tag_of(NULL, text) };
     size_t length;
-    bool all = cadence_open(&handle, "p", 64, 2, CADENCE_REFUSE | CADENCE_STRICT) == CADENCE_OK;
+    bool all = cadence_settings_make(&strict, "p", NULL, 0, NULL, true, room, sizeof room) == CADENCE_OK;
     for (int known = 0; known <= 1; known++) {
         cadence_options options = CADENCE_NO_OPTIONS;
         options.known = known;
-        all = all && cadence_count(&handle, text, 1, &options) == CADENCE_SEPARATOR;
-        all = all && cadence_parts(&handle, CADENCE_GAUGE, text, 25, 1, &options) == CADENCE_SEPARATOR;
+        all = all && cadence_count(&handle, &strict, text, 1, &options) == CADENCE_SEPARATOR;
+        all = all && cadence_parts(&handle, &strict, CADENCE_GAUGE, text, 25, 1, &options) == CADENCE_SEPARATOR;
         options.tags = tags;
         for (options.tags_len = 2; options.tags_len <= 4; options.tags_len++)
-            all = all && cadence_count(&handle, "c", 1, &options) == CADENCE_SEPARATOR;
+            all = all && cadence_count(&handle, &strict, "c", 1, &options) == CADENCE_SEPARATOR;
         options.tags++;
         for (options.tags_len = 1; options.tags_len <= 3; options.tags_len++)
-            all = all && cadence_count(&handle, "c", 1, &options) == CADENCE_SEPARATOR;
+            all = all && cadence_count(&handle, &strict, "c", 1, &options) == CADENCE_SEPARATOR;
         options.tags_len = 0, options.contained = true;
         options.container = (const uint8_t *)text, options.container_len = strlen(text);
-        all = all && cadence_count(&handle, "c", 1, &options) == CADENCE_SEPARATOR;
+        all = all && cadence_count(&handle, &strict, "c", 1, &options) == CADENCE_SEPARATOR;
+        all = all && cadence_format_signed(&strict, 0, BYTES("k"), &one, 1, &options, packet, sizeof packet, &length)
+            == CADENCE_SEPARATOR && length == 0;
     }
-    for (int i = 1; i <= 3; i++) all = all && cadence_add_tag(&handle, &tags[i]) == CADENCE_SEPARATOR;
-    all = all && cadence_default_container(&handle, text) == CADENCE_SEPARATOR;
-    all = all && cadence_open(&handle, text, 64, 2, CADENCE_DROP_OLDEST | CADENCE_STRICT) == CADENCE_SEPARATOR;
+    for (int i = 1; i <= 3; i++)
+        all = all && cadence_settings_make(&strict, "p", &tags[i], 1, NULL, true, room, sizeof room) == CADENCE_SEPARATOR;
+    all = all && cadence_settings_make(&strict, text, NULL, 0, NULL, true, room, sizeof room) == CADENCE_SEPARATOR;
+    all = all && cadence_settings_make(&strict, "p", NULL, 0, text, true, room, sizeof room) == CADENCE_SEPARATOR;
+    all = all && cadence_settings_make(&strict, "p", NULL, 0, NULL, true, room, sizeof room) == CADENCE_OK;
     all = all && cadence_flush(&handle) == CADENCE_OK;
     all = all && cadence_next(&handle, packet, sizeof packet, &length) == CADENCE_NO_PACKET;
-    all = all && cadence_count(&handle, "c", 1, NULL) == CADENCE_OK && sends(&handle, "p.c:1|c\n");
+    all = all && cadence_count(&handle, &strict, "c", 1, NULL) == CADENCE_OK && sends(&handle, "p.c:1|c\n");
     cadence_free(&handle);
     return all;
 }
 
 static void strict(void) {
-    cadence_handle handle = CADENCE_CLOSED;
+    static uint8_t room[64];
+    cadence_handle handle = opened(64, CADENCE_REFUSE);
+    cadence_settings settings;
     const cadence_tag free_tags[] = { cadence_tag_of("k e", "\xc3\xa9#@"), cadence_tag_of(NULL, ""),
                                       { BYTES(","), BYTES("w"), false } };
-    const cadence_tag unfree = cadence_tag_of("k", ":"), bad = { NULL, 0, BAD, false };
+    const cadence_tag unfree = cadence_tag_of("k", ":"), bad = { NULL, 0, BAD, false }, env = cadence_tag_of("env", "prod");
     cadence_options options = cadence_options_of(free_tags, 3), two = options;
     const cadence_tag both[] = { unfree, bad };
     CHECK(refuses(":") && refuses(",") && refuses("|") && refuses("\n"));
     CHECK(refuses("a:1|c") && refuses(",x") && refuses("x\n") && refuses("\xc3\xa9|"));
-    CHECK(cadence_open(&handle, "p", 64, 2, CADENCE_REFUSE | CADENCE_STRICT) == CADENCE_OK);
-    CHECK(cadence_default_tag(&handle, "env", "prod") == CADENCE_OK);
-    CHECK(cadence_default_container(&handle, "id") == CADENCE_OK);
+    CHECK(cadence_settings_make(&settings, "p", &env, 1, "id", true, room, sizeof room) == CADENCE_OK);
     options.container = (const uint8_t *)"|", options.container_len = 1; /* it is not read, since it is not set */
-    CHECK(cadence_count(&handle, "c", 1, &options) == CADENCE_OK);
+    CHECK(cadence_count(&handle, &settings, "c", 1, &options) == CADENCE_OK);
     CHECK(sends(&handle, "p.c:1|c|#env:prod,k e:\xc3\xa9#@,,w|c:id\n"));
     CHECK(cadence_raw(&handle, "own:1|c|#a,b") == CADENCE_OK && sends(&handle, "own:1|c|#a,b\n"));
 
     /* the order: what doesn't fit and what is no UTF-8 first, then this, then the queue */
     two.tags = both, two.tags_len = 2;
-    CHECK(cadence_count(&handle, ":", 1, &two) == CADENCE_NOT_UTF8);
-    CHECK(cadence_whole(&handle, 9, ":", 1, NULL) == CADENCE_INVALID);
+    CHECK(cadence_count(&handle, &settings, ":", 1, &two) == CADENCE_NOT_UTF8);
+    CHECK(cadence_whole(&handle, &settings, 9, ":", 1, NULL) == CADENCE_INVALID);
     two.tags_len = 1, two.rated = true, two.rate = many_places;
-    CHECK(cadence_count(&handle, "c", 1, &two) == CADENCE_INVALID);
-    CHECK(cadence_parts(&handle, CADENCE_GAUGE, ":", 1, 31, NULL) == CADENCE_INVALID);
+    CHECK(cadence_count(&handle, &settings, "c", 1, &two) == CADENCE_INVALID);
+    CHECK(cadence_parts(&handle, &settings, CADENCE_GAUGE, ":", 1, 31, NULL) == CADENCE_INVALID);
     CHECK(cadence_raw(&handle, "a") == CADENCE_OK && cadence_flush(&handle) == CADENCE_OK);
     CHECK(cadence_raw(&handle, "b") == CADENCE_OK && cadence_flush(&handle) == CADENCE_OK);
     for (int i = 0; i < 30; i++) cadence_raw(&handle, "c");
-    CHECK(cadence_count(&handle, "a.key.that.does.not.fit.beside.the.held.text", 1, NULL) == CADENCE_FULL);
-    CHECK(cadence_count(&handle, "a.key.that.does.not.fit.beside.the.held.text|", 1, NULL) == CADENCE_SEPARATOR);
-
-    /* the numbers of policies, and a client that is not strict */
+    CHECK(cadence_count(&handle, &settings, "a.key.that.does.not.fit.beside.the.held.text", 1, NULL) == CADENCE_FULL);
+    CHECK(cadence_count(&handle, &settings, "a.key.that.does.not.fit.beside.the.held.text|", 1, NULL) == CADENCE_SEPARATOR);
     cadence_free(&handle);
-    CHECK(cadence_open(&handle, "|", 64, 1, CADENCE_STRICT) == CADENCE_INVALID);
-    for (uint32_t policy = 0; policy < 600; policy++) {
-        const bool known = policy == 0 || policy == 1 || policy == CADENCE_STRICT || policy == CADENCE_STRICT + 1;
-        CHECK((cadence_open(&handle, "p", 64, 2, policy) == CADENCE_OK) == known);
-    }
-    CHECK(cadence_open(&handle, "|", 64, 2, CADENCE_DROP_OLDEST) == CADENCE_OK);
-    CHECK(cadence_default_tag(&handle, ",", "\n") == CADENCE_OK);
-    CHECK(cadence_default_container(&handle, ":") == CADENCE_OK);
-    CHECK(cadence_count(&handle, "a:1", 1, NULL) == CADENCE_OK && sends(&handle, "|.a:1:1|c|#,:\n|c::\n"));
+
+    /* settings that are not strict */
+    handle = opened(64, CADENCE_REFUSE);
+    const cadence_tag odd = cadence_tag_of(",", "\n");
+    CHECK(cadence_settings_make(&settings, "|", &odd, 1, ":", false, room, sizeof room) == CADENCE_OK);
+    CHECK(cadence_count(&handle, &settings, "a:1", 1, NULL) == CADENCE_OK && sends(&handle, "|.a:1:1|c|#,:\n|c::\n"));
     cadence_free(&handle);
 }
 
@@ -210,20 +292,42 @@ static void what_stays(void) {
     handle = opened(64, CADENCE_DROP_OLDEST);
     length = 9;
     CHECK(cadence_next(&handle, &byte, 1, &length) == CADENCE_NO_PACKET && length == 0 && byte == 7);
-    CHECK(cadence_count(&handle, "c", 1, &tagged) == CADENCE_OK && cadence_flush(&handle) == CADENCE_OK);
-    CHECK(cadence_next(&handle, &byte, 1, &length) == CADENCE_TOO_SMALL && length == 11 && byte == 7);
-    CHECK(sends(&handle, "p.c:1|c|#w\n"));
+    CHECK(cadence_count(&handle, NULL, "c", 1, &tagged) == CADENCE_OK && cadence_flush(&handle) == CADENCE_OK);
+    CHECK(cadence_next(&handle, &byte, 1, &length) == CADENCE_TOO_SMALL && length == 9 && byte == 7);
+    CHECK(sends(&handle, "c:1|c|#w\n"));
     cadence_free(&handle);
+    cadence_free(&handle);
+}
+
+static void held_text(void) {
+    cadence_handle handle = CADENCE_CLOSED;
+    uint8_t text[16] = { 7 };
+    size_t length = 9;
+    CHECK(cadence_held(&handle, text, 1, &length) == CADENCE_NO_CLIENT && length == 0 && cadence_drop_held(&handle) == CADENCE_NO_CLIENT);
+    handle = opened(8, CADENCE_REFUSE);
+    CHECK(cadence_held(&handle, text, 0, &length) == CADENCE_OK && length == 0 && cadence_drop_held(&handle) == CADENCE_OK);
+    CHECK(cadence_raw(&handle, "a:1") == CADENCE_OK);
+    CHECK(cadence_held(&handle, text, 3, &length) == CADENCE_TOO_SMALL && length == 4 && text[0] == 7);
+    CHECK(cadence_held(&handle, text, 4, &length) == CADENCE_OK && length == 4 && memcmp(text, "a:1\n", 4) == 0);
+    CHECK(cadence_drop_held(&handle) == CADENCE_OK && cadence_held(&handle, text, 4, &length) == CADENCE_OK && length == 0);
+    CHECK(cadence_raw(&handle, "b:1") == CADENCE_OK && cadence_raw(&handle, "c:12345") == CADENCE_OK);
+    CHECK(cadence_drop_held(&handle) == CADENCE_FULL && cadence_held(&handle, text, 16, &length) == CADENCE_OK && length == 8);
+    CHECK(cadence_next(&handle, text, 16, &length) == CADENCE_OK && length == 4 && cadence_sent(&handle) == CADENCE_OK);
+    CHECK(cadence_drop_held(&handle) == CADENCE_OK && cadence_flush(&handle) == CADENCE_OK);
+    CHECK(cadence_next(&handle, text, 16, &length) == CADENCE_NO_PACKET);
     cadence_free(&handle);
 }
 
 int main(void) {
     texts();
     helpers();
+    doubles();
+    texts_of_settings();
     order_of_a_client();
     order_of_a_call();
     order_of_a_line();
     strict();
     what_stays();
+    held_text();
     return failures != 0;
 }

@@ -11,6 +11,7 @@
 enum { LONGEST = 65507 }; /* the most bytes that a UDP datagram holds */
 
 static int server, client;
+static cadence_settings settings;
 static struct sockaddr_in to;
 
 /* Sends the packets that wait. A packet that is too long for a datagram is dropped, because otherwise no later packet
@@ -30,10 +31,10 @@ static void send_waiting(cadence_handle *handle) {
 
 /* Adds to a counter. If the queue of packets is full, it sends the packets and makes the call again. */
 static void count(cadence_handle *handle, const char *key, int64_t value, const cadence_options *options) {
-    uint32_t status = cadence_count(handle, key, value, options);
+    uint32_t status = cadence_count(handle, &settings, key, value, options);
     if (status == CADENCE_FULL) {
         send_waiting(handle);
-        status = cadence_count(handle, key, value, options);
+        status = cadence_count(handle, &settings, key, value, options);
     }
     if (status != CADENCE_OK) printf("%s\n", cadence_status_text(status));
 }
@@ -68,10 +69,10 @@ static void counters(cadence_handle *handle) {
 static void other_kinds(cadence_handle *handle) {
     const uint64_t sizes[] = { 1, 22, 333 };
     const cadence_options none = CADENCE_NO_OPTIONS;
-    cadence_unsigned(handle, CADENCE_HISTOGRAM, (const uint8_t *)"sizes", 5, sizes, 3, &none);
-    cadence_parts(handle, CADENCE_GAUGE, "load", -1250, 3, NULL);
+    cadence_unsigned(handle, &settings, CADENCE_HISTOGRAM, (const uint8_t *)"sizes", 5, sizes, 3, &none);
+    cadence_parts(handle, &settings, CADENCE_GAUGE, "load", -1250, 3, NULL);
     flush(handle);
-    cadence_time_nanos(handle, "took", 1999999, NULL);
+    cadence_time_nanos(handle, &settings, "took", 1999999, NULL);
     cadence_raw(handle, "own:1|c");
     flush(handle);
 }
@@ -95,11 +96,13 @@ static void long_line(cadence_handle *handle) {
 }
 
 int main(void) {
+    static uint8_t room[64];
+    const cadence_tag env = cadence_tag_of("env", "prod");
     cadence_handle handle = CADENCE_CLOSED;
     if (open_sockets()) return 1;
+    if (cadence_settings_make(&settings, "my.service", &env, 1, NULL, false, room, sizeof room) != CADENCE_OK) return 2;
     count(&handle, "closed", 1, NULL);
-    if (cadence_open(&handle, "my.service", 64, 2, CADENCE_REFUSE) != CADENCE_OK) return 2;
-    if (cadence_default_tag(&handle, "env", "prod") != CADENCE_OK) return 3;
+    if (cadence_open(&handle, 64, 2, CADENCE_REFUSE) != CADENCE_OK) return 3;
     counters(&handle);
     other_kinds(&handle);
     refusals(&handle);

@@ -24,10 +24,11 @@ int main(int argc, char **argv) {
     const int fd = socket(AF_INET, SOCK_DGRAM, 0);
     if (connect(fd, (const struct sockaddr *)&to, sizeof to)) return 1;
 
+    const cadence_settings settings = cadence_settings_of("my.service.");
     cadence_handle client = CADENCE_CLOSED;
-    uint32_t status = cadence_open(&client, "my.service", 512, 8, CADENCE_DROP_OLDEST);
-    for (int i = 1; i < argc && status == CADENCE_OK; i++) status = cadence_count(&client, argv[i], 1, NULL);
-    if (status == CADENCE_OK) status = cadence_count(&client, "visits", 1, NULL);
+    uint32_t status = cadence_open(&client, 512, 8, CADENCE_DROP_OLDEST);
+    for (int i = 1; i < argc && status == CADENCE_OK; i++) status = cadence_count(&client, &settings, argv[i], 1, NULL);
+    if (status == CADENCE_OK) status = cadence_count(&client, &settings, "visits", 1, NULL);
     if (status == CADENCE_OK) status = cadence_flush(&client);
     if (status != CADENCE_OK) fprintf(stderr, "%s\n", cadence_status_text(status));
     send_waiting(&client, fd);

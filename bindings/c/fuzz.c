@@ -1,6 +1,6 @@
 /* fuzz SEQUENCES [SEED]: makes random calls with a heap that fails at random. It compares what is sent with the frames of
  * the lines whose calls returned CADENCE_OK. If a call returns another status, the counts must be as they were before
- * it. A strict client must refuse just the texts with a separator. It prints the first fault, and its exit status is
+ * it. Strict settings must refuse just the texts with a separator. It prints the first fault, and its exit status is
  * then 1. */
 #include "cadence.h"
 #include <stdio.h>
@@ -54,7 +54,7 @@ typedef struct {
     uint8_t stream[ROOM]; /* the frames of all lines that were kept */
     size_t kept, fetched;
     size_t capacity;
-    bool drops, strict;
+    bool drops;
 } host;
 
 /* Texts are pieces of these bytes. A piece that ends or begins inside the last bytes may not be UTF-8. */
@@ -93,11 +93,11 @@ static bool is_free_call(text key, const cadence_options *options) {
     return all && (!options->contained || is_free(options->container, options->container_len));
 }
 
-/* Compares a status with whether the texts have no separator. A strict client refuses the others, before it looks for
- * room. */
+/* Compares a status with whether the texts have no separator. Strict settings refuse the others, before the client looks
+ * for room. */
 static uint32_t strictly(bool strict, bool free_texts, uint32_t status) {
     if (status == CADENCE_SEPARATOR && (!strict || free_texts)) fail("a call without a separator is refused", status);
-    if ((status == CADENCE_OK || status == CADENCE_FULL) && strict && !free_texts) fail("a separator is kept", status);
+    if ((status == CADENCE_OK || status == CADENCE_FULL || status == CADENCE_TOO_SMALL) && strict && !free_texts) fail("a separator is kept", status);
     return status;
 }
 
@@ -109,6 +109,11 @@ static cadence_tag some_tag(void) {
 
 static cadence_tag tags[4];
 
+/* The settings of later calls. Their texts are in `room`, or pieces of `texts`. */
+static uint8_t room[512];
+static cadence_settings settings = CADENCE_NO_SETTINGS;
+static bool plain_settings = true;
+
 static cadence_options some_options(void) {
     cadence_options options = CADENCE_NO_OPTIONS;
     text container = some_text();
@@ -118,7 +123,7 @@ static cadence_options some_options(void) {
     options.container = container.at, options.container_len = container.length;
     options.rate = (cadence_decimal_number){ (int64_t)below(1000) - 500, (uint8_t)below(32) };
     options.time = (uint64_t)below(1u << 31) << below(33);
-    options.known = all_plain && below(2);
+    options.known = all_plain && plain_settings && below(2);
     options.contained = below(3) == 0, options.rated = below(3) == 0, options.timed = below(3) == 0;
     return options;
 }
@@ -133,9 +138,9 @@ static void keeps(host *h, const uint8_t *line, size_t length) {
 
 static void fetch(host *h) {
     static uint8_t packet[LONGEST];
-    size_t length = 1, room = below(4) == 0 ? below(64) : sizeof packet;
-    uint32_t status = cadence_next(&h->handle, room != 0 ? packet : NULL, room, &length);
-    if (status == CADENCE_TOO_SMALL && length <= room) fail("a packet that fits is too long", status);
+    size_t length = 1, most = below(4) == 0 ? below(64) : sizeof packet;
+    uint32_t status = cadence_next(&h->handle, most != 0 ? packet : NULL, most, &length);
+    if (status == CADENCE_TOO_SMALL && length <= most) fail("a packet that fits is too long", status);
     if ((status == CADENCE_NO_PACKET || status == CADENCE_NO_CLIENT) && length != 0) fail("a length of no packet", status);
     if (status != CADENCE_OK) return;
     if (!h->drops && (h->fetched + length > h->kept || memcmp(packet, h->stream + h->fetched, length) != 0))
@@ -147,30 +152,82 @@ static void fetch(host *h) {
     packets_sent++;
 }
 
+/* Fetches the held text and drops it, as a host does that sends at once. */
+static void fetch_held(host *h) {
+    static uint8_t text_held[LONGEST];
+    cadence_counts_of counts = { 0, 0, 0, 0, 0 };
+    size_t length = 1;
+    if (cadence_counts(&h->handle, &counts) != CADENCE_OK) return;
+    uint32_t status = cadence_held(&h->handle, text_held, sizeof text_held, &length);
+    if (status != CADENCE_OK || length != counts.held) fail("the held text has another length", status);
+    status = cadence_drop_held(&h->handle);
+    if ((status == CADENCE_FULL) != (counts.waiting != 0)) fail("the held text is dropped before a packet", status);
+    if (status != CADENCE_OK) return;
+    if (!h->drops && (h->fetched + length > h->kept || memcmp(text_held, h->stream + h->fetched, length) != 0))
+        fail("the held text has other bytes", status);
+    h->fetched += length;
+}
+
 static void opens(host *h) {
-    text prefix = some_text();
     size_t capacity = below(4) == 0 ? below(8) : below(200), packets = below(12) == 0 ? below(2) : 2 + below(3);
-    uint32_t policy = below(12) == 0 ? 2 : below(2), strict = below(3) == 0 ? CADENCE_STRICT : 0, status;
-    status = cadence_new(&h->handle, prefix.at, prefix.length, capacity, packets, policy | strict);
-    strictly(strict != 0, is_free(prefix.at, prefix.length), status);
+    uint32_t policy = below(12) == 0 ? 2 : below(2), status;
+    status = cadence_open(&h->handle, capacity, packets, policy);
     if (status == CADENCE_OK && (packets < 2 || policy > 1)) fail("a client of nothing", status);
     if (status != CADENCE_OK) return;
     h->kept = h->fetched = 0;
-    h->capacity = capacity, h->drops = policy == CADENCE_DROP_OLDEST, h->strict = strict != 0;
+    h->capacity = capacity, h->drops = policy == CADENCE_DROP_OLDEST;
+}
+
+/* Makes settings of random texts. If a text is refused, the settings stay as they were. */
+static void sets(void) {
+    all_plain = true;
+    const text prefix = some_text(), container = some_text();
+    cadence_settings made = CADENCE_NO_SETTINGS;
+    bool is_free_tags = true;
+    size_t n = below(5), length = sizeof room;
+    for (size_t i = 0; i < n; i++) tags[i] = some_tag(), is_free_tags = is_free_tags && is_free_tag(&tags[i]);
+    requests = 0, refuse_at = below(4) == 0 ? 1 + below(3) : 0;
+    made.strict = below(3) == 0, made.contained = below(2);
+    made.container = container.at, made.container_len = container.length;
+    uint32_t status = cadence_prefix_text(prefix.at, prefix.length, made.strict, room, length, &made.prefix_len);
+    strictly(made.strict, is_free(prefix.at, prefix.length), status);
+    made.prefix = room, made.tags = room + made.prefix_len, length -= made.prefix_len;
+    if (status == CADENCE_OK) {
+        status = cadence_tags_text(n != 0 ? tags : NULL, n, made.strict, room + made.prefix_len, length, &made.tags_len);
+        strictly(made.strict, is_free_tags, status);
+    }
+    if (status == CADENCE_OK && made.contained && made.strict) {
+        status = cadence_test_text(container.at, container.length);
+        strictly(true, is_free(container.at, container.length), status);
+    }
+    refuse_at = 0;
+    settings = (cadence_settings)CADENCE_NO_SETTINGS;
+    plain_settings = true;
+    if (status == CADENCE_OK) settings = made, plain_settings = all_plain;
+}
+
+/* Returns a double of random bits. */
+static double some_double(void) {
+    const uint64_t bits = (uint64_t)below(1u << 31) << 33 | (uint64_t)below(1u << 31) << 2 | below(4);
+    double number;
+    memcpy(&number, &bits, sizeof number);
+    return number;
 }
 
 /* Writes a line without a client, with any kind of value. */
-static uint32_t formats(text key, const cadence_options *options, uint8_t *line, size_t room, size_t *length) {
+static uint32_t formats(text key, const cadence_options *options, uint8_t *line, size_t most, size_t *length) {
     int64_t values[3] = { below(5) - 2, (int64_t)below(1u << 31) << below(33), INT64_MIN };
     uint64_t whole[3] = { below(5), UINT64_MAX, (uint64_t)below(1u << 31) << below(33) };
     cadence_decimal_number numbers[3] = { { -25, 1 }, { INT64_MIN, (uint8_t)below(33) }, { (int64_t)below(100), 30 } };
+    const double floats[3] = { below(100) / 8.0, some_double(), some_double() };
     size_t n = below(4);
     uint32_t kind = below(12) == 0 ? 7 : below(7);
-    switch (below(4)) {
-    case 0: return cadence_format_unsigned(NULL, 0, kind, key.at, key.length, n != 0 ? whole : NULL, n, options, line, room, length);
-    case 1: return cadence_format_decimal(NULL, 0, kind, key.at, key.length, numbers, n, options, line, room, length);
-    case 2: return cadence_format_duration(NULL, 0, kind, key.at, key.length, whole, n, options, line, room, length);
-    default: return cadence_format_signed(NULL, 0, kind, key.at, key.length, n != 0 ? values : NULL, n, options, line, room, length);
+    switch (below(5)) {
+    case 0: return cadence_format_unsigned(&settings, kind, key.at, key.length, n != 0 ? whole : NULL, n, options, line, most, length);
+    case 1: return cadence_format_decimal(&settings, kind, key.at, key.length, numbers, n, options, line, most, length);
+    case 2: return cadence_format_floating(&settings, kind, key.at, key.length, floats, n, options, line, most, length);
+    case 3: return cadence_format_duration(&settings, kind, key.at, key.length, whole, n, options, line, most, length);
+    default: return cadence_format_signed(&settings, kind, key.at, key.length, n != 0 ? values : NULL, n, options, line, most, length);
     }
 }
 
@@ -180,9 +237,10 @@ static uint32_t keeps_line(host *h) {
     all_plain = true;
     text key = some_text();
     cadence_options options = some_options();
-    size_t length = 1, room = below(6) == 0 ? below(40) : sizeof line;
-    uint32_t status = formats(key, &options, line, room, &length);
-    if (status == CADENCE_TOO_SMALL ? length <= room : status != CADENCE_OK && length != 0) fail("a length of no line", status);
+    size_t length = 1, most = below(6) == 0 ? below(40) : sizeof line;
+    uint32_t status = formats(key, &options, line, most, &length);
+    strictly(settings.strict, is_free_call(key, &options), status);
+    if (status == CADENCE_TOO_SMALL ? length <= most : status != CADENCE_OK && length != 0) fail("a length of no line", status);
     if (status != CADENCE_OK) return status;
     status = cadence_line(&h->handle, line, length);
     if (status == CADENCE_OK) keeps(h, line, length);
@@ -193,13 +251,15 @@ static uint32_t keeps_line(host *h) {
 static uint32_t keeps_value_of(host *h, text key, cadence_options options) {
     uint64_t whole[3] = { below(5), UINT64_MAX, (uint64_t)below(1u << 31) << below(33) };
     cadence_decimal_number numbers[3] = { { -25, 1 }, { INT64_MIN, (uint8_t)below(33) }, { (int64_t)below(100), 30 } };
+    const double floats[3] = { below(100) / 8.0, some_double(), some_double() };
     size_t n = below(4);
     uint32_t kind = below(12) == 0 ? 7 : below(7);
-    switch (below(4)) {
-    case 0: return cadence_unsigned(&h->handle, kind, key.at, key.length, n != 0 ? whole : NULL, n, &options);
-    case 1: return cadence_decimal(&h->handle, kind, key.at, key.length, numbers, n, &options);
-    case 2: return cadence_duration(&h->handle, kind, key.at, key.length, whole, n, &options);
-    default: return cadence_signed(&h->handle, kind, key.at, key.length, (const int64_t *)whole, n, &options);
+    switch (below(5)) {
+    case 0: return cadence_unsigned(&h->handle, &settings, kind, key.at, key.length, n != 0 ? whole : NULL, n, &options);
+    case 1: return cadence_decimal(&h->handle, &settings, kind, key.at, key.length, numbers, n, &options);
+    case 2: return cadence_floating(&h->handle, &settings, kind, key.at, key.length, floats, n, &options);
+    case 3: return cadence_duration(&h->handle, &settings, kind, key.at, key.length, whole, n, &options);
+    default: return cadence_signed(&h->handle, &settings, kind, key.at, key.length, (const int64_t *)whole, n, &options);
     }
 }
 
@@ -210,26 +270,13 @@ static uint32_t keeps_value(host *h) {
     text key = some_text();
     cadence_options options = some_options();
     if (!h->drops) return keeps_line(h);
-    return strictly(h->strict, is_free_call(key, &options), keeps_value_of(h, key, options));
-}
-
-static uint32_t adds_tag(host *h) {
-    cadence_tag tag = some_tag();
-    return strictly(h->strict, is_free_tag(&tag), cadence_add_tag(&h->handle, &tag));
-}
-
-static uint32_t sets_container(host *h) {
-    text container = some_text();
-    return strictly(h->strict, is_free(container.at, container.length),
-                    cadence_set_container(&h->handle, container.at, container.length));
+    return strictly(settings.strict, is_free_call(key, &options), keeps_value_of(h, key, options));
 }
 
 static uint32_t acts(host *h) {
-    switch (below(6)) {
+    switch (below(4)) {
     case 0: return cadence_flush(&h->handle);
-    case 1: return adds_tag(h);
-    case 2: return sets_container(h);
-    case 3: return keeps_line(h);
+    case 1: return keeps_line(h);
     default: return keeps_value(h);
     }
 }
@@ -253,6 +300,8 @@ static void run(host *h) {
     for (uint32_t n = 2 + below(12); n > 0; n--) {
         if (below(24) == 0) cadence_free(&h->handle);
         else if (below(24) == 0) opens(h);
+        else if (below(12) == 0) sets();
+        else if (below(8) == 0) fetch_held(h);
         else if (below(4) == 0) fetch(h);
         else step(h);
     }

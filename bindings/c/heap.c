@@ -37,7 +37,7 @@ block cadence_c_alloc(size_t size, size_t align) {
     if (size > room.left) return block_of(malloc(size));
     void *at = room.bytes + ROOM - room.left;
     room.left -= (size + UNIT - 1) / UNIT * UNIT;
-    return block_of(at);
+    return (block){ 1, at };
 }
 
 block cadence_c_realloc(void *at, size_t old_size, size_t size, size_t align) {

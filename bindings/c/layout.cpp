@@ -12,6 +12,10 @@ int main() {
     AT(cadence_tag, key), AT(cadence_tag, key_len), AT(cadence_tag, text), AT(cadence_tag, text_len), AT(cadence_tag, keyed);
     std::printf("\ndecimal %zu", sizeof(cadence_decimal_number));
     AT(cadence_decimal_number, mantissa), AT(cadence_decimal_number, places);
+    std::printf("\nsettings %zu", sizeof(cadence_settings));
+    AT(cadence_settings, prefix), AT(cadence_settings, prefix_len), AT(cadence_settings, tags);
+    AT(cadence_settings, tags_len), AT(cadence_settings, container), AT(cadence_settings, container_len);
+    AT(cadence_settings, contained), AT(cadence_settings, strict);
     std::printf("\noptions %zu", sizeof(cadence_options));
     AT(cadence_options, tags), AT(cadence_options, tags_len), AT(cadence_options, container);
     AT(cadence_options, container_len), AT(cadence_options, rate), AT(cadence_options, time);
@@ -19,12 +23,21 @@ int main() {
     std::printf("\ncounts %zu", sizeof(cadence_counts_of));
     AT(cadence_counts_of, held), AT(cadence_counts_of, waiting), AT(cadence_counts_of, made);
     AT(cadence_counts_of, sent), AT(cadence_counts_of, dropped);
+    std::printf("\nvariables %zu", sizeof(cadence_variables));
+    AT(cadence_variables, url), AT(cadence_variables, url_len), AT(cadence_variables, agent_host);
+    AT(cadence_variables, agent_host_len), AT(cadence_variables, agent_port), AT(cadence_variables, agent_port_len);
+    AT(cadence_variables, statsd_host), AT(cadence_variables, statsd_host_len), AT(cadence_variables, statsd_port);
+    AT(cadence_variables, statsd_port_len), AT(cadence_variables, env), AT(cadence_variables, env_len);
+    AT(cadence_variables, service), AT(cadence_variables, service_len), AT(cadence_variables, version);
+    AT(cadence_variables, version_len), AT(cadence_variables, tags), AT(cadence_variables, tags_len);
+    AT(cadence_variables, entity_id), AT(cadence_variables, entity_id_len);
     const cadence_options none = CADENCE_NO_OPTIONS;
+    const cadence_settings nothing = CADENCE_NO_SETTINGS;
     const cadence_handle closed = CADENCE_CLOSED;
     const int64_t value = 7;
     uint8_t line[16];
     size_t length;
-    const uint32_t status = cadence_format_signed(nullptr, 0, CADENCE_GAUGE, (const uint8_t *)"x", 1, &value, 1, &none,
+    const uint32_t status = cadence_format_signed(&nothing, CADENCE_GAUGE, (const uint8_t *)"x", 1, &value, 1, &none,
                                                   line, sizeof line, &length);
     std::printf("\n%u %.*s\n", status + closed.open, (int)length, (const char *)line);
 }

@@ -31,10 +31,11 @@ static void *work(void *unused) {
     cadence_handle handle = CADENCE_CLOSED;
     const int fd = socket(AF_INET, SOCK_DGRAM, 0);
     if (connect(fd, (struct sockaddr *)&to, sizeof to)) exit(2);
-    cadence_new(&handle, TEXT("some.prefix"), 1432, 2, CADENCE_REFUSE);
+    const cadence_settings settings = cadence_settings_of("some.prefix.");
+    cadence_open(&handle, 1432, 2, CADENCE_REFUSE);
     for (long i = 0; i < calls; i++) {
         const int64_t value = i % 1000;
-        while (cadence_signed(&handle, CADENCE_COUNTER, TEXT("some.counter"), &value, 1, &options) == CADENCE_FULL)
+        while (cadence_signed(&handle, &settings, CADENCE_COUNTER, TEXT("some.counter"), &value, 1, &options) == CADENCE_FULL)
             send_waiting(&handle, fd);
     }
     cadence_flush(&handle);

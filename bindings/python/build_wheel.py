@@ -17,7 +17,6 @@ import tomllib
 import zipfile
 
 HERE = pathlib.Path(__file__).resolve().parent
-TAG = f"cp311-abi3-{sysconfig.get_platform().replace('-', '_').replace('.', '_')}"
 
 
 def library():
@@ -63,30 +62,48 @@ def compiled(to):
     return to.read_bytes()
 
 
-def files():
+def tag_of(module):
+    """Returns the tag of the wheel: any CPython from 3.11 on, and any Linux with the version of glibc that the module needs."""
+    newest = max(int(minor) for minor in re.findall(rb"GLIBC_2\.(\d+)", module))
+    return f"cp311-abi3-manylinux_2_{newest}_x86_64"
+
+
+def licences():
+    """Yields the name and the bytes of each text of a licence, which are in the archive."""
+    archive = HERE.parent.parent
+    for path in [archive / "LICENSE", archive / "LICENSE-APACHE", *sorted((archive / "licenses").glob("*/*"))]:
+        if path.exists():
+            yield str(path.relative_to(archive)), path.read_bytes()
+
+
+def files(module, tag):
     """Yields the name and the bytes of each file of the wheel except RECORD."""
     project = tomllib.loads((HERE / "pyproject.toml").read_text())["project"]
     information = f"statsd_proved-{version()}.dist-info"
     for path in sorted((HERE / "src" / "statsd_proved").iterdir()):
         if path.suffix in (".py", ".pyi", ".typed"):
             yield f"statsd_proved/{path.name}", path.read_bytes()
-    with tempfile.TemporaryDirectory() as folder:
-        yield "statsd_proved/_core.abi3.so", compiled(pathlib.Path(folder) / "_core.abi3.so")
+    yield "statsd_proved/_core.abi3.so", module
+    for name, data in licences():
+        yield f"{information}/licenses/{name}", data
     metadata = ["Metadata-Version: 2.1", f"Name: {project['name']}", f"Version: {version()}",
                 f"Summary: {project['description']}", f"License: {project['license']['text']}",
                 f"Requires-Python: {project['requires-python']}", *map("Classifier: {}".format, project["classifiers"])]
     yield f"{information}/METADATA", "\n".join([*metadata, ""]).encode()
-    wheel = ["Wheel-Version: 1.0", "Generator: build_wheel", "Root-Is-Purelib: false", f"Tag: {TAG}", ""]
+    wheel = ["Wheel-Version: 1.0", "Generator: build_wheel", "Root-Is-Purelib: false", f"Tag: {tag}", ""]
     yield f"{information}/WHEEL", "\n".join(wheel).encode()
 
 
 def build_wheel(wheel_directory, config_settings=None, metadata_directory=None):
     """Writes the wheel, and returns its name."""
-    name = f"statsd_proved-{version()}-{TAG}.whl"
+    with tempfile.TemporaryDirectory() as folder:
+        module = compiled(pathlib.Path(folder) / "_core.abi3.so")
+    tag = tag_of(module)
+    name = f"statsd_proved-{version()}-{tag}.whl"
     record = f"statsd_proved-{version()}.dist-info/RECORD"
     rows = []
     with zipfile.ZipFile(os.path.join(wheel_directory, name), "w", zipfile.ZIP_DEFLATED) as wheel:
-        for path, data in files():
+        for path, data in files(module, tag):
             digest = base64.urlsafe_b64encode(hashlib.sha256(data).digest()).rstrip(b"=").decode()
             rows.append(f"{path},sha256={digest},{len(data)}\n")
             wheel.writestr(zipfile.ZipInfo(path), data)

@@ -13,10 +13,10 @@ typedef struct {
     PyObject_HEAD
     cadence_handle handle;
     cadence_counts_of counts; /* as they were after the last call */
-    PyObject *prefix, *container;
-    tags_of_call tags; /* of each later call */
+    cadence_settings settings; /* of each later call */
+    uint8_t *texts; /* the texts of the settings */
+    PyObject *container; /* the default container, or null */
     size_t capacity, packets;
-    int strict; /* whether each text with a separator is refused */
     uint8_t *line; /* the text of the lines that this file puts together itself */
     size_t line_len, line_room;
 } packer;
@@ -27,8 +27,8 @@ typedef struct {
     tags_of_call tags;
     cadence_options options;
     PyObject *texts;
-    const uint8_t *prefix, *key, *text;
-    size_t prefix_len, key_len, text_len;
+    const uint8_t *key, *text;
+    size_t key_len, text_len;
     uint32_t kind;
     long form;
 } call;
@@ -58,19 +58,40 @@ static PyObject *answer(packer *self, uint32_t status) {
 }
 
 static uint32_t renew(packer *self) {
-    const uint8_t *prefix;
-    size_t len;
-    if (!text_of(self->prefix, NULL, &prefix, &len)) return CADENCE_NOT_UTF8;
     memset(&self->counts, 0, sizeof self->counts);
-    return cadence_new(&self->handle, prefix, len, self->capacity, self->packets,
-                       CADENCE_DROP_OLDEST | (self->strict ? CADENCE_STRICT : 0));
+    return cadence_open(&self->handle, self->capacity, self->packets, CADENCE_DROP_OLDEST);
 }
 
-/* Returns whether no text of these has a separator. */
-static bool are_free(const tags_of_call *tags, const cadence_options *options) {
-    for (size_t i = 0; i < tags->len; i++)
-        if (!tag_is_free(&tags->at[i])) return false;
-    return !options->contained || text_is_free(options->container, options->container_len);
+/* Makes the texts of the settings, which already say whether they are strict. */
+static uint32_t make_texts(packer *self, const uint8_t *prefix, size_t prefix_len, const tags_of_call *tags) {
+    cadence_settings *to = &self->settings;
+    size_t room = prefix_len + 3;
+    for (size_t i = 0; i < tags->len; i++) room += tags->at[i].key_len + tags->at[i].text_len + 2;
+    self->texts = PyMem_Malloc(room);
+    if (self->texts == NULL) return CADENCE_NO_MEMORY;
+    uint32_t status = cadence_prefix_text(prefix, prefix_len, to->strict, self->texts, room, &to->prefix_len);
+    to->prefix = self->texts;
+    to->tags = self->texts + to->prefix_len;
+    if (status == CADENCE_OK)
+        status = cadence_tags_text(tags->at, tags->len, to->strict, self->texts + to->prefix_len, room - to->prefix_len, &to->tags_len);
+    if (status == CADENCE_OK && to->strict && to->contained) status = cadence_test_text(to->container, to->container_len);
+    return status;
+}
+
+/* Makes the settings and the client. Returns false if it has set an exception. */
+static bool begin(packer *self, PyObject *prefix, PyObject *container, const tags_of_call *tags) {
+    const uint8_t *text;
+    size_t len;
+    if (!text_of(prefix, NULL, &text, &len)) return false;
+    self->settings.contained = container != Py_None;
+    if (self->settings.contained) {
+        PyObject *kept = PyUnicode_Check(container) ? Py_NewRef(container) : PyObject_Str(container);
+        self->container = kept;
+        if (kept == NULL || !text_of(kept, NULL, &self->settings.container, &self->settings.container_len)) return false;
+    }
+    uint32_t status = make_texts(self, text, len, tags);
+    if (status == CADENCE_OK) status = renew(self);
+    return status == CADENCE_OK || refused(status) != NULL;
 }
 
 static int packer_init(packer *self, PyObject *args, PyObject *named) {
@@ -78,46 +99,42 @@ static int packer_init(packer *self, PyObject *args, PyObject *named) {
     PyObject *prefix, *tags = Py_None, *container = Py_None;
     Py_ssize_t capacity, packets;
     int strict = 0;
-    cadence_options texts = CADENCE_NO_OPTIONS;
     if (!PyArg_ParseTupleAndKeywords(args, named, "Unn|pOO", names, &prefix, &capacity, &packets, &strict, &tags, &container))
         return -1;
-    if (self->prefix != NULL || capacity < 0 || packets < 0) {
+    if (self->texts != NULL || self->container != NULL || capacity < 0 || packets < 0) {
         PyErr_SetString(PyExc_ValueError, "a Packer is made once, of a capacity and packets from 0 on");
         return -1;
     }
-    self->prefix = Py_NewRef(prefix);
+    if (container != Py_None && !PyUnicode_Check(container) && !PyNumber_Check(container)) {
+        PyErr_Format(PyExc_TypeError, "%R is neither a str nor a number", container);
+        return -1;
+    }
     self->capacity = (size_t)capacity;
     self->packets = (size_t)packets;
-    self->strict = strict;
-    if (!tags_begin(&self->tags, NULL, tags)) return -1;
-    texts.contained = container != Py_None;
-    if (texts.contained && !text_of(container, self->tags.texts, &texts.container, &texts.container_len)) return -1;
-    self->container = texts.contained ? Py_NewRef(container) : NULL;
-    uint32_t status = renew(self);
-    if (PyErr_Occurred()) return -1;
-    if (status == CADENCE_OK && strict && !are_free(&self->tags, &texts)) status = CADENCE_SEPARATOR;
-    return status == CADENCE_OK || refused(status) != NULL ? 0 : -1;
+    self->settings.strict = strict;
+    tags_of_call defaults;
+    const bool made = tags_begin(&defaults, tags) && begin(self, prefix, container, &defaults);
+    tags_end(&defaults);
+    return made ? 0 : -1;
 }
 
 static void packer_dealloc(packer *self) {
     PyTypeObject *type = Py_TYPE((PyObject *)self);
     cadence_free(&self->handle);
-    if (self->prefix != NULL) tags_end(&self->tags);
+    PyMem_Free(self->texts);
     PyMem_Free(self->line);
-    Py_XDECREF(self->prefix);
     Py_XDECREF(self->container);
     freefunc release = (freefunc)PyType_GetSlot(type, Py_tp_free);
     release(self);
     Py_DECREF(type);
 }
 
-/* Reads the options of a call: its rate if that isn't 1, its container or otherwise the client's, and its time. Returns
- * false if it has set an exception. */
-static bool read_options(packer *self, call *c, PyObject *rate, PyObject *container, PyObject *time) {
+/* Reads the options of a call: its rate if that isn't 1, its container, and its time. Returns false if it has set an
+ * exception. */
+static bool read_options(call *c, PyObject *rate, PyObject *container, PyObject *time) {
     c->options.known = true; /* what text_of gives is UTF-8 */
     c->options.rated = !(PyLong_Check(rate) && PyLong_AsLong(rate) == 1);
     if (PyErr_Occurred() || (c->options.rated && !decimal_of(rate, false, &c->options.rate))) return false;
-    if (container == Py_None && self->container != NULL) container = self->container;
     c->options.contained = container != Py_None;
     if (c->options.contained && !text_of(container, c->texts, &c->options.container, &c->options.container_len))
         return false;
@@ -134,14 +151,14 @@ static bool call_begin(packer *self, call *c, PyObject *const *args, Py_ssize_t 
     c->options = none;
     c->values.at = c->values.small;
     c->tags.at = c->tags.small;
-    if (self->prefix == NULL) return refused(CADENCE_NO_CLIENT) != NULL;
+    if (self->texts == NULL) return refused(CADENCE_NO_CLIENT) != NULL;
     if (count != 8 || (c->texts = PyList_New(0)) == NULL) {
         if (!PyErr_Occurred()) PyErr_SetString(PyExc_TypeError, "keep takes 8 arguments");
         return false;
     }
     c->kind = (uint32_t)PyLong_AsUnsignedLong(args[0]);
     c->form = PyLong_AsLong(args[1]);
-    if (PyErr_Occurred() || !text_of(self->prefix, NULL, &c->prefix, &c->prefix_len)) return false;
+    if (PyErr_Occurred()) return false;
     if (!PyUnicode_Check(args[2])) {
         PyErr_Format(PyExc_TypeError, "the name %R is no str", args[2]);
         return false;
@@ -151,8 +168,8 @@ static bool call_begin(packer *self, call *c, PyObject *const *args, Py_ssize_t 
         if (!text_of(args[3], NULL, &c->text, &c->text_len)) return false;
         c->values.len = 1;
     } else if (!values_begin(&c->values, args[3], c->kind == CADENCE_TIMER)) return false;
-    if (!read_options(self, c, args[4], args[6], args[7])) return false;
-    if (!tags_begin(&c->tags, &self->tags, args[5])) return false;
+    if (!read_options(c, args[4], args[6], args[7])) return false;
+    if (!tags_begin(&c->tags, args[5])) return false;
     c->options.tags = c->tags.at;
     c->options.tags_len = c->tags.len;
     return true;
@@ -173,19 +190,19 @@ static bool has_room(packer *self, size_t room) {
     return true;
 }
 
-/* Appends the line of a call to the text in self->line. The library makes it without the client, so the texts of a
- * strict client are tested here. */
+/* Appends the line of a call to the text in self->line. */
 static uint32_t put_line(packer *self, const call *c) {
-    const bool is_free = text_is_free(c->key, c->key_len) && text_is_free(c->text, c->text_len);
-    if (self->strict && (!is_free || !are_free(&c->tags, &c->options))) return CADENCE_SEPARATOR;
     for (;;) {
         size_t len = 0;
         uint8_t *out = self->line + self->line_len;
         const size_t room = self->line_room - self->line_len;
-        const uint32_t status = c->values.is_large
-            ? cadence_format_unsigned(c->prefix, c->prefix_len, c->kind, c->key, c->key_len, &c->values.large, 1,
+        const uint32_t status = c->values.is_double
+            ? cadence_format_floating(&self->settings, c->kind, c->key, c->key_len, &c->values.number, 1,
                                       &c->options, out, room, &len)
-            : cadence_format_decimal(c->prefix, c->prefix_len, c->kind, c->key, c->key_len, c->values.at,
+            : c->values.is_large
+            ? cadence_format_unsigned(&self->settings, c->kind, c->key, c->key_len, &c->values.large, 1,
+                                      &c->options, out, room, &len)
+            : cadence_format_decimal(&self->settings, c->kind, c->key, c->key_len, c->values.at,
                                      c->values.len, &c->options, out, room, &len);
         if (status == CADENCE_OK) self->line_len += len;
         if (status != CADENCE_TOO_SMALL) return status;
@@ -206,7 +223,8 @@ static uint32_t splice(packer *self, size_t at, size_t cut, const void *text, si
  * value. */
 static uint32_t spliced(packer *self, call *c, size_t cut, const void *text, size_t len) {
     uint32_t status = put_line(self, c);
-    if (status == CADENCE_OK) status = splice(self, c->prefix_len + c->key_len + 1, cut, text, len);
+    if (status == CADENCE_OK && self->settings.strict) status = cadence_test_text(text, len);
+    if (status == CADENCE_OK) status = splice(self, self->settings.prefix_len + c->key_len + 1, cut, text, len);
     return status != CADENCE_OK ? status : cadence_line(&self->handle, self->line, self->line_len);
 }
 
@@ -214,24 +232,29 @@ static uint32_t spliced(packer *self, call *c, size_t cut, const void *text, siz
  * the first line sets it to 0. Both lines are in one packet. */
 static uint32_t below_zero(packer *self, call *c) {
     const int64_t mantissa = c->values.at->mantissa;
-    c->options.rated = false;
+    const bool is_double = c->values.is_double;
+    c->options.rated = c->values.is_double = false;
     c->values.at->mantissa = 0;
     uint32_t status = put_line(self, c);
     c->values.at->mantissa = mantissa;
+    c->values.is_double = is_double;
     if (status == CADENCE_OK) status = splice(self, self->line_len, 0, "\n", 1);
     if (status == CADENCE_OK) status = put_line(self, c);
     return status != CADENCE_OK ? status : cadence_line(&self->handle, self->line, self->line_len);
 }
 
 static uint32_t keep(packer *self, call *c) {
-    const bool minus = c->values.len == 1 && !c->values.is_large && c->values.at->mantissa < 0;
+    const bool below = c->values.is_double ? c->values.number < 0 : c->values.at->mantissa < 0;
+    const bool minus = c->values.len == 1 && !c->values.is_large && below;
     self->line_len = 0;
     if (c->text != NULL) return spliced(self, c, 1, c->text, c->text_len);
     if (c->form == CHANGE && !minus) return spliced(self, c, 0, "+", 1);
     if (c->form == LEVEL && minus) return below_zero(self, c);
+    if (c->values.is_double)
+        return cadence_floating(&self->handle, &self->settings, c->kind, c->key, c->key_len, &c->values.number, 1, &c->options);
     if (c->values.is_large)
-        return cadence_unsigned(&self->handle, c->kind, c->key, c->key_len, &c->values.large, 1, &c->options);
-    return cadence_decimal(&self->handle, c->kind, c->key, c->key_len, c->values.at, c->values.len, &c->options);
+        return cadence_unsigned(&self->handle, &self->settings, c->kind, c->key, c->key_len, &c->values.large, 1, &c->options);
+    return cadence_decimal(&self->handle, &self->settings, c->kind, c->key, c->key_len, c->values.at, c->values.len, &c->options);
 }
 
 static PyObject *packer_keep(packer *self, PyObject *const *args, Py_ssize_t count) {
@@ -344,7 +367,13 @@ static int fill(PyObject *module) {
  * interpreters share. */
 static PyModuleDef_Slot parts[] = { { Py_mod_exec, fill }, { 0, NULL }, { 0, NULL } };
 
-static struct PyModuleDef module = { PyModuleDef_HEAD_INIT, "_core", "The calls of cadence.h.", 0, NULL, parts, NULL, NULL, NULL };
+static PyMethodDef functions[] = {
+    { "destination", destination, METH_O, "destination(values): the host and the port that the variables say, or a path and 0." },
+    { "environment_tags", environment_tags, METH_O, "environment_tags(values): the text of the tags that the variables say, and 0." },
+    { NULL, NULL, 0, NULL },
+};
+
+static struct PyModuleDef module = { PyModuleDef_HEAD_INIT, "_core", "The calls of cadence.h.", 0, functions, parts, NULL, NULL, NULL };
 
 PyMODINIT_FUNC PyInit__core(void) {
     if (Py_Version >= 0x030C0000) parts[1] = (PyModuleDef_Slot){ 3, (void *)2 };

@@ -7,15 +7,16 @@
 #include <Python.h>
 #include <cadence.h>
 
-/* The values of a call: one decimal or several, or one whole number that doesn't fit 63 bits. */
+/* The values of a call: one decimal or several, or one number that doesn't fit 63 bits, which is whole or a float. */
 typedef struct {
     cadence_decimal_number small[8], *at;
     size_t len;
-    bool is_large;
+    bool is_large, is_double;
     uint64_t large;
+    double number;
 } values_of_call;
 
-/* The tags of a call, the client's first, and the lists of the Python objects that have to live as long as the tags. */
+/* Tags, and the lists of the Python objects that have to live as long as the tags. */
 typedef struct {
     cadence_tag small[16], *at;
     size_t len;
@@ -28,11 +29,11 @@ bool values_begin(values_of_call *values, PyObject *value, bool in_millis);
 void values_end(values_of_call *values);
 bool text_of(PyObject *value, PyObject *texts, const uint8_t **at, size_t *len);
 bool tag_of(PyObject *item, PyObject *texts, cadence_tag *to);
-bool tags_begin(tags_of_call *tags, const tags_of_call *defaults, PyObject *given);
+bool tags_begin(tags_of_call *tags, PyObject *given);
 void tags_end(tags_of_call *tags);
 
-/* These return whether a text, or both texts of a tag, have no separator: no colon, comma, bar or newline. */
-bool text_is_free(const uint8_t *text, size_t len);
-bool tag_is_free(const cadence_tag *tag);
+/* The functions of the module that read variables of the environment. */
+PyObject *destination(PyObject *module, PyObject *values);
+PyObject *environment_tags(PyObject *module, PyObject *values);
 
 #endif

@@ -1,6 +1,5 @@
 /* Converts texts and tags of Python to those of the library. */
 #include "core.h"
-#include <string.h>
 
 /* Reads a str, or the text of a number. The list `texts` gets the text of a number and keeps it alive. */
 bool text_of(PyObject *value, PyObject *texts, const uint8_t **at, size_t *len) {
@@ -35,18 +34,6 @@ bool tag_of(PyObject *item, PyObject *texts, cadence_tag *to) {
         && text_of(PyTuple_GetItem(item, 1), texts, &to->text, &to->text_len);
 }
 
-/* Copies the tags of the client, and makes room for `more` others. */
-static bool tags_room(tags_of_call *tags, const tags_of_call *defaults, size_t more) {
-    const size_t len = defaults != NULL ? defaults->len : 0;
-    if (len + more > sizeof tags->small / sizeof tags->small[0]) {
-        tags->at = PyMem_Calloc(len + more, sizeof *tags->at);
-        if (tags->at == NULL) return PyErr_NoMemory() != NULL;
-    }
-    if (len != 0) memcpy(tags->at, defaults->at, len * sizeof *tags->at);
-    tags->len = len;
-    return true;
-}
-
 /* Returns a new list of the tags of a dict, or of another object that has keys, or of a list. The list is a copy, because
  * making the text of a number may run code that changes the caller's object. */
 static PyObject *items_of(PyObject *given) {
@@ -60,19 +47,21 @@ static PyObject *items_of(PyObject *given) {
     return has_keys ? PyMapping_Items(given) : keys != NULL ? PySequence_List(given) : NULL;
 }
 
-/* Reads the tags of a call after those of its client. Without a client it always makes the list of texts. */
-bool tags_begin(tags_of_call *tags, const tags_of_call *defaults, PyObject *given) {
+bool tags_begin(tags_of_call *tags, PyObject *given) {
     tags->at = tags->small;
     tags->len = 0;
     tags->items = tags->texts = NULL;
-    if (given == Py_None && defaults != NULL) return tags_room(tags, defaults, 0);
-    tags->items = given == Py_None ? PyList_New(0) : items_of(given);
+    if (given == Py_None) return true;
+    tags->items = items_of(given);
     tags->texts = tags->items != NULL ? PyList_New(0) : NULL;
     if (tags->texts == NULL) return false;
-    const Py_ssize_t more = PyList_Size(tags->items);
-    if (!tags_room(tags, defaults, (size_t)more)) return false;
-    for (Py_ssize_t i = 0; i < more; i++, tags->len++)
-        if (!tag_of(PyList_GetItem(tags->items, i), tags->texts, &tags->at[tags->len])) return false;
+    const size_t len = (size_t)PyList_Size(tags->items);
+    if (len > sizeof tags->small / sizeof tags->small[0]) {
+        tags->at = PyMem_Calloc(len, sizeof *tags->at);
+        if (tags->at == NULL) return PyErr_NoMemory() != NULL;
+    }
+    for (; tags->len < len; tags->len++)
+        if (!tag_of(PyList_GetItem(tags->items, (Py_ssize_t)tags->len), tags->texts, &tags->at[tags->len])) return false;
     return true;
 }
 
@@ -80,14 +69,4 @@ void tags_end(tags_of_call *tags) {
     if (tags->at != tags->small) PyMem_Free(tags->at);
     Py_XDECREF(tags->items);
     Py_XDECREF(tags->texts);
-}
-
-bool text_is_free(const uint8_t *text, size_t len) {
-    for (size_t i = 0; i < len; i++)
-        if (memchr(":,|\n", text[i], 4) != NULL) return false;
-    return true;
-}
-
-bool tag_is_free(const cadence_tag *tag) {
-    return (!tag->keyed || text_is_free(tag->key, tag->key_len)) && text_is_free(tag->text, tag->text_len);
 }

@@ -1,5 +1,6 @@
 /* Converts numbers of Python to those of the library. */
 #include "core.h"
+#include <math.h>
 #include <stdlib.h>
 #include <string.h>
 
@@ -43,13 +44,15 @@ static const char *read_digits(const char *text, uint64_t *mantissa, long *place
     return some ? text : NULL;
 }
 
-/* Subtracts an exponent from the places, and cuts off the digits after the last possible place. Returns false if the
- * number doesn't fit. */
+/* Subtracts an exponent from the places, and rounds to the last possible place, as the library does for floats. Returns
+ * false if the number doesn't fit. */
 static bool shift(uint64_t *mantissa, long *places, long exponent) {
     if (exponent > MOST_EXPONENT || exponent < -MOST_EXPONENT) return false;
     *places -= exponent;
     if (*places < 0 && *mantissa != 0 && !put_zeros(mantissa, -*places)) return false;
-    for (; *places > MOST_PLACES && *mantissa != 0; --*places) *mantissa /= 10;
+    uint64_t cut = 0;
+    for (; *places > MOST_PLACES && *mantissa != 0; --*places) cut = *mantissa % 10, *mantissa /= 10;
+    if (*places == MOST_PLACES && cut >= 5) ++*mantissa;
     if (*places < 0 || *mantissa == 0) *places = 0;
     return true;
 }
@@ -76,19 +79,11 @@ static bool does_not_fit(PyObject *value) {
     return false;
 }
 
-static bool decimal_of_double(double value, char form, int places, cadence_decimal_number *to) {
-    char *text = PyOS_double_to_string(value, form, places, 0, NULL);
-    const bool fits = text != NULL && decimal_of_text(text, to);
-    PyMem_Free(text);
-    return fits;
-}
-
-/* Reads a float. Milliseconds are rounded to six places, if the result fits. Otherwise the shortest text of the float
- * is read. */
+/* Reads a float. Milliseconds are rounded to six places. */
 static bool decimal_of_float(PyObject *value, bool in_millis, cadence_decimal_number *to) {
     const double number = PyFloat_AsDouble(value);
-    if (in_millis && decimal_of_double(number, 'f', 6, to)) return true;
-    return decimal_of_double(number, 'r', 0, to) || (PyErr_Occurred() == NULL && does_not_fit(value));
+    const uint32_t status = in_millis ? cadence_rounded_of_double(number, to) : cadence_decimal_of_double(number, to);
+    return status == CADENCE_OK || does_not_fit(value);
 }
 
 static bool decimal_of_whole(PyObject *value, cadence_decimal_number *to) {
@@ -132,11 +127,12 @@ bool decimal_of(PyObject *value, bool in_millis, cadence_decimal_number *to) {
     return decimal_of_other(value, in_millis, to);
 }
 
-/* Reads one value. If it is a whole number, it may have up to 64 bits. */
+/* Reads one value. If it is a whole number, it may have up to 64 bits. A float past 63 bits is left to the library. */
 static bool one_value(values_of_call *values, PyObject *value, bool in_millis) {
     values->len = 1;
     if (decimal_of(value, in_millis, values->at)) return true;
-    if (!PyLong_Check(value)) return false;
+    if (PyFloat_Check(value) && (values->is_double = isfinite(values->number = PyFloat_AsDouble(value)))) PyErr_Clear();
+    if (!PyLong_Check(value)) return values->is_double;
     PyErr_Clear();
     values->large = PyLong_AsUnsignedLongLong(value);
     values->is_large = values->large != (uint64_t)-1 || !PyErr_Occurred();
@@ -168,7 +164,7 @@ static bool each_value(values_of_call *values, PyObject *tuple, bool in_millis) 
 bool values_begin(values_of_call *values, PyObject *value, bool in_millis) {
     values->at = values->small;
     values->len = 0;
-    values->is_large = false;
+    values->is_large = values->is_double = false;
     const bool is_number = PyLong_Check(value) || PyFloat_Check(value);
     if (is_number || !PySequence_Check(value) || PyUnicode_Check(value) || PyBytes_Check(value))
         return one_value(values, value, in_millis);

@@ -51,14 +51,32 @@ class Values(ClientTest):
                      lambda c: c.incr("x", timestamp=2 ** 64))
 
     def test_floats_that_do_not_fit(self):
-        self.refuses(ValueError, *(lambda c, call=call, value=value: getattr(c, call)("x", value)
-                                   for call in ("incr", "gauge", "timing", "histogram")
-                                   for value in (math.nan, math.inf, -math.inf, 1e19, 1e300)))
-        self.refuses(ValueError, lambda c: c.histogram("x", [1, 2 ** 63]), lambda c: c.histogram("x", [1, math.nan]))
+        for error, values in ((ValueError, (math.nan, math.inf, -math.inf)),
+                              (StatusError, (math.nextafter(2.0 ** 127, math.inf), -1e300))):
+            self.refuses(error, *(lambda c, call=call, value=value: getattr(c, call)("x", value)
+                                  for call in ("incr", "gauge", "timing", "histogram") for value in values))
+        self.refuses(ValueError, *(lambda c, value=value: c.histogram("x", [1, value]) for value in (2 ** 63, 1e19, math.nan)))
 
-    def test_small_numbers_are_cut_after_30_places(self):
-        self.assertEqual(self.sent_by(lambda c: [c.gauge("x", value) for value in (1e-7, 5e-324, 1.5e-30, -0.0, 1e18)]),
-                         ["x:0.0000001|g", "x:0|g", "x:0.000000000000000000000000000001|g", "x:0|g", "x:1000000000000000000|g"])
+    def test_large_floats(self):
+        most = 2.0 ** 127
+        self.assertEqual(self.sent_by(lambda c: [c.gauge("x", 1e19), c.gauge("x", -1e19), c.gauge("x", 1e19, delta=True),
+                                                 c.gauge("x", -1e19, delta=True), c.incr("x", most), c.timing("x", 1e38)]),
+                         ["x:10000000000000000000|g", "x:0|g", "x:-10000000000000000000|g", "x:+10000000000000000000|g",
+                          "x:-10000000000000000000|g", "x:170141183460469230000000000000000000000|c", f"x:1{38 * '0'}|ms"])
+
+    def test_small_numbers_are_rounded_to_30_places(self):
+        zeros = 29 * "0"
+        for number in float, decimal.Decimal:
+            self.assertEqual(self.sent_by(lambda c: [c.gauge("x", number(text), delta=True) for text in (
+                "1e-7", "5e-324", "1e-30", "1.4e-30", "1.5e-30", "-1.5e-30", "4e-31", "5e-31", "9.99e-30", "1e18")]),
+                ["x:+0.0000001|g", "x:+0|g", f"x:+0.{zeros}1|g", f"x:+0.{zeros}1|g", f"x:+0.{zeros}2|g", f"x:-0.{zeros}2|g", "x:+0|g",
+                 f"x:+0.{zeros}1|g", f"x:+0.{zeros[1:]}1|g", "x:+1000000000000000000|g"])
+        self.assertEqual(self.sent_by(lambda c: [c.gauge("x", value) for value in (-0.0, 2.7755575615628914e-17)]),
+                         ["x:0|g", "x:0.000000000000000027755575615629|g"])
+
+    def test_milliseconds_are_rounded_to_six_places(self):
+        self.assertEqual(self.sent_by(lambda c: [c.timing("x", value) for value in (5e-324, 0.00000049, 0.0000005, 1.2345678)]),
+                         ["x:0|ms", "x:0|ms", "x:0.000001|ms", "x:1.234568|ms"])
 
     def test_values_that_are_no_numbers(self):
         self.refuses(TypeError, lambda c: c.incr("x", None), lambda c: c.decr("x", "5"), lambda c: c.gauge("x", "5"),

@@ -26,19 +26,13 @@ use std::marker::PhantomData;
 /// ```
 #[must_use = "a metric is sent by `send` or `try_send`"]
 #[derive(Debug)]
-pub struct MetricBuilder<'m, 'c, T>
-where
-    T: Metric + From<String>,
-{
+pub struct MetricBuilder<'m, 'c, T: Metric + From<String>> {
     record: MetricResult<Record<'m>>,
     client: &'c StatsdClient,
     of: PhantomData<T>,
 }
 
-impl<'m, 'c, T> MetricBuilder<'m, 'c, T>
-where
-    T: Metric + From<String>,
-{
+impl<'m, 'c, T: Metric + From<String>> MetricBuilder<'m, 'c, T> {
     #[inline]
     pub(crate) fn new(record: MetricResult<Record<'m>>, client: &'c StatsdClient) -> Self {
         MetricBuilder { record, client, of: PhantomData }
@@ -66,39 +60,33 @@ where
 
     /// Sets the container, in place of the client's.
     pub fn with_container_id(self, container_id: &'m str) -> Self {
-        self.with(|record| record.container = Some(container_id))
+        self.with(|record| record.options.set_container(container_id))
     }
 
     /// Sets the time of the metric, in seconds since 1970.
     pub fn with_timestamp(self, timestamp: u64) -> Self {
-        self.with(|record| record.time = Some(timestamp))
+        self.with(|record| record.options.set_time(timestamp))
     }
 
     /// Sets the sampling rate, by which a server scales a count. The client doesn't sample: it sends every call, so the
     /// caller has to make only this share of its calls.
     ///
-    /// A rate that is NaN or infinite makes the call fail with `InvalidInput`.
+    /// A rate that is NaN, infinite or at least 2 to the power of 63 makes the call fail with `InvalidInput`.
     pub fn with_sampling_rate(self, rate: f64) -> Self {
         self.with(|record| record.rate = Some(rate))
     }
 
     /// Sends the metric, and returns it.
     ///
-    /// It fails with `InvalidInput` if the value doesn't fit, if a number is NaN or infinite, or if the client is
+    /// It fails with `InvalidInput` if the value doesn't fit, if a float is NaN, infinite or too large, or if the client is
     /// [strict](crate::StatsdClientBuilder::with_strict_texts) and a text has a separator, and with `IoError` if the sink
     /// fails or memory runs out. The client can be used after an error.
+    #[inline]
     pub fn try_send(self) -> MetricResult<T> {
-        let record = match self.record {
-            Ok(ref record) => record,
-            Err(error) => return Err(error),
-        };
-        record.check()?;
-        self.client.check_texts(record)?;
-        let mut line = String::new();
-        record.write(&mut line)?;
-        let metric = T::from(line);
-        self.client.send_metric(&metric)?;
-        Ok(metric)
+        match self.record {
+            Ok(ref record) => self.client.send_record(record),
+            Err(error) => Err(error),
+        }
     }
 
     /// Sends the metric, and passes an error to the client's error handler. If the client has none, the error is

@@ -2,16 +2,17 @@
 use crate::builder::MetricBuilder;
 use crate::layout::Kind;
 use crate::line::Record;
+use crate::raw::{separator_error, OwnedSettings};
 use crate::sealed::Sealed;
-use crate::separators::{is_free, separator_error, Texts};
+use crate::settings;
 use crate::sinks::MetricSink;
-use crate::types::{Counter, Distribution, Gauge, Histogram, Meter, Metric, MetricError, MetricResult, Set, Timer};
+use crate::types::{Counter, Distribution, ErrorKind, Gauge, Histogram, Meter, Metric, MetricError, MetricResult, Set, Timer};
 use crate::value::{
     MetricValue, ToCounterValue, ToDistributionValue, ToGaugeValue, ToHistogramValue, ToMeterValue, ToSetValue, ToTimerValue,
 };
-use std::fmt;
 use std::panic::RefUnwindSafe;
 use std::time::Duration;
+use std::{fmt, io};
 
 /// Makes a client from a prefix, a sink, default tags, a container and an error handler.
 ///
@@ -29,54 +30,41 @@ use std::time::Duration;
 /// ```
 pub struct StatsdClientBuilder {
     client: StatsdClient,
+    prefix: String,
+    container: Option<String>,
+    strict: bool,
 }
 
 impl StatsdClientBuilder {
-    fn new<S>(prefix: &str, sink: S) -> Self
-    where
-        S: MetricSink + Sync + Send + RefUnwindSafe + 'static,
-    {
-        let prefix = if prefix.is_empty() { String::new() } else { format!("{}.", prefix.trim_end_matches('.')) };
-        let (sink, errors) = (Box::new(sink), Box::new(|_| ()));
-        let client = StatsdClient { prefix, sink, errors, tags: Vec::new(), container: None, texts: Texts::Any };
-        StatsdClientBuilder { client }
+    fn new<S: MetricSink + Sync + Send + RefUnwindSafe + 'static>(prefix: &str, sink: S) -> Self {
+        let (sink, errors, settings) =
+            (Box::new(sink), Box::new(|_| ()), OwnedSettings::new(String::new(), String::new(), None, false));
+        let client = StatsdClient { settings, sink, errors, tags: Vec::new(), refusal: None };
+        StatsdClientBuilder { client, prefix: prefix.to_string(), container: None, strict: false }
     }
 
     /// Sets the handler that receives the errors of [`MetricBuilder::send`], in the caller's thread. Without a handler
     /// they are dropped.
-    pub fn with_error_handler<F>(mut self, errors: F) -> Self
-    where
-        F: Fn(MetricError) + Sync + Send + RefUnwindSafe + 'static,
-    {
+    pub fn with_error_handler<F: Fn(MetricError) + Sync + Send + RefUnwindSafe + 'static>(mut self, errors: F) -> Self {
         self.client.errors = Box::new(errors);
         self
     }
 
     /// Adds a default tag with a key and a value. Every metric of the client has it, before the metric's own tags.
-    pub fn with_tag<K, V>(mut self, key: K, value: V) -> Self
-    where
-        K: ToString,
-        V: ToString,
-    {
+    pub fn with_tag<K: ToString, V: ToString>(mut self, key: K, value: V) -> Self {
         self.client.tags.push((Some(key.to_string()), value.to_string()));
         self
     }
 
     /// Adds a default tag that is only a value.
-    pub fn with_tag_value<K>(mut self, value: K) -> Self
-    where
-        K: ToString,
-    {
+    pub fn with_tag_value<K: ToString>(mut self, value: K) -> Self {
         self.client.tags.push((None, value.to_string()));
         self
     }
 
     /// Sets the container of every metric of the client that doesn't set its own.
-    pub fn with_container_id<K>(mut self, container_id: K) -> Self
-    where
-        K: ToString,
-    {
-        self.client.container = Some(container_id.to_string());
+    pub fn with_container_id<K: ToString>(mut self, container_id: K) -> Self {
+        self.container = Some(container_id.to_string());
         self
     }
 
@@ -98,14 +86,15 @@ impl StatsdClientBuilder {
     /// assert!(client.incr_with_tags("visits").with_tag("page", "home,admin:true").try_send().is_err());
     /// ```
     pub fn with_strict_texts(mut self) -> Self {
-        self.client.texts = Texts::Free;
+        self.strict = true;
         self
     }
 
     /// Makes the client.
     pub fn build(mut self) -> StatsdClient {
-        if self.client.texts == Texts::Free && !self.client.has_free_texts() {
-            self.client.texts = Texts::Refused;
+        match settings::make(&self.prefix, &self.client.tags, self.container, self.strict) {
+            Ok(settings) => self.client.settings = settings,
+            Err(error) => self.client.refusal = Some(error.kind()),
         }
         self.client
     }
@@ -114,9 +103,7 @@ impl StatsdClientBuilder {
     /// prefix, a default tag or the default container has a separator. The crate `cadence` doesn't have this call.
     pub fn try_build(self) -> MetricResult<StatsdClient> {
         let client = self.build();
-        if client.texts == Texts::Refused {
-            return Err(separator_error());
-        }
+        client.check()?;
         Ok(client)
     }
 }
@@ -138,29 +125,23 @@ impl StatsdClientBuilder {
 /// client.time("startup", 1250).unwrap();
 /// ```
 pub struct StatsdClient {
-    prefix: String,
+    settings: OwnedSettings,
     sink: Box<dyn MetricSink + Sync + Send + RefUnwindSafe>,
     errors: Box<dyn Fn(MetricError) + Sync + Send + RefUnwindSafe>,
     tags: Vec<(Option<String>, String)>,
-    container: Option<String>,
-    texts: Texts,
+    /// The kind of error of each call, if the settings couldn't be made.
+    refusal: Option<ErrorKind>,
 }
 
 impl StatsdClient {
     /// Makes a client from a prefix and a sink, without default tags. An empty prefix prints nothing. Any other prefix
     /// loses the dots at its end, and is printed with one dot between it and the key.
-    pub fn from_sink<S>(prefix: &str, sink: S) -> Self
-    where
-        S: MetricSink + Sync + Send + RefUnwindSafe + 'static,
-    {
+    pub fn from_sink<S: MetricSink + Sync + Send + RefUnwindSafe + 'static>(prefix: &str, sink: S) -> Self {
         Self::builder(prefix, sink).build()
     }
 
     /// Returns the builder of a client with a prefix, as in [`from_sink`](Self::from_sink), and a sink.
-    pub fn builder<S>(prefix: &str, sink: S) -> StatsdClientBuilder
-    where
-        S: MetricSink + Sync + Send + RefUnwindSafe + 'static,
-    {
+    pub fn builder<S: MetricSink + Sync + Send + RefUnwindSafe + 'static>(prefix: &str, sink: S) -> StatsdClientBuilder {
         StatsdClientBuilder::new(prefix, sink)
     }
 
@@ -179,45 +160,40 @@ impl StatsdClient {
         Ok(self.sink.stop_and_wait(timeout)?)
     }
 
-    /// Returns whether no text of the client has a separator.
-    fn has_free_texts(&self) -> bool {
-        let tags = self.tags.iter().all(|(key, text)| key.as_deref().is_none_or(is_free) && is_free(text));
-        tags && is_free(&self.prefix) && self.container.as_deref().is_none_or(is_free)
+    /// Returns an error if the settings couldn't be made.
+    #[inline]
+    pub(crate) fn check(&self) -> MetricResult<()> {
+        match self.refusal {
+            None => Ok(()),
+            Some(ErrorKind::InvalidInput) => Err(separator_error()),
+            Some(_) => Err(io::Error::from(io::ErrorKind::OutOfMemory).into()),
+        }
     }
 
-    /// Returns an error if the client is strict and a text has a separator. The default tags are the first ones of the
-    /// record, and are tested when the client is made.
-    #[inline]
-    pub(crate) fn check_texts(&self, record: &Record<'_>) -> MetricResult<()> {
-        if self.texts == Texts::Any {
-            return Ok(());
-        }
-        if self.texts == Texts::Free && record.has_free_texts(self.tags.len()) {
-            return Ok(());
-        }
-        Err(separator_error())
+    /// Makes the line of a record, sends it, and returns its metric.
+    pub(crate) fn send_record<T: Metric + From<String>>(&self, record: &Record<'_>) -> MetricResult<T> {
+        let mut line = String::new();
+        record.write(&mut line)?;
+        self.check()?;
+        let metric = T::from(line);
+        self.send_metric(&metric)?;
+        Ok(metric)
     }
 
     #[inline]
-    fn start<'a, T>(&'a self, kind: Kind, key: &'a str, value: MetricResult<MetricValue>) -> MetricBuilder<'a, 'a, T>
-    where
-        T: Metric + From<String>,
-    {
-        let record = value.map(|value| {
-            let mut record = Record::new(&self.prefix, kind, key, value);
-            record.container = self.container.as_deref();
-            if !self.tags.is_empty() {
-                record.add_tags(&self.tags);
-            }
-            record
-        });
-        MetricBuilder::new(record, self)
+    fn start<'a, T: Metric + From<String>>(
+        &'a self,
+        kind: Kind,
+        key: &'a str,
+        value: MetricResult<MetricValue>,
+    ) -> MetricBuilder<'a, 'a, T> {
+        MetricBuilder::new(value.map(|value| Record::new(self.settings.lend(), kind, key, value)), self)
     }
 }
 
 impl fmt::Debug for StatsdClient {
     fn fmt(&self, f: &mut fmt::Formatter<'_>) -> fmt::Result {
-        let (prefix, tags) = (&self.prefix, &self.tags);
+        let (prefix, tags) = (self.settings.prefix(), &self.tags);
         write!(f, "StatsdClient {{ prefix: {prefix:?}, sink: ..., errors: ..., tags: {tags:?} }}")
     }
 }
@@ -245,9 +221,7 @@ pub trait MetricBackend: Sealed {
     /// Passes the metric's text to the sink as it is: no prefix, tag or container is added.
     ///
     /// It fails with `IoError` if the sink does.
-    fn send_metric<M>(&self, metric: &M) -> MetricResult<()>
-    where
-        M: Metric;
+    fn send_metric<M: Metric>(&self, metric: &M) -> MetricResult<()>;
 
     /// Passes an error to the client's error handler.
     fn consume_error(&self, err: MetricError);
@@ -257,10 +231,7 @@ impl Sealed for StatsdClient {}
 
 impl MetricBackend for StatsdClient {
     #[inline]
-    fn send_metric<M>(&self, metric: &M) -> MetricResult<()>
-    where
-        M: Metric,
-    {
+    fn send_metric<M: Metric>(&self, metric: &M) -> MetricResult<()> {
         self.sink.emit(metric.as_metric_str())?;
         Ok(())
     }
@@ -273,10 +244,7 @@ impl MetricBackend for StatsdClient {
 macro_rules! calls {
     ($(#[$about:meta])* $calls:ident of $metric:ident, $value:ident: $plain:ident $tagged:ident) => {
         $(#[$about])*
-        pub trait $calls<T>
-        where
-            T: $value,
-        {
+        pub trait $calls<T: $value> {
             /// Sends a metric that has only the client's tags, and returns it. It fails as
             /// [`try_send`](MetricBuilder::try_send) does.
             #[inline]
@@ -310,7 +278,7 @@ calls! {
     Timed of Timer, ToTimerValue: time time_with_tags
 }
 calls! {
-    /// Gauges, whose value stays until the next one. A value is a `u64` or `f64`. NaN and infinities are refused.
+    /// Gauges, whose value stays until the next one. A value is a `u64` or `f64`. Some [floats](crate#floats) are refused.
     Gauged of Gauge, ToGaugeValue: gauge gauge_with_tags
 }
 calls! {
@@ -319,12 +287,13 @@ calls! {
 }
 calls! {
     /// Histograms: a server computes the distribution of their values. A value is a `u64`, an `f64`, a `Duration`,
-    /// which is sent in nanoseconds, or a `Vec` of one of these, which makes one line. NaN and infinities are refused.
+    /// which is sent in nanoseconds, or a `Vec` of one of these, which makes one line. Some [floats](crate#floats) are
+    /// refused.
     Histogrammed of Histogram, ToHistogramValue: histogram histogram_with_tags
 }
 calls! {
     /// Distributions, which a server computes over all hosts. A value is a `u64`, an `f64`, or a `Vec` of either, which
-    /// makes one line. NaN and infinities are refused.
+    /// makes one line. Some [floats](crate#floats) are refused.
     Distributed of Distribution, ToDistributionValue: distribution distribution_with_tags
 }
 calls! {

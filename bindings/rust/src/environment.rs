@@ -1,26 +1,16 @@
 //! What the variables of the environment say about a client.
-mod host;
-mod tags;
-
 use crate::client::{StatsdClient, StatsdClientBuilder};
-use crate::sinks::BufferedUdpMetricSink;
-#[cfg(unix)]
-use crate::sinks::BufferedUnixMetricSink;
+use crate::layout::{Variables, VARIABLES};
+use crate::raw::{destination, environment_tags, variable_text};
+use crate::sinks::{BufferedUdpMetricSink, BufferedUnixMetricSink};
 use crate::types::MetricResult;
-use crate::DEFAULT_PORT;
 use std::ffi::OsString;
 use std::net::{Ipv4Addr, Ipv6Addr, SocketAddr, ToSocketAddrs, UdpSocket};
+use std::os::unix::net::UnixDatagram;
 use std::{env, error, fmt};
 
-/// The host to which a client sends if no variable names one.
-const DEFAULT_HOST: &str = "127.0.0.1";
-
 /// How many bytes a packet to a Unix socket holds, as in the other languages.
-#[cfg(unix)]
 const UNIX_CAPACITY: usize = 8192;
-
-/// What the variable of one tag has to be.
-const TEXT: &str = "a text without a comma, a bar or a newline";
 
 /// Where a client sends.
 #[derive(Clone, Debug, PartialEq, Eq)]
@@ -66,7 +56,7 @@ pub struct Environment {
 #[derive(Clone, Debug, PartialEq, Eq)]
 pub struct EnvironmentError {
     variable: &'static str,
-    wants: &'static str,
+    text: String,
 }
 
 impl EnvironmentError {
@@ -76,71 +66,34 @@ impl EnvironmentError {
     }
 }
 
-/// Prints the name of the variable, and what it has to be.
+/// Prints what the variable wants, in words that begin with its name.
 impl fmt::Display for EnvironmentError {
     fn fmt(&self, f: &mut fmt::Formatter<'_>) -> fmt::Result {
-        write!(f, "{} has to be {}", self.variable, self.wants)
+        f.write_str(&self.text)
     }
 }
 
 impl error::Error for EnvironmentError {}
 
-/// Reads variables by their names.
-struct Variables<F>(F);
+/// Returns the error of the variable of this number.
+fn fault_of(number: u32) -> EnvironmentError {
+    EnvironmentError { variable: VARIABLES[number as usize], text: variable_text(number) }
+}
 
-impl<F: Fn(&str) -> Option<OsString>> Variables<F> {
-    /// Returns the text of a variable, if it is set and not empty. It fails if the text isn't UTF-8.
-    fn get(&self, variable: &'static str) -> Result<Option<String>, EnvironmentError> {
-        let Some(value) = (self.0)(variable).filter(|value| !value.is_empty()) else { return Ok(None) };
-        value.into_string().map(Some).map_err(|_| EnvironmentError { variable, wants: "UTF-8" })
-    }
-
-    /// Returns what a function makes of a variable, if it is set. If the function makes nothing of it, the error says
-    /// what the variable has to be.
-    fn read<T>(
-        &self,
-        variable: &'static str,
-        wants: &'static str,
-        make: impl FnOnce(&str) -> Option<T>,
-    ) -> Result<Option<T>, EnvironmentError> {
-        let Some(text) = self.get(variable)? else { return Ok(None) };
-        make(&text).map(Some).ok_or(EnvironmentError { variable, wants })
-    }
-
-    /// Returns where to send.
-    fn target(&self) -> Result<Target, EnvironmentError> {
-        let wants = "udp://HOST, udp://HOST:PORT (from 1 to 65535) or unix:///PATH (at most 107 bytes)";
-        if let Some(target) = self.read("DD_DOGSTATSD_URL", wants, host::target_of_url)? {
-            return Ok(target);
-        }
-        for [host, port] in [["DD_AGENT_HOST", "DD_DOGSTATSD_PORT"], ["STATSD_HOST", "STATSD_PORT"]] {
-            let host = self.read(host, "a host name or an IP address", host::host_of)?;
-            let port = self.read(port, "a port from 1 to 65535", host::port_of)?;
-            if host.is_some() || port.is_some() {
-                return Ok(Target::Udp(host.unwrap_or(DEFAULT_HOST.to_string()), port.unwrap_or(DEFAULT_PORT)));
-            }
-        }
-        Ok(Target::Udp(DEFAULT_HOST.to_string(), DEFAULT_PORT))
-    }
-
-    /// Returns the default tags.
-    fn tags(&self) -> Result<Vec<(Option<String>, String)>, EnvironmentError> {
-        let mut tags = Vec::new();
-        for (variable, key) in [("DD_ENV", "env"), ("DD_SERVICE", "service"), ("DD_VERSION", "version")] {
-            tags.extend(self.read(variable, TEXT, |text| tags::tag_of_value(key, text))?);
-        }
-        let set: Vec<Option<String>> = tags.iter().map(|(key, _)| key.clone()).collect();
-        let wants = "tags K:V or V, separated by commas or spaces, without a bar, a newline or an empty key";
-        let more = self.read("DD_TAGS", wants, tags::tags_of_list)?.unwrap_or_default();
-        tags.extend(more.into_iter().filter(|(key, _)| key.is_none() || !set.contains(key)));
-        tags.extend(self.read("DD_ENTITY_ID", TEXT, |text| tags::tag_of_value("dd.internal.entity_id", text))?);
-        Ok(tags)
-    }
+/// Returns the tags of a tags' text: after its first two characters, with commas between them, each cut at its first
+/// colon.
+fn tags_of(text: &str) -> Vec<(Option<String>, String)> {
+    let tags = text.strip_prefix("|#").into_iter().flat_map(|tags| tags.split(','));
+    tags.map(|tag| match tag.split_once(':') {
+        Some((key, text)) => (Some(key.to_string()), text.to_string()),
+        None => (None, tag.to_string()),
+    })
+    .collect()
 }
 
 impl Environment {
     /// Reads the variables of the process. It fails if a variable can't be used; the error says which one, and what it
-    /// has to be.
+    /// wants.
     pub fn read() -> Result<Environment, EnvironmentError> {
         Self::read_from(|name| env::var_os(name))
     }
@@ -148,8 +101,13 @@ impl Environment {
     /// Reads variables by a function, which returns the value of a name if it is set. It fails as [`read`](Self::read)
     /// does.
     pub fn read_from(variable: impl Fn(&str) -> Option<OsString>) -> Result<Environment, EnvironmentError> {
-        let variables = Variables(variable);
-        Ok(Environment { target: variables.target()?, tags: variables.tags()? })
+        let values = VARIABLES.map(|name| variable(name).map_or(Vec::new(), OsString::into_encoded_bytes));
+        let variables = Variables::new(&values);
+        let target = match destination(&variables).map_err(fault_of)? {
+            (path, 0) => Target::Unix(path),
+            (host, port) => Target::Udp(host, port),
+        };
+        Ok(Environment { target, tags: tags_of(&environment_tags(&variables).map_err(fault_of)?) })
     }
 
     /// Returns where to send.
@@ -208,15 +166,8 @@ fn udp_sink(host: &str, port: u16) -> MetricResult<BufferedUdpMetricSink> {
 }
 
 /// Returns the builder of a client over a Unix socket.
-#[cfg(unix)]
 fn unix_builder(prefix: &str, path: &str) -> MetricResult<StatsdClientBuilder> {
-    let socket = std::os::unix::net::UnixDatagram::unbound()?;
+    let socket = UnixDatagram::unbound()?;
     socket.set_nonblocking(true)?;
     Ok(StatsdClient::builder(prefix, BufferedUnixMetricSink::with_capacity(path, socket, UNIX_CAPACITY)))
-}
-
-/// Returns the error of a system without Unix sockets.
-#[cfg(not(unix))]
-fn unix_builder(_prefix: &str, _path: &str) -> MetricResult<StatsdClientBuilder> {
-    Err(std::io::Error::from(std::io::ErrorKind::Unsupported).into())
 }

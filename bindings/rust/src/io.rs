@@ -22,10 +22,7 @@ use std::io::{self, BufWriter, Write, WriterPanicked};
 /// assert_eq!(b"visits:1|c\nload:2|g\n", lines.get_ref().as_slice());
 /// ```
 #[derive(Debug)]
-pub struct MultiLineWriter<T>
-where
-    T: Write,
-{
+pub struct MultiLineWriter<T: Write> {
     inner: BufWriter<T>,
     capacity: usize,
     ending: Vec<u8>,
@@ -36,10 +33,7 @@ fn buffer<T: Write>(inner: T, capacity: usize) -> BufWriter<T> {
     BufWriter::with_capacity(capacity.saturating_add(1), inner)
 }
 
-impl<T> MultiLineWriter<T>
-where
-    T: Write,
-{
+impl<T: Write> MultiLineWriter<T> {
     /// Makes a buffer with a capacity of `cap` bytes, whose lines end with a newline.
     pub fn new(inner: T, cap: usize) -> MultiLineWriter<T> {
         Self::with_ending(inner, cap, "\n")
@@ -67,10 +61,7 @@ where
     }
 }
 
-impl<T> Write for MultiLineWriter<T>
-where
-    T: Write,
-{
+impl<T: Write> Write for MultiLineWriter<T> {
     fn write(&mut self, line: &[u8]) -> io::Result<usize> {
         let (held, needed) = (self.inner.buffer().len(), line.len() + self.ending.len());
         if held > 0 && needed > self.capacity - held {

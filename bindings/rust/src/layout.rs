@@ -1,5 +1,5 @@
 //! The structs that are passed to the library, in the layout of `cadence.h`.
-use std::marker::PhantomData;
+use crate::raw::Slice;
 use std::{fmt, ptr};
 
 /// A kind of metric: the number and the text that the library has for it.
@@ -14,6 +14,17 @@ pub(crate) enum Kind {
     Distribution = 6,
 }
 
+impl Kind {
+    /// Returns the text of the kind in a line, for a kind whose values can be floats.
+    pub(crate) fn text(self) -> &'static str {
+        match self {
+            Kind::Histogram => "h",
+            Kind::Distribution => "d",
+            _ => "g",
+        }
+    }
+}
+
 /// A packer, or none. Only the library uses its fields.
 #[repr(C)]
 pub(crate) struct Handle {
@@ -25,104 +36,152 @@ impl Handle {
     pub(crate) const CLOSED: Handle = Handle { at: ptr::null_mut(), open: false };
 }
 
-impl fmt::Debug for Handle {
-    fn fmt(&self, f: &mut fmt::Formatter<'_>) -> fmt::Result {
-        f.write_str("...")
-    }
-}
-
-/// A tag as the library reads it: two texts of the caller's, of which the key may be missing.
+/// A tag as the library reads it. Its key is empty if it has none.
 #[repr(C)]
 #[derive(Clone, Copy)]
 pub(crate) struct Tag<'a> {
-    key: *const u8,
-    key_len: usize,
-    text: *const u8,
-    text_len: usize,
+    key: Slice<'a, u8>,
+    text: Slice<'a, u8>,
     keyed: bool,
-    of: PhantomData<&'a str>,
 }
 
 impl<'a> Tag<'a> {
     #[inline]
     pub(crate) fn new(key: Option<&'a str>, text: &'a str) -> Tag<'a> {
-        let keyed = key.is_some();
-        let key = key.unwrap_or("");
-        Tag { key: key.as_ptr(), key_len: key.len(), text: text.as_ptr(), text_len: text.len(), keyed, of: PhantomData }
-    }
-
-    /// Returns where its texts are, and their lengths in bytes: the key, which is empty if it is missing, and the text.
-    pub(crate) fn texts(&self) -> [(*const u8, usize); 2] {
-        [(self.key, self.key_len), (self.text, self.text_len)]
-    }
-
-    pub(crate) fn is_keyed(&self) -> bool {
-        self.keyed
+        let bytes = key.unwrap_or("").as_bytes();
+        Tag { key: Slice::new(bytes), text: Slice::new(text.as_bytes()), keyed: key.is_some() }
     }
 
     /// Returns how many bytes the tag has in a line, at most.
     #[inline]
     pub(crate) fn size(&self) -> usize {
-        self.key_len + 1 + self.text_len
+        self.key.len + 1 + self.text.len
+    }
+}
+
+impl fmt::Debug for Tag<'_> {
+    fn fmt(&self, f: &mut fmt::Formatter<'_>) -> fmt::Result {
+        let [key, text] = [self.key, self.text].map(|text| String::from_utf8_lossy(text.get()));
+        (self.keyed.then_some(key), text).fmt(f)
+    }
+}
+
+/// What each line has, as the library reads it: texts that the library has made, and a container.
+#[repr(C)]
+#[derive(Clone, Copy)]
+pub(crate) struct Settings<'a> {
+    prefix: Slice<'a, u8>,
+    tags: Slice<'a, u8>,
+    container: Slice<'a, u8>,
+    contained: bool,
+    strict: bool,
+}
+
+impl<'a> Settings<'a> {
+    #[inline]
+    pub(crate) fn new(prefix: &'a str, tags: &'a str, container: Option<&'a str>, strict: bool) -> Settings<'a> {
+        let [prefix, tags, text] = [prefix, tags, container.unwrap_or("")].map(|text| Slice::new(text.as_bytes()));
+        Settings { prefix, tags, container: text, contained: container.is_some(), strict }
+    }
+
+    /// Returns how many bytes the texts have.
+    #[inline]
+    pub(crate) fn size(&self) -> usize {
+        self.prefix.len + self.tags.len + self.container.len
+    }
+}
+
+/// The names of the variables of the environment.
+pub(crate) const VARIABLES: [&str; 10] = [
+    "DD_DOGSTATSD_URL",
+    "DD_AGENT_HOST",
+    "DD_DOGSTATSD_PORT",
+    "STATSD_HOST",
+    "STATSD_PORT",
+    "DD_ENV",
+    "DD_SERVICE",
+    "DD_VERSION",
+    "DD_TAGS",
+    "DD_ENTITY_ID",
+];
+
+/// The values of the variables of the environment, in the order of their names. One that isn't set is empty.
+#[repr(C)]
+pub(crate) struct Variables<'a> {
+    values: [Slice<'a, u8>; VARIABLES.len()],
+}
+
+impl<'a> Variables<'a> {
+    pub(crate) fn new(values: &'a [Vec<u8>; VARIABLES.len()]) -> Variables<'a> {
+        Variables { values: values.each_ref().map(|value| Slice::new(value)) }
     }
 }
 
 /// The number `mantissa` divided by 10 to the power of `places`, which is at most 30.
-///
-/// In C the places are one byte, and the seven bytes after it have any value. Here these eight bytes are one number,
-/// whose first byte has the places, because the library reads all 16 bytes at once, and a processor waits longer for
-/// bytes that were written in smaller pieces.
 #[repr(C)]
 #[derive(Clone, Copy, Debug, Default, PartialEq, Eq)]
 pub(crate) struct Decimal {
-    pub(crate) mantissa: i64,
-    pub(crate) places: u64,
+    mantissa: i64,
+    places: u8,
 }
 
-const _: () = assert!(cfg!(target_endian = "little"), "the places of a decimal begin with their lowest byte");
+const NO_RATE: Decimal = Decimal { mantissa: 0, places: 0 };
 
 /// What a call adds to its metric.
 #[repr(C)]
+#[derive(Clone, Copy)]
 pub(crate) struct Options<'a> {
-    tags: *const Tag<'a>,
-    tags_len: usize,
-    container: *const u8,
-    container_len: usize,
+    tags: Slice<'a, Tag<'a>>,
+    container: Slice<'a, u8>,
     rate: Decimal,
     time: u64,
     contained: bool,
     rated: bool,
     timed: bool,
     known: bool,
-    of: PhantomData<&'a [Tag<'a>]>,
 }
 
 impl<'a> Options<'a> {
-    /// Returns options with these tags, this container and this time, and without a rate.
+    /// Returns options that add nothing.
     #[inline]
-    pub(crate) fn new(tags: &'a [Tag<'a>], container: Option<&'a str>, time: Option<u64>) -> Self {
-        let text = container.unwrap_or("");
+    pub(crate) fn new() -> Self {
         Options {
-            tags: tags.as_ptr(),
-            tags_len: tags.len(),
-            container: text.as_ptr(),
-            container_len: text.len(),
-            rate: Decimal { mantissa: 0, places: 0 },
-            time: time.unwrap_or_default(),
-            contained: container.is_some(),
+            tags: Slice::new(&[]),
+            container: Slice::new(&[]),
+            rate: NO_RATE,
+            time: 0,
+            contained: false,
             rated: false,
-            timed: time.is_some(),
+            timed: false,
             // each text is a `&str`, so it is UTF-8
             known: true,
-            of: PhantomData,
         }
+    }
+
+    /// Returns the same options with these tags, and without a rate.
+    #[inline]
+    pub(crate) fn with_tags<'b>(&'b self, tags: &'b [Tag<'a>]) -> Options<'b> {
+        Options { tags: Slice::new(tags), rate: NO_RATE, ..*self }
+    }
+
+    pub(crate) fn set_container(&mut self, container: &'a str) {
+        (self.container, self.contained) = (Slice::new(container.as_bytes()), true);
+    }
+
+    pub(crate) fn set_time(&mut self, time: u64) {
+        (self.time, self.timed) = (time, true);
     }
 
     #[cold]
     #[inline(never)]
     pub(crate) fn set_rate(&mut self, rate: Decimal) {
-        self.rate = rate;
-        self.rated = true;
+        (self.rate, self.rated) = (rate, true);
+    }
+
+    /// Returns how many bytes the container has.
+    #[inline]
+    pub(crate) fn size(&self) -> usize {
+        self.container.len
     }
 }
 
@@ -131,7 +190,7 @@ impl<'a> Options<'a> {
 #[derive(Default)]
 pub(crate) struct Counts {
     pub(crate) held: usize,
-    pub(crate) waiting: usize,
+    waiting: usize,
     made: u64,
     sent: u64,
     dropped: u64,
@@ -143,9 +202,9 @@ mod tests {
     use std::mem::{offset_of, size_of};
 
     macro_rules! layout {
-        ($name:literal $type:ty: $($field:ident)*) => {{
+        ($name:literal $type:ty: $($($field:ident).+)*) => {{
             let mut line = format!("{} {}", $name, size_of::<$type>());
-            $(line += &format!(" {}", offset_of!($type, $field));)*
+            $(line += &format!(" {}", offset_of!($type, $($field).+));)*
             line
         }};
     }
@@ -157,13 +216,17 @@ mod tests {
         let header = std::fs::read_to_string(file).unwrap();
         let ours = [
             layout!("handle" Handle: at open),
-            layout!("tag" Tag<'_>: key key_len text text_len keyed),
+            layout!("tag" Tag<'_>: key.at key.len text.at text.len keyed),
+            layout!("settings" Settings<'_>: prefix.at prefix.len tags.at tags.len container.at container.len contained strict),
             layout!("decimal" Decimal: mantissa places),
-            layout!("options" Options<'_>: tags tags_len container container_len rate time contained rated timed known),
+            layout!("options" Options<'_>: tags.at tags.len container.at container.len rate time contained rated timed known),
             layout!("counts" Counts: held waiting made sent dropped),
         ];
         for line in ours {
             assert!(header.lines().any(|theirs| theirs == line), "{line}");
         }
+        let variables = (0..2 * VARIABLES.len())
+            .fold(format!("variables {}", size_of::<Variables<'_>>()), |line, i| format!("{line} {}", 8 * i));
+        assert!(header.lines().any(|theirs| theirs == variables), "{variables}");
     }
 }

@@ -18,23 +18,23 @@
 //!
 //! # Which sink
 //!
-//! [`UdpMetricSink`] and `UnixMetricSink` send a datagram for each line. [`BufferedUdpMetricSink`] and
-//! `BufferedUnixMetricSink` pack lines. [`QueuingMetricSink`] passes lines to another sink in a thread of its own.
+//! [`UdpMetricSink`] and [`UnixMetricSink`] send a datagram for each line. [`BufferedUdpMetricSink`] and
+//! [`BufferedUnixMetricSink`] pack lines. [`QueuingMetricSink`] passes lines to another sink in a thread of its own.
 //! [`SpyMetricSink`] and [`BufferedSpyMetricSink`] pass them to a test. [`NopMetricSink`] drops them. A sink of your
 //! own implements [`MetricSink`].
 //!
 //! # What is proved
 //!
-//! The library formats each line and packs the lines of buffered sinks. The library is proved. The code around it, in
-//! this crate, is plain Rust, which is tested and not proved: sockets, threads, channels, the decimals of floats, and
-//! the lines of floats that the library can't print.
+//! The library formats each line, packs the lines of buffered sinks, and reads the values of the variables of
+//! [`Environment`]. It is proved. The code around it, in this crate, is plain Rust, which is tested and not proved:
+//! sockets, threads and channels.
 //!
 //! # Floats
 //!
-//! A float is printed with the fewest digits that are read back as the same float, and without an exponent, as `{}`
-//! prints it. If its digits don't fit 63 bits, if it has more than 30 places, or if it is -0, the library makes the
-//! line without it, and this crate inserts its text. NaN and infinities are refused with [`ErrorKind::InvalidInput`],
-//! as values and as sampling rates, because no server reads them.
+//! A float is printed with the fewest digits that are read back as the same float, and without an exponent. If that needs
+//! more than 30 places, it is rounded to 30. A zero of either sign is 0. NaN, infinities and floats more than 2 to the
+//! power of 127 away from 0 are refused with [`ErrorKind::InvalidInput`], and so is a sampling rate from 2 to the power of
+//! 63 on.
 //!
 //! # What the crate `cadence` doesn't have
 //!
@@ -59,27 +59,27 @@ pub use self::client::{
 };
 pub use self::environment::{Environment, EnvironmentError, Target};
 pub use self::sinks::{
-    BufferedSpyMetricSink, BufferedUdpMetricSink, BufferedUdpMetricSinkBuilder, MetricSink, NopMetricSink, QueuingMetricSink,
-    QueuingMetricSinkBuilder, SinkStats, SpyMetricSink, UdpMetricSink, UdpMetricSinkBuilder,
+    BufferedSpyMetricSink, BufferedUdpMetricSink, BufferedUdpMetricSinkBuilder, BufferedUnixMetricSink, MetricSink,
+    NopMetricSink, QueuingMetricSink, QueuingMetricSinkBuilder, SinkStats, SpyMetricSink, UdpMetricSink, UdpMetricSinkBuilder,
+    UnixMetricSink,
 };
-#[cfg(unix)]
-pub use self::sinks::{BufferedUnixMetricSink, UnixMetricSink};
 pub use self::types::{
     Counter, Distribution, ErrorKind, Gauge, Histogram, Meter, Metric, MetricError, MetricResult, Set, Timer,
 };
 
 mod builder;
 mod client;
-mod decimal;
 mod environment;
 pub mod ext;
 mod io;
 mod layout;
 mod line;
+#[allow(unsafe_code)]
+mod packer;
 pub mod prelude;
 #[allow(unsafe_code)]
 mod raw;
-mod separators;
+mod settings;
 mod sinks;
 mod sync;
 mod types;

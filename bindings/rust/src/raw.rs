@@ -1,43 +1,82 @@
-//! The library, called as C, and safe calls of it. The only `unsafe` code of the crate is in this module.
+//! The library, called as C, and safe calls of it. The only `unsafe` code of the crate is here and in `packer.rs`.
 //!
-//! Each block is safe if the declarations fit `cadence.h` (a test of `layout.rs` compares the layouts), if each pointer
-//! comes with the length of the memory that it points to, and if only one call at a time uses a handle.
-use crate::layout::{Counts, Decimal, Handle, Kind, Options, Tag};
-use crate::separators::is_free_bytes;
+//! Each block is safe if the declarations fit `cadence.h` (a test of `layout.rs` compares the layouts), and if each pointer
+//! comes with the length of the memory that it points to.
+use crate::layout::{Decimal, Kind, Options, Settings, Tag, Variables};
+use crate::types::{ErrorKind, MetricError, MetricResult};
+use crate::value::MetricValue;
+use std::alloc::{handle_alloc_error, Layout};
 use std::ffi::c_void;
-use std::{fmt, io, ptr, slice, str};
+use std::marker::PhantomData;
+use std::mem::{self, MaybeUninit};
+use std::{fmt, io, ptr, slice};
 
-// SAFETY: a tag is two `&str`s in another layout, and a `&str` may be sent to another thread.
-unsafe impl Send for Tag<'_> {}
-// SAFETY: a tag is two `&str`s in another layout, and threads may share a `&str`.
-unsafe impl Sync for Tag<'_> {}
+/// A slice as C has it: a pointer, and how many values it points to.
+#[repr(C)]
+#[derive(Clone, Copy)]
+pub(crate) struct Slice<'a, T> {
+    pub(crate) at: *const T,
+    pub(crate) len: usize,
+    of: PhantomData<&'a [T]>,
+}
 
-impl fmt::Debug for Tag<'_> {
-    fn fmt(&self, f: &mut fmt::Formatter<'_>) -> fmt::Result {
-        // SAFETY: both texts are those of a `&str` that the tag borrows.
-        let [key, text] = self.texts().map(|(at, len)| unsafe { str::from_utf8_unchecked(slice::from_raw_parts(at, len)) });
-        (self.is_keyed().then_some(key), text).fmt(f)
+// SAFETY: it is a `&[T]` in another layout.
+unsafe impl<T: Sync> Send for Slice<'_, T> {}
+// SAFETY: as above.
+unsafe impl<T: Sync> Sync for Slice<'_, T> {}
+
+impl<'a, T> Slice<'a, T> {
+    #[inline]
+    pub(crate) fn new(values: &'a [T]) -> Self {
+        Slice { at: values.as_ptr(), len: values.len(), of: PhantomData }
+    }
+
+    pub(crate) fn get(&self) -> &'a [T] {
+        // SAFETY: both are those of the slice that it was made of.
+        unsafe { slice::from_raw_parts(self.at, self.len) }
     }
 }
 
-/// Returns whether neither the key of a tag nor its text has a separator.
-pub(crate) fn is_free_tag(tag: &Tag<'_>) -> bool {
-    // SAFETY: both texts are those of a `&str` that the tag borrows.
-    tag.texts().iter().all(|(at, len)| is_free_bytes(unsafe { slice::from_raw_parts(*at, *len) }))
+/// Settings with their texts, so that they are made once and lent to each call.
+pub(crate) struct OwnedSettings {
+    // `lent` points to these texts, which are never changed. A `String` may move, because its bytes don't move with it.
+    texts: [String; 3],
+    lent: Settings<'static>,
 }
 
-const OK: u32 = 0;
-const NO_MEMORY: u32 = 2;
-const TOO_SMALL: u32 = 7;
-const REFUSE: u32 = 0;
+impl OwnedSettings {
+    pub(crate) fn new(prefix: String, tags: String, container: Option<String>, strict: bool) -> OwnedSettings {
+        let contained = container.is_some();
+        let texts = [prefix, tags, container.unwrap_or_default()];
+        let [prefix, tags, container] = texts.each_ref().map(String::as_str);
+        let lent = Settings::new(prefix, tags, contained.then_some(container), strict);
+        // SAFETY: `lend` returns it only for as long as the texts are there.
+        let lent = unsafe { mem::transmute::<Settings<'_>, Settings<'static>>(lent) };
+        OwnedSettings { texts, lent }
+    }
 
-/// How many packets may wait in a packer: the text that was held, and a line that is a packet of its own.
-const PACKETS: usize = 2;
+    /// Returns the settings as the library reads them.
+    #[inline]
+    pub(crate) fn lend(&self) -> &Settings<'_> {
+        &self.lent
+    }
+
+    /// Returns the text that each name begins with.
+    pub(crate) fn prefix(&self) -> &str {
+        &self.texts[0]
+    }
+}
+
+pub(crate) const OK: u32 = 0;
+const NO_MEMORY: u32 = 2;
+const INVALID: u32 = 4;
+pub(crate) const TOO_SMALL: u32 = 7;
+const SEPARATOR: u32 = 8;
+const VARIABLE: u32 = 9;
 
 /// A call that writes a line. `values` points to numbers of the type that the call expects.
 type Format = unsafe extern "C" fn(
-    prefix: *const u8,
-    prefix_len: usize,
+    settings: *const Settings<'_>,
     kind: u32,
     key: *const u8,
     key_len: usize,
@@ -45,31 +84,44 @@ type Format = unsafe extern "C" fn(
     values_len: usize,
     options: *const Options<'_>,
     out: *mut u8,
-    out_len: usize,
-    length: *mut usize,
+    room: usize,
+    size: *mut usize,
 ) -> u32;
 
 macro_rules! formats {
     ($($name:ident)*) => {
         unsafe extern "C" {
             $(fn $name(
-                prefix: *const u8, prefix_len: usize, kind: u32, key: *const u8, key_len: usize, values: *const c_void,
-                values_len: usize, options: *const Options<'_>, out: *mut u8, out_len: usize, length: *mut usize,
+                settings: *const Settings<'_>, kind: u32, key: *const u8, key_len: usize, values: *const c_void,
+                values_len: usize, options: *const Options<'_>, out: *mut u8, room: usize, size: *mut usize,
             ) -> u32;)*
         }
     };
 }
 
-formats! { cadence_format_signed cadence_format_unsigned cadence_format_decimal }
+formats! { cadence_format_signed cadence_format_unsigned cadence_format_floating }
 
 unsafe extern "C" {
-    fn cadence_new(handle: *mut Handle, prefix: *const u8, len: usize, capacity: usize, packets: usize, policy: u32) -> u32;
-    fn cadence_free(handle: *mut Handle);
-    fn cadence_line(handle: *mut Handle, line: *const u8, len: usize) -> u32;
-    fn cadence_flush(handle: *mut Handle) -> u32;
-    fn cadence_next(handle: *mut Handle, buf: *mut u8, buf_len: usize, length: *mut usize) -> u32;
-    fn cadence_sent(handle: *mut Handle) -> u32;
-    fn cadence_counts(handle: *mut Handle, counts: *mut Counts) -> u32;
+    fn cadence_prefix_text(prefix: *const u8, len: usize, strict: bool, out: *mut u8, room: usize, size: *mut usize) -> u32;
+    fn cadence_tags_text(tags: *const Tag<'_>, len: usize, strict: bool, out: *mut u8, room: usize, size: *mut usize) -> u32;
+    fn cadence_test_text(text: *const u8, len: usize) -> u32;
+    fn cadence_decimal_of_double(value: f64, number: *mut Decimal) -> u32;
+    fn cadence_destination(
+        variables: *const Variables<'_>,
+        out: *mut u8,
+        room: usize,
+        size: *mut usize,
+        port: *mut u16,
+        variable: *mut u32,
+    ) -> u32;
+    fn cadence_environment_tags(
+        variables: *const Variables<'_>,
+        out: *mut u8,
+        room: usize,
+        size: *mut usize,
+        variable: *mut u32,
+    ) -> u32;
+    fn cadence_variable_text(variable: u32, out: *mut u8, room: usize, size: *mut usize) -> u32;
 }
 
 /// Returns the error of a status that isn't `OK`.
@@ -81,8 +133,9 @@ fn refusal(status: u32) -> io::Error {
     }
 }
 
+/// Returns an error if a status isn't `OK`.
 #[inline]
-fn checked(status: u32) -> io::Result<()> {
+pub(crate) fn checked(status: u32) -> io::Result<()> {
     if status == OK {
         Ok(())
     } else {
@@ -90,141 +143,237 @@ fn checked(status: u32) -> io::Result<()> {
     }
 }
 
-/// Numbers that the library prints.
-#[derive(Clone, Copy)]
-pub(crate) enum Numbers<'a> {
-    Signed(&'a [i64]),
-    Unsigned(&'a [u64]),
-    Decimal(&'a [Decimal]),
-}
-
-impl Numbers<'_> {
-    #[inline]
-    fn parts(&self) -> (Format, *const c_void, usize) {
-        match self {
-            Numbers::Signed(values) => (cadence_format_signed, values.as_ptr().cast(), values.len()),
-            Numbers::Unsigned(values) => (cadence_format_unsigned, values.as_ptr().cast(), values.len()),
-            Numbers::Decimal(values) => (cadence_format_decimal, values.as_ptr().cast(), values.len()),
-        }
+/// Returns the error of a call that makes or tests a text.
+#[cold]
+fn text_refusal(status: u32) -> MetricError {
+    match status {
+        SEPARATOR => separator_error(),
+        INVALID => number_error(),
+        status => refusal(status).into(),
     }
 }
 
-/// Adds the line of a metric to a text. The line is made in the spare room of the text, if that is enough.
+/// Returns the error of a strict client that was given a text with a separator.
+#[cold]
+pub(crate) fn separator_error() -> MetricError {
+    MetricError::from((ErrorKind::InvalidInput, "separator in a text"))
+}
+
+/// Returns the error of a number that the library doesn't print. Kinds and rates are valid here, so the number is a float.
+#[cold]
+fn number_error() -> MetricError {
+    MetricError::from((ErrorKind::InvalidInput, "a float is NaN, infinite or too large"))
+}
+
+/// Adds the text that a call of the library writes to a text. `call` gets the spare room of the text, and how many bytes
+/// that has; it returns a status, and sets the length of its text. A status that is neither `OK` nor `TOO_SMALL` is the
+/// error.
+///
+/// # Safety
+/// If `call` returns `OK`, it has written that many bytes to the room, and they are UTF-8.
 #[inline]
-pub(crate) fn append_line(
-    line: &mut String,
-    prefix: &str,
-    kind: Kind,
-    key: &str,
-    numbers: Numbers<'_>,
-    options: &Options<'_>,
-) -> io::Result<()> {
-    let (format, values, values_len) = numbers.parts();
-    let (prefix_at, prefix_len, key_at, key_len) = (prefix.as_ptr(), prefix.len(), key.as_ptr(), key.len());
-    // SAFETY: the bytes that are added below are a line, which consists of texts in UTF-8 and of ASCII characters.
-    let bytes = unsafe { line.as_mut_vec() };
+unsafe fn append(text: &mut String, mut call: impl FnMut(*mut u8, usize, &mut usize) -> u32) -> Result<(), u32> {
+    // SAFETY: the bytes that are added below are UTF-8.
+    let bytes = unsafe { text.as_mut_vec() };
     loop {
-        let (start, room) = (bytes.len(), bytes.spare_capacity_mut());
-        let (out, out_len, mut size) = (room.as_mut_ptr().cast::<u8>(), room.len(), 0);
-        // SAFETY: each pointer comes with the length of its slice, `format` is the call for the type of the numbers,
-        // the call only writes to the room, and it keeps no pointer.
-        let status = scratch::lent(|| unsafe {
-            format(prefix_at, prefix_len, kind as u32, key_at, key_len, values, values_len, options, out, out_len, &mut size)
-        });
-        match status {
+        let (start, room, mut size) = (bytes.len(), bytes.spare_capacity_mut(), 0);
+        match call(room.as_mut_ptr().cast::<u8>(), room.len(), &mut size) {
             OK => {
-                // SAFETY: the library has written the first `size` bytes of the room.
+                // SAFETY: the call has written the first `size` bytes of the room.
                 unsafe { bytes.set_len(start + size) };
                 return Ok(());
             }
             TOO_SMALL => bytes.reserve_exact(size),
-            status => return Err(refusal(status)),
+            status => return Err(status),
         }
     }
 }
 
-/// The packer, with the text that it has buffered and the packets that wait.
-#[derive(Debug)]
-pub(crate) struct Packer {
-    handle: Handle,
-    packet: Vec<u8>,
+/// Returns the text that a call writes, or its status.
+///
+/// # Safety
+/// As for `append`.
+unsafe fn text_of(call: impl FnMut(*mut u8, usize, &mut usize) -> u32) -> Result<String, u32> {
+    let mut text = String::new();
+    // SAFETY: as the caller promises.
+    unsafe { append(&mut text, call) }.map(|()| text)
 }
 
-// SAFETY: the library stores nothing that belongs to a thread, and each call that changes a packer takes `&mut self`.
-unsafe impl Send for Packer {}
+/// Returns the text that each name with a prefix begins with. It fails with `InvalidInput` if it is strict and the prefix
+/// has a separator.
+pub(crate) fn prefix_text(prefix: &str, strict: bool) -> MetricResult<String> {
+    let (at, len) = (prefix.as_ptr(), prefix.len());
+    // SAFETY: each pointer comes with the length of its slice. The text is a part of the prefix and a dot.
+    unsafe { text_of(|out, room, size| cadence_prefix_text(at, len, strict, out, room, size)) }.map_err(text_refusal)
+}
 
-impl Packer {
-    /// Makes a packer whose packets have at most `capacity` bytes.
-    pub(crate) fn new(capacity: usize) -> io::Result<Packer> {
-        let mut handle = Handle::CLOSED;
-        // SAFETY: the handle is closed, and the prefix is empty, so its pointer may be null.
-        checked(unsafe { cadence_new(&mut handle, ptr::null(), 0, capacity, PACKETS, REFUSE) })?;
-        Ok(Packer { handle, packet: Vec::new() })
+/// Returns the text of default tags. It fails with `InvalidInput` if it is strict and a tag has a separator.
+pub(crate) fn tags_text(tags: &[Tag<'_>], strict: bool) -> MetricResult<String> {
+    let (at, len) = (tags.as_ptr(), tags.len());
+    // SAFETY: as in `prefix_text`; the text consists of texts in UTF-8 and of ASCII characters.
+    unsafe { text_of(|out, room, size| cadence_tags_text(at, len, strict, out, room, size)) }.map_err(text_refusal)
+}
+
+/// Returns an error if a text has a separator.
+pub(crate) fn test_text(text: &str) -> MetricResult<()> {
+    // SAFETY: the pointer comes with the length of its slice.
+    match unsafe { cadence_test_text(text.as_ptr(), text.len()) } {
+        OK => Ok(()),
+        status => Err(text_refusal(status)),
     }
+}
 
-    /// Returns how many bytes are held for the next packet, and how many packets wait.
+/// Returns the decimal of a rate. It fails with `InvalidInput` if the rate is NaN or infinite, or if its decimal needs more
+/// than 63 bits.
+#[inline]
+pub(crate) fn decimal_of(rate: f64) -> MetricResult<Decimal> {
+    let mut decimal = Decimal::default();
+    // SAFETY: the call writes a decimal in the layout of `Decimal`.
+    match unsafe { cadence_decimal_of_double(rate, &mut decimal) } {
+        OK => Ok(decimal),
+        _ => Err(number_error()),
+    }
+}
+
+/// Returns the text that a call writes about the variables, or the number of a variable that is malformed, which the call
+/// sets. If memory has run out, the process ends, as it does for a `Vec`.
+///
+/// # Safety
+/// As for `append`.
+unsafe fn said(mut call: impl FnMut(*mut u8, usize, &mut usize, &mut u32) -> u32) -> Result<String, u32> {
+    let mut variable = 0;
+    // SAFETY: as the caller promises.
+    unsafe { text_of(|out, room, size| call(out, room, size, &mut variable)) }.map_err(|status| match status {
+        VARIABLE => variable,
+        _ => handle_alloc_error(Layout::new::<String>()),
+    })
+}
+
+/// Returns where the variables say to send: a host and its port, or the path of a Unix socket and the port 0.
+pub(crate) fn destination(variables: &Variables<'_>) -> Result<(String, u16), u32> {
+    let mut port = 0;
+    // SAFETY: the call reads the values with their lengths, and only writes to the room and the numbers. It writes a part
+    // of a value that is UTF-8.
+    let text =
+        unsafe { said(|out, room, size, variable| cadence_destination(variables, out, room, size, &mut port, variable))? };
+    Ok((text, port))
+}
+
+/// Returns the text of the tags that the variables say.
+pub(crate) fn environment_tags(variables: &Variables<'_>) -> Result<String, u32> {
+    // SAFETY: as in `destination`.
+    unsafe { said(|out, room, size, variable| cadence_environment_tags(variables, out, room, size, variable)) }
+}
+
+/// Returns what the variable of this number wants, in words that begin with its name.
+pub(crate) fn variable_text(variable: u32) -> String {
+    // SAFETY: the call only writes to the room, and what it writes is ASCII.
+    unsafe { text_of(|out, room, size| cadence_variable_text(variable, out, room, size)) }.unwrap_or_default()
+}
+
+/// How many tags of a call need no memory of their own.
+const FIRST: usize = 4;
+
+/// The tags of a call. The first ones need no memory of their own.
+pub(crate) struct Tags<'a> {
+    /// The tags as long as `more` is empty; the first `len` are there.
+    first: [MaybeUninit<Tag<'a>>; FIRST],
+    len: usize,
+    /// All tags, if there are more than fit into `first`.
+    more: Vec<Tag<'a>>,
+}
+
+impl<'a> Tags<'a> {
     #[inline]
-    pub(crate) fn counts(&mut self) -> (usize, usize) {
-        let mut counts = Counts::default();
-        // SAFETY: the handle is open, and because of `&mut self` only one call at a time uses it.
-        unsafe { cadence_counts(&mut self.handle, &mut counts) };
-        (counts.held, counts.waiting)
+    pub(crate) fn new() -> Self {
+        Tags { first: [const { MaybeUninit::uninit() }; FIRST], len: 0, more: Vec::new() }
     }
 
-    /// Adds a line to the held text, or makes a packet of it. After an error the packer is as it was.
     #[inline]
-    pub(crate) fn keep(&mut self, line: &[u8]) -> io::Result<()> {
-        // SAFETY: as in `counts`; the pointer has the length of its slice.
-        checked(unsafe { cadence_line(&mut self.handle, line.as_ptr(), line.len()) })
-    }
-
-    /// Makes a packet of the held text, if there is any.
-    pub(crate) fn flush(&mut self) -> io::Result<()> {
-        // SAFETY: as in `counts`.
-        checked(unsafe { cadence_flush(&mut self.handle) })
-    }
-
-    /// Returns the oldest packet that waits, if one does. The packet still waits afterwards.
-    pub(crate) fn next(&mut self) -> Option<&[u8]> {
-        let mut size = 0;
-        loop {
-            let (at, room) = (self.packet.as_mut_ptr(), self.packet.len());
-            // SAFETY: as in `counts`; the pointer has the length of its slice.
-            match unsafe { cadence_next(&mut self.handle, at, room, &mut size) } {
-                // SAFETY: the library wrote the first `size` bytes of `packet`.
-                OK => return Some(unsafe { slice::from_raw_parts(self.packet.as_ptr(), size) }),
-                TOO_SMALL => self.packet.resize(size, 0),
-                _ => return None,
+    pub(crate) fn push(&mut self, tag: Tag<'a>) {
+        match self.first.get_mut(self.len) {
+            Some(place) => {
+                place.write(tag);
+                self.len += 1;
             }
+            None => self.more = more_tags(mem::take(&mut self.more), self.first, tag),
         }
     }
 
-    /// Drops the oldest packet that waits, if there is one.
-    pub(crate) fn drop_oldest(&mut self) {
-        // SAFETY: as in `counts`.
-        unsafe { cadence_sent(&mut self.handle) };
-    }
-
-    /// Makes the one packet that waits the held text again, if no text is held. The packet consists of whole lines,
-    /// each with its newline, so it is also the text of a single line with a newline. If the library gets no memory,
-    /// the packet still waits.
-    pub(crate) fn hold_again(&mut self) {
-        if self.counts() != (0, 1) {
-            return;
+    #[inline]
+    pub(crate) fn as_slice(&self) -> &[Tag<'a>] {
+        if !self.more.is_empty() {
+            return &self.more;
         }
-        let Some(size) = self.next().map(<[u8]>::len) else { return };
-        let line = self.packet[..size - 1].to_vec();
-        if self.keep(&line).is_ok() {
-            self.drop_oldest();
-        }
+        // SAFETY: the first `len` places were written.
+        unsafe { slice::from_raw_parts(self.first.as_ptr().cast(), self.len) }
     }
 }
 
-impl Drop for Packer {
-    fn drop(&mut self) {
-        // SAFETY: as in `counts`; no call uses the handle after this one.
-        unsafe { cadence_free(&mut self.handle) }
+/// Returns all tags of a call that has more than fit into `first`, with one more.
+// It gets copies, because the compiler moves a builder without copying it only if no other function gets its address.
+#[cold]
+fn more_tags<'a>(mut more: Vec<Tag<'a>>, first: [MaybeUninit<Tag<'a>>; FIRST], tag: Tag<'a>) -> Vec<Tag<'a>> {
+    if more.is_empty() {
+        more.reserve(2 * FIRST);
+        // SAFETY: a tag is added here only after each place of `first` was written.
+        more.extend(first.map(|tag| unsafe { tag.assume_init() }));
     }
+    more.push(tag);
+    more
+}
+
+impl fmt::Debug for Tags<'_> {
+    fn fmt(&self, f: &mut fmt::Formatter<'_>) -> fmt::Result {
+        self.as_slice().fmt(f)
+    }
+}
+
+/// The numbers of a value as the library reads them: where they are, how many there are, and the call for their type.
+pub(crate) struct Numbers<'a> {
+    format: Format,
+    at: *const c_void,
+    pub(crate) len: usize,
+    of: PhantomData<&'a MetricValue>,
+}
+
+impl<'a> Numbers<'a> {
+    #[inline]
+    pub(crate) fn new(value: &'a MetricValue) -> Self {
+        let (format, at, len): (Format, *const c_void, usize) = match value {
+            MetricValue::Signed(value) => (cadence_format_signed, ptr::from_ref(value).cast(), 1),
+            MetricValue::PackedSigned(values) => (cadence_format_signed, values.as_ptr().cast(), values.len()),
+            MetricValue::Unsigned(value) => (cadence_format_unsigned, ptr::from_ref(value).cast(), 1),
+            MetricValue::PackedUnsigned(values) => (cadence_format_unsigned, values.as_ptr().cast(), values.len()),
+            MetricValue::Float(value) => (cadence_format_floating, ptr::from_ref(value).cast(), 1),
+            MetricValue::PackedFloat(values) => (cadence_format_floating, values.as_ptr().cast(), values.len()),
+        };
+        Numbers { format, at, len, of: PhantomData }
+    }
+}
+
+/// Adds the line of a metric to a text. The line is made in the spare room of the text, if that is enough. It fails with
+/// `InvalidInput` if the settings are strict and a text of the call has a separator, or if a float is NaN, infinite or too
+/// large.
+#[inline]
+pub(crate) fn append_line(
+    line: &mut String,
+    settings: &Settings<'_>,
+    kind: Kind,
+    key: &str,
+    numbers: Numbers<'_>,
+    options: &Options<'_>,
+) -> MetricResult<()> {
+    let Numbers { format, at, len, .. } = numbers;
+    let (key_at, key_len) = (key.as_ptr(), key.len());
+    // SAFETY: each pointer comes with the length of its slice, `format` is the call for the type of the numbers, the call
+    // only writes to the room, and it keeps no pointer. A line consists of texts in UTF-8 and of ASCII characters.
+    let made = unsafe {
+        append(line, |out, room, size| {
+            scratch::lent(|| format(settings, kind as u32, key_at, key_len, at, len, options, out, room, size))
+        })
+    };
+    made.map_err(text_refusal)
 }
 
 /// The room of each thread that the library's heap has, from `heap.c`.
@@ -245,90 +394,5 @@ mod scratch {
         // SAFETY: as above.
         unsafe { cadence_c_lend(false) };
         answer
-    }
-
-    #[cfg(test)]
-    mod tests {
-        use super::super::*;
-        use super::lent;
-
-        const SIZE: usize = 1024;
-
-        /// A block of memory as the library gets it, or none.
-        #[repr(C)]
-        struct Block {
-            given: u64,
-            at: *mut u8,
-        }
-
-        unsafe extern "C" {
-            fn cadence_c_alloc(size: usize, align: usize) -> Block;
-            fn cadence_c_realloc(at: *mut u8, old_size: usize, size: usize, align: usize) -> Block;
-            fn cadence_c_dealloc(at: *mut u8);
-        }
-
-        fn alloc(size: usize, align: usize) -> Block {
-            // SAFETY: the heap accepts any size.
-            unsafe { cadence_c_alloc(size, align) }
-        }
-
-        fn bytes_of_the_room(size: usize) -> Vec<u8> {
-            let start = lent(|| alloc(1, 1).at);
-            // SAFETY: the library has written these bytes, and the room is not lent to a call.
-            unsafe { slice::from_raw_parts(start, size) }.to_vec()
-        }
-
-        #[test]
-        fn the_library_makes_its_line_in_the_room() {
-            let mut line = String::new();
-            append_line(&mut line, "p.", Kind::Gauge, "k", Numbers::Signed(&[-7]), &Options::new(&[], None, None)).unwrap();
-            assert_eq!("p.k:-7|g", line);
-            assert_eq!(b"p.k:-7|g".to_vec(), bytes_of_the_room(line.len()));
-        }
-
-        #[test]
-        fn a_line_that_passes_the_room_is_made_too() {
-            let key = "k".repeat(5 * SIZE);
-            let mut line = String::new();
-            append_line(&mut line, "", Kind::Set, &key, Numbers::Signed(&[1, 2]), &Options::new(&[], None, None)).unwrap();
-            assert_eq!(format!("{key}:1:2|s"), line);
-        }
-
-        #[test]
-        fn blocks_keep_their_bytes_as_they_grow() {
-            for inside in [true, false] {
-                let grow = || {
-                    let other = alloc(24, 8);
-                    let mut block = alloc(1, 1);
-                    for size in 1..3 * SIZE {
-                        // SAFETY: the block has `size` bytes, and one more after it grew.
-                        unsafe {
-                            block.at.add(size - 1).write(size as u8);
-                            block = cadence_c_realloc(block.at, size, size + 1, 1);
-                        }
-                        assert_eq!(1, block.given);
-                        assert_eq!(0, block.at as usize % 16);
-                    }
-                    // SAFETY: these bytes were written, and both blocks are freed once.
-                    let bytes = unsafe { slice::from_raw_parts(block.at, 3 * SIZE - 1) };
-                    assert!(bytes.iter().enumerate().all(|(index, byte)| *byte == (index + 1) as u8));
-                    // SAFETY: as above.
-                    [block.at, other.at].into_iter().for_each(|at| unsafe { cadence_c_dealloc(at) });
-                };
-                if inside {
-                    lent(grow)
-                } else {
-                    grow()
-                }
-            }
-        }
-
-        #[test]
-        fn a_request_that_cant_be_met_gives_nothing() {
-            assert_eq!(0, alloc(usize::MAX / 2, 1).given);
-            assert_eq!(0, lent(|| alloc(usize::MAX, 1)).given);
-            let empty = lent(|| alloc(0, 8));
-            assert_eq!(1, empty.given);
-        }
     }
 }

@@ -7,10 +7,7 @@ use std::thread;
 
 /// Runs a job in a thread of its own until the job returns. After a panic, it runs the job again. Returns the count of
 /// panics.
-pub(crate) fn run_to_end<F>(job: F) -> io::Result<Arc<AtomicU64>>
-where
-    F: Fn() + Send + 'static,
-{
+pub(crate) fn run_to_end<F: Fn() + Send + 'static>(job: F) -> io::Result<Arc<AtomicU64>> {
     let panics = Arc::new(AtomicU64::new(0));
     let counted = Arc::clone(&panics);
     // What a job shares with other threads is unwind safe, or is a receiver, which stays in order after a panic.

@@ -1,5 +1,5 @@
 //! The metric types, and the errors of calls.
-use crate::layout::Kind;
+use crate::layout::{Kind, Settings};
 use crate::line::Record;
 use crate::value::MetricValue;
 use std::alloc::{handle_alloc_error, Layout};
@@ -11,13 +11,16 @@ pub trait Metric {
     fn as_metric_str(&self) -> &str;
 }
 
-/// Returns the line of a metric's constructor, which can't return an error. If memory runs out, the process ends, as it
-/// does for a `Vec`.
+/// Returns the line of a metric's constructor, which can't return an error. The line of a float that a client refuses has
+/// the text of the float. If memory runs out, the process ends, as it does for a `Vec`.
 fn line_of(prefix: &str, kind: Kind, key: &str, value: MetricValue) -> String {
-    let mut line = String::new();
-    let written = Record::new(prefix, kind, key, value).write(&mut line);
-    written.unwrap_or_else(|_| handle_alloc_error(Layout::new::<String>()));
-    line
+    let (mut line, settings) = (String::new(), Settings::new(prefix, "", None, false));
+    let record = Record::new(&settings, kind, key, value);
+    match record.write(&mut line).map_err(|error| error.kind()) {
+        Ok(()) => line,
+        Err(ErrorKind::InvalidInput) => format!("{prefix}{key}:{}|{}", record.value, kind.text()),
+        Err(ErrorKind::IoError) => handle_alloc_error(Layout::new::<String>()),
+    }
 }
 
 macro_rules! metric {
@@ -75,8 +78,8 @@ metric! {
     Gauge:
     /// Makes a gauge of a whole number without a client. The prefix is printed as it is.
     new(u64 => Unsigned);
-    /// Makes a gauge of a float without a client. The prefix is printed as it is. NaN and infinities are printed as
-    /// `NaN`, `inf` and `-inf`, because this call can't return an error. A client refuses them.
+    /// Makes a gauge of a float without a client. The prefix is printed as it is. A float that a client refuses is printed
+    /// as Rust prints it, for example as `NaN`, because this call can't return an error.
     new_f64(f64 => Float);
 }
 
@@ -115,8 +118,8 @@ metric! {
 /// The kind of an error.
 #[derive(PartialEq, Eq, Debug, Hash, Clone, Copy)]
 pub enum ErrorKind {
-    /// The value can't be sent, because a duration doesn't fit 64 bits or a float is NaN or infinite; or the name that
-    /// a sink was made for has no address.
+    /// The value can't be sent, because a duration doesn't fit 64 bits, or a float is NaN, infinite or too large; or the
+    /// client is strict and a text has a separator; or the name that a sink was made for has no address.
     InvalidInput,
     /// A sink, a socket or a lookup failed, or memory ran out. The error's `source` says why.
     IoError,

@@ -23,33 +23,10 @@ pub enum MetricValue {
     Unsigned(u64),
     /// Several unsigned numbers.
     PackedUnsigned(Vec<u64>),
-    /// One float. A client refuses it if it is NaN or infinite.
+    /// One float. A client refuses it if it is NaN, infinite or too large.
     Float(f64),
-    /// Several floats. A client refuses them if one is NaN or infinite.
+    /// Several floats. A client refuses them if one is NaN, infinite or too large.
     PackedFloat(Vec<f64>),
-}
-
-impl MetricValue {
-    /// Returns how many numbers the value has.
-    #[inline]
-    pub(crate) fn count(&self) -> usize {
-        match self {
-            MetricValue::Signed(_) | MetricValue::Unsigned(_) | MetricValue::Float(_) => 1,
-            MetricValue::PackedSigned(values) => values.len(),
-            MetricValue::PackedUnsigned(values) => values.len(),
-            MetricValue::PackedFloat(values) => values.len(),
-        }
-    }
-
-    /// Returns whether each number is finite.
-    #[inline]
-    pub(crate) fn is_finite(&self) -> bool {
-        match self {
-            MetricValue::Float(value) => value.is_finite(),
-            MetricValue::PackedFloat(values) => values.iter().all(|value| value.is_finite()),
-            _ => true,
-        }
-    }
 }
 
 fn join<T: fmt::Display>(f: &mut fmt::Formatter<'_>, values: &[T]) -> fmt::Result {

@@ -40,7 +40,7 @@ fn requests(call: impl Fn()) -> u64 {
 }
 
 #[test]
-fn a_line_is_one_request_and_its_tags_another() {
+fn a_line_is_one_request_and_more_than_four_tags_are_another() {
     let client = StatsdClient::from_sink("p", NopMetricSink);
     assert_eq!(1, requests(|| drop(client.count("k", i64::MIN).unwrap())));
     assert_eq!(1, requests(|| drop(client.gauge("k", 1.25).unwrap())));
@@ -48,8 +48,10 @@ fn a_line_is_one_request_and_its_tags_another() {
     assert_eq!(1, requests(|| client.gauge_with_tags("k", 1e-25).with_sampling_rate(1e-7).with_timestamp(u64::MAX).send()));
     assert_eq!(1, requests(|| client.incr_with_tags("k").with_container_id("box").send()));
     let tagged = || client.count_with_tags("k", 1).with_tag("a", "b").with_tag("c", "d").with_tag_value("e");
-    assert_eq!(2, requests(|| drop(tagged().try_send().unwrap())));
-    assert_eq!(2, requests(|| tagged().with_tag("f", "g").send()));
+    assert_eq!(1, requests(|| drop(tagged().try_send().unwrap())));
+    assert_eq!(1, requests(|| tagged().with_tag("f", "g").send()));
+    assert_eq!(2, requests(|| tagged().with_tag("f", "g").with_tag("h", "i").send()));
+    assert_eq!(2, requests(|| tagged().with_tag("f", "g").with_tag("h", "i").with_tag_value("j").send()));
     let list = requests(|| drop(client.histogram("k", vec![1.5, 2.5, 3.5, 4.5]).unwrap()));
     assert_eq!(2, list, "the list and the line");
 }
@@ -58,7 +60,7 @@ fn a_line_is_one_request_and_its_tags_another() {
 fn a_queue_takes_a_copy_of_the_line() {
     let client = StatsdClient::from_sink("p", QueuingMetricSink::from(NopMetricSink));
     assert_eq!(2, requests(|| drop(client.incr("k").unwrap())));
-    assert_eq!(3, requests(|| client.incr_with_tags("k").with_tag("a", "b").send()));
+    assert_eq!(2, requests(|| client.incr_with_tags("k").with_tag("a", "b").send()));
 }
 
 #[test]

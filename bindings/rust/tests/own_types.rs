@@ -69,7 +69,7 @@ fn send_tells_the_handler_and_the_other_calls_answer() {
     client.count_with_tags("k", 1).with_tag("a", "b").send();
     client.gauge_with_tags("k", f64::NAN).send();
     client.consume_error(MetricError::from((ErrorKind::InvalidInput, "mine")));
-    assert_eq!(vec!["no answer", "a number is NaN or infinite", "mine"], *texts.lock().unwrap());
+    assert_eq!(vec!["no answer", "a float is NaN, infinite or too large", "mine"], *texts.lock().unwrap());
     assert_eq!(ErrorKind::IoError, client.incr("k").unwrap_err().kind());
     assert_eq!("gone", client.flush().unwrap_err().to_string());
     assert_eq!(3, texts.lock().unwrap().len());

@@ -5,3 +5,5 @@ mod AsBox
 pub mod Lines
 pub mod Lists
 pub mod Runs
+mod Variables
+mod Results

@@ -1,63 +1,39 @@
 -- The state of a client of C, and what each call does to it.
 use Rattle.std.specs.Prelude.{◌≡◌, ℕ, ◌+◌, ◌%◌, ◌^◌, ◌≤◌, ◌<◌, ◌==◌, if◌then◌else◌, nat_lt, List, [], ◌∷◌, ◌++◌, length, codes, slice_get}
-use Rattle.std.specs.Prelude.{Option, Some, None, IfSome, Bool, IsTrue, IsFalse, not, nat_le, ◌||◌, OnErr, OnOk, Result}
-use Rattle.cadence_text.specs.Metric.{Tag}
+use Rattle.std.specs.Prelude.{Option, Some, None, IfSome, OnErr, OnOk, Result}
 use Rattle.cadence_value.specs.Number.{Number}
 use Rattle.cadence_flow.specs.Frame.{held_packet}
 use Rattle.cadence_queue.specs.Queue.{new_queue, is_full, after_accept, after_drop}
 use Rattle.cadence_queue.specs.QueueState.{Queue}
 use Rattle.cadence_queue.specs.declared.policy.QueuePolicy.{QueuePolicy}
 use Rattle.cadence_queue.specs.declared.policy.QueuePolicy.TheVariants.{Refuse, DropOldest}
-use Rattle.cadence_settings.specs.Settings.{Settings, settings_of, with_default_tag, with_default_container}
-use Rattle.cadence_settings.specs.Settings.{allows_tag, allows_text, is_free_settings}
-use Rattle.cadence_c.specs.Calls.{IsLineOfCall, allows_call_of_c}
+use Rattle.cadence_c.specs.Texts.{IsLineWith}
+use Rattle.cadence_c.specs.declared.settings.CSettings.{CSettings}
 use Rattle.cadence_c.specs.declared.call.COptions.{COptions}
 use Rattle.cadence_c.specs.Status.{CADENCE_FULL, CADENCE_NO_MEMORY, IsOkOr, status}
 use Rattle.cadence_c.specs.declared.client.CCounts.{CCounts}
 use Rattle.cadence_c.specs.declared.status.StatusError.{StatusError}
 
--- A client's settings, which it adds to each call; the queue of finished packets, which wait for the host; the held
--- text, which becomes the next packet; and the capacity of a packet in bytes. A handle has a state, or none if it has
--- no client.
+-- The queue of finished packets, which wait for the host; the held text, which becomes the next packet; and the capacity
+-- of a packet in bytes. A handle has a state, or none if it has no client.
 pub record ClientState : Type 0 where
-  pub settings : Settings
   pub queue : Queue (List ℕ)
   pub held : List ℕ
   pub capacity : ℕ
 
--- the settings of a new client with this prefix, which is strict or not
-abbrev pub new_settings : List ℕ → Bool → Settings
-new_settings prefix strict = record (settings_of prefix) { strict = strict }
-
--- whether a new client may have this prefix: any client, or if it is strict, one whose prefix has no separator
-abbrev pub allows_prefix : List ℕ → Bool → Bool
-allows_prefix prefix strict = not strict || is_free_settings (settings_of prefix)
-
 -- a new client, which holds no text and no packet; `most` is how many packets may wait
-abbrev pub new_state : Settings → ℕ → ℕ → QueuePolicy → ClientState
-new_state settings capacity most policy =
-    record { settings = settings; queue = new_queue (Some most) policy; held = []; capacity = capacity }
+abbrev pub new_state : ℕ → ℕ → QueuePolicy → ClientState
+new_state capacity most policy =
+    record { queue = new_queue (Some most) policy; held = []; capacity = capacity }
 
--- what is added to the number of a policy for a strict client
-abbrev pub CADENCE_STRICT : ℕ
-CADENCE_STRICT = 256
-
--- the policy that has this number in C, with or without CADENCE_STRICT
+-- the policy that has this number in C
 abbrev pub policy_named : ℕ → Option QueuePolicy
-policy_named n =
-    if n == 0 then Some Refuse else if n == 1 then Some DropOldest else if n == CADENCE_STRICT then Some Refuse
-    else if n == CADENCE_STRICT + 1 then Some DropOldest else None
+policy_named n = if n == 0 then Some Refuse else if n == 1 then Some DropOldest else None
 
--- whether CADENCE_STRICT was added to the number of a policy
-abbrev pub strict_named : ℕ → Bool
-strict_named n = nat_le CADENCE_STRICT n
-
--- The handle has a new client with the policy of the number n, strict if that says so, and at least two packets may
--- wait.
-abbrev pub IsNew : List ℕ → ℕ → ℕ → ℕ → Option ClientState → Type 0
-IsNew prefix capacity most n client =
-    (2 ≤ most) × ((policy : QueuePolicy) × (policy_named n ≡ Some policy)
-    × (client ≡ Some (new_state (new_settings prefix (strict_named n)) capacity most policy)))
+-- The handle has a new client with the policy of the number n, and at least two packets may wait.
+abbrev pub IsNew : ℕ → ℕ → ℕ → Option ClientState → Type 0
+IsNew capacity most n client =
+    (2 ≤ most) × ((policy : QueuePolicy) × (policy_named n ≡ Some policy) × (client ≡ Some (new_state capacity most policy)))
 
 -- a line with its newline
 abbrev pub line_with_newline : List ℕ → List ℕ
@@ -125,6 +101,12 @@ pub record DropsSent (old : ClientState) (packet : List ℕ) (new : ClientState)
   pub oldest : old.queue.waiting ≡ packet ∷ new.queue.waiting
   pub rest : new ≡ record old { queue = record old.queue { waiting = new.queue.waiting; drained = (old.queue.drained + 1) % 2 ^ 64 } }
 
+-- The held text, which is this one, is dropped, because the host has sent it. No packet waits.
+pub record DropsHeld (old : ClientState) (text : List ℕ) (new : ClientState) : Type 0 where
+  pub alone : old.queue.waiting ≡ []
+  pub held : old.held ≡ text
+  pub rest : new ≡ record old { held = [] }
+
 -- These are the counts of the client.
 pub record AreCountsOf (s : ClientState) (c : CCounts) : Type 0 where
   pub held : c.held ≡ length s.held
@@ -133,45 +115,13 @@ pub record AreCountsOf (s : ClientState) (c : CCounts) : Type 0 where
   pub sent : c.sent ≡ s.queue.drained
   pub dropped : c.dropped ≡ s.queue.dropped
 
--- The client keeps the line of the metric that a call means.
-abbrev pub KeepsCall : ℕ → List ℕ → List Number → COptions → ClientState → ClientState → Type 0
-KeepsCall k key numbers o old new = (line : List ℕ) × IsLineOfCall old.settings k key numbers o line × KeepsLine old line new
+-- The client keeps the line of the metric that a call means with these settings.
+abbrev pub KeepsCall : CSettings → ℕ → List ℕ → List Number → COptions → ClientState → ClientState → Type 0
+KeepsCall c k key numbers o old new = (line : List ℕ) × IsLineWith c k key numbers o line × KeepsLine old line new
 
--- The client allows the texts of a call: it is not strict, or none of them has a separator.
-abbrev pub AllowsCall : List ℕ → COptions → ClientState → Type 0
-AllowsCall key o s = IsTrue (allows_call_of_c s.settings key o)
-
--- The client is strict, and a text of a call has a separator.
-abbrev pub ForbidsCall : List ℕ → COptions → ClientState → Type 0
-ForbidsCall key o s = IsFalse (allows_call_of_c s.settings key o)
-
--- The client has no room for the line of the metric that a call means.
-abbrev pub LacksRoomForCall : ℕ → List ℕ → List Number → COptions → ClientState → Type 0
-LacksRoomForCall k key numbers o s = (line : List ℕ) × IsLineOfCall s.settings k key numbers o line × LacksRoomForLine s line
-
--- The client adds a default tag.
-abbrev pub AddsClientTag : Tag → ClientState → ClientState → Type 0
-AddsClientTag tag old new = new ≡ record old { settings = with_default_tag old.settings tag }
-
--- The client allows a tag: it is not strict, or the tag has no separator.
-abbrev pub AllowsTag : Tag → ClientState → Type 0
-AllowsTag tag s = IsTrue (allows_tag s.settings tag)
-
--- The client is strict, and a tag has a separator.
-abbrev pub ForbidsTag : Tag → ClientState → Type 0
-ForbidsTag tag s = IsFalse (allows_tag s.settings tag)
-
--- The client sets its default container.
-abbrev pub SetsDefaultContainer : List ℕ → ClientState → ClientState → Type 0
-SetsDefaultContainer container old new = new ≡ record old { settings = with_default_container old.settings container }
-
--- The client allows a text: it is not strict, or the text has no separator.
-abbrev pub AllowsText : List ℕ → ClientState → Type 0
-AllowsText text s = IsTrue (allows_text s.settings text)
-
--- The client is strict, and a text has a separator.
-abbrev pub ForbidsText : List ℕ → ClientState → Type 0
-ForbidsText text s = IsFalse (allows_text s.settings text)
+-- The client has no room for the line of the metric that a call means with these settings.
+abbrev pub LacksRoomForCall : CSettings → ℕ → List ℕ → List Number → COptions → ClientState → Type 0
+LacksRoomForCall c k key numbers o s = (line : List ℕ) × IsLineWith c k key numbers o line × LacksRoomForLine s line
 
 -- The client makes a packet of its held text, if there is any.
 abbrev pub PacksHeld : ClientState → ClientState → Type 0

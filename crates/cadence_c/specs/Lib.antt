@@ -1,5 +1,8 @@
 pub mod Status
 pub mod Calls
+pub mod Texts
+pub mod Tested
+pub mod Environment
 pub mod ClientState
 pub mod Results
 pub mod Slot

@@ -2,11 +2,15 @@
 //! that take a handle. `include/cadence.h` declares each call and says which statuses it returns. The modules:
 //! - `call`: the arguments of a call of C, and their conversion
 //! - `value`: the values of a call
+//! - `settings`: the settings, as texts that the host keeps
+//! - `texts`: the calls that make the texts of settings
+//! - `environment`: what the variables of the environment say
 //! - `line`: the line of a call
-//! - `format`: the calls that need no client
+//! - `format`: the calls that write a line and need no client
+//! - `floats`: the decimals of floats
 //! - `status`: the statuses that calls return, and the copy of a text into a buffer of C
 //! - `packet`: a finished packet
-//! - `client`: a client, with its settings, its held text and its queue of packets
+//! - `client`: a client, with its held text and its queue of packets
 //! - `box_parts` and `handle`: a `Box` taken apart, and the handle that C stores
 //! - `laws`: what holds after many calls
 #![tactic(auto)]
@@ -14,82 +18,71 @@
 mod box_parts;
 mod call;
 mod client;
+mod environment;
+mod floats;
 mod format;
 mod handle;
 mod laws;
 mod line;
 mod packet;
+mod settings;
 mod status;
+mod texts;
 mod value;
 
-ghost use Rattle.std.specs.Prelude.{◌≡◌, ◌≢◌, ◌⊎◌, ◌≤◌, ◌<◌, [], ◌∷◌, IsFalse, IsTrue, None, Some, length, map, take};
-ghost use Rattle.std.specs.Str.{IsUtf8};
+ghost use Rattle.std.specs.Prelude.{◌≡◌, ◌≢◌, ◌⊎◌, ◌≤◌, ◌<◌, [], ◌∷◌, None, Some, length, map, take, true};
 ghost use Rattle.cadence_value.specs.Number.{natural, whole};
 ghost use Rattle.cadence_value.specs.Values.{numbers_of};
 ghost use Rattle.cadence_c.specs.Handle.{client_of, IsOpenAnd, OnOpen};
 ghost use Rattle.cadence_c.specs.Results.{Keeps, UnchangedUnlessOk};
-ghost use Rattle.cadence_c.specs.Calls.{AreValidDecimals, AreNumbersOf, IsUtf8IfKnown, IsUtf8Tag, c_tag, durations_of};
-ghost use Rattle.cadence_c.specs.ClientState.{allows_prefix, policy_named, strict_named, AddsClientTag, AllowsTag, AllowsText, AreCountsOf, DropsOldest, PacksHeld, ForbidsTag, ForbidsText, HasNoPacket, IsNew, IsOldest, IsOldestLength, KeepsLine, LacksRoomForHeld, LacksRoomForLine, SetsDefaultContainer};
-ghost use Rattle.cadence_c.specs.Status.{CADENCE_FULL, CADENCE_INVALID, CADENCE_NOT_UTF8, CADENCE_NO_CLIENT, CADENCE_NO_MEMORY, CADENCE_NO_PACKET, CADENCE_OK, CADENCE_SEPARATOR, CADENCE_TOO_SMALL, IsOkOr};
+ghost use Rattle.cadence_c.specs.Calls.{AreFloatsInRange, AreNumbersOf, AreNumbersOfFloats, AreValidDecimals, IsUtf8IfKnown, durations_of};
+ghost use Rattle.cadence_c.specs.Texts.{IsUtf8Settings};
+ghost use Rattle.cadence_c.specs.ClientState.{policy_named, AreCountsOf, DropsHeld, DropsOldest, PacksHeld, HasNoPacket, IsNew, IsOldest, IsOldestLength, KeepsLine, LacksRoomForHeld, LacksRoomForLine};
+ghost use Rattle.cadence_c.specs.Status.{CADENCE_FULL, CADENCE_INVALID, CADENCE_NO_CLIENT, CADENCE_NO_MEMORY, CADENCE_NO_PACKET, CADENCE_OK, CADENCE_TOO_SMALL, IsOkOr};
 
 use cadence_queue::QueuePolicy;
 use cadence_value::value::MetricValue;
-use call::{CDecimal, COptions, CTag, tag_of, text_of};
+use call::{CDecimal, COptions};
 use client::{CCounts, Client};
 use handle::Handle;
+use settings::CSettings;
 use status::{NO_CLIENT, OK, StatusError, status_of};
 use std::alloc::Global;
-use value::{decimal_value, duration_value, signed_value, unsigned_value};
+use value::{decimal_value, duration_value, floating_value, signed_value, unsigned_value};
 
-// `CADENCE_STRICT`: what is added to the number of a policy for a strict client.
-const STRICT: u32 = 256;
-
-// Returns the policy that has this number in C, with or without `CADENCE_STRICT`, if one has it.
+// Returns the policy that has this number in C, if one has it.
 fn policy_of(policy: u32) -> Option<QueuePolicy>
     ensures { result ≡ policy_named policy }
 {
     match policy {
-        0 | 256 => Some(QueuePolicy::Refuse),
-        1 | 257 => Some(QueuePolicy::DropOldest),
+        0 => Some(QueuePolicy::Refuse),
+        1 => Some(QueuePolicy::DropOldest),
         _ => None,
     }
 }
 
 /// Makes a client in a handle, and drops an earlier one there. `capacity` is how many bytes a packet holds, `packets`
-/// is how many packets may wait, at least two, and `policy` says what the client does if one more would wait, and
-/// whether it is strict.
+/// is how many packets may wait, at least two, and `policy` says what the client does if one more would wait.
 #[unsafe(no_mangle)]
-pub extern "C" fn cadence_new(
+pub extern "C" fn cadence_open(
     alloc: Global,
     handle: &mut Handle,
-    prefix: &[u8],
     capacity: usize,
     packets: usize,
     policy: u32,
 ) -> u32
-    ensures made { result ≡ CADENCE_OK →
-        IsNew prefix.now capacity packets policy (client_of handle.new) }
+    ensures made { result ≡ CADENCE_OK → IsNew capacity packets policy (client_of handle.new) }
     ensures refused { result ≢ CADENCE_OK → client_of handle.new ≡ client_of handle.old }
-    ensures text { result ≡ CADENCE_NOT_UTF8 → IsUtf8 prefix.now → ⊥ }
-    ensures allowed { result ≡ CADENCE_OK →
-        IsTrue (allows_prefix prefix.now (strict_named policy)) }
-    ensures forbidden { result ≡ CADENCE_SEPARATOR →
-        IsFalse (allows_prefix prefix.now (strict_named policy)) }
     ensures invalid { result ≡ CADENCE_INVALID → (policy_named policy ≡ None) ⊎ (packets < 2) }
-    ensures statuses { IsOkOr (CADENCE_NO_MEMORY ∷ CADENCE_INVALID ∷ CADENCE_NOT_UTF8
-        ∷ CADENCE_SEPARATOR ∷ []) result }
+    ensures statuses { IsOkOr (CADENCE_NO_MEMORY ∷ CADENCE_INVALID ∷ []) result }
 {
-    let Some(prefix) = text_of(prefix) else {
-        return StatusError::NotUtf8.code();
-    };
-    let strict = policy >= STRICT;
     let Some(policy) = policy_of(policy) else {
         return StatusError::Invalid.code();
     };
     if packets < 2 {
         return StatusError::Invalid.code();
     }
-    let client = match Client::new(alloc, prefix, strict, capacity, packets, policy) {
+    let client = match Client::new(alloc, capacity, packets, policy) {
         Ok(client) => client,
         Err(error) => return error.code(),
     };
@@ -108,73 +101,27 @@ pub extern "C" fn cadence_free(alloc: Global, handle: &mut Handle)
     *handle = Handle::empty(alloc);
 }
 
-/// Adds a default tag after the others. Later calls print it.
-#[unsafe(no_mangle)]
-pub extern "C" fn cadence_add_tag(alloc: Global, handle: &mut Handle, tag: &CTag<'_>) -> u32
-    ensures added { result ≡ CADENCE_OK →
-        OnOpen (AddsClientTag (c_tag tag.now)) handle.old handle.new }
-    ensures allowed { result ≡ CADENCE_OK → IsOpenAnd handle.old (AllowsTag (c_tag tag.now)) }
-    ensures forbidden { result ≡ CADENCE_SEPARATOR →
-        IsOpenAnd handle.old (ForbidsTag (c_tag tag.now)) }
-    ensures refused { UnchangedUnlessOk result handle.old handle.new }
-    ensures text { result ≡ CADENCE_NOT_UTF8 → IsUtf8Tag tag.now → ⊥ }
-    ensures statuses { IsOkOr (CADENCE_NO_CLIENT ∷ CADENCE_NO_MEMORY ∷ CADENCE_NOT_UTF8
-        ∷ CADENCE_SEPARATOR ∷ []) result }
-{
-    let Some(tag) = tag_of(tag) else {
-        return StatusError::NotUtf8.code();
-    };
-    let Some(mut client) = handle.take(alloc) else {
-        return NO_CLIENT;
-    };
-    let status = status_of(client.add_tag(tag));
-    handle.put(client);
-    status
-}
-
-/// Sets the default container, in place of an earlier one. Later calls print it.
-#[unsafe(no_mangle)]
-pub extern "C" fn cadence_set_container(alloc: Global, handle: &mut Handle, container: &[u8]) -> u32
-    ensures set { result ≡ CADENCE_OK →
-        OnOpen (SetsDefaultContainer container.now) handle.old handle.new }
-    ensures allowed { result ≡ CADENCE_OK → IsOpenAnd handle.old (AllowsText container.now) }
-    ensures forbidden { result ≡ CADENCE_SEPARATOR →
-        IsOpenAnd handle.old (ForbidsText container.now) }
-    ensures refused { UnchangedUnlessOk result handle.old handle.new }
-    ensures text { result ≡ CADENCE_NOT_UTF8 → IsUtf8 container.now → ⊥ }
-    ensures statuses { IsOkOr (CADENCE_NO_CLIENT ∷ CADENCE_NO_MEMORY ∷ CADENCE_NOT_UTF8
-        ∷ CADENCE_SEPARATOR ∷ []) result }
-{
-    let Some(container) = text_of(container) else {
-        return StatusError::NotUtf8.code();
-    };
-    let Some(mut client) = handle.take(alloc) else {
-        return NO_CLIENT;
-    };
-    let status = status_of(client.set_container(container));
-    handle.put(client);
-    status
-}
-
 // Keeps the line of a call's value.
 // Without this hint a counter of `bindings/c/speed.c` takes 11 instructions more.
 #[inline(always)]
 fn keep(
     alloc: Global,
     handle: &mut Handle,
+    settings: &CSettings<'_>,
     kind: u32,
     key: &[u8],
     value: MetricValue,
     options: &COptions<'_>,
 ) -> u32
-    requires { IsUtf8IfKnown key.now options.now }
-    ensures { Keeps result kind key.now (λ ns. ns ≡ numbers_of value) ⊥ options.now
+    requires settings { options.now.known ≡ true → IsUtf8Settings settings.now }
+    requires texts { IsUtf8IfKnown key.now options.now }
+    ensures { Keeps result settings.now kind key.now (λ ns. ns ≡ numbers_of value) ⊥ options.now
         handle.old handle.new }
 {
     let Some(mut client) = handle.take(alloc) else {
         return NO_CLIENT;
     };
-    let status = status_of(client.keep(alloc, kind, key, value, options));
+    let status = status_of(client.keep(alloc, settings, kind, key, value, options));
     handle.put(client);
     status
 }
@@ -184,17 +131,19 @@ fn keep(
 pub extern "C" fn cadence_signed(
     alloc: Global,
     handle: &mut Handle,
+    settings: &CSettings<'_>,
     kind: u32,
     key: &[u8],
     values: &[i64],
     options: &COptions<'_>,
 ) -> u32
-    requires { IsUtf8IfKnown key.now options.now }
-    ensures { Keeps result kind key.now (λ ns. ns ≡ map whole values.now)
+    requires settings { options.now.known ≡ true → IsUtf8Settings settings.now }
+    requires texts { IsUtf8IfKnown key.now options.now }
+    ensures { Keeps result settings.now kind key.now (λ ns. ns ≡ map whole values.now)
         ⊥ options.now handle.old handle.new }
 {
     match signed_value(alloc, values) {
-        Ok(value) => keep(alloc, handle, kind, key, value, options),
+        Ok(value) => keep(alloc, handle, settings, kind, key, value, options),
         Err(error) => error.code(),
     }
 }
@@ -204,17 +153,19 @@ pub extern "C" fn cadence_signed(
 pub extern "C" fn cadence_unsigned(
     alloc: Global,
     handle: &mut Handle,
+    settings: &CSettings<'_>,
     kind: u32,
     key: &[u8],
     values: &[u64],
     options: &COptions<'_>,
 ) -> u32
-    requires { IsUtf8IfKnown key.now options.now }
-    ensures { Keeps result kind key.now (λ ns. ns ≡ map natural values.now)
+    requires settings { options.now.known ≡ true → IsUtf8Settings settings.now }
+    requires texts { IsUtf8IfKnown key.now options.now }
+    ensures { Keeps result settings.now kind key.now (λ ns. ns ≡ map natural values.now)
         ⊥ options.now handle.old handle.new }
 {
     match unsigned_value(alloc, values) {
-        Ok(value) => keep(alloc, handle, kind, key, value, options),
+        Ok(value) => keep(alloc, handle, settings, kind, key, value, options),
         Err(error) => error.code(),
     }
 }
@@ -224,17 +175,41 @@ pub extern "C" fn cadence_unsigned(
 pub extern "C" fn cadence_decimal(
     alloc: Global,
     handle: &mut Handle,
+    settings: &CSettings<'_>,
     kind: u32,
     key: &[u8],
     values: &[CDecimal],
     options: &COptions<'_>,
 ) -> u32
-    requires { IsUtf8IfKnown key.now options.now }
-    ensures { Keeps result kind key.now (AreNumbersOf values.now)
+    requires settings { options.now.known ≡ true → IsUtf8Settings settings.now }
+    requires texts { IsUtf8IfKnown key.now options.now }
+    ensures { Keeps result settings.now kind key.now (AreNumbersOf values.now)
         (AreValidDecimals values.now → ⊥) options.now handle.old handle.new }
 {
     match decimal_value(alloc, values) {
-        Ok(value) => keep(alloc, handle, kind, key, value, options),
+        Ok(value) => keep(alloc, handle, settings, kind, key, value, options),
+        Err(error) => error.code(),
+    }
+}
+
+/// Keeps the line of a metric of floats. In a timer they are rounded to six places.
+#[unsafe(no_mangle)]
+pub extern "C" fn cadence_floating(
+    alloc: Global,
+    handle: &mut Handle,
+    settings: &CSettings<'_>,
+    kind: u32,
+    key: &[u8],
+    values: &[f64],
+    options: &COptions<'_>,
+) -> u32
+    requires settings { options.now.known ≡ true → IsUtf8Settings settings.now }
+    requires texts { IsUtf8IfKnown key.now options.now }
+    ensures { Keeps result settings.now kind key.now (AreNumbersOfFloats kind values.now)
+        (AreFloatsInRange values.now → ⊥) options.now handle.old handle.new }
+{
+    match floating_value(alloc, kind, values) {
+        Ok(value) => keep(alloc, handle, settings, kind, key, value, options),
         Err(error) => error.code(),
     }
 }
@@ -245,17 +220,19 @@ pub extern "C" fn cadence_decimal(
 pub extern "C" fn cadence_duration(
     alloc: Global,
     handle: &mut Handle,
+    settings: &CSettings<'_>,
     kind: u32,
     key: &[u8],
     nanos: &[u64],
     options: &COptions<'_>,
 ) -> u32
-    requires { IsUtf8IfKnown key.now options.now }
-    ensures { Keeps result kind key.now (λ ns. durations_of kind nanos.now ≡ Some ns)
+    requires settings { options.now.known ≡ true → IsUtf8Settings settings.now }
+    requires texts { IsUtf8IfKnown key.now options.now }
+    ensures { Keeps result settings.now kind key.now (λ ns. durations_of kind nanos.now ≡ Some ns)
         (durations_of kind nanos.now ≡ None) options.now handle.old handle.new }
 {
     match duration_value(alloc, kind, nanos) {
-        Ok(value) => keep(alloc, handle, kind, key, value, options),
+        Ok(value) => keep(alloc, handle, settings, kind, key, value, options),
         Err(error) => error.code(),
     }
 }
@@ -334,6 +311,51 @@ pub extern "C" fn cadence_sent(alloc: Global, handle: &mut Handle) -> u32
         return NO_CLIENT;
     };
     let status = status_of(client.drop_oldest());
+    handle.put(client);
+    status
+}
+
+/// Copies the held text into the first bytes of `buf`, and writes its length into `size`. The text stays held.
+#[unsafe(no_mangle)]
+pub extern "C" fn cadence_held(
+    alloc: Global,
+    handle: &mut Handle,
+    buf: &mut [u8],
+    size: &mut usize,
+) -> u32
+    ensures copied { result ≡ CADENCE_OK →
+        IsOpenAnd handle.old (λ s. take size.new buf.new ≡ s.held) }
+    ensures within { result ≡ CADENCE_OK → size.new ≤ length buf.new }
+    ensures told { result ≡ CADENCE_TOO_SMALL →
+        IsOpenAnd handle.old (λ s. size.new ≡ length s.held) }
+    ensures small { result ≡ CADENCE_TOO_SMALL → length buf.new < size.new }
+    ensures closed { result ≡ CADENCE_NO_CLIENT → client_of handle.old ≡ None }
+    ensures nothing { result ≡ CADENCE_NO_CLIENT → size.new ≡ 0 }
+    ensures kept { client_of handle.new ≡ client_of handle.old }
+    ensures statuses { IsOkOr (CADENCE_NO_CLIENT ∷ CADENCE_TOO_SMALL ∷ []) result }
+{
+    *size = 0;
+    let Some(client) = handle.take(alloc) else {
+        return NO_CLIENT;
+    };
+    let status = client.copy_held(buf, size);
+    handle.put(client);
+    status
+}
+
+/// Drops the held text, because the host has sent it. No packet may wait, because packets come before the held text.
+#[unsafe(no_mangle)]
+pub extern "C" fn cadence_drop_held(alloc: Global, handle: &mut Handle) -> u32
+    ensures dropped { result ≡ CADENCE_OK →
+        OnOpen (λ s t. DropsHeld s s.held t) handle.old handle.new }
+    ensures refused { UnchangedUnlessOk result handle.old handle.new }
+    ensures full { result ≡ CADENCE_FULL → IsOpenAnd handle.old (λ s. HasNoPacket s → ⊥) }
+    ensures statuses { IsOkOr (CADENCE_NO_CLIENT ∷ CADENCE_FULL ∷ []) result }
+{
+    let Some(mut client) = handle.take(alloc) else {
+        return NO_CLIENT;
+    };
+    let status = status_of(client.drop_held());
     handle.put(client);
     status
 }

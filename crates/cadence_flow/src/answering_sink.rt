@@ -1,8 +1,10 @@
 //! The one body of `emit` and of `flush` of the library's own sinks.
 //!
-//! A sink of the library doesn't answer a line by a number of its own. Its `emit_line` returns an answer that only the
-//! packer, the queue, or what counts the packets of its socket, can make. Nobody can let such an answer go, and only `emit_by` opens
-//! it. So an `emit_line` that does nothing, or writes a line twice, doesn't compile.
+//! A sink of the library doesn't answer a line by a number of its own. Its `emit_line`, or that of what the sink is made
+//! of, returns an answer that only the packer, the queue, or what counts the packets of its socket, can make. Nobody can
+//! let such an answer go, and only `emit_by` opens it. So an `emit_line` that does nothing, or writes a line twice,
+//! doesn't compile.
+ghost use Rattle.std.specs.Option.{ok_or};
 ghost use Rattle.std.specs.Prelude.{◌≡◌, List, ℕ, Result};
 ghost use Rattle.cadence_errors.specs.declared.SinkError.{SinkError};
 ghost use Rattle.cadence_flow.specs.Answered.{IsAnswered, IsFlushAnswered};
@@ -32,7 +34,7 @@ pub trait Closed {
     fn close(self, by: Opener);
 }
 
-/// A sink of the library. Its answers are made by what takes the line, and by nothing else.
+/// A sink of the library, or what it is made of. Its answers are made by what takes the line, and by nothing else.
 ///
 /// The error of a refused line is in `fault`, because a `Result` with an error in it is as wide as the widest error, and
 /// each function that passes one on copies all of it.
@@ -54,7 +56,7 @@ pub trait AnsweringSink: Drop {
         ensures shows { shows self.now line.now result fault.new };
 }
 
-/// A sink of the library that holds text. The answer for a flush is made by what holds the text, and by nothing else.
+/// A sink of the library that holds text, or what it is made of. The answer for a flush is made by what holds the text, and by nothing else.
 pub trait AnsweringFlush: Drop {
     /// The answer for a flush that succeeded.
     type Flushed: Closed;
@@ -73,42 +75,41 @@ pub trait AnsweringFlush: Drop {
         ensures shows { shows_flush self.now result fault.new };
 }
 
-/// Gives a line to a sink of the library, and returns what its answer says. This is the body of `emit` of each of these
-/// sinks. Only its results are answered, in the sense of `IsAnswered`, so none of these sinks can answer by itself.
+/// Gives a line to a sink of the library, and returns what its answer says. After an error that is `None`, and the error
+/// is in `fault`. Each sink of the library calls this in its `emit`. Only these results are answered, in the sense of
+/// `IsAnswered`, so none of these sinks can answer by itself.
 // Each sink has an `impl` of `MetricSink` of its own over these two functions. One `impl` for all of them can't make a
 // box of a sink that is dropped by code.
 #[inline(always)]
-pub fn emit_by<S: AnsweringSink>(sink: &S, line: &str) -> Result<usize, SinkError>
-    ensures may { S.may_answer sink.now line.now result }
-    ensures answered { IsAnswered line.now result }
+pub fn emit_by<S: AnsweringSink>(sink: &S, line: &str, fault: &mut SinkError) -> Option<usize>
+    ensures may { S.may_answer sink.now line.now (ok_or result fault.new) }
+    ensures answered { IsAnswered line.now (ok_or result fault.new) }
 {
     answers();
-    let mut fault = SinkError::NothingWritten;
-    match sink.emit_line(line, &mut fault) {
-        Ok(took) => Ok(took.open(Opener { of: () })),
+    match sink.emit_line(line, fault) {
+        Ok(took) => Some(took.open(Opener { of: () })),
         Err(refused) => {
             refused.close(Opener { of: () });
-            Err(fault)
+            None
         }
     }
 }
 
-/// Flushes a sink of the library. This is the body of `flush` of each of these sinks that holds text. Its results are
-/// answered too.
-pub fn flush_by<S: AnsweringFlush>(sink: &S) -> Result<(), SinkError>
-    ensures may { S.may_flush sink.now result }
-    ensures answered { IsFlushAnswered result }
+/// Flushes a sink of the library, and returns what its answer says, as `emit_by` does for a line. Each sink of the
+/// library that holds text calls this in its `flush`.
+pub fn flush_by<S: AnsweringFlush>(sink: &S, fault: &mut SinkError) -> Option<()>
+    ensures may { S.may_flush sink.now (ok_or result fault.new) }
+    ensures answered { IsFlushAnswered (ok_or result fault.new) }
 {
     answers();
-    let mut fault = SinkError::NothingWritten;
-    match sink.flush_lines(&mut fault) {
+    match sink.flush_lines(fault) {
         Ok(flushed) => {
             flushed.close(Opener { of: () });
-            Ok(())
+            Some(())
         }
         Err(refused) => {
             refused.close(Opener { of: () });
-            Err(fault)
+            None
         }
     }
 }

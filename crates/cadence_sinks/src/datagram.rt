@@ -6,14 +6,16 @@ ghost use Rattle.cadence_errors.specs.declared.SinkError.{SinkError};
 ghost use Rattle.cadence_flow.specs.Unread.{len_of, count_taken};
 ghost use Rattle.cadence_flow.specs.Writer.{history_of};
 ghost use Rattle.cadence_flow.specs.Opened.{opened};
-ghost use Rattle.cadence_flow.specs.Sent.{bytes_sent};
 ghost use Rattle.cadence_sinks.specs.Buffers.{buffer_of};
 ghost use Rattle.cadence_sinks.specs.Sockets.{IsBufferedAnswer, IsBufferedFlush, IsSocketAnswer, socket_kind};
 
 use cadence_errors::{MetricResult, SinkError};
 use cadence_flow::io::{PacketWriter, Refusals};
 use cadence_flow::stats::{SinkStats, Unread};
-use cadence_flow::{Dropped, Flushed, Packed, RecordedPacker, Refused, Sent, SocketStats, acquire};
+use cadence_flow::{
+    AnsweringFlush, AnsweringSink, Dropped, Flushed, Packed, RecordedPacker, Refused, Sent,
+    SocketStats, acquire,
+};
 use std::alloc::Allocator;
 use std::sync::{Mutex, Wait};
 
@@ -58,18 +60,24 @@ impl<D: DatagramSocket, R: Wait + Drop, A: Allocator> CountedSocket<D, R, A> {
         Ok(CountedSocket { socket, stats })
     }
 
-    /// Sends a line alone, and counts the result.
-    pub fn send_line(&self, line: &str, fault: &mut SinkError) -> Result<Sent, Dropped>
-        ensures { IsSocketAnswer D.may_give line.now (opened bytes_sent result fault.new) }
-    {
-        let packet = line.as_bytes();
-        self.stats
-            .count_line(self.socket.send(packet, fault), packet.len())
-    }
-
     /// Returns the counts of this moment.
     pub fn stats(&self) -> SinkStats {
         SinkStats::from(&self.stats)
+    }
+}
+
+/// A line is sent alone, and the result is counted.
+impl<D: DatagramSocket, R: Wait + Drop, A: Allocator> AnsweringSink for CountedSocket<D, R, A> {
+    type Took = Sent;
+
+    type Refused = Dropped;
+
+    ghost may_answer = { λ _ line answer. IsSocketAnswer D.may_give line answer };
+
+    fn emit_line(&self, line: &str, fault: &mut SinkError) -> Result<Self::Took, Self::Refused> {
+        let packet = line.as_bytes();
+        self.stats
+            .count_line(self.socket.send(packet, fault), packet.len())
     }
 }
 
@@ -156,37 +164,9 @@ impl<D: DatagramSocket, R: Wait + Clone + Drop, A: Allocator + Clone> PackedSock
 
 impl<D: DatagramSocket, R: Wait + Drop, A: Allocator> PackedSocket<D, R, A> {
     ghost use Rattle.cadence_flow.specs.Packer.{Fits};
-    ghost use Rattle.cadence_flow.specs.Opened.{opened_flush};
     ghost use Rattle.cadence_flow.specs.Packed.{bytes_of};
     ghost use Rattle.cadence_flow.specs.RecordedPacker.{packer_of};
-    ghost use Rattle.cadence_sinks.specs.Shows.{SocketShows, SocketShowsFlush};
-
-    /// Buffers or sends the line of a metric, under the lock. There are three cases:
-    ///
-    /// 1. The line and its newline fit into the free room of the buffer. They are held, and nothing is sent.
-    /// 2. They fit into an empty buffer, but not into the free room. The held text is sent, and then they are held.
-    /// 3. They don't fit into an empty buffer. The held text is sent, and then the line alone, without the newline.
-    ///
-    /// The answer has the line's length, or in the third case how many bytes of the line the socket took. After an error
-    /// nothing of the line is held. The error in `fault` is the socket's, or `NothingWritten` if the socket took 0 bytes
-    /// of the held text. The answer shows the packer before and after it took or refused this line.
-    // Without this hint a line of `bench udp 512 20` takes 21 instructions more.
-    #[inline(always)]
-    pub fn emit_line(
-        &self,
-        line: &str,
-        fault: &mut SinkError,
-    ) -> Result<Packed<SocketLines<D, R, A>>, Refused<SocketLines<D, R, A>>>
-        ensures answer { IsBufferedAnswer D.may_give (buffer_of self.now)
-            line.now (opened bytes_of result fault.new) }
-        ensures shows { SocketShows D.may_give (buffer_of self.now) line.now result fault.new }
-    {
-        let mut lines = acquire(&self.writer, &self.rt);
-        match lines.hold(line.as_bytes()) {
-            Some(packed) => Ok(packed),
-            None => self.emit_late(&mut *lines, line, fault),
-        }
-    }
+    ghost use Rattle.cadence_sinks.specs.Shows.{SocketShows};
 
     // Takes a line that doesn't fit into the free room of the buffer. It is a function of its own, so that the first
     // case of `emit_line` is short. A line that fits into an empty buffer is never cut, so its answer has the line's
@@ -208,21 +188,59 @@ impl<D: DatagramSocket, R: Wait + Drop, A: Allocator> PackedSocket<D, R, A> {
         }
     }
 
-    /// Sends the held text. The error is the socket's, or `NothingWritten` if the socket took 0 bytes. What the socket
-    /// didn't take stays held. The answer shows the packer before and after this flush.
-    pub fn flush_lines(
-        &self,
-        fault: &mut SinkError,
-    ) -> Result<Flushed<SocketLines<D, R, A>>, Refused<SocketLines<D, R, A>>>
-        ensures answer { IsBufferedFlush D.may_give (opened_flush result fault.new) }
-        ensures shows { SocketShowsFlush D.may_give result fault.new }
-    {
-        self.writer.lock(&self.rt).flush(fault)
-    }
-
     /// Returns the counts of this moment.
     pub fn stats(&self) -> SinkStats {
         SinkStats::from(&self.stats)
+    }
+}
+
+/// Buffers or sends a line, under the lock. There are three cases:
+///
+/// 1. The line and its newline fit into the free room of the buffer. They are held, and nothing is sent.
+/// 2. They fit into an empty buffer, but not into the free room. The held text is sent, and then they are held.
+/// 3. They don't fit into an empty buffer. The held text is sent, and then the line alone, without the newline.
+///
+/// The answer has the line's length, or in the third case how many bytes of the line the socket took. After an error
+/// nothing of the line is held. The error in `fault` is the socket's, or `NothingWritten` if the socket took 0 bytes
+/// of the held text. The answer shows the packer before and after it took or refused this line.
+impl<D: DatagramSocket, R: Wait + Drop, A: Allocator> AnsweringSink for PackedSocket<D, R, A> {
+    ghost use Rattle.cadence_sinks.specs.Shows.{SocketShows};
+
+    type Took = Packed<SocketLines<D, R, A>>;
+
+    type Refused = Refused<SocketLines<D, R, A>>;
+
+    ghost may_answer = { λ s line answer.
+        IsBufferedAnswer D.may_give (buffer_of s) line answer };
+
+    ghost shows = { λ s line answer e. SocketShows D.may_give (buffer_of s) line answer e };
+
+    // Without this hint a line of `bench udp 512 20` takes 21 instructions more.
+    #[inline(always)]
+    fn emit_line(&self, line: &str, fault: &mut SinkError) -> Result<Self::Took, Self::Refused> {
+        let mut lines = acquire(&self.writer, &self.rt);
+        match lines.hold(line.as_bytes()) {
+            Some(packed) => Ok(packed),
+            None => self.emit_late(&mut *lines, line, fault),
+        }
+    }
+}
+
+/// Sends the held text. The error is the socket's, or `NothingWritten` if the socket took 0 bytes. What the socket
+/// didn't take stays held. The answer shows the packer before and after this flush.
+impl<D: DatagramSocket, R: Wait + Drop, A: Allocator> AnsweringFlush for PackedSocket<D, R, A> {
+    ghost use Rattle.cadence_sinks.specs.Shows.{SocketShowsFlush};
+
+    type Flushed = Flushed<SocketLines<D, R, A>>;
+
+    type Unflushed = Refused<SocketLines<D, R, A>>;
+
+    ghost may_flush = { λ _ answer. IsBufferedFlush D.may_give answer };
+
+    ghost shows_flush = { λ _ answer e. SocketShowsFlush D.may_give answer e };
+
+    fn flush_lines(&self, fault: &mut SinkError) -> Result<Self::Flushed, Self::Unflushed> {
+        self.writer.lock(&self.rt).flush(fault)
     }
 }
 

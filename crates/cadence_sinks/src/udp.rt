@@ -4,18 +4,14 @@ ghost use Rattle.std.specs.Prelude.{◌≡◌, false, IfOk, IfErr, Some, None, i
 ghost use Rattle.cadence_resolve.specs.Refusals.{IsSocketRefusal, IsTargetRefusal};
 ghost use Rattle.cadence_flow.specs.Answered.{IsAnswered, IsFlushAnswered, answered_by_holding_nothing};
 ghost use Rattle.cadence_sinks.specs.Buffers.{udp_buffer};
-ghost use Rattle.cadence_sinks.specs.Shows.{SocketShows, SocketShowsFlush};
 ghost use Rattle.cadence_sinks.specs.Sockets.{IsBufferedAnswer, IsBufferedFlush, IsSocketAnswer, is_io};
 ghost use Rattle.cadence_sinks.specs.Udp.{SendsTo, period_of, handler_of, looks_up_again, buffered_capacity_of, lookups_of};
 
-use crate::datagram::{CountedSocket, DatagramSocket, PackedSocket, SocketLines};
+use crate::datagram::{CountedSocket, DatagramSocket, PackedSocket};
 use cadence_errors::{MetricResult, SinkError};
 use cadence_flow::io::DEFAULT_CAPACITY;
 use cadence_flow::stats::{SinkStats, Unread};
-use cadence_flow::{
-    AnsweringFlush, AnsweringSink, Dropped, Flushed, Handler, MetricSink, Packed, Refused, Sent,
-    SinkErrorHandler, emit_by, flush_by,
-};
+use cadence_flow::{Handler, MetricSink, SinkErrorHandler, emit_by, flush_by};
 use cadence_resolve::{Resolver, ResolverRuntime, StaticResolver, Target};
 use std::alloc::{Allocator, Global};
 use std::net::{Net, UdpSocket};
@@ -89,18 +85,6 @@ impl<R: Wait + Drop, A: Allocator> UdpMetricSink<R, A> {
     }
 }
 
-impl<R: Wait + Drop, A: Allocator> AnsweringSink for UdpMetricSink<R, A> {
-    type Took = Sent;
-
-    type Refused = Dropped;
-
-    ghost may_answer = { λ _ line answer. IsSocketAnswer is_io line answer };
-
-    fn emit_line(&self, line: &str, fault: &mut SinkError) -> Result<Self::Took, Self::Refused> {
-        self.socket.send_line(line, fault)
-    }
-}
-
 impl<R: Wait + Drop, A: Allocator> MetricSink for UdpMetricSink<R, A> {
     ghost may_answer = { λ _ line answer.
         IsSocketAnswer is_io line answer × IsAnswered line answer };
@@ -109,7 +93,8 @@ impl<R: Wait + Drop, A: Allocator> MetricSink for UdpMetricSink<R, A> {
 
     #[inline(always)]
     fn emit(&self, line: &str) -> Result<usize, SinkError> {
-        emit_by(self, line)
+        let mut fault = SinkError::NothingWritten;
+        emit_by(&self.socket, line, &mut fault).ok_or(fault)
     }
 
     fn stats(&self) -> SinkStats {
@@ -248,36 +233,6 @@ impl<R: Wait + Drop, A: Allocator> BufferedUdpMetricSink<R, A> {
     }
 }
 
-impl<R: Wait + Drop, A: Allocator> AnsweringSink for BufferedUdpMetricSink<R, A> {
-    type Took = Packed<SocketLines<UdpPeer<R, A>, R, A>>;
-
-    type Refused = Refused<SocketLines<UdpPeer<R, A>, R, A>>;
-
-    ghost may_answer = { λ s line answer. IsBufferedAnswer is_io (udp_buffer s) line answer };
-
-    ghost shows = { λ s line answer e. SocketShows is_io (udp_buffer s) line answer e };
-
-    // Without this hint a line of `bench udp 512 20` takes 64 instructions more.
-    #[inline(always)]
-    fn emit_line(&self, line: &str, fault: &mut SinkError) -> Result<Self::Took, Self::Refused> {
-        self.socket.emit_line(line, fault)
-    }
-}
-
-impl<R: Wait + Drop, A: Allocator> AnsweringFlush for BufferedUdpMetricSink<R, A> {
-    type Flushed = Flushed<SocketLines<UdpPeer<R, A>, R, A>>;
-
-    type Unflushed = Refused<SocketLines<UdpPeer<R, A>, R, A>>;
-
-    ghost may_flush = { λ _ answer. IsBufferedFlush is_io answer };
-
-    ghost shows_flush = { λ _ answer e. SocketShowsFlush is_io answer e };
-
-    fn flush_lines(&self, fault: &mut SinkError) -> Result<Self::Flushed, Self::Unflushed> {
-        self.socket.flush_lines(fault)
-    }
-}
-
 impl<R: Wait + Drop, A: Allocator> MetricSink for BufferedUdpMetricSink<R, A> {
     ghost may_answer = { λ s line answer.
         IsBufferedAnswer is_io (udp_buffer s) line answer × IsAnswered line answer };
@@ -288,11 +243,13 @@ impl<R: Wait + Drop, A: Allocator> MetricSink for BufferedUdpMetricSink<R, A> {
 
     #[inline(always)]
     fn emit(&self, line: &str) -> Result<usize, SinkError> {
-        emit_by(self, line)
+        let mut fault = SinkError::NothingWritten;
+        emit_by(&self.socket, line, &mut fault).ok_or(fault)
     }
 
     fn flush(&self) -> Result<(), SinkError> {
-        flush_by(self)
+        let mut fault = SinkError::NothingWritten;
+        flush_by(&self.socket, &mut fault).ok_or(fault)
     }
 
     fn stats(&self) -> SinkStats {

@@ -4,18 +4,14 @@ ghost use Rattle.cadence_errors.specs.Errors.{MayOnlyRunOutOfMemory};
 ghost use Rattle.cadence_errors.specs.declared.SinkError.{SinkError};
 ghost use Rattle.cadence_flow.specs.Answered.{IsAnswered, IsFlushAnswered, answered_by_holding_nothing};
 ghost use Rattle.cadence_sinks.specs.Buffers.{unix_buffer};
-ghost use Rattle.cadence_sinks.specs.Shows.{SocketShows, SocketShowsFlush};
 ghost use Rattle.cadence_sinks.specs.Sockets.{IsBufferedAnswer, IsBufferedFlush, IsSocketAnswer};
 ghost use Rattle.cadence_sinks.specs.Unix.{unix_path};
 
-use super::datagram::{CountedSocket, DatagramSocket, PackedSocket, SocketLines};
+use super::datagram::{CountedSocket, DatagramSocket, PackedSocket};
 use cadence_errors::{MetricResult, SinkError};
 use cadence_flow::io::DEFAULT_CAPACITY;
 use cadence_flow::stats::{SinkStats, Unread};
-use cadence_flow::{
-    AnsweringFlush, AnsweringSink, Dropped, Flushed, MetricSink, Packed, Refused, Sent, emit_by,
-    flush_by,
-};
+use cadence_flow::{MetricSink, emit_by, flush_by};
 use std::alloc::{Allocator, Global};
 use std::sync::Wait;
 
@@ -77,18 +73,6 @@ impl<P: PathSocket, R: Wait + Drop, A: Allocator + Clone> UnixMetricSink<P, R, A
     }
 }
 
-impl<P: PathSocket, R: Wait + Drop, A: Allocator> AnsweringSink for UnixMetricSink<P, R, A> {
-    type Took = Sent;
-
-    type Refused = Dropped;
-
-    ghost may_answer = { λ _ line answer. IsSocketAnswer P.may_give line answer };
-
-    fn emit_line(&self, line: &str, fault: &mut SinkError) -> Result<Self::Took, Self::Refused> {
-        self.socket.send_line(line, fault)
-    }
-}
-
 impl<P: PathSocket, R: Wait + Drop, A: Allocator> MetricSink for UnixMetricSink<P, R, A> {
     ghost may_answer = { λ _ line answer.
         IsSocketAnswer P.may_give line answer × IsAnswered line answer };
@@ -97,7 +81,8 @@ impl<P: PathSocket, R: Wait + Drop, A: Allocator> MetricSink for UnixMetricSink<
 
     #[inline(always)]
     fn emit(&self, line: &str) -> Result<usize, SinkError> {
-        emit_by(self, line)
+        let mut fault = SinkError::NothingWritten;
+        emit_by(&self.socket, line, &mut fault).ok_or(fault)
     }
 
     fn stats(&self) -> SinkStats {
@@ -155,37 +140,6 @@ impl<P: PathSocket, R: Wait + Clone + Drop, A: Allocator + Clone> BufferedUnixMe
     }
 }
 
-impl<P: PathSocket, R: Wait + Drop, A: Allocator> AnsweringSink
-    for BufferedUnixMetricSink<P, R, A> {
-    type Took = Packed<SocketLines<PathPeer<P, A>, R, A>>;
-
-    type Refused = Refused<SocketLines<PathPeer<P, A>, R, A>>;
-
-    ghost may_answer = { λ s line answer.
-        IsBufferedAnswer P.may_give (unix_buffer s) line answer };
-
-    ghost shows = { λ s line answer e. SocketShows P.may_give (unix_buffer s) line answer e };
-
-    fn emit_line(&self, line: &str, fault: &mut SinkError) -> Result<Self::Took, Self::Refused> {
-        self.socket.emit_line(line, fault)
-    }
-}
-
-impl<P: PathSocket, R: Wait + Drop, A: Allocator> AnsweringFlush
-    for BufferedUnixMetricSink<P, R, A> {
-    type Flushed = Flushed<SocketLines<PathPeer<P, A>, R, A>>;
-
-    type Unflushed = Refused<SocketLines<PathPeer<P, A>, R, A>>;
-
-    ghost may_flush = { λ _ answer. IsBufferedFlush P.may_give answer };
-
-    ghost shows_flush = { λ _ answer e. SocketShowsFlush P.may_give answer e };
-
-    fn flush_lines(&self, fault: &mut SinkError) -> Result<Self::Flushed, Self::Unflushed> {
-        self.socket.flush_lines(fault)
-    }
-}
-
 impl<P: PathSocket, R: Wait + Drop, A: Allocator> MetricSink for BufferedUnixMetricSink<P, R, A> {
     ghost may_answer = { λ s line answer.
         IsBufferedAnswer P.may_give (unix_buffer s) line answer × IsAnswered line answer };
@@ -196,11 +150,13 @@ impl<P: PathSocket, R: Wait + Drop, A: Allocator> MetricSink for BufferedUnixMet
 
     #[inline(always)]
     fn emit(&self, line: &str) -> Result<usize, SinkError> {
-        emit_by(self, line)
+        let mut fault = SinkError::NothingWritten;
+        emit_by(&self.socket, line, &mut fault).ok_or(fault)
     }
 
     fn flush(&self) -> Result<(), SinkError> {
-        flush_by(self)
+        let mut fault = SinkError::NothingWritten;
+        flush_by(&self.socket, &mut fault).ok_or(fault)
     }
 
     fn stats(&self) -> SinkStats {

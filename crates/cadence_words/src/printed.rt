@@ -5,7 +5,17 @@ ghost use Rattle.cadence_value.specs.Number.{IsDecimal};
 
 use crate::digits::number_of;
 use crate::parts::{cut_dot, cut_exponent, cut_sign};
-use cadence_value::decimal::Decimal;
+use cadence_value::decimal::{Decimal, read_number};
+
+// Returns what `read_printed` returns. It reads each text from its parts.
+fn read_parts(text: &[u8]) -> Option<Decimal>
+    ensures { Finds (λ n. IsDecimal n × SaysNumber text.now n) result }
+{
+    let (is_below, unsigned) = cut_sign(text);
+    let (front, exponent) = cut_exponent(unsigned)?;
+    let (whole, fraction) = cut_dot(front);
+    number_of(is_below, whole, fraction, exponent)
+}
 
 /// Returns the decimal number that a text says: digits with at most one dot, perhaps with a plus or a minus before them,
 /// and perhaps with an exponent after them, as in `.5`, `+1`, `-0.0` and `1.5e+06`. These are the finite numbers that
@@ -15,8 +25,10 @@ use cadence_value::decimal::Decimal;
 pub fn read_printed(text: &str) -> Option<Decimal>
     ensures { Finds (λ n. IsDecimal n × SaysNumber text.now n) result }
 {
-    let (is_below, unsigned) = cut_sign(text.as_bytes());
-    let (front, exponent) = cut_exponent(unsigned)?;
-    let (whole, fraction) = cut_dot(front);
-    number_of(is_below, whole, fraction, exponent)
+    // Most texts are those that numbers print as, which are read faster.
+    let text = text.as_bytes();
+    match read_number(text) {
+        Some(number) => Some(number),
+        None => read_parts(text),
+    }
 }

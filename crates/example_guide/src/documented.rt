@@ -1,28 +1,31 @@
 //! The examples of the library's documentation. Each block of a `///` comment in a crate of the library is in a file of
 //! this crate, word for word, and `.ci/front-door` compares them.
 
-use crate::sinks::TakesAll;
+use crate::documented_sockets;
 use cadence::decimal::Decimal;
 use cadence::line::{MetricType, Record, Tag};
 use cadence::prelude::*;
 use cadence::queue::QueuePolicy;
-use cadence::ready::host;
 use cadence::schedule::plan_packets;
-use cadence::sinks::{PathSocket, ResolverRuntime, SpyReceiver};
+use cadence::sinks::{ResolverRuntime, SpyReceiver};
 use cadence::value::MetricValue;
 use cadence::{
-    BufferedSpyMetricSink, BufferedUdpMetricSink, BufferedUnixMetricSink, DEFAULT_PORT,
-    ErrorHandler, FlushingMetricSink, MetricError, MetricResult, MetricSink, NopMetricSink,
-    QueuingMetricSink, QueuingMetricSinkBuilder, SinkError, SpyMetricSink, StatsdClient, Target,
-    UdpMetricSink, UdpMetricSinkBuilder, UnixMetricSink,
+    BufferedSpyMetricSink, ErrorHandler, MetricError, MetricResult, MetricSink, NopMetricSink,
+    QueuingMetricSink, QueuingMetricSinkBuilder, SinkError, SpyMetricSink, StatsdClient,
 };
-use cadence_agent::{Environment, EnvironmentExt, UnixSocket, sink_to, unix_sink};
+use cadence_agent::{Environment, EnvironmentExt, sink_to};
 use cadence_read::{ReadFault, read_packet};
 use example_service::runtime::Runtime;
 use std::alloc::Global;
 use std::env::Env;
-use std::net::{Ipv4Addr, SocketAddr, UdpSocket};
 use std::time::Duration;
+
+// Adds a line or packet in its own line of the text.
+fn add_line(alloc: Global, text: &mut String, sent: &[u8]) -> MetricResult<()> {
+    let sent = String::from_utf8_lossy(alloc, sent)?;
+    writeln!(text, "{}", sent.trim_end())?;
+    Ok(())
+}
 
 // Adds what a spy was sent: each line or packet that waits, in its own line of the text.
 fn add_all<R: Runtime>(
@@ -34,8 +37,7 @@ fn add_all<R: Runtime>(
         let Some(sent) = receiver.try_recv() else {
             break;
         };
-        let sent = String::from_utf8_lossy(alloc, &sent)?;
-        writeln!(text, "{}", sent.trim_end())?;
+        add_line(alloc, text, &sent)?;
     }
     Ok(())
 }
@@ -95,17 +97,32 @@ impl ErrorHandler for DropsErrors {
     fn handle(&self, _error: MetricError) {}
 }
 
-// Adds the lines of the examples of clients.
-fn add_clients<R: Runtime>(rt: &R, alloc: Global, text: &mut String) -> MetricResult<()> {
+// Adds the lines of the examples of `MetricClient` and `MetricBuilder`.
+fn add_each<R: Runtime>(rt: &R, alloc: Global, text: &mut String) -> MetricResult<()> {
     let (receiver, sink) = SpyMetricSink::new(rt.clone()?, alloc)?;
     send_each(&StatsdClient::from_sink(alloc, "p", sink)?)?;
-    add_all(alloc, text, &receiver)?;
+    add_all(alloc, text, &receiver)
+}
+
+// Adds the line of the example of `StatsdClient`.
+fn add_flushed<R: Runtime>(rt: &R, alloc: Global, text: &mut String) -> MetricResult<()> {
     let (receiver, sink) = SpyMetricSink::new(rt.clone()?, alloc)?;
     send_and_flush(alloc, sink)?;
-    add_all(alloc, text, &receiver)?;
+    add_all(alloc, text, &receiver)
+}
+
+// Adds the line of the example of `StatsdClientBuilder`.
+fn add_default<R: Runtime>(rt: &R, alloc: Global, text: &mut String) -> MetricResult<()> {
     let (receiver, sink) = SpyMetricSink::new(rt.clone()?, alloc)?;
     send_with_default(alloc, sink, DropsErrors)?;
-    add_all(alloc, text, &receiver)?;
+    add_all(alloc, text, &receiver)
+}
+
+// Adds the lines of the examples of clients.
+fn add_clients<R: Runtime>(rt: &R, alloc: Global, text: &mut String) -> MetricResult<()> {
+    add_each(rt, alloc, text)?;
+    add_flushed(rt, alloc, text)?;
+    add_default(rt, alloc, text)?;
     send_nothing(alloc)
 }
 
@@ -157,98 +174,25 @@ fn queue_and_stop<R: Runtime, S: MetricSink + Send + Sync + 'static>(
     Ok(())
 }
 
-// Adds what the examples of spies and queues send.
-fn add_queues<R: Runtime>(rt: &R, alloc: Global, text: &mut String) -> MetricResult<()> {
-    for message in [spy_message(rt, alloc)?, spy_packet(rt, alloc)?] {
-        let message = message.unwrap_or(Vec::new(alloc));
-        let sent = String::from_utf8_lossy(alloc, &message)?;
-        writeln!(text, "{}", sent.trim_end())?;
-    }
-    let queued = queue_lines(rt, alloc, NopMetricSink)?;
-    writeln!(text, "{queued} line queued")?;
+// Adds a message in its own line of the text, or an empty line if there is none.
+fn add_message(alloc: Global, text: &mut String, message: Option<Vec<u8>>) -> MetricResult<()> {
+    add_line(alloc, text, &message.unwrap_or(Vec::new(alloc)))
+}
+
+// Adds the line of the example of `QueuingMetricSink`.
+fn add_queued<R: Runtime>(rt: &R, alloc: Global, text: &mut String) -> MetricResult<()> {
     let (receiver, sink) = SpyMetricSink::new(rt.clone()?, alloc)?;
     queue_and_stop(rt, alloc, sink)?;
     add_all(alloc, text, &receiver)
 }
 
-// The example of `UdpMetricSink`. Returns the length of the datagram that it sends.
-fn send_datagram<R: Runtime>(rt: &R, alloc: Global) -> MetricResult<usize> {
-    let socket = UdpSocket::bind(rt, SocketAddr::from((Ipv4Addr::UNSPECIFIED, 0)))?;
-    let target = Target::Name {
-        host: String::from_str(alloc, "localhost")?,
-        port: DEFAULT_PORT,
-    };
-    let sink = UdpMetricSink::from(rt.clone()?, alloc, target, socket)?;
-    Ok(sink.emit("p.visits:1|c")?)
-}
-
-// The example of `UdpMetricSinkBuilder`.
-fn send_and_look_up<R: Runtime + ResolverRuntime>(
-    rt: &R,
-    alloc: Global,
-    target: Target,
-    socket: UdpSocket,
-) -> MetricResult<usize> {
-    let builder = UdpMetricSinkBuilder::new().with_resolver_period(Duration::from_secs(60));
-    let sink = builder.build(rt.clone()?, alloc, target, socket)?;
-    Ok(sink.emit("p.visits:1|c")?)
-}
-
-// The example of `BufferedUdpMetricSink`.
-fn send_packed<R: Runtime>(
-    rt: &R,
-    alloc: Global,
-    target: Target,
-    socket: UdpSocket,
-) -> MetricResult<usize> {
-    let sink = BufferedUdpMetricSink::with_capacity(rt.clone()?, alloc, target, socket, 1432)?;
-    Ok(sink.emit("p.visits:1|c")?)
-}
-
-// The example of `FlushingMetricSink`.
-fn send_each_second<R: Runtime>(
-    rt: &R,
-    alloc: Global,
-    target: Target,
-    socket: UdpSocket,
-) -> MetricResult<usize> {
-    let inner = BufferedUdpMetricSink::from(rt.clone()?, alloc, target, socket)?;
-    let sink = FlushingMetricSink::new(rt.clone()?, alloc, inner, Duration::from_secs(1))?;
-    Ok(sink.emit("p.visits:1|c")?)
-}
-
-// The examples of `UnixMetricSink` and `BufferedUnixMetricSink`.
-fn send_to_path<R: Runtime, P: PathSocket>(
-    rt: &R,
-    alloc: Global,
-    socket: P,
-) -> MetricResult<usize> {
-    let sink = UnixMetricSink::from(rt.clone()?, alloc, "/run/statsd.sock", socket)?;
-    Ok(sink.emit("p.visits:1|c")?)
-}
-
-fn send_packed_to_path<R: Runtime, P: PathSocket>(
-    rt: &R,
-    alloc: Global,
-    socket: P,
-) -> MetricResult<usize> {
-    let sink = BufferedUnixMetricSink::from(rt.clone()?, alloc, "/run/statsd.sock", socket)?;
-    Ok(sink.emit("p.visits:1|c")?)
-}
-
-// The example of `UnixSocket`. Nobody listens at the path.
-fn send_to_nobody<R: Runtime>(rt: &R, alloc: Global) -> MetricResult<usize> {
-    let socket = UnixSocket::new(rt)?;
-    let sink = UnixMetricSink::from(rt.clone()?, alloc, "/run/statsd.sock", socket)?;
-    Ok(sink.emit("p.visits:1|c")?)
-}
-
-// The example of `unix_sink`. Nobody listens at the path.
-fn count_for_nobody<R: Runtime>(rt: &R, alloc: Global) -> MetricResult<()> {
-    let sink = unix_sink(rt, alloc, "/run/statsd.sock")?;
-    let client = StatsdClient::from_sink(alloc, "my.service", sink)?;
-    client.incr("visits")?;
-    Ok(())
+// Adds what the examples of spies and queues send.
+fn add_queues<R: Runtime>(rt: &R, alloc: Global, text: &mut String) -> MetricResult<()> {
+    add_message(alloc, text, spy_message(rt, alloc)?)?;
+    add_message(alloc, text, spy_packet(rt, alloc)?)?;
+    let queued = queue_lines(rt, alloc, NopMetricSink)?;
+    writeln!(text, "{queued} line queued")?;
+    add_queued(rt, alloc, text)
 }
 
 /// Runs the example of `EnvironmentExt`: counts over a client that sends where the environment says.
@@ -267,39 +211,8 @@ fn is_full(error: &MetricError) -> bool {
     is_full
 }
 
-// Returns a socket that may send, and the target of the datagrams.
-fn bind_socket<R: Runtime>(rt: &R) -> MetricResult<(Target, UdpSocket)> {
-    let target = Target::Addr(SocketAddr::from((Ipv4Addr::LOCALHOST, DEFAULT_PORT)));
-    let socket = UdpSocket::bind(rt, SocketAddr::from((Ipv4Addr::UNSPECIFIED, 0)))?;
-    Ok((target, socket))
-}
-
-// Adds how many bytes each example of a sink over UDP takes. Nobody has to listen.
-fn add_datagrams<R: Runtime + ResolverRuntime>(
-    rt: &R,
-    alloc: Global,
-    text: &mut String,
-) -> MetricResult<()> {
-    let plain = send_datagram(rt, alloc)?;
-    let (target, socket) = bind_socket(rt)?;
-    let again = send_and_look_up(rt, alloc, target, socket)?;
-    let (target, socket) = bind_socket(rt)?;
-    let packed = send_packed(rt, alloc, target, socket)?;
-    let (target, socket) = bind_socket(rt)?;
-    let timed = send_each_second(rt, alloc, target, socket)?;
-    writeln!(text, "UDP: {plain} {again} {packed} {timed} bytes")?;
-    Ok(())
-}
-
-// Adds how many bytes each example of a Unix sink takes from a socket that takes all, and whether the error of a queue
-// for no lines says that it is full.
-fn add_paths<R: Runtime>(rt: &R, alloc: Global, text: &mut String) -> MetricResult<()> {
-    let plain = send_to_path(rt, alloc, TakesAll)?;
-    let packed = send_packed_to_path(rt, alloc, TakesAll)?;
-    writeln!(text, "Unix: {plain} {packed} bytes")?;
-    // Nobody has to listen at the path of these two, so their results are not looked at.
-    let _ = send_to_nobody(rt, alloc);
-    let _ = count_for_nobody(rt, alloc);
+// Adds whether the error of a queue for no lines says that it is full.
+fn add_full<R: Runtime>(rt: &R, alloc: Global, text: &mut String) -> MetricResult<()> {
     let none = QueuingMetricSink::with_capacity(rt.clone()?, alloc, NopMetricSink, 0)?;
     if let Err(error) = StatsdClient::from_sink(alloc, "p", none)?.incr("visits") {
         writeln!(text, "full: {}", is_full(&error))?;
@@ -359,8 +272,9 @@ pub fn report<R: Runtime + ResolverRuntime>(rt: &R, alloc: Global) -> MetricResu
     let mut text = String::new(alloc);
     add_clients(rt, alloc, &mut text)?;
     add_queues(rt, alloc, &mut text)?;
-    add_datagrams(rt, alloc, &mut text)?;
-    add_paths(rt, alloc, &mut text)?;
+    documented_sockets::add_datagrams(rt, alloc, &mut text)?;
+    documented_sockets::add_paths(rt, alloc, &mut text)?;
+    add_full(rt, alloc, &mut text)?;
     add_texts(alloc, &mut text)?;
     Ok(text)
 }

@@ -43,6 +43,21 @@ pub fn send_to_agent<R: Runtime>(rt: &R, alloc: Global, path: &str) -> MetricRes
     Ok(())
 }
 
+// Two clients to the same path, one of which packs lines.
+#[derive(Drop)]
+struct Clients<R: Runtime> {
+    plain: StatsdClient<Global, UnixSink<R>>,
+    packed: StatsdClient<Global, BufferedUnixSink<R>>,
+}
+
+// Makes the two clients.
+fn connect<R: Runtime>(rt: &R, alloc: Global, path: &str) -> MetricResult<Clients<R>> {
+    let packed = buffered_unix_sink(rt, alloc, path, 512)?;
+    let packed = StatsdClient::from_sink(alloc, "my.service", packed)?;
+    let plain = StatsdClient::from_sink(alloc, "my.service", unix_sink(rt, alloc, path)?)?;
+    Ok(Clients { plain, packed })
+}
+
 // Sends a line over each of two clients.
 fn send_two<R: Runtime>(
     plain: &StatsdClient<Global, UnixSink<R>>,
@@ -74,20 +89,28 @@ fn receive_all(alloc: Global, mut server: &UnixStream, text: &mut String) -> Met
     Ok(())
 }
 
+// Sends over the clients and to the agent while a server is bound to the path, and adds what the server receives.
+fn add_round<R: Runtime + Files>(
+    rt: &R,
+    alloc: Global,
+    path: &str,
+    clients: &Clients<R>,
+    text: &mut String,
+) -> MetricResult<()> {
+    let server = bind_server(rt, path)?;
+    send_two(&clients.plain, &clients.packed)?;
+    send_to_agent(rt, alloc, path)?;
+    fs::remove_file(rt, path)?;
+    receive_all(alloc, &server, text)
+}
+
 /// Returns the datagrams that two servers receive, one after the other at the same path.
 pub fn report<R: Runtime + Files>(rt: &R, alloc: Global, path: &str) -> MetricResult<String> {
-    let plain = StatsdClient::from_sink(alloc, "my.service", unix_sink(rt, alloc, path)?)?;
-    let packed = buffered_unix_sink(rt, alloc, path, 512)?;
-    let packed = StatsdClient::from_sink(alloc, "my.service", packed)?;
+    let clients = connect(rt, alloc, path)?;
     let mut text = String::new(alloc);
-    for _ in 0..2 {
-        let server = bind_server(rt, path)?;
-        send_two(&plain, &packed)?;
-        send_to_agent(rt, alloc, path)?;
-        fs::remove_file(rt, path)?;
-        receive_all(alloc, &server, &mut text)?;
-    }
-    let sent = plain.sink().stats().packets_sent;
+    add_round(rt, alloc, path, &clients, &mut text)?;
+    add_round(rt, alloc, path, &clients, &mut text)?;
+    let sent = clients.plain.sink().stats().packets_sent;
     writeln!(&mut text, "{sent} packets over one client")?;
     Ok(text)
 }

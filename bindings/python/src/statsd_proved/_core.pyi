@@ -2,6 +2,9 @@ from typing import Any
 
 VERSION: str
 
+def destination(values: tuple[bytes, ...], /) -> tuple[str, int]: ...
+def environment_tags(values: tuple[bytes, ...], /) -> tuple[str, int]: ...
+
 class Packer:
     def __init__(self, prefix: str, capacity: int, packets: int, strict: bool = False, tags: Any = None,
                  container: str | None = None) -> None: ...

@@ -14,6 +14,7 @@ class Status(enum.IntEnum):
     NO_PACKET = 6
     TOO_SMALL = 7
     SEPARATOR = 8
+    VARIABLE = 9
 
 
 class StatusError(ValueError):

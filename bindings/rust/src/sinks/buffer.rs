@@ -1,5 +1,6 @@
 //! The buffer of lines that the buffered sinks share.
-use crate::raw::Packer;
+use super::core::{SinkStats, SocketStats};
+use crate::packer::Packer;
 use std::io;
 use std::sync::{Mutex, MutexGuard, PoisonError};
 
@@ -7,12 +8,38 @@ use std::sync::{Mutex, MutexGuard, PoisonError};
 pub(crate) trait Outlet {
     /// Sends a packet, and returns how many bytes were sent.
     fn send(&self, packet: &[u8]) -> io::Result<usize>;
+
+    /// Returns its counts. An outlet that doesn't count has zeros.
+    fn stats(&self) -> SocketStats {
+        SocketStats::default()
+    }
 }
+
+/// Makes a sink of a type that has a `buffer`.
+macro_rules! buffered_sink {
+    ($name:ident) => {
+        impl MetricSink for $name {
+            fn emit(&self, metric: &str) -> io::Result<usize> {
+                self.buffer.emit(metric)
+            }
+
+            fn flush(&self) -> io::Result<()> {
+                self.buffer.flush()
+            }
+
+            fn stats(&self) -> SinkStats {
+                self.buffer.stats()
+            }
+        }
+    };
+}
+pub(crate) use buffered_sink;
 
 /// The library's packer and an outlet, under a lock. The drop sends the held text.
 #[derive(Debug)]
 pub(crate) struct Buffer<O: Outlet> {
     lines: Mutex<Lines<O>>,
+    stats: SocketStats,
 }
 
 #[derive(Debug)]
@@ -24,7 +51,8 @@ struct Lines<O: Outlet> {
 
 impl<O: Outlet> Buffer<O> {
     pub(crate) fn new(outlet: O, capacity: usize) -> io::Result<Self> {
-        Ok(Buffer { lines: Mutex::new(Lines { packer: Packer::new(capacity)?, outlet, capacity }) })
+        let stats = outlet.stats();
+        Ok(Buffer { lines: Mutex::new(Lines { packer: Packer::new(capacity)?, outlet, capacity }), stats })
     }
 
     /// Makes a buffer for a constructor that can't return an error. It panics if memory runs out.
@@ -44,14 +72,19 @@ impl<O: Outlet> Buffer<O> {
     pub(crate) fn flush(&self) -> io::Result<()> {
         self.lines().flush()
     }
+
+    /// Returns the counts of the outlet, without the lock, which a call may have while it sends.
+    pub(crate) fn stats(&self) -> SinkStats {
+        (&self.stats).into()
+    }
 }
 
 impl<O: Outlet> Lines<O> {
     /// Buffers a line, or sends it if it is longer than the capacity with its newline. If the line doesn't fit beside
     /// the held text, that text is sent first. After an error the line is not buffered, so the caller may try again.
     fn emit(&mut self, line: &[u8]) -> io::Result<usize> {
-        let (held, waiting) = self.packer.counts();
-        if held + waiting > 0 && line.len() >= self.capacity - held {
+        let held = self.packer.held_len();
+        if held > 0 && line.len() >= self.capacity - held {
             self.flush()?;
         }
         self.packer.keep(line)?;
@@ -69,27 +102,19 @@ impl<O: Outlet> Lines<O> {
         sent
     }
 
-    /// Sends the held text. If the outlet refuses it, it stays held.
+    /// Sends the held text. If the outlet refuses it, it stays held. An interrupted send is tried again.
     fn flush(&mut self) -> io::Result<()> {
-        self.send_waiting()?;
-        self.packer.flush()?;
-        self.send_waiting()
-    }
-
-    /// Sends the packets that wait. Packets wait only during a flush, unless there was no memory to hold a refused text
-    /// again. An interrupted send is tried again.
-    fn send_waiting(&mut self) -> io::Result<()> {
-        while let Some(packet) = self.packer.next() {
-            match self.outlet.send(packet) {
-                Ok(_) => self.packer.drop_oldest(),
+        loop {
+            let held = self.packer.held();
+            if held.is_empty() {
+                return Ok(());
+            }
+            match self.outlet.send(held) {
+                Ok(_) => return self.packer.drop_held(),
                 Err(error) if error.kind() == io::ErrorKind::Interrupted => {}
-                Err(error) => {
-                    self.packer.hold_again();
-                    return Err(error);
-                }
+                Err(error) => return Err(error),
             }
         }
-        Ok(())
     }
 }
 

@@ -6,7 +6,6 @@ mod queuing;
 mod resolve;
 mod spy;
 mod udp;
-#[cfg(unix)]
 mod unix;
 
 pub use self::channel::SpyReceiver;
@@ -14,7 +13,6 @@ pub use self::core::{MetricSink, NopMetricSink, SinkStats, SocketStats};
 pub use self::queuing::{QueuingMetricSink, QueuingMetricSinkBuilder};
 pub use self::spy::{BufferedSpyMetricSink, SpyMetricSink};
 pub use self::udp::{BufferedUdpMetricSink, BufferedUdpMetricSinkBuilder, UdpMetricSink, UdpMetricSinkBuilder};
-#[cfg(unix)]
 pub use self::unix::{BufferedUnixMetricSink, UnixMetricSink};
 
 /// The capacity in bytes of a buffered sink if none is set. A datagram of this size passes most networks whole.

@@ -41,10 +41,7 @@ impl QueuingMetricSinkBuilder {
     /// # Panics
     ///
     /// If no thread can be started.
-    pub fn build<T>(self, sink: T) -> QueuingMetricSink
-    where
-        T: MetricSink + Sync + Send + RefUnwindSafe + 'static,
-    {
+    pub fn build<T: MetricSink + Sync + Send + RefUnwindSafe + 'static>(self, sink: T) -> QueuingMetricSink {
         let sink = Arc::new(sink);
         let (sender, receiver) = channel::<String>(self.capacity);
         let counts = Arc::new(Counts::default());
@@ -63,10 +60,7 @@ impl QueuingMetricSinkBuilder {
 
     /// Sets the handler that receives the errors of the wrapped sink, in the worker's thread. If the handler panics,
     /// the worker goes on.
-    pub fn with_error_handler<F>(mut self, error_handler: F) -> Self
-    where
-        F: Fn(io::Error) + Sync + Send + RefUnwindSafe + 'static,
-    {
+    pub fn with_error_handler<F: Fn(io::Error) + Sync + Send + RefUnwindSafe + 'static>(mut self, error_handler: F) -> Self {
         self.errors = Some(Box::new(error_handler));
         self
     }
@@ -128,10 +122,7 @@ impl QueuingMetricSink {
     /// # Panics
     ///
     /// If no thread can be started.
-    pub fn from<T>(sink: T) -> Self
-    where
-        T: MetricSink + Sync + Send + RefUnwindSafe + 'static,
-    {
+    pub fn from<T: MetricSink + Sync + Send + RefUnwindSafe + 'static>(sink: T) -> Self {
         Self::builder().build(sink)
     }
 
@@ -140,10 +131,7 @@ impl QueuingMetricSink {
     /// # Panics
     ///
     /// If no thread can be started.
-    pub fn with_capacity<T>(sink: T, capacity: usize) -> Self
-    where
-        T: MetricSink + Sync + Send + RefUnwindSafe + 'static,
-    {
+    pub fn with_capacity<T: MetricSink + Sync + Send + RefUnwindSafe + 'static>(sink: T, capacity: usize) -> Self {
         Self::builder().with_capacity(capacity).build(sink)
     }
 

@@ -41,10 +41,11 @@ impl Resolver {
     }
 
     /// Looks the name up now. If there is a period, a thread looks it up again each time that the period has passed.
-    pub(crate) fn new<A>(name: A, period: Option<Duration>, errors: Option<LookupHandler>) -> MetricResult<Self>
-    where
-        A: ToSocketAddrs + fmt::Debug + Send + Sync + RefUnwindSafe + 'static,
-    {
+    pub(crate) fn new<A: ToSocketAddrs + fmt::Debug + Send + Sync + RefUnwindSafe + 'static>(
+        name: A,
+        period: Option<Duration>,
+        errors: Option<LookupHandler>,
+    ) -> MetricResult<Self> {
         let Some(period) = period else { return Self::once(&name) };
         let (address, ended, end) = (RwLock::new(known_address(&name)?), Mutex::new(false), Condvar::new());
         let shared = Arc::new(Periodic { address, ended, end });

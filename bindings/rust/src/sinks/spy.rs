@@ -1,7 +1,7 @@
 //! Sinks for tests, whose lines a receiver returns.
-use super::buffer::{Buffer, Outlet};
+use super::buffer::{buffered_sink, Buffer, Outlet};
 use super::channel::{spy_channel, SpyReceiver, SpySender};
-use super::{MetricSink, DEFAULT_CAPACITY};
+use super::{MetricSink, SinkStats, DEFAULT_CAPACITY};
 use std::io;
 
 /// Sends each line to a receiver, for tests of a service.
@@ -91,12 +91,4 @@ impl BufferedSpyMetricSink {
     }
 }
 
-impl MetricSink for BufferedSpyMetricSink {
-    fn emit(&self, metric: &str) -> io::Result<usize> {
-        self.buffer.emit(metric)
-    }
-
-    fn flush(&self) -> io::Result<()> {
-        self.buffer.flush()
-    }
-}
+buffered_sink!(BufferedSpyMetricSink);

@@ -1,5 +1,5 @@
 //! Sinks over UDP.
-use super::buffer::{Buffer, Outlet};
+use super::buffer::{buffered_sink, Buffer, Outlet};
 use super::core::{MetricSink, SinkStats, SocketStats};
 use super::resolve::{LookupHandler, Resolver};
 use super::DEFAULT_CAPACITY;
@@ -26,6 +26,10 @@ impl UdpOutlet {
 impl Outlet for UdpOutlet {
     fn send(&self, packet: &[u8]) -> io::Result<usize> {
         self.stats.update(self.socket.send_to(packet, self.resolver.address()), packet.len())
+    }
+
+    fn stats(&self) -> SocketStats {
+        self.stats.clone()
     }
 }
 
@@ -60,10 +64,11 @@ impl UdpMetricSinkBuilder {
     ///
     /// It fails with `IoError` if the host can't be looked up or no thread can be started, and with `InvalidInput` if
     /// the host has no address.
-    pub fn build<A>(self, to_addr: A, socket: UdpSocket) -> MetricResult<UdpMetricSink>
-    where
-        A: ToSocketAddrs + fmt::Debug + Send + Sync + RefUnwindSafe + 'static,
-    {
+    pub fn build<A: ToSocketAddrs + fmt::Debug + Send + Sync + RefUnwindSafe + 'static>(
+        self,
+        to_addr: A,
+        socket: UdpSocket,
+    ) -> MetricResult<UdpMetricSink> {
         Ok(UdpMetricSink { outlet: UdpOutlet::new(Resolver::new(to_addr, self.period, self.errors)?, socket) })
     }
 
@@ -75,10 +80,10 @@ impl UdpMetricSinkBuilder {
 
     /// Sets the handler that receives the errors of later lookups, in the thread that looks up. After such an error the
     /// address stays as it was. Without a period there are no later lookups.
-    pub fn with_resolver_error_handler<F>(mut self, error_handler: F) -> Self
-    where
-        F: Fn(io::Error) + Sync + Send + RefUnwindSafe + 'static,
-    {
+    pub fn with_resolver_error_handler<F: Fn(io::Error) + Sync + Send + RefUnwindSafe + 'static>(
+        mut self,
+        error_handler: F,
+    ) -> Self {
         self.errors = Some(Box::new(error_handler));
         self
     }
@@ -113,10 +118,7 @@ impl UdpMetricSink {
     /// Makes a sink that sends to the first address that the host has now. The socket keeps its settings.
     ///
     /// It fails with `IoError` if the host can't be looked up, and with `InvalidInput` if it has no address.
-    pub fn from<A>(to_addr: A, socket: UdpSocket) -> MetricResult<Self>
-    where
-        A: ToSocketAddrs,
-    {
+    pub fn from<A: ToSocketAddrs>(to_addr: A, socket: UdpSocket) -> MetricResult<Self> {
         Ok(UdpMetricSink { outlet: UdpOutlet::new(Resolver::once(&to_addr)?, socket) })
     }
 }
@@ -131,20 +133,8 @@ impl MetricSink for UdpMetricSink {
     }
 }
 
-/// Makes a [`BufferedUdpMetricSink`] of a capacity, which may look its host up again and again.
-///
-/// ```no_run
-/// use std::net::UdpSocket;
-/// use std::time::Duration;
-/// use cadence::{BufferedUdpMetricSink, DEFAULT_PORT};
-///
-/// let socket = UdpSocket::bind("0.0.0.0:0").unwrap();
-/// let sink = BufferedUdpMetricSink::builder()
-///     .with_capacity(1432)
-///     .with_resolver_period(Duration::from_secs(30))
-///     .build(("statsd.internal", DEFAULT_PORT), socket)
-///     .unwrap();
-/// ```
+/// Makes a [`BufferedUdpMetricSink`] of a capacity, which may look its host up again and again, as [`UdpMetricSinkBuilder`]
+/// makes a [`UdpMetricSink`].
 #[derive(Default)]
 pub struct BufferedUdpMetricSinkBuilder {
     capacity: Option<usize>,
@@ -159,10 +149,11 @@ impl BufferedUdpMetricSinkBuilder {
 
     /// Makes the sink as [`UdpMetricSinkBuilder::build`] does, with the same errors, and with `IoError` if memory runs
     /// out.
-    pub fn build<A>(self, to_addr: A, socket: UdpSocket) -> MetricResult<BufferedUdpMetricSink>
-    where
-        A: ToSocketAddrs + fmt::Debug + Send + Sync + RefUnwindSafe + 'static,
-    {
+    pub fn build<A: ToSocketAddrs + fmt::Debug + Send + Sync + RefUnwindSafe + 'static>(
+        self,
+        to_addr: A,
+        socket: UdpSocket,
+    ) -> MetricResult<BufferedUdpMetricSink> {
         let outlet = self.outlet.build(to_addr, socket)?.outlet;
         BufferedUdpMetricSink::of(outlet, self.capacity.unwrap_or(DEFAULT_CAPACITY))
     }
@@ -179,12 +170,12 @@ impl BufferedUdpMetricSinkBuilder {
         self
     }
 
-    /// Sets the handler that receives the errors of later lookups, in the thread that looks up. After such an error the
-    /// address stays as it was.
-    pub fn with_resolver_error_handler<F>(mut self, error_handler: F) -> Self
-    where
-        F: Fn(io::Error) + Sync + Send + RefUnwindSafe + 'static,
-    {
+    /// Sets the handler that receives the errors of later lookups, as
+    /// [`UdpMetricSinkBuilder::with_resolver_error_handler`] does.
+    pub fn with_resolver_error_handler<F: Fn(io::Error) + Sync + Send + RefUnwindSafe + 'static>(
+        mut self,
+        error_handler: F,
+    ) -> Self {
         self.outlet = self.outlet.with_resolver_error_handler(error_handler);
         self
     }
@@ -220,7 +211,6 @@ impl BufferedUdpMetricSinkBuilder {
 #[derive(Debug)]
 pub struct BufferedUdpMetricSink {
     buffer: Buffer<UdpOutlet>,
-    stats: SocketStats,
 }
 
 impl BufferedUdpMetricSink {
@@ -228,19 +218,13 @@ impl BufferedUdpMetricSink {
     ///
     /// It fails with `IoError` if the host can't be looked up or memory runs out, and with `InvalidInput` if the host
     /// has no address.
-    pub fn from<A>(sink_addr: A, socket: UdpSocket) -> MetricResult<Self>
-    where
-        A: ToSocketAddrs,
-    {
+    pub fn from<A: ToSocketAddrs>(sink_addr: A, socket: UdpSocket) -> MetricResult<Self> {
         Self::with_capacity(sink_addr, socket, DEFAULT_CAPACITY)
     }
 
     /// Makes a sink with packets of at most `cap` bytes, which sends to the first address that the host has now. The
     /// socket keeps its settings, such as whether it blocks. It fails as [`from`](Self::from) does.
-    pub fn with_capacity<A>(to_addr: A, socket: UdpSocket, cap: usize) -> MetricResult<Self>
-    where
-        A: ToSocketAddrs,
-    {
+    pub fn with_capacity<A: ToSocketAddrs>(to_addr: A, socket: UdpSocket, cap: usize) -> MetricResult<Self> {
         Self::of(UdpOutlet::new(Resolver::once(&to_addr)?, socket), cap)
     }
 
@@ -250,21 +234,8 @@ impl BufferedUdpMetricSink {
     }
 
     fn of(outlet: UdpOutlet, capacity: usize) -> MetricResult<Self> {
-        let stats = outlet.stats.clone();
-        Ok(BufferedUdpMetricSink { buffer: Buffer::new(outlet, capacity)?, stats })
+        Ok(BufferedUdpMetricSink { buffer: Buffer::new(outlet, capacity)? })
     }
 }
 
-impl MetricSink for BufferedUdpMetricSink {
-    fn emit(&self, metric: &str) -> io::Result<usize> {
-        self.buffer.emit(metric)
-    }
-
-    fn flush(&self) -> io::Result<()> {
-        self.buffer.flush()
-    }
-
-    fn stats(&self) -> SinkStats {
-        (&self.stats).into()
-    }
-}
+buffered_sink!(BufferedUdpMetricSink);

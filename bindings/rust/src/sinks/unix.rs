@@ -1,5 +1,5 @@
 //! Sinks over Unix datagram sockets.
-use super::buffer::{Buffer, Outlet};
+use super::buffer::{buffered_sink, Buffer, Outlet};
 use super::core::{MetricSink, SinkStats, SocketStats};
 use super::DEFAULT_CAPACITY;
 use std::io;
@@ -23,6 +23,10 @@ impl Outlet for UnixOutlet {
     fn send(&self, packet: &[u8]) -> io::Result<usize> {
         self.stats.update(self.socket.send_to(packet, &self.path), packet.len())
     }
+
+    fn stats(&self) -> SocketStats {
+        self.stats.clone()
+    }
 }
 
 /// Sends each line as a datagram to a Unix socket, in the caller's thread.
@@ -43,10 +47,7 @@ pub struct UnixMetricSink {
 
 impl UnixMetricSink {
     /// Makes a sink that sends to a path. The socket keeps its settings, such as whether it blocks, and may be unbound.
-    pub fn from<P>(path: P, socket: UnixDatagram) -> UnixMetricSink
-    where
-        P: AsRef<Path>,
-    {
+    pub fn from<P: AsRef<Path>>(path: P, socket: UnixDatagram) -> UnixMetricSink {
         UnixMetricSink { outlet: UnixOutlet::new(path, socket) }
     }
 }
@@ -76,7 +77,6 @@ impl MetricSink for UnixMetricSink {
 #[derive(Debug)]
 pub struct BufferedUnixMetricSink {
     buffer: Buffer<UnixOutlet>,
-    stats: SocketStats,
 }
 
 impl BufferedUnixMetricSink {
@@ -85,10 +85,7 @@ impl BufferedUnixMetricSink {
     /// # Panics
     ///
     /// If memory for the buffer is refused.
-    pub fn from<P>(path: P, socket: UnixDatagram) -> BufferedUnixMetricSink
-    where
-        P: AsRef<Path>,
-    {
+    pub fn from<P: AsRef<Path>>(path: P, socket: UnixDatagram) -> BufferedUnixMetricSink {
         Self::with_capacity(path, socket, DEFAULT_CAPACITY)
     }
 
@@ -98,26 +95,9 @@ impl BufferedUnixMetricSink {
     /// # Panics
     ///
     /// If memory for the buffer is refused.
-    pub fn with_capacity<P>(path: P, socket: UnixDatagram, cap: usize) -> BufferedUnixMetricSink
-    where
-        P: AsRef<Path>,
-    {
-        let outlet = UnixOutlet::new(path, socket);
-        let stats = outlet.stats.clone();
-        BufferedUnixMetricSink { buffer: Buffer::expect(outlet, cap), stats }
+    pub fn with_capacity<P: AsRef<Path>>(path: P, socket: UnixDatagram, cap: usize) -> BufferedUnixMetricSink {
+        BufferedUnixMetricSink { buffer: Buffer::expect(UnixOutlet::new(path, socket), cap) }
     }
 }
 
-impl MetricSink for BufferedUnixMetricSink {
-    fn emit(&self, metric: &str) -> io::Result<usize> {
-        self.buffer.emit(metric)
-    }
-
-    fn flush(&self) -> io::Result<()> {
-        self.buffer.flush()
-    }
-
-    fn stats(&self) -> SinkStats {
-        (&self.stats).into()
-    }
-}
+buffered_sink!(BufferedUnixMetricSink);

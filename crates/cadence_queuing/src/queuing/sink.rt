@@ -140,7 +140,8 @@ impl<S: MetricSink, R: Wait + Drop, A: Allocator + Clone> MetricSink
 
     #[inline(always)]
     fn emit(&self, line: &str) -> Result<usize, SinkError> {
-        emit_by(self, line)
+        let mut fault = SinkError::NothingWritten;
+        emit_by(self, line, &mut fault).ok_or(fault)
     }
 
     fn flush(&self) -> Result<(), SinkError> {

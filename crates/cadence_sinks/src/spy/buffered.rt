@@ -136,11 +136,13 @@ impl<R: Wait + Drop, A: Allocator + Clone> MetricSink for BufferedSpyMetricSink<
 
     #[inline(always)]
     fn emit(&self, line: &str) -> Result<usize, SinkError> {
-        emit_by(self, line)
+        let mut fault = SinkError::NothingWritten;
+        emit_by(self, line, &mut fault).ok_or(fault)
     }
 
     fn flush(&self) -> Result<(), SinkError> {
-        flush_by(self)
+        let mut fault = SinkError::NothingWritten;
+        flush_by(self, &mut fault).ok_or(fault)
     }
 }
 

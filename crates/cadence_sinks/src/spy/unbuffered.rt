@@ -67,6 +67,7 @@ impl<R: Wait + Drop, A: Allocator + Clone> MetricSink for SpyMetricSink<R, A> {
 
     #[inline(always)]
     fn emit(&self, line: &str) -> Result<usize, SinkError> {
-        emit_by(self, line)
+        let mut fault = SinkError::NothingWritten;
+        emit_by(self, line, &mut fault).ok_or(fault)
     }
 }

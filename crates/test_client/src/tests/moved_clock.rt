@@ -1,5 +1,5 @@
 //! A runtime with a clock that stands still until a test moves it, and with variables of the test's own.
-use super::environment::given::fill;
+use super::environment::given::fill_from;
 use std::alloc::{AllocError, Global};
 use std::env::{Env, FillError};
 use std::io;
@@ -19,9 +19,6 @@ pub trait Runtime: Net + Wait + Clock + Threads + Clone + Drop + Send + Sync + '
 
 impl<R: Net + Wait + Clock + Threads + Clone + Drop + Send + Sync + 'static> Runtime for R {}
 
-/// The variables of an environment, each with its name.
-pub type Variables = Vec<(String, String)>;
-
 /// What a test sets and sees.
 #[derive(Drop)]
 struct Stage {
@@ -29,7 +26,8 @@ struct Stage {
     now: AtomicU64,
     // How often the clock was read.
     readings: AtomicU64,
-    variables: Variables,
+    // The variables of the environment, as in `DD_ENV=prod;DD_TAGS=beta`.
+    variables: String,
 }
 
 /// A runtime with a clock that a test moves. It makes no socket of its own, and a Unix socket needs none.
@@ -82,12 +80,7 @@ impl<R: Wait + Threads + Drop> Env for MovedClock<R> {
     }
 
     fn var(&self, name: &str, buffer: &mut [u8]) -> Result<usize, FillError> {
-        for (known, value) in &self.stage.variables {
-            if known.as_str() == name {
-                return fill(value.as_bytes(), buffer);
-            }
-        }
-        Err(FillError::NotPresent)
+        fill_from(self.stage.variables.as_bytes(), name, buffer)
     }
 
     fn var_at(&self, _i: usize, _buffer: &mut [u8]) -> Result<usize, FillError> {
@@ -97,7 +90,7 @@ impl<R: Wait + Threads + Drop> Env for MovedClock<R> {
 
 impl<R: Runtime> MovedClock<R> {
     /// Makes a runtime with these variables, whose clock shows 0.
-    pub fn new(rt: &R, alloc: Global, variables: Variables) -> Result<MovedClock<R>, Fail> {
+    pub fn new(rt: &R, alloc: Global, variables: String) -> Result<MovedClock<R>, Fail> {
         let stage = Stage {
             now: AtomicU64::new(0),
             readings: AtomicU64::new(0),

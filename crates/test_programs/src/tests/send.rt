@@ -5,6 +5,7 @@ use cadence_errors::ErrorKind;
 use cadence_flow::io::{Answer, LineBuffer, PacketLog, PacketWriter};
 use cadence_send::{Options, PacketPrinter, Setting, run_input, run_words};
 use cadence_text::line::OwnedTag;
+use cadence_words::Defaults;
 use std::alloc::{Allocator, Global};
 use std::io::{Read, Write};
 use std::test::Fail;
@@ -20,7 +21,7 @@ const LINES: &[u8] = b"p.a:1|c|#x,k:v|c:id\np.b:12:250|ms|#x|c:id\np.c:0.5|g|#x|
 const TWO_LINES: &[u8] = b"p.a:1|c|#x,k:v|c:id\np.b:12:250|ms|#x|c:id\n";
 
 // Options that take memory: a prefix, a tag and a container for each line.
-const OPTIONS: [(Setting, &str); 3] = [
+const OPTIONS: &[(Setting, &str)] = &[
     (Setting::Prefix, "p"),
     (Setting::Tag, "x"),
     (Setting::Container, "id"),
@@ -63,6 +64,16 @@ const LOST: u8 = 9;
 // Returned in place of a status if memory was refused before the run began.
 const BEFORE: u8 = 4;
 
+// Returns the fields that the options give each line, or `None` if memory was refused.
+fn defaults_of<A: Allocator + Clone>(alloc: &A) -> Option<Defaults<A>> {
+    let mut options = Options::new(alloc.clone().ok()?);
+    for (setting, value) in OPTIONS {
+        options.set(*setting, value).ok()?;
+    }
+    let none: Vec<OwnedTag<A>, A> = Vec::new(alloc.clone().ok()?);
+    options.defaults(alloc.clone().ok()?, &none).ok()
+}
+
 // Runs the words, or the input if there are no words, over a packer whose packets hold one line. Returns the status,
 // whether no text is held at the end, and the writer. Returns `None` if memory was refused before the run.
 fn drive<A: Allocator + Clone, T: PacketWriter, I: Read, E: Write>(
@@ -75,12 +86,7 @@ fn drive<A: Allocator + Clone, T: PacketWriter, I: Read, E: Write>(
     let Ok(mut lines) = LineBuffer::new(alloc.clone().ok()?, writer, 24) else {
         return None;
     };
-    let mut options = Options::new(alloc.clone().ok()?);
-    for (setting, value) in OPTIONS {
-        options.set(setting, value).ok()?;
-    }
-    let none: Vec<OwnedTag<A>, A> = Vec::new(alloc.clone().ok()?);
-    let defaults = options.defaults(alloc.clone().ok()?, &none).ok()?;
+    let defaults = defaults_of(&alloc)?;
     let mut unhurried: Option<Waiting> = None;
     let status = if words.is_empty() {
         run_input(
@@ -186,7 +192,7 @@ type Row = (
 );
 
 // Text that is still held when a packet is refused is sent at the end.
-const ROWS: [Row; 8] = [
+const ROWS: &[Row] = &[
     (NONE, TEXT, &SHORT, 0, LINES, b""),
     (WORDS, b"", &SHORT, 0, LINE, b""),
     (
@@ -226,7 +232,7 @@ fn has_right_end_after_errors(alloc: Global, row: &Row, passed: u64) -> Result<b
 fn each_answer_is_reported_and_each_write_of_a_message_may_fail(
     rt: HostRuntime,
 ) -> Result<(), Fail> {
-    for row in &ROWS {
+    for row in ROWS {
         for passed in 0..=MOST_WRITES {
             assert!(rt; has_right_end_after_errors(rt.alloc(), row, passed)?);
         }
@@ -258,19 +264,23 @@ fn sends_lines_with(
     Ok(left.left() <= MOST_REQUESTS)
 }
 
+// Returns whether a run with these words ends as it should with each request refused, and makes more requests than
+// these.
+fn requests_may_be_refused(
+    alloc: Global,
+    words: &[&str],
+    lines: &[u8],
+    fewer: u64,
+) -> Result<bool, Fail> {
+    let granted = each_refused(alloc, |heap| sends_lines_with(alloc, heap, words, lines))?;
+    Ok(granted.is_some_and(|granted| granted > fewer))
+}
+
+// A run asks for more memory than the packer, which makes two requests.
 #[test]
 fn each_request_may_be_refused(rt: HostRuntime) -> Result<(), Fail> {
-    // a run asks for more memory than the packer, which makes two requests
-    for (words, lines, least) in [(NONE, LINES, 8), (WORDS, LINE, 2)] {
-        let turn = |heap: RefusingAllocator<Global>| sends_lines_with(
-            rt.alloc(),
-            heap,
-            words,
-            lines,
-        );
-        let granted = each_refused(rt.alloc(), turn)?;
-        assert!(rt; granted.is_some_and(|granted| granted > least));
-    }
+    assert!(rt; requests_may_be_refused(rt.alloc(), NONE, LINES, 8)?);
+    assert!(rt; requests_may_be_refused(rt.alloc(), WORDS, LINE, 2)?);
     Ok(())
 }
 

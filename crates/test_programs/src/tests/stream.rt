@@ -13,7 +13,7 @@ pub(crate) const OUTLET: Outlet<'static> = Outlet::Target("host:1", "--to");
 // Answers of a log; and then the status, the packets that it takes of three lines, and the message.
 type LossRow = (&'static [Answer], u8, &'static [u8], &'static [u8]);
 
-const LOSS_ROWS: [LossRow; 4] = [
+const LOSS_ROWS: &[LossRow] = &[
     (&[], 0, b"a:1|c\nb:2|c\nc:3|c\n", b""),
     (
         &[Answer::Refuse],
@@ -83,7 +83,7 @@ fn has_losses(alloc: Global, row: &LossRow) -> Result<bool, Fail> {
 
 #[test]
 fn a_stream_outlives_refusals_and_counts_what_is_lost(rt: HostRuntime) -> Result<(), Fail> {
-    for row in &LOSS_ROWS {
+    for row in LOSS_ROWS {
         assert!(rt; has_losses(rt.alloc(), row)?);
     }
     Ok(())

@@ -1,31 +1,9 @@
-use Rattle.std.proofs.Common.{rules, ◌≡◌, ap, sym, subst, ◌∙◌}
-use Rattle.std.specs.Str.Parse.{starts_with_minus, without_leading_sign}
-use mir.Syntax.{w32}
-use Rattle.std.proofs.lemmas.Int.{to_z-of_z}
-use Rattle.cadence_value.specs.Finds.{Finds}
-use Rattle.cadence_value.specs.Number.{IsDecimal}
-use Rattle.cadence_words.specs.Printed.{IsOfDigits, SaysUnsigned}
-use Rattle.cadence_words.proofs.OneReading.{found_cut, none_cut, raised_fits}
+use Rattle.std.proofs.Common.{rules, ◌≡◌, ◌∙◌}
+use Rattle.cadence_words.proofs.OwnText.{own_text}
 use Rattle.cadence_words.proofs.printed.read_printed.Goals as goal
 
-pub returns-in_err-front : goal.returns-in_err-front
-returns-in_err-front c =
-    let same : c.as_bytes.result.now ≡ c.args.text.now = search rules in
-    let cut = c.cut_sign-is_below in
-    rw c.from_residual.ensures (λ n h.
-    none_cut (starts_with_minus c.args.text.now) cut.result.1.now c.args.text n c.in_err-front.ensures
-    (subst (λ t. SaysUnsigned (starts_with_minus c.args.text.now) t n) (ap without_leading_sign (sym same) ∙ sym cut.ensures.rest) h.1))
-
-pub returns : goal.returns
-returns c =
-    let same : c.as_bytes.result.now ≡ c.args.text.now = search rules in
-    let cut = c.cut_sign-is_below in
-    let e = c.in_ok-front.exponent in
-    let same_exponent = to_z-of_z w32 e (raised_fits cut.result.1.now c.in_ok-front.front.now e c.in_ok-front.ensures.0) in
-    subst (λ b. Finds (λ n. IsDecimal n × SaysUnsigned b (without_leading_sign c.args.text.now) n) c.number_of.result)
-    (cut.ensures.below ∙ ap starts_with_minus same)
-    (subst (λ t. Finds (λ n. IsDecimal n × SaysUnsigned cut.result.0 t n) c.number_of.result) (cut.ensures.rest ∙ ap without_leading_sign same)
-    (found_cut cut.result.0 cut.result.1.now c.in_ok-front.front.now c.cut_dot.result.0.now c.cut_dot.result.1.now c.in_ok-front.exponent
-    c.number_of.result c.in_ok-front.ensures c.cut_dot.ensures.dotted c.cut_dot.ensures.front
-    (subst (λ k. Finds (λ n. IsDecimal n × IsOfDigits cut.result.0 c.cut_dot.result.0.now c.cut_dot.result.1.now k n) c.number_of.result) same_exponent
-    c.number_of.ensures)))
+pub returns-in-Some : goal.returns-in-Some
+returns-in-Some c =
+    let same : c.as_bytes-text.result.now ≡ c.args.text.now = search rules in
+    let (good, shown) = c.in-Some.ensures in
+    (good, own_text c.args.text.now c.in-Some.number good (shown ∙ same))

@@ -86,15 +86,28 @@ fn a_call_is_sent_or_refused(rt: HostRuntime) -> Result<(), Fail> {
     Ok(())
 }
 
+// A client with a boxed sink.
+type BoxedClient = StatsdClient<RefusingAllocator<Global>>;
+
+// Makes such a client.
+fn make_boxed_client(heap: &RefusingAllocator<Global>) -> MetricResult<BoxedClient> {
+    let boxed = Box::new(heap.clone()?, NopMetricSink)?;
+    let sink: Box<dyn MetricSink + Send + Sync, RefusingAllocator<Global>> = boxed;
+    StatsdClient::from_sink(heap.clone()?, "p", sink)
+}
+
+// Returns how many requests a plain call makes.
+fn requests_of_call(heap: &RefusingAllocator<Global>, client: &BoxedClient) -> MetricResult<u64> {
+    let before = heap.left();
+    client.count("some.counter", 3)?;
+    Ok(before.wrapping_sub(heap.left()))
+}
+
 #[test]
 fn a_plain_call_takes_its_line_alone(rt: HostRuntime) -> Result<(), Fail> {
     let heap = RefusingAllocator::after(rt.alloc(), rt.alloc(), 99)?;
-    let boxed = Box::new(heap.clone()?, NopMetricSink)?;
-    let sink: Box<dyn MetricSink + Send + Sync, RefusingAllocator<Global>> = boxed;
-    let client = StatsdClient::from_sink(heap.clone()?, "p", sink)?;
-    let before = heap.left();
-    client.count("some.counter", 3)?;
-    assert_eq!(rt; before.wrapping_sub(heap.left()), 1);
+    let client = make_boxed_client(&heap)?;
+    assert_eq!(rt; requests_of_call(&heap, &client)?, 1);
     Ok(())
 }
 
@@ -183,19 +196,22 @@ fn settings_of(
     Ok(settings)
 }
 
+// Returns whether there was memory for settings and the line of that call, which must be this one.
+fn is_line_of_call(heap: &RefusingAllocator<Global>) -> Result<bool, Fail> {
+    let Ok(settings) = settings_of(heap) else {
+        return Ok(false);
+    };
+    match line_of_call(heap, &settings) {
+        Ok(line) if line.as_str() == "p.k:7:8|ms|#a:b,d:e,f|c:id|T9" => Ok(true),
+        Ok(_) => Err(Fail::new("another line")),
+        Err(error) => is_made::<()>(Err(error)),
+    }
+}
+
 #[test]
 fn a_call_as_data_has_its_line(rt: HostRuntime) -> Result<(), Fail> {
-    let granted: Result<Option<u64>, Fail> = each_refused(rt.alloc(), |heap| {
-        let Ok(settings) = settings_of(&heap) else {
-            return Ok(false);
-        };
-        let line = line_of_call(&heap, &settings);
-        if let Ok(line) = &line {
-            assert_eq!(rt; line.as_str(), "p.k:7:8|ms|#a:b,d:e,f|c:id|T9");
-        }
-        is_made(line)
-    });
-    assert!(rt; granted?.is_some_and(|granted| granted > 12));
+    let granted = each_refused(rt.alloc(), |heap| is_line_of_call(&heap))?;
+    assert!(rt; granted.is_some_and(|granted| granted > 12));
     Ok(())
 }
 
@@ -211,15 +227,22 @@ fn overflowing_call(
     })
 }
 
+// Returns whether that call is refused without a request for memory.
+fn overflows_without_request(heap: &RefusingAllocator<Global>) -> Result<bool, Fail> {
+    let settings = settings_of(heap)?;
+    let call = overflowing_call(heap)?;
+    let before = heap.left();
+    match settings.record_of(&call) {
+        Ok(_) => Err(Fail::new("made")),
+        Err(error) => {
+            Ok(error.kind() == ErrorKind::InvalidInput && heap.left() == before && before > 0)
+        }
+    }
+}
+
 #[test]
 fn an_overflow_is_reported_before_memory_is_asked_for(rt: HostRuntime) -> Result<(), Fail> {
     let heap = RefusingAllocator::after(rt.alloc(), rt.alloc(), 19)?;
-    let settings = settings_of(&heap)?;
-    let call = overflowing_call(&heap)?;
-    let before = heap.left();
-    let Err(error) = settings.record_of(&call) else {
-        return Err(Fail::new("made"));
-    };
-    assert!(rt; error.kind() == ErrorKind::InvalidInput && heap.left() == before && before > 0);
+    assert!(rt; overflows_without_request(&heap)?);
     Ok(())
 }

@@ -107,13 +107,21 @@ fn make_calls_without_answer(client: &StatsdClient<Global, CountingSink>) -> Met
     client.flush()
 }
 
+// Returns whether each of those calls reaches the sink once.
+fn each_reaches(
+    calls: &AtomicU64,
+    client: &StatsdClient<Global, CountingSink>,
+) -> MetricResult<bool> {
+    make_calls_that_answer(client)?;
+    let answered = calls.load(Ordering::SeqCst);
+    make_calls_without_answer(client)?;
+    Ok(answered == 2 && calls.load(Ordering::SeqCst) == 104)
+}
+
 #[test]
 fn each_call_reaches_the_sink_once(rt: HostRuntime) -> Result<(), Fail> {
     let (calls, client) = make_counted_client(rt.alloc())?;
-    make_calls_that_answer(&client)?;
-    assert!(rt; calls.load(Ordering::SeqCst) == 2);
-    make_calls_without_answer(&client)?;
-    assert!(rt; calls.load(Ordering::SeqCst) == 104);
+    assert!(rt; each_reaches(&calls, &client)?);
     Ok(())
 }
 
@@ -138,15 +146,23 @@ fn overflow_error(client: &StatsdClient<Global, CountingSink>) -> Result<MetricE
     error_of(call.with_tag_value("c").try_send())
 }
 
+// Returns whether calls whose values are refused return their errors, and don't call the sink.
+fn keep_uncalled(
+    alloc: Global,
+    calls: &AtomicU64,
+    client: &StatsdClient<Global, CountingSink>,
+) -> Result<bool, Fail> {
+    let overflows = is_invalid(alloc, &overflow_error(client)?, "u64 overflow")?;
+    client.count_with_tags("k", Nothing).send();
+    let refused = error_of(client.count("k", Nothing))?;
+    let is_refused = is_invalid(alloc, &refused, "no number")?;
+    Ok(overflows && is_refused && calls.load(Ordering::SeqCst) == 0)
+}
+
 #[test]
 fn an_error_of_a_value_keeps_the_sink_uncalled(rt: HostRuntime) -> Result<(), Fail> {
     let (calls, client) = make_counted_client(rt.alloc())?;
-    let error = overflow_error(&client)?;
-    assert!(rt; is_invalid(rt.alloc(), &error, "u64 overflow")?);
-    client.count_with_tags("k", Nothing).send();
-    let error = error_of(client.count("k", Nothing))?;
-    assert!(rt; is_invalid(rt.alloc(), &error, "no number")?);
-    assert!(rt; calls.load(Ordering::SeqCst) == 0);
+    assert!(rt; keep_uncalled(rt.alloc(), &calls, &client)?);
     Ok(())
 }
 
@@ -186,11 +202,11 @@ impl CallCounts {
     }
 }
 
-// Makes a client whose sink refuses each line, with a boxed handler.
-fn make_refused_client(
-    alloc: Global,
-    counts: &CallCounts,
-) -> Result<StatsdClient<Global, RefusingSink, BoxedErrorHandler>, Fail> {
+// A client whose sink refuses each line, with a boxed handler.
+type RefusedClient = StatsdClient<Global, RefusingSink, BoxedErrorHandler>;
+
+// Makes such a client.
+fn make_refused_client(alloc: Global, counts: &CallCounts) -> Result<RefusedClient, Fail> {
     let weights = counts.weights.clone()?;
     let handler: BoxedHandler = Box::new(alloc, move |error: MetricError| {
         weights.fetch_add(weight_of(&error), Ordering::SeqCst);
@@ -214,35 +230,44 @@ fn is_flush_error(answer: MetricResult<()>) -> bool {
     matches!(answer, Err(MetricError::Sink(SinkError::NothingWritten)))
 }
 
+// Returns whether each call that answers returns the error of the sink.
+fn each_returns_its_error(client: &RefusedClient) -> Result<bool, Fail> {
+    let plain = is_sink_error(client.count("k", 1))?;
+    let built = is_sink_error(client.count_with_tags("k", 1).try_send())?;
+    Ok(plain && built && is_flush_error(client.flush()))
+}
+
 #[test]
 fn an_error_that_is_returned_is_not_handled(rt: HostRuntime) -> Result<(), Fail> {
     let counts = CallCounts::zero(rt.alloc())?;
     let client = make_refused_client(rt.alloc(), &counts)?;
-    let plain = is_sink_error(client.count("k", 1))?;
-    let built = is_sink_error(client.count_with_tags("k", 1).try_send())?;
-    let flushed = is_flush_error(client.flush());
-    assert!(rt; plain && built && flushed && counts.are(2, 0));
+    assert!(rt; each_returns_its_error(&client)? && counts.are(2, 0));
     Ok(())
+}
+
+// Returns whether each error that no call returns is handled once.
+fn each_is_handled(client: &RefusedClient, counts: &CallCounts) -> bool {
+    client.count_with_tags("k", 1).with_tag("a", "b").send();
+    let of_sink = counts.are(1, 1);
+    client.consume_error(MetricError::from(SinkError::ChannelFull));
+    let of_caller = counts.are(1, 11);
+    client.count_with_tags("k", Nothing).send();
+    of_sink && of_caller && counts.are(1, 1_011)
 }
 
 #[test]
 fn an_error_that_is_not_returned_is_handled_once(rt: HostRuntime) -> Result<(), Fail> {
     let counts = CallCounts::zero(rt.alloc())?;
     let client = make_refused_client(rt.alloc(), &counts)?;
-    client.count_with_tags("k", 1).with_tag("a", "b").send();
-    assert!(rt; counts.are(1, 1));
-    client.consume_error(MetricError::from(SinkError::ChannelFull));
-    assert!(rt; counts.are(1, 11));
-    client.count_with_tags("k", Nothing).send();
-    assert!(rt; counts.are(1, 1_011));
+    assert!(rt; each_is_handled(&client, &counts));
     Ok(())
 }
 
-// Makes a client whose sink refuses each line, with a handler of the caller's own type, which isn't boxed.
-fn make_client_with_own_handler(
-    alloc: Global,
-    counts: &CallCounts,
-) -> Result<StatsdClient<Global, RefusingSink, WeighingHandler>, Fail> {
+// A client whose sink refuses each line, with a handler of the caller's own type, which isn't boxed.
+type OwnClient = StatsdClient<Global, RefusingSink, WeighingHandler>;
+
+// Makes such a client.
+fn make_client_with_own_handler(alloc: Global, counts: &CallCounts) -> Result<OwnClient, Fail> {
     let weights = counts.weights.clone()?;
     let client = StatsdClient::builder(alloc, "p", counts.sink()?)
         .with_handler(WeighingHandler { weights })
@@ -251,15 +276,19 @@ fn make_client_with_own_handler(
     Ok(client)
 }
 
+// Returns whether an error is handled once if no call returns it, and else not.
+fn own_is_called(client: &OwnClient, counts: &CallCounts) -> bool {
+    client.incr_with_tags("k").send();
+    client.count_with_tags("k", Nothing).send();
+    let handled = counts.are(1, 1_001);
+    handled && client.incr("k").is_err() && counts.are(2, 1_001)
+}
+
 #[test]
 fn a_handler_of_the_callers_own_type_is_called_once(rt: HostRuntime) -> Result<(), Fail> {
     let counts = CallCounts::zero(rt.alloc())?;
     let client = make_client_with_own_handler(rt.alloc(), &counts)?;
-    client.incr_with_tags("k").send();
-    client.count_with_tags("k", Nothing).send();
-    assert!(rt; counts.are(1, 1_001));
-    assert!(rt; client.incr("k").is_err());
-    assert!(rt; counts.are(2, 1_001));
+    assert!(rt; own_is_called(&client, &counts));
     Ok(())
 }
 
@@ -290,12 +319,15 @@ fn is_next<R: Wait + Drop>(receiver: &SpyReceiver<R>, text: &str) -> bool {
         .is_some_and(|next| next.as_slice() == text.as_bytes())
 }
 
+// Returns whether the next messages are those two, and no other one comes.
+fn are_just_both<R: Wait + Drop>(receiver: &SpyReceiver<R>) -> bool {
+    is_next(receiver, "p.k:1|e") && is_next(receiver, "p.k:1|c|#a:b") && receiver.recv().is_none()
+}
+
 #[test]
 fn just_the_text_goes_to_the_sink(rt: HostRuntime) -> Result<(), Fail> {
     let (receiver, spy) = SpyMetricSink::new(rt.clone()?, rt.alloc())?;
-    let sink: BoxedSink = Box::new(rt.alloc(), spy)?;
-    send_by_a_client(rt.alloc(), sink)?;
-    assert!(rt; is_next(&receiver, "p.k:1|e") && is_next(&receiver, "p.k:1|c|#a:b"));
-    assert!(rt; receiver.recv().is_none());
+    send_by_a_client(rt.alloc(), Box::new(rt.alloc(), spy)?)?;
+    assert!(rt; are_just_both(&receiver));
     Ok(())
 }

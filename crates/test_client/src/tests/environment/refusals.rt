@@ -13,12 +13,7 @@ use test_tools::{RefusingAllocator, each_refused};
 type Heap = RefusingAllocator<Global>;
 
 const GIVEN: Given<'static> = Given {
-    variables: &[
-        ("DD_DOGSTATSD_URL", b"udp://127.0.0.1:9"),
-        ("DD_ENV", b"prod"),
-        ("DD_TAGS", b"a:b, c"),
-        ("DD_ENTITY_ID", b"id"),
-    ],
+    variables: b"DD_DOGSTATSD_URL=udp://127.0.0.1:9;DD_ENV=prod;DD_TAGS=a:b, c;DD_ENTITY_ID=id",
 };
 
 // More than the requests of any attempt. The countdown of a heap that refused one has passed 0, and is greater.

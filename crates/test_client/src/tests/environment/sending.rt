@@ -11,14 +11,52 @@ use std::sync::Wait;
 use std::test::Fail;
 use std::time::Duration;
 
+// A client to where an environment says.
+type Client<R> = StatsdClient<Global, EnvironmentSink<R>>;
+
 // Makes a client to where the environment says, with its tags.
 fn client_of<R: Net + Wait + Clone + Drop>(
     rt: &R,
     alloc: Global,
     environment: &Environment,
-) -> MetricResult<StatsdClient<Global, EnvironmentSink<R>>> {
+) -> MetricResult<Client<R>> {
     let sink = sink_to(rt, alloc, environment.destination())?;
     environment.builder(alloc, "p", sink).build()
+}
+
+// Makes a client to where these variables say, with their tags.
+fn client_by<R: Net + Wait + Clone + Drop>(
+    rt: &R,
+    alloc: Global,
+    variables: &str,
+) -> MetricResult<Client<R>> {
+    let given = Given {
+        variables: variables.as_bytes(),
+    };
+    client_of(rt, alloc, &Environment::read(&(given, alloc))?)
+}
+
+// Sends a line with a tag of its own.
+fn send_tagged<R: Net + Wait + Clone + Drop>(client: &Client<R>) -> MetricResult<()> {
+    let call = client.count_with_tags("k", 1).with_tag("a", "b");
+    call.try_send()?;
+    client.flush()
+}
+
+// Sends a line.
+fn send_plain<R: Net + Wait + Clone + Drop>(client: &Client<R>) -> MetricResult<()> {
+    client.count("k", 1)?;
+    client.flush()
+}
+
+// Asserts that the next datagram that the server receives is this text.
+fn assert_receives(server: &UdpSocket, text: &str) -> Result<(), Fail> {
+    let mut bytes = [0u8; 64];
+    let count = server.recv(&mut bytes)?;
+    if bytes.get(..count) != Some(text.as_bytes()) {
+        return Err(Fail::new("another datagram"));
+    }
+    Ok(())
 }
 
 #[test]
@@ -26,45 +64,32 @@ fn a_server_gets_the_tags_over_udp(rt: HostRuntime) -> Result<(), Fail> {
     let server = UdpSocket::bind(&rt, SocketAddr::from((Ipv4Addr::LOCALHOST, 0)))?;
     server.set_read_timeout(Some(Duration::from_secs(60)))?;
     let port = server.local_addr()?.port();
-    let port = format!(in rt.alloc(); "{port}")?;
-    let given = Given {
-        variables: &[
-            ("DD_DOGSTATSD_PORT", port.as_bytes()),
-            ("DD_ENV", b"prod"),
-            ("DD_TAGS", b"beta"),
-        ],
-    };
-    let environment = Environment::read(&(given, rt.alloc()))?;
-    let client = client_of(&rt, rt.alloc(), &environment)?;
-    client
-        .count_with_tags("k", 1)
-        .with_tag("a", "b")
-        .try_send()?;
-    client.flush()?;
-    let mut bytes = [0u8; 64];
-    let count = server.recv(&mut bytes)?;
-    assert!(rt; &bytes[..count] == b"p.k:1|c|#env:prod,beta,a:b\n".as_slice());
-    Ok(())
+    let variables = format!(in rt.alloc(); "DD_DOGSTATSD_PORT={port};DD_ENV=prod;DD_TAGS=beta")?;
+    send_tagged(&client_by(&rt, rt.alloc(), &variables)?)?;
+    assert_receives(&server, "p.k:1|c|#env:prod,beta,a:b\n")
 }
 
 #[test]
 fn a_server_gets_the_tags_at_a_path(rt: HostRuntime) -> Result<(), Fail> {
     let path = path_of(&rt, "environment")?;
-    let url = format!(in rt.alloc(); "unix://{path}")?;
-    let given = Given {
-        variables: &[
-            ("DD_DOGSTATSD_URL", url.as_bytes()),
-            ("DD_SERVICE", b"shop"),
-            ("DD_ENTITY_ID", b"9f2c"),
-        ],
-    };
+    let variables = format!(in rt.alloc();
+        "DD_DOGSTATSD_URL=unix://{path};DD_SERVICE=shop;DD_ENTITY_ID=9f2c"
+    )?;
     let server = bind_server(&rt, &path)?;
-    let environment = Environment::read(&(given, rt.alloc()))?;
-    let client = client_of(&rt, rt.alloc(), &environment)?;
-    client.count("k", 1)?;
-    client.flush()?;
+    send_plain(&client_by(&rt, rt.alloc(), &variables)?)?;
     unlink(&rt, &path)?;
     server.assert_datagrams(&["p.k:1|c|#service:shop,dd.internal.entity_id:9f2c\n"])
+}
+
+// Asserts that a client to where the environment says sends over UDP, and without tags.
+fn assert_is_untagged<R: Net + Wait + Clone + Drop>(client: &Client<R>) -> Result<(), Fail> {
+    if client.count("k", 1)?.as_metric_str() != "p.k:1|c" {
+        return Err(Fail::new("another line"));
+    }
+    match client.sink() {
+        EnvironmentSink::Udp(_) => Ok(()),
+        EnvironmentSink::Unix(_) => Err(Fail::new("a path")),
+    }
 }
 
 // The process of the tests has none of the variables, so both send to this machine over UDP, without tags.
@@ -74,11 +99,5 @@ fn the_environment_of_the_process_is_read(rt: HostRuntime) -> Result<(), Fail> {
         return Err(Fail::new("a path"));
     }
     let environment = Environment::read(&(&rt, rt.alloc()))?;
-    let client = client_of(&rt, rt.alloc(), &environment)?;
-    let line = client.count("k", 1)?;
-    assert_eq!(rt; line.as_metric_str(), "p.k:1|c");
-    match client.sink() {
-        EnvironmentSink::Udp(_) => Ok(()),
-        EnvironmentSink::Unix(_) => Err(Fail::new("a path")),
-    }
+    assert_is_untagged(&client_of(&rt, rt.alloc(), &environment)?)
 }

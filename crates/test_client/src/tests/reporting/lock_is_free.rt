@@ -1,5 +1,5 @@
 //! A wrapped sink whose `stats` waits while another thread reports and emits over the reporting sink above it.
-use super::stage::Runtime;
+use super::stage::{Runtime, assert_notes};
 use cadence::sinks::{MetricSink, SpyMetricSink, SpyReceiver};
 use cadence::stats::SinkStats;
 use cadence::types::SinkError;
@@ -113,12 +113,5 @@ fn report_in_a_report<R: Runtime + Threads>(rt: &R, made: &Made<R>) -> bool {
 fn counts_are_read_without_a_lock(rt: HostRuntime) -> Result<(), Fail> {
     let made = make(&rt, rt.alloc())?;
     assert!(rt; report_in_a_report(&rt, &made));
-    for wanted in ["me.bytes_sent:20|c", "a:1|c", "me.bytes_sent:10|c"] {
-        let Some(line) = made.notes.try_recv() else {
-            return Err(Fail::new(format_args!("no line {wanted}")));
-        };
-        assert_eq!(rt; str::from_utf8(&line)?, wanted);
-    }
-    assert!(rt; made.notes.try_recv().is_none());
-    Ok(())
+    assert_notes(&made.notes, "me.bytes_sent:20|c\na:1|c\nme.bytes_sent:10|c")
 }

@@ -1,48 +1,58 @@
 //! What a report has, if a test asks for it.
-use super::stage::{Runtime, Watch, make_counted, report_on};
+use super::stage::{Reported, Reporting, Runtime, Watch, make_counted, make_reported, report_on};
 use cadence::client::BoxedSink;
 use cadence::sinks::MetricSink;
-use cadence::types::{MetricError, SinkError};
-use cadence_agent::ReportingMetricSink;
+use cadence::types::{MetricError, MetricResult, SinkError};
 use std::alloc::Global;
 use std::test::Fail;
-use std::time::Duration;
 use test_tools::{RefusingAllocator, each_refused};
+
+// The counts of a stage, and the lines of the report that is made then.
+type Row = ([u64; 5], &'static str);
+
+// Reports with the counts of each row in turn, and asserts that each report has the lines of its row.
+fn assert_reports<R: Runtime>(made: &Reported<R>, rows: &[Row]) -> Result<(), Fail> {
+    for (counts, lines) in rows {
+        made.watch.stage.set(*counts);
+        made.sink.report()?;
+        made.watch.assert_lines(lines)?;
+    }
+    Ok(())
+}
+
+const GROWTHS: &[Row] = &[
+    ([1000, 100, 50, 5, 7], ""),
+    (
+        [1300, 103, 60, 6, 9],
+        "me.bytes_sent:300|c
+me.packets_sent:3|c
+me.bytes_dropped:10|c
+me.packets_dropped:1|c
+me.lines_dropped:2|c",
+    ),
+    ([1300, 103, 60, 6, 9], ""),
+    ([1300, 103, 60, 8, 9], "me.packets_dropped:2|c"),
+];
 
 #[test]
 fn a_report_has_what_grew_since_the_last_one(rt: HostRuntime) -> Result<(), Fail> {
-    let (watch, counted) = make_counted(&rt, rt.alloc())?;
-    watch.stage.set([1000, 100, 50, 5, 7]);
-    let sink = report_on(&rt, rt.alloc(), counted)?;
-    sink.report()?;
-    watch.assert_lines(&[])?;
-    watch.stage.set([1300, 103, 60, 6, 9]);
-    sink.report()?;
-    watch.assert_lines(&[
-        "me.bytes_sent:300|c",
-        "me.packets_sent:3|c",
-        "me.bytes_dropped:10|c",
-        "me.packets_dropped:1|c",
-        "me.lines_dropped:2|c",
-    ])?;
-    sink.report()?;
-    watch.assert_lines(&[])?;
-    watch.stage.set([1300, 103, 60, 8, 9]);
-    sink.report()?;
-    watch.assert_lines(&["me.packets_dropped:2|c"])
+    assert_reports(
+        &make_reported(&rt, rt.alloc(), [1000, 100, 50, 5, 7])?,
+        GROWTHS,
+    )
 }
+
+const WRAPPED: &[Row] = &[(
+    [2, 0, 0, 0, u64::MAX],
+    "me.bytes_sent:3|c\nme.lines_dropped:18446744073709551615|c",
+)];
 
 #[test]
 fn a_count_may_wrap(rt: HostRuntime) -> Result<(), Fail> {
-    let (watch, counted) = make_counted(&rt, rt.alloc())?;
-    watch.stage.set([u64::MAX, 0, 0, 0, 0]);
-    let sink = report_on(&rt, rt.alloc(), counted)?;
-    watch.stage.set([2, 0, 0, 0, u64::MAX]);
-    sink.report()?;
-    watch.assert_lines(&[
-        "me.bytes_sent:3|c",
-        "me.lines_dropped:18446744073709551615|c",
-    ])
+    assert_reports(
+        &make_reported(&rt, rt.alloc(), [u64::MAX, 0, 0, 0, 0])?,
+        WRAPPED,
+    )
 }
 
 // Asserts that the sink refuses a line as its wrapped sink does.
@@ -53,69 +63,95 @@ fn assert_refuses<S: MetricSink>(sink: &S, line: &str) -> Result<(), Fail> {
     }
 }
 
+// Asserts that the sink takes a line of five bytes.
+fn assert_takes<S: MetricSink>(sink: &S, line: &str) -> Result<(), Fail> {
+    match sink.emit(line) {
+        Ok(5) => Ok(()),
+        _ => Err(Fail::new("another answer")),
+    }
+}
+
+// Makes a report, and asserts that it has these lines, beside what the sink took before it.
+fn assert_report<R: Runtime>(made: &Reported<R>, lines: &str) -> Result<(), Fail> {
+    made.sink.report()?;
+    made.watch.assert_lines(lines)
+}
+
+// Emits two lines that are refused and one that is taken, and makes two reports.
+fn assert_counts_refused<R: Runtime>(made: &Reported<R>) -> Result<(), Fail> {
+    made.watch.set_refuses(true);
+    assert_refuses(&made.sink, "a:1|c")?;
+    assert_refuses(&made.sink, "b:1|c")?;
+    made.watch.set_refuses(false);
+    assert_takes(&made.sink, "c:1|c")?;
+    assert_report(made, "c:1|c\nme.lines_refused:2|c")?;
+    assert_report(made, "")
+}
+
 #[test]
 fn a_report_has_the_lines_that_were_refused(rt: HostRuntime) -> Result<(), Fail> {
-    let (watch, counted) = make_counted(&rt, rt.alloc())?;
-    let sink = report_on(&rt, rt.alloc(), counted)?;
-    watch.set_refuses(true);
-    assert_refuses(&sink, "a:1|c")?;
-    assert_refuses(&sink, "b:1|c")?;
-    watch.set_refuses(false);
-    assert_eq!(rt; sink.emit("c:1|c")?, 5);
-    sink.report()?;
-    watch.assert_lines(&["c:1|c", "me.lines_refused:2|c"])?;
-    sink.report()?;
-    watch.assert_lines(&[])
+    assert_counts_refused(&make_reported(&rt, rt.alloc(), [0, 0, 0, 0, 0])?)
+}
+
+// Asserts that a report is refused as its wrapped sink refuses a line.
+fn assert_report_is_refused<R: Runtime>(sink: &Reporting<R>) -> Result<(), Fail> {
+    match sink.report() {
+        Err(MetricError::Sink(SinkError::ChannelFull)) => Ok(()),
+        _ => Err(Fail::new("another answer")),
+    }
+}
+
+const KEPT: &str = "me.bytes_sent:15|c
+me.packets_sent:1|c
+me.bytes_dropped:4|c
+me.packets_dropped:2|c
+me.lines_dropped:3|c
+me.lines_refused:1|c";
+
+// Makes a report that is refused, and one that is taken.
+fn assert_keeps<R: Runtime>(made: &Reported<R>) -> Result<(), Fail> {
+    made.watch.stage.set([10, 1, 4, 2, 3]);
+    made.watch.set_refuses(true);
+    assert_refuses(&made.sink, "a:1|c")?;
+    assert_report_is_refused(&made.sink)?;
+    made.watch.set_refuses(false);
+    made.watch.stage.set([15, 1, 4, 2, 3]);
+    assert_report(made, KEPT)
 }
 
 // What a report couldn't send is in the next one, and the counters that were refused aren't lines that were refused.
 #[test]
 fn what_a_report_could_not_send_stays(rt: HostRuntime) -> Result<(), Fail> {
-    let (watch, counted) = make_counted(&rt, rt.alloc())?;
-    let sink = report_on(&rt, rt.alloc(), counted)?;
-    watch.stage.set([10, 1, 4, 2, 3]);
-    watch.set_refuses(true);
-    assert_refuses(&sink, "a:1|c")?;
-    let Err(MetricError::Sink(SinkError::ChannelFull)) = sink.report() else {
-        return Err(Fail::new("another answer"));
-    };
-    watch.set_refuses(false);
-    watch.stage.set([15, 1, 4, 2, 3]);
-    sink.report()?;
-    watch.assert_lines(&[
-        "me.bytes_sent:15|c",
-        "me.packets_sent:1|c",
-        "me.bytes_dropped:4|c",
-        "me.packets_dropped:2|c",
-        "me.lines_dropped:3|c",
-        "me.lines_refused:1|c",
-    ])
+    assert_keeps(&make_reported(&rt, rt.alloc(), [0, 0, 0, 0, 0])?)
 }
 
 #[test]
 fn the_drop_sends_the_last_report(rt: HostRuntime) -> Result<(), Fail> {
-    let (watch, counted) = make_counted(&rt, rt.alloc())?;
-    let sink = report_on(&rt, rt.alloc(), counted)?;
+    let Reported { sink, watch } = make_reported(&rt, rt.alloc(), [0, 0, 0, 0, 0])?;
     watch.stage.set([0, 0, 0, 0, 4]);
     drop(sink);
-    watch.assert_lines(&["me.lines_dropped:4|c"])
+    watch.assert_lines("me.lines_dropped:4|c")
+}
+
+// Asserts that a sink has the counts 1 to 4 and five dropped lines, and that its flush writes nothing.
+fn assert_passes_on<S: MetricSink>(sink: &S) -> Result<(), Fail> {
+    let stats = sink.stats();
+    let is_sent = stats.bytes_sent == 1 && stats.packets_sent == 2;
+    let is_dropped = stats.bytes_dropped == 3 && stats.packets_dropped == 4;
+    if !is_sent || !is_dropped || sink.dropped_lines() != 5 {
+        return Err(Fail::new("another count"));
+    }
+    match sink.flush() {
+        Err(SinkError::NothingWritten) => Ok(()),
+        _ => Err(Fail::new("another answer of a flush")),
+    }
 }
 
 #[test]
 fn a_reporting_sink_passes_calls_on(rt: HostRuntime) -> Result<(), Fail> {
-    let (watch, counted) = make_counted(&rt, rt.alloc())?;
-    let sink = report_on(&rt, rt.alloc(), counted)?;
-    watch.stage.set([1, 2, 3, 4, 5]);
-    let stats = sink.stats();
-    assert_eq!(rt; stats.bytes_sent, 1);
-    assert_eq!(rt; stats.packets_sent, 2);
-    assert_eq!(rt; stats.bytes_dropped, 3);
-    assert_eq!(rt; stats.packets_dropped, 4);
-    assert_eq!(rt; sink.dropped_lines(), 5);
-    let Err(SinkError::NothingWritten) = sink.flush() else {
-        return Err(Fail::new("another answer of a flush"));
-    };
-    Ok(())
+    let made = make_reported(&rt, rt.alloc(), [0, 0, 0, 0, 0])?;
+    made.watch.stage.set([1, 2, 3, 4, 5]);
+    assert_passes_on(&made.sink)
 }
 
 #[test]
@@ -127,30 +163,40 @@ fn a_box_passes_the_number_of_dropped_lines_on(rt: HostRuntime) -> Result<(), Fa
     Ok(())
 }
 
+// Returns whether something was made. It may only be refused because memory runs out.
+fn is_made<T: Drop>(answer: MetricResult<T>) -> Result<bool, Fail> {
+    match answer {
+        Ok(_) => Ok(true),
+        Err(MetricError::Sink(SinkError::OutOfMemory)) => Ok(false),
+        Err(_) => Err(Fail::new("another error")),
+    }
+}
+
 // Sends two reports. If a request for memory of the first one is refused, then the second one has the counters that
-// the first one lacks: together the two have each counter once. Returns whether there was memory for the sink and for
-// the first report.
+// the first one lacks: together the two have each counter once. Returns whether there was memory for the first report.
+fn reports_both<R: Runtime>(
+    sink: &Reporting<R, RefusingAllocator<Global>>,
+    watch: &Watch<R>,
+) -> Result<bool, Fail> {
+    watch.stage.set([10, 1, 0, 0, 0]);
+    let has_memory = is_made(sink.report())?;
+    sink.report()?;
+    assert_both(watch)?;
+    Ok(has_memory)
+}
+
+// Makes a sink with this memory and sends two reports. Returns whether there was memory for the sink and for the first
+// report.
 fn reports_once<R: Runtime>(
     rt: &R,
     alloc: Global,
     heap: RefusingAllocator<Global>,
 ) -> Result<bool, Fail> {
     let (watch, counted) = make_counted(rt, alloc)?;
-    let hour = Duration::from_secs(3600);
-    let sink = match ReportingMetricSink::new(rt.clone()?, heap, counted, "me", hour) {
-        Ok(sink) => sink,
-        Err(MetricError::Sink(SinkError::OutOfMemory)) => return Ok(false),
-        Err(_) => return Err(Fail::new("another error")),
-    };
-    watch.stage.set([10, 1, 0, 0, 0]);
-    let has_memory = match sink.report() {
-        Ok(()) => true,
-        Err(MetricError::Sink(SinkError::OutOfMemory)) => false,
-        Err(_) => return Err(Fail::new("another error")),
-    };
-    sink.report()?;
-    assert_both(&watch)?;
-    Ok(has_memory)
+    match report_on(rt, heap, counted) {
+        Ok(sink) => reports_both(&sink, &watch),
+        Err(error) => is_made::<()>(Err(error)),
+    }
 }
 
 // Asserts that the two counters came, each once, in any order.
@@ -158,16 +204,15 @@ fn assert_both<R: Runtime>(watch: &Watch<R>) -> Result<(), Fail> {
     let (Some(one), Some(other)) = (watch.notes.try_recv(), watch.notes.try_recv()) else {
         return Err(Fail::new("a counter is missing"));
     };
-    let (bytes, packets) = (
-        "me.bytes_sent:10|c".as_bytes(),
-        "me.packets_sent:1|c".as_bytes(),
-    );
-    let is_in_order = one.as_slice() == bytes && other.as_slice() == packets;
-    let is_turned = one.as_slice() == packets && other.as_slice() == bytes;
-    if !(is_in_order || is_turned) {
+    if !are_both(&one, &other) && !are_both(&other, &one) {
         return Err(Fail::new("another counter"));
     }
-    watch.assert_lines(&[])
+    watch.assert_lines("")
+}
+
+// Returns whether these are the counters of 10 bytes and of a packet.
+fn are_both(bytes: &[u8], packets: &[u8]) -> bool {
+    bytes == "me.bytes_sent:10|c".as_bytes() && packets == "me.packets_sent:1|c".as_bytes()
 }
 
 #[test]

@@ -1,7 +1,7 @@
 //! A sink whose counts a test sets, and which notes its lines in a spy.
 use cadence::sinks::{MetricSink, SpyMetricSink, SpyReceiver};
 use cadence::stats::SinkStats;
-use cadence::types::SinkError;
+use cadence::types::{MetricResult, SinkError};
 use cadence_agent::ReportingMetricSink;
 use std::alloc::{Allocator, Global};
 use std::sync::atomic::{AtomicBool, AtomicU64, Ordering};
@@ -112,21 +112,30 @@ pub fn make_counted<R: Wait + Clone + Drop>(
     Ok((watch, sink))
 }
 
+// Asserts that the next line of a spy is this text.
+fn assert_note<R: Wait + Drop>(notes: &SpyReceiver<R>, text: &str) -> Result<(), Fail> {
+    match notes.try_recv() {
+        None => Err(Fail::new(format_args!("no line {text}"))),
+        Some(line) if line.as_slice() == text.as_bytes() => Ok(()),
+        Some(_) => Err(Fail::new(format_args!("another line than {text}"))),
+    }
+}
+
+/// Asserts that the lines of a spy are those of this text, and no more.
+pub fn assert_notes<R: Wait + Drop>(notes: &SpyReceiver<R>, wanted: &str) -> Result<(), Fail> {
+    for text in wanted.lines() {
+        assert_note(notes, text)?;
+    }
+    match notes.try_recv() {
+        None => Ok(()),
+        Some(_) => Err(Fail::new("one line more")),
+    }
+}
+
 impl<R: Wait + Drop> Watch<R> {
-    /// Asserts that the sink took these lines and no more since the last time.
-    pub fn assert_lines(&self, wanted: &[&str]) -> Result<(), Fail> {
-        for text in wanted {
-            let Some(line) = self.notes.try_recv() else {
-                return Err(Fail::new(format_args!("no line {text}")));
-            };
-            if line.as_slice() != text.as_bytes() {
-                return Err(Fail::new(format_args!("another line than {text}")));
-            }
-        }
-        if self.notes.try_recv().is_some() {
-            return Err(Fail::new("one line more"));
-        }
-        Ok(())
+    /// Asserts that the sink took the lines of this text and no more since the last time.
+    pub fn assert_lines(&self, wanted: &str) -> Result<(), Fail> {
+        assert_notes(&self.notes, wanted)
     }
 
     /// Sets whether the sink refuses lines.
@@ -149,7 +158,26 @@ pub fn report_on<R: Runtime, A: Allocator + Clone + Send + Sync + 'static>(
     rt: &R,
     heap: A,
     counted: CountedSink<R>,
-) -> Result<Reporting<R, A>, Fail> {
+) -> MetricResult<Reporting<R, A>> {
     let hour = Duration::from_secs(3600);
-    Ok(ReportingMetricSink::new(rt.clone()?, heap, counted, "me", hour)?)
+    ReportingMetricSink::new(rt.clone()?, heap, counted, "me", hour)
+}
+
+/// A reporting sink over a counted one, and what a test has of that.
+#[derive(Drop)]
+pub struct Reported<R: Runtime> {
+    pub sink: Reporting<R>,
+    pub watch: Watch<R>,
+}
+
+/// Makes a reporting sink over a counted one, which has these counts before.
+pub fn make_reported<R: Runtime>(
+    rt: &R,
+    alloc: Global,
+    counts: [u64; 5],
+) -> Result<Reported<R>, Fail> {
+    let (watch, counted) = make_counted(rt, alloc)?;
+    watch.stage.set(counts);
+    let sink = report_on(rt, alloc, counted)?;
+    Ok(Reported { sink, watch })
 }

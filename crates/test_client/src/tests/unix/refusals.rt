@@ -20,7 +20,7 @@ const TOO_LONG: &str =
     "/nowhere/aaaaaaaaaaaaaaaaaaaaaaaaaaaaaaaaaaaaaaaaaaaaaaaaaaaaaaaaaaaaaaaaaaaaaaaaaaaaaaaaaaaaaaaaaaaaaaaaaaa";
 
 // The texts that are no paths, each with its fault and with what its error says.
-const FAULTS: [(&str, PathError, &str); 4] = [
+const FAULTS: &[(&str, PathError, &str)] = &[
     ("", PathError::Empty, "the path of a Unix socket is empty"),
     (
         "\0",
@@ -68,15 +68,26 @@ fn assert_not_sent(alloc: Global, socket: &UnixSocket, path: &str, text: &str) -
     Ok(())
 }
 
+// Asserts that a path has this fault, and that neither a sink nor a socket takes it.
+fn assert_fault<R: Net + Wait + Clone + Drop>(
+    rt: &R,
+    alloc: Global,
+    socket: &UnixSocket,
+    row: &(&str, PathError, &str),
+) -> Result<(), Fail> {
+    let (path, fault, text) = *row;
+    if check_path(path) != Err(fault) {
+        return Err(Fail::new("another fault"));
+    }
+    assert_no_sink(rt, alloc, path, text)?;
+    assert_not_sent(alloc, socket, path, text)
+}
+
 #[test]
 fn a_text_that_is_no_path_is_refused(rt: HostRuntime) -> Result<(), Fail> {
     let socket = UnixSocket::new(&rt)?;
-    for (path, fault, text) in FAULTS {
-        if check_path(path) != Err(fault) {
-            return Err(Fail::new("another fault"));
-        }
-        assert_no_sink(&rt, rt.alloc(), path, text)?;
-        assert_not_sent(rt.alloc(), &socket, path, text)?;
+    for row in FAULTS {
+        assert_fault(&rt, rt.alloc(), &socket, row)?;
     }
     Ok(())
 }
@@ -94,11 +105,9 @@ fn the_longest_path_is_a_path(rt: HostRuntime) -> Result<(), Fail> {
     Ok(())
 }
 
-#[test]
-fn a_buffer_that_no_datagram_holds_is_refused(rt: HostRuntime) -> Result<(), Fail> {
-    let alloc = rt.alloc();
-    let _largest = buffered_unix_sink(&rt, alloc, LONGEST, MAX_PACKET)?;
-    let Err(error) = buffered_unix_sink(&rt, alloc, LONGEST, MAX_PACKET + 1) else {
+// Asserts that a buffer is refused because no datagram holds its capacity.
+fn assert_too_large<S: Drop>(alloc: Global, made: MetricResult<S>) -> Result<(), Fail> {
+    let Err(error) = made else {
         return Err(Fail::new("a sink is made"));
     };
     let says = format!(in alloc; "{error}")?;
@@ -107,6 +116,16 @@ fn a_buffer_that_no_datagram_holds_is_refused(rt: HostRuntime) -> Result<(), Fai
         return Err(Fail::new(format_args!("another error: {error}")));
     }
     Ok(())
+}
+
+#[test]
+fn a_buffer_that_no_datagram_holds_is_refused(rt: HostRuntime) -> Result<(), Fail> {
+    let alloc = rt.alloc();
+    let _largest = buffered_unix_sink(&rt, alloc, LONGEST, MAX_PACKET)?;
+    assert_too_large(
+        alloc,
+        buffered_unix_sink(&rt, alloc, LONGEST, MAX_PACKET + 1),
+    )
 }
 
 // Returns whether there was memory for both sinks, a client and a line.

@@ -3,7 +3,7 @@ use super::server::{bind_server, unlink};
 use cadence::prelude::*;
 use cadence::types::SinkError;
 use cadence::{MetricError, MetricResult, MetricSink, StatsdClient};
-use cadence_agent::{UnixSink, buffered_unix_sink, unix_sink};
+use cadence_agent::{BufferedUnixSink, UnixSink, buffered_unix_sink, unix_sink};
 use std::alloc::Global;
 use std::fs::Files;
 use std::io::ErrorKind;
@@ -38,27 +38,47 @@ pub fn io_kind<T: Drop>(answer: MetricResult<T>) -> Option<ErrorKind> {
     }
 }
 
+// Counts under these keys, and flushes.
+fn count_each<S: MetricSink>(client: &StatsdClient<Global, S>, keys: &[&str]) -> MetricResult<()> {
+    for key in keys {
+        client.incr(key)?;
+    }
+    client.flush()
+}
+
+// Sends a counter and a gauge.
+fn send_two<S: MetricSink>(client: &StatsdClient<Global, S>) -> MetricResult<()> {
+    client.incr("a")?;
+    client.gauge("b", 7)?;
+    Ok(())
+}
+
 #[test]
 fn a_client_sends_each_line(rt: HostRuntime) -> Result<(), Fail> {
     let path = path_of(&rt, "each")?;
     let server = bind_server(&rt, &path)?;
-    let client = client_to(&rt, rt.alloc(), &path)?;
-    client.incr("a")?;
-    client.gauge("b", 7)?;
+    send_two(&client_to(&rt, rt.alloc(), &path)?)?;
     unlink(&rt, &path)?;
     server.assert_datagrams(&["p.a:1|c", "p.b:7|g"])
+}
+
+// Makes a client whose packets to a path have at most 16 bytes.
+fn packing_client_to<R: Net + Wait + Clone + Drop>(
+    rt: &R,
+    alloc: Global,
+    path: &str,
+) -> MetricResult<StatsdClient<Global, BufferedUnixSink<R>>> {
+    StatsdClient::from_sink(alloc, "p", buffered_unix_sink(rt, alloc, path, 16)?)
 }
 
 #[test]
 fn a_buffered_client_packs_lines(rt: HostRuntime) -> Result<(), Fail> {
     let path = path_of(&rt, "packed")?;
     let server = bind_server(&rt, &path)?;
-    let sink = buffered_unix_sink(&rt, rt.alloc(), &path, 16)?;
-    let client = StatsdClient::from_sink(rt.alloc(), "p", sink)?;
-    client.incr("a")?;
-    client.incr("b")?;
-    client.incr("c")?;
-    client.flush()?;
+    count_each(
+        &packing_client_to(&rt, rt.alloc(), &path)?,
+        &["a", "b", "c"],
+    )?;
     unlink(&rt, &path)?;
     server.assert_datagrams(&["p.a:1|c\np.b:1|c\n", "p.c:1|c\n"])
 }
@@ -74,23 +94,34 @@ fn assert_reaches<R: Files + Net + Wait + Drop>(
     server.assert_datagrams(&["p.a:1|c"])
 }
 
+// Asserts that a call fails with this kind of the system's error.
+fn assert_fails<R: Wait + Drop>(client: &UnixClient<R>, kind: ErrorKind) -> Result<(), Fail> {
+    match io_kind(client.incr("a")) {
+        Some(found) if found == kind => Ok(()),
+        _ => Err(Fail::new(format_args!("no error of the kind {kind:?}"))),
+    }
+}
+
+// Sends before a server is there, to a server, after it is closed, after its file is removed, and to another server.
+fn assert_finds_again<R: Files + Net + Wait + Drop>(
+    rt: &R,
+    client: &UnixClient<R>,
+    path: &str,
+) -> Result<(), Fail> {
+    assert_fails(client, ErrorKind::NotFound)?;
+    assert_reaches(rt, client, path)?;
+    assert_fails(client, ErrorKind::ConnectionRefused)?;
+    unlink(rt, path)?;
+    assert_fails(client, ErrorKind::NotFound)?;
+    assert_reaches(rt, client, path)?;
+    unlink(rt, path)
+}
+
 #[test]
 fn a_server_that_restarts_is_found_again(rt: HostRuntime) -> Result<(), Fail> {
     let path = path_of(&rt, "restarts")?;
     let client = client_to(&rt, rt.alloc(), &path)?;
-    let unbound = io_kind(client.incr("a"));
-    assert_reaches(&rt, &client, &path)?;
-    let closed = io_kind(client.incr("a"));
-    unlink(&rt, &path)?;
-    let gone = io_kind(client.incr("a"));
-    assert_reaches(&rt, &client, &path)?;
-    unlink(&rt, &path)?;
-    if unbound != Some(ErrorKind::NotFound) || gone != Some(ErrorKind::NotFound) {
-        return Err(Fail::new("a path without a file is an error of another kind"));
-    }
-    if closed != Some(ErrorKind::ConnectionRefused) {
-        return Err(Fail::new("a closed server is an error of another kind"));
-    }
+    assert_finds_again(&rt, &client, &path)?;
     let stats = client.sink().stats();
     if stats.packets_sent != 2 || stats.packets_dropped != 3 {
         return Err(Fail::new("other counts"));

@@ -1,0 +1,103 @@
+/* environment FILE: tests what the variables of the environment say by the rows of a file, bindings/environment.rows. It
+ * prints each row of which the library says something else, and its exit status is then 1. */
+#include <cadence.h>
+#include <stdio.h>
+#include <stdlib.h>
+#include <string.h>
+
+enum { LONGEST = 4096, VARIABLES = 10 };
+
+static char values[VARIABLES][LONGEST];
+static bool is_set[VARIABLES];
+
+/* Returns the value of a variable of the row, as getenv does. */
+static char *value_of(const char *name) {
+    for (uint32_t i = 0; i < VARIABLES; i++)
+        if (is_set[i] && strcmp(name, cadence_variable_name(i)) == 0) return values[i];
+    return NULL;
+}
+
+/* Copies a text in which `\n` is a newline and `\xHH` the byte of this number. */
+static void unescape(char *to, const char *from, size_t len) {
+    const char *end = from + len;
+    while (from < end) {
+        const char next = *from == '\\' ? from[1] : '\0';
+        if (next == 'n') *to++ = '\n', from += 2;
+        else if (next == 'x') {
+            const char hex[] = { from[2], from[3], '\0' };
+            *to++ = (char)strtoul(hex, NULL, 16), from += 4;
+        } else *to++ = *from++;
+    }
+    *to = '\0';
+}
+
+/* Sets the variables of a row: NAME=VALUE, with ` & ` between each two. Returns false if a name is unknown. */
+static bool set_variables(const char *text) {
+    memset(is_set, 0, sizeof is_set);
+    while (*text != '\0') {
+        const char *equals = strchr(text, '='), *end = strstr(text, " & ");
+        uint32_t i = 0;
+        if (equals == NULL) return false;
+        if (end == NULL) end = text + strlen(text);
+        while (i < VARIABLES && strncmp(text, cadence_variable_name(i), (size_t)(equals - text)) != 0) i++;
+        if (i == VARIABLES) return false;
+        unescape(values[i], equals + 1, (size_t)(end - equals - 1));
+        is_set[i] = true;
+        text = *end != '\0' ? end + 3 : end;
+    }
+    return true;
+}
+
+/* Writes the tags of a tags' text as a row has them, each after ` | `, with `=` for its first colon. */
+static void put_tags(char *to, const char *text, size_t len) {
+    bool keyed = false;
+    for (size_t i = len != 0 ? 1 : 0; i < len; i++) {
+        if (text[i] == '#' && i == 1) to += sprintf(to, " | ");
+        else if (text[i] == ',') to += sprintf(to, " | "), keyed = false;
+        else if (text[i] == ':' && !keyed) *to++ = '=', keyed = true;
+        else *to++ = text[i];
+    }
+    *to = '\0';
+}
+
+/* Writes what the variables say as a row has it. */
+static void say(char *to) {
+    uint8_t place[256], tags[LONGEST], words[256];
+    size_t place_len, tags_len, words_len;
+    uint16_t port = 1;
+    uint32_t variable = VARIABLES;
+    const cadence_variables variables = cadence_variables_of(value_of);
+    uint32_t status = cadence_destination(&variables, place, sizeof place, &place_len, &port, &variable);
+    if (status == CADENCE_OK)
+        status = cadence_environment_tags(&variables, tags, sizeof tags, &tags_len, &variable);
+    if (status == CADENCE_VARIABLE && cadence_variable_text(variable, words, sizeof words, &words_len) == CADENCE_OK
+        && memcmp(words, cadence_variable_name(variable), strlen(cadence_variable_name(variable))) == 0)
+        sprintf(to, "refuses %s", cadence_variable_name(variable));
+    else if (status != CADENCE_OK) sprintf(to, "status %u", status);
+    else {
+        to += port != 0 ? sprintf(to, "udp %.*s %u", (int)place_len, (char *)place, port)
+                        : sprintf(to, "unix %.*s", (int)place_len, (char *)place);
+        put_tags(to, (char *)tags, tags_len);
+    }
+}
+
+int main(int argc, char **argv) {
+    static char row[LONGEST], wanted[LONGEST], said[2 * LONGEST];
+    FILE *file = argc == 2 ? fopen(argv[1], "r") : NULL;
+    int rows = 0, failures = 0;
+    if (file == NULL) return 2;
+    while (fgets(row, sizeof row, file) != NULL) {
+        row[strcspn(row, "\n")] = '\0';
+        if (row[0] == '\0' || row[0] == '#') continue;
+        char *arrow = strstr(row, " <- ");
+        if (strstr(row, "\\x00") != NULL) continue; /* the environment of a process has no such byte */
+        if (arrow != NULL) *arrow = '\0';
+        if (!set_variables(arrow != NULL ? arrow + 4 : "")) return 3;
+        unescape(wanted, row, strlen(row));
+        say(said);
+        rows++;
+        if (strcmp(wanted, said) != 0) failures++, printf("%s <- %s\n  is %s\n", row, arrow != NULL ? arrow + 4 : "", said);
+    }
+    printf("%d rows, %d differ\n", rows, failures);
+    return failures != 0 || rows < 250;
+}

@@ -1,0 +1,81 @@
+/* What the variables of the environment say, as functions of statsd_proved._core. */
+#include "core.h"
+#include <string.h>
+
+enum { VARIABLES = 10 };
+
+/* Reads the values of the variables, a tuple of bytes in the order of cadence.h. Returns false if it has set an
+ * exception. */
+static bool read_variables(PyObject *values, cadence_variables *to) {
+    struct {
+        const uint8_t *at;
+        size_t len;
+    } texts[VARIABLES];
+    _Static_assert(sizeof texts == sizeof *to, "the variables of cadence.h are pairs of a pointer and a length");
+    if (!PyTuple_Check(values) || PyTuple_Size(values) != VARIABLES) {
+        PyErr_SetString(PyExc_TypeError, "the values of the variables are a tuple of ten bytes");
+        return false;
+    }
+    for (Py_ssize_t i = 0; i < VARIABLES; i++) {
+        char *at;
+        Py_ssize_t len;
+        if (PyBytes_AsStringAndSize(PyTuple_GetItem(values, i), &at, &len) < 0) return false;
+        texts[i].at = (const uint8_t *)at;
+        texts[i].len = (size_t)len;
+    }
+    memcpy(to, texts, sizeof *to);
+    return true;
+}
+
+/* Sets a VariableError, or a MemoryError. */
+static PyObject *refused(uint32_t status, uint32_t variable) {
+    uint8_t text[256];
+    size_t len;
+    if (status != CADENCE_VARIABLE || cadence_variable_text(variable, text, sizeof text, &len) != CADENCE_OK)
+        return PyErr_NoMemory();
+    PyObject *module = PyImport_ImportModule("statsd_proved.environment");
+    PyObject *kind = module != NULL ? PyObject_GetAttrString(module, "VariableError") : NULL;
+    PyObject *arguments = kind != NULL
+        ? Py_BuildValue("(ss#)", cadence_variable_name(variable), (const char *)text, (Py_ssize_t)len) : NULL;
+    if (arguments != NULL) PyErr_SetObject(kind, arguments);
+    Py_XDECREF(arguments);
+    Py_XDECREF(kind);
+    Py_XDECREF(module);
+    return NULL;
+}
+
+/* A call that writes a text about the variables. */
+typedef uint32_t call(const cadence_variables *variables, uint8_t *out, size_t out_len, size_t *len, uint16_t *port, uint32_t *variable);
+
+static uint32_t put_tags(const cadence_variables *variables, uint8_t *out, size_t out_len, size_t *len, uint16_t *port, uint32_t *variable) {
+    *port = 0;
+    return cadence_environment_tags(variables, out, out_len, len, variable);
+}
+
+/* Returns the text that a call writes, and the port that it sets. */
+static PyObject *said(call *call, PyObject *values) {
+    cadence_variables variables;
+    uint32_t variable = 0, status;
+    uint16_t port = 0;
+    size_t len = 0, room = 0;
+    PyObject *made = NULL;
+    uint8_t *text = NULL, *more = NULL;
+    if (!read_variables(values, &variables)) return NULL;
+    while ((status = call(&variables, text, room, &len, &port, &variable)) == CADENCE_TOO_SMALL
+           && (more = PyMem_Realloc(text, len)) != NULL)
+        text = more, room = len;
+    if (status == CADENCE_OK) made = Py_BuildValue("(s#i)", text != NULL ? (const char *)text : "", (Py_ssize_t)len, (int)port);
+    else refused(status, variable);
+    PyMem_Free(text);
+    return made;
+}
+
+PyObject *destination(PyObject *module, PyObject *values) {
+    (void)module;
+    return said(cadence_destination, values);
+}
+
+PyObject *environment_tags(PyObject *module, PyObject *values) {
+    (void)module;
+    return said(put_tags, values);
+}

@@ -1,0 +1,107 @@
+//! The packer of the library, which needs one call at a time.
+//!
+//! Its `unsafe` code is safe for the reasons of `raw.rs`, and because each call that uses a handle takes `&mut self`.
+use crate::layout::{Counts, Handle};
+use crate::raw::{checked, OK, TOO_SMALL};
+use std::{fmt, io};
+
+/// What the library does if a packet is made and as many wait as may: it refuses the call.
+const REFUSE: u32 = 0;
+
+/// How many packets may wait in a packer, which is the least: one does, and only until its line is sent alone.
+const PACKETS: usize = 2;
+
+unsafe extern "C" {
+    fn cadence_open(handle: *mut Handle, capacity: usize, packets: usize, policy: u32) -> u32;
+    fn cadence_free(handle: *mut Handle);
+    fn cadence_line(handle: *mut Handle, line: *const u8, len: usize) -> u32;
+    fn cadence_held(handle: *mut Handle, buf: *mut u8, room: usize, size: *mut usize) -> u32;
+    fn cadence_drop_held(handle: *mut Handle) -> u32;
+    fn cadence_next(handle: *mut Handle, buf: *mut u8, room: usize, size: *mut usize) -> u32;
+    fn cadence_sent(handle: *mut Handle) -> u32;
+    fn cadence_counts(handle: *mut Handle, counts: *mut Counts) -> u32;
+}
+
+/// The packer, with the text that it has buffered and the packets that wait.
+pub(crate) struct Packer {
+    handle: Handle,
+    packet: Vec<u8>,
+}
+
+// SAFETY: the library stores nothing that belongs to a thread, and each call that changes a packer takes `&mut self`.
+unsafe impl Send for Packer {}
+
+impl Packer {
+    /// Makes a packer whose packets have at most `capacity` bytes.
+    pub(crate) fn new(capacity: usize) -> io::Result<Packer> {
+        let mut handle = Handle::CLOSED;
+        // SAFETY: the handle is closed.
+        checked(unsafe { cadence_open(&mut handle, capacity, PACKETS, REFUSE) })?;
+        Ok(Packer { handle, packet: Vec::new() })
+    }
+
+    /// Returns how many bytes are held for the next packet.
+    #[inline]
+    pub(crate) fn held_len(&mut self) -> usize {
+        let mut counts = Counts::default();
+        // SAFETY: the handle is open, and because of `&mut self` only one call at a time uses it.
+        unsafe { cadence_counts(&mut self.handle, &mut counts) };
+        counts.held
+    }
+
+    /// Adds a line to the held text, or makes a packet of it. After an error the packer is as it was.
+    #[inline]
+    pub(crate) fn keep(&mut self, line: &[u8]) -> io::Result<()> {
+        // SAFETY: as in `held_len`; the pointer has the length of its slice.
+        checked(unsafe { cadence_line(&mut self.handle, line.as_ptr(), line.len()) })
+    }
+
+    /// Returns the held text, which stays held.
+    pub(crate) fn held(&mut self) -> &[u8] {
+        // SAFETY: as in `held_len`; the pointer has the length of its slice.
+        self.copied(|handle, at, room, size| unsafe { cadence_held(handle, at, room, size) }).unwrap_or_default()
+    }
+
+    /// Drops the held text, after it was sent. After an error it is still held.
+    pub(crate) fn drop_held(&mut self) -> io::Result<()> {
+        // SAFETY: as in `held_len`.
+        checked(unsafe { cadence_drop_held(&mut self.handle) })
+    }
+
+    /// Returns the packet that waits, if one does. The packet still waits afterwards.
+    pub(crate) fn next(&mut self) -> Option<&[u8]> {
+        // SAFETY: as in `held`.
+        self.copied(|handle, at, room, size| unsafe { cadence_next(handle, at, room, size) })
+    }
+
+    /// Returns the text that a call of the library copies to the buffer, if there is one.
+    fn copied(&mut self, copy: impl Fn(&mut Handle, *mut u8, usize, &mut usize) -> u32) -> Option<&[u8]> {
+        let mut size = 0;
+        loop {
+            match copy(&mut self.handle, self.packet.as_mut_ptr(), self.packet.len(), &mut size) {
+                OK => return self.packet.get(..size),
+                TOO_SMALL => self.packet.resize(size, 0),
+                _ => return None,
+            }
+        }
+    }
+
+    /// Drops the packet that waits, if there is one.
+    pub(crate) fn drop_oldest(&mut self) {
+        // SAFETY: as in `held_len`.
+        unsafe { cadence_sent(&mut self.handle) };
+    }
+}
+
+impl fmt::Debug for Packer {
+    fn fmt(&self, f: &mut fmt::Formatter<'_>) -> fmt::Result {
+        f.write_str("Packer { .. }")
+    }
+}
+
+impl Drop for Packer {
+    fn drop(&mut self) {
+        // SAFETY: as in `held_len`; no call uses the handle after this one.
+        unsafe { cadence_free(&mut self.handle) }
+    }
+}

@@ -1,0 +1,9 @@
+pub mod Fewest
+pub mod Observed
+pub mod OtherSteps
+pub mod Rearranged
+pub mod Rewrites
+pub mod RunSteps
+pub mod SumSteps
+pub mod Tables
+pub mod TimingSteps

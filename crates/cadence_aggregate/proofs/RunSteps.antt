@@ -1,0 +1,41 @@
+-- What the lines of a run say, one step further.
+use Rattle.std.proofs.Common.{◌≡◌, ℕ, List, [], ◌∷◌, ◌++◌, length, refl, sym, ap, ◌∙◌, arith, append_assoc, append-nil}
+use Rattle.std.specs.Prelude.{Result, Ok, Err, OnOk, OnErr}
+use Rattle.cadence_aggregate.specs.Aggregate.{accepted, said_by}
+use Rattle.cadence_aggregate.specs.Lines.{samples_of}
+use Rattle.cadence_aggregate.specs.Refusals.{after_reply, after_replies}
+use Rattle.cadence_aggregate.specs.Server.{Sample, IsSummary}
+use Rattle.cadence_aggregate.specs.declared.line.Line.{Line}
+use Rattle.cadence_aggregate.specs.declared.runs.Step.{Step}
+use Rattle.cadence_aggregate.specs.declared.runs.Step.TheVariants.{Add}
+use Rattle.cadence_aggregate.specs.declared.sink.Fault.{Fault}
+use Rattle.cadence_aggregate.proofs.Observed.{same_of, same_trans, same_more}
+
+abbrev Reply : Type 0
+Reply = Result (Unit {0}) Fault
+
+pub accepted_snoc : (xs : List Step) (rs : List Reply) (x : Step) (r : Reply) → length rs ≡ length xs → accepted (xs ++ x ∷ []) (rs ++ r ∷ []) ≡ accepted xs rs ++ said_by x r
+accepted_snoc [] [] x r h = append-nil (said_by x r)
+accepted_snoc [] (q ∷ rs) x r h = absurd (omega arith)
+accepted_snoc (y ∷ xs) [] x r h = absurd (omega arith)
+accepted_snoc (y ∷ xs) (q ∷ rs) x r h =
+    ap (λ t. said_by y q ++ t) (accepted_snoc xs rs x r (omega arith)) ∙ sym (append_assoc (said_by y q) (accepted xs rs) (said_by x r))
+
+-- one step further
+pub step_said : (before past now : List Sample) (xs : List Step) (rs : List Reply) (x : Step) (r : Reply) → length rs ≡ length xs
+    → IsSummary (before ++ accepted xs rs) past → IsSummary (past ++ said_by x r) now → IsSummary (before ++ accepted (xs ++ x ∷ []) (rs ++ r ∷ [])) now
+step_said before past now xs rs x r h a b =
+    same_trans _ _ _ (same_of (before ++ accepted (xs ++ x ∷ []) (rs ++ r ∷ [])) ((before ++ accepted xs rs) ++ said_by x r)
+    (ap (λ t. before ++ t) (accepted_snoc xs rs x r h) ∙ sym (append_assoc before (accepted xs rs) (said_by x r))))
+    (same_trans _ _ _ (same_more (before ++ accepted xs rs) past (said_by x r) a) b)
+
+-- the refusals after one more reply
+pub refused_more : (first : ℕ) (rs : List Reply) (r : Reply) → after_replies first (rs ++ r ∷ []) ≡ after_reply (after_replies first rs) r
+refused_more first [] r = refl
+refused_more first (q ∷ rs) r = refused_more (after_reply first q) rs r
+
+-- a step says what its line says, if it was accepted
+pub line_said : (s now : List Sample) (line : Line) (r : Reply) → OnOk r (IsSummary (s ++ samples_of line) now) → OnErr r (IsSummary s now)
+    → IsSummary (s ++ said_by (Add line) r) now
+line_said s now line (Ok x) a b = a
+line_said s now line (Err e) a b = same_trans _ _ _ (same_of (s ++ []) s (append-nil s)) b

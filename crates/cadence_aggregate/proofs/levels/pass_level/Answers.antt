@@ -1,0 +1,19 @@
+use Rattle.std.proofs.Common.{◌∷◌, [], sym}
+use Rattle.cadence_aggregate.specs.Server.{level}
+use Rattle.cadence_aggregate.specs.Held.{held_levels}
+use Rattle.cadence_aggregate.proofs.Observed.{same_of}
+use Rattle.cadence_aggregate.proofs.OtherSteps.{sent_after}
+use Rattle.cadence_aggregate.proofs.Rearranged.{map_ok}
+use Rattle.cadence_aggregate.proofs.Tables.{on_err}
+use Rattle.cadence_aggregate.proofs.levels.pass_level.Goals as goal
+
+pub returns-in_err-flush_levels-clause-err : goal.returns-in_err-flush_levels-clause-err
+returns-in_err-flush_levels-clause-err g c =
+    on_err c.from_residual.result (same_of _ _ (sym c.in_err-flush_levels.ensures.same))
+
+pub returns-clause-ok : goal.returns-clause-ok
+returns-clause-ok g c =
+    let sent = g.S.LineSink.sent in
+    let none = c.in_ok-flush_levels.ensures.ok in
+    rw none (map_ok c.send.result (sent_after (sent c.args.sink.now) (sent c.flush_levels.new.sink) (sent c.send.new.self) (held_levels c.args.levels.now.entries) (level c.args.context.now c.args.value.now ∷ [])
+    (rw none at c.in_ok-flush_levels.ensures.same)) c.send.ensures.ok)

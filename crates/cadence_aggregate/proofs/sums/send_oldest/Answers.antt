@@ -1,0 +1,15 @@
+use Rattle.std.specs.Prelude.{string_bytes}
+use Rattle.std.proofs.Common.{◌++◌, rules, sym, ap, append_assoc}
+use Rattle.std.proofs.lemmas.Int.{to_z-of_z}
+use mir.Syntax.{w64}
+use mir.Val.{SFits}
+use Rattle.cadence_aggregate.specs.Server.{amount}
+use Rattle.cadence_aggregate.proofs.Tables.{popped}
+use Rattle.cadence_aggregate.proofs.sums.send_oldest.Goals as goal
+
+pub returns-clause-same : goal.returns-clause-same
+returns-clause-same g c =
+    let first = popped (λ e. amount (string_bytes e.0) e.1) c.args.sums.now.entries (c.in-Some.context.now, c.in-Some.sum.now) (sym c.in-Some.ensures) in
+    let fits : SFits w64 c.in-Some.sum.now = search rules in
+    rw (c.in_ok-send-in-Some.ensures.ok, c.pop_lru.ensures.entries, append_assoc, c.as_str.ensures.value, to_z-of_z w64 c.in-Some.sum.now fits)
+    (ap (λ t. g.S.LineSink.sent c.args.sink.now ++ t) first)

@@ -1,0 +1,48 @@
+-- What an aggregator holds, and what a run of lines and flushes says.
+use Rattle.std.specs.Prelude.{◌≡◌, ◌+◌, List, [], ◌∷◌, ◌++◌, Result, Ok, Err, length, true}
+use Rattle.std.specs.Map.{lookup}
+use Rattle.cadence_aggregate.specs.Held.{held_sums, held_levels, held_members, held_timings}
+use Rattle.cadence_aggregate.specs.Lines.{samples_of}
+use Rattle.cadence_aggregate.specs.Quiet.{AreDistinct, HasRoom, CanRaise, CanAppend, is_context}
+use Rattle.cadence_aggregate.specs.Server.{Sample, is_plain}
+use Rattle.cadence_aggregate.specs.declared.aggregator.Aggregator.{Aggregator}
+use Rattle.cadence_aggregate.specs.declared.line.Line.{Line}
+use Rattle.cadence_aggregate.specs.declared.line.Line.TheVariants.{Amount, Level, Member, Timing, Other}
+use Rattle.cadence_aggregate.specs.declared.runs.Step.{Step}
+use Rattle.cadence_aggregate.specs.declared.runs.Step.TheVariants.{Add, Flush}
+use Rattle.cadence_aggregate.specs.declared.sink.Fault.{Fault}
+
+-- what the lines of the next flush say
+abbrev pub held : Aggregator → List Sample
+held a =
+    held_sums a.sums.entries ++ (held_levels a.levels.entries
+    ++ (held_members a.members.entries ++ held_timings a.timings.entries))
+
+-- In each table the contexts differ, so that a flush sends one line for each.
+pub record HasDistinct (a : Aggregator) : Type 0 where
+  pub sums : AreDistinct a.sums.entries
+  pub levels : AreDistinct a.levels.entries
+  pub members : AreDistinct a.members.entries
+  pub timings : AreDistinct a.timings.entries
+
+-- The aggregator can hold what the line says, without sending a line.
+abbrev pub CanHold : Aggregator → Line → Type 0
+CanHold a (Amount c by) = HasRoom a.sums × CanRaise (lookup (is_context c.now) a.sums.entries) by
+CanHold a (Level c value) = HasRoom a.levels × (is_plain value.now ≡ true)
+CanHold a (Member c) = HasRoom a.members
+CanHold a (Timing c values) =
+    HasRoom a.timings
+    × CanAppend (lookup (is_context c.now) a.timings.entries) (length c.now + length values.now) a.most_bytes
+CanHold a (Other line) = ⊥
+
+-- what a step says: what its line says, if it was accepted
+abbrev pub said_by : Step → Result (Unit {0}) Fault → List Sample
+said_by (Add line) (Ok done) = samples_of line
+said_by (Add line) (Err fault) = []
+said_by Flush reply = []
+
+-- what the accepted lines of a run say, in order, given the replies of its steps
+abbrev pub accepted : List Step → List (Result (Unit {0}) Fault) → List Sample
+accepted [] replies = []
+accepted (step ∷ steps) [] = []
+accepted (step ∷ steps) (reply ∷ replies) = said_by step reply ++ accepted steps replies

@@ -1,0 +1,16 @@
+-- Which lines can't be fewer.
+use Rattle.std.specs.Prelude.{◌≤◌, length, List, [], ◌∷◌}
+use Rattle.cadence_aggregate.specs.Server.{Sample, amount, level, member, timing, other, IsSummary}
+
+-- the lines that are not of timers, histograms and distributions: the values of those may be packed in several ways
+abbrev pub unpacked : List Sample → List Sample
+unpacked [] = []
+unpacked (amount c n ∷ xs) = amount c n ∷ unpacked xs
+unpacked (level c v ∷ xs) = level c v ∷ unpacked xs
+unpacked (member c ∷ xs) = member c ∷ unpacked xs
+unpacked (timing c t ∷ xs) = unpacked xs
+unpacked (other l ∷ xs) = other l ∷ unpacked xs
+
+-- No lines from which a server knows the same are fewer, packed values apart.
+abbrev pub AreFewest : List Sample → Type 0
+AreFewest xs = (ys : List Sample) → IsSummary xs ys → length (unpacked xs) ≤ length ys

@@ -1,0 +1,133 @@
+//! The last levels of gauges.
+ghost use Rattle.std.specs.Prelude.{◌≡◌, ◌++◌, ◌∷◌, ◌+◌, ◌-◌, [], true, OnOk, OnErr, length, take};
+ghost use Rattle.lru.specs.LruCache.{lru_cache};
+ghost use Rattle.cadence_aggregate.specs.Held.{held_levels};
+ghost use Rattle.cadence_aggregate.specs.Quiet.{AreDistinct, HasRoom};
+ghost use Rattle.cadence_aggregate.specs.Refusals.{after_reply};
+ghost use Rattle.cadence_aggregate.specs.Server.{IsSummary, is_plain, level};
+
+use crate::line::Line;
+use crate::sink::{Fault, LineSink};
+use lru::LruCache;
+use std::alloc::Global;
+
+// Sends the level whose last call is the least recent, and forgets it. If the sink refuses it, it stays.
+fn send_oldest<S: LineSink>(
+    levels: &mut LruCache<String, String>,
+    sink: &mut S,
+) -> Result<(), Fault>
+    ensures same { S.sent sink.new ++ held_levels levels.new.entries
+        ≡ S.sent sink.old ++ held_levels levels.old.entries }
+    ensures ok { OnOk result (levels.new ≡
+        lru_cache (take (length levels.old.entries - 1) levels.old.entries) levels.old.cap) }
+    ensures err { OnErr result (levels.new ≡ levels.old) }
+    ensures refused { S.refusals sink.new ≡ after_reply (S.refusals sink.old) result }
+{
+    match levels.peek_lru() {
+        Some((context, held)) => sink.send(Line::Level(context.as_str(), held.as_str()))?,
+        None => return Ok(()),
+    }
+    levels.pop_lru();
+    Ok(())
+}
+
+// Sends the levels, the oldest first, and forgets them. If the sink refuses one, that one and the later ones stay.
+pub(crate) fn flush_levels<S: LineSink>(
+    levels: &mut LruCache<String, String>,
+    sink: &mut S,
+) -> Result<(), Fault>
+    ensures same { S.sent sink.new ++ held_levels levels.new.entries
+        ≡ S.sent sink.old ++ held_levels levels.old.entries }
+    ensures ok { OnOk result (levels.new.entries ≡ []) }
+    ensures distinct { AreDistinct levels.old.entries }
+    ensures refused { S.refusals sink.new ≡ after_reply (S.refusals sink.old) result }
+{
+    for _ in 0..levels.len() {
+        send_oldest(levels, sink)?;
+    }
+    Ok(())
+}
+
+// Returns whether a value begins with a digit.
+fn begins_with_digit(value: &str) -> bool
+    ensures { result ≡ is_plain value.now }
+{
+    match value.as_bytes() {
+        [first, ..] => *first >= b'0' && *first < b':',
+        [] => false,
+    }
+}
+
+// Sets a gauge to a plain value.
+fn hold_level<S: LineSink>(
+    alloc: Global,
+    levels: &mut LruCache<String, String>,
+    sink: &mut S,
+    context: &str,
+    value: &str,
+) -> Result<(), Fault>
+    requires { is_plain value.now ≡ true }
+    ensures ok { OnOk result (IsSummary
+        ((S.sent sink.old ++ held_levels levels.old.entries) ++ level context.now value.now ∷ [])
+        (S.sent sink.new ++ held_levels levels.new.entries)) }
+    ensures err { OnErr result (IsSummary
+        (S.sent sink.old ++ held_levels levels.old.entries)
+        (S.sent sink.new ++ held_levels levels.new.entries)) }
+    ensures refused { S.refusals sink.new ≡ after_reply (S.refusals sink.old) result }
+    ensures quiet { HasRoom levels.old → S.sent sink.new ≡ S.sent sink.old }
+{
+    let fresh = String::from_str(alloc, value)?;
+    if let Some(held) = levels.get_mut(context) {
+        *held = fresh;
+        return Ok(());
+    }
+    let key = String::from_str(alloc, context)?;
+    if levels.len() == levels.cap().get() {
+        send_oldest(levels, sink)?;
+    }
+    levels.put(key, fresh)?;
+    Ok(())
+}
+
+// Sends the values that are held, and then this one.
+pub(crate) fn pass_level<S: LineSink>(
+    levels: &mut LruCache<String, String>,
+    sink: &mut S,
+    context: &str,
+    value: &str,
+) -> Result<(), Fault>
+    ensures ok { OnOk result (IsSummary
+        ((S.sent sink.old ++ held_levels levels.old.entries) ++ level context.now value.now ∷ [])
+        (S.sent sink.new ++ held_levels levels.new.entries)) }
+    ensures err { OnErr result (IsSummary
+        (S.sent sink.old ++ held_levels levels.old.entries)
+        (S.sent sink.new ++ held_levels levels.new.entries)) }
+    ensures refused { S.refusals sink.new ≡ after_reply (S.refusals sink.old) result }
+{
+    flush_levels(levels, sink)?;
+    sink.send(Line::Level(context, value))
+}
+
+// Sets a gauge. If the value isn't plain, the values that are held are sent, and then this one.
+pub(crate) fn set_level<S: LineSink>(
+    alloc: Global,
+    levels: &mut LruCache<String, String>,
+    sink: &mut S,
+    context: &str,
+    value: &str,
+) -> Result<(), Fault>
+    ensures ok { OnOk result (IsSummary
+        ((S.sent sink.old ++ held_levels levels.old.entries) ++ level context.now value.now ∷ [])
+        (S.sent sink.new ++ held_levels levels.new.entries)) }
+    ensures err { OnErr result (IsSummary
+        (S.sent sink.old ++ held_levels levels.old.entries)
+        (S.sent sink.new ++ held_levels levels.new.entries)) }
+    ensures refused { S.refusals sink.new ≡ after_reply (S.refusals sink.old) result }
+    ensures quiet { HasRoom levels.old → is_plain value.now ≡ true →
+        S.sent sink.new ≡ S.sent sink.old }
+{
+    if begins_with_digit(value) {
+        return hold_level(alloc, levels, sink, context, value);
+    }
+    pass_level(levels, sink, context, value)
+}

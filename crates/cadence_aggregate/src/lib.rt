@@ -1,0 +1,29 @@
+//! Adds up metrics before they are sent, and sends at each flush one line for each context.
+//!
+//! A context is a line without its values. The counters of a context are summed, of a gauge's values the last one is
+//! kept, each member of a set is kept once, and the values of timers, histograms and distributions are packed into one
+//! line. There is no lock and no thread here.
+//!
+//! - `line`: what a line says.
+//! - `sink`: where lines go, and why a line wasn't added.
+//! - `sums`: the sums of counters.
+//! - `levels`: the last values of gauges.
+//! - `members`: the members of sets.
+//! - `timings`: the values of timers, histograms and distributions.
+//! - `aggregator`: all of them.
+//! - `runs`: a run of lines and flushes.
+#![tactic(auto)]
+
+mod aggregator;
+mod levels;
+mod line;
+mod members;
+mod runs;
+mod sink;
+mod sums;
+mod timings;
+
+pub use aggregator::Aggregator;
+pub use line::Line;
+pub use runs::{Outcome, Step, run};
+pub use sink::{Fault, LineSink};

@@ -1,0 +1,73 @@
+//! The members of sets.
+ghost use Rattle.std.specs.Prelude.{◌≡◌, ◌++◌, ◌∷◌, ◌+◌, ◌-◌, [], OnOk, OnErr, length, take};
+ghost use Rattle.lru.specs.LruCache.{lru_cache};
+ghost use Rattle.cadence_aggregate.specs.Held.{held_members};
+ghost use Rattle.cadence_aggregate.specs.Quiet.{AreDistinct, HasRoom};
+ghost use Rattle.cadence_aggregate.specs.Refusals.{after_reply};
+ghost use Rattle.cadence_aggregate.specs.Server.{IsSummary, member};
+
+use crate::line::Line;
+use crate::sink::{Fault, LineSink};
+use lru::LruCache;
+use std::alloc::Global;
+
+// Sends the member whose first call is the least recent, and forgets it. If the sink refuses it, it stays.
+fn send_oldest<S: LineSink>(members: &mut LruCache<String, ()>, sink: &mut S) -> Result<(), Fault>
+    ensures same { S.sent sink.new ++ held_members members.new.entries
+        ≡ S.sent sink.old ++ held_members members.old.entries }
+    ensures ok { OnOk result (members.new ≡
+        lru_cache (take (length members.old.entries - 1) members.old.entries) members.old.cap) }
+    ensures err { OnErr result (members.new ≡ members.old) }
+    ensures refused { S.refusals sink.new ≡ after_reply (S.refusals sink.old) result }
+{
+    match members.peek_lru() {
+        Some((context, _)) => sink.send(Line::Member(context.as_str()))?,
+        None => return Ok(()),
+    }
+    members.pop_lru();
+    Ok(())
+}
+
+// Sends the members, the oldest first, and forgets them. If the sink refuses one, that one and the later ones stay.
+pub(crate) fn flush_members<S: LineSink>(
+    members: &mut LruCache<String, ()>,
+    sink: &mut S,
+) -> Result<(), Fault>
+    ensures same { S.sent sink.new ++ held_members members.new.entries
+        ≡ S.sent sink.old ++ held_members members.old.entries }
+    ensures ok { OnOk result (members.new.entries ≡ []) }
+    ensures distinct { AreDistinct members.old.entries }
+    ensures refused { S.refusals sink.new ≡ after_reply (S.refusals sink.old) result }
+{
+    for _ in 0..members.len() {
+        send_oldest(members, sink)?;
+    }
+    Ok(())
+}
+
+// Adds a member, if it isn't held yet.
+pub(crate) fn add_member<S: LineSink>(
+    alloc: Global,
+    members: &mut LruCache<String, ()>,
+    sink: &mut S,
+    context: &str,
+) -> Result<(), Fault>
+    ensures ok { OnOk result (IsSummary
+        ((S.sent sink.old ++ held_members members.old.entries) ++ member context.now ∷ [])
+        (S.sent sink.new ++ held_members members.new.entries)) }
+    ensures err { OnErr result (IsSummary
+        (S.sent sink.old ++ held_members members.old.entries)
+        (S.sent sink.new ++ held_members members.new.entries)) }
+    ensures refused { S.refusals sink.new ≡ after_reply (S.refusals sink.old) result }
+    ensures quiet { HasRoom members.old → S.sent sink.new ≡ S.sent sink.old }
+{
+    if members.contains(context) {
+        return Ok(());
+    }
+    let key = String::from_str(alloc, context)?;
+    if members.len() == members.cap().get() {
+        send_oldest(members, sink)?;
+    }
+    members.put(key, ())?;
+    Ok(())
+}

@@ -1,0 +1,74 @@
+//! A run of lines and flushes.
+ghost use Rattle.std.specs.Prelude.{◌≡◌, ◌+◌, ◌++◌, ◌<◌, length, vec_len, IfOk};
+ghost use Rattle.cadence_aggregate.specs.Aggregate.{held, accepted, said_by};
+ghost use Rattle.cadence_aggregate.specs.Refusals.{after_replies, after_reply};
+ghost use Rattle.cadence_aggregate.specs.Server.{IsSummary};
+
+use crate::aggregator::Aggregator;
+use crate::line::Line;
+use crate::sink::{Fault, LineSink};
+use std::alloc::{AllocError, Global};
+use std::num::NonZeroUsize;
+
+/// A step of a run.
+#[derive(Clone, Copy)]
+pub enum Step<'a> {
+    /// A line comes.
+    Add(Line<'a>),
+    /// What is held is sent.
+    Flush,
+}
+
+/// The reply of each step of a run, and what is still held.
+#[derive(Drop)]
+pub struct Outcome {
+    pub replies: Vec<Result<(), Fault>>,
+    pub aggregator: Aggregator,
+}
+
+// Takes a step, and returns its reply.
+fn take_step<S: LineSink>(
+    aggregator: &mut Aggregator,
+    sink: &mut S,
+    step: Step<'_>,
+) -> Result<(), Fault>
+    ensures said { IsSummary ((S.sent sink.old ++ held aggregator.old) ++ said_by step.entry result)
+        (S.sent sink.new ++ held aggregator.new) }
+    ensures refused { S.refusals sink.new ≡ after_reply (S.refusals sink.old) result }
+{
+    match step {
+        Step::Add(line) => aggregator.add(sink, line),
+        Step::Flush => aggregator.flush(sink),
+    }
+}
+
+/// Runs lines and flushes, over any sink, which may refuse what it likes, and with any limits. Each step has a reply.
+///
+/// A server knows the same from the lines that were sent, and those of what is still held, as from the accepted lines
+/// themselves, and they are no more. As many replies are `Refused` as the sink refused lines, modulo 2 to the 64. The
+/// only error is that memory ran out.
+pub fn run<S: LineSink>(
+    alloc: Global,
+    most: NonZeroUsize,
+    most_bytes: usize,
+    sink: &mut S,
+    steps: &[Step<'_>],
+) -> Result<Outcome, AllocError>
+    ensures replies { IfOk result (λ o. length o.replies.items ≡ length steps.now) }
+    ensures headline { IfOk result (λ o. IsSummary
+        (S.sent sink.old ++ accepted steps.now o.replies.items)
+        (S.sent sink.new ++ held o.aggregator)) }
+    ensures refused { IfOk result (λ o. S.refusals sink.new
+        ≡ after_replies (S.refusals sink.old) o.replies.items) }
+{
+    let mut aggregator = Aggregator::new(alloc, most, most_bytes)?;
+    let mut replies = Vec::with_capacity(alloc, steps.len())?;
+    for step in steps {
+        let reply = take_step(&mut aggregator, sink, *step);
+        replies.push(reply)?;
+    }
+    Ok(Outcome {
+        replies,
+        aggregator,
+    })
+}

@@ -1,0 +1,84 @@
+//! The sums of counters.
+ghost use Rattle.std.specs.Prelude.{◌≡◌, ◌++◌, ◌∷◌, ◌+◌, ◌-◌, [], OnOk, OnErr, length, take};
+ghost use Rattle.lru.specs.LruCache.{lru_cache};
+ghost use Rattle.cadence_aggregate.specs.Held.{held_sums};
+ghost use Rattle.cadence_aggregate.specs.Quiet.{AreDistinct, HasRoom, CanRaise, is_context};
+ghost use Rattle.std.specs.Map.{lookup};
+ghost use Rattle.cadence_aggregate.specs.Refusals.{after_reply};
+ghost use Rattle.cadence_aggregate.specs.Server.{IsSummary, amount};
+
+use crate::line::Line;
+use crate::sink::{Fault, LineSink};
+use lru::LruCache;
+use std::alloc::Global;
+
+// Sends the sum whose last call is the least recent, and forgets it. If the sink refuses it, it stays.
+fn send_oldest<S: LineSink>(sums: &mut LruCache<String, i64>, sink: &mut S) -> Result<(), Fault>
+    ensures same { S.sent sink.new ++ held_sums sums.new.entries
+        ≡ S.sent sink.old ++ held_sums sums.old.entries }
+    ensures ok { OnOk result (sums.new ≡
+        lru_cache (take (length sums.old.entries - 1) sums.old.entries) sums.old.cap) }
+    ensures err { OnErr result (sums.new ≡ sums.old) }
+    ensures refused { S.refusals sink.new ≡ after_reply (S.refusals sink.old) result }
+{
+    match sums.peek_lru() {
+        Some((context, sum)) => sink.send(Line::Amount(context.as_str(), *sum))?,
+        None => return Ok(()),
+    }
+    sums.pop_lru();
+    Ok(())
+}
+
+// Sends the sums, the oldest first, and forgets them. If the sink refuses one, that one and the later ones stay.
+pub(crate) fn flush_sums<S: LineSink>(
+    sums: &mut LruCache<String, i64>,
+    sink: &mut S,
+) -> Result<(), Fault>
+    ensures same { S.sent sink.new ++ held_sums sums.new.entries
+        ≡ S.sent sink.old ++ held_sums sums.old.entries }
+    ensures ok { OnOk result (sums.new.entries ≡ []) }
+    ensures distinct { AreDistinct sums.old.entries }
+    ensures refused { S.refusals sink.new ≡ after_reply (S.refusals sink.old) result }
+{
+    for _ in 0..sums.len() {
+        send_oldest(sums, sink)?;
+    }
+    Ok(())
+}
+
+// Raises the counter of a context. If the sum would overflow, the old sum is sent first, and the new one begins.
+pub(crate) fn add_amount<S: LineSink>(
+    alloc: Global,
+    sums: &mut LruCache<String, i64>,
+    sink: &mut S,
+    context: &str,
+    by: i64,
+) -> Result<(), Fault>
+    ensures ok { OnOk result (IsSummary
+        ((S.sent sink.old ++ held_sums sums.old.entries) ++ amount context.now by ∷ [])
+        (S.sent sink.new ++ held_sums sums.new.entries)) }
+    ensures err { OnErr result (IsSummary
+        (S.sent sink.old ++ held_sums sums.old.entries)
+        (S.sent sink.new ++ held_sums sums.new.entries)) }
+    ensures refused { S.refusals sink.new ≡ after_reply (S.refusals sink.old) result }
+    ensures quiet { HasRoom sums.old →
+        CanRaise (lookup (is_context context.now) sums.old.entries) by →
+        S.sent sink.new ≡ S.sent sink.old }
+{
+    if let Some(sum) = sums.get_mut(context) {
+        match sum.checked_add(by) {
+            Some(more) => *sum = more,
+            None => {
+                sink.send(Line::Amount(context, *sum))?;
+                *sum = by;
+            }
+        }
+        return Ok(());
+    }
+    let key = String::from_str(alloc, context)?;
+    if sums.len() == sums.cap().get() {
+        send_oldest(sums, sink)?;
+    }
+    sums.put(key, by)?;
+    Ok(())
+}

@@ -1,0 +1,106 @@
+//! The values of timers, histograms and distributions.
+ghost use Rattle.std.specs.Prelude.{◌≡◌, ◌++◌, ◌∷◌, ◌+◌, ◌-◌, [], OnOk, OnErr, length, string_bytes, take};
+ghost use Rattle.lru.specs.LruCache.{lru_cache};
+ghost use Rattle.cadence_aggregate.specs.Held.{held_timings};
+ghost use Rattle.cadence_aggregate.specs.Quiet.{AreDistinct, HasRoom, CanAppend, is_context};
+ghost use Rattle.std.specs.Map.{lookup};
+ghost use Rattle.cadence_aggregate.specs.Refusals.{after_reply};
+ghost use Rattle.cadence_aggregate.specs.Server.{IsSummary, timing};
+
+use crate::line::Line;
+use crate::sink::{Fault, LineSink};
+use lru::LruCache;
+use std::alloc::{AllocError, Global};
+
+// Sends the values whose last call is the least recent, and forgets it. If the sink refuses it, it stays.
+fn send_oldest<S: LineSink>(
+    timings: &mut LruCache<String, String>,
+    sink: &mut S,
+) -> Result<(), Fault>
+    ensures same { S.sent sink.new ++ held_timings timings.new.entries
+        ≡ S.sent sink.old ++ held_timings timings.old.entries }
+    ensures ok { OnOk result (timings.new ≡
+        lru_cache (take (length timings.old.entries - 1) timings.old.entries) timings.old.cap) }
+    ensures err { OnErr result (timings.new ≡ timings.old) }
+    ensures refused { S.refusals sink.new ≡ after_reply (S.refusals sink.old) result }
+{
+    match timings.peek_lru() {
+        Some((context, text)) => sink.send(Line::Timing(context.as_str(), text.as_str()))?,
+        None => return Ok(()),
+    }
+    timings.pop_lru();
+    Ok(())
+}
+
+// Sends the timings, the oldest first, and forgets them. If the sink refuses one, that one and the later ones stay.
+pub(crate) fn flush_timings<S: LineSink>(
+    timings: &mut LruCache<String, String>,
+    sink: &mut S,
+) -> Result<(), Fault>
+    ensures same { S.sent sink.new ++ held_timings timings.new.entries
+        ≡ S.sent sink.old ++ held_timings timings.old.entries }
+    ensures ok { OnOk result (timings.new.entries ≡ []) }
+    ensures distinct { AreDistinct timings.old.entries }
+    ensures refused { S.refusals sink.new ≡ after_reply (S.refusals sink.old) result }
+{
+    for _ in 0..timings.len() {
+        send_oldest(timings, sink)?;
+    }
+    Ok(())
+}
+
+// Appends a colon and the values. If memory runs out, the text stays as it was.
+fn append_values(text: &mut String, values: &str) -> Result<(), AllocError>
+    ensures ok { OnOk result (string_bytes text.new ≡ string_bytes text.old ++ 58 ∷ values.now) }
+    ensures err { OnErr result (string_bytes text.new ≡ string_bytes text.old) }
+{
+    text.reserve(values.len() + 1)?;
+    text.push(':')?;
+    text.push_str(values)
+}
+
+// Adds values to those of a context. If their line would have more bytes than `most`, the line of the earlier ones is
+// sent first.
+pub(crate) fn add_timing<S: LineSink>(
+    alloc: Global,
+    timings: &mut LruCache<String, String>,
+    sink: &mut S,
+    context: &str,
+    values: &str,
+    most: usize,
+) -> Result<(), Fault>
+    ensures ok { OnOk result (IsSummary
+        ((S.sent sink.old ++ held_timings timings.old.entries)
+        ++ timing context.now values.now ∷ [])
+        (S.sent sink.new ++ held_timings timings.new.entries)) }
+    ensures err { OnErr result (IsSummary
+        (S.sent sink.old ++ held_timings timings.old.entries)
+        (S.sent sink.new ++ held_timings timings.new.entries)) }
+    ensures refused { S.refusals sink.new ≡ after_reply (S.refusals sink.old) result }
+    ensures quiet { HasRoom timings.old →
+        CanAppend (lookup (is_context context.now) timings.old.entries)
+        (length context.now + length values.now) most →
+        S.sent sink.new ≡ S.sent sink.old }
+{
+    if let Some(text) = timings.get_mut(context) {
+        let len = context
+            .len()
+            .saturating_add(text.len())
+            .saturating_add(values.len());
+        if len.saturating_add(2) <= most {
+            append_values(text, values)?;
+        } else {
+            let fresh = String::from_str(alloc, values)?;
+            sink.send(Line::Timing(context, text.as_str()))?;
+            *text = fresh;
+        }
+        return Ok(());
+    }
+    let key = String::from_str(alloc, context)?;
+    let text = String::from_str(alloc, values)?;
+    if timings.len() == timings.cap().get() {
+        send_oldest(timings, sink)?;
+    }
+    timings.put(key, text)?;
+    Ok(())
+}

@@ -1,0 +1,7 @@
+pub mod Among
+pub mod MetricParts
+pub mod Records
+pub mod RunSteps
+pub mod Sayable
+pub mod Saying
+pub mod Spliced

@@ -1,0 +1,100 @@
+-- The record of an aggregator, one step further, and what it shows.
+use Rattle.std.proofs.Common.{◌≡◌, inl, inr, ℕ, List, [], ◌∷◌, ◌++◌, map, refl, sym, ap, ap₂, subst, ◌∙◌, append-nil}
+use Rattle.std.proofs.lemmas.List.{map-append}
+use Rattle.std.specs.List.{AllZip}
+use Rattle.cadence_aggregate.specs.Server.{Sample, IsSummary}
+use Rattle.cadence_aggregate.proofs.Observed.{same_of, same_trans, same_more, same_refl}
+use Rattle.cadence_aggregating.specs.Notes.{line_of_note, sample_of_note}
+use Rattle.cadence_aggregating.specs.Noted.{noted}
+use Rattle.cadence_aggregating.specs.Past.{IsPast, Summarizes, texts_in}
+use Rattle.cadence_aggregating.specs.Printed.{text_of}
+use Rattle.cadence_aggregating.specs.Says.{LineSays}
+use Rattle.cadence_aggregating.specs.declared.note.Note.{Note}
+use Rattle.cadence_aggregating.specs.declared.note.Kind.TheVariants.{Amount, Level, Member, Timing, Other}
+use Rattle.cadence_aggregating.proofs.Among.{Among}
+use Rattle.cadence_aggregating.proofs.Sayable.{IsSized, all_said, sayable}
+
+zip_more : (lines : List (List ℕ)) (said : List Sample) (line : List ℕ) (s : Sample) → AllZip LineSays lines said → LineSays line s
+    → AllZip LineSays (lines ++ line ∷ []) (said ++ s ∷ [])
+zip_more [] [] line s h last = (last, tt)
+zip_more [] (x ∷ said) line s h last = absurd h
+zip_more (y ∷ lines) [] line s h last = absurd h
+zip_more (y ∷ lines) (x ∷ said) line s (here, rest) last = (here, zip_more lines said line s rest last)
+
+-- nothing was accepted yet
+pub none_past : IsPast [] [] []
+none_past = ([], tt, same_refl [])
+
+-- one more line was accepted
+pub past_more : (accepted : List (List ℕ × ℕ)) (line : List ℕ) (count : ℕ) (sent held sent' held' : List Sample) (s : Sample)
+    → IsPast (texts_in accepted) sent held → LineSays line s → IsSummary ((sent ++ held) ++ s ∷ []) (sent' ++ held')
+    → IsPast (texts_in (accepted ++ (line, count) ∷ [])) sent' held'
+past_more accepted line count sent held sent' held' s (said, zip, sum) says step =
+    let texts : texts_in (accepted ++ (line, count) ∷ []) ≡ texts_in accepted ++ line ∷ [] = map-append (λ (t : List ℕ × ℕ). t.0) accepted ((line, count) ∷ []) in
+    subst (λ ts. IsPast ts sent' held') (sym texts) (
+      said ++ s ∷ [],
+      zip_more (texts_in accepted) said line s zip says,
+      same_trans _ _ _ (same_more said (sent ++ held) (s ∷ []) sum) step,
+    )
+
+-- no line was accepted, and lines may have been sent
+pub past_kept : (accepted : List (List ℕ)) (sent held sent' held' : List Sample) → IsPast accepted sent held
+    → IsSummary (sent ++ held) (sent' ++ held') → IsPast accepted sent' held'
+past_kept accepted sent held sent' held' (said, zip, sum) step = (said, zip, same_trans _ _ _ sum step)
+
+pub past_flushed : (accepted : List (List ℕ)) (sent held sent' held' : List Sample) → IsPast accepted sent held
+    → sent' ++ held' ≡ sent ++ held → IsPast accepted sent' held'
+past_flushed accepted sent held sent' held' past same = past_kept accepted sent held sent' held' past (same_of _ _ (sym same))
+
+sized : (note : Note) → IsSized (sample_of_note note)
+sized note = elim note.kind as (λ k. IsSized (noted k note.by note.name note.values (line_of_note note))) [
+  | Amount ↦ note.in_range
+  | Level ↦ tt
+  | Member ↦ tt
+  | Timing ↦ tt
+  | Other ↦ tt
+]
+
+among_mapped : {X Y : Type 0} (f : X → Y) (x : X) (xs : List X) → Among x xs → Among (f x) (map f xs)
+among_mapped f x [] h = absurd h
+among_mapped f x (y ∷ xs) (inl same) = inl (ap f same)
+among_mapped f x (y ∷ xs) (inr later) = inr (among_mapped f x xs later)
+
+among_left : {X : Type 0} (x : X) (xs ys : List X) → Among x xs → Among x (xs ++ ys)
+among_left x [] ys h = absurd h
+among_left x (y ∷ xs) ys (inl same) = inl same
+among_left x (y ∷ xs) ys (inr later) = inr (among_left x xs ys later)
+
+all_noted : (notes : List Note) → ((note : Note) → Among note notes → LineSays (line_of_note note) (sample_of_note note))
+    → AllZip LineSays (map line_of_note notes) (map sample_of_note notes)
+all_noted [] each = tt
+all_noted (note ∷ notes) each = (each note (inl refl), all_noted notes (λ n among. each n (inr among)))
+
+-- what the record shows
+pub summarizes : (accepted : List (List ℕ)) (notes : List Note) (held : List Sample) → IsPast accepted (map sample_of_note notes) held
+    → Summarizes accepted (map line_of_note notes) held
+summarizes accepted notes held (said, zip, sum) =
+    let sent = map sample_of_note notes in
+    let each : (note : Note) → Among note notes → LineSays (line_of_note note) (sample_of_note note) = λ note among.
+    subst (λ t. LineSays t (sample_of_note note)) (sym note.printed)
+    (sayable said (sent ++ held) sum (all_said accepted said zip) (sample_of_note note)
+    (among_left (sample_of_note note) sent held (among_mapped sample_of_note note notes among)) (sized note)) in
+    (sent, all_noted notes each, (said, zip, sum))
+
+-- the lines of notes say what the notes say
+pub noted_lines : (notes : List Note) → map line_of_note notes ≡ map text_of (map sample_of_note notes)
+noted_lines [] = refl
+noted_lines (note ∷ notes) = ap₂ (λ a b. a ∷ b) note.printed (noted_lines notes)
+
+-- the lines that a flush sends
+pub flushed_lines : (old new : List Note) (held held' : List Sample) → map sample_of_note new ++ held' ≡ map sample_of_note old ++ held → held' ≡ []
+    → map line_of_note new ≡ map line_of_note old ++ map text_of held
+flushed_lines old new held held' same none =
+    let before = map sample_of_note old in
+    let after = map sample_of_note new in
+    let sent : after ≡ before ++ held = sym (append-nil after) ∙ ap (λ t. after ++ t) (sym none) ∙ same in
+    noted_lines new ∙ ap (map text_of) sent ∙ map-append text_of before held ∙ ap (λ t. t ++ map text_of held) (sym (noted_lines old))
+
+-- if the notes say the same, their lines are the same
+pub same_lines : (old new : List Note) → map sample_of_note new ≡ map sample_of_note old → map line_of_note new ≡ map line_of_note old
+same_lines old new same = noted_lines new ∙ ap (map text_of) same ∙ sym (noted_lines old)

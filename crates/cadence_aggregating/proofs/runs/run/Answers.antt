@@ -1,0 +1,33 @@
+use Rattle.std.proofs.Common.{◌≡◌, ◌++◌, ◌∷◌, ◌<◌, [], length, take, get_or, arith, ap, sym, ◌∙◌, subst, length-append}
+use Rattle.std.proofs.lemmas.List.{take_all, take_more, length-take-le}
+use Rattle.cadence_aggregating.specs.Past.{Summarizes}
+use Rattle.cadence_aggregating.specs.Recorded.{accepted_by, held_by, taken_by}
+use Rattle.cadence_aggregating.specs.Runs.{accepted_line, accepted_lines}
+use Rattle.cadence_aggregating.specs.declared.runs.Step.{Step}
+use Rattle.cadence_aggregating.specs.declared.runs.Step.TheVariants.{Add}
+use Rattle.cadence_aggregating.proofs.RunSteps.{accepted_more}
+use Rattle.cadence_aggregating.proofs.runs.run.Goals as goal
+
+pub loop-step-preserved : goal.loop-step-preserved
+loop-step-preserved g c =
+    let i = c.loop-step.step-index in
+    let steps = c.args.steps.now in
+    let lt : i < length steps = omega arith in
+    let d : Step = Add (record { ref_ptr = (0, 0); now = [] }) in
+    let n = length-take-le i steps (omega arith) in
+    let past = c.loop-step.replies.items in
+    let reply = c.take_step-reply.result in
+    record {
+      replies = rw (c.in_ok-push.ensures.items, length-append past (reply ∷ [])) (omega (arith, c.loop-step.invariant.replies));
+      accepted = rw (take_more steps i d lt, c.in_ok-push.ensures.items)
+          (c.take_step-reply.ensures ∙ ap (λ t. t ++ accepted_line (get_or steps i d) reply) c.loop-step.invariant.accepted
+          ∙ sym (accepted_more (take i steps) past (get_or steps i d) reply (omega (arith, c.loop-step.invariant.replies, n))));
+    }
+
+pub returns-clause-headline : goal.returns-clause-headline
+returns-clause-headline g c =
+    let o = c.loop-step in
+    let all : take o.step-index c.args.steps.now ≡ c.args.steps.now = take_all o.step-index c.args.steps.now c.loop-step-test.false in
+    let accepted : accepted_by o.aggregator ≡ accepted_lines c.args.steps.now o.replies.items =
+    o.invariant.accepted ∙ ap (λ steps. accepted_lines steps o.replies.items) all in
+    subst (λ lines. ∥ Summarizes lines (taken_by o.aggregator) (held_by o.aggregator) ∥₁) accepted c.keeps_the_record.ensures

@@ -1,0 +1,11 @@
+use Rattle.std.proofs.Common.{◌≡◌, length, take}
+use Rattle.cadence_aggregating.specs.Recorded.{accepted_by}
+use Rattle.cadence_aggregating.specs.Runs.{accepted_lines}
+use Rattle.cadence_aggregating.proofs.runs.run.Given as goal
+
+-- the record has the accepted lines so far
+abbrev pub invariant-loop-step : goal.invariant-loop-step
+invariant-loop-step g l = record {
+  replies : length l.replies.items ≡ l.step-index;
+  accepted : accepted_by l.aggregator ≡ accepted_lines (take l.step-index l.steps) l.replies.items;
+}

@@ -1,0 +1,14 @@
+pub mod Additions
+pub mod Answers
+pub mod Builder
+pub mod Causes
+pub use Rattle.cadence_errors.specs.Errors
+pub mod Noted
+pub mod Notes
+pub mod Past
+pub mod Printed
+pub mod Quiet
+pub mod Recorded
+pub mod Runs
+pub mod Says
+pub mod ToHold

@@ -1,0 +1,31 @@
+-- The line that says something.
+use Rattle.std.specs.Prelude.{ℕ, ◌==◌, if◌then◌else◌, Option, Some, None, List, [], ◌∷◌, ◌++◌, codes}
+use Rattle.cadence_aggregate.specs.Server.{Sample, amount, level, member, timing, other}
+use Rattle.cadence_value.specs.Number.{number_text, whole}
+
+-- the text before the first bar
+abbrev pub before_bar : List ℕ → List ℕ
+before_bar [] = []
+before_bar (byte ∷ text) = if byte == 124 then [] else byte ∷ before_bar text
+
+-- the text from the first bar on
+abbrev pub from_bar : List ℕ → List ℕ
+from_bar [] = []
+from_bar (byte ∷ text) = if byte == 124 then byte ∷ text else from_bar text
+
+-- a bar and the text after it, or nothing if there is no text
+abbrev pub barred : Option (List ℕ) → List ℕ
+barred None = []
+barred (Some text) = codes "|" ++ text
+
+-- the line of a context with these values
+abbrev pub spliced : List ℕ → List ℕ → List ℕ
+spliced context values = before_bar context ++ (codes ":" ++ (values ++ from_bar context))
+
+-- the line that says this
+abbrev pub text_of : Sample → List ℕ
+text_of (amount c n) = spliced c (number_text (whole n))
+text_of (level c v) = spliced c v
+text_of (member l) = l
+text_of (timing c t) = spliced c t
+text_of (other l) = l

@@ -1,0 +1,34 @@
+-- What contracts see of an aggregator of lines.
+use Rattle.std.specs.Prelude.{ℕ, List, map}
+use Rattle.cadence_aggregate.specs.Aggregate.{held}
+use Rattle.cadence_aggregate.specs.Server.{Sample}
+use Rattle.cadence_aggregate.specs.declared.aggregator.Aggregator.{Aggregator}
+use Rattle.cadence_aggregating.specs.Notes.{line_of_note}
+use Rattle.cadence_aggregating.specs.Past.{texts_in}
+use Rattle.cadence_aggregating.specs.declared.limits.Limits.{Limits}
+use Rattle.cadence_aggregating.specs.declared.recorded.RecordedAggregator.{RecordedAggregator}
+
+module _ {S : Type 0} where
+  -- the lines that were accepted, in order
+  abbrev pub accepted_by : RecordedAggregator S → List (List ℕ)
+  accepted_by a = texts_in a.accepted.items
+
+  -- the lines that the sink took, in order
+  abbrev pub taken_by : RecordedAggregator S → List (List ℕ)
+  taken_by a = map line_of_note a.printer.notes.items
+
+  -- how many lines the sink refused, modulo 2 to the 64
+  abbrev pub refusals_by : RecordedAggregator S → ℕ
+  refusals_by a = a.printer.refusals
+
+  -- what the lines of the next flush say
+  abbrev pub held_by : RecordedAggregator S → List Sample
+  held_by a = held a.aggregator
+
+  -- what may be held, and how long a line may be
+  abbrev pub limits_of : RecordedAggregator S → Limits
+  limits_of a = a.limits
+
+  -- what holds what lines say
+  abbrev pub core_of : RecordedAggregator S → Aggregator
+  core_of a = a.aggregator

@@ -1,0 +1,131 @@
+//! The settings of an aggregating sink.
+ghost use Rattle.std.specs.Prelude.{IfErr};
+ghost use Rattle.cadence_errors.specs.Errors.{MayOnlyRunOutOfMemory};
+ghost use Rattle.cadence_queuing.specs.Queuing.{IsQueuingRefusal};
+
+use crate::limits::Limits;
+use crate::locked::LockedAggregator;
+use crate::sink::{AggregatingMetricSink, Timed};
+use cadence_errors::MetricResult;
+use cadence_flow::MetricSink;
+use cadence_queuing::FlushingMetricSink;
+use std::alloc::Global;
+use std::num::NonZeroUsize;
+use std::sync::Wait;
+use std::thread::Threads;
+use std::time::{Clock, Duration};
+
+/// How many contexts of each kind a sink holds if it is not told.
+const MOST_CONTEXTS: usize = 4096;
+
+/// The most bytes of a line that a sink holds if it is not told.
+const MOST_BYTES: usize = 512;
+
+/// Makes an `AggregatingMetricSink`. Without other settings the sink holds at most 4096 contexts of each kind and lines
+/// of at most 512 bytes, hands on timers, histograms and distributions, and is flushed by its callers alone.
+///
+/// ```text
+/// let builder = AggregatingMetricSinkBuilder::new()
+///     .with_max_contexts(1000)
+///     .with_flush_period(Duration::from_secs(2));
+/// let sink = builder.build(rt.clone()?, alloc, inner)?;
+/// ```
+#[derive(Clone, Copy, Debug)]
+pub struct AggregatingMetricSinkBuilder {
+    limits: Limits,
+    period: Option<Duration>,
+}
+
+impl AggregatingMetricSinkBuilder {
+    ghost use Rattle.std.specs.Prelude.{◌≡◌, false, true, None, Some};
+    ghost use Rattle.cadence_aggregating.specs.Builder.{max_line_of, packs_of, period_of};
+
+    /// Returns a builder without any setting.
+    pub fn new() -> Self
+        ensures line { max_line_of result ≡ 512 }
+        ensures packed { packs_of result ≡ false }
+        ensures period { period_of result ≡ None }
+    {
+        AggregatingMetricSinkBuilder {
+            limits: Limits {
+                most_contexts: NonZeroUsize::new(MOST_CONTEXTS).unwrap_or(NonZeroUsize::MIN),
+                most_bytes: MOST_BYTES,
+                packs_values: false,
+            },
+            period: None,
+        }
+    }
+
+    /// Sets how many contexts of each kind are held. A new context in a full table first sends the one that was called
+    /// least recently. 0 counts as 1.
+    pub fn with_max_contexts(mut self, contexts: usize) -> Self
+        ensures line { max_line_of result ≡ max_line_of self }
+        ensures packed { packs_of result ≡ packs_of self }
+        ensures period { period_of result ≡ period_of self }
+    {
+        self.limits.most_contexts = NonZeroUsize::new(contexts).unwrap_or(NonZeroUsize::MIN);
+        self
+    }
+
+    /// Sets the most bytes of a line that is held. A longer line is handed on at once, and values are packed up to this
+    /// length.
+    pub fn with_max_line(mut self, bytes: usize) -> Self
+        ensures line { max_line_of result ≡ bytes }
+        ensures packed { packs_of result ≡ packs_of self }
+        ensures period { period_of result ≡ period_of self }
+    {
+        self.limits.most_bytes = bytes;
+        self
+    }
+
+    /// Packs the values of each timer, histogram and distribution into one line, as `t:1:2:3|ms`. Not every server
+    /// reads such a line.
+    pub fn with_packed_values(mut self) -> Self
+        ensures line { max_line_of result ≡ max_line_of self }
+        ensures packed { packs_of result ≡ true }
+        ensures period { period_of result ≡ period_of self }
+    {
+        self.limits.packs_values = true;
+        self
+    }
+
+    /// Sets a period. A thread flushes the sink after each period. A period below one millisecond counts as one
+    /// millisecond. The errors of these flushes are dropped, and what a failed flush didn't send is tried again after
+    /// one more period.
+    pub fn with_flush_period(mut self, period: Duration) -> Self
+        ensures line { max_line_of result ≡ max_line_of self }
+        ensures packed { packs_of result ≡ packs_of self }
+        ensures period { period_of result ≡ Some period }
+    {
+        self.period = Some(period);
+        self
+    }
+
+    /// Makes the sink, and starts its thread if there is a period. The errors are `OutOfMemory`, and `Io` if the thread
+    /// can't be started. The wrapped sink is dropped then.
+    pub fn build<
+        S: MetricSink + Send + Sync + 'static,
+        R: Wait + Clock + Threads + Clone + Drop + Send + Sync + 'static,
+    >(self, rt: R, alloc: Global, sink: S) -> MetricResult<AggregatingMetricSink<S, R>>
+        ensures { IfErr result IsQueuingRefusal }
+    {
+        let locked = LockedAggregator::new(rt.clone()?, alloc, self.limits, sink)?;
+        let timed = match self.period {
+            Some(period) => Timed::Often(FlushingMetricSink::new(rt, alloc, locked, period)?),
+            None => Timed::Never(locked),
+        };
+        Ok(AggregatingMetricSink { timed })
+    }
+}
+
+impl<S: MetricSink, R: Wait + Drop> AggregatingMetricSink<S, R> {
+    /// Makes a sink with the settings of a new builder. It starts no thread. The only error is `OutOfMemory`.
+    pub fn from(rt: R, alloc: Global, sink: S) -> MetricResult<Self>
+        ensures { MayOnlyRunOutOfMemory result }
+    {
+        let limits = AggregatingMetricSinkBuilder::new().limits;
+        Ok(AggregatingMetricSink {
+            timed: Timed::Never(LockedAggregator::new(rt, alloc, limits, sink)?),
+        })
+    }
+}

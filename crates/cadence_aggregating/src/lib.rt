@@ -1,0 +1,32 @@
+//! A sink that adds up lines before it sends them.
+//!
+//! - `said`: reads what a line says.
+//! - `note`: a record of what a line says, for proofs.
+//! - `printed`: writes the line that says something, and notes what it says.
+//! - `printer`: gives what lines say to a sink of metrics.
+//! - `limits`: the settings of an aggregator.
+//! - `ghost_texts`: a list of texts that exists in proofs only.
+//! - `recorded`: an aggregator of lines with a record of its past.
+//! - `runs`: a run of lines and flushes.
+//! - `locked`: an aggregator of lines under a lock.
+//! - `sink`: the aggregating sink, which may flush by time.
+//! - `builder`: its settings.
+#![tactic(auto)]
+
+mod builder;
+mod ghost_texts;
+mod limits;
+mod locked;
+mod note;
+mod printed;
+mod printer;
+mod recorded;
+mod runs;
+mod said;
+mod sink;
+
+pub use builder::AggregatingMetricSinkBuilder;
+pub use limits::Limits;
+pub use recorded::RecordedAggregator;
+pub use runs::{Outcome, Step, run};
+pub use sink::AggregatingMetricSink;

@@ -1,0 +1,76 @@
+//! Gives what lines say to a sink of metrics, line by line, with a record of what that sink took. The record exists in
+//! proofs only.
+ghost use Rattle.std.specs.Prelude.{◌≡◌, ◌∷◌, ◌++◌, [], IfOk, OnErr, OnOk, map, string_bytes};
+ghost use Rattle.cadence_aggregate.specs.Lines.{sample_of};
+ghost use Rattle.cadence_aggregate.specs.Refusals.{after_reply, one_more};
+ghost use Rattle.cadence_aggregating.specs.Notes.{sample_of_note};
+
+use crate::note::Note;
+use crate::printed::note_line;
+use cadence_aggregate::{Fault, Line, LineSink};
+use cadence_errors::SinkError;
+use cadence_flow::{GhostList, MetricSink};
+use std::mem;
+
+/// A sink of metrics as a sink of what lines say.
+#[derive(Drop)]
+pub struct Printer<S: Drop> {
+    sink: S,
+    text: String,
+    fault: SinkError,
+    refusals: u64,
+    notes: GhostList<Note>,
+}
+
+impl<S: MetricSink> Printer<S> {
+    /// Makes a printer, over a sink that was given no line by it yet. It writes each line into `text`.
+    pub(crate) fn new(sink: S, text: String) -> Printer<S>
+        ensures none { result.notes.items ≡ [] }
+        ensures refused { result.refusals ≡ 0 }
+        ensures sink { result.sink ≡ sink }
+    {
+        Printer {
+            sink,
+            text,
+            fault: SinkError::NothingWritten,
+            refusals: 0,
+            notes: GhostList::new(),
+        }
+    }
+
+    /// Returns the sink.
+    pub(crate) fn sink(&self) -> &S
+        ensures { result.now ≡ self.now.sink }
+    {
+        &self.sink
+    }
+
+    /// Returns why the sink refused the last line that it refused.
+    pub(crate) fn take_fault(&mut self) -> SinkError
+        ensures notes { self.new.notes ≡ self.old.notes }
+        ensures sink { self.new.sink ≡ self.old.sink }
+        ensures same { self.new.refusals ≡ self.old.refusals }
+    {
+        mem::replace(&mut self.fault, SinkError::NothingWritten)
+    }
+}
+
+impl<S: MetricSink> LineSink for Printer<S> {
+    ghost use Rattle.std.specs.Prelude.{map};
+    ghost use Rattle.cadence_aggregating.specs.Notes.{sample_of_note};
+
+    ghost sent = { λ p. map sample_of_note p.notes.items };
+
+    ghost refusals = { λ p. p.refusals };
+
+    fn send(&mut self, line: Line<'_>) -> Result<(), Fault> {
+        let note = note_line(&mut self.text, line)?;
+        if let Err(fault) = self.sink.emit(&self.text) {
+            self.fault = fault;
+            self.refusals = self.refusals.wrapping_add(1);
+            return Err(Fault::Refused);
+        }
+        self.notes = self.notes.and(&note);
+        Ok(())
+    }
+}

@@ -1,0 +1,160 @@
+//! An aggregator of lines, over a sink of metrics, with a record of its past that only proofs read.
+ghost use Rattle.std.specs.Prelude.{◌≡◌, ◌++◌, ◌∷◌, [], IfOk, OnErr, OnOk, map, true};
+ghost use Rattle.cadence_aggregate.specs.Aggregate.{CanHold, held};
+ghost use Rattle.cadence_aggregate.specs.Lines.{samples_of};
+ghost use Rattle.cadence_aggregate.specs.Refusals.{after_reply};
+ghost use Rattle.cadence_aggregate.specs.Server.{IsSummary};
+ghost use Rattle.cadence_aggregating.specs.Notes.{sample_of_note};
+ghost use Rattle.cadence_aggregating.specs.Past.{IsPast, texts_in};
+
+use crate::ghost_texts::GhostTexts;
+use crate::limits::Limits;
+use crate::printer::Printer;
+use crate::said::read_said;
+use cadence_aggregate::{Aggregator, Fault, Line};
+use cadence_errors::SinkError;
+use cadence_flow::MetricSink;
+use std::alloc::{AllocError, Global};
+
+/// An aggregator of lines over a sink of metrics, with a record of the lines that it accepted. The record exists in
+/// proofs only. The fact `past` is true of every `RecordedAggregator`: what the sink took, with what is still held, is
+/// a summary of what the accepted lines say.
+#[derive(Drop)]
+pub struct RecordedAggregator<S: Drop> {
+    alloc: Global,
+    limits: Limits,
+    aggregator: Aggregator,
+    printer: Printer<S>,
+    context: String,
+    accepted: GhostTexts,
+    pub ghost past: { ∥ IsPast (texts_in accepted.items)
+        (map sample_of_note printer.notes.items) (held aggregator) ∥₁ },
+}
+
+// Adds what a line says, or hands the line on.
+fn add_or_pass<S: MetricSink>(
+    aggregator: &mut Aggregator,
+    printer: &mut Printer<S>,
+    said: Line<'_>,
+    is_held: bool,
+) -> Result<(), Fault>
+    ensures ok { OnOk result (IsSummary
+        ((map sample_of_note printer.old.notes.items ++ held aggregator.old)
+        ++ samples_of said.entry)
+        (map sample_of_note printer.new.notes.items ++ held aggregator.new)) }
+    ensures err { OnErr result (IsSummary
+        (map sample_of_note printer.old.notes.items ++ held aggregator.old)
+        (map sample_of_note printer.new.notes.items ++ held aggregator.new)) }
+    ensures quiet { is_held ≡ true → CanHold aggregator.old said.entry →
+        map sample_of_note printer.new.notes.items ≡ map sample_of_note printer.old.notes.items }
+    ensures refused { printer.new.refusals ≡ after_reply printer.old.refusals result }
+{
+    if is_held {
+        aggregator.add(printer, said)
+    } else {
+        aggregator.pass(printer, said)
+    }
+}
+
+impl<S: MetricSink> RecordedAggregator<S> {
+    ghost use Rattle.cadence_aggregating.specs.Recorded.{accepted_by, core_of, held_by, limits_of, refusals_by, taken_by};
+    ghost use Rattle.cadence_aggregating.specs.Causes.{HasCause, IsErrorOf};
+    ghost use Rattle.cadence_aggregating.specs.Quiet.{IsQuiet};
+    ghost use Rattle.cadence_aggregating.specs.Past.{Summarizes};
+    ghost use Rattle.cadence_aggregating.specs.Printed.{text_of};
+
+    /// Makes an aggregator that accepted no line yet. The only error is that memory ran out.
+    pub fn new(alloc: Global, limits: Limits, sink: S) -> Result<Self, AllocError>
+        ensures accepted { IfOk result (λ a. accepted_by a ≡ []) }
+        ensures taken { IfOk result (λ a. taken_by a ≡ []) }
+        ensures held { IfOk result (λ a. held_by a ≡ []) }
+        ensures refused { IfOk result (λ a. refusals_by a ≡ 0) }
+    {
+        let aggregator = Aggregator::new(alloc, limits.most_contexts, limits.most_bytes)?;
+        let text = String::with_capacity(alloc, limits.most_bytes)?;
+        Ok(RecordedAggregator {
+            alloc,
+            limits,
+            aggregator,
+            printer: Printer::new(sink, text),
+            context: String::new(alloc),
+            accepted: GhostTexts::new(),
+        })
+    }
+
+    // Reads a line, and adds it or hands it on.
+    fn try_add(&mut self, line: &str) -> Result<(), Fault>
+        ensures ok { OnOk result (accepted_by self.new ≡ accepted_by self.old ++ line.now ∷ []) }
+        ensures err { OnErr result (accepted_by self.new ≡ accepted_by self.old) }
+        ensures quiet { OnOk result (∥ IsQuiet (limits_of self.old) (core_of self.old) line.now
+            (taken_by self.old) (taken_by self.new) ∥₁) }
+        ensures refused { refusals_by self.new ≡ after_reply (refusals_by self.old) result }
+    {
+        let said = read_said(self.alloc, line, &mut self.context)?;
+        let is_held = self.limits.holds(&said, line.len());
+        add_or_pass(&mut self.aggregator, &mut self.printer, said, is_held)?;
+        self.accepted.note(line.as_bytes(), line.len());
+        Ok(())
+    }
+
+    // Returns why a call failed.
+    fn error_of(&mut self, fault: Fault) -> SinkError
+        ensures accepted { accepted_by self.new ≡ accepted_by self.old }
+        ensures taken { taken_by self.new ≡ taken_by self.old }
+        ensures held { held_by self.new ≡ held_by self.old }
+        ensures refused { refusals_by self.new ≡ refusals_by self.old }
+        ensures cause { IsErrorOf fault result }
+    {
+        match fault {
+            Fault::Refused => self.printer.take_fault(),
+            Fault::OutOfMemory => SinkError::OutOfMemory,
+        }
+    }
+
+    /// Adds what a line says to what is held of its context, or hands the line on. A line that can't be added is handed
+    /// on, and so is one that is longer than the limit.
+    ///
+    /// # Errors
+    /// The error of the sink, if it refused a line that had to be sent, and `OutOfMemory`. After an error the line is
+    /// not added, and what was held is sent or still held.
+    pub fn add(&mut self, line: &str) -> Result<(), SinkError>
+        ensures ok { OnOk result (accepted_by self.new ≡ accepted_by self.old ++ line.now ∷ []) }
+        ensures err { OnErr result (accepted_by self.new ≡ accepted_by self.old) }
+        ensures quiet { OnOk result (∥ IsQuiet (limits_of self.old) (core_of self.old) line.now
+            (taken_by self.old) (taken_by self.new) ∥₁) }
+        ensures refused { HasCause (refusals_by self.old) (refusals_by self.new) result }
+    {
+        match self.try_add(line) {
+            Ok(()) => Ok(()),
+            Err(fault) => Err(self.error_of(fault)),
+        }
+    }
+
+    /// Sends one line for each context that is held, and forgets it.
+    ///
+    /// # Errors
+    /// The error of the sink, if it refused a line, and `OutOfMemory`. What was not sent is still held.
+    pub fn flush(&mut self) -> Result<(), SinkError>
+        ensures ok { OnOk result (held_by self.new ≡ []) }
+        ensures accepted { accepted_by self.new ≡ accepted_by self.old }
+        ensures lines { OnOk result (taken_by self.new
+            ≡ taken_by self.old ++ map text_of (held_by self.old)) }
+        ensures refused { HasCause (refusals_by self.old) (refusals_by self.new) result }
+    {
+        match self.aggregator.flush(&mut self.printer) {
+            Ok(()) => Ok(()),
+            Err(fault) => Err(self.error_of(fault)),
+        }
+    }
+
+    /// Returns the sink.
+    pub fn sink(&self) -> &S {
+        self.printer.sink()
+    }
+
+    /// States that the lines that the sink took, with what is held, are a summary of the accepted lines: a server knows
+    /// the same after both. Does nothing when it is called.
+    pub fn keeps_the_record(&self)
+        ensures { ∥ Summarizes (accepted_by self.now) (taken_by self.now) (held_by self.now) ∥₁ }
+    {}
+}

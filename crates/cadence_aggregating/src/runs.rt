@@ -1,0 +1,69 @@
+//! A run of lines and flushes.
+ghost use Rattle.std.specs.Prelude.{◌≡◌, ◌++◌, IfOk, length};
+ghost use Rattle.cadence_aggregating.specs.Past.{Summarizes};
+ghost use Rattle.cadence_aggregating.specs.Recorded.{accepted_by, held_by, taken_by};
+ghost use Rattle.cadence_aggregating.specs.Runs.{accepted_line, accepted_lines};
+
+use crate::limits::Limits;
+use crate::recorded::RecordedAggregator;
+use cadence_errors::SinkError;
+use cadence_flow::MetricSink;
+use std::alloc::{AllocError, Global};
+
+/// A step of a run.
+#[derive(Clone, Copy)]
+pub enum Step<'a> {
+    /// A line comes.
+    Add(&'a str),
+    /// What is held is sent.
+    Flush,
+}
+
+/// The reply of each step of a run, and the aggregator after it.
+#[derive(Drop)]
+pub struct Outcome<S: Drop> {
+    pub replies: Vec<Result<(), SinkError>>,
+    pub aggregator: RecordedAggregator<S>,
+}
+
+// Takes a step, and returns its reply.
+fn take_step<S: MetricSink>(
+    aggregator: &mut RecordedAggregator<S>,
+    step: Step<'_>,
+) -> Result<(), SinkError>
+    ensures { accepted_by aggregator.new
+        ≡ accepted_by aggregator.old ++ accepted_line step.entry result }
+{
+    match step {
+        Step::Add(line) => aggregator.add(line),
+        Step::Flush => aggregator.flush(),
+    }
+}
+
+/// Runs lines and flushes, over any sink, which may refuse what it likes, and with any limits. Each step has a reply.
+///
+/// A server knows the same from the lines that the sink took, and what is still held, as from the accepted lines, and
+/// they are no more. The only error is that memory ran out.
+pub fn run<S: MetricSink>(
+    alloc: Global,
+    limits: Limits,
+    sink: S,
+    steps: &[Step<'_>],
+) -> Result<Outcome<S>, AllocError>
+    ensures replies { IfOk result (λ o. length o.replies.items ≡ length steps.now) }
+    ensures headline { IfOk result (λ o. ∥ Summarizes
+        (accepted_lines steps.now o.replies.items)
+        (taken_by o.aggregator) (held_by o.aggregator) ∥₁) }
+{
+    let mut aggregator = RecordedAggregator::new(alloc, limits, sink)?;
+    let mut replies = Vec::with_capacity(alloc, steps.len())?;
+    for step in steps {
+        let reply = take_step(&mut aggregator, *step);
+        replies.push(reply)?;
+    }
+    aggregator.keeps_the_record();
+    Ok(Outcome {
+        replies,
+        aggregator,
+    })
+}

@@ -1,0 +1,78 @@
+//! The aggregating sink.
+ghost use Rattle.cadence_aggregating.specs.Answers.{IsAggregated};
+
+use crate::locked::LockedAggregator;
+use cadence_errors::SinkError;
+use cadence_flow::MetricSink;
+use cadence_flow::stats::SinkStats;
+use cadence_queuing::FlushingMetricSink;
+use std::sync::Wait;
+
+// An aggregator that is flushed by its callers alone, or also by a thread.
+#[derive(Drop)]
+pub(crate) enum Timed<S: MetricSink, R: Wait + Drop> {
+    Never(LockedAggregator<S, R>),
+    Often(FlushingMetricSink<LockedAggregator<S, R>, R>),
+}
+
+/// A sink that adds up lines before it hands them to the wrapped sink. Counters are summed, of a gauge's values the
+/// last one is kept, and each member of a set is kept once. `flush` hands on one line for each context, and then
+/// flushes the wrapped sink. A context is a line without its values: its name, kind, sampling rate, tags and container.
+///
+/// Lines that can't be added are handed on at once: those with a timestamp, decimals of counters, values of gauges with
+/// a sign, and texts that are no lines of metrics. A server knows the same from the lines that the wrapped sink took,
+/// and those that the next flush hands on, as from the lines that were emitted, whichever contexts it takes for one.
+///
+/// `emit` returns the length of the line. Its errors are those of the wrapped sink, if a line had to be handed on, and
+/// `OutOfMemory`; the line is not added then. A line that the wrapped sink refuses at a flush stays, and the next flush
+/// tries it again. The drop flushes the sink, and drops the error of that flush. What is held when the process crashes
+/// is lost.
+///
+/// ```text
+/// let (receiver, spy) = SpyMetricSink::new(rt.clone()?, alloc)?;
+/// let sink = AggregatingMetricSink::from(rt.clone()?, alloc, spy)?;
+/// sink.emit("visits:1|c")?;
+/// sink.emit("visits:2|c")?;
+/// sink.flush()?;
+/// let message = receiver.try_recv(); // visits:3|c
+/// ```
+#[derive(Drop)]
+pub struct AggregatingMetricSink<S: MetricSink, R: Wait + Drop> {
+    pub(crate) timed: Timed<S, R>,
+}
+
+impl<S: MetricSink, R: Wait + Drop> MetricSink for AggregatingMetricSink<S, R> {
+    ghost may_answer = { λ _ line answer. IsAggregated line answer };
+
+    ghost may_flush = { λ _ _. Unit {0} };
+
+    ghost flush_may_succeed = { λ _ _. tt };
+
+    fn emit(&self, line: &str) -> Result<usize, SinkError> {
+        match &self.timed {
+            Timed::Never(sink) => sink.emit(line),
+            Timed::Often(sink) => sink.emit(line),
+        }
+    }
+
+    fn flush(&self) -> Result<(), SinkError> {
+        match &self.timed {
+            Timed::Never(sink) => sink.flush(),
+            Timed::Often(sink) => sink.flush(),
+        }
+    }
+
+    fn stats(&self) -> SinkStats {
+        match &self.timed {
+            Timed::Never(sink) => sink.stats(),
+            Timed::Often(sink) => sink.stats(),
+        }
+    }
+
+    fn dropped_lines(&self) -> u64 {
+        match &self.timed {
+            Timed::Never(sink) => sink.dropped_lines(),
+            Timed::Often(sink) => sink.dropped_lines(),
+        }
+    }
+}

@@ -1,0 +1,263 @@
+//! What the variables of the environment say of a client, for a host that read them. The calls need no client, and threads
+//! may make them at the same time.
+ghost use Rattle.std.specs.Prelude.{◌≡◌, ◌≢◌, ◌⊎◌, [], ◌∷◌, IfErr, IfOk, None, Some, if◌then◌else◌, map, true};
+ghost use Rattle.cadence_text.specs.Line.{tags_field};
+ghost use Rattle.cadence_text.specs.Owned.{tag_of_owned};
+ghost use Rattle.cadence_environment.specs.Destinations.{SaysPlace};
+ghost use Rattle.cadence_environment.specs.EnvironmentFaults.{IsRefusedVariable};
+ghost use Rattle.cadence_environment.specs.Shown.{destination_of, tags_of};
+ghost use Rattle.cadence_environment.specs.TagTexts.{tags_said};
+ghost use Rattle.cadence_environment.specs.declared.error.EnvironmentError.TheVariants.{Malformed};
+ghost use Rattle.cadence_environment.specs.declared.variables.Variables.{Variables as TheVariables};
+ghost use Rattle.cadence_c.specs.Environment.{ArePlacesRead, AreTagsRead, HasTexts, IsNamed, Names, SaysTarget, variable_named};
+ghost use Rattle.cadence_c.specs.Results.{Writes};
+ghost use Rattle.cadence_c.specs.Status.{CADENCE_INVALID, CADENCE_NO_MEMORY, CADENCE_TOO_SMALL, CADENCE_VARIABLE, IsOkOr};
+
+use crate::call::text_of;
+use crate::status::{StatusError, copy_out};
+use cadence_environment::{Destination, Environment, EnvironmentError, Variable, Variables};
+use cadence_text::line::{OwnedTag, TagsText, lend_tag};
+use std::alloc::{AllocError, Global};
+
+/// The texts of the variables. A variable that is not set has the empty text.
+#[repr(C)]
+#[derive(Clone, Copy)]
+pub struct CVariables<'a> {
+    pub url: &'a [u8],
+    pub agent_host: &'a [u8],
+    pub agent_port: &'a [u8],
+    pub statsd_host: &'a [u8],
+    pub statsd_port: &'a [u8],
+    pub env: &'a [u8],
+    pub service: &'a [u8],
+    pub version: &'a [u8],
+    pub tags: &'a [u8],
+    pub entity_id: &'a [u8],
+}
+
+// Returns the number of a variable in C: its place in the struct of the texts.
+fn number_of(variable: Variable) -> u32
+    ensures { variable_named result ≡ Some variable }
+{
+    match variable {
+        Variable::Url => 0,
+        Variable::AgentHost => 1,
+        Variable::AgentPort => 2,
+        Variable::StatsdHost => 3,
+        Variable::StatsdPort => 4,
+        Variable::Env => 5,
+        Variable::Service => 6,
+        Variable::Version => 7,
+        Variable::Tags => 8,
+        Variable::EntityId => 9,
+    }
+}
+
+// Returns the variable that has this number in C, if one has it.
+fn variable_of(number: u32) -> Option<Variable>
+    ensures { result ≡ variable_named number }
+{
+    match number {
+        0 => Some(Variable::Url),
+        1 => Some(Variable::AgentHost),
+        2 => Some(Variable::AgentPort),
+        3 => Some(Variable::StatsdHost),
+        4 => Some(Variable::StatsdPort),
+        5 => Some(Variable::Env),
+        6 => Some(Variable::Service),
+        7 => Some(Variable::Version),
+        8 => Some(Variable::Tags),
+        9 => Some(Variable::EntityId),
+        _ => None,
+    }
+}
+
+// Returns the text of a variable, or the empty text if it is not wanted, because another variable overrides it.
+fn read_variable(text: &[u8], variable: Variable, is_wanted: bool) -> Result<&str, EnvironmentError>
+    ensures read { IfOk result (λ t. t.now ≡ (if is_wanted then text.now else [])) }
+    ensures refused { IfErr result (λ e. e ≡ Malformed variable) }
+    ensures wanted { IfErr result (λ _. is_wanted ≡ true) }
+    ensures set { IfErr result (λ _. text.now ≢ []) }
+{
+    if !is_wanted || text.is_empty() {
+        return Ok("");
+    }
+    match text_of(text) {
+        Some(text) => Ok(text),
+        None => Err(EnvironmentError::Malformed(variable)),
+    }
+}
+
+// Returns the texts of the variables that say where to send. One that another variable overrides has the empty text, so
+// it is not tested, and so has each other variable.
+fn read_places<'a>(texts: &CVariables<'a>) -> Result<Variables<'a>, EnvironmentError>
+    ensures read { IfOk result (ArePlacesRead texts.now) }
+    ensures refused { IfErr result (λ e. (v : TheVariables) → HasTexts texts.now v → IsRefusedVariable v e) }
+{
+    let no_url = texts.url.is_empty();
+    let no_agent = no_url && texts.agent_host.is_empty() && texts.agent_port.is_empty();
+    Ok(Variables {
+        url: read_variable(texts.url, Variable::Url, true)?,
+        agent_host: read_variable(texts.agent_host, Variable::AgentHost, no_url)?,
+        agent_port: read_variable(texts.agent_port, Variable::AgentPort, no_url)?,
+        statsd_host: read_variable(texts.statsd_host, Variable::StatsdHost, no_agent)?,
+        statsd_port: read_variable(texts.statsd_port, Variable::StatsdPort, no_agent)?,
+        env: "",
+        service: "",
+        version: "",
+        tags: "",
+        entity_id: "",
+    })
+}
+
+// Returns the texts of the variables that say tags. Each other variable has the empty text.
+fn read_tag_texts<'a>(texts: &CVariables<'a>) -> Result<Variables<'a>, EnvironmentError>
+    ensures read { IfOk result (AreTagsRead texts.now) }
+    ensures refused { IfErr result (λ e. (v : TheVariables) → HasTexts texts.now v → IsRefusedVariable v e) }
+{
+    Ok(Variables {
+        url: "",
+        agent_host: "",
+        agent_port: "",
+        statsd_host: "",
+        statsd_port: "",
+        env: read_variable(texts.env, Variable::Env, true)?,
+        service: read_variable(texts.service, Variable::Service, true)?,
+        version: read_variable(texts.version, Variable::Version, true)?,
+        tags: read_variable(texts.tags, Variable::Tags, true)?,
+        entity_id: read_variable(texts.entity_id, Variable::EntityId, true)?,
+    })
+}
+
+// Returns an environment that says where to send.
+fn read_destination(alloc: Global, texts: &CVariables<'_>) -> Result<Environment, EnvironmentError>
+    ensures place { IfOk result (λ e. (v : TheVariables) → HasTexts texts.now v →
+        SaysPlace v (destination_of e)) }
+    ensures refused { IfErr result (λ e. (v : TheVariables) → HasTexts texts.now v →
+        IsRefusedVariable v e) }
+{
+    let variables = read_places(texts)?;
+    Environment::from_variables(alloc, &variables)
+}
+
+// Returns an environment that says the tags.
+fn read_tags(alloc: Global, texts: &CVariables<'_>) -> Result<Environment, EnvironmentError>
+    ensures tags { IfOk result (λ e. (v : TheVariables) → HasTexts texts.now v →
+        tags_of e ≡ tags_said v) }
+    ensures refused { IfErr result (λ e. (v : TheVariables) → HasTexts texts.now v →
+        IsRefusedVariable v e) }
+{
+    let variables = read_tag_texts(texts)?;
+    Environment::from_variables(alloc, &variables)
+}
+
+// Returns the status of an error, and stores the number of the variable that the error names.
+fn refusal(error: EnvironmentError, variable: &mut u32) -> u32
+    ensures named { result ≡ CADENCE_VARIABLE → Names error variable.new }
+    ensures statuses { (result ≡ CADENCE_VARIABLE) ⊎ (result ≡ CADENCE_NO_MEMORY) }
+{
+    match error {
+        EnvironmentError::Malformed(which) => {
+            *variable = number_of(which);
+            StatusError::Variable.code()
+        }
+        EnvironmentError::OutOfMemory => StatusError::NoMemory.code(),
+    }
+}
+
+/// Writes where the variables say to send into the first bytes of `out`, and the length of that text into `size`: a host,
+/// with its port in `port`, or the path of a Unix socket, with the port 0. If a variable can't be used, its number is in
+/// `variable`. The variables that say tags are not tested.
+#[unsafe(no_mangle)]
+pub extern "C" fn cadence_destination(
+    alloc: Global,
+    variables: &CVariables<'_>,
+    out: &mut [u8],
+    size: &mut usize,
+    port: &mut u16,
+    variable: &mut u32,
+) -> u32
+    ensures target { (v : TheVariables) → HasTexts variables.now v →
+        Writes result (λ text. SaysTarget v text port.new) out.new size.new }
+    ensures refused { result ≡ CADENCE_VARIABLE → (v : TheVariables) → HasTexts variables.now v →
+        IsNamed v variable.new }
+    ensures statuses { IsOkOr (CADENCE_VARIABLE ∷ CADENCE_NO_MEMORY ∷ CADENCE_TOO_SMALL ∷ [])
+        result }
+{
+    *size = 0;
+    let environment = match read_destination(alloc, variables) {
+        Ok(environment) => environment,
+        Err(error) => return refusal(error, variable),
+    };
+    match environment.destination() {
+        Destination::Udp { host, port: number } => {
+            *port = *number;
+            copy_out(host.as_bytes(), out, size)
+        }
+        Destination::Unix { path } => {
+            *port = 0;
+            copy_out(path.as_bytes(), out, size)
+        }
+    }
+}
+
+/// Writes what a variable wants, in words that begin with its name, into the first bytes of `out`, and the length of that
+/// text into `size`. The status is that of `Invalid` if no variable has the number.
+#[unsafe(no_mangle)]
+pub extern "C" fn cadence_variable_text(
+    alloc: Global,
+    variable: u32,
+    out: &mut [u8],
+    size: &mut usize,
+) -> u32
+    ensures invalid { result ≡ CADENCE_INVALID → variable_named variable ≡ None }
+    ensures statuses { IsOkOr (CADENCE_INVALID ∷ CADENCE_NO_MEMORY ∷ CADENCE_TOO_SMALL ∷ []) result }
+{
+    *size = 0;
+    let Some(variable) = variable_of(variable) else {
+        return StatusError::Invalid.code();
+    };
+    let Ok(text) = format!(in alloc; "{}", EnvironmentError::Malformed(variable)) else {
+        return StatusError::NoMemory.code();
+    };
+    copy_out(text.as_bytes(), out, size)
+}
+
+// Returns the text of tags that own their texts. The error is that memory ran out.
+fn text_of_owned(alloc: Global, tags: &[OwnedTag]) -> Result<TagsText, AllocError>
+    ensures { IfOk result (λ text. text ≡ tags_field (map tag_of_owned tags.now)) }
+{
+    let mut text = TagsText::new(alloc);
+    for tag in tags {
+        text.add(lend_tag(tag))?;
+    }
+    Ok(text)
+}
+
+/// Writes the text of the tags that the variables say into the first bytes of `out`, and its length into `size`. If a
+/// variable can't be used, its number is in `variable`. The variables that say where to send are not tested.
+#[unsafe(no_mangle)]
+pub extern "C" fn cadence_environment_tags(
+    alloc: Global,
+    variables: &CVariables<'_>,
+    out: &mut [u8],
+    size: &mut usize,
+    variable: &mut u32,
+) -> u32
+    ensures tags { (v : TheVariables) → HasTexts variables.now v →
+        Writes result (λ text. text ≡ tags_field (tags_said v)) out.new size.new }
+    ensures refused { result ≡ CADENCE_VARIABLE → (v : TheVariables) → HasTexts variables.now v →
+        IsNamed v variable.new }
+    ensures statuses { IsOkOr (CADENCE_VARIABLE ∷ CADENCE_NO_MEMORY ∷ CADENCE_TOO_SMALL ∷ [])
+        result }
+{
+    *size = 0;
+    let environment = match read_tags(alloc, variables) {
+        Ok(environment) => environment,
+        Err(error) => return refusal(error, variable),
+    };
+    let Ok(text) = text_of_owned(alloc, environment.tags()) else {
+        return StatusError::NoMemory.code();
+    };
+    copy_out(text.as_str().as_bytes(), out, size)
+}

@@ -1,0 +1,71 @@
+//! The decimals of floats, for a host whose numbers are floats. The calls need no client, and threads may make them at the
+//! same time.
+ghost use Rattle.std.specs.Prelude.{◌≡◌, ◌≢◌, ◌⊎◌, [], ◌∷◌};
+ghost use Rattle.cadence_value.specs.Number.{Number};
+ghost use Rattle.cadence_float.specs.Worth.{IsTooLarge, StandsFor};
+ghost use Rattle.cadence_c.specs.Calls.{IsMillisOf, IsNumberOf, PassesDecimal};
+ghost use Rattle.cadence_c.specs.Status.{CADENCE_INVALID, CADENCE_OK, IsOkOr};
+
+use crate::call::CDecimal;
+use crate::status::{OK, StatusError};
+use cadence_float::{decimal_of_float, rounded_decimal_of_float};
+use cadence_value::decimal::Decimal;
+use std::alloc::Global;
+
+// Stores a decimal in a struct of C. The status is that of `Invalid` if its mantissa doesn't fit 64 bits.
+fn store(decimal: Decimal, number: &mut CDecimal) -> u32
+    ensures stored { result ≡ CADENCE_OK → IsNumberOf number.new decimal }
+    ensures kept { result ≢ CADENCE_OK → number.new ≡ number.old }
+    ensures invalid { result ≡ CADENCE_INVALID → PassesDecimal decimal }
+    ensures statuses { IsOkOr (CADENCE_INVALID ∷ []) result }
+{
+    let Ok(mantissa) = i64::try_from(decimal.mantissa()) else {
+        return StatusError::Invalid.code();
+    };
+    *number = CDecimal {
+        mantissa,
+        places: decimal.places(),
+    };
+    OK
+}
+
+/// Stores the decimal of a float, for a host that needs the number itself, as for a sampling rate. The status is that of
+/// `Invalid` if the float has no decimal, or if the mantissa of its decimal doesn't fit 64 bits.
+#[unsafe(no_mangle)]
+pub extern "C" fn cadence_decimal_of_double(
+    _alloc: Global,
+    value: f64,
+    number: &mut CDecimal,
+) -> u32
+    ensures number { result ≡ CADENCE_OK →
+        (n : Number) × IsNumberOf number.new n × StandsFor n value }
+    ensures kept { result ≢ CADENCE_OK → number.new ≡ number.old }
+    ensures invalid { result ≡ CADENCE_INVALID →
+        IsTooLarge value ⊎ ((n : Number) × StandsFor n value × PassesDecimal n) }
+    ensures statuses { IsOkOr (CADENCE_INVALID ∷ []) result }
+{
+    match decimal_of_float(value) {
+        Ok(decimal) => store(decimal, number),
+        Err(_) => StatusError::Invalid.code(),
+    }
+}
+
+/// Stores the decimal of a float, rounded to six places. A float nearer to 0 than 10 to the power of -7 is 0.
+#[unsafe(no_mangle)]
+pub extern "C" fn cadence_rounded_of_double(
+    _alloc: Global,
+    value: f64,
+    number: &mut CDecimal,
+) -> u32
+    ensures number { result ≡ CADENCE_OK →
+        (n : Number) × IsNumberOf number.new n × IsMillisOf value n }
+    ensures kept { result ≢ CADENCE_OK → number.new ≡ number.old }
+    ensures invalid { result ≡ CADENCE_INVALID →
+        IsTooLarge value ⊎ ((n : Number) × IsMillisOf value n × PassesDecimal n) }
+    ensures statuses { IsOkOr (CADENCE_INVALID ∷ []) result }
+{
+    match rounded_decimal_of_float(value) {
+        Ok(decimal) => store(decimal, number),
+        Err(_) => StatusError::Invalid.code(),
+    }
+}

@@ -1,0 +1,123 @@
+//! The calls of C that make the texts of settings and test texts. They need no client, and threads may make them at the
+//! same time.
+ghost use Rattle.std.specs.Prelude.{◌≡◌, [], ◌∷◌, All, IfOk, IsFalse, IsTrue, length, map, take};
+ghost use Rattle.std.specs.Str.{IsUtf8};
+ghost use Rattle.cadence_text.specs.FreeTexts.{is_free_text};
+ghost use Rattle.cadence_text.specs.Line.{tags_field};
+ghost use Rattle.cadence_settings.specs.Settings.{client_prefix, without_dots};
+ghost use Rattle.cadence_c.specs.Calls.{IsUtf8Tag, c_tag};
+ghost use Rattle.cadence_c.specs.Results.{WritesText};
+ghost use Rattle.cadence_c.specs.Status.{CADENCE_NOT_UTF8, CADENCE_OK, CADENCE_SEPARATOR, IsOkOr};
+ghost use Rattle.cadence_c.specs.Texts.{allows_prefix, allows_tags};
+
+use crate::call::{CTag, are_free_tags, are_tags, known_tag, text_of};
+use crate::status::{OK, StatusError, copy_out};
+use cadence_settings::text_is_free;
+use cadence_text::line::{TagsText, is_free};
+use std::alloc::{AllocError, Global};
+
+/// Tests a text: whether it is UTF-8, and then whether it has no separator.
+#[unsafe(no_mangle)]
+pub extern "C" fn cadence_test_text(_alloc: Global, text: &[u8]) -> u32
+    ensures free { result ≡ CADENCE_OK → IsTrue (is_free_text text.now) }
+    ensures unfree { result ≡ CADENCE_SEPARATOR → IsFalse (is_free_text text.now) }
+    ensures text { result ≡ CADENCE_NOT_UTF8 → IsUtf8 text.now → ⊥ }
+    ensures statuses { IsOkOr (CADENCE_NOT_UTF8 ∷ CADENCE_SEPARATOR ∷ []) result }
+{
+    let Some(text) = text_of(text) else {
+        return StatusError::NotUtf8.code();
+    };
+    if !text_is_free(text) {
+        return StatusError::Separator.code();
+    }
+    OK
+}
+
+// Returns the text without its trailing dots.
+fn without_trailing_dots(prefix: &str) -> &str
+    ensures { result.now ≡ without_dots prefix.now }
+{
+    let mut kept = prefix;
+    while let Some(shorter) = kept.strip_suffix('.') {
+        kept = shorter;
+    }
+    kept
+}
+
+// Returns a prefix as each line begins with it. The error is that memory ran out.
+fn prefix_text(alloc: Global, prefix: &str) -> Result<Vec<u8>, AllocError>
+    ensures { IfOk result (λ text. text.items ≡ client_prefix prefix.now) }
+{
+    if prefix.is_empty() {
+        return Ok(Vec::new(alloc));
+    }
+    let kept = without_trailing_dots(prefix).as_bytes();
+    let mut text = Vec::with_capacity(alloc, kept.len().saturating_add(1))?;
+    text.extend_from_slice(kept)?;
+    text.push(b'.')?;
+    Ok(text)
+}
+
+/// Writes a prefix as each line begins with it into the first bytes of `out`, and its length into `size`.
+#[unsafe(no_mangle)]
+pub extern "C" fn cadence_prefix_text(
+    alloc: Global,
+    prefix: &[u8],
+    strict: bool,
+    out: &mut [u8],
+    size: &mut usize,
+) -> u32
+    ensures written { WritesText result (client_prefix prefix.now)
+        (allows_prefix strict prefix.now) out.new size.new }
+    ensures text { result ≡ CADENCE_NOT_UTF8 → IsUtf8 prefix.now → ⊥ }
+{
+    *size = 0;
+    let Some(prefix) = text_of(prefix) else {
+        return StatusError::NotUtf8.code();
+    };
+    let Ok(text) = prefix_text(alloc, prefix) else {
+        return StatusError::NoMemory.code();
+    };
+    if strict && !is_free(&text) {
+        return StatusError::Separator.code();
+    }
+    copy_out(&text, out, size)
+}
+
+// Returns the text of tags. The error is that memory ran out.
+fn text_of_tags(alloc: Global, tags: &[CTag<'_>]) -> Result<TagsText, AllocError>
+    requires { All IsUtf8Tag tags.now }
+    ensures { IfOk result (λ text. text ≡ tags_field (map c_tag tags.now)) }
+{
+    let mut text = TagsText::new(alloc);
+    for tag in tags {
+        text.add(known_tag(tag))?;
+    }
+    Ok(text)
+}
+
+/// Writes the text of default tags into the first bytes of `out`, and its length into `size`.
+#[unsafe(no_mangle)]
+pub extern "C" fn cadence_tags_text(
+    alloc: Global,
+    tags: &[CTag<'_>],
+    strict: bool,
+    out: &mut [u8],
+    size: &mut usize,
+) -> u32
+    ensures written { WritesText result (tags_field (map c_tag tags.now))
+        (allows_tags strict tags.now) out.new size.new }
+    ensures text { result ≡ CADENCE_NOT_UTF8 → All IsUtf8Tag tags.now → ⊥ }
+{
+    *size = 0;
+    if !are_tags(tags) {
+        return StatusError::NotUtf8.code();
+    }
+    if strict && !are_free_tags(tags) {
+        return StatusError::Separator.code();
+    }
+    let Ok(text) = text_of_tags(alloc, tags) else {
+        return StatusError::NoMemory.code();
+    };
+    copy_out(text.as_str().as_bytes(), out, size)
+}

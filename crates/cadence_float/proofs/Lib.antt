@@ -1,0 +1,3 @@
+mod FittingDigits
+pub mod Floats
+mod Zero

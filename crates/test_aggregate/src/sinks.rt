@@ -1,0 +1,107 @@
+//! The aggregating sink over a spy: what leaves at a flush, after a refusal, at a drop, after a period, with two
+//! callers and below a client.
+use cadence::prelude::*;
+use cadence::sinks::{MetricSink, SpyMetricSink, SpyReceiver};
+use cadence::{MetricResult, StatsdClient};
+use cadence_aggregating::{AggregatingMetricSink, AggregatingMetricSinkBuilder};
+use std::alloc::Global;
+use std::sync::Wait;
+use std::test::Fail;
+use std::thread;
+use std::time::Duration;
+
+// Emits lines, each with a space after it, and asserts that each answer is the line's length.
+fn assert_takes<S: MetricSink>(sink: &S, lines: &str) -> Result<(), Fail> {
+    for line in lines.split(' ') {
+        if sink.emit(line)? != line.len() {
+            return Err(Fail::new("another count of bytes"));
+        }
+    }
+    Ok(())
+}
+
+// Asserts that these are the messages of a spy, with a space between two.
+fn assert_got<R: Wait + Drop>(receiver: &SpyReceiver<R>, lines: &str) -> Result<(), Fail> {
+    for line in lines.split(' ') {
+        match receiver.recv() {
+            Some(message) if message.as_slice() == line.as_bytes() => {}
+            _ => return Err(Fail::new("another line")),
+        }
+    }
+    if receiver.is_empty() {
+        Ok(())
+    } else {
+        Err(Fail::new("one line too many"))
+    }
+}
+
+#[test]
+fn flushes_and_a_drop_send_what_is_held(rt: HostRuntime) -> Result<(), Fail> {
+    let (receiver, spy) = SpyMetricSink::with_capacity(rt.clone()?, rt.alloc(), 2)?;
+    let sink = AggregatingMetricSink::from(rt.clone()?, rt.alloc(), spy)?;
+    assert_takes(&sink, "a:1|c a:2|c t:5|ms b:4|c c:5|c")?;
+    if sink.flush().is_ok() {
+        return Err(Fail::new("a full sink took a line"));
+    }
+    assert_got(&receiver, "t:5|ms a:3|c")?;
+    sink.flush()?;
+    assert_got(&receiver, "b:4|c c:5|c")?;
+    assert_takes(&sink, "g:5|g")?;
+    drop(sink);
+    assert_got(&receiver, "g:5|g")
+}
+
+#[test]
+fn a_period_sends_what_is_held(rt: HostRuntime) -> Result<(), Fail> {
+    let (receiver, spy) = SpyMetricSink::new(rt.clone()?, rt.alloc())?;
+    let sink = AggregatingMetricSinkBuilder::new()
+        .with_max_contexts(1)
+        .with_max_line(8)
+        .with_packed_values()
+        .with_flush_period(Duration::from_millis(20))
+        .build(rt.clone()?, rt.alloc(), spy)?;
+    assert_takes(&sink, "t:5|ms")?;
+    assert_got(&receiver, "t:5|ms")
+}
+
+// Emits a counter's line again and again.
+fn count<S: MetricSink>(sink: &S, turns: u32) -> bool {
+    for _ in 0..turns {
+        if sink.emit("a:1|c").is_err() {
+            return false;
+        }
+    }
+    true
+}
+
+#[test]
+fn two_callers_lose_nothing(rt: HostRuntime) -> Result<(), Fail> {
+    let (receiver, spy) = SpyMetricSink::new(rt.clone()?, rt.alloc())?;
+    let sink = AggregatingMetricSink::from(rt.clone()?, rt.alloc(), spy)?;
+    let (one, two) = thread::join(&rt, || count(&sink, 1000), || count(&sink, 2000));
+    if !(one && two) {
+        return Err(Fail::new("a line was refused"));
+    }
+    drop(sink);
+    assert_got(&receiver, "a:3000|c")
+}
+
+// Raises a counter twice over a boxed sink.
+fn count_over_box(
+    alloc: Global,
+    sink: Box<dyn MetricSink + Send + Sync>,
+) -> MetricResult<StatsdClient> {
+    let client = StatsdClient::from_sink(alloc, "p", sink)?;
+    client.incr("a")?;
+    client.count("a", 2i64)?;
+    Ok(client)
+}
+
+#[test]
+fn a_client_sends_sums_over_a_boxed_sink(rt: HostRuntime) -> Result<(), Fail> {
+    let (receiver, spy) = SpyMetricSink::new(rt.clone()?, rt.alloc())?;
+    let sink = AggregatingMetricSink::from(rt.clone()?, rt.alloc(), spy)?;
+    let client = count_over_box(rt.alloc(), Box::new(rt.alloc(), sink)?)?;
+    client.flush()?;
+    assert_got(&receiver, "p.a:3|c")
+}
