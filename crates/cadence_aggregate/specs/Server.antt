@@ -34,8 +34,8 @@ values_in text = slice_split (λ byte. byte == 58) text
 abbrev pub times_in : List ℕ → List ℕ → ℕ
 times_in x text = count_by (pointwise nat_eq x) (values_in text)
 
--- What a server knows of the contexts that it takes for one, after these lines. It may take several for one, as those
--- whose tags stand in another order.
+-- What a server knows, after these lines, of the contexts that it takes for one. A server may take several contexts for
+-- one, for example two that have the same tags in another order.
 module _ (ours : List ℕ → Bool) where
   -- by how much the counter was raised
   abbrev pub total : List Sample → ℤ

@@ -11,8 +11,8 @@ abbrev pub IsErrorOf : Fault → SinkError → Type 0
 IsErrorOf fault.Refused e = Unit {0}
 IsErrorOf fault.OutOfMemory e = e ≡ OutOfMemory
 
--- A call gave this reply. Before it the sink had refused so many lines, and after it so many, modulo 2 to the 64. If the
--- reply is an error, the sink refused one line more, or it refused none and memory ran out.
+-- The two numbers count the lines that the sink had refused before a call and after it, modulo 2 to the 64. If the call
+-- returned an error, the sink refused one line in it, or it refused none and memory ran out.
 abbrev pub HasCause : ℕ → ℕ → Result (Unit {0}) SinkError → Type 0
 HasCause before after (Ok done) = after ≡ before
 HasCause before after (Err e) = (after ≡ one_more before) ⊎ ((after ≡ before) × (e ≡ OutOfMemory))

@@ -4,7 +4,7 @@ use Rattle.cadence_aggregate.specs.declared.line.Line.{Line}
 use Rattle.cadence_aggregate.specs.declared.line.Line.TheVariants.{Amount, Level, Member, Timing, Other}
 use Rattle.cadence_aggregating.specs.declared.limits.Limits.{Limits}
 
--- A line that says this, and has so many bytes, is to be held.
+-- A line of this size in bytes, which says this, is to be held.
 abbrev pub IsToHold : Limits → Line → ℕ → Type 0
 IsToHold limits (Amount c by) size = size ≤ limits.most_bytes
 IsToHold limits (Level c value) size = size ≤ limits.most_bytes

@@ -15,10 +15,10 @@ use std::sync::Wait;
 use std::thread::Threads;
 use std::time::{Clock, Duration};
 
-/// How many contexts of each kind a sink holds if it is not told.
+/// How many contexts of each kind a sink holds by default.
 const MOST_CONTEXTS: usize = 4096;
 
-/// The most bytes of a line that a sink holds if it is not told.
+/// The length of the longest line that a sink holds by default, in bytes.
 const MOST_BYTES: usize = 512;
 
 /// Makes an `AggregatingMetricSink`. Without other settings the sink holds at most 4096 contexts of each kind and lines
