@@ -7,7 +7,7 @@ use Rattle.cadence_text.specs.declared.line.MetricType.{MetricType}
 use Rattle.cadence_errors.specs.declared.MetricError.{MetricError}
 use Rattle.cadence_errors.specs.declared.MetricError.TheVariants.{Sink}
 use Rattle.cadence_errors.specs.declared.SinkError.{SinkError}
-use Rattle.cadence_errors.specs.Errors.{IsInvalid, out_of_memory}
+use Rattle.cadence_errors.specs.Errors.{Gives, IsInvalid, out_of_memory}
 use Rattle.cadence_text.specs.Draft.{Draft, draft_line, draft_of, with_tag_text}
 use Rattle.cadence_text.specs.Line.{line_of}
 use Rattle.cadence_text.specs.Metric.{Metric}
@@ -60,10 +60,7 @@ pub record SendsPlain (settings : Settings) (may : SinkResults) (kind : MetricTy
 
 -- A pending draft is the draft of this metric, or memory ran out. If there is no metric, it is an invalid input.
 abbrev pub MakesDraft : Option Metric → Result Draft MetricError → Type 0
-MakesDraft (Some m) (Ok d) = d ≡ draft_of m
-MakesDraft (Some m) (Err e) = e ≡ out_of_memory
-MakesDraft None (Ok d) = ⊥
-MakesDraft None (Err e) = IsInvalid e
+MakesDraft = Gives (λ m d. d ≡ draft_of m)
 
 -- A builder of this kind starts with the draft of the call without options, or with the error that memory ran out. If
 -- the call's value has no numbers or the settings don't allow the call, it starts with an invalid input.

@@ -13,6 +13,6 @@ IsErrorOf fault.OutOfMemory e = e ≡ OutOfMemory
 
 -- The two numbers count the lines that the sink had refused before a call and after it, modulo 2 to the 64. If the call
 -- returned an error, the sink refused one line in it, or it refused none and memory ran out.
-abbrev pub HasCause : ℕ → ℕ → Result (Unit {0}) SinkError → Type 0
-HasCause before after (Ok done) = after ≡ before
-HasCause before after (Err e) = (after ≡ one_more before) ⊎ ((after ≡ before) × (e ≡ OutOfMemory))
+abbrev pub HasCountedCause : ℕ → ℕ → Result (Unit {0}) SinkError → Type 0
+HasCountedCause before after (Ok done) = after ≡ before
+HasCountedCause before after (Err e) = (after ≡ one_more before) ⊎ ((after ≡ before) × (e ≡ OutOfMemory))

@@ -5,7 +5,6 @@
 //! - `printed`: writes the line that says something, and notes what it says.
 //! - `printer`: gives what lines say to a sink of metrics.
 //! - `limits`: the settings of an aggregator.
-//! - `ghost_texts`: a list of texts that exists in proofs only.
 //! - `recorded`: an aggregator of lines with a record of its past.
 //! - `runs`: a run of lines and flushes.
 //! - `locked`: an aggregator of lines under a lock.
@@ -14,7 +13,6 @@
 #![tactic(auto)]
 
 mod builder;
-mod ghost_texts;
 mod limits;
 mod locked;
 mod note;

@@ -4,7 +4,7 @@ ghost use mir.Syntax.{w64};
 ghost use Rattle.cadence_aggregating.specs.Noted.{noted, only_text};
 ghost use Rattle.cadence_aggregating.specs.Printed.{text_of};
 
-use crate::ghost_texts::GhostTexts;
+use cadence_flow::GhostTexts;
 
 /// What a line is about.
 #[derive(Clone, Copy)]

@@ -7,9 +7,9 @@ ghost use Rattle.cadence_aggregating.specs.Noted.{noted};
 ghost use Rattle.cadence_aggregating.specs.Notes.{line_of_note, sample_of_note};
 ghost use Rattle.cadence_aggregating.specs.Printed.{barred, before_bar, from_bar, spliced, text_of};
 
-use crate::ghost_texts::GhostTexts;
 use crate::note::{Kind, Note};
 use cadence_aggregate::Line;
+use cadence_flow::GhostTexts;
 use cadence_value::bytes::split_text_once;
 use cadence_value::decimal::Decimal;
 use std::alloc::AllocError;

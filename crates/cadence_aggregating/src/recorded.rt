@@ -7,13 +7,12 @@ ghost use Rattle.cadence_aggregate.specs.Server.{IsSummary};
 ghost use Rattle.cadence_aggregating.specs.Notes.{sample_of_note};
 ghost use Rattle.cadence_aggregating.specs.Past.{IsPast, texts_in};
 
-use crate::ghost_texts::GhostTexts;
 use crate::limits::Limits;
 use crate::printer::Printer;
 use crate::said::read_said;
 use cadence_aggregate::{Aggregator, Fault, Line};
 use cadence_errors::SinkError;
-use cadence_flow::MetricSink;
+use cadence_flow::{GhostTexts, MetricSink};
 use std::alloc::{AllocError, Global};
 
 /// An aggregator of lines over a sink of metrics, with a record of the lines that it accepted. The record exists in
@@ -58,7 +57,7 @@ fn add_or_pass<S: MetricSink>(
 
 impl<S: MetricSink> RecordedAggregator<S> {
     ghost use Rattle.cadence_aggregating.specs.Recorded.{accepted_by, core_of, held_by, limits_of, refusals_by, taken_by};
-    ghost use Rattle.cadence_aggregating.specs.Causes.{HasCause, IsErrorOf};
+    ghost use Rattle.cadence_aggregating.specs.Causes.{HasCountedCause, IsErrorOf};
     ghost use Rattle.cadence_aggregating.specs.Quiet.{IsQuiet};
     ghost use Rattle.cadence_aggregating.specs.Past.{Summarizes};
     ghost use Rattle.cadence_aggregating.specs.Printed.{text_of};
@@ -122,7 +121,7 @@ impl<S: MetricSink> RecordedAggregator<S> {
         ensures err { OnErr result (accepted_by self.new ≡ accepted_by self.old) }
         ensures quiet { OnOk result (∥ IsQuiet (limits_of self.old) (core_of self.old) line.now
             (taken_by self.old) (taken_by self.new) ∥₁) }
-        ensures refused { HasCause (refusals_by self.old) (refusals_by self.new) result }
+        ensures refused { HasCountedCause (refusals_by self.old) (refusals_by self.new) result }
     {
         match self.try_add(line) {
             Ok(()) => Ok(()),
@@ -139,7 +138,7 @@ impl<S: MetricSink> RecordedAggregator<S> {
         ensures accepted { accepted_by self.new ≡ accepted_by self.old }
         ensures lines { OnOk result (taken_by self.new
             ≡ taken_by self.old ++ map text_of (held_by self.old)) }
-        ensures refused { HasCause (refusals_by self.old) (refusals_by self.new) result }
+        ensures refused { HasCountedCause (refusals_by self.old) (refusals_by self.new) result }
     {
         match self.aggregator.flush(&mut self.printer) {
             Ok(()) => Ok(()),

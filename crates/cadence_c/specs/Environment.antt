@@ -63,13 +63,13 @@ pub record AreTagsRead (c : CVariables) (v : Variables) : Type 0 where
   pub entity_id : v.entity_id.now ≡ c.entity_id.now
 
 -- The destination is this host and port, or this path and the port 0.
-abbrev pub IsTarget : {A : Type 0} → Destination A → List ℕ → ℕ → Type 0
-IsTarget (Udp host number) text port = (text ≡ string_bytes host) × (port ≡ number)
-IsTarget (Unix path) text port = (text ≡ string_bytes path) × (port ≡ 0)
+abbrev pub IsPlaceFound : {A : Type 0} → Destination A → List ℕ → ℕ → Type 0
+IsPlaceFound (Udp host number) text port = (text ≡ string_bytes host) × (port ≡ number)
+IsPlaceFound (Unix path) text port = (text ≡ string_bytes path) × (port ≡ 0)
 
 -- The variables say to send to this host and port, or to this path if the port is 0.
 abbrev pub SaysTarget : Variables → List ℕ → ℕ → Type 0
-SaysTarget v text port = (d : Destination Global) × SaysPlace v d × IsTarget d text port
+SaysTarget v text port = (d : Destination Global) × SaysPlace v d × IsPlaceFound d text port
 
 -- the variable that has this number in C
 abbrev pub variable_named : ℕ → Option Variable

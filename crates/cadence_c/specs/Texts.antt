@@ -37,8 +37,8 @@ pub record HasTextsOf (t : Texts) (s : Settings) : Type 0 where
   pub container : option_copied t.container ≡ s.container
 
 -- whether settings allow the texts of a call: all texts, or if they are strict, those without a separator
-abbrev pub allows_call : Bool → List ℕ → COptions → Bool
-allows_call strict key o = not strict || is_free_call_of_c key o
+abbrev pub allows_c_call : Bool → List ℕ → COptions → Bool
+allows_c_call strict key o = not strict || is_free_call_of_c key o
 
 -- whether settings allow a prefix: any prefix, or if they are strict, one without a separator
 abbrev pub allows_prefix : Bool → List ℕ → Bool

@@ -10,7 +10,7 @@ ghost use Rattle.cadence_environment.specs.TagTexts.{tags_said};
 ghost use Rattle.cadence_environment.specs.declared.error.EnvironmentError.TheVariants.{Malformed};
 ghost use Rattle.cadence_environment.specs.declared.variables.Variables.{Variables as TheVariables};
 ghost use Rattle.cadence_c.specs.Environment.{ArePlacesRead, AreTagsRead, HasTexts, IsNamed, Names, SaysTarget, variable_named};
-ghost use Rattle.cadence_c.specs.Results.{Writes};
+ghost use Rattle.cadence_c.specs.Results.{WritesOut};
 ghost use Rattle.cadence_c.specs.Status.{CADENCE_INVALID, CADENCE_NO_MEMORY, CADENCE_TOO_SMALL, CADENCE_VARIABLE, IsOkOr};
 
 use crate::call::text_of;
@@ -178,7 +178,7 @@ pub extern "C" fn cadence_destination(
     variable: &mut u32,
 ) -> u32
     ensures target { (v : TheVariables) → HasTexts variables.now v →
-        Writes result (λ text. SaysTarget v text port.new) out.new size.new }
+        WritesOut result (λ text. SaysTarget v text port.new) out.new size.new }
     ensures refused { result ≡ CADENCE_VARIABLE → (v : TheVariables) → HasTexts variables.now v →
         IsNamed v variable.new }
     ensures statuses { IsOkOr (CADENCE_VARIABLE ∷ CADENCE_NO_MEMORY ∷ CADENCE_TOO_SMALL ∷ [])
@@ -245,7 +245,7 @@ pub extern "C" fn cadence_environment_tags(
     variable: &mut u32,
 ) -> u32
     ensures tags { (v : TheVariables) → HasTexts variables.now v →
-        Writes result (λ text. text ≡ tags_field (tags_said v)) out.new size.new }
+        WritesOut result (λ text. text ≡ tags_field (tags_said v)) out.new size.new }
     ensures refused { result ≡ CADENCE_VARIABLE → (v : TheVariables) → HasTexts variables.now v →
         IsNamed v variable.new }
     ensures statuses { IsOkOr (CADENCE_VARIABLE ∷ CADENCE_NO_MEMORY ∷ CADENCE_TOO_SMALL ∷ [])

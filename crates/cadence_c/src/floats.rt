@@ -2,7 +2,7 @@
 //! same time.
 ghost use Rattle.std.specs.Prelude.{◌≡◌, ◌≢◌, ◌⊎◌, [], ◌∷◌};
 ghost use Rattle.cadence_value.specs.Number.{Number};
-ghost use Rattle.cadence_float.specs.Worth.{IsTooLarge, StandsFor};
+ghost use Rattle.cadence_float.specs.Worth.{IsTooLarge, StandsForFloat};
 ghost use Rattle.cadence_c.specs.Calls.{IsMillisOf, IsNumberOf, PassesDecimal};
 ghost use Rattle.cadence_c.specs.Status.{CADENCE_INVALID, CADENCE_OK, IsOkOr};
 
@@ -38,10 +38,10 @@ pub extern "C" fn cadence_decimal_of_double(
     number: &mut CDecimal,
 ) -> u32
     ensures number { result ≡ CADENCE_OK →
-        (n : Number) × IsNumberOf number.new n × StandsFor n value }
+        (n : Number) × IsNumberOf number.new n × StandsForFloat n value }
     ensures kept { result ≢ CADENCE_OK → number.new ≡ number.old }
     ensures invalid { result ≡ CADENCE_INVALID →
-        IsTooLarge value ⊎ ((n : Number) × StandsFor n value × PassesDecimal n) }
+        IsTooLarge value ⊎ ((n : Number) × StandsForFloat n value × PassesDecimal n) }
     ensures statuses { IsOkOr (CADENCE_INVALID ∷ []) result }
 {
     match decimal_of_float(value) {

@@ -3,7 +3,7 @@
 ghost use Rattle.std.specs.Prelude.{◌≡◌, IfNone, IfSome, true};
 ghost use Rattle.cadence_settings.specs.Settings.{Settings};
 ghost use Rattle.cadence_c.specs.Calls.{IsUtf8Options};
-ghost use Rattle.cadence_c.specs.Texts.{AreTextsOf, HasTextsOf, IsUtf8Settings, allows_call};
+ghost use Rattle.cadence_c.specs.Texts.{AreTextsOf, HasTextsOf, IsUtf8Settings, allows_c_call};
 
 use crate::call::{COptions, are_free_options, read_text};
 use cadence_settings::text_is_free;
@@ -52,9 +52,9 @@ pub fn read_settings<'a>(settings: &CSettings<'a>, known: bool) -> Option<Texts<
 
 /// Returns whether settings allow the texts of a call: all texts, or if they are strict, those without a separator.
 #[inline(always)]
-pub fn allows_call(strict: bool, key: &str, options: &COptions<'_>) -> bool
+pub fn allows_c_call(strict: bool, key: &str, options: &COptions<'_>) -> bool
     requires { IsUtf8Options options.now }
-    ensures { result ≡ allows_call strict key.now options.now }
+    ensures { result ≡ allows_c_call strict key.now options.now }
 {
     !strict || are_free_options(options) && text_is_free(key)
 }

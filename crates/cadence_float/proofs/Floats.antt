@@ -27,7 +27,7 @@ use Rattle.cadence_value.proofs.digits.PowersOfTen.{ten_to_pos, neg_product}
 use Rattle.cadence_value.proofs.reading.SignedDigits.{side_signed}
 use Rattle.cadence_value.proofs.digits.Digits.{text_numeral}
 use Rattle.cadence_value.proofs.digits.NumberText.{numeral, places_of, places_text-suc, length-places_of, places_value, digits_zeros, no_minus}
-use Rattle.cadence_float.specs.Worth.{AreNearest, IsCutOf, IsNumberOf, IsSigned, IsTextOf, IsTooLarge, IsUnfit, IsWorthOf}
+use Rattle.cadence_float.specs.Worth.{AreNearest, IsCutOf, IsNumberOfDigits, HasSignAndSize, IsTextOf, IsTooLarge, IsUnfit, IsWorthOf}
 
 -- the parts of a decimal's text
 abbrev parts_at : List ℕ → Bool → List ℕ → Parts
@@ -95,7 +95,7 @@ sign_product (negsuc n) zero some = absurd (omega arith)
 sign_product (negsuc n) (suc k) some = ap is_negative (neg_product (suc n) (suc k)) ∙ side_signed true (suc n * suc k) (λ _. omega (arith, le-mul_of_pos_right {m = suc k} (suc n) (omega arith)))
 
 -- The lowest form of an integer of this sign and size over a power of ten.
-pub lowest_worth : (s : Bool) (size p : ℕ) (z : ℤ) (n : Number) → IsSigned s size z → IsLowestForm z p n
+pub lowest_worth : (s : Bool) (size p : ℕ) (z : ℤ) (n : Number) → HasSignAndSize s size z → IsLowestForm z p n
     → (is_negative n.mantissa ≡ s) × (unsigned_abs n.mantissa * 10 ^ p ≡ size * 10 ^ n.places)
 lowest_worth s size p z n is low =
     let m = unsigned_abs n.mantissa in
@@ -105,7 +105,7 @@ lowest_worth s size p z n is low =
       ap (λ k. m * k) split ∙ sym (mul_assoc m (10 ^ (p - n.places)) (10 ^ n.places)) ∙ ap (λ k. k * 10 ^ n.places) cut,
     )
 
-pub worth_below : (s : Bool) (digits up down : ℕ) (z : ℤ) (n : Number) → up ≤ down → IsSigned s digits z → IsLowestForm z (down - up) n → IsWorthOf s digits up down n
+pub worth_below : (s : Bool) (digits up down : ℕ) (z : ℤ) (n : Number) → up ≤ down → HasSignAndSize s digits z → IsLowestForm z (down - up) n → IsWorthOf s digits up down n
 worth_below s digits up down z n few is low =
     let (sign, same) = lowest_worth s digits (down - up) z n is low in
     let m = unsigned_abs n.mantissa in
@@ -115,7 +115,7 @@ worth_below s digits up down z n few is low =
       worth = ap (λ k. m * k) split ∙ sym (mul_assoc m (10 ^ (down - up)) (10 ^ up)) ∙ ap (λ k. k * 10 ^ up) same ∙ mul_right_comm digits (10 ^ n.places) (10 ^ up);
     }
 
-pub worth_above : (s : Bool) (digits up down : ℕ) (z : ℤ) (n : Number) → down ≤ up → IsSigned s (digits * 10 ^ (up - down)) z → IsLowestForm z 0 n → IsWorthOf s digits up down n
+pub worth_above : (s : Bool) (digits up down : ℕ) (z : ℤ) (n : Number) → down ≤ up → HasSignAndSize s (digits * 10 ^ (up - down)) z → IsLowestForm z 0 n → IsWorthOf s digits up down n
 worth_above s digits up down z n few is low =
     let (sign, same) = lowest_worth s (digits * 10 ^ (up - down)) 0 z n is low in
     let m = unsigned_abs n.mantissa in
@@ -187,7 +187,7 @@ all_digits p front digits before e =
 
 -- The number of a float's numeral is read as the float, or it is the numeral's, rounded to 30 places.
 pub number_of_text : (x : Float) (t : Bool) (p : Parts) (digits up down : ℕ) (n : Number) → IsTextOf x t p → digits ≡ numeral_digits p → up ≡ tens_up p → down ≡ tens_down p
-    → IsNumberOf t digits up down n → (parse_float binary64 (number_text n) ≡ Some x) ⊎ IsCutOf n x
+    → IsNumberOfDigits t digits up down n → (parse_float binary64 (number_text n) ≡ Some x) ⊎ IsCutOf n x
 number_of_text x t p digits up down n is d u w (inl worth) =
     inl (reads_as t digits up down n x worth (ap₂ (λ a b. round binary64 t a (10 ^ b)) (ap₂ (λ a b. a * 10 ^ b) d u) w ∙ is.value))
 number_of_text x t p digits up down n is d u w (inr (many, (size, near, lowest))) =

@@ -11,7 +11,7 @@ use Rattle.ryu.specs.Plain.{IsLaidOut, IsPlain}
 use Rattle.cadence_value.specs.Number.{IsLowestForm, Number, number_text}
 
 -- The integer has this sign and this size, and fits 128 bits.
-pub record IsSigned (negative : Bool) (size : ℕ) (z : ℤ) : Type 0 where
+pub record HasSignAndSize (negative : Bool) (size : ℕ) (z : ℤ) : Type 0 where
   pub sign : is_negative z ≡ negative
   pub size_is : unsigned_abs z ≡ size
   pub fits : FitsSigned w128 z
@@ -36,8 +36,8 @@ IsNearest negative digits zeros places n =
     (size : ℕ) × AreNearest digits zeros size × IsLowestForm (signed_of negative size) places n
 
 -- The number is digits * 10 ^ up / 10 ^ down, with this sign, or this rounded to 30 places if it has more.
-abbrev pub IsNumberOf : Bool → ℕ → ℕ → ℕ → Number → Type 0
-IsNumberOf negative digits up down n =
+abbrev pub IsNumberOfDigits : Bool → ℕ → ℕ → ℕ → Number → Type 0
+IsNumberOfDigits negative digits up down n =
     IsWorthOf negative digits up down n ⊎ ((30 < down - up) × IsNearest negative digits (down - up - 30) 30 n)
 
 -- The digits are 0, or digits * 10 ^ up / 10 ^ down is at least 2 ^ 127.
@@ -57,8 +57,8 @@ abbrev pub zero_or : Float → Float
 zero_or x = if eq x float_zero then float_zero else x
 
 -- The text of the number is read as this float, or as 0 for a zero of either sign.
-abbrev pub ReadsAs : Number → Float → Type 0
-ReadsAs n x = parse_float binary64 (number_text n) ≡ Some (zero_or x)
+abbrev pub IsReadAs : Number → Float → Type 0
+IsReadAs n x = parse_float binary64 (number_text n) ≡ Some (zero_or x)
 
 -- A numeral of the float has more than 30 decimal places, and the number is that numeral's, rounded to 30 places.
 abbrev pub IsCutOf : Number → Float → Type 0
@@ -67,8 +67,8 @@ IsCutOf n x = (negative : Bool) × (p : Parts) × IsTextOf x negative p × (30 <
 
 -- The text of the number is read as this float, or a numeral of the float has more than 30 decimal places, and the number
 -- is that numeral's, rounded to 30 places.
-abbrev pub StandsFor : Number → Float → Type 0
-StandsFor n x = ReadsAs n x ⊎ IsCutOf n x
+abbrev pub StandsForFloat : Number → Float → Type 0
+StandsForFloat n x = IsReadAs n x ⊎ IsCutOf n x
 
 -- The float is NaN or infinite, or a numeral of the float is 0 or at least 2 ^ 127.
 abbrev pub IsTooLarge : Float → Type 0

@@ -7,7 +7,7 @@ ghost use lib.Ieee.{eq};
 ghost use Rattle.fast_float.specs.Parse.{parse_float};
 ghost use Rattle.cadence_errors.specs.Errors.{IsInvalid};
 ghost use Rattle.cadence_value.specs.Number.{natural, number_text};
-ghost use Rattle.cadence_float.specs.Worth.{IsCutOf, IsTooLarge, StandsFor};
+ghost use Rattle.cadence_float.specs.Worth.{IsCutOf, IsTooLarge, StandsForFloat};
 
 use crate::candidate::{multiplied, shortest};
 use crate::parts::decimal_over;
@@ -23,7 +23,7 @@ use core::dec2flt::from_decimal;
 /// # Errors
 /// `InvalidInput` (`float has no decimal`) if the float is NaN, infinite, or more than 2 to the power of 127 away from 0.
 pub fn decimal_of_float(x: f64) -> MetricResult<Decimal>
-    ensures number { IfOk result (λ n. StandsFor n x) }
+    ensures number { IfOk result (λ n. StandsForFloat n x) }
     ensures zero { IsTrue (eq x float_zero) → IfOk result (λ n. n ≡ natural 0) }
     ensures refused { IfErr result IsInvalid }
     ensures large { IfErr result (λ _. IsTooLarge x) }

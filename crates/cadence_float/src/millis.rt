@@ -2,7 +2,7 @@
 ghost use Rattle.std.specs.Prelude.{◌≡◌, IfErr, IfOk, IsOk};
 ghost use Rattle.cadence_errors.specs.Errors.{IsInvalid};
 ghost use Rattle.cadence_value.specs.Number.{Number, natural};
-ghost use Rattle.cadence_float.specs.Worth.{IsRounded, IsSmall, IsTooLarge, StandsFor};
+ghost use Rattle.cadence_float.specs.Worth.{IsRounded, IsSmall, IsTooLarge, StandsForFloat};
 
 use crate::float::{decimal_of_float, zero};
 use crate::parts::{nearest, with_sign};
@@ -21,7 +21,7 @@ const SMALLEST: f64 = 1e-7;
 /// Those of `decimal_of_float`.
 pub fn rounded_decimal_of_float(x: f64) -> MetricResult<Decimal>
     ensures small { IsSmall x → IfOk result (λ n. n ≡ natural 0) }
-    ensures rounds { (IsSmall x → ⊥) → IfOk result (λ n. (d : Number) × StandsFor d x × IsRounded d n) }
+    ensures rounds { (IsSmall x → ⊥) → IfOk result (λ n. (d : Number) × StandsForFloat d x × IsRounded d n) }
     ensures refused { IfErr result IsInvalid }
     ensures large { IfErr result (λ _. IsTooLarge x) }
 {

@@ -1,6 +1,6 @@
 //! The decimal of a sign, digits and a power of ten.
 ghost use Rattle.std.specs.Prelude.{◌≡◌, ◌≤◌, ◌<◌, ◌+◌, ◌*◌, ◌^◌, ◌⊎◌, IfNone, IfSome, IsSome};
-ghost use Rattle.cadence_float.specs.Worth.{AreNearest, IsNearest, IsNumberOf, IsSigned, IsUnfit, IsWorthOf, signed_of};
+ghost use Rattle.cadence_float.specs.Worth.{AreNearest, IsNearest, IsNumberOfDigits, HasSignAndSize, IsUnfit, IsWorthOf, signed_of};
 
 use cadence_value::decimal::{Decimal, power_of_ten};
 
@@ -12,7 +12,7 @@ const MOST_ZEROS: u128 = 38;
 
 // Returns the signed number of this size. `None` for a negative zero, or if the number does not fit 128 bits.
 fn signed(negative: bool, size: u128) -> Option<i128>
-    ensures signed { IfSome result (IsSigned negative size) }
+    ensures signed { IfSome result (HasSignAndSize negative size) }
     ensures none { IfNone result ((size ≡ 0) ⊎ (2 ^ 127 ≤ size)) }
 {
     if !negative {
@@ -82,7 +82,7 @@ fn rounded_parts(negative: bool, digits: u128, zeros: u128) -> Option<Decimal>
 /// are 0 or the decimal is too large.
 pub fn of_parts(negative: bool, digits: u128, up: u128, down: u128) -> Option<Decimal>
     requires { digits < 10 ^ 25 }
-    ensures number { IfSome result (IsNumberOf negative digits up down) }
+    ensures number { IfSome result (IsNumberOfDigits negative digits up down) }
     ensures none { IfNone result (IsUnfit digits up down) }
 {
     if down <= up {

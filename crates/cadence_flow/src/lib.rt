@@ -8,7 +8,7 @@
 //! - `answering_sink`: the one body of `emit` and of `flush` of the library's own sinks
 //! - `recorded_packer`: a packer with a record of the lines that it accepted, over a writer with a record of the packets
 //!   that it was offered, and the answers that only this packer makes
-//! - `ghost_list`: a list that exists in proofs only
+//! - `ghost_list` and `ghost_texts`: a list and a list of texts that exist in proofs only
 //! - `socket_stats`: the counts of a socket, under a lock
 //! - `lock`: how a lock is taken
 //! - `thread`: starts a thread that does a job
@@ -17,6 +17,7 @@
 
 mod answering_sink;
 mod ghost_list;
+mod ghost_texts;
 mod handler;
 pub mod io;
 mod lock;
@@ -30,6 +31,7 @@ pub use answering_sink::{
     AnsweringFlush, AnsweringSink, Closed, Opened, Opener, emit_by, flush_by,
 };
 pub use ghost_list::GhostList;
+pub use ghost_texts::GhostTexts;
 pub use handler::{Handler, SinkErrorHandler};
 pub use lock::{acquire, spin};
 pub use metric_sink::{MetricSink, NopMetricSink};

@@ -1,14 +1,12 @@
 //! A packer with a record of its past that only proofs read, over a writer with a record of its packets.
 ghost use Rattle.std.specs.Prelude.{◌≡◌, ◌∷◌, ◌++◌, [], ℕ, List, true};
-ghost use Rattle.std.specs.Borrow.{ftrue};
-ghost use Rattle.std.specs.Coded.{coded_list, coded_ℕ, coded×};
 ghost use Rattle.cadence_flow.specs.Frame.{taken_stream};
 ghost use Rattle.cadence_flow.specs.Cut.{IsCut, bytes_taken};
 
+use crate::ghost_texts::GhostTexts;
 use crate::io::{LineBuffer, PacketWriter};
 use cadence_errors::{MetricError, MetricResult, SinkError};
 use std::alloc::{Allocator, Global};
-use std::marker::{Model, PhantomData};
 use std::snapshot::Snapshot;
 
 mod answers;
@@ -267,34 +265,3 @@ impl<W: PacketWriter> PacketWriter for RecordedWriter<W> {
         taken
     }
 }
-
-/// A list of texts, each with a count. It exists in proofs only: it takes no memory, and its methods do nothing at run
-/// time. What they do to `items` is proved by hand, in `proofs/recorded_packer/GhostTexts`.
-#[derive(Drop)]
-pub struct GhostTexts {
-    marker: PhantomData<u8>,
-    pub ghost items: { List (List ℕ × ℕ) } by { coded_list (coded× (coded_list coded_ℕ) coded_ℕ) },
-}
-
-impl Model for GhostTexts {
-    ghost also_owns = { λ _. ftrue };
-}
-
-impl GhostTexts {
-    /// Makes the empty list.
-    pub fn new() -> GhostTexts
-        ensures { result.items ≡ [] }
-    {
-        GhostTexts {
-            marker: PhantomData,
-        }
-    }
-
-    /// Adds a text with its count at the end of the list.
-    pub fn note(&mut self, _text: &[u8], _count: usize)
-        ensures { self.new.items ≡ self.old.items ++ (_text.now, _count) ∷ [] }
-    {}
-}
-
-// A `GhostTexts` owns nothing, so it may go to another thread.
-unsafe impl Send for GhostTexts {}

@@ -17,7 +17,7 @@ use Rattle.cadence_settings.specs.CallData.{metric_of_data}
 use Rattle.cadence_schedule.specs.RunHistory.{Turn, accepted, taken_count, dropped_count, left_count, kept, kept_counts, in_hand}
 use Rattle.cadence_schedule.specs.RunHistory.{is_stopped, error_count, marks, refusals}
 use Rattle.cadence_schedule.specs.Packets.{ArePacketsOf, ReadsAs}
-use Rattle.cadence_schedule.specs.Plan.{groups_of, IsTight, IsFewest, IsCutLate}
+use Rattle.cadence_schedule.specs.Plan.{groups_of, IsTight, IsFewest, NoGroupHasRoom}
 use Rattle.cadence_schedule.specs.Replies.{MayReplyAfter}
 use Rattle.cadence_schedule.specs.Report.{Outcome}
 use Rattle.cadence_settings.specs.Settings.{Settings}
@@ -143,7 +143,7 @@ module _ {W A : Type 0} (history : W → PacketHistory) (given : Given A) (outco
     -- Over a writer that reports its packets and takes each whole or refuses it, refusals included: no group could have
     -- had one line more, except one that a flush or a refused line came after.
     pub late : ReportsWhole given.kind
-        → IsCutLate given.format.capacity (marks_of ++ refusals (line_by given) turns_of) (groups_of outcome.cut sizes_of)
+        → NoGroupHasRoom given.format.capacity (marks_of ++ refusals (line_by given) turns_of) (groups_of outcome.cut sizes_of)
     -- Over a writer that reports its packets, short counts included: the packets of the run, joined, and then the held
     -- text are the frames of the kept lines, in order; of an oversize line whose hand returned Ok(n), its first n
     -- bytes. Over a writer that takes each packet whole, n is the length of the line, and this is `stream` of the

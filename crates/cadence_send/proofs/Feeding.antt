@@ -14,7 +14,7 @@ use Rattle.cadence_flow.specs.Frame.{Format, frame, frame_of, is_oversize, strea
 use Rattle.cadence_flow.specs.Packer.{FlushesHeld, Packer, WritesLine, given_by, packer_state, whole_text}
 use Rattle.cadence_flow.specs.Writer.{PacketHistory, WriterKind}
 use Rattle.cadence_send.specs.Fed.{Feeds, FeedsSome, IsOneText, with_newlines}
-use Rattle.cadence_send.specs.Sent.{AreLinesOf, Gives, SendsTexts, TakesFirst, TakesLines, TakesTexts, texts_of_input}
+use Rattle.cadence_send.specs.Sent.{AreLinesOf, AsksFor, SendsTexts, TakesFirst, TakesLines, TakesTexts, texts_of_input}
 use Rattle.cadence_words.specs.declared.defaults.Defaults.{Defaults}
 
 -- A text without a newline is one text.
@@ -45,7 +45,7 @@ lines_more : {Z : Type 0} (d : Defaults Z) (texts more : List (List ℕ)) (lines
     → AreLinesOf d more others → AreLinesOf d (texts ++ more) (lines ++ others)
 lines_more d texts more lines others (given, zip, are) (given', zip', are') = (
   given ++ given',
-  zip_append (Gives d) texts given more given' zip zip',
+  zip_append (AsksFor d) texts given more given' zip zip',
   ap₂ (λ a b. a ++ b) are are'
       ∙ sym (filter_map-append (λ o. o) given given'),
 )
@@ -124,11 +124,11 @@ module _ {W : Type 0} (kind : W → WriterKind) (history : W → PacketHistory) 
     }
 
     -- A text is taken if its metric's line is taken, or if it asks for no metric and no line is taken.
-    pub text_taken : (p q : Packer W) (text line : List ℕ) → Gives d text (Some line) → TakesLines kind history p q (line ∷ [])
+    pub text_taken : (p q : Packer W) (text line : List ℕ) → AsksFor d text (Some line) → TakesLines kind history p q (line ∷ [])
         → TakesTexts d kind history p q (text ∷ [])
     text_taken p q text line given takes = record { lines = line ∷ []; are = (Some line ∷ [], (given, tt), refl); takes = takes }
 
-    pub text_without : (p : Packer W) (text : List ℕ) → Gives d text None → TakesTexts d kind history p p (text ∷ [])
+    pub text_without : (p : Packer W) (text : List ℕ) → AsksFor d text None → TakesTexts d kind history p p (text ∷ [])
     text_without p text given = record { lines = []; are = (None ∷ [], (given, tt), refl); takes = takes_none p }
 
     -- Bytes waited, and more bytes arrived, of which some are left. The texts before those were taken, except for a

@@ -22,9 +22,9 @@ HasNoLine d IsLine = ((line : List ℕ) → IsLine line → ⊥) ⊎ ((line : Li
 
 -- The text, without a carriage return at its end, asks for a metric with this line. If there is no line, the text asks
 -- for no metric, or for one whose line is longer than a line may be.
-abbrev pub Gives : {Z : Type 0} → Defaults Z → List ℕ → Option (List ℕ) → Type 0
-Gives d text (Some line) = IsGiven d (IsLineOfText d (without_return text)) line
-Gives d text None = HasNoLine d (IsLineOfText d (without_return text))
+abbrev pub AsksFor : {Z : Type 0} → Defaults Z → List ℕ → Option (List ℕ) → Type 0
+AsksFor d text (Some line) = IsGiven d (IsLineOfText d (without_return text)) line
+AsksFor d text None = HasNoLine d (IsLineOfText d (without_return text))
 
 -- the texts between the newlines of an input
 abbrev pub texts_of_input : List ℕ → List (List ℕ)
@@ -32,7 +32,7 @@ texts_of_input input = slice_split (λ b. b == 10) input
 
 -- These are the lines of the texts that ask for a metric, in order.
 abbrev pub AreLinesOf : {Z : Type 0} → Defaults Z → List (List ℕ) → List (List ℕ) → Type 0
-AreLinesOf d texts lines = (given : List (Option (List ℕ))) × AllZip (Gives d) texts given × (lines ≡ filter_map (λ o. o) given)
+AreLinesOf d texts lines = (given : List (Option (List ℕ))) × AllZip (AsksFor d) texts given × (lines ≡ filter_map (λ o. o) given)
 
 -- The packer took these lines. If its writer reports its packets and takes each of them whole, then the packets and the
 -- held text, joined, grew by the stream of the lines.

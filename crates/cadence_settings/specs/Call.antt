@@ -5,7 +5,7 @@ use Rattle.std.specs.Prelude.{Bool, true, not, ◌&&◌, ◌||◌, if◌then◌e
 use Rattle.std.specs.List.{filter_map, fold, list_all}
 use Rattle.cadence_text.specs.declared.line.MetricType.{MetricType}
 use Rattle.cadence_errors.specs.declared.MetricError.{MetricError}
-use Rattle.cadence_errors.specs.Errors.{IsInvalid, out_of_memory}
+use Rattle.cadence_errors.specs.Errors.{Gives}
 use Rattle.cadence_text.specs.Draft.{Draft, draft_of}
 use Rattle.cadence_text.specs.Metric.{Metric, Tag}
 use Rattle.cadence_text.specs.Representable.{IsRepresentable}
@@ -118,7 +118,4 @@ IsDraftOf m draft = (draft ≡ draft_of m) × IsRepresentable m
 -- A function returns the metric, or `OutOfMemory`; if there is no metric, because a duration of the call passes 64
 -- bits or the settings don't allow the call, it returns an error of kind `InvalidInput`.
 abbrev pub MakesMetric : Option Metric → Result Metric MetricError → Type 0
-MakesMetric (Some m) (Ok r) = r ≡ m
-MakesMetric (Some m) (Err e) = e ≡ out_of_memory
-MakesMetric None (Ok r) = ⊥
-MakesMetric None (Err e) = IsInvalid e
+MakesMetric = Gives (λ m r. r ≡ m)

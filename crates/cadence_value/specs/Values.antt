@@ -8,7 +8,7 @@ use Rattle.cadence_value.specs.declared.value.durations.TimeUnit.{TimeUnit}
 use Rattle.cadence_value.specs.declared.value.durations.TimeUnit.TheVariants.{Millisecond, Nanosecond}
 use Rattle.cadence_value.specs.declared.value.MetricValue.{MetricValue}
 use Rattle.cadence_value.specs.declared.value.MetricValue.TheVariants.{Signed, PackedSigned, Unsigned, PackedUnsigned, Decimal, PackedDecimal}
-use Rattle.cadence_errors.specs.Errors.{IsInvalid, out_of_memory}
+use Rattle.cadence_errors.specs.Errors.{Gives, IsInvalid}
 use Rattle.cadence_value.specs.Number.{Number, whole, natural}
 
 -- the numbers of a value, whatever their Rust type is
@@ -41,10 +41,7 @@ numbers_in_u64 ns = if list_all (λ n. nat_lt n (2 ^ 64)) ns then Some (map natu
 -- numbers, the result has exactly these, or memory ran out. If it is refused, the result is an error of kind
 -- `InvalidInput`.
 abbrev pub Converts : {Z : Type 0} → Option (List Number) → Result (MetricValue Z) MetricError → Type 0
-Converts (Some numbers) (Ok v) = numbers_of v ≡ numbers
-Converts (Some numbers) (Err e) = e ≡ out_of_memory
-Converts None (Ok v) = ⊥
-Converts None (Err e) = IsInvalid e
+Converts = Gives (λ numbers v. numbers_of v ≡ numbers)
 
 -- What a conversion that takes no memory may return, given the numbers that the value has, or `None` for a value that
 -- is refused. If it has numbers, the result has exactly these. If it is refused, the result is an error of kind

@@ -43,7 +43,7 @@ use std::sync::Wait;
 use turns::Runtime;
 
 // The settings of further clients, each of which makes a few calls.
-const SETTINGS: [Setting; 6] = [
+const SETTINGS: &[Setting] = &[
     Setting::Prefix("..."),
     Setting::Prefix(""),
     Setting::Prefix("a.."),
@@ -53,7 +53,7 @@ const SETTINGS: [Setting; 6] = [
 ];
 
 // The groups of calls that the first client makes.
-const GROUPS: [Group; 6] = [
+const GROUPS: &[Group] = &[
     Group::Counters,
     Group::Timers,
     Group::Gauges,
@@ -126,7 +126,7 @@ fn report_setting<R: Wait + Clone + Drop>(
 fn report_settings<R: Wait + Clone + Drop>(rt: &R, alloc: Global) -> MetricResult<String> {
     let mut text = String::new(alloc);
     for setting in SETTINGS {
-        text.push_str(&report_setting(rt, alloc, setting)?)?;
+        text.push_str(&report_setting(rt, alloc, *setting)?)?;
     }
     writeln!(&mut text, "port {DEFAULT_PORT}")?;
     text.push_str(&audit_error_texts(alloc)?)?;

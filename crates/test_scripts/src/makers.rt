@@ -58,7 +58,7 @@ enum Maker {
 }
 
 // The constructors, each with its name.
-const MAKERS: [(&str, Maker); 25] = [
+const MAKERS: &[(&str, Maker)] = &[
     ("SpyMetricSink::new", Maker::Spy(SpyMaker::New)),
     (
         "SpyMetricSink::with_capacity",

@@ -20,7 +20,7 @@ use Rattle.cadence_schedule.specs.RunHistory.{Turn, accepted, accepted_by, taken
 use Rattle.cadence_schedule.specs.RunHistory.{is_error, marks}
 use Rattle.cadence_schedule.specs.RunHistory.{refusals, refusal_at, places_after}
 use Rattle.cadence_schedule.specs.Packets.{ArePacketsOf}
-use Rattle.cadence_schedule.specs.Plan.{groups_of, IsTight, IsCutLate}
+use Rattle.cadence_schedule.specs.Plan.{groups_of, IsTight, NoGroupHasRoom}
 use Rattle.cadence_schedule.specs.Moves.{RunState}
 use Rattle.cadence_schedule.proofs.packets.ListEnds.{joined}
 use Rattle.cadence_schedule.proofs.packets.CutLengths.{shown, shown_late}
@@ -113,10 +113,10 @@ module _ {A : Type 0} (line_of : Call A → Option (List ℕ)) where
         (shown format (marks line_of h) (refusals line_of h) (kept line_of h) b.groups b.packets s.held b.cut))
 
     pub run_late : kind.reports ≡ true → kind.takes_whole ≡ true
-        → IsCutLate format.capacity (marks line_of h ++ refusals line_of h) (groups_of s.cut (map (size_of format) (kept line_of h)))
+        → NoGroupHasRoom format.capacity (marks line_of h ++ refusals line_of h) (groups_of s.cut (map (size_of format) (kept line_of h)))
     run_late reports whole =
         let b = a.cut reports whole in
-        subst (λ p. IsCutLate format.capacity (marks line_of h ++ refusals line_of h) (groups_of p (map (size_of format) (kept line_of h))))
+        subst (λ p. NoGroupHasRoom format.capacity (marks line_of h ++ refusals line_of h) (groups_of p (map (size_of format) (kept line_of h))))
         (sym b.plan_is)
         (shown_late format (marks line_of h) (refusals line_of h) (kept line_of h) b.groups b.packets s.held b.cut)
 
@@ -128,7 +128,7 @@ module _ {A : Type 0} (line_of : Call A → Option (List ℕ)) where
         none_counted s.history.refusals start.refusals (error_count h) (length h) none counted (errors_le h) short in
         record {
           admissible = (run_cut reports whole).admissible;
-          no_later = subst (λ e. IsCutLate format.capacity e (groups_of s.cut (map (size_of format) (kept line_of h))))
+          no_later = subst (λ e. NoGroupHasRoom format.capacity e (groups_of s.cut (map (size_of format) (kept line_of h))))
               (ap (λ r. marks line_of h ++ r) (no_refusals [] h no_errors) ∙ append-nil (marks line_of h)) (run_late reports whole);
         }
       where

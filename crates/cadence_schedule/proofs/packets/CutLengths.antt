@@ -6,7 +6,7 @@ use Rattle.std.proofs.lemmas.List.{length-append, length-map, take-map, drop-map
 use Rattle.std.proofs.lemmas.List.Sums.{sum_by-cons}
 use Rattle.std.proofs.lemmas.List.Elements.{All-from_recursion, Contains-get_or, Contains-append_left, Contains-append_right}
 use Rattle.std.proofs.lemmas.Bool.{ltb-true, ltb-false}
-use Rattle.cadence_schedule.specs.Plan.{groups_of, FitsPacket, PassesWithNext, IsAdmissible, IsCutLate}
+use Rattle.cadence_schedule.specs.Plan.{groups_of, FitsPacket, HasNoRoomForNext, IsAdmissible, NoGroupHasRoom}
 use Rattle.cadence_flow.specs.Frame.{Format, size_of, stream}
 use Rattle.cadence_schedule.specs.Packets.{ArePacketsOf}
 use Rattle.cadence_schedule.proofs.packets.ListEnds.{joined, groups_of-lengths}
@@ -84,19 +84,19 @@ module _ (format : Format) (marks refusals : List ℕ) (lines : List (List ℕ))
         (length front, ap (λ gs. sum (take (length front) (map length gs))) e ∙ take_lengths front back ∙ at);
   }
 
-  pub shown_late : IsCutLate format.capacity (marks ++ refusals) (groups_of (map length groups) (map (size_of format) lines))
+  pub shown_late : NoGroupHasRoom format.capacity (marks ++ refusals) (groups_of (map length groups) (map (size_of format) lines))
   shown_late before after group next e unexcused =
       let (front, back, x, w, gs_are, fronts, first, second) = from_map (map (size_of format)) groups before after group next (sym size_groups ∙ e) in
       let sizes_are : before ++ group ∷ [] ≡ map (map (size_of format)) (front ++ x ∷ []) = (λ i. sym fronts i ++ sym first i ∷ [])
       ∙ sym (map-append (map (size_of format)) front (x ∷ [])) in
       let place : length (joined (front ++ x ∷ [])) ≡ length (concat (before ++ group ∷ [])) = sym (ap (λ gs. length (concat gs)) sizes_are
       ∙ length_sizes format (front ++ x ∷ [])) in
-      let passes : PassesWithNext format.capacity (map (size_of format) x) (map (size_of format) w) =
+      let passes : HasNoRoomForNext format.capacity (map (size_of format) x) (map (size_of format) w) =
       cut.late front back x w gs_are
       (λ has. unexcused (Contains-append_left marks refusals (length (concat (before ++ group ∷ []))) (subst (λ p. Contains marks p) place has)))
       (λ has. unexcused (Contains-append_right marks refusals (length (concat (before ++ group ∷ [])))
       (subst (λ p. Contains refusals p) place has))) in
-      subst (λ g. PassesWithNext format.capacity g next) first (subst (λ n. PassesWithNext format.capacity (map (size_of format) x) n) second passes)
+      subst (λ g. HasNoRoomForNext format.capacity g next) first (subst (λ n. HasNoRoomForNext format.capacity (map (size_of format) x) n) second passes)
 
   pub shown : ArePacketsOf format marks refusals lines (map length groups) packets held
   shown = record {

@@ -8,7 +8,7 @@ use Rattle.std.proofs.lemmas.List.Concat.{flat_map-append}
 use Rattle.std.proofs.lemmas.List.Sums.{sum_by-append}
 use Rattle.std.proofs.lemmas.List.Elements.{Contains-push_cases, Contains-append_left, Contains-push}
 use Rattle.std.proofs.lemmas.Bool.{cases_lt, le-ltb, lt-ltb, cond-true, cond-false}
-use Rattle.cadence_schedule.specs.Plan.{FitsPacket, PassesWithNext}
+use Rattle.cadence_schedule.specs.Plan.{FitsPacket, HasNoRoomForNext}
 use Rattle.cadence_flow.specs.Frame.{Format, size_of, frame, stream, held_packet}
 use Rattle.cadence_value.proofs.lists.SplitTexts.{each_append}
 use Rattle.cadence_schedule.proofs.plans.PlanGroups.{sum-cons, not_at}
@@ -19,7 +19,7 @@ abbrev pub LateLines : Format → List ℕ → List ℕ → List (List (List ℕ
 LateLines format marks refusals groups =
     (before after : List (List (List ℕ))) (group next : List (List ℕ)) → groups ≡ before ++ (group ∷ next ∷ after)
     → ¬ Contains marks (length (joined (before ++ group ∷ []))) → ¬ Contains refusals (length (joined (before ++ group ∷ [])))
-    → PassesWithNext format.capacity (map (size_of format) group) (map (size_of format) next)
+    → HasNoRoomForNext format.capacity (map (size_of format) group) (map (size_of format) next)
 
 -- The groups are a cut of the lines, the packets and then the held text are the frames of the groups, and no group
 -- could have ended later.
@@ -199,7 +199,7 @@ module _ (format : Format) (marks refusals : List ℕ) (lines : List (List ℕ))
 
   new_late : (line : List ℕ)
       → ((init : List (List (List ℕ))) (group : List (List ℕ)) → groups ≡ init ++ group ∷ [] → ¬ Contains marks (length lines) → ¬ Contains
-      refusals (length lines) → PassesWithNext format.capacity (map (size_of format) group) (size_of format line ∷ []))
+      refusals (length lines) → HasNoRoomForNext format.capacity (map (size_of format) group) (size_of format line ∷ []))
       → LateLines format marks refusals (groups ++ (line ∷ []) ∷ [])
   new_late line border before after group next f unmarked unrefused =
       elim (neighbours_end groups (line ∷ []) before after group next f) [
@@ -207,7 +207,7 @@ module _ (format : Format) (marks refusals : List ℕ) (lines : List (List ℕ))
             let (next_is, groups_are) = at_end in
             let place : length (joined (before ++ group ∷ [])) ≡ length lines = ap (λ gs. length (joined gs)) (sym groups_are)
             ∙ ap (λ l. length l) cut.all in
-            subst (λ g. PassesWithNext format.capacity (map (size_of format) group) (map (size_of format) g)) (sym next_is)
+            subst (λ g. HasNoRoomForNext format.capacity (map (size_of format) group) (map (size_of format) g)) (sym next_is)
             (border before group groups_are (not_at marks (length (joined (before ++ group ∷ []))) (length lines) place unmarked)
             (not_at refusals (length (joined (before ++ group ∷ []))) (length lines) place unrefused))
         | inr earlier ↦ let (rest, groups_are) = earlier in cut.late before rest group next groups_are unmarked unrefused
@@ -218,7 +218,7 @@ module _ (format : Format) (marks refusals : List ℕ) (lines : List (List ℕ))
       → new_packets ++ held_packet new_held ≡ (packets ++ held_packet held) ++ frame format line ∷ []
       → (format.capacity < size_of format line → new_held ≡ []) → (size_of format line ≤ format.capacity → new_held ≢ [])
       → ((init : List (List (List ℕ))) (group : List (List ℕ)) → groups ≡ init ++ group ∷ [] → ¬ Contains marks (length lines) → ¬ Contains
-      refusals (length lines) → PassesWithNext format.capacity (map (size_of format) group) (size_of format line ∷ []))
+      refusals (length lines) → HasNoRoomForNext format.capacity (map (size_of format) group) (size_of format line ∷ []))
       → IsCutSoFar format marks refusals (lines ++ line ∷ []) (groups ++ (line ∷ []) ∷ []) new_packets new_held
   new_group line new_packets new_held e large small border = record {
     all = joined-push groups (line ∷ []) ∙ ap (λ l. l ++ line ∷ []) cut.all;

@@ -8,7 +8,7 @@ use Rattle.cadence_errors.specs.declared.SinkError.{SinkError}
 use Rattle.cadence_flow.specs.Frame.{Format, size_of, is_oversize, frame, held_packet}
 use Rattle.cadence_flow.specs.Packer.{PackerState, Writes}
 use Rattle.cadence_flow.specs.Writer.{PacketHistory, WriterKind}
-use Rattle.cadence_schedule.specs.Plan.{PassesWithNext}
+use Rattle.cadence_schedule.specs.Plan.{HasNoRoomForNext}
 use Rattle.cadence_schedule.specs.Moves.{HasLast, Counted, CountsLine, joins_held}
 use Rattle.cadence_schedule.proofs.packets.CutSoFar.{IsCutSoFar, new_group, joins_group, refuses_line, last_held, held_last, frame_within}
 use Rattle.cadence_schedule.proofs.packets.CutSoFar.{frame_past, held_packet_is, nil_front}
@@ -166,7 +166,7 @@ module _ (format : Format) (marks refusals : List ℕ) (lines : List (List ℕ))
     where
       begins_border : (held ≡ []) ⊎ (format.capacity < length held + size_of format line) → size_of format line ≤ format.capacity
           → (init : List (List (List ℕ))) (group : List (List ℕ)) → groups ≡ init ++ group ∷ [] → ¬ Contains marks (length lines)
-          → ¬ Contains refusals (length lines) → PassesWithNext format.capacity (map (size_of format) group) (size_of format line ∷ [])
+          → ¬ Contains refusals (length lines) → HasNoRoomForNext format.capacity (map (size_of format) group) (size_of format line ∷ [])
       begins_border (inl none) small' init group e unmarked unrefused within next_within =
           absurd (last_held format marks refusals lines groups packets held cut init group e unmarked unrefused within none)
       begins_border (inr full) small' init group e unmarked unrefused within next_within =

@@ -7,7 +7,7 @@ use Rattle.std.proofs.lemmas.List.Sums.{sum_by-cons, get_or-le-sum_by}
 use Rattle.std.proofs.lemmas.List.Elements.{All-cons, All-head, All-tail, All-contains, All-nil, Contains-get_or}
 use Rattle.std.proofs.lemmas.List.{length-drop, length-take-le, get_or-drop, get_or-take, length-append}
 use Rattle.std.proofs.lemmas.Bool.{cases_lt, cases_order}
-use Rattle.cadence_schedule.specs.Plan.{IsGroup, EndsLate, groups_of, FitsPacket, EndsAt, IsAdmissible, PassesWithNext, IsTight}
+use Rattle.cadence_schedule.specs.Plan.{IsGroup, EndsLate, groups_of, FitsPacket, EndsAt, IsAdmissible, HasNoRoomForNext, IsTight}
 
 abbrev pub Groups : ℕ → List ℕ → ℕ → List ℕ → List ℕ → Type 0
 Groups capacity marks start [] xs = length xs ≡ 0
@@ -115,7 +115,7 @@ not_at marks p q e none has = none (subst (λ r. Contains marks r) (sym e) has)
 abbrev pub NoLater : ℕ → List ℕ → ℕ → List (List ℕ) → Type 0
 NoLater capacity marks start groups =
     (before after : List (List ℕ)) (group next : List ℕ) → groups ≡ before ++ (group ∷ next ∷ after)
-    → ¬ Contains marks (start + length (concat (before ++ group ∷ []))) → PassesWithNext capacity group next
+    → ¬ Contains marks (start + length (concat (before ++ group ∷ []))) → HasNoRoomForNext capacity group next
 
 -- The first size of the second group is the one after the first group.
 first_of_next : (count n : ℕ) (xs : List ℕ) → 0 < n → get_or (take n (drop count xs)) 0 0 ≡ get_or xs count 0
@@ -152,7 +152,7 @@ late_in capacity marks start (count ∷ plan) xs (first, rest) late = (
 late_out_first : (capacity : ℕ) (marks : List ℕ) (start count : ℕ) (plan xs : List ℕ) → Groups capacity marks start (count ∷ plan) xs
     → EndsLate capacity marks start count xs → (after : List (List ℕ)) (group next : List ℕ)
     → groups_of (count ∷ plan) xs ≡ group ∷ next ∷ after → ¬ Contains marks (start + length (group ++ []))
-    → PassesWithNext capacity group next
+    → HasNoRoomForNext capacity group next
 late_out_first capacity marks start count [] xs g late after group next e unmarked = absurd cc
 late_out_first capacity marks start count (n ∷ plan) xs (first, (second, rest)) late after group next e unmarked = λ within next_within.
     let group_is : take count xs ≡ group = cc in

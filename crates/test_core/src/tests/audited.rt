@@ -306,7 +306,7 @@ fn has_memory_for<R: Wait>(
 
 // Each call, with the least and the greatest number of its requests that are refused. A stop makes one for the history,
 // and one for the receipt.
-const REFUSALS: [(Call, u64, u64); 3] = [
+const REFUSALS: &[(Call, u64, u64)] = &[
     (Call::Submit, 5, 5),
     (Call::Take, 1, u64::MAX),
     (Call::Stop, 2, 2),
@@ -318,11 +318,11 @@ fn each_request_of_a_call_may_be_refused(rt: HostRuntime) -> Result<(), Fail> {
         let refusals = AtomicU64::new(0);
         let granted: Result<Option<u64>, Fail> = each_refused(
             rt.alloc(),
-            |heap| has_memory_for(&rt, heap, &refusals, call),
+            |heap| has_memory_for(&rt, heap, &refusals, *call),
         );
         assert!(rt; granted?.is_some());
         let count = refusals.load(Ordering::SeqCst);
-        assert!(rt; least <= count && count <= most);
+        assert!(rt; *least <= count && count <= *most);
     }
     Ok(())
 }

@@ -19,7 +19,7 @@ enum Choice {
 // The tags that a draft begins with, the options that are set in it, and its line.
 type Row = (&'static str, &'static [Choice], &'static str);
 
-const ROWS: [Row; 8] = [
+const ROWS: &[Row] = &[
     ("", &[], "p.k:54|c"),
     ("|#a:b", &[], "p.k:54|c|#a:b"),
     ("", &[Choice::Rate], "p.k:54|c|@0.5"),
@@ -93,7 +93,7 @@ fn line_in<A: Allocator>(buffer: Vec<u8, A>, row: &Row) -> Result<Vec<u8, A>, Al
 
 #[test]
 fn options_come_in_the_order_of_the_grammar(rt: HostRuntime) -> Result<(), Fail> {
-    for row in &ROWS {
+    for row in ROWS {
         assert!(rt; text_of(rt.alloc(), row)?.as_str() == row.2, "{}", row.2);
     }
     Ok(())
@@ -110,7 +110,7 @@ fn is_made(row: &Row, heap: RefusingAllocator<Global>) -> Result<bool, Fail> {
 
 #[test]
 fn each_request_of_a_draft_may_be_refused(rt: HostRuntime) -> Result<(), Fail> {
-    for row in &ROWS {
+    for row in ROWS {
         let granted = each_refused(rt.alloc(), |heap| is_made(row, heap))?;
         assert!(rt; granted.is_some());
     }
@@ -121,7 +121,7 @@ fn each_request_of_a_draft_may_be_refused(rt: HostRuntime) -> Result<(), Fail> {
 #[test]
 fn a_buffer_that_is_used_again_asks_for_no_memory(rt: HostRuntime) -> Result<(), Fail> {
     let mut buffer = Vec::with_capacity(RefusingAllocator::after(rt.alloc(), rt.alloc(), 1)?, 64)?;
-    for row in &ROWS {
+    for row in ROWS {
         buffer = line_in(buffer, row)?;
         assert!(rt; buffer.as_slice() == row.2.as_bytes());
     }

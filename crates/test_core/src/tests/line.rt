@@ -85,7 +85,7 @@ enum Shape {
     WithLeastNumber,
 }
 
-const LENGTHS: [(Shape, &str, usize); 5] = [
+const LENGTHS: &[(Shape, &str, usize)] = &[
     (Shape::WithContainer, "prefix.some.key:1|c|c:1234", 26),
     (
         Shape::WithTime("prefix.", "some.key", 1234567890),
@@ -131,8 +131,8 @@ fn record_of(alloc: Global, shape: Shape) -> Result<Record<'static>, Fail> {
 #[test]
 fn a_length_is_exact(rt: HostRuntime) -> Result<(), Fail> {
     for (shape, line, length) in LENGTHS {
-        let record = record_of(rt.alloc(), shape)?;
-        assert!(rt; has_line(rt.alloc(), &record, line, length), "{line}");
+        let record = record_of(rt.alloc(), *shape)?;
+        assert!(rt; has_line(rt.alloc(), &record, line, *length), "{line}");
     }
     Ok(())
 }

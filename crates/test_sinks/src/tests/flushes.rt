@@ -8,7 +8,7 @@ use super::steps::{
 use cadence_errors::{MetricError, MetricResult, SinkError};
 use cadence_flow::{MetricSink, NopMetricSink};
 use cadence_queuing::{FlushingMetricSink, QueuingMetricSink, QueuingMetricSinkBuilder};
-use cadence_sinks::BufferedSpyMetricSink;
+use cadence_sinks::{BufferedSpyMetricSink, SpyReceiver};
 use std::alloc::Global;
 use std::sync::Arc;
 use std::sync::atomic::Ordering;
@@ -78,15 +78,23 @@ fn a_late_line_is_flushed_at_once(rt: HostRuntime) -> Result<(), Fail> {
     watch.assert_reads(6)
 }
 
+const SEVEN: &[&str] = &[
+    "a:1|c", "b:1|c", "c:1|c", "d:1|c", "e:1|c", "f:1|c", "g:1|c",
+];
+
+// Asserts that a sink accepts each of seven lines.
+fn assert_accepts_each<S: MetricSink>(sink: &S) -> Result<(), Fail> {
+    for line in SEVEN {
+        assert_accepts(sink, &[(*line, 5)])?;
+    }
+    Ok(())
+}
+
 #[test]
 fn a_busy_worker_flushes_between_lines(rt: HostRuntime) -> Result<(), Fail> {
     let (watch, sink) = make_queue(&rt, rt.alloc(), 3)?;
     watch.stage.step.store(1, Ordering::SeqCst);
-    for line in [
-        "a:1|c", "b:1|c", "c:1|c", "d:1|c", "e:1|c", "f:1|c", "g:1|c",
-    ] {
-        assert_accepts(&sink, &[(line, 5)])?;
-    }
+    assert_accepts_each(&sink)?;
     watch.assert_notes(&["a:1|c", "b:1|c", "c:1|c", "flush"])?;
     watch.assert_notes(&["d:1|c", "e:1|c", "f:1|c", "flush", "g:1|c"])?;
     watch.assert_reads(6)
@@ -170,17 +178,28 @@ fn without_a_clock_each_line_is_flushed(rt: HostRuntime) -> Result<(), Fail> {
     watch.assert_rests()
 }
 
+const LINES: &[&str] = &["a:1|c", "b:2|c", "c:3|c"];
+
+// Emits lines, and asserts that each one is flushed before the next one is emitted.
+fn assert_flushes_lines<S: MetricSink, R: Runtime>(
+    alloc: Global,
+    sink: &S,
+    receiver: &SpyReceiver<R>,
+) -> Result<(), Fail> {
+    for line in LINES {
+        assert_accepts(sink, &[(*line, 5)])?;
+        assert_next_message(receiver, format!(in alloc; "{line}\n")?.as_str())?;
+    }
+    Ok(())
+}
+
 #[test]
 fn a_queue_is_flushed_by_the_real_clock(rt: HostRuntime) -> Result<(), Fail> {
     let (receiver, spy) = BufferedSpyMetricSink::new(rt.clone()?, rt.alloc())?;
     let sink = QueuingMetricSinkBuilder::new()
         .with_flush_period(Duration::from_millis(2))
         .build(rt.clone()?, rt.alloc(), spy)?;
-    for line in ["a:1|c", "b:2|c", "c:3|c"] {
-        assert_accepts(&sink, &[(line, 5)])?;
-        assert_next_message(&receiver, format!(in rt.alloc(); "{line}\n")?.as_str())?;
-    }
-    Ok(())
+    assert_flushes_lines(rt.alloc(), &sink, &receiver)
 }
 
 // Returns whether a sink was made. If it wasn't, the error has to be `OutOfMemory`.
@@ -274,9 +293,5 @@ fn the_drop_of_a_flushing_sink_flushes_and_ends_its_thread(rt: HostRuntime) -> R
 fn a_sink_is_flushed_by_the_real_clock(rt: HostRuntime) -> Result<(), Fail> {
     let (receiver, spy) = BufferedSpyMetricSink::new(rt.clone()?, rt.alloc())?;
     let sink = FlushingMetricSink::new(rt.clone()?, rt.alloc(), spy, Duration::from_millis(2))?;
-    for line in ["a:1|c", "b:2|c", "c:3|c"] {
-        assert_accepts(&sink, &[(line, 5)])?;
-        assert_next_message(&receiver, format!(in rt.alloc(); "{line}\n")?.as_str())?;
-    }
-    Ok(())
+    assert_flushes_lines(rt.alloc(), &sink, &receiver)
 }

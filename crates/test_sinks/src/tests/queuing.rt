@@ -54,12 +54,14 @@ fn assert_lines_in_turn<R: Runtime>(
     sink: &SpiedSink<R>,
     receiver: &SpyReceiver<R>,
 ) -> Result<(), Fail> {
-    for line in ["a:1|c", "b:2|c", "c:3|c", "d:4|c", "e:5|c"] {
-        assert_accepts(sink, &[(line, 5)])?;
+    for line in IN_TURN {
+        assert_accepts(sink, &[(*line, 5)])?;
         assert_next_message(receiver, line)?;
     }
     Ok(())
 }
+
+const IN_TURN: &[&str] = &["a:1|c", "b:2|c", "c:3|c", "d:4|c", "e:5|c"];
 
 #[test]
 fn a_line_in_the_memory_of_another_is_its_own(rt: HostRuntime) -> Result<(), Fail> {
@@ -163,7 +165,7 @@ fn accepts_at_the_gate<R: Runtime>(
 
 // What a queue does with a second and a third line while the first one is at the gate: how many it accepts and refuses;
 // how many it has accepted, dropped and drained, and how many wait; and the lines that pass the gate in the end.
-const AT_THE_GATE: [(Bound, (u64, u64), [u64; 4], &[&str]); 4] = [
+const AT_THE_GATE: &[(Bound, (u64, u64), [u64; 4], &[&str])] = &[
     (
         (None, QueuePolicy::Refuse),
         (2, 0),
@@ -226,7 +228,7 @@ fn is_as_row_says<R: Runtime>(
 #[test]
 fn a_full_queue_refuses_or_drops(rt: HostRuntime) -> Result<(), Fail> {
     for row in AT_THE_GATE {
-        assert!(rt; is_as_row_says(&rt, rt.alloc(), row)?);
+        assert!(rt; is_as_row_says(&rt, rt.alloc(), *row)?);
     }
     Ok(())
 }
@@ -250,7 +252,7 @@ fn emit_from_two_threads<R: Threads + Sync, S: MetricSink + Sync>(rt: &R, sink: 
 
 // What a queue does with a thousand lines of two threads while another line is at the gate: how many it accepts and
 // refuses; how many it has accepted, dropped and drained, and how many wait.
-const OF_TWO_THREADS: [(Bound, (u64, u64), [u64; 4]); 3] = [
+const OF_TWO_THREADS: &[(Bound, (u64, u64), [u64; 4])] = &[
     ((None, QueuePolicy::Refuse), (1000, 0), [1001, 0, 1, 1000]),
     (
         (Some(300), QueuePolicy::Refuse),
@@ -285,7 +287,7 @@ fn is_as_row_of_two_says<R: Runtime>(
 #[test]
 fn two_threads_fill_a_queue_to_its_bound(rt: HostRuntime) -> Result<(), Fail> {
     for row in OF_TWO_THREADS {
-        assert!(rt; is_as_row_of_two_says(&rt, rt.alloc(), row)?);
+        assert!(rt; is_as_row_of_two_says(&rt, rt.alloc(), *row)?);
     }
     Ok(())
 }

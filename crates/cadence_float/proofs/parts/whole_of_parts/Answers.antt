@@ -3,7 +3,7 @@ use mir.Syntax.{w128}
 use Rattle.std.proofs.lemmas.Int.{to_z-of_z}
 use Rattle.cadence_float.proofs.FittingDigits.{if_none, power_fits, unfit_of, unfit_past}
 use Rattle.cadence_float.proofs.Floats.{some_of_ok, worth_above}
-use Rattle.cadence_float.specs.Worth.{IsSigned}
+use Rattle.cadence_float.specs.Worth.{HasSignAndSize}
 use Rattle.cadence_float.proofs.parts.whole_of_parts.Goals as goal
 
 pub returns-then-zeros-gt-MOST_ZEROS-clause-none : goal.returns-then-zeros-gt-MOST_ZEROS-clause-none
@@ -27,5 +27,5 @@ pub returns-clause-number : goal.returns-clause-number
 returns-clause-number c =
     let z = c.in_ok-mantissa.mantissa in
     let size : c.in_ok-size.size ≡ c.args.digits * 10 ^ (c.args.up - c.args.down) = c.in_ok-size.ensures.1 ∙ ap (λ k. c.args.digits * k) c.pow.ensures in
-    let signed = subst (λ s. IsSigned c.args.negative s z) size c.in_ok-mantissa.ensures.signed in
+    let signed = subst (λ s. HasSignAndSize c.args.negative s z) size c.in_ok-mantissa.ensures.signed in
     some_of_ok _ _ _ _ c.ok.ensures.value c.new.ensures.value (λ n low. worth_above c.args.negative c.args.digits c.args.up c.args.down z n c.requires signed (rw (to_z-of_z w128 z signed.fits) at low))

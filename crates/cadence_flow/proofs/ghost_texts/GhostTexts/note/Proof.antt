@@ -25,12 +25,12 @@ use denote.Triple.Entry.{on_entry}
 use denote.Triple.Spec.{Meets, triple_of}
 use denote.Triple.Table.{entered}
 use denote.Triple.Walked.{says, Stays, stay_ref, walk_of, AllGo, Goes-ref, Walks, ends_at, walked, walk_Meets}
-use Rattle.cadence_aggregating.specs.declared.ghost_texts.GhostTexts.{GhostTexts}
-use Rattle.cadence_aggregating.specs.contracts.ghost_texts.GhostTexts as T
-use Rattle.cadence_aggregating.specs.contracts.ghost_texts.GhostTexts.note.Key.{name as #it}
-use Rattle.cadence_aggregating.specs.contracts.ghost_texts.GhostTexts.note as it
-use Rattle.cadence_aggregating.proofs.ghost_texts.GhostTexts.note.Statement as stated
-use Rattle.cadence_aggregating.proofs.ghost_texts.GhostTexts.note.Code as code
+use Rattle.cadence_flow.specs.declared.ghost_texts.GhostTexts.{GhostTexts}
+use Rattle.cadence_flow.specs.contracts.ghost_texts.GhostTexts as T
+use Rattle.cadence_flow.specs.contracts.ghost_texts.GhostTexts.note.Key.{name as #it}
+use Rattle.cadence_flow.specs.contracts.ghost_texts.GhostTexts.note as it
+use Rattle.cadence_flow.proofs.ghost_texts.GhostTexts.note.Statement as stated
+use Rattle.cadence_flow.proofs.ghost_texts.GhostTexts.note.Code as code
 use denote.Ref.{Bor}
 use denote.Builtin.{u8, usize}
 use denote.Plain.{uint_vals, uint_Tells}

@@ -21,12 +21,12 @@ use denote.Triple.Entry.{on_entry}
 use denote.Triple.Spec.{Meets, triple_of}
 use denote.Triple.Table.{entered}
 use denote.Triple.Walked.{says, ends_at, walked, walk_Meets}
-use Rattle.cadence_flow.specs.declared.recorded_packer.GhostTexts.{GhostTexts}
-use Rattle.cadence_flow.specs.contracts.recorded_packer.GhostTexts as T
-use Rattle.cadence_flow.specs.contracts.recorded_packer.GhostTexts.new.Key.{name as #it}
-use Rattle.cadence_flow.specs.contracts.recorded_packer.GhostTexts.new as it
-use Rattle.cadence_flow.proofs.recorded_packer.GhostTexts.new.Statement as stated
-use Rattle.cadence_flow.proofs.recorded_packer.GhostTexts.new.Code as code
+use Rattle.cadence_flow.specs.declared.ghost_texts.GhostTexts.{GhostTexts}
+use Rattle.cadence_flow.specs.contracts.ghost_texts.GhostTexts as T
+use Rattle.cadence_flow.specs.contracts.ghost_texts.GhostTexts.new.Key.{name as #it}
+use Rattle.cadence_flow.specs.contracts.ghost_texts.GhostTexts.new as it
+use Rattle.cadence_flow.proofs.ghost_texts.GhostTexts.new.Statement as stated
+use Rattle.cadence_flow.proofs.ghost_texts.GhostTexts.new.Code as code
 
 abbrev v : Val
 v = vstruct (vcons (vstruct vnil) vnil)
