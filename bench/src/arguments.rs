@@ -21,9 +21,10 @@ pub struct Arguments {
 }
 
 // The modes: each with its word, its work, and the sizes that it has if the words name none, as in `crates/bench`.
-const MODES: [(&str, Work, &[usize]); 13] = [
+const MODES: [(&str, Work, &[usize]); 14] = [
     ("count", client::count, &[]),
     ("count_tags", client::count_tags, &[]),
+    ("options", client::options, &[]),
     ("histogram4", client::histogram4, &[]),
     ("tags", client::tags, &[3]),
     ("dtags", client::default_tags, &[3]),
@@ -38,7 +39,7 @@ const MODES: [(&str, Work, &[usize]); 13] = [
 ];
 
 /// What is printed if the words name no work.
-pub const USAGE: &str = "bench-rust count|count_tags|histogram4 N
+pub const USAGE: &str = "bench-rust count|count_tags|options|histogram4 N
 bench-rust tags|dtags|values|key N [SIZE]
 bench-rust packer|udp|queue N [CAP LEN]
 bench-rust callers|udp_callers N [CAP LEN CALLERS]

@@ -43,6 +43,22 @@ pub fn count_tags(arguments: &Arguments) -> Result<Done, MetricError> {
     })
 }
 
+/// Sends counters with all options of a call: two tags, one of them with a key, a container, a time and a rate.
+pub fn options(arguments: &Arguments) -> Result<Done, MetricError> {
+    let client = client();
+    measure(arguments.calls, |i| {
+        let metric = client
+            .count_with_tags(black_box("some.counter"), black_box(i as i64))
+            .with_tag(black_box("host"), black_box("web03.example.com"))
+            .with_tag_value(black_box("beta"))
+            .with_container_id(black_box("4bb1"))
+            .with_timestamp(black_box(1_700_000_000))
+            .with_sampling_rate(black_box(0.5))
+            .try_send()?;
+        Ok(metric.as_metric_str().len())
+    })
+}
+
 /// Sends histograms of four values.
 pub fn histogram4(arguments: &Arguments) -> Result<Done, MetricError> {
     let client = client();

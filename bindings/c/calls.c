@@ -1,6 +1,6 @@
 /* Tests what include/cadence.h says besides the types of the calls: which status a call returns if several apply, which
- * arguments are neither read nor tested, what stays after an error, and the functions of the header itself. It prints
- * each check that fails, and its exit status is then 1. It is valid C and C++. */
+ * arguments are neither read nor tested, what stays after an error, the functions of the header itself, and calls in the
+ * room that the heap lends. It prints each check that fails, and its exit status is then 1. It is valid C and C++. */
 #include <cadence.h>
 #include <math.h>
 #include <stdio.h>
@@ -318,6 +318,27 @@ static void held_text(void) {
     cadence_free(&handle);
 }
 
+#ifdef __cplusplus
+extern "C"
+#endif
+void cadence_c_lend(bool lent); /* of heap.c, whose functions only a program with the static library sees */
+
+/* Writes lines that fit into the room of the heap, fill it and pass it, with the room and without it. */
+static void lent_room(void) {
+    static uint8_t key[3000], out[2][sizeof key + 16];
+    memset(key, 'k', sizeof key);
+    for (size_t len = 0; len <= sizeof key; len++) {
+        size_t lengths[2] = { 0, 0 };
+        for (int lent = 0; lent <= 1; lent++) {
+            cadence_c_lend(lent != 0);
+            CHECK(cadence_format_signed(&nothing, CADENCE_COUNTER, key, len, &one, 1, &none, out[lent], sizeof out[lent],
+                                        &lengths[lent]) == CADENCE_OK);
+            cadence_c_lend(false);
+        }
+        CHECK(lengths[0] == len + 4 && lengths[1] == lengths[0] && memcmp(out[0], out[1], lengths[0]) == 0);
+    }
+}
+
 int main(void) {
     texts();
     helpers();
@@ -329,5 +350,6 @@ int main(void) {
     strict();
     what_stays();
     held_text();
+    lent_room();
     return failures != 0;
 }

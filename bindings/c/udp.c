@@ -67,6 +67,16 @@ static void by_host(void) {
     close(server);
 }
 
+/* The five lines of README.md. Nobody has to receive what they send. */
+static int five_lines(void) {
+    const cadence_settings settings = cadence_settings_of("my.service.");
+    cadence_udp out = CADENCE_UDP_CLOSED;
+    if (cadence_udp_connect(&out, "127.0.0.1", 8125, 1432, 1000)) return 1;
+    cadence_count(&out.client, &settings, "visits", 1, NULL);
+    cadence_udp_close(&out);
+    return 0;
+}
+
 static void by_path(const char *path) {
     struct sockaddr_un at = { .sun_family = AF_UNIX };
     const int server = socket(AF_UNIX, SOCK_DGRAM, 0);
@@ -109,6 +119,7 @@ static void by_environment(void) {
 int main(int argc, char **argv) {
     if (argc != 2) return 2;
     by_host();
+    CHECK(five_lines() == 0);
     by_path(argv[1]);
     by_environment();
     return failures != 0;

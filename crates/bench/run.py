@@ -28,6 +28,7 @@ class Work(NamedTuple):
 MODES = [
     Work('count', '', '', 'a counter without tags, into a sink that does nothing', 1000000),
     Work('count_tags', '', '', 'a counter with three tags, into a sink that does nothing', 500000),
+    Work('options', '', '', 'a counter with two tags, a container, a time and a rate', 500000),
     Work('strict_tags', '', '', 'a counter with three tags of a strict client', 500000),
     Work('histogram4', '', '', 'a histogram of four values', 500000),
     Work('tags', '', '1 3 10 20 50 200', 'a counter with {} tags of its own', 50000),

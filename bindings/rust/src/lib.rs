@@ -39,7 +39,8 @@
 //! # What the crate `cadence` doesn't have
 //!
 //! [`StatsdClientBuilder::with_strict_texts`] makes a client that refuses texts with separators. [`StatsdClient::close`]
-//! waits until queued lines are sent, before the process ends. [`Environment`] is what the variables of the process, such
+//! waits until queued lines are sent, before the process ends. [`StatsdClient::timer`] times a scope. A queue's builder
+//! has a [policy](QueuingMetricSinkBuilder::with_policy) and a [period](QueuingMetricSinkBuilder::with_flush_period). [`Environment`] is what the variables of the process, such
 //! as `DD_AGENT_HOST`, say about a client.
 //!
 //! # The library
@@ -58,10 +59,11 @@ pub use self::client::{
     Timed,
 };
 pub use self::environment::{Environment, EnvironmentError, Target};
+pub use self::guard::TimingGuard;
 pub use self::sinks::{
     BufferedSpyMetricSink, BufferedUdpMetricSink, BufferedUdpMetricSinkBuilder, BufferedUnixMetricSink, MetricSink,
-    NopMetricSink, QueuingMetricSink, QueuingMetricSinkBuilder, SinkStats, SpyMetricSink, UdpMetricSink, UdpMetricSinkBuilder,
-    UnixMetricSink,
+    NopMetricSink, QueuePolicy, QueuingMetricSink, QueuingMetricSinkBuilder, SinkStats, SpyMetricSink, UdpMetricSink,
+    UdpMetricSinkBuilder, UnixMetricSink,
 };
 pub use self::types::{
     Counter, Distribution, ErrorKind, Gauge, Histogram, Meter, Metric, MetricError, MetricResult, Set, Timer,
@@ -71,6 +73,7 @@ mod builder;
 mod client;
 mod environment;
 pub mod ext;
+mod guard;
 mod io;
 mod layout;
 mod line;

@@ -1,6 +1,8 @@
 //! The sink with a worker thread.
 use cadence::prelude::*;
-use cadence::{BufferedSpyMetricSink, MetricSink, NopMetricSink, QueuingMetricSink, SinkStats, SpyMetricSink, StatsdClient};
+use cadence::{
+    BufferedSpyMetricSink, MetricSink, NopMetricSink, QueuePolicy, QueuingMetricSink, SinkStats, SpyMetricSink, StatsdClient,
+};
 use std::io;
 use std::panic::{catch_unwind, AssertUnwindSafe};
 use std::sync::atomic::{AtomicU64, Ordering};
@@ -231,4 +233,108 @@ fn a_stop_over_a_sink_that_panics_or_fails_ends() {
     assert_eq!(2, sink.panics());
     let error = StatsdClient::from_sink("p", QueuingMetricSink::from(Failing)).close(LONG).unwrap_err();
     assert_eq!("flush", error.to_string());
+}
+
+#[test]
+fn a_full_queue_drops_its_oldest_line() {
+    let (leave, gate) = gate();
+    let sink = QueuingMetricSink::builder().with_capacity(2).with_policy(QueuePolicy::DropOldest).build(gate);
+    sink.emit("a").unwrap();
+    until(|| sink.drained() == 1);
+    for line in ["b", "c", "d", "e"] {
+        sink.emit(line).unwrap();
+    }
+    assert_eq!((5, 1, 2, 2), (sink.submitted(), sink.drained(), sink.dropped(), sink.queued()));
+    (0..3).for_each(|_| leave.send(()).unwrap());
+    sink.stop_and_wait(LONG).unwrap();
+    assert_eq!((5, 3, 2, 0), (sink.submitted(), sink.drained(), sink.dropped(), sink.queued()));
+}
+
+#[test]
+fn the_newest_lines_stay() {
+    let (receiver, spy) = SpyMetricSink::new();
+    let (leave, gate) = gate();
+    struct Both(Gate, SpyMetricSink);
+    impl MetricSink for Both {
+        fn emit(&self, metric: &str) -> io::Result<usize> {
+            self.0.emit(metric)?;
+            self.1.emit(metric)
+        }
+    }
+    let sink = QueuingMetricSink::builder().with_capacity(2).with_policy(QueuePolicy::DropOldest).build(Both(gate, spy));
+    sink.emit("a").unwrap();
+    until(|| sink.drained() == 1);
+    for line in ["b", "c", "d"] {
+        sink.emit(line).unwrap();
+    }
+    (0..3).for_each(|_| leave.send(()).unwrap());
+    drop(sink);
+    assert_eq!(["a", "c", "d"], texts(&receiver)[..]);
+}
+
+#[test]
+fn a_queue_of_no_lines_has_none_to_drop() {
+    let (_leave, gate) = gate();
+    let sink = QueuingMetricSink::builder().with_capacity(0).with_policy(QueuePolicy::DropOldest).build(gate);
+    until(|| sink.emit("a").is_ok());
+    assert_eq!("channel full", sink.emit("b").unwrap_err().to_string());
+    assert_eq!(0, sink.dropped());
+}
+
+/// A sink that counts its flushes, and refuses the first ones.
+struct Flushed(Arc<AtomicU64>, u64);
+
+impl MetricSink for Flushed {
+    fn emit(&self, metric: &str) -> io::Result<usize> {
+        Ok(metric.len())
+    }
+
+    fn flush(&self) -> io::Result<()> {
+        match self.0.fetch_add(1, Ordering::SeqCst) < self.1 {
+            true => Err(io::Error::other("not yet")),
+            false => Ok(()),
+        }
+    }
+}
+
+#[test]
+fn a_worker_flushes_by_time() {
+    for millis in [0, 1, 20] {
+        let (receiver, spy) = BufferedSpyMetricSink::new();
+        let sink = QueuingMetricSink::builder().with_flush_period(Duration::from_millis(millis)).build(spy);
+        for line in ["a:1|c", "b:1|c"] {
+            sink.emit(line).unwrap();
+            assert_eq!(format!("{line}\n").as_bytes(), receiver.recv_timeout(LONG).unwrap());
+        }
+        assert!(receiver.is_empty());
+    }
+}
+
+#[test]
+fn a_worker_flushes_at_its_end() {
+    let (receiver, spy) = BufferedSpyMetricSink::new();
+    let sink = QueuingMetricSink::builder().with_flush_period(Duration::from_secs(3600)).build(spy);
+    sink.emit("a:1|c").unwrap();
+    drop(sink);
+    assert_eq!(["a:1|c\n"], texts(&receiver)[..]);
+}
+
+#[test]
+fn a_flush_that_fails_is_tried_again_and_told() {
+    for period in [Duration::ZERO, Duration::from_nanos(1)] {
+        let (flushes, errors) = (Arc::new(AtomicU64::new(0)), Arc::new(AtomicU64::new(0)));
+        let counted = Arc::clone(&errors);
+        let sink = QueuingMetricSink::builder()
+            .with_flush_period(period)
+            .with_error_handler(move |_| {
+                counted.fetch_add(1, Ordering::SeqCst);
+            })
+            .build(Flushed(Arc::clone(&flushes), 3));
+        let start = Instant::now();
+        sink.emit("a").unwrap();
+        until(|| flushes.load(Ordering::SeqCst) == 4);
+        assert!(start.elapsed() >= Duration::from_millis(3), "it doesn't wait between two tries");
+        thread::sleep(Duration::from_millis(20));
+        assert_eq!((4, 3), (flushes.load(Ordering::SeqCst), errors.load(Ordering::SeqCst)));
+    }
 }

@@ -9,6 +9,8 @@ pub enum Calling {
     Count,
     /// A counter with three tags of the call's own.
     CountTags,
+    /// A counter with all options of a call.
+    Options,
     /// A histogram of four values.
     Histogram4,
     /// A counter whose call has `size` tags of its own.
@@ -65,9 +67,10 @@ pub enum Mode {
 }
 
 // The modes, each with its word.
-const MODES: [(Mode, &str); 18] = [
+const MODES: [(Mode, &str); 19] = [
     (Mode::Client(Calling::Count), "count"),
     (Mode::Client(Calling::CountTags), "count_tags"),
+    (Mode::Client(Calling::Options), "options"),
     (Mode::Client(Calling::Histogram4), "histogram4"),
     (Mode::Client(Calling::Tags), "tags"),
     (Mode::DefaultTags, "dtags"),
@@ -117,7 +120,7 @@ pub struct Arguments {
 }
 
 /// The text that is printed if the words name no work.
-pub const USAGE: &str = "bench count|count_tags|strict_tags|histogram4 N
+pub const USAGE: &str = "bench count|count_tags|options|strict_tags|histogram4 N
 bench tags|dtags|values|key N [SIZE]
 bench packer|udp|queue N [CAP LEN]
 bench read|read_full|read_arena|read_full_arena N [CAP LEN]

@@ -44,6 +44,7 @@ fn call(rt: &HostRuntime, what: Calling, arguments: &Arguments) -> MetricResult<
     match what {
         Calling::Count => lines::count(rt, &client, calls),
         Calling::CountTags => lines::count_tags(rt, &client, calls),
+        Calling::Options => lines::options(rt, &client, calls),
         Calling::Histogram4 => lines::histogram4(rt, &client, calls),
         Calling::Tags => sizes::tags(rt, &client, calls, size),
         Calling::Values => sizes::values(rt, &client, calls, size),

@@ -1,5 +1,6 @@
 pub mod Among
 pub mod MetricParts
+pub mod Origins
 pub mod Records
 pub mod RunSteps
 pub mod Sayable

@@ -46,7 +46,7 @@ pub past_flushed : (accepted : List (List ℕ)) (sent held sent' held' : List Sa
     → sent' ++ held' ≡ sent ++ held → IsPast accepted sent' held'
 past_flushed accepted sent held sent' held' past same = past_kept accepted sent held sent' held' past (same_of _ _ (sym same))
 
-sized : (note : Note) → IsSized (sample_of_note note)
+pub sized : (note : Note) → IsSized (sample_of_note note)
 sized note = elim note.kind as (λ k. IsSized (noted k note.by note.name note.values (line_of_note note))) [
   | Amount ↦ note.in_range
   | Level ↦ tt
@@ -55,12 +55,12 @@ sized note = elim note.kind as (λ k. IsSized (noted k note.by note.name note.va
   | Other ↦ tt
 ]
 
-among_mapped : {X Y : Type 0} (f : X → Y) (x : X) (xs : List X) → Among x xs → Among (f x) (map f xs)
+pub among_mapped : {X Y : Type 0} (f : X → Y) (x : X) (xs : List X) → Among x xs → Among (f x) (map f xs)
 among_mapped f x [] h = absurd h
 among_mapped f x (y ∷ xs) (inl same) = inl (ap f same)
 among_mapped f x (y ∷ xs) (inr later) = inr (among_mapped f x xs later)
 
-among_left : {X : Type 0} (x : X) (xs ys : List X) → Among x xs → Among x (xs ++ ys)
+pub among_left : {X : Type 0} (x : X) (xs ys : List X) → Among x xs → Among x (xs ++ ys)
 among_left x [] ys h = absurd h
 among_left x (y ∷ xs) ys (inl same) = inl same
 among_left x (y ∷ xs) ys (inr later) = inr (among_left x xs ys later)

@@ -5,7 +5,7 @@ use Rattle.cadence_errors.specs.declared.SinkError.{SinkError}
 use Rattle.cadence_aggregating.specs.Runs.{accepted_line, accepted_lines}
 use Rattle.cadence_aggregating.specs.declared.runs.Step.{Step}
 
-abbrev Reply : Type 0
+abbrev pub Reply : Type 0
 Reply = Result (Unit {0}) SinkError
 
 pub accepted_more : (xs : List Step) (rs : List Reply) (x : Step) (r : Reply) → length rs ≡ length xs

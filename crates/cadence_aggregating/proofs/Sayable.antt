@@ -37,7 +37,7 @@ abbrev numbered : Metric → List Number → Metric
 numbered m ns = record m { numbers = ns }
 
 module _ (m : Metric) (listed : IsListed m) where
-  spliced_context : (values : List ℕ) → spliced (context_of m) values ≡ m.name ++ 58 ∷ (values ++ fields_of m)
+  pub spliced_context : (values : List ℕ) → spliced (context_of m) values ≡ m.name ++ 58 ∷ (values ++ fields_of m)
   spliced_context values =
       let lacks = name_lacks m listed.free in
       ap₂ (λ a b. a ++ 58 ∷ (values ++ b)) (before_found m.name _ lacks) (from_found m.name _ lacks)
@@ -138,14 +138,14 @@ some_numbers : (t : List ℕ) (ns : List Number) → map number_text ns ≡ valu
 some_numbers t [] same = absurd (omega (arith, ap (λ vs. length vs) same, length-slice_split (λ b. eqb b 58) t))
 some_numbers t (n ∷ ns) same = omega arith
 
-first_value : (t : List ℕ) → (x : List ℕ) × Among x (values_in t)
+pub first_value : (t : List ℕ) → (x : List ℕ) × Among x (values_in t)
 first_value t = (elim (values_in t) as (λ vs. values_in t ≡ vs → (x : List ℕ) × Among x vs) [
   | [] ↦ λ e. absurd (omega (arith, ap (λ vs. length vs) e, length-slice_split (λ b. eqb b 58) t))
   | x ∷ xs ↦ λ e. (x, inl refl)
 ]) refl
 
 module _ (came sent : List Sample) (same : IsSummary came sent) (said : (s : Sample) → Among s came → IsSayable s) where
-  value_came : (c t x : List ℕ) → Among (timing c t) sent → Among x (values_in t) → HasValue c x came
+  pub value_came : (c t x : List ℕ) → Among (timing c t) sent → Among x (values_in t) → HasValue c x came
   value_came c t x among value = timing_found c x came (subst (λ n. 0 < n) (sym (same.timings (is c) x)) (timing_shown c t x sent among value))
 
   sayable_timing : (c t : List ℕ) → Among (timing c t) sent → IsSayable (timing c t)

@@ -5,10 +5,12 @@ pub mod Causes
 pub use Rattle.cadence_errors.specs.Errors
 pub mod Noted
 pub mod Notes
+pub mod Origins
 pub mod Past
 pub mod Printed
 pub mod Quiet
 pub mod Recorded
 pub mod Runs
 pub mod Says
+pub mod Shown
 pub mod ToHold

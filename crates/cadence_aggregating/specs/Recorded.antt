@@ -32,3 +32,7 @@ module _ {S : Type 0} where
   -- what holds what lines say
   abbrev pub core_of : RecordedAggregator S → Aggregator
   core_of a = a.aggregator
+
+  -- the wrapped sink
+  abbrev pub sink_of : RecordedAggregator S → S
+  sink_of a = a.printer.sink

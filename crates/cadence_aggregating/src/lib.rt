@@ -7,6 +7,7 @@
 //! - `limits`: the settings of an aggregator.
 //! - `recorded`: an aggregator of lines with a record of its past.
 //! - `runs`: a run of lines and flushes.
+//! - `under_lock`: the same, with answers that can't be let go.
 //! - `locked`: an aggregator of lines under a lock.
 //! - `sink`: the aggregating sink, which may flush by time.
 //! - `builder`: its settings.
@@ -22,6 +23,7 @@ mod recorded;
 mod runs;
 mod said;
 mod sink;
+mod under_lock;
 
 pub use builder::AggregatingMetricSinkBuilder;
 pub use limits::Limits;

@@ -1,13 +1,14 @@
 //! An aggregator under a lock.
-ghost use Rattle.std.specs.Prelude.{◌≡◌, IfOk, length};
 ghost use Rattle.cadence_aggregating.specs.Answers.{IsAggregated};
+ghost use Rattle.cadence_aggregating.specs.Shown.{ShowsAdded, ShowsEmptied};
 ghost use Rattle.cadence_errors.specs.Errors.{MayOnlyRunOutOfMemory};
+ghost use Rattle.cadence_flow.specs.Answered.{IsAnswered, IsFlushAnswered, answered_by_holding_nothing};
 
 use crate::limits::Limits;
-use crate::recorded::RecordedAggregator;
+use crate::under_lock::{Added, Emptied, Failed, UnderLock};
 use cadence_errors::{MetricError, MetricResult, SinkError};
 use cadence_flow::stats::SinkStats;
-use cadence_flow::{MetricSink, acquire};
+use cadence_flow::{AnsweringFlush, AnsweringSink, MetricSink, acquire, emit_by, flush_by};
 use std::alloc::Global;
 use std::sync::{Mutex, Wait};
 
@@ -17,7 +18,7 @@ use std::sync::{Mutex, Wait};
 /// The drop flushes both, and drops the errors.
 pub struct LockedAggregator<S: MetricSink, R: Wait + Drop> {
     rt: R,
-    lines: Mutex<RecordedAggregator<S>>,
+    lines: Mutex<UnderLock<S>>,
 }
 
 impl<S: MetricSink, R: Wait + Drop> LockedAggregator<S, R> {
@@ -25,7 +26,7 @@ impl<S: MetricSink, R: Wait + Drop> LockedAggregator<S, R> {
     pub fn new(rt: R, alloc: Global, limits: Limits, sink: S) -> MetricResult<Self>
         ensures { MayOnlyRunOutOfMemory result }
     {
-        let Ok(lines) = RecordedAggregator::new(alloc, limits, sink) else {
+        let Ok(lines) = UnderLock::new(alloc, limits, sink) else {
             return Err(MetricError::Sink(SinkError::OutOfMemory));
         };
         Ok(LockedAggregator {
@@ -35,38 +36,67 @@ impl<S: MetricSink, R: Wait + Drop> LockedAggregator<S, R> {
     }
 }
 
-impl<S: MetricSink, R: Wait + Drop> MetricSink for LockedAggregator<S, R> {
+/// Adds a line, under the lock. The answer has the line's length, and shows the aggregator before and after it accepted
+/// this line. After an error the line is not added.
+impl<S: MetricSink, R: Wait + Drop> AnsweringSink for LockedAggregator<S, R> {
+    type Took = Added<S>;
+
+    type Refused = Failed<S>;
+
     ghost may_answer = { λ _ line answer. IsAggregated line answer };
+
+    ghost shows = { λ _ line answer e. ShowsAdded line answer e };
+
+    fn emit_line(&self, line: &str, fault: &mut SinkError) -> Result<Self::Took, Self::Refused> {
+        acquire(&self.lines, &self.rt).add(line, fault)
+    }
+}
+
+/// Sends what is held, and flushes the wrapped sink, under the lock. The answer shows the aggregator before and after
+/// this.
+impl<S: MetricSink, R: Wait + Drop> AnsweringFlush for LockedAggregator<S, R> {
+    type Flushed = Emptied<S>;
+
+    type Unflushed = Failed<S>;
 
     ghost may_flush = { λ _ _. Unit {0} };
 
-    ghost flush_may_succeed = { λ _ _. tt };
+    ghost shows_flush = { λ _ answer e. ShowsEmptied S.may_flush answer e };
+
+    fn flush_lines(&self, fault: &mut SinkError) -> Result<Self::Flushed, Self::Unflushed> {
+        self.lines.lock(&self.rt).flush(fault)
+    }
+}
+
+impl<S: MetricSink, R: Wait + Drop> MetricSink for LockedAggregator<S, R> {
+    ghost may_answer = { λ _ line answer. IsAggregated line answer × IsAnswered line answer };
+
+    ghost may_flush = { λ _ answer. IsFlushAnswered answer };
+
+    ghost flush_may_succeed = { λ _ held. answered_by_holding_nothing held };
 
     fn emit(&self, line: &str) -> Result<usize, SinkError> {
-        acquire(&self.lines, &self.rt).add(line)?;
-        Ok(line.len())
+        let mut fault = SinkError::NothingWritten;
+        emit_by(self, line, &mut fault).ok_or(fault)
     }
 
     fn flush(&self) -> Result<(), SinkError> {
-        let mut lines = self.lines.lock(&self.rt);
-        lines.flush()?;
-        lines.sink().flush()
+        let mut fault = SinkError::NothingWritten;
+        flush_by(self, &mut fault).ok_or(fault)
     }
 
     fn stats(&self) -> SinkStats {
-        self.lines.lock(&self.rt).sink().stats()
+        self.lines.lock(&self.rt).stats()
     }
 
     fn dropped_lines(&self) -> u64 {
-        self.lines.lock(&self.rt).sink().dropped_lines()
+        self.lines.lock(&self.rt).dropped_lines()
     }
 }
 
 impl<S: MetricSink, R: Wait + Drop> Drop for LockedAggregator<S, R> {
     fn drop(self) {
         let LockedAggregator { rt: _rt, lines } = self;
-        let mut lines = lines.into_inner();
-        let _ = lines.flush();
-        let _ = lines.sink().flush();
+        lines.into_inner().finish();
     }
 }

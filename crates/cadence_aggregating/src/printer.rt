@@ -1,9 +1,11 @@
 //! Gives what lines say to a sink of metrics, line by line, with a record of what that sink took. The record exists in
 //! proofs only.
-ghost use Rattle.std.specs.Prelude.{◌≡◌, ◌∷◌, ◌++◌, [], IfOk, OnErr, OnOk, map, string_bytes};
-ghost use Rattle.cadence_aggregate.specs.Lines.{sample_of};
-ghost use Rattle.cadence_aggregate.specs.Refusals.{after_reply, one_more};
+ghost use Rattle.std.specs.Prelude.{◌≡◌, ◌++◌, [], OnErr, OnOk, map};
+ghost use Rattle.cadence_aggregate.specs.Lines.{sample_of, samples_of};
+ghost use Rattle.cadence_aggregate.specs.Refusals.{after_reply};
 ghost use Rattle.cadence_aggregating.specs.Notes.{sample_of_note};
+ghost use Rattle.cadence_aggregating.specs.Printed.{text_of};
+ghost use Rattle.cadence_aggregating.specs.Causes.{IsReplyFor};
 
 use crate::note::Note;
 use crate::printed::note_line;
@@ -63,14 +65,28 @@ impl<S: MetricSink> LineSink for Printer<S> {
 
     ghost refusals = { λ p. p.refusals };
 
-    fn send(&mut self, line: Line<'_>) -> Result<(), Fault> {
-        let note = note_line(&mut self.text, line)?;
-        if let Err(fault) = self.sink.emit(&self.text) {
-            self.fault = fault;
-            self.refusals = self.refusals.wrapping_add(1);
-            return Err(Fault::Refused);
+    fn send(&mut self, line: Line<'_>) -> Result<(), Fault>
+        ensures ok { OnOk result (map sample_of_note self.new.notes.items
+            ≡ map sample_of_note self.old.notes.items ++ samples_of line.entry) }
+        ensures err { OnErr result (map sample_of_note self.new.notes.items
+            ≡ map sample_of_note self.old.notes.items) }
+        ensures refused { self.new.refusals ≡ after_reply self.old.refusals result }
+        ensures asked { IsReplyFor S.may_answer self.old.sink
+            (text_of (sample_of line.entry)) result }
+    {
+        let Ok(note) = note_line(&mut self.text, line) else {
+            return Err(Fault::OutOfMemory);
+        };
+        match self.sink.emit(&self.text) {
+            Ok(_bytes) => {
+                self.notes = self.notes.and(&note);
+                Ok(())
+            }
+            Err(fault) => {
+                self.fault = fault;
+                self.refusals = self.refusals.wrapping_add(1);
+                Err(Fault::Refused)
+            }
         }
-        self.notes = self.notes.and(&note);
-        Ok(())
     }
 }

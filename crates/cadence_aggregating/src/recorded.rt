@@ -56,9 +56,11 @@ fn add_or_pass<S: MetricSink>(
 }
 
 impl<S: MetricSink> RecordedAggregator<S> {
-    ghost use Rattle.cadence_aggregating.specs.Recorded.{accepted_by, core_of, held_by, limits_of, refusals_by, taken_by};
+    ghost use Rattle.cadence_aggregating.specs.Recorded.{accepted_by, core_of, held_by, limits_of, refusals_by, sink_of, taken_by};
     ghost use Rattle.cadence_aggregating.specs.Causes.{HasCountedCause, IsErrorOf};
     ghost use Rattle.cadence_aggregating.specs.Quiet.{IsQuiet};
+    ghost use Rattle.std.specs.Prelude.{All};
+    ghost use Rattle.cadence_aggregating.specs.Origins.{ComesFrom};
     ghost use Rattle.cadence_aggregating.specs.Past.{Summarizes};
     ghost use Rattle.cadence_aggregating.specs.Printed.{text_of};
 
@@ -147,13 +149,17 @@ impl<S: MetricSink> RecordedAggregator<S> {
     }
 
     /// Returns the sink.
-    pub fn sink(&self) -> &S {
+    pub fn sink(&self) -> &S
+        ensures { result.now ≡ sink_of self.now }
+    {
         self.printer.sink()
     }
 
     /// States that the lines that the sink took, with what is held, are a summary of the accepted lines: a server knows
-    /// the same after both. Does nothing when it is called.
+    /// the same after both. States also where each line comes from that the sink took. Does nothing when it is called.
     pub fn keeps_the_record(&self)
-        ensures { ∥ Summarizes (accepted_by self.now) (taken_by self.now) (held_by self.now) ∥₁ }
+        ensures summary { ∥ Summarizes (accepted_by self.now)
+            (taken_by self.now) (held_by self.now) ∥₁ }
+        ensures origins { ∥ All (ComesFrom (accepted_by self.now)) (taken_by self.now) ∥₁ }
     {}
 }

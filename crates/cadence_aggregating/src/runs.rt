@@ -1,5 +1,6 @@
 //! A run of lines and flushes.
-ghost use Rattle.std.specs.Prelude.{◌≡◌, ◌++◌, IfOk, length};
+ghost use Rattle.std.specs.Prelude.{◌≡◌, ◌++◌, All, IfOk, length};
+ghost use Rattle.cadence_aggregating.specs.Origins.{ComesFrom};
 ghost use Rattle.cadence_aggregating.specs.Past.{Summarizes};
 ghost use Rattle.cadence_aggregating.specs.Recorded.{accepted_by, held_by, taken_by};
 ghost use Rattle.cadence_aggregating.specs.Runs.{accepted_line, accepted_lines};
@@ -43,7 +44,8 @@ fn take_step<S: MetricSink>(
 /// Runs lines and flushes, over any sink, which may refuse what it likes, and with any limits. Each step has a reply.
 ///
 /// A server knows the same from the lines that the sink took, and what is still held, as from the accepted lines, and
-/// they are no more. The only error is that memory ran out.
+/// they are no more. Each line that the sink took is one of the accepted lines, or was made of some of them. The only
+/// error is that memory ran out.
 pub fn run<S: MetricSink>(
     alloc: Global,
     limits: Limits,
@@ -54,6 +56,9 @@ pub fn run<S: MetricSink>(
     ensures headline { IfOk result (λ o. ∥ Summarizes
         (accepted_lines steps.now o.replies.items)
         (taken_by o.aggregator) (held_by o.aggregator) ∥₁) }
+    ensures origins { IfOk result (λ o. ∥ All
+        (ComesFrom (accepted_lines steps.now o.replies.items))
+        (taken_by o.aggregator) ∥₁) }
 {
     let mut aggregator = RecordedAggregator::new(alloc, limits, sink)?;
     let mut replies = Vec::with_capacity(alloc, steps.len())?;

@@ -1,5 +1,6 @@
 //! The aggregating sink.
 ghost use Rattle.cadence_aggregating.specs.Answers.{IsAggregated};
+ghost use Rattle.cadence_flow.specs.Answered.{IsAnswered, IsFlushAnswered, answered_by_holding_nothing};
 
 use crate::locked::LockedAggregator;
 use cadence_errors::SinkError;
@@ -42,11 +43,11 @@ pub struct AggregatingMetricSink<S: MetricSink, R: Wait + Drop> {
 }
 
 impl<S: MetricSink, R: Wait + Drop> MetricSink for AggregatingMetricSink<S, R> {
-    ghost may_answer = { λ _ line answer. IsAggregated line answer };
+    ghost may_answer = { λ _ line answer. IsAggregated line answer × IsAnswered line answer };
 
-    ghost may_flush = { λ _ _. Unit {0} };
+    ghost may_flush = { λ _ answer. IsFlushAnswered answer };
 
-    ghost flush_may_succeed = { λ _ _. tt };
+    ghost flush_may_succeed = { λ _ held. answered_by_holding_nothing held };
 
     fn emit(&self, line: &str) -> Result<usize, SinkError> {
         match &self.timed {

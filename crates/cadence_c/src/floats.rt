@@ -45,8 +45,8 @@ pub extern "C" fn cadence_decimal_of_double(
     ensures statuses { IsOkOr (CADENCE_INVALID ∷ []) result }
 {
     match decimal_of_float(value) {
-        Ok(decimal) => store(decimal, number),
-        Err(_) => StatusError::Invalid.code(),
+        Some(decimal) => store(decimal, number),
+        None => StatusError::Invalid.code(),
     }
 }
 
@@ -65,7 +65,7 @@ pub extern "C" fn cadence_rounded_of_double(
     ensures statuses { IsOkOr (CADENCE_INVALID ∷ []) result }
 {
     match rounded_decimal_of_float(value) {
-        Ok(decimal) => store(decimal, number),
-        Err(_) => StatusError::Invalid.code(),
+        Some(decimal) => store(decimal, number),
+        None => StatusError::Invalid.code(),
     }
 }

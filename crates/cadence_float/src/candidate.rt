@@ -1,9 +1,11 @@
 //! Digits and places that the decimal of a float may have. No contract speaks of them, because whoever gets a candidate
 //! reads it back, and uses it only if it is read as the float.
-use std::num::{f64_to_bits_with_nan, nearest_u64_to_f64, saturating_f64_to_i64};
+use std::num::f64_to_bits_with_nan;
 
 // The bits of a float that are its fraction.
 const FRACTION: u64 = 4_503_599_627_370_495;
+
+const TWO_TO_52: f64 = 4_503_599_627_370_496.0;
 
 // The exponents, as a float stores them, of the floats from 2 to the power of -10 up to, but not including, 2 to the
 // power of 52.
@@ -44,14 +46,16 @@ pub fn multiplied(x: f64, scale: f64) -> Option<u64> {
     if !(scaled < 1e15) {
         return None;
     }
-    let digits = saturating_f64_to_i64(scaled + 0.5).unsigned_abs();
+    // From 2 to the power of 52 up to 2 to the power of 53 floats are whole, so the sum is rounded to a whole number.
+    // Its fraction is how far it is above the former.
+    let above = scaled + TWO_TO_52;
     // If the decimal is read as the float, two roundings are between the digits and the product, each by at most half of
     // the last bit.
-    let gap = (scaled - nearest_u64_to_f64(digits)).abs();
+    let gap = (scaled - (above - TWO_TO_52)).abs();
     if gap > scaled * 4.5e-16 {
         return None;
     }
-    Some(digits)
+    Some(f64_to_bits_with_nan(above) & FRACTION)
 }
 
 /// Returns the digits and the places of the shortest decimal of a float, computed in whole numbers of 128 bits. Of two

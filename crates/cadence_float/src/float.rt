@@ -1,48 +1,40 @@
 //! The decimal of a float. A candidate counts only if it is read as the float. Without one the decimal is made of the
 //! shortest text of the float, which `ryu` prints.
-ghost use Rattle.std.specs.Prelude.{◌≡◌, ◌⊎◌, ◌*◌, ◌^◌, IfErr, IfNone, IfOk, IfSome, IsOk, IsTrue, Some};
+ghost use Rattle.std.specs.Prelude.{◌≡◌, ◌⊎◌, ◌*◌, ◌^◌, IfNone, IfSome, IsSome, IsTrue, Some};
 ghost use Rattle.std.specs.Float.{binary64, float_zero, NotNan};
 ghost use Rattle.std.specs.Float.Ieee.{round};
 ghost use lib.Ieee.{eq};
 ghost use Rattle.fast_float.specs.Parse.{parse_float};
-ghost use Rattle.cadence_errors.specs.Errors.{IsInvalid};
 ghost use Rattle.cadence_value.specs.Number.{natural, number_text};
 ghost use Rattle.cadence_float.specs.Worth.{IsCutOf, IsTooLarge, StandsForFloat};
 
 use crate::candidate::{multiplied, shortest};
 use crate::parts::decimal_over;
 use crate::text::decimal_of_text;
-use cadence_errors::{ErrorKind, MetricError, MetricResult};
 use cadence_value::decimal::Decimal;
 use core::dec2flt::from_decimal;
 
 /// Returns the decimal of a float: the shortest one whose text is read as this float, or if that has more than 30
-/// places, this one rounded to 30 places. A zero of either sign is 0. Every float has a decimal if it is nearer to 0 than
-/// 2 to the power of 127.
-///
-/// # Errors
-/// `InvalidInput` (`float has no decimal`) if the float is NaN, infinite, or more than 2 to the power of 127 away from 0.
-pub fn decimal_of_float(x: f64) -> MetricResult<Decimal>
-    ensures number { IfOk result (λ n. StandsForFloat n x) }
-    ensures zero { IsTrue (eq x float_zero) → IfOk result (λ n. n ≡ natural 0) }
-    ensures refused { IfErr result IsInvalid }
-    ensures large { IfErr result (λ _. IsTooLarge x) }
+/// places, this one rounded to 30 places. A zero of either sign is 0. Returns `None` if the float is NaN, infinite, or
+/// more than 2 to the power of 127 away from 0.
+// It is an `Option`, because a function that returns a `MetricResult` copies all its bytes, even on success.
+pub fn decimal_of_float(x: f64) -> Option<Decimal>
+    ensures number { IfSome result (λ n. StandsForFloat n x) }
+    ensures zero { IsTrue (eq x float_zero) → IfSome result (λ n. n ≡ natural 0) }
+    ensures none { IfNone result (IsTooLarge x) }
 {
     if x == 0.0 {
         return zero();
     }
-    match found_decimal(x) {
-        Some(decimal) => Ok(decimal),
-        None => Err(MetricError::from((ErrorKind::InvalidInput, "float has no decimal"))),
-    }
+    found_decimal(x)
 }
 
 /// Returns 0.
-pub(crate) fn zero() -> MetricResult<Decimal>
-    ensures zero { IfOk result (λ n. n ≡ natural 0) }
-    ensures some { IsOk result }
+pub(crate) fn zero() -> Option<Decimal>
+    ensures zero { IfSome result (λ n. n ≡ natural 0) }
+    ensures some { IsSome result }
 {
-    Decimal::new(0, 0)
+    Decimal::new(0, 0).ok()
 }
 
 // Returns the decimal of a float that is not 0: that of a candidate which is read as this float, and otherwise that of the

@@ -47,25 +47,6 @@ pub(crate) fn disconnected() -> io::Error {
     io::Error::other("channel disconnected")
 }
 
-/// How often a worker looks for a message before it sleeps, and how many of these looks it makes without letting other
-/// threads run.
-const LOOKS: u32 = 11;
-const SPINS: u32 = 7;
-
-/// Waits for a message, or returns that no sender is left. It looks several times before it sleeps, because a sender
-/// that has to wake the receiver takes longer.
-pub(crate) fn wait<T>(receiver: &mpsc::Receiver<T>) -> Result<T, RecvError> {
-    for look in 0..LOOKS {
-        match receiver.try_recv() {
-            Ok(message) => return Ok(message),
-            Err(TryRecvError::Disconnected) => return Err(RecvError),
-            Err(TryRecvError::Empty) if look < SPINS => (0..1 << look).for_each(|_| std::hint::spin_loop()),
-            Err(TryRecvError::Empty) => std::thread::yield_now(),
-        }
-    }
-    receiver.recv()
-}
-
 /// The sending end of a spy.
 #[derive(Debug)]
 pub(crate) struct SpySender {
@@ -144,17 +125,12 @@ impl<T> Shared<T> {
 
     /// Takes the channel's end as soon as no other clone has it. Returns `None` if the deadline passes first.
     fn turn(&self, deadline: Option<Instant>) -> Option<Turn<'_, T>> {
-        let mut seat = self.seat();
-        loop {
-            if let Some(end) = seat.take() {
-                return Some(Turn { shared: self, end: Some(end) });
-            }
-            seat = match deadline.map(|deadline| deadline.saturating_duration_since(Instant::now())) {
-                None => self.free.wait(seat).unwrap_or_else(PoisonError::into_inner),
-                Some(Duration::ZERO) => return None,
-                Some(left) => self.free.wait_timeout(seat, left).unwrap_or_else(PoisonError::into_inner).0,
-            };
-        }
+        let (seat, is_taken) = (self.seat(), |seat: &mut Option<mpsc::Receiver<T>>| seat.is_none());
+        let mut seat = match deadline.map(|deadline| deadline.saturating_duration_since(Instant::now())) {
+            None => self.free.wait_while(seat, is_taken).unwrap_or_else(PoisonError::into_inner),
+            Some(left) => self.free.wait_timeout_while(seat, left, is_taken).unwrap_or_else(PoisonError::into_inner).0,
+        };
+        Some(Turn { shared: self, end: Some(seat.take()?) })
     }
 
     fn counted<E>(&self, received: Result<T, E>) -> Result<T, E> {

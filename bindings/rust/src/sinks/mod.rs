@@ -2,6 +2,7 @@
 mod buffer;
 mod channel;
 mod core;
+mod line_queue;
 mod queuing;
 mod resolve;
 mod spy;
@@ -10,6 +11,7 @@ mod unix;
 
 pub use self::channel::SpyReceiver;
 pub use self::core::{MetricSink, NopMetricSink, SinkStats, SocketStats};
+pub use self::line_queue::QueuePolicy;
 pub use self::queuing::{QueuingMetricSink, QueuingMetricSinkBuilder};
 pub use self::spy::{BufferedSpyMetricSink, SpyMetricSink};
 pub use self::udp::{BufferedUdpMetricSink, BufferedUdpMetricSinkBuilder, UdpMetricSink, UdpMetricSinkBuilder};

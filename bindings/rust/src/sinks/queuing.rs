@@ -1,11 +1,14 @@
 //! A sink that passes lines to another one in a thread of its own.
-use super::channel::{channel, disconnected, wait, Sender};
+use super::channel::disconnected;
 use super::core::{MetricSink, SinkStats};
+use super::line_queue::{line_queue, Callers, QueuePolicy, Worker};
 use crate::sync::run_to_end;
+use std::cell::Cell;
 use std::fmt;
 use std::io;
 use std::panic::RefUnwindSafe;
 use std::sync::atomic::{AtomicBool, AtomicU64, Ordering};
+use std::sync::mpsc::RecvTimeoutError;
 use std::sync::Arc;
 use std::thread;
 use std::time::{Duration, Instant};
@@ -13,7 +16,7 @@ use std::time::{Duration, Instant};
 /// Receives the errors of the wrapped sink.
 type Handler = Box<dyn Fn(io::Error) + Sync + Send + RefUnwindSafe>;
 
-/// Makes a [`QueuingMetricSink`] with a capacity and an error handler.
+/// Makes a [`QueuingMetricSink`] with a capacity, a policy, a flush period and an error handler.
 ///
 /// ```
 /// use cadence::{MetricSink, NopMetricSink, QueuingMetricSinkBuilder};
@@ -28,6 +31,8 @@ type Handler = Box<dyn Fn(io::Error) + Sync + Send + RefUnwindSafe>;
 pub struct QueuingMetricSinkBuilder {
     errors: Option<Handler>,
     capacity: Option<usize>,
+    policy: QueuePolicy,
+    period: Option<Duration>,
 }
 
 impl QueuingMetricSinkBuilder {
@@ -43,19 +48,12 @@ impl QueuingMetricSinkBuilder {
     /// If no thread can be started.
     pub fn build<T: MetricSink + Sync + Send + RefUnwindSafe + 'static>(self, sink: T) -> QueuingMetricSink {
         let sink = Arc::new(sink);
-        let (sender, receiver) = channel::<String>(self.capacity);
+        let (callers, lines) = line_queue(self.capacity, self.policy);
         let counts = Arc::new(Counts::default());
-        let (counted, wrapped, errors) = (Arc::clone(&counts), Arc::clone(&sink), self.errors);
-        let panics = run_to_end(move || loop {
-            counted.passed.store(counted.drained.load(Ordering::Relaxed), Ordering::Release);
-            let Ok(line) = wait(&receiver) else { return };
-            counted.drained.fetch_add(1, Ordering::Relaxed);
-            if let (Err(error), Some(handler)) = (wrapped.emit(&line), &errors) {
-                handler(error);
-            }
-        });
-        let panics = panics.expect("a queuing sink needs a thread");
-        QueuingMetricSink { queue: Arc::new(sender), counts, panics, sink }
+        let flushes = self.period.map(FlushTimer::new);
+        let job = Job { lines, counts: Arc::clone(&counts), sink: Arc::clone(&sink), errors: self.errors, flushes };
+        let panics = run_to_end(move || job.run()).expect("a queuing sink needs a thread");
+        QueuingMetricSink { queue: Arc::new(callers), counts, panics, sink }
     }
 
     /// Sets the handler that receives the errors of the wrapped sink, in the worker's thread. If the handler panics,
@@ -70,12 +68,110 @@ impl QueuingMetricSinkBuilder {
         self.capacity = Some(capacity);
         self
     }
+
+    /// Sets what a full queue does with one line more. Without this it refuses the line. The crate `cadence` doesn't have
+    /// this call.
+    pub fn with_policy(mut self, policy: QueuePolicy) -> Self {
+        self.policy = policy;
+        self
+    }
+
+    /// Makes the worker flush the wrapped sink if it has passed on a line and this period has passed since its last flush,
+    /// and once more at its end. A period below a millisecond counts as one, except that with 0 the worker flushes
+    /// whenever no line waits. After an error, which goes to the handler, the worker tries again one period later, and
+    /// after a millisecond at least. The crate `cadence` doesn't have this call.
+    pub fn with_flush_period(mut self, period: Duration) -> Self {
+        self.period = Some(period);
+        self
+    }
+}
+
+const MILLISECOND: Duration = Duration::from_millis(1);
+
+/// When a worker flushes the wrapped sink. What it knows survives a panic of the worker's job.
+struct FlushTimer {
+    /// `None` if the worker flushes whenever no line waits.
+    period: Option<Duration>,
+    last: Cell<Instant>,
+    owed: Cell<bool>,
+    failed: Cell<bool>,
+}
+
+impl FlushTimer {
+    fn new(period: Duration) -> FlushTimer {
+        let period = (!period.is_zero()).then(|| period.max(MILLISECOND));
+        FlushTimer { period, last: Cell::new(Instant::now()), owed: Cell::new(false), failed: Cell::new(false) }
+    }
+
+    /// Returns how long the worker may wait for a line before it flushes, if it owes a flush.
+    fn left(&self) -> Option<Duration> {
+        let period = self.period.unwrap_or(if self.failed.get() { MILLISECOND } else { Duration::ZERO });
+        self.owed.get().then(|| period.saturating_sub(self.last.get().elapsed()))
+    }
+
+    /// Returns whether a flush is due, also if lines wait.
+    fn is_due(&self) -> bool {
+        self.period.is_some() && self.left() == Some(Duration::ZERO)
+    }
+}
+
+/// What a worker does.
+struct Job<T> {
+    lines: Worker,
+    counts: Arc<Counts>,
+    sink: Arc<T>,
+    errors: Option<Handler>,
+    flushes: Option<FlushTimer>,
+}
+
+impl<T: MetricSink> Job<T> {
+    fn run(&self) {
+        loop {
+            self.counts.passed.store(self.counts.drained.load(Ordering::Relaxed), Ordering::Release);
+            match self.lines.wait(self.flushes.as_ref().and_then(FlushTimer::left)) {
+                Ok(line) => self.pass_on(&line),
+                Err(RecvTimeoutError::Timeout) => self.flush(),
+                Err(RecvTimeoutError::Disconnected) => break,
+            }
+        }
+        if self.flushes.as_ref().is_some_and(|flushes| flushes.owed.get()) {
+            self.flush();
+        }
+    }
+
+    fn pass_on(&self, line: &str) {
+        self.counts.drained.fetch_add(1, Ordering::Relaxed);
+        if let Some(flushes) = &self.flushes {
+            flushes.owed.set(true);
+        }
+        self.tell(self.sink.emit(line));
+        if self.flushes.as_ref().is_some_and(FlushTimer::is_due) {
+            self.flush();
+        }
+    }
+
+    fn flush(&self) {
+        let Some(flushes) = &self.flushes else { return };
+        flushes.last.set(Instant::now());
+        flushes.failed.set(true);
+        let result = self.sink.flush();
+        flushes.failed.set(result.is_err());
+        flushes.owed.set(result.is_err());
+        self.tell(result);
+    }
+
+    fn tell<A>(&self, result: io::Result<A>) {
+        if let (Err(error), Some(handler)) = (result, &self.errors) {
+            handler(error);
+        }
+    }
 }
 
 #[derive(Debug, Default)]
 struct Counts {
     submitted: AtomicU64,
     drained: AtomicU64,
+    dropped: AtomicU64,
     /// How many lines the wrapped sink has taken or refused. The last of the drained lines is not one while the sink has it.
     passed: AtomicU64,
     stopped: AtomicBool,
@@ -83,8 +179,8 @@ struct Counts {
 
 /// Puts lines into a queue. A worker thread passes them to another sink, so that a caller doesn't wait for a socket.
 ///
-/// `emit` fails if the queue is full, and the line is not queued then. A queue without a limit is never full. `flush`
-/// flushes the wrapped sink, and doesn't wait for the queue. Clones share the queue. After the drop of the last clone
+/// `emit` fails if the queue is full, and the line is not queued then, unless the [policy](QueuePolicy) is to drop the
+/// oldest line. A queue without a limit is never full. `flush` flushes the wrapped sink, and doesn't wait for the queue. Clones share the queue. After the drop of the last clone
 /// the worker passes on the queued lines, drops the wrapped sink, and ends. The drop doesn't wait for that, so a process
 /// that ends calls [`stop_and_wait`](MetricSink::stop_and_wait), or [`close`](crate::StatsdClient::close) of its client. If
 /// the wrapped sink panics, the line is lost, and the worker goes on.
@@ -99,7 +195,7 @@ struct Counts {
 /// ```
 #[derive(Clone)]
 pub struct QueuingMetricSink {
-    queue: Arc<Sender<String>>,
+    queue: Arc<Callers>,
     counts: Arc<Counts>,
     panics: Arc<AtomicU64>,
     sink: Arc<dyn MetricSink + Send + Sync + RefUnwindSafe>,
@@ -140,10 +236,10 @@ impl QueuingMetricSink {
         self.panics.load(Ordering::Relaxed)
     }
 
-    /// Returns how many lines wait: the number of queued lines minus the number of lines that were passed on. The two
-    /// numbers are read one after the other.
+    /// Returns how many lines wait: the number of queued lines minus the numbers of lines that were passed on and dropped.
+    /// The three numbers are read one after the other.
     pub fn queued(&self) -> u64 {
-        self.submitted().saturating_sub(self.drained())
+        self.submitted().saturating_sub(self.drained() + self.dropped())
     }
 
     /// Returns how many lines were put into the queue.
@@ -155,6 +251,11 @@ impl QueuingMetricSink {
     pub fn drained(&self) -> u64 {
         self.counts.drained.load(Ordering::Relaxed)
     }
+
+    /// Returns how many lines were dropped for newer ones. The crate `cadence` doesn't have this call.
+    pub fn dropped(&self) -> u64 {
+        self.counts.dropped.load(Ordering::Relaxed)
+    }
 }
 
 impl MetricSink for QueuingMetricSink {
@@ -162,8 +263,9 @@ impl MetricSink for QueuingMetricSink {
         if self.counts.stopped.load(Ordering::Relaxed) {
             return Err(disconnected());
         }
-        self.queue.try_send(metric.to_string())?;
+        let drops = self.queue.add(metric.to_string())?;
         self.counts.submitted.fetch_add(1, Ordering::Relaxed);
+        self.counts.dropped.fetch_add(u64::from(drops), Ordering::Relaxed);
         Ok(metric.len())
     }
 
@@ -176,7 +278,7 @@ impl MetricSink for QueuingMetricSink {
     fn stop_and_wait(&self, timeout: Duration) -> io::Result<()> {
         let start = Instant::now();
         self.counts.stopped.store(true, Ordering::Relaxed);
-        while self.counts.passed.load(Ordering::Acquire) < self.submitted() {
+        while self.counts.passed.load(Ordering::Acquire) + self.dropped() < self.submitted() {
             if start.elapsed() >= timeout {
                 return Err(io::Error::new(io::ErrorKind::TimedOut, "lines are left in the queue"));
             }

@@ -6,7 +6,7 @@ use std::io;
 use std::net::{SocketAddr, ToSocketAddrs};
 use std::panic::RefUnwindSafe;
 use std::sync::{Arc, Condvar, Mutex, PoisonError, RwLock};
-use std::time::{Duration, Instant};
+use std::time::Duration;
 
 /// Receives the errors of lookups after the first one.
 pub(crate) type LookupHandler = Box<dyn Fn(io::Error) + Sync + Send + RefUnwindSafe>;
@@ -80,15 +80,8 @@ impl Drop for Resolver {
 impl Periodic {
     /// Waits for a period, and returns whether the sink was dropped meanwhile.
     fn ends_within(&self, period: Duration) -> bool {
-        let start = Instant::now();
-        let mut ended = self.ended.lock().unwrap_or_else(PoisonError::into_inner);
-        while !*ended {
-            let left = period.saturating_sub(start.elapsed());
-            if left.is_zero() {
-                break;
-            }
-            ended = self.end.wait_timeout(ended, left).unwrap_or_else(PoisonError::into_inner).0;
-        }
+        let ended = self.ended.lock().unwrap_or_else(PoisonError::into_inner);
+        let ended = self.end.wait_timeout_while(ended, period, |ended| !*ended).unwrap_or_else(PoisonError::into_inner).0;
         *ended
     }
 

@@ -1,11 +1,13 @@
-use Rattle.std.proofs.Common.{◌≡◌, ◌++◌, ◌∷◌, ◌<◌, [], length, take, get_or, arith, ap, sym, ◌∙◌, subst, length-append}
+use Rattle.std.specs.Prelude.{All}
+use Rattle.std.proofs.Common.{◌≡◌, ◌++◌, ◌∷◌, ◌<◌, ◌≤◌, ℕ, List, [], length, take, get_or, arith, ap, sym, ◌∙◌, subst, length-append}
 use Rattle.std.proofs.lemmas.List.{take_all, take_more, length-take-le}
+use Rattle.cadence_aggregating.specs.Origins.{ComesFrom}
 use Rattle.cadence_aggregating.specs.Past.{Summarizes}
 use Rattle.cadence_aggregating.specs.Recorded.{accepted_by, held_by, taken_by}
 use Rattle.cadence_aggregating.specs.Runs.{accepted_line, accepted_lines}
 use Rattle.cadence_aggregating.specs.declared.runs.Step.{Step}
 use Rattle.cadence_aggregating.specs.declared.runs.Step.TheVariants.{Add}
-use Rattle.cadence_aggregating.proofs.RunSteps.{accepted_more}
+use Rattle.cadence_aggregating.proofs.RunSteps.{Reply, accepted_more}
 use Rattle.cadence_aggregating.proofs.runs.run.Goals as goal
 
 pub loop-step-preserved : goal.loop-step-preserved
@@ -24,10 +26,19 @@ loop-step-preserved g c =
           ∙ sym (accepted_more (take i steps) past (get_or steps i d) reply (omega (arith, c.loop-step.invariant.replies, n))));
     }
 
+-- the record has the accepted lines of the run
+all_accepted : (steps : List Step) (replies : List Reply) (n : ℕ) (lines : List (List ℕ)) → length steps ≤ n
+    → lines ≡ accepted_lines (take n steps) replies → lines ≡ accepted_lines steps replies
+all_accepted steps replies n lines long same = same ∙ ap (λ s. accepted_lines s replies) (take_all n steps long)
+
 pub returns-clause-headline : goal.returns-clause-headline
 returns-clause-headline g c =
     let o = c.loop-step in
-    let all : take o.step-index c.args.steps.now ≡ c.args.steps.now = take_all o.step-index c.args.steps.now c.loop-step-test.false in
-    let accepted : accepted_by o.aggregator ≡ accepted_lines c.args.steps.now o.replies.items =
-    o.invariant.accepted ∙ ap (λ steps. accepted_lines steps o.replies.items) all in
-    subst (λ lines. ∥ Summarizes lines (taken_by o.aggregator) (held_by o.aggregator) ∥₁) accepted c.keeps_the_record.ensures
+    let accepted = all_accepted c.args.steps.now o.replies.items o.step-index (accepted_by o.aggregator) c.loop-step-test.false o.invariant.accepted in
+    subst (λ lines. ∥ Summarizes lines (taken_by o.aggregator) (held_by o.aggregator) ∥₁) accepted c.keeps_the_record.ensures.summary
+
+pub returns-clause-origins : goal.returns-clause-origins
+returns-clause-origins g c =
+    let o = c.loop-step in
+    let accepted = all_accepted c.args.steps.now o.replies.items o.step-index (accepted_by o.aggregator) c.loop-step-test.false o.invariant.accepted in
+    subst (λ lines. ∥ All (ComesFrom lines) (taken_by o.aggregator) ∥₁) accepted c.keeps_the_record.ensures.origins

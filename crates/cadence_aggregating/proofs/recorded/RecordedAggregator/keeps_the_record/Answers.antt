@@ -1,10 +1,16 @@
 use Rattle.std.proofs.Math.Logic.{∥∥₁_map}
 use Rattle.cadence_aggregate.specs.Aggregate.{held}
 use Rattle.cadence_aggregating.specs.Past.{texts_in}
+use Rattle.cadence_aggregating.proofs.Origins.{comes_from}
 use Rattle.cadence_aggregating.proofs.Records.{summarizes}
 use Rattle.cadence_aggregating.proofs.recorded.RecordedAggregator.keeps_the_record.Goals as goal
 
-pub returns : goal.returns
-returns g c =
+pub returns-clause-summary : goal.returns-clause-summary
+returns-clause-summary g c =
     let a = c.args.self.now in
     ∥∥₁_map a.past (summarizes (texts_in a.accepted.items) a.printer.notes.items (held a.aggregator))
+
+pub returns-clause-origins : goal.returns-clause-origins
+returns-clause-origins g c =
+    let a = c.args.self.now in
+    ∥∥₁_map a.past (comes_from (texts_in a.accepted.items) a.printer.notes.items (held a.aggregator))

@@ -1,0 +1,145 @@
+-- Where the lines come from that an aggregator sends.
+use Rattle.std.proofs.Common.{◌≡◌, ◌<◌, ◌≤◌, inl, inr, ℕ, ◌+◌, ◌^◌, ◌/◌, ℤ, pos, negsuc, List, [], ◌∷◌, ◌++◌, length, map, refl, sym, ap, ap₂, subst, ◌∙◌, arith, lit<, unsigned_abs}
+use Rattle.std.specs.Prelude.{All, Contains}
+use Rattle.std.specs.Int.RustNames.{FitsSigned}
+use Rattle.std.specs.List.{AllByRecursion, AllZip}
+use Rattle.std.proofs.lemmas.List.{length-append}
+use Rattle.std.proofs.lemmas.List.Elements.{All-from_recursion, Contains-append_left, Contains-append_right, Contains-push}
+use Rattle.std.proofs.Math.Nat.{div-le_self}
+use mir.Syntax.{w64}
+use Rattle.cadence_aggregate.specs.Server.{Sample, amount, level, member, timing, other, IsSummary}
+use Rattle.cadence_value.specs.Number.{decimal_text, number_text, numbers_text, whole}
+use Rattle.cadence_value.proofs.digits.Digits.{length-decimal_text-le}
+use Rattle.cadence_value.proofs.digits.NumberText.{sign, sign-pos, unsigned_text}
+use Rattle.cadence_aggregating.specs.Notes.{line_of_note, sample_of_note}
+use Rattle.cadence_aggregating.specs.Origins.{ComesFrom, IsMadeOf}
+use Rattle.cadence_aggregating.specs.Past.{IsPast}
+use Rattle.cadence_aggregating.specs.Printed.{before_bar, from_bar, spliced, text_of}
+use Rattle.cadence_aggregating.specs.Says.{LineSays}
+use Rattle.cadence_aggregating.specs.declared.note.Note.{Note}
+use Rattle.cadence_aggregating.proofs.Among.{Among, amount_found, amount_shown, level_found, level_shown, member_found, member_shown, other_found, other_shown, is, is_level}
+use Rattle.cadence_aggregating.proofs.MetricParts.{line_parts}
+use Rattle.cadence_aggregating.proofs.Records.{among_left, among_mapped, sized}
+use Rattle.cadence_aggregating.proofs.Sayable.{IsSized, all_said, first_value, sayable, spliced_context, value_came}
+use Rattle.cadence_aggregating.proofs.Spliced.{cut_whole}
+
+contained : {X : Type 0} (x : X) (xs : List X) → Among x xs → Contains xs x
+contained x [] h = absurd h
+contained x (y ∷ xs) (inl same) = subst (Contains (y ∷ xs)) same (Contains-append_left (y ∷ []) xs y (Contains-push [] y))
+contained x (y ∷ xs) (inr later) = Contains-append_right (y ∷ []) xs x (contained x xs later)
+
+-- one of the lines says this
+abbrev Said : List (List ℕ) → Sample → Type 0
+Said lines s = (line : List ℕ) × Among line lines × LineSays line s
+
+said_by_line : (lines : List (List ℕ)) (said : List Sample) → AllZip LineSays lines said → (s : Sample) → Among s said → Said lines s
+said_by_line [] [] h s among = absurd among
+said_by_line [] (x ∷ said) h s among = absurd h
+said_by_line (line ∷ lines) [] h s among = absurd among
+said_by_line (line ∷ lines) (x ∷ said) (here, rest) s (inl same) = (line, inl refl, subst (LineSays line) same here)
+said_by_line (line ∷ lines) (x ∷ said) (here, rest) s (inr later) =
+    let (old, among, says) = said_by_line lines said rest s later in
+    (old, inr among, says)
+
+-- a line that says the value of a gauge, a member of a set or itself is the text of what it says
+level_text : (line c v : List ℕ) → LineSays line (level c v) → spliced c v ≡ line
+level_text line c v (m, listed, its, (kind, time, context, values)) =
+    ap₂ spliced context values ∙ spliced_context m listed (numbers_text m.numbers) ∙ sym (line_parts m) ∙ its
+
+-- the sizes of a counter's line
+size_abs : (z : ℤ) → FitsSigned w64 z → unsigned_abs z ≤ 2 ^ 63
+size_abs (pos n) h = omega (arith, h.sfits)
+size_abs (negsuc n) h = omega (arith, h.sfits)
+
+size_sign : (z : ℤ) → length (sign z) ≤ 1
+size_sign (pos n) = omega (arith, ap (λ t. length t) (sign-pos n))
+size_sign (negsuc n) = omega arith
+
+size_whole : (n : ℤ) → FitsSigned w64 n → length (number_text (whole n)) ≤ 20
+size_whole n fits =
+    let size = unsigned_abs n in
+    let small : size / 10 ^ 0 < 10 ^ 19 = omega (arith, size_abs n fits, div-le_self size (10 ^ 0)) in
+    omega (
+      arith,
+      length-append (sign n) (unsigned_text size 0),
+      length-append (decimal_text (size / 10 ^ 0)) [],
+      size_sign n,
+      length-decimal_text-le 19 (size / 10 ^ 0) (lit< tt) small,
+    )
+
+size_spliced : (context values : List ℕ) → length (spliced context values) ≡ length context + length values + 1
+size_spliced context values =
+    let front = before_bar context in
+    let fields = from_bar context in
+    omega (
+      arith,
+      length-append front (58 ∷ (values ++ fields)),
+      length-append values fields,
+      length-append front fields,
+      ap (λ t. length t) (cut_whole context),
+    )
+
+module _ (accepted : List (List ℕ)) (came sent : List Sample) (zip : AllZip LineSays accepted came) (same : IsSummary came sent) where
+  -- what was sent is the line of a metric, as the record shows
+  says_itself : (s : Sample) → Among s sent → IsSized s → LineSays (text_of s) s
+  says_itself = sayable came sent same (all_said accepted came zip)
+
+  sum_made : (c : List ℕ) (n : ℤ) → Among (amount c n) sent → FitsSigned w64 n → IsMadeOf accepted (text_of (amount c n))
+  sum_made c n among fits =
+      let (k, there) = amount_found c came (same.counters (is c) ∙ amount_shown c n sent among) in
+      let (old, here, (m, listed, its, (kind, time, context, numbers, small))) = said_by_line accepted came zip (amount c k) there in
+      let (metric, listed', whole', (kind', time', context', numbers', fits')) = says_itself (amount c n) among fits in
+      let size : length (spliced c (number_text (whole n))) ≤ length c + 21 = omega (arith, size_spliced c (number_text (whole n)), size_whole n fits) in
+      record {
+        metric = metric;
+        listed = listed';
+        whole = whole';
+        context = (m, listed, subst (Contains accepted) (sym its) (contained old accepted here), sym context ∙ context');
+        kind = inl (kind', subst (λ d. length (spliced c (number_text (whole n))) ≤ length d + 21) context' size);
+      }
+
+  values_made : (c t : List ℕ) → Among (timing c t) sent → IsMadeOf accepted (text_of (timing c t))
+  values_made c t among =
+      let (x, value) = first_value t in
+      let (u, there, value') = value_came came sent same (all_said accepted came zip) c t x among value in
+      let (old, here, (m, listed, its, (kind, time, context, values, some))) = said_by_line accepted came zip (timing c u) there in
+      let (metric, listed', whole', (kind', time', context', values', some')) = says_itself (timing c t) among tt in
+      record {
+        metric = metric;
+        listed = listed';
+        whole = whole';
+        context = (m, listed, subst (Contains accepted) (sym its) (contained old accepted here), sym context ∙ context');
+        kind = inr kind';
+      }
+
+  unchanged : (s : Sample) → Said accepted s → ((line : List ℕ) → LineSays line s → text_of s ≡ line) → ComesFrom accepted (text_of s)
+  unchanged s (line, here, says) text = inl (subst (Contains accepted) (sym (text line says)) (contained line accepted here))
+
+  origin : (s : Sample) → Among s sent → IsSized s → ComesFrom accepted (text_of s)
+  origin (amount c n) among fits = inr (sum_made c n among fits)
+  origin (level c v) among fits =
+      let there = level_found c v came (same.values (is_level c v) (level_shown c v sent among)) in
+      unchanged (level c v) (said_by_line accepted came zip (level c v) there) (λ line says. level_text line c v says)
+  origin (member l) among fits =
+      let there = member_found l came (same.members (is l) ∙ member_shown l sent among) in
+      unchanged (member l) (said_by_line accepted came zip (member l) there) (λ line (m, listed, its, (kind, time, whole)). whole ∙ its)
+  origin (timing c t) among fits = inr (values_made c t among)
+  origin (other l) among fits =
+      let there = other_found l came (subst (Among l) (sym same.rest) (other_shown l sent among)) in
+      unchanged (other l) (said_by_line accepted came zip (other l) there) (λ line (whole, none). whole)
+
+all_from : (accepted : List (List ℕ)) (notes : List Note) → ((note : Note) → Among note notes → ComesFrom accepted (line_of_note note))
+    → AllByRecursion (ComesFrom accepted) (map line_of_note notes)
+all_from accepted [] each = tt
+all_from accepted (note ∷ notes) each = (each note (inl refl), all_from accepted notes (λ n among. each n (inr among)))
+
+-- where the lines of the record come from
+pub comes_from : (accepted : List (List ℕ)) (notes : List Note) (held : List Sample) → IsPast accepted (map sample_of_note notes) held
+    → All (ComesFrom accepted) (map line_of_note notes)
+comes_from accepted notes held (came, zip, same) =
+    let sent = map sample_of_note notes in
+    let each : (note : Note) → Among note notes → ComesFrom accepted (line_of_note note) = λ note among.
+    subst (ComesFrom accepted) (sym note.printed)
+    (origin accepted came (sent ++ held) zip same (sample_of_note note)
+    (among_left (sample_of_note note) sent held (among_mapped sample_of_note note notes among)) (sized note)) in
+    All-from_recursion (ComesFrom accepted) (map line_of_note notes) (all_from accepted notes each)
