@@ -338,3 +338,29 @@ fn a_flush_that_fails_is_tried_again_and_told() {
         assert_eq!((4, 3), (flushes.load(Ordering::SeqCst), errors.load(Ordering::SeqCst)));
     }
 }
+
+#[test]
+fn a_worker_ends_though_each_flush_panics() {
+    struct Panics(Sender<&'static str>);
+    impl MetricSink for Panics {
+        fn emit(&self, metric: &str) -> io::Result<usize> {
+            Ok(metric.len())
+        }
+        fn flush(&self) -> io::Result<()> {
+            panic!("in a flush");
+        }
+    }
+    impl Drop for Panics {
+        fn drop(&mut self) {
+            self.0.send("dropped").unwrap();
+        }
+    }
+    for period in [Duration::ZERO, Duration::from_secs(3600)] {
+        let (told, hears) = channel();
+        let sink = QueuingMetricSink::builder().with_flush_period(period).build(Panics(told));
+        sink.emit("a").unwrap();
+        until(|| sink.drained() == 1);
+        drop(sink);
+        assert_eq!("dropped", hears.recv_timeout(LONG).unwrap());
+    }
+}

@@ -153,7 +153,8 @@ impl<T: MetricSink> Job<T> {
     fn flush(&self) {
         let Some(flushes) = &self.flushes else { return };
         flushes.last.set(Instant::now());
-        flushes.failed.set(true);
+        // After a panic of the sink no flush is owed, so that a worker at its end doesn't try for ever.
+        flushes.owed.set(false);
         let result = self.sink.flush();
         flushes.failed.set(result.is_err());
         flushes.owed.set(result.is_err());
