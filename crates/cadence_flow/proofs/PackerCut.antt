@@ -5,9 +5,9 @@ use Rattle.std.proofs.Math.Logic.{∥∥₁_map}
 use Rattle.std.proofs.lemmas.Bool.{cases_lt}
 use Rattle.std.proofs.lemmas.List.{append-nil}
 use Rattle.cadence_errors.specs.declared.SinkError.{SinkError}
-use Rattle.cadence_flow.specs.Frame.{size_of, is_oversize}
+use Rattle.cadence_flow.specs.Frame.{Fits, size_of, is_oversize}
 use Rattle.cadence_flow.specs.Offers.{FlushesOffers, WritesOffers}
-use Rattle.cadence_flow.specs.Packer.{Packer, FlushesHeld, WritesLine, Fits, with_line_held}
+use Rattle.cadence_flow.specs.Packer.{Packer, FlushesHeld, WritesLine, with_line_held}
 use Rattle.cadence_flow.specs.Writer.{PacketHistory, WriterKind}
 use Rattle.cadence_flow.specs.Cut.{IsCut}
 use Rattle.cadence_flow.specs.RecordedWriter.{offers_of, recorded_history, recorded_kind}
@@ -40,7 +40,7 @@ module _ {W : Type 0} (kind : W → WriterKind) (history : W → PacketHistory) 
 
   module _ (accepted : List (List ℕ × ℕ)) (line : List ℕ) where
     -- `hold` keeps the cut, with one more line.
-    pub cut_holds : (n : ℕ) → Fits old line → new ≡ with_line_held old line → ∥ PackerCut old accepted ∥₁
+    pub cut_holds : (n : ℕ) → Fits old.format old.held line → new ≡ with_line_held old line → ∥ PackerCut old accepted ∥₁
         → ∥ PackerCut new (accepted ++ (line, n) ∷ []) ∥₁
     cut_holds n fits is past =
         let within : is_oversize old.format line ≡ false = grind (arith, fits) in

@@ -37,20 +37,21 @@ abbrev pub held_packet : List ℕ → List (List ℕ)
 held_packet [] = []
 held_packet (byte ∷ rest) = (byte ∷ rest) ∷ []
 
--- The cases of a line that is written while some text is held. Exactly one of the first three is true of each line.
+-- What a line does beside some held text. It fits, or it passes the room and isn't oversize, or it is oversize; exactly
+-- one of the three is true of each line.
 
--- If the line fits, then P. It fits if with its ending it fits the room that the held text leaves.
-abbrev pub WhenItFits : Format → List ℕ → List ℕ → Type 0 → Type 0
-WhenItFits format held line P = length held + size_of format line ≤ format.capacity → P
+-- The line fits: with its ending it fits the room that the held text leaves.
+abbrev pub Fits : Format → List ℕ → List ℕ → Type 0
+Fits format held line = length held + size_of format line ≤ format.capacity
 
--- If the held text goes first, then P. It goes first if the line doesn't fit beside it, but isn't oversize.
-abbrev pub WhenHeldGoesFirst : Format → List ℕ → List ℕ → Type 0 → Type 0
-WhenHeldGoesFirst format held line P = format.capacity < length held + size_of format line → is_oversize format line ≡ false → P
+-- The line passes the room: with its ending it is longer than the room that the held text leaves.
+abbrev pub PassesRoom : Format → List ℕ → List ℕ → Type 0
+PassesRoom format held line = format.capacity < length held + size_of format line
 
--- If the line is oversize, then P.
-abbrev pub WhenOversize : Format → List ℕ → Type 0 → Type 0
-WhenOversize format line P = is_oversize format line ≡ true → P
+-- The line is oversize.
+abbrev pub IsOversize : Format → List ℕ → Type 0
+IsOversize format line = is_oversize format line ≡ true
 
--- If the line isn't oversize, then P.
-abbrev pub WhenNotOversize : Format → List ℕ → Type 0 → Type 0
-WhenNotOversize format line P = is_oversize format line ≡ false → P
+-- The line isn't oversize.
+abbrev pub IsNotOversize : Format → List ℕ → Type 0
+IsNotOversize format line = is_oversize format line ≡ false

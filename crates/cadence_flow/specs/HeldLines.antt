@@ -1,7 +1,7 @@
 -- Lines that are held until they are a packet, and what each call does to them.
-use Rattle.std.specs.Prelude.{◌≡◌, ℕ, ◌+◌, ◌≤◌, List, [], ◌++◌, length, ◌↔◌, Bool, IsTrue, IsFalse, IfOk, OnOk, OnErr, Vec}
+use Rattle.std.specs.Prelude.{◌≡◌, ℕ, List, [], ◌++◌, ◌↔◌, Bool, IsTrue, IsFalse, IfOk, OnOk, OnErr, Vec}
 use Rattle.std.specs.declared.result.Result.{Result}
-use Rattle.cadence_flow.specs.Frame.{Format, size_of}
+use Rattle.cadence_flow.specs.Frame.{Format, Fits}
 
 -- the held text, which waits to be a packet, and the format of that packet
 pub record HeldText : Type 0 where
@@ -16,13 +16,9 @@ nothing_held capacity ending = record { text = []; format = record { capacity = 
 abbrev pub with_text : HeldText → List ℕ → HeldText
 with_text h text = record { text = text; format = h.format }
 
--- The line and its ending fit the room that the held text leaves.
-abbrev pub FitsBeside : HeldText → List ℕ → Type 0
-FitsBeside h line = length h.text + size_of h.format line ≤ h.format.capacity
-
 -- How a line is held: the call returns whether the line fits, and holds a line that does.
 pub record HoldsText (old new : HeldText) (line : List ℕ) (result : Bool) : Type 0 where
-  pub exact : IsTrue result ↔ FitsBeside old line
+  pub exact : IsTrue result ↔ Fits old.format old.text line
   pub held : IsTrue result → new ≡ with_text old (old.text ++ (line ++ old.format.ending))
   pub unchanged : IsFalse result → new ≡ old
 

@@ -2,7 +2,7 @@
 use Rattle.std.specs.Prelude.{◌≡◌, ℕ, ◌<◌, Bool, true, false, List, [], ◌∷◌, ◌++◌, length, ◌⊎◌, Option, Some, None, Result, Ok, Err}
 use Rattle.std.specs.Prelude.{IfOk, OnErr, All, is_ok}
 use Rattle.cadence_errors.specs.declared.SinkError.{SinkError}
-use Rattle.cadence_flow.specs.Frame.{Format, WhenHeldGoesFirst, WhenOversize}
+use Rattle.cadence_flow.specs.Frame.{Format, IsNotOversize, IsOversize, PassesRoom}
 
 -- a packet that was offered to a writer and not refused, with the number of its bytes that the writer took
 abbrev pub Offer : Type 0
@@ -49,10 +49,10 @@ FlushesOffers (Some old) new (b ∷ bs) ok = SendsOffers (Some old) new ok
 -- Writing a line that doesn't fit beside the held text flushes, and then offers an oversize line once.
 pub record WritesOffers (format : Format) (old new : Offers) (held rest line : List ℕ) (result : Result ℕ SinkError) : Type 0 where
   -- the held text goes first: the call flushes, and offers no more
-  pub closes : WhenHeldGoesFirst format held line (FlushesOffers old new held (is_ok result))
+  pub closes : PassesRoom format held line → IsNotOversize format line → FlushesOffers old new held (is_ok result)
   -- an oversize line: after the flush it is one packet
-  pub alone : WhenOversize format line
-      (IfOk result (λ n. (mid : Offers) × FlushesOffers old mid held true × IsOffered mid new line (Ok n)))
+  pub alone : IsOversize format line
+      → IfOk result (λ n. (mid : Offers) × FlushesOffers old mid held true × IsOffered mid new line (Ok n))
   -- an oversize line and an error: the flush failed, or it succeeded and the line was refused
-  pub refused : WhenOversize format line
-      (OnErr result (FlushesOffers old new held false ⊎ (FlushesOffers old new held true × (rest ≡ []))))
+  pub refused : IsOversize format line
+      → OnErr result (FlushesOffers old new held false ⊎ (FlushesOffers old new held true × (rest ≡ [])))

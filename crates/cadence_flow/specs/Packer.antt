@@ -1,5 +1,5 @@
 -- What a packer has, and what its calls do.
-use Rattle.std.specs.Prelude.{◌≡◌, ℕ, ◌+◌, ◌<◌, ◌≤◌, ◌-◌, true, false, List, [], ◌∷◌, ◌++◌, length, take, drop, ◌⊎◌, ◌↔◌, Bool, IsTrue}
+use Rattle.std.specs.Prelude.{◌≡◌, ℕ, ◌<◌, ◌≤◌, ◌-◌, true, false, List, [], ◌∷◌, ◌++◌, length, take, drop, ◌⊎◌, ◌↔◌, Bool, IsTrue}
 use Rattle.std.specs.Prelude.{IsFalse, IsOk, IfOk, IfErr, OnOk, OnErr, Ok, Err, Vec}
 use Rattle.std.specs.declared.result.Result.{Result}
 use Rattle.std.specs.List.{concat}
@@ -7,8 +7,8 @@ use Rattle.std.specs.Coded.{Coded, coded×, coded_ℕ, coded_list, code_by}
 use Rattle.std.proofs.Common.{refl}
 use Rattle.cadence_errors.specs.declared.SinkError.{SinkError}
 use Rattle.cadence_errors.specs.declared.SinkError.TheVariants.{NothingWritten}
-use Rattle.cadence_flow.specs.Frame.{Format, WhenHeldGoesFirst, WhenItFits, WhenNotOversize, WhenOversize, size_of, frame_of, held_packet}
-use Rattle.cadence_flow.specs.Writer.{PacketHistory, WriterKind, WhenItReports, WhenItTakesWhole}
+use Rattle.cadence_flow.specs.Frame.{Format, Fits, IsNotOversize, IsOversize, PassesRoom, frame_of, held_packet}
+use Rattle.cadence_flow.specs.Writer.{PacketHistory, WriterKind, Reports, TakesWhole}
 use Rattle.cadence_flow.specs.Writer.{RefusedNothing, RefusedOne, Extends, Sends, SendsThen}
 
 -- a packer: its writer, the held text, which waits to be written, and the format of a packet
@@ -39,10 +39,6 @@ with_held p held = record { writer = p.writer; held = held; format = p.format }
 -- the packer with this writer
 abbrev pub with_writer : {W : Type 0} → Packer W → W → Packer W
 with_writer p w = record { writer = w; held = p.held; format = p.format }
-
--- The line and its ending fit the room that the held text leaves.
-abbrev pub Fits : {W : Type 0} → Packer W → List ℕ → Type 0
-Fits p line = length p.held + size_of p.format line ≤ p.format.capacity
 
 -- the packer with the line and its ending behind the held text
 abbrev pub with_line_held : {W : Type 0} → Packer W → List ℕ → Packer W
@@ -85,14 +81,14 @@ IsEndOf held rest = rest ≡ drop (length held - length rest) held
 pub record IsRefused (kind : WriterKind) (old new : PacketHistory) (before offered : List ℕ) (e : SinkError) : Type 0 where
   pub may_give : kind.may_give e ≡ true
   pub once : RefusedOne old new (length offered)
-  pub sent : WhenItReports kind (Sends old new before)
+  pub sent : Reports kind → Sends old new before
 
 -- The writer took some of the held text, and then 0 bytes of the rest.
 pub record IsNotWritten (kind : WriterKind) (old new : PacketHistory) (before : List ℕ) (e : SinkError) : Type 0 where
   pub error : e ≡ NothingWritten
   pub none_refused : RefusedNothing old new
   pub not_whole : kind.takes_whole ≡ false
-  pub sent : WhenItReports kind (SendsThen old new before [])
+  pub sent : Reports kind → SendsThen old new before []
 
 -- Why a call failed: the writer refused the offered text, or it took 0 bytes of held text.
 abbrev pub HasCause : WriterKind → PacketHistory → PacketHistory → List ℕ → List ℕ → SinkError → Type 0
@@ -109,20 +105,20 @@ pub record Flushes {A : Type 0} (kind : WriterKind) (old new : PackerState) (res
   pub none_refused : OnOk result (RefusedNothing old.history new.history)
   pub cause : IfErr result (HasCause kind old.history new.history (taken_of_held old.held new.held) new.held)
   -- no byte is lost, added or moved, and no packet is empty
-  pub text : WhenItReports kind (whole_text new ≡ whole_text old)
-  pub extends : WhenItReports kind (Extends old.history new.history)
-  pub sent : WhenItReports kind (OnOk result (Sends old.history new.history old.held))
+  pub text : Reports kind → whole_text new ≡ whole_text old
+  pub extends : Reports kind → Extends old.history new.history
+  pub sent : Reports kind → OnOk result (Sends old.history new.history old.held)
   -- a writer that takes whole gets the held text as one packet, or refuses it, and then nothing has changed
-  pub one_packet : WhenItReports kind (WhenItTakesWhole kind
-      (OnOk result (new.history.packets ≡ old.history.packets ++ held_packet old.held)))
-  pub unchanged : WhenItTakesWhole kind
-      (OnErr result ((new.held ≡ old.held) × (new.history.packets ≡ old.history.packets)))
+  pub one_packet : Reports kind → TakesWhole kind
+      → OnOk result (new.history.packets ≡ old.history.packets ++ held_packet old.held)
+  pub unchanged : TakesWhole kind
+      → OnErr result ((new.held ≡ old.held) × (new.history.packets ≡ old.history.packets))
 
 -- What a write returns: the length of the line, or how many first bytes of an oversize line the writer took.
 pub record ReturnsCount (kind : WriterKind) (format : Format) (line : List ℕ) (result : Result ℕ SinkError) : Type 0 where
   pub within : IfOk result (λ n. n ≤ length line)
-  pub not_oversize : WhenNotOversize format line (IfOk result (λ n. n ≡ length line))
-  pub takes_whole : WhenItTakesWhole kind (IfOk result (λ n. n ≡ length line))
+  pub not_oversize : IsNotOversize format line → IfOk result (λ n. n ≡ length line)
+  pub takes_whole : TakesWhole kind → IfOk result (λ n. n ≡ length line)
 
 -- The line is held with its ending, behind the held text. Nothing is written.
 pub record HoldsBehind (format : Format) (old new : PackerState) (line : List ℕ) (result : Result ℕ SinkError) : Type 0 where
@@ -133,28 +129,28 @@ pub record HoldsBehind (format : Format) (old new : PackerState) (line : List �
 -- The held text is sent, and then the line is held with its ending. A writer that takes whole gets one packet.
 pub record SendsHeld (kind : WriterKind) (format : Format) (old new : PackerState) (line : List ℕ) : Type 0 where
   pub held : new.held ≡ line ++ format.ending
-  pub sent : WhenItReports kind (Sends old.history new.history old.held)
-  pub one_packet : WhenItReports kind (WhenItTakesWhole kind
-      (new.history.packets ≡ old.history.packets ++ held_packet old.held))
+  pub sent : Reports kind → Sends old.history new.history old.held
+  pub one_packet : Reports kind → TakesWhole kind
+      → new.history.packets ≡ old.history.packets ++ held_packet old.held
 
 -- The held text is sent, and then the line alone, of which the writer takes the first n bytes. Nothing is held. A writer
 -- that takes whole gets the held text as one packet, and the line as another.
 pub record SendsAlone (kind : WriterKind) (old new : PackerState) (line : List ℕ) (n : ℕ) : Type 0 where
   pub held : new.held ≡ []
-  pub sent : WhenItReports kind (SendsThen old.history new.history old.held (take n line))
-  pub two_packets : WhenItReports kind (WhenItTakesWhole kind
-      (new.history.packets ≡ (old.history.packets ++ held_packet old.held) ++ line ∷ []))
+  pub sent : Reports kind → SendsThen old.history new.history old.held (take n line)
+  pub two_packets : Reports kind → TakesWhole kind
+      → new.history.packets ≡ (old.history.packets ++ held_packet old.held) ++ line ∷ []
 
 -- The write failed, and nothing of the line is held. An end of the held text is left; only an oversize line is refused
 -- with nothing held. If the writer takes whole, the held text was sent or it was refused.
 pub record FailsToWrite (kind : WriterKind) (format : Format) (old new : PackerState) (line : List ℕ) (e : SinkError) : Type 0 where
   pub keeps_end : IsEndOf old.held new.held
-  pub keeps_some : WhenNotOversize format line (0 < length new.held)
+  pub keeps_some : IsNotOversize format line → 0 < length new.held
   pub cause : HasCause kind old.history new.history (taken_of_held old.held new.held) (rest_or new.held line) e
-  pub sent : WhenItReports kind (WhenItTakesWhole kind
-      (new.held ≡ [] → new.history.packets ≡ old.history.packets ++ held_packet old.held))
-  pub refused : WhenItReports kind (WhenItTakesWhole kind
-      (0 < length new.held → (new.held ≡ old.held) × (new.history.packets ≡ old.history.packets)))
+  pub sent : Reports kind → TakesWhole kind
+      → new.held ≡ [] → new.history.packets ≡ old.history.packets ++ held_packet old.held
+  pub refused : Reports kind → TakesWhole kind
+      → 0 < length new.held → (new.held ≡ old.held) × (new.history.packets ≡ old.history.packets)
 
 -- What writing a line does, by the state of the packer before and after it. A line that fits is held. If it doesn't fit,
 -- the held text goes first: the call flushes, and then holds the line. An oversize line goes out alone: the call
@@ -162,15 +158,15 @@ pub record FailsToWrite (kind : WriterKind) (format : Format) (old new : PackerS
 pub record Writes (kind : WriterKind) (format : Format) (old new : PackerState) (line : List ℕ) (result : Result ℕ SinkError) : Type 0 where
   pub count : ReturnsCount kind format line result
   -- the three cases of a line, and an error
-  pub fits : WhenItFits format old.held line (HoldsBehind format old new line result)
-  pub goes_first : WhenHeldGoesFirst format old.held line (OnOk result (SendsHeld kind format old new line))
-  pub alone : WhenOversize format line (IfOk result (SendsAlone kind old new line))
+  pub fits : Fits format old.held line → HoldsBehind format old new line result
+  pub goes_first : PassesRoom format old.held line → IsNotOversize format line → OnOk result (SendsHeld kind format old new line)
+  pub alone : IsOversize format line → IfOk result (SendsAlone kind old new line)
   pub fails : IfErr result (FailsToWrite kind format old new line)
   -- after `Ok` nothing was refused
   pub none_refused : OnOk result (RefusedNothing old.history new.history)
   -- the text grows by the line's frame, as far as it was accepted, or by nothing after an error
-  pub text : WhenItReports kind (whole_text new ≡ whole_text old ++ given_by format line result)
-  pub extends : WhenItReports kind (Extends old.history new.history)
+  pub text : Reports kind → whole_text new ≡ whole_text old ++ given_by format line result
+  pub extends : Reports kind → Extends old.history new.history
 
 -- Making a packer returns one that holds nothing, or gives the writer back.
 pub record MakesPacker {W : Type 0} (writer : W) (capacity : ℕ) (ending : List ℕ) (result : Result (Packer W) W) : Type 0 where
@@ -183,12 +179,12 @@ pub record WritesLine {W : Type 0} (kind : W → WriterKind) (history : W → Pa
   pub same_kind : kind new.writer ≡ kind old.writer
   pub same_format : new.format ≡ old.format
   -- a line that fits is held, and nothing else changes
-  pub only_held : Fits old line → new ≡ with_line_held old line
+  pub only_held : Fits old.format old.held line → new ≡ with_line_held old line
   pub writes : Writes (kind old.writer) old.format (packer_state history old) (packer_state history new) line result
 
 -- How a packer holds a line: it returns whether the line fits, and holds a line that does.
 pub record HoldsLine {W : Type 0} (old new : Packer W) (line : List ℕ) (result : Bool) : Type 0 where
-  pub exact : IsTrue result ↔ Fits old line
+  pub exact : IsTrue result ↔ Fits old.format old.held line
   pub held : IsTrue result → new ≡ with_line_held old line
   pub unchanged : IsFalse result → new ≡ old
 

@@ -21,13 +21,17 @@ pub record WriterKind : Type 0 where
   pub takes_whole : Bool
   pub start : SinkStats
 
--- If the writer reports its packets, then P.
-abbrev pub WhenItReports : WriterKind → Type 0 → Type 0
-WhenItReports kind P = kind.reports ≡ true → P
+-- The writer reports its packets.
+abbrev pub Reports : WriterKind → Type 0
+Reports kind = kind.reports ≡ true
 
--- If the writer takes each packet whole or refuses it, then P.
-abbrev pub WhenItTakesWhole : WriterKind → Type 0 → Type 0
-WhenItTakesWhole kind P = kind.takes_whole ≡ true → P
+-- The writer takes each packet whole or refuses it.
+abbrev pub TakesWhole : WriterKind → Type 0
+TakesWhole kind = kind.takes_whole ≡ true
+
+-- The writer reports its packets, and it takes each packet whole or refuses it.
+abbrev pub ReportsWhole : WriterKind → Type 0
+ReportsWhole kind = Reports kind × TakesWhole kind
 
 -- the history after one more packet was taken
 abbrev pub after_packet : PacketHistory → List ℕ → PacketHistory
@@ -76,9 +80,9 @@ Extends old new = (more : List (List ℕ)) × (new.packets ≡ old.packets ++ mo
 pub record WritesPacket (kind : WriterKind) (old new : PacketHistory) (packet : List ℕ) (result : Result ℕ SinkError) : Type 0 where
   -- the count is how many of the packet's first bytes were taken; a writer that takes whole takes all of them
   pub count : IfOk result (λ n. n ≤ length packet)
-  pub whole : WhenItTakesWhole kind (IfOk result (λ n. n ≡ length packet))
+  pub whole : TakesWhole kind → IfOk result (λ n. n ≡ length packet)
   -- the history of a writer that reports has one more packet: these bytes
-  pub taken : WhenItReports kind (IfOk result (λ n. new ≡ after_packet old (take n packet)))
+  pub taken : Reports kind → IfOk result (λ n. new ≡ after_packet old (take n packet))
   pub kept : OnOk result (RefusedNothing old new)
   -- an error is one that the writer may return, and counts as one refusal of the whole packet
   pub may_give : IfErr result (λ e. kind.may_give e ≡ true)

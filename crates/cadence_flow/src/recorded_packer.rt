@@ -1,5 +1,5 @@
 //! A packer with a record of its past that only proofs read, over a writer with a record of its packets.
-ghost use Rattle.std.specs.Prelude.{◌≡◌, ◌∷◌, ◌++◌, [], ℕ, List, true};
+ghost use Rattle.std.specs.Prelude.{◌≡◌, ◌∷◌, ◌++◌, []};
 ghost use Rattle.cadence_flow.specs.Frame.{taken_stream};
 ghost use Rattle.cadence_flow.specs.Cut.{IsCut, bytes_taken};
 
@@ -52,7 +52,8 @@ impl<W: PacketWriter, A: Allocator + Clone> RecordedPacker<W, A> {
 impl<W: PacketWriter, A: Allocator> RecordedPacker<W, A> {
     ghost use Rattle.std.specs.List.{concat};
     ghost use Rattle.std.specs.Prelude.{length, IfSome, None, is_some};
-    ghost use Rattle.cadence_flow.specs.Packer.{Fits, HoldsLine};
+    ghost use Rattle.cadence_flow.specs.Frame.{Fits};
+    ghost use Rattle.cadence_flow.specs.Packer.{HoldsLine};
     ghost use Rattle.cadence_flow.specs.Packed.{AnswersFlush, AnswersLine, after_of, before_of, bytes_of, returned_of};
     ghost use Rattle.cadence_flow.specs.RecordedPacker.{accepted_of, packer_of};
     ghost use Rattle.cadence_flow.specs.RecordedWriter.{packets_of};
@@ -91,7 +92,7 @@ impl<W: PacketWriter, A: Allocator> RecordedPacker<W, A> {
         line: &[u8],
         fault: &mut SinkError,
     ) -> Result<Packed<Self>, Refused<Self>>
-        requires { Fits (packer_of self.old) line.now → ⊥ }
+        requires { Fits (packer_of self.old).format (packer_of self.old).held line.now → ⊥ }
         ensures { AnswersLine W.kind W.history self.old self.new line.now result fault.new }
     {
         let before = Snapshot::of(self);
@@ -221,7 +222,7 @@ impl<W: PacketWriter> PacketWriter for RecordedWriter<W> {
     ghost use Rattle.std.specs.Option.{ok_or};
     ghost use Rattle.std.specs.Prelude.{Some};
     ghost use Rattle.cadence_flow.specs.Offers.{IsOffered};
-    ghost use Rattle.cadence_flow.specs.Writer.{WritesPacket};
+    ghost use Rattle.cadence_flow.specs.Writer.{Reports, WritesPacket};
     ghost use Rattle.cadence_flow.specs.RecordedWriter.{offers_of, packets_of, recorded_history, recorded_kind, writer_of};
 
     ghost history = { recorded_history W.history };
@@ -237,7 +238,7 @@ impl<W: PacketWriter> PacketWriter for RecordedWriter<W> {
             packet.now result }
         ensures offers { IsOffered (Some (offers_of self.old)) (Some (offers_of self.new))
             packet.now result }
-        ensures ties { (W.kind (writer_of self.old)).reports ≡ true →
+        ensures ties { Reports (W.kind (writer_of self.old)) →
             packets_of self.old ≡ (W.history (writer_of self.old)).packets →
             packets_of self.new ≡ (W.history (writer_of self.new)).packets }
     {
@@ -254,7 +255,7 @@ impl<W: PacketWriter> PacketWriter for RecordedWriter<W> {
             packet.now (ok_or result fault.new) }
         ensures offers { IsOffered (Some (offers_of self.old)) (Some (offers_of self.new))
             packet.now (ok_or result fault.new) }
-        ensures ties { (W.kind (writer_of self.old)).reports ≡ true →
+        ensures ties { Reports (W.kind (writer_of self.old)) →
             packets_of self.old ≡ (W.history (writer_of self.old)).packets →
             packets_of self.new ≡ (W.history (writer_of self.new)).packets }
     {

@@ -8,7 +8,8 @@ use Rattle.cadence_text.specs.Metric.{Metric}
 use Rattle.cadence_text.specs.OneReading.{IsFreeOfSeparators}
 use Rattle.cadence_text.specs.Representable.{IsRepresentable}
 use Rattle.cadence_flow.specs.Frame.{Format, size_of, stream, taken_stream}
-use Rattle.cadence_flow.specs.Writer.{PacketHistory, WriterKind, Extends}
+use Rattle.cadence_flow.specs.Writer.{PacketHistory, WriterKind, Extends, Reports, TakesWhole}
+pub use Rattle.cadence_flow.specs.Writer.{ReportsWhole}
 use Rattle.cadence_queue.specs.declared.policy.QueuePolicy.{QueuePolicy}
 use Rattle.cadence_flow.specs.declared.stats.SinkStats.{SinkStats}
 use Rattle.cadence_settings.specs.declared.call.Call.{Call}
@@ -63,10 +64,6 @@ pub record AreSumsBetween (before after : PacketHistory) (sums : SinkStats) : Ty
   pub packets_sent : sums.packets_sent ≡ length (packets_between before after) % 2 ^ 64
   pub bytes_dropped : (before.refused_bytes + sums.bytes_dropped) % 2 ^ 64 ≡ after.refused_bytes % 2 ^ 64
   pub packets_dropped : (before.refusals + sums.packets_dropped) % 2 ^ 64 ≡ after.refusals % 2 ^ 64
-
--- The writer reports its packets, and it takes each packet whole or refuses it.
-abbrev pub ReportsWhole : WriterKind → Type 0
-ReportsWhole kind = (kind.reports ≡ true) × (kind.takes_whole ≡ true)
 
 module _ {W A : Type 0} (history : W → PacketHistory) (given : Given A) (outcome : Outcome W A) where
   -- the steps, each with its reply
@@ -133,7 +130,7 @@ module _ {W A : Type 0} (history : W → PacketHistory) (given : Given A) (outco
     pub replies : HasReplies
     -- Over a writer that takes each packet whole or refuses it: as many hands and flushes returned an error as the
     -- writer refused packets in the run, modulo 2 to the 64.
-    pub errors : given.kind.takes_whole ≡ true → after_of.refusals % 2 ^ 64 ≡ (given.before.refusals + error_count turns_of) % 2 ^ 64
+    pub errors : TakesWhole given.kind → after_of.refusals % 2 ^ 64 ≡ (given.before.refusals + error_count turns_of) % 2 ^ 64
     -- Over a writer that reports its packets and takes each whole, if it refused nothing in the run: no cut of the
     -- kept lines that ends at every flush has fewer packets, the held text counted as one if it is not empty.
     pub fewest : ReportsWhole given.kind → after_of.refusals ≡ given.before.refusals → HasFewest
@@ -148,13 +145,13 @@ module _ {W A : Type 0} (history : W → PacketHistory) (given : Given A) (outco
     -- text are the frames of the kept lines, in order; of an oversize line whose hand returned Ok(n), its first n
     -- bytes. Over a writer that takes each packet whole, n is the length of the line, and this is `stream` of the
     -- headline.
-    pub taken : given.kind.reports ≡ true → concat packets_of ++ outcome.held ≡ taken_stream given.format (kept_counts (line_by given) turns_of)
+    pub taken : Reports given.kind → concat packets_of ++ outcome.held ≡ taken_stream given.format (kept_counts (line_by given) turns_of)
     -- Over every writer, the held text is within the packer's capacity.
     pub held : length outcome.held ≤ given.format.capacity
     -- The sums of the report are those of what the writer took and refused in the run.
-    pub stats : given.kind.reports ≡ true → AreSumsBetween given.before after_of outcome.stats
+    pub stats : Reports given.kind → AreSumsBetween given.before after_of outcome.stats
     -- The packets that the writer had taken before the run come first in its history.
-    pub earlier : given.kind.reports ≡ true → Extends given.before after_of
+    pub earlier : Reports given.kind → Extends given.before after_of
     -- The kept metrics have texts in UTF-8, numbers that a `Decimal` holds, and times of 64 bits.
     pub representable : All IsRepresentable (kept given.metric_of turns_of)
     -- With the newline as ending, and kept metrics that are free of separators: a listener reads the kept metrics, and

@@ -4,7 +4,7 @@ use Rattle.std.specs.List.{filter, sum_by, zip}
 use Rattle.cadence_errors.specs.declared.SinkError.{SinkError}
 use Rattle.cadence_errors.specs.declared.SinkError.TheVariants.{OutOfMemory}
 use Rattle.cadence_flow.specs.Sums.{zero_sums}
-use Rattle.cadence_flow.specs.Writer.{PacketHistory, WriterKind, WhenItReports, WhenItTakesWhole, after_packet}
+use Rattle.cadence_flow.specs.Writer.{PacketHistory, WriterKind, Reports, TakesWhole, after_packet}
 use Rattle.cadence_send.specs.declared.lasting.Losses.{Losses}
 
 -- whether the error says that memory ran out
@@ -54,12 +54,12 @@ losses_of fates =
 -- The writer below took the packet whole, and it is not lost.
 pub record IsSent (kind : WriterKind) (old new : PacketHistory) (before after : List Fate) (packet : List ℕ) : Type 0 where
   pub fate : after ≡ before ++ (packet, false) ∷ []
-  pub taken : WhenItReports kind (new ≡ after_packet old packet)
+  pub taken : Reports kind → new ≡ after_packet old packet
 
 -- The packet is lost. A writer below that takes whole did not take it.
 pub record IsLost (kind : WriterKind) (old new : PacketHistory) (before after : List Fate) (packet : List ℕ) : Type 0 where
   pub fate : after ≡ before ++ (packet, true) ∷ []
-  pub kept : WhenItTakesWhole kind (new.packets ≡ old.packets)
+  pub kept : TakesWhole kind → new.packets ≡ old.packets
 
 -- The packet was sent, or it is lost.
 abbrev pub IsSentOrLost : WriterKind → PacketHistory → PacketHistory → List Fate → List Fate → List ℕ → Type 0

@@ -1,10 +1,10 @@
 -- The packets that are sent for words, and for the lines of a text.
-use Rattle.std.specs.Prelude.{[], ◌∷◌, ◌≡◌, ℕ, ◌==◌, ◌-◌, ◌<◌, ◌≤◌, ◌⊎◌, Option, None, Some, List, ◌++◌, true}
+use Rattle.std.specs.Prelude.{[], ◌∷◌, ◌≡◌, ℕ, ◌==◌, ◌-◌, ◌<◌, ◌≤◌, ◌⊎◌, Option, None, Some, List, ◌++◌}
 use Rattle.std.specs.Prelude.{if◌then◌else◌, length, slice_index, take}
 use Rattle.std.specs.List.{AllZip, filter_map, slice_split}
 use Rattle.cadence_flow.specs.Frame.{stream}
 use Rattle.cadence_flow.specs.Packer.{Packer, packer_state, whole_text}
-use Rattle.cadence_flow.specs.Writer.{PacketHistory, WriterKind}
+use Rattle.cadence_flow.specs.Writer.{PacketHistory, Reports, TakesWhole, WriterKind}
 use Rattle.cadence_words.specs.Lines.{IsLineOfText, IsLineOfWords}
 use Rattle.cadence_words.specs.declared.defaults.Defaults.{Defaults}
 
@@ -39,7 +39,7 @@ AreLinesOf d texts lines = (given : List (Option (List ℕ))) × AllZip (AsksFor
 pub record TakesLines {W : Type 0} (kind : W → WriterKind) (history : W → PacketHistory) (old new : Packer W) (lines : List (List ℕ)) : Type 0 where
   pub same_kind : kind new.writer ≡ kind old.writer
   pub same_format : new.format ≡ old.format
-  pub text : (kind old.writer).reports ≡ true → (kind old.writer).takes_whole ≡ true
+  pub text : Reports (kind old.writer) → TakesWhole (kind old.writer)
       → whole_text (packer_state history new) ≡ whole_text (packer_state history old) ++ stream old.format lines
 
 -- The packer took the lines of the texts that ask for a metric.

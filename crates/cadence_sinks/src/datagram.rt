@@ -163,7 +163,7 @@ impl<D: DatagramSocket, R: Wait + Clone + Drop, A: Allocator + Clone> PackedSock
 }
 
 impl<D: DatagramSocket, R: Wait + Drop, A: Allocator> PackedSocket<D, R, A> {
-    ghost use Rattle.cadence_flow.specs.Packer.{Fits};
+    ghost use Rattle.cadence_flow.specs.Frame.{Fits};
     ghost use Rattle.cadence_flow.specs.Packed.{bytes_of};
     ghost use Rattle.cadence_flow.specs.RecordedPacker.{packer_of};
     ghost use Rattle.cadence_sinks.specs.Shows.{SocketShows};
@@ -177,7 +177,7 @@ impl<D: DatagramSocket, R: Wait + Drop, A: Allocator> PackedSocket<D, R, A> {
         line: &str,
         fault: &mut SinkError,
     ) -> Result<Packed<SocketLines<D, R, A>>, Refused<SocketLines<D, R, A>>>
-        requires { Fits (packer_of lines.old) line.now → ⊥ }
+        requires { Fits (packer_of lines.old).format (packer_of lines.old).held line.now → ⊥ }
         ensures answer { IsBufferedAnswer D.may_give (buffer_of self.now)
             line.now (opened bytes_of result fault.new) }
         ensures shows { SocketShows D.may_give (buffer_of self.now) line.now result fault.new }

@@ -63,11 +63,12 @@ impl<A: Allocator + Clone> HeldLines<A> {
 impl<A: Allocator> HeldLines<A> {
     ghost use Rattle.std.specs.Prelude.{[]};
     ghost use Rattle.cadence_flow.specs.Frame.{is_oversize};
-    ghost use Rattle.cadence_flow.specs.HeldLines.{FitsBeside, HoldsText, TakesText, with_text};
+    ghost use Rattle.cadence_flow.specs.Frame.{Fits};
+    ghost use Rattle.cadence_flow.specs.HeldLines.{HoldsText, TakesText, with_text};
 
     /// Returns whether a line and its ending fit the capacity beside the held text.
     pub fn fits(&self, line: &[u8]) -> bool
-        ensures { IsTrue result ↔ FitsBeside self.now line.now }
+        ensures { IsTrue result ↔ Fits self.now.format self.now.text line.now }
     {
         line.len() + self.ending.len() <= self.capacity - self.bytes.len() + self.start
     }

@@ -1,9 +1,9 @@
 //! The packer: lines that are held until they are written as one packet.
-ghost use Rattle.std.specs.Prelude.{◌≡◌, ◌<◌, ◌≤◌, ◌∷◌, ◌++◌, [], length, take, drop, true, is_ok, vec_len, ◌↔◌, OnOk, OnErr, IfErr, IsTrue};
+ghost use Rattle.std.specs.Prelude.{◌≡◌, ◌<◌, ◌≤◌, ◌∷◌, ◌++◌, [], length, take, drop, is_ok, vec_len, ◌↔◌, OnOk, OnErr, IfErr, IsTrue};
 ghost use Rattle.std.specs.Option.{ok_or};
 ghost use Rattle.cadence_flow.specs.Offers.{FlushesOffers, SendsOffers};
 ghost use Rattle.cadence_flow.specs.Packer.{Flushes, HasCause};
-ghost use Rattle.cadence_flow.specs.Writer.{RefusedNothing, Sends};
+ghost use Rattle.cadence_flow.specs.Writer.{RefusedNothing, Reports, Sends, TakesWhole};
 
 use super::{HeldLines, PacketWriter};
 use cadence_errors::SinkError;
@@ -63,7 +63,8 @@ impl<T: PacketWriter, A: Allocator + Clone> LineBuffer<T, A> {
 impl<T: PacketWriter, A: Allocator> LineBuffer<T, A> {
     ghost use Rattle.std.specs.Borrow.{Lends, sem};
     ghost use Rattle.cadence_flow.specs.Offers.{WritesOffers};
-    ghost use Rattle.cadence_flow.specs.Packer.{Fits, FlushesHeld, HoldsLine, ReplacesWriter, WritesLine, with_writer};
+    ghost use Rattle.cadence_flow.specs.Frame.{Fits};
+    ghost use Rattle.cadence_flow.specs.Packer.{FlushesHeld, HoldsLine, ReplacesWriter, WritesLine, with_writer};
     ghost use Rattle.cadence_flow.specs.contracts.io.line_buffer.LineBuffer.{the_row};
 
     /// Writes a line and returns its length. It takes no memory. There are three cases:
@@ -92,7 +93,7 @@ impl<T: PacketWriter, A: Allocator> LineBuffer<T, A> {
     /// Writes a line that doesn't fit beside the held text, as `write` does: the held text is flushed, and then the line
     /// is held, or written alone if it is oversize. So a caller that asks `hold` first doesn't ask for room twice.
     pub fn write_late(&mut self, line: &[u8], fault: &mut SinkError) -> Option<usize>
-        requires { Fits self.old line.now → ⊥ }
+        requires { Fits self.old.format self.old.held line.now → ⊥ }
         ensures writes { WritesLine T.kind T.history
             self.old self.new line.now (ok_or result fault.new) }
         ensures offers { WritesOffers self.old.format (T.offers self.old.writer)
@@ -108,7 +109,7 @@ impl<T: PacketWriter, A: Allocator> LineBuffer<T, A> {
 
     /// Returns whether a line and its ending fit the capacity beside the held text.
     pub fn fits(&self, line: &[u8]) -> bool
-        ensures { IsTrue result ↔ Fits self.now line.now }
+        ensures { IsTrue result ↔ Fits self.now.format self.now.held line.now }
     {
         self.lines.fits(line)
     }
@@ -200,15 +201,15 @@ fn send<T: PacketWriter>(bytes: &[u8], to: &mut T, fault: &mut SinkError) -> (us
     ensures unchanged { length bytes.now ≡ 0 → T.history to.new ≡ T.history to.old }
     ensures ok { OnOk (ok_or result.1 fault.new)
         (RefusedNothing (T.history to.old) (T.history to.new)) }
-    ensures sent { (T.kind to.old).reports ≡ true →
+    ensures sent { Reports (T.kind to.old) →
         OnOk (ok_or result.1 fault.new) (Sends (T.history to.old) (T.history to.new) bytes.now) }
     ensures cause { IfErr (ok_or result.1 fault.new)
         (HasCause (T.kind to.old) (T.history to.old) (T.history to.new)
         (take result.0 bytes.now) (drop result.0 bytes.now)) }
-    ensures one_packet { (T.kind to.old).reports ≡ true → (T.kind to.old).takes_whole ≡ true →
+    ensures one_packet { Reports (T.kind to.old) → TakesWhole (T.kind to.old) →
         0 < length bytes.now → OnOk (ok_or result.1 fault.new)
         ((T.history to.new).packets ≡ (T.history to.old).packets ++ bytes.now ∷ []) }
-    ensures no_packet { (T.kind to.old).takes_whole ≡ true →
+    ensures no_packet { TakesWhole (T.kind to.old) →
         OnErr (ok_or result.1 fault.new) ((result.0 ≡ 0)
         × ((T.history to.new).packets ≡ (T.history to.old).packets)) }
     ensures offers { 0 < length bytes.now →

@@ -1,5 +1,6 @@
 use Rattle.std.proofs.Common.{◌≡◌, length, rules}
-use Rattle.cadence_flow.specs.Packer.{Fits, with_line_held}
+use Rattle.cadence_flow.specs.Frame.{Fits}
+use Rattle.cadence_flow.specs.Packer.{with_line_held}
 use Rattle.cadence_flow.proofs.PackerCut.{cut_holds}
 use Rattle.cadence_flow.proofs.recorded_packer.RecordedPacker.hold.Goals as goal
 
@@ -7,7 +8,7 @@ pub invariant_of-self-2-clause-cut : goal.invariant_of-self-2-clause-cut
 invariant_of-self-2-clause-cut g c =
     let old = c.args.self.now.lines in
     let line = c.args.line.now in
-    let fits : Fits old line = search rules in
+    let fits : Fits old.format old.held line = search rules in
     let is : c.hold.new.self ≡ with_line_held old line = search rules in
     rw c.note.ensures (cut_holds g.W.PacketWriter.kind g.W.PacketWriter.history old c.hold.new.self c.args.self.now.accepted.items line
     (length line) fits is c.args.self.now.cut)

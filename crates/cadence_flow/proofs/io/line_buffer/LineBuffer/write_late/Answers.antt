@@ -1,7 +1,7 @@
 use Rattle.std.proofs.Common.{◌≡◌, ◌<◌, ap, ◌∙◌, sym, subst, arith, rules, [], length, true}
 use Rattle.std.specs.Option.{ok_or}
-use Rattle.cadence_flow.specs.Frame.{is_oversize, size_of}
-use Rattle.cadence_flow.specs.HeldLines.{FitsBeside, HeldText}
+use Rattle.cadence_flow.specs.Frame.{Fits, is_oversize, size_of}
+use Rattle.cadence_flow.specs.HeldLines.{HeldText}
 use Rattle.cadence_flow.specs.Packer.{packer_state}
 use Rattle.cadence_flow.specs.Writer.{WriterKind, WritesPacket}
 use Rattle.std.proofs.lemmas.Bool.{false≢true}
@@ -20,7 +20,7 @@ returns-clause-writes g c =
     let writer = ap (λ p. p.writer) opened in
     let emptied : held.text ≡ [] = ap (λ p. p.held) opened ∙ flushed.flushes.empties in
     let same_kind : kind c.self.inside.inner ≡ kind was.writer = ap kind writer ∙ flushed.same_kind in
-    let no_room : FitsBeside held line → ⊥ = λ fits. false≢true (sym c.if-hold.false ∙ c.hold.ensures.exact.1 fits) in
+    let no_room : Fits held.format held.text line → ⊥ = λ fits. false≢true (sym c.if-hold.false ∙ c.hold.ensures.exact.1 fits) in
     let passes : was.format.capacity < size_of was.format line =
     omega (
       arith,
