@@ -3,11 +3,9 @@ ghost use Rattle.std.specs.Prelude.{◌≡◌, ◌≢◌, ◌∷◌, ◌++◌, [
 ghost use mir.Syntax.{w64};
 ghost use Rattle.cadence_aggregate.specs.Lines.{sample_of};
 ghost use Rattle.cadence_aggregate.specs.Server.{Sample};
-ghost use Rattle.cadence_read.specs.Listed.{IsListed};
-ghost use Rattle.cadence_text.specs.Line.{line_of};
+ghost use Rattle.cadence_read.specs.Listed.{IsMetricOf};
 ghost use Rattle.cadence_text.specs.OneReading.{IsNoSeparator};
 ghost use Rattle.cadence_text.specs.Owned.{metric_of_owned};
-ghost use Rattle.cadence_value.specs.Finds.{PrintsAs};
 ghost use Rattle.cadence_value.specs.Number.{whole};
 ghost use Rattle.cadence_aggregating.specs.Says.{LineSays, Says};
 ghost use Rattle.cadence_aggregating.specs.Additions.{IsAddition};
@@ -103,7 +101,7 @@ fn line_of_metric<'a>(
     metric: &OwnedMetric,
     context: &'a mut String,
 ) -> Result<Line<'a>, AllocError>
-    requires { PrintsAs IsListed line_of line.now (metric_of_owned metric.now) }
+    requires { IsMetricOf line.now (metric_of_owned metric.now) }
     ensures { IfOk result (λ said. LineSays line.now (sample_of said)) }
 {
     line_reads_one_way();

@@ -3,8 +3,8 @@ use Rattle.std.specs.Prelude.{◌≡◌, ◌<◌, ◌≤◌, ℕ, List, ◌++◌
 use Rattle.cadence_text.specs.Line.{line_of}
 use Rattle.cadence_text.specs.Metric.{Metric}
 use Rattle.cadence_text.specs.Owned.{metric_of_owned}
-use Rattle.cadence_read.specs.Listed.{IsListed}
-use Rattle.cadence_value.specs.Finds.{HasNone, PrintsAs}
+use Rattle.cadence_read.specs.Listed.{IsListed, IsMetricOf}
+use Rattle.cadence_value.specs.Finds.{HasNone}
 use Rattle.cadence_listen.specs.declared.place.Reading.{Reading}
 use Rattle.cadence_listen.specs.declared.place.Reading.TheVariants.{Read, Unread}
 
@@ -20,5 +20,5 @@ pub record IsPlace (line : List ℕ) (at : ℕ) : Type 0 where
 -- If a metric was read, this is its line. Otherwise no metric has this line, and the place is one up to which the line of
 -- some metric is the same.
 abbrev pub ReadsLine : {Z : Type 0} → List ℕ → Reading Z → Type 0
-ReadsLine line (Read metric) = PrintsAs IsListed line_of line (metric_of_owned metric)
-ReadsLine line (Unread at) = HasNone (PrintsAs IsListed line_of line) × IsPlace line at
+ReadsLine line (Read metric) = IsMetricOf line (metric_of_owned metric)
+ReadsLine line (Unread at) = HasNone (IsMetricOf line) × IsPlace line at

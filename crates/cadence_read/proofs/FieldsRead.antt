@@ -9,7 +9,7 @@ use Rattle.std.proofs.lemmas.List.Splits.{join_with_byte-slice_split, length-sli
 use Rattle.cadence_text.specs.Line.{tag_text}
 use Rattle.cadence_text.specs.Metric.{Tag}
 use Rattle.cadence_value.specs.Number.{Number, decimal_text, number_text, numbers_text, joined_texts}
-use Rattle.cadence_value.specs.Finds.{HasNone, PrintsAs}
+use Rattle.cadence_value.specs.Finds.{HasNone}
 use Rattle.cadence_value.proofs.lists.SplitTexts.{Lacks, lacks_no, cut_at, each_image, each_mapped}
 use Rattle.cadence_value.proofs.digits.Digits.{decimal_text_once}
 use Rattle.cadence_text.proofs.grammar.LineText.{joined_texts-joined, keyed_text, key_text-keyed, plain_lacks_colon, number_lacks, tag_lacks}
@@ -17,7 +17,7 @@ use Rattle.cadence_read.specs.declared.fault.ReadFault.{ReadFault}
 use Rattle.cadence_read.specs.declared.fault.ReadFault.TheVariants.{NotMetrics, OutOfMemory}
 use Rattle.cadence_read.specs.LineTexts.{pieces_left, tags_text}
 use Rattle.cadence_read.specs.Listed.{IsListedTag, IsText}
-use Rattle.cadence_read.specs.Reads.{FailsAs, ReadsOrFails}
+use Rattle.cadence_read.specs.Reads.{FailsAs, PrintsAs, ReadsOrFails}
 use Rattle.cadence_read.proofs.LineParts.{key_listed, text_listed}
 use Rattle.cadence_read.proofs.Pieces.{pieces, pieces-joined, refused_at}
 

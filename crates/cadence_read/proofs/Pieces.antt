@@ -8,7 +8,8 @@ use Rattle.std.proofs.lemmas.List.Elements.{All-from_recursion, All-push, recurs
 use Rattle.std.proofs.lemmas.List.Splits.{slice_split_none, slice_split_at, slice_split-cons_no, join_with_byte-slice_split, length-slice_split}
 use Rattle.cadence_value.proofs.lists.SplitTexts.{Lacks, each_append}
 use Rattle.cadence_read.specs.LineTexts.{pieces_left}
-use Rattle.cadence_value.specs.Finds.{HasNone, PrintsAs}
+use Rattle.cadence_value.specs.Finds.{HasNone}
+use Rattle.cadence_read.specs.Reads.{PrintsAs}
 
 -- the pieces of a text, split at each such byte
 abbrev pub pieces : ℕ → List ℕ → List (List ℕ)

@@ -1,9 +1,10 @@
 -- The texts between the separators of a line.
-use Rattle.std.specs.Prelude.{◌≡◌, ℕ, ◌==◌, Option, Some, None, List, [], ◌∷◌, ◌++◌, codes}
+use Rattle.std.specs.Prelude.{◌≡◌, ◌≢◌, ℕ, ◌==◌, Option, Some, None, List, [], ◌∷◌, ◌++◌, All, codes}
 use Rattle.std.specs.List.{slice_split}
 use Rattle.std.specs.Option.{option_map, option_copied}
 use Rattle.cadence_text.specs.Line.{kind_text, tag_text}
 use Rattle.cadence_text.specs.Metric.{Metric, Tag}
+use Rattle.cadence_value.specs.Finds.{Finds}
 use Rattle.cadence_value.specs.Number.{decimal_text, number_text, joined_texts, numbers_text}
 use Rattle.cadence_read.specs.declared.splitting.TextsOfLine.{TextsOfLine}
 
@@ -47,6 +48,10 @@ field_parts t =
 -- the parts of a line between its bars
 abbrev pub parts_of_texts : LineTexts → List (List ℕ)
 parts_of_texts t = (t.name ++ (codes ":" ++ t.numbers)) ∷ t.kind ∷ field_parts t
+
+-- If texts were found, they make these parts, and the name has no colon. If none were, no texts with such a name do.
+abbrev pub FindsTexts : List (List ℕ) → Option LineTexts → Type 0
+FindsTexts parts result = Finds (λ texts. All (λ byte. byte ≢ 58) texts.name × (parts_of_texts texts ≡ parts)) result
 
 -- the pieces, split at each mark, of the text that is left, or none if no text is left
 abbrev pub pieces_left : ℕ → Option (List ℕ) → List (List ℕ)

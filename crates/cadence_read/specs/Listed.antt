@@ -3,6 +3,7 @@ use Rattle.std.specs.Prelude.{◌≡◌, ⊤, ℕ, List, All, Result, Ok, Err, V
 use Rattle.std.specs.List.{AllZip, flat_map}
 use Rattle.std.specs.Str.{IsUtf8}
 use Rattle.cadence_text.specs.declared.line.record.owned.OwnedMetric.{OwnedMetric}
+use Rattle.cadence_text.specs.Line.{line_of}
 use Rattle.cadence_text.specs.Metric.{Metric, Tag}
 use Rattle.cadence_text.specs.OneReading.{IsFreeOfSeparators, IsFreeTag, IsFreeText, IsPacketOf}
 use Rattle.cadence_text.specs.Owned.{metrics_of}
@@ -23,6 +24,10 @@ pub record IsListedTag (tag : Tag) : Type 0 where
 pub record IsListed (metric : Metric) : Type 0 where
   pub representable : IsRepresentable metric
   pub free : IsFreeOfSeparators metric
+
+-- The metric can be read from a packet, and this is its line.
+abbrev pub IsMetricOf : List ℕ → Metric → Type 0
+IsMetricOf line metric = IsListed metric × (line_of metric ≡ line)
 
 -- The metrics can be read from a packet, and this is their packet.
 pub record IsListOf (packet : List ℕ) (metrics : List Metric) : Type 0 where

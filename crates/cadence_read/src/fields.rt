@@ -1,16 +1,8 @@
 //! Reads the fields of a line, each from its text.
-ghost use Rattle.std.specs.Prelude.{◌<◌, ◌^◌, ⊤, All, IfSome, map};
-ghost use Rattle.std.specs.Option.{option_copied, option_map};
-ghost use Rattle.std.specs.String.{string_bytes};
-ghost use Rattle.cadence_text.specs.Line.{kind_text, tag_text};
-ghost use Rattle.cadence_value.specs.Number.{numbers_text};
-ghost use Rattle.cadence_value.specs.Number.{decimal_text, number_text, IsDecimal};
+ghost use Rattle.std.specs.Prelude.{All};
+ghost use Rattle.std.specs.Option.{option_copied};
 ghost use Rattle.cadence_text.specs.OneReading.{IsNoSeparator};
-ghost use Rattle.cadence_text.specs.Owned.{tag_of_owned};
-ghost use Rattle.cadence_read.specs.LineTexts.{tags_text};
-ghost use Rattle.cadence_read.specs.Listed.{IsListedTag, IsText};
-ghost use Rattle.cadence_value.specs.Finds.{Reads};
-ghost use Rattle.cadence_read.specs.Reads.{ReadsOrFails};
+ghost use Rattle.cadence_read.specs.Reads.{ReadsContainer, ReadsKind, ReadsNumbers, ReadsRate, ReadsTag, ReadsTags, ReadsText, ReadsTime};
 
 use crate::fault::ReadFault;
 use crate::splitting::split_piece;
@@ -22,7 +14,7 @@ use std::alloc::Allocator;
 // Copies a text that has no separators. It fails if the text is not UTF-8.
 pub(crate) fn read_free<A: Allocator>(alloc: A, text: &[u8]) -> Result<String<A>, ReadFault>
     requires { All IsNoSeparator text.now }
-    ensures { ReadsOrFails IsText (λ t. t) text.now string_bytes result }
+    ensures { ReadsText text.now result }
 {
     let Ok(text) = str::from_utf8(text) else {
         return Err(ReadFault::NotMetrics);
@@ -32,7 +24,7 @@ pub(crate) fn read_free<A: Allocator>(alloc: A, text: &[u8]) -> Result<String<A>
 
 // Copies a tag's key or text, or a container. It fails if the text has a separator or is not UTF-8.
 fn read_text<A: Allocator>(alloc: A, text: &[u8]) -> Result<String<A>, ReadFault>
-    ensures { ReadsOrFails IsText (λ t. t) text.now string_bytes result }
+    ensures { ReadsText text.now result }
 {
     if !is_free(text) {
         return Err(ReadFault::NotMetrics);
@@ -46,7 +38,7 @@ pub(crate) fn read_numbers<A: Allocator>(
     alloc: A,
     text: &[u8],
 ) -> Result<Vec<Decimal, A>, ReadFault>
-    ensures { ReadsOrFails (All IsDecimal) numbers_text text.now (λ v. v.items) result }
+    ensures { ReadsNumbers text.now result }
 {
     if text.is_empty() {
         return Ok(Vec::new(alloc));
@@ -66,15 +58,14 @@ pub(crate) fn read_numbers<A: Allocator>(
 
 // Returns the kind that has this type text, or `None` if no kind has it.
 pub(crate) fn read_kind(text: &[u8]) -> Option<MetricType>
-    ensures { Reads (λ _. ⊤) kind_text text.now result }
+    ensures { ReadsKind text.now result }
 {
     MetricType::from_text(text)
 }
 
 // Reads the sampling rate, if the line has one.
 pub(crate) fn read_rate(text: Option<&[u8]>) -> Result<Option<Decimal>, ReadFault>
-    ensures { ReadsOrFails (λ rate. IfSome rate IsDecimal) (option_map number_text)
-        (option_copied text.entry) (λ rate. rate) result }
+    ensures { ReadsRate (option_copied text.entry) result }
 {
     let Some(text) = text else {
         return Ok(None);
@@ -87,7 +78,7 @@ pub(crate) fn read_rate(text: Option<&[u8]>) -> Result<Option<Decimal>, ReadFaul
 
 // Reads a tag: a key and a text with a colon between them, or a text alone.
 fn read_tag<A: Allocator + Clone>(alloc: &A, text: &[u8]) -> Result<OwnedTag<A>, ReadFault>
-    ensures { ReadsOrFails IsListedTag tag_text text.now tag_of_owned result }
+    ensures { ReadsTag text.now result }
 {
     let Some((key, text)) = split_once(text, b':') else {
         let text = read_text(alloc.clone()?, text)?;
@@ -105,8 +96,7 @@ pub(crate) fn read_tags<A: Allocator + Clone>(
     alloc: &A,
     text: Option<&[u8]>,
 ) -> Result<Vec<OwnedTag<A>, A>, ReadFault>
-    ensures { ReadsOrFails (All IsListedTag) tags_text (option_copied text.entry)
-        (λ v. map tag_of_owned v.items) result }
+    ensures { ReadsTags (option_copied text.entry) result }
 {
     let mut tags = Vec::new(alloc.clone()?);
     let mut left = text;
@@ -126,8 +116,7 @@ pub(crate) fn read_container<A: Allocator>(
     alloc: A,
     text: Option<&[u8]>,
 ) -> Result<Option<String<A>>, ReadFault>
-    ensures { ReadsOrFails (λ container. IfSome container IsText) (λ container. container)
-        (option_copied text.entry) (option_map string_bytes) result }
+    ensures { ReadsContainer (option_copied text.entry) result }
 {
     let Some(text) = text else {
         return Ok(None);
@@ -138,8 +127,7 @@ pub(crate) fn read_container<A: Allocator>(
 
 // Reads the time in seconds since 1970, if the line has one.
 pub(crate) fn read_time(text: Option<&[u8]>) -> Result<Option<u64>, ReadFault>
-    ensures { ReadsOrFails (λ time. IfSome time (λ t. t < 2 ^ 64)) (option_map decimal_text)
-        (option_copied text.entry) (λ time. time) result }
+    ensures { ReadsTime (option_copied text.entry) result }
 {
     let Some(text) = text else {
         return Ok(None);

@@ -1,11 +1,8 @@
 //! Reads the metric of a line.
 ghost use Rattle.std.specs.Prelude.{◌∷◌, ◌++◌, All};
-ghost use Rattle.cadence_text.specs.Line.{line_of};
 ghost use Rattle.cadence_text.specs.OneReading.{IsNoSeparator};
-ghost use Rattle.cadence_text.specs.Owned.{metric_of_owned};
-ghost use Rattle.cadence_read.specs.LineTexts.{field_texts, line_texts};
-ghost use Rattle.cadence_read.specs.Listed.{IsListed};
-ghost use Rattle.cadence_read.specs.Reads.{ReadsOrFails};
+ghost use Rattle.cadence_read.specs.LineTexts.{line_texts};
+ghost use Rattle.cadence_read.specs.Reads.{ReadsFields, ReadsMetric};
 
 use crate::fault::ReadFault;
 use crate::fields::{
@@ -24,7 +21,7 @@ fn read_texts<A: Allocator + Clone>(
     texts: TextsOfLine<'_>,
 ) -> Result<OwnedMetric<A>, ReadFault>
     requires { All IsNoSeparator texts.name.now }
-    ensures { ReadsOrFails IsListed field_texts (line_texts texts.entry) metric_of_owned result }
+    ensures { ReadsFields (line_texts texts.entry) result }
 {
     let Some(kind) = read_kind(texts.kind) else {
         return Err(ReadFault::NotMetrics);
@@ -56,7 +53,7 @@ pub(crate) fn read_named<A: Allocator + Clone>(
     rest: &[u8],
 ) -> Result<OwnedMetric<A>, ReadFault>
     requires { All IsNoSeparator name.now }
-    ensures { ReadsOrFails IsListed line_of (name.now ++ 58 ∷ rest.now) metric_of_owned result }
+    ensures { ReadsMetric (name.now ++ 58 ∷ rest.now) result }
 {
     let Some(texts) = split_fields(name, rest) else {
         return Err(ReadFault::NotMetrics);
@@ -72,7 +69,7 @@ pub(crate) fn read_named<A: Allocator + Clone>(
 /// # Errors
 /// `NotMetrics` if no metric has this line, and `OutOfMemory`.
 pub fn read_line<A: Allocator + Clone>(alloc: &A, line: &[u8]) -> Result<OwnedMetric<A>, ReadFault>
-    ensures { ReadsOrFails IsListed line_of line.now metric_of_owned result }
+    ensures { ReadsMetric line.now result }
 {
     let Some((name, rest)) = split_name(line) else {
         return Err(ReadFault::NotMetrics);

@@ -1,11 +1,10 @@
 //! Reads the metrics of a packet, and of the packets of a run.
-ghost use Rattle.std.specs.Prelude.{◌≡◌, ◌==◌, ◌∷◌, ◌++◌, [], List, All, Err, IfOk, map};
+ghost use Rattle.std.specs.Prelude.{◌≡◌, ◌==◌, ◌∷◌, ◌++◌, [], List, Err, IfOk, map};
 ghost use Rattle.std.specs.List.{slice_split};
-ghost use Rattle.cadence_text.specs.Line.{line_of};
 ghost use Rattle.cadence_text.specs.Metric.{Metric};
 ghost use Rattle.cadence_text.specs.Owned.{metrics_of};
-ghost use Rattle.cadence_read.specs.Listed.{AreListed, IsListed, IsListOf, ReadsPacket};
-ghost use Rattle.cadence_read.specs.Reads.{ReadsOrFails};
+ghost use Rattle.cadence_read.specs.Listed.{AreListed, IsListOf, ReadsPacket};
+ghost use Rattle.cadence_read.specs.Reads.{ReadsMetrics};
 ghost use Rattle.cadence_read.specs.declared.fault.ReadFault.TheVariants.{NotMetrics};
 
 use crate::fault::ReadFault;
@@ -31,8 +30,7 @@ fn read_lines<A: Allocator + Clone>(
     alloc: &A,
     lines: &[u8],
 ) -> Result<Vec<OwnedMetric<A>, A>, ReadFault>
-    ensures { ReadsOrFails (All IsListed) (map line_of)
-        (slice_split (λ byte. byte == 10) lines.now) metrics_of result }
+    ensures { ReadsMetrics (slice_split (λ byte. byte == 10) lines.now) result }
 {
     let mut metrics = Vec::with_capacity(alloc.clone()?, room_for(lines))?;
     let mut left = Some(lines);

@@ -3,8 +3,7 @@ ghost use Rattle.std.specs.Prelude.{◌≡◌, ◌≢◌, ◌==◌, ◌∷◌, �
 ghost use Rattle.std.specs.List.{AllByRecursion, slice_split};
 ghost use Rattle.std.specs.Option.{option_copied, option_map};
 ghost use Rattle.cadence_text.specs.OneReading.{IsNoSeparator};
-ghost use Rattle.cadence_read.specs.LineTexts.{IsMarked, parts_of_texts, pieces_left, plain_line_texts, line_texts};
-ghost use Rattle.cadence_value.specs.Finds.{Reads};
+ghost use Rattle.cadence_read.specs.LineTexts.{FindsTexts, IsMarked, pieces_left, plain_line_texts, line_texts};
 
 use cadence_text::line::first_separator;
 use cadence_value::bytes::split_once;
@@ -101,8 +100,7 @@ pub(crate) fn plain_texts<'a>(name: &'a [u8], numbers: &'a [u8], kind: &'a [u8])
 #[inline(always)]
 pub(crate) fn split_fields<'a>(name: &'a [u8], rest: &'a [u8]) -> Option<TextsOfLine<'a>>
     requires { All IsNoSeparator name.now }
-    ensures texts { Reads (λ texts. All (λ byte. byte ≢ 58) texts.name) parts_of_texts
-        (slice_split (λ byte. byte == 124) (name.now ++ 58 ∷ rest.now))
+    ensures texts { FindsTexts (slice_split (λ byte. byte == 124) (name.now ++ 58 ∷ rest.now))
         (option_map line_texts result) }
     ensures name { IfSome result (λ texts. texts.name.now ≡ name.now) }
 {

@@ -14,10 +14,14 @@ pub record Denotes (text : List ℕ) (n : Number) : Type 0 where
   pub shown : number_text (number mantissa places) ≡ text
   pub lowest : IsLowestForm mantissa places n
 
+-- The text denotes the number, and a `Decimal` can be this number.
+abbrev pub DenotesDecimal : List ℕ → Number → Type 0
+DenotesDecimal text n = IsDecimal n × Denotes text n
+
 -- The result is the decimal that the text denotes. Otherwise it is the error that says why: the text denotes no number,
 -- or one with more than 30 places, or one with at most 30 places whose mantissa does not fit 128 bits.
 abbrev pub ReadsDecimal : List ℕ → Result Number ParseDecimalError → Type 0
-ReadsDecimal text (Ok n) = IsDecimal n × Denotes text n
+ReadsDecimal text (Ok n) = DenotesDecimal text n
 ReadsDecimal text (Err NotANumber) = (n : Number) → Denotes text n → ⊥
 ReadsDecimal text (Err TooManyPlaces) = (n : Number) × Denotes text n × (30 < n.places)
 ReadsDecimal text (Err TooLarge) = (n : Number) × Denotes text n × (n.places ≤ 30) × (FitsSigned w128 n.mantissa → ⊥)

@@ -1,6 +1,7 @@
 pub use Rattle.cadence_errors.specs.Errors
 pub mod Number
 pub mod Finds
+pub mod PrintedNumber
 pub mod Digits
 pub mod DenotedNumber
 pub mod Values

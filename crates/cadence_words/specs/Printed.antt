@@ -4,7 +4,7 @@ use Rattle.std.specs.Int.{w32}
 use Rattle.std.specs.Int.RustNames.{FitsSigned}
 use Rattle.std.specs.Str.Parse.{AllDigits, IsNumeral, digits_value, signed_digits_value, starts_with_minus, without_leading_sign}
 use Rattle.cadence_value.specs.Digits.{signed_integer}
-use Rattle.cadence_value.specs.Number.{IsLowestForm, Number}
+use Rattle.cadence_value.specs.Number.{IsDecimal, IsLowestForm, Number}
 
 -- The byte is `e` or `E`, which stands before an exponent.
 abbrev pub IsMark : ℕ → Type 0
@@ -49,6 +49,10 @@ pub record IsOfDigits (below : Bool) (w f : List ℕ) (exponent : ℤ) (n : Numb
   pub digits : AllDigits 10 (w ++ f)
   pub is : IsLowestForm (signed_integer below (digits_value 10 (w ++ f) * 10 ^ raised_by exponent)) (length f + lowered_by exponent) n
 
+-- A `Decimal` can be the number, which is that of these digits and this exponent.
+abbrev pub IsDecimalOfDigits : Bool → List ℕ → List ℕ → ℤ → Number → Type 0
+IsDecimalOfDigits below w f exponent n = IsDecimal n × IsOfDigits below w f exponent n
+
 -- The text, whose sign is this, says the number: digits, perhaps a dot among them, and perhaps an exponent.
 pub record SaysUnsigned (below : Bool) (text : List ℕ) (n : Number) : Type 0 where
   pub front : List ℕ
@@ -62,3 +66,7 @@ pub record SaysUnsigned (below : Bool) (text : List ℕ) (n : Number) : Type 0 w
 -- The text says the number. A plus or a minus may stand first; a zero with a minus is zero.
 abbrev pub SaysNumber : List ℕ → Number → Type 0
 SaysNumber text n = SaysUnsigned (starts_with_minus text) (without_leading_sign text) n
+
+-- The text says the number, and a `Decimal` can be this number.
+abbrev pub SaysDecimal : List ℕ → Number → Type 0
+SaysDecimal text n = IsDecimal n × SaysNumber text n

@@ -1,7 +1,7 @@
 //! The digits of a number, and the number that they and an exponent make.
 ghost use Rattle.std.specs.Prelude.{◌≡◌, ◌≢◌, ◌⊎◌, ◌+◌, ◌-◌, ◌*◌, ◌%◌, ◌^◌, ◌<◌, ◌≤◌, ◌++◌, SomeIff, FitsSigned, length, replicate};
 ghost use Rattle.std.specs.Str.Parse.{AllDigits, digits_value, digits_value_after};
-ghost use Rattle.cadence_words.specs.Printed.{IsOfDigits};
+ghost use Rattle.cadence_words.specs.Printed.{IsDecimalOfDigits};
 ghost use Rattle.cadence_words.specs.Trimmed.{IsTrimmed};
 ghost use Rattle.cadence_value.specs.Digits.{signed_integer};
 ghost use Rattle.cadence_value.specs.Finds.{Finds};
@@ -93,8 +93,7 @@ pub(crate) fn number_of(
     fraction: &[u8],
     exponent: i32,
 ) -> Option<Decimal>
-    ensures { Finds (λ n. IsDecimal n
-        × IsOfDigits is_below whole.now fraction.now exponent n) result }
+    ensures { Finds (IsDecimalOfDigits is_below whole.now fraction.now exponent) result }
 {
     if whole.len() + fraction.len() == 0 {
         return None;

@@ -1,7 +1,6 @@
 //! Reads numbers as tools print them.
-ghost use Rattle.cadence_words.specs.Printed.{SaysNumber};
+ghost use Rattle.cadence_words.specs.Printed.{SaysDecimal};
 ghost use Rattle.cadence_value.specs.Finds.{Finds};
-ghost use Rattle.cadence_value.specs.Number.{IsDecimal};
 
 use crate::digits::number_of;
 use crate::parts::{cut_dot, cut_exponent, cut_sign};
@@ -9,7 +8,7 @@ use cadence_value::decimal::{Decimal, read_number};
 
 // Returns what `read_printed` returns. It reads each text from its parts.
 fn read_parts(text: &[u8]) -> Option<Decimal>
-    ensures { Finds (λ n. IsDecimal n × SaysNumber text.now n) result }
+    ensures { Finds (SaysDecimal text.now) result }
 {
     let (is_below, unsigned) = cut_sign(text);
     let (front, exponent) = cut_exponent(unsigned)?;
@@ -23,7 +22,7 @@ fn read_parts(text: &[u8]) -> Option<Decimal>
 ///
 /// Returns `None` if the text says no number, if its exponent does not fit 32 bits, or if no `Decimal` is that number.
 pub fn read_printed(text: &str) -> Option<Decimal>
-    ensures { Finds (λ n. IsDecimal n × SaysNumber text.now n) result }
+    ensures { Finds (SaysDecimal text.now) result }
 {
     // Most texts are those that numbers print as, which are read faster.
     let text = text.as_bytes();

@@ -15,7 +15,7 @@ use Rattle.std.proofs.lemmas.Str.Parse.{digit_at, digit_from_value}
 use Rattle.std.proofs.Math.Nat.{pow-le-pow_right}
 use Rattle.cadence_value.specs.Number.{decimal_text, padded_digits}
 use Rattle.cadence_value.proofs.digits.Digits.{text_digit, text_step, text_by_steps, text_numeral, length-decimal_text-le}
-use Rattle.cadence_value.specs.Finds.{HasNone, PrintsAs, Reads}
+use Rattle.cadence_value.specs.PrintedNumber.{ReadsNatural}
 
 -- The byte of a digit.
 pub digit_byte : (d : ℕ) → digit_value d < 10 → 48 + digit_value d ≡ d
@@ -98,7 +98,7 @@ numeral_utf8 text (some, digits) = IsUtf8-from_ascii text (IsAscii-from_digits t
 
 -- Digits without a needless zero in front are the digits of exactly one whole number.
 pub whole_read : (text : List ℕ) (o : Option ℕ) → (1 < length text → get_or text 0 0 ≢ 48)
-    → SomeIff o (IsNumeral 10 text × (digits_value 10 text < 2 ^ 128)) (digits_value 10 text) → Reads (λ n. n < 2 ^ 128) decimal_text text o
+    → SomeIff o (IsNumeral 10 text × (digits_value 10 text < 2 ^ 128)) (digits_value 10 text) → ReadsNatural text o
 whole_read [] (Some x) plain (((some, digits), fits), same) = absurd (omega arith)
 whole_read (d ∷ ds) (Some x) plain (((some, digits), fits), same) =
     (omega arith, ap decimal_text same ∙ text_of_digits d ds digits (λ e. no_more ds (λ more. plain (omega arith) e)))
@@ -112,7 +112,7 @@ whole_read text None plain none = λ n is.
 
 -- A text with a needless zero in front is the text of no whole number.
 pub zero_refused : (text : List ℕ) → 1 < length text → get_or text 0 0 ≡ 48
-    → HasNone (PrintsAs (λ n. n < 2 ^ 128) decimal_text text)
+    → ReadsNatural text None
 zero_refused text long zero_first n (small, same) =
     absurd (omega (arith, long, ap (λ t. length t) same, text_plain n (ap (λ t. get_or t 0 0) same ∙ zero_first)))
 

@@ -2,7 +2,7 @@
 use Rattle.std.proofs.Common.{◌≡◌, ◌≢◌, ℕ, zero, suc, ◌+◌, ◌-◌, ◌*◌, ◌/◌, ◌%◌, ◌^◌, ◌<◌, ◌≤◌, ℤ, pos, negsuc, ◌*ℤ◌, List, [], ◌∷◌, ◌++◌}
 use Rattle.std.proofs.Common.{length, replicate, take, refl, sym, ap, ◌∙◌, ap₂, subst, arith, get_or, unsigned_abs, lit<, Bool, true, false}
 use Rattle.std.proofs.Common.{not, ◌||◌, eqb, Result, Ok, Err, ◌⊎◌, inl, inr}
-use Rattle.std.specs.Prelude.{All, FitsSigned, codes, if◌then◌else◌}
+use Rattle.std.specs.Prelude.{All, FitsSigned, None, codes, if◌then◌else◌}
 use Rattle.std.specs.Result.{result_ok}
 use mir.Syntax.{w128}
 use Rattle.std.specs.Int.{is_negative}
@@ -22,7 +22,7 @@ use Rattle.cadence_value.specs.Digits.{joined_digits, signed_integer, digits_num
 use Rattle.cadence_value.specs.Digits.{ReadsDigits}
 use Rattle.cadence_value.specs.Number.{Number, number, decimal_text, number_text, is_lowest, IsDecimal}
 use Rattle.cadence_value.specs.DenotedNumber.{Denotes, ReadsDecimal}
-use Rattle.cadence_value.specs.Finds.{HasNone, PrintsAs, Reads}
+use Rattle.cadence_value.specs.PrintedNumber.{ReadsNatural, ReadsNumber}
 use Rattle.cadence_value.proofs.lists.SplitTexts.{Lacks, lacks_no}
 use Rattle.cadence_value.proofs.digits.Digits.{text_numeral}
 use Rattle.cadence_value.proofs.digits.NumberText.{numeral, number_once, places_of, places_text-suc, unsigned_text}
@@ -112,7 +112,7 @@ read_plain w f n e digits = (
   ap (digits_value 10) (sym e) ∙ (text_numeral n).1,
 )
 
-pub plain_whole : (w f : List ℕ) → ArePlain w f → digits_value 10 w < 2 ^ 128 → HasNone (PrintsAs (λ n. n < 2 ^ 128) decimal_text w) → ⊥
+pub plain_whole : (w f : List ℕ) → ArePlain w f → digits_value 10 w < 2 ^ 128 → ReadsNatural w None → ⊥
 plain_whole w f plain small none = none (digits_value 10 w) (small, whole_text w plain.whole plain.first)
 
 pub signed_dot : (n : Number) (below : Bool) (w f unsigned text : List ℕ) → text ≡ (if below then codes "-" else []) ++ unsigned
@@ -295,6 +295,6 @@ module _ (text : List ℕ) (below : Bool) (w f : List ℕ) (parts : HasParts tex
 
 -- The digits of a text are read as the decimal that prints as the text.
 pub printed : (text : List ℕ) (below : Bool) (w f : List ℕ) (r : Result Number ParseDecimalError) → HasParts text below w f
-    → ReadsDigits below w f r → Reads IsDecimal number_text text (result_ok r)
+    → ReadsDigits below w f r → ReadsNumber text (result_ok r)
 printed text below w f (Ok n) parts (signed, decimal, same) = (decimal, ap number_text same ∙ digits_shown below w f signed ∙ parts.shown)
 printed text below w f (Err why) parts none = λ n is. none_printed text below w f parts n is.0 is.1 why none

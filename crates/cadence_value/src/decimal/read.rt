@@ -5,8 +5,8 @@ ghost use mir.Syntax.{w128};
 ghost use Rattle.std.specs.Str.Parse.{AllDigits, IsNumeral, digits_value};
 ghost use Rattle.cadence_errors.specs.Errors.{IsInvalid};
 ghost use Rattle.cadence_value.specs.Digits.{ArePlain, EndsPlain, HasParts, HaveSize, ReadsDigits, joined_digits, signed_integer};
-ghost use Rattle.cadence_value.specs.Number.{Number, decimal_text, number_text, IsDecimal};
-ghost use Rattle.cadence_value.specs.Finds.{Reads};
+ghost use Rattle.cadence_value.specs.Number.{Number, number_text};
+ghost use Rattle.cadence_value.specs.PrintedNumber.{ReadsNatural, ReadsNumber};
 ghost use Rattle.cadence_value.specs.DenotedNumber.{ReadsDecimal};
 
 use super::{Decimal, MAX_PLACES, power_of_ten};
@@ -105,7 +105,7 @@ fn read_digits(text: &[u8]) -> Option<u128>
 /// Returns the whole number that prints as this text: digits without a sign, and without a zero before other digits.
 /// Returns `None` if the text is none of these, or if the number does not fit 128 bits. Takes no memory.
 pub fn read_whole(text: &[u8]) -> Option<u128>
-    ensures { Reads (λ n. n < 2 ^ 128) decimal_text text.now result }
+    ensures { ReadsNatural text.now result }
 {
     if text.len() > 1 && text[0] == b'0' {
         return None;
@@ -237,7 +237,7 @@ fn ends_plain(digits: &[u8]) -> bool
 /// Returns `None` if no decimal prints so. Each decimal has one text, so a text with needless zeros, a plus, a minus
 /// before zero, or without digits on one side of the dot is not read. `FromStr` reads needless zeros at the end too.
 pub fn read_number(text: &[u8]) -> Option<Decimal>
-    ensures { Reads IsDecimal number_text text.now result }
+    ensures { ReadsNumber text.now result }
 {
     let (is_below, whole, fraction) = split(text)?;
     if !ends_plain(fraction) {
