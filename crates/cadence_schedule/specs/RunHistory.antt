@@ -22,6 +22,11 @@ with_answers (x ∷ xs) [] = []
 with_answers (x ∷ xs) (Some y ∷ answers) = (x, y) ∷ with_answers xs answers
 with_answers (x ∷ xs) (None ∷ answers) = with_answers xs answers
 
+-- each element, with those before it
+abbrev pub with_before : {X : Type 0} → List X → List (List X × X)
+with_before [] = []
+with_before (x ∷ xs) = ([], x) ∷ map (λ p. (x ∷ p.0, p.1)) (with_before xs)
+
 -- the elements without those that left the queue by a drop. The exits are those of the first elements; the others stay
 abbrev pub without_dropped : {X : Type 0} → List X → List Exit → List X
 without_dropped [] exits = []
@@ -129,27 +134,20 @@ module _ {A X : Type 0} (line_of : Call A → Option X) where
   in_hand history =
       if taken_count history == handed_count history + 1 then slice_get (undropped_lines history) (handed_count history) else None
 
-  -- places among the kept lines: `at` gives the places of a turn, from how many lines were kept before it. The first
-  -- list has the turns before, the second one those whose places are wanted
-  abbrev pub places_after : (ℕ → Turn A → List ℕ) → List (Turn A) → List (Turn A) → List ℕ
-  places_after at before [] = []
-  places_after at before (turn ∷ rest) =
-      at (length (kept before)) turn ++ places_after at (before ++ turn ∷ []) rest
-
-  -- the place of a flush that returned Ok
+  -- the mark of a flush that returned Ok, by how many lines were kept before it
   abbrev pub mark_at : ℕ → Turn A → List ℕ
   mark_at place (step.Flush, reply.Flushed (Ok done)) = place ∷ []
   mark_at place _ = []
 
   -- the marks: how many lines were kept before each flush that returned Ok
   abbrev pub marks : List (Turn A) → List ℕ
-  marks history = places_after mark_at [] history
+  marks history = flat_map (λ p. mark_at (length (kept p.0)) p.1) (with_before history)
 
-  -- the place of a hand that returned an error
+  -- the place of a hand that returned an error, by how many lines were kept before it
   abbrev pub refusal_at : ℕ → Turn A → List ℕ
   refusal_at place (step.Hand, reply.Handed (Err e)) = place ∷ []
   refusal_at place _ = []
 
   -- the places of refusals: how many lines were kept before each hand that returned an error
   abbrev pub refusals : List (Turn A) → List ℕ
-  refusals history = places_after refusal_at [] history
+  refusals history = flat_map (λ p. refusal_at (length (kept p.0)) p.1) (with_before history)

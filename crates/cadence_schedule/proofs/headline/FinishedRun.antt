@@ -1,7 +1,7 @@
 -- What a run shows at its end: its packets, its cut, its counts and its sums.
 use Rattle.std.proofs.Common.{◌≡◌, ◌≢◌, ℕ, zero-le, ◌+◌, ◌%◌, ◌^◌, ◌<◌, ◌≤◌, List, [], ◌∷◌, ◌++◌, Option, Some, None, Ok, Err, Bool, true}
 use Rattle.std.proofs.Common.{false, length, drop, refl, sym, ap, ◌∙◌, arith, subst, cond, map}
-use Rattle.std.specs.List.{concat}
+use Rattle.std.specs.List.{concat, flat_map}
 use Rattle.std.specs.Option.{option_to_list}
 use Rattle.std.proofs.lemmas.List.{append-nil, append_assoc, length-append, drop_at}
 use Rattle.std.proofs.lemmas.List.Concat.{flat_map-append}
@@ -18,7 +18,7 @@ use Rattle.cadence_schedule.specs.declared.steps.Reply.TheVariants as reply
 use Rattle.cadence_schedule.specs.Headline.{packets_between, AreSumsBetween}
 use Rattle.cadence_schedule.specs.RunHistory.{Turn, accepted, accepted_by, taken_count, dropped_count, kept, kept_counts, error_count}
 use Rattle.cadence_schedule.specs.RunHistory.{is_error, marks}
-use Rattle.cadence_schedule.specs.RunHistory.{refusals, refusal_at, places_after}
+use Rattle.cadence_schedule.specs.RunHistory.{refusals, refusal_at, with_before}
 use Rattle.cadence_schedule.specs.Packets.{ArePacketsOf}
 use Rattle.cadence_schedule.specs.Plan.{groups_of, IsTight, NoGroupHasRoom}
 use Rattle.cadence_schedule.specs.Moves.{RunState}
@@ -37,6 +37,10 @@ joined_groups format [] = refl
 joined_groups format (group ∷ groups) =
     ap (λ t. stream format group ++ t) (joined_groups format groups) ∙ sym (flat_map-append (frame format) group (joined groups))
 
+flat_map-map : {X Y Z : Type 0} (g : Y → List Z) (f : X → Y) (xs : List X) → flat_map g (map f xs) ≡ flat_map (λ x. g (f x)) xs
+flat_map-map g f [] = refl
+flat_map-map g f (x ∷ xs) = ap (λ l. g (f x) ++ l) (flat_map-map g f xs)
+
 -- If two equal texts have the same beginning, they have the same rest.
 goes_on : (xs ys zs : List ℕ) → xs ++ ys ≡ xs ++ zs → ys ≡ zs
 goes_on [] ys zs e = e
@@ -53,14 +57,21 @@ module _ {A : Type 0} (line_of : Call A → Option (List ℕ)) where
   none_here (step.Hand, reply.Handed (Err e)) n h = absurd (omega arith)
   none_here _ n h = refl
 
-  -- If no hand and no flush returned an error, there is no place of a refused line.
-  no_refusals : (before h : List (Turn A)) → error_count h ≡ 0 → places_after line_of (refusal_at line_of) before h ≡ []
-  no_refusals before [] e = refl
-  no_refusals before (t ∷ h) e =
+  -- What no turn without an error adds, a history without an error doesn't have.
+  none_of : (f : List (Turn A) × Turn A → List ℕ) (h : List (Turn A)) → error_count h ≡ 0
+      → ((before : List (Turn A)) (t : Turn A) → ◌≡◌ {A = ℕ} (cond (is_error t) 1 0) 0 → f (before, t) ≡ []) → flat_map f (with_before h) ≡ []
+  none_of f [] e none = refl
+  none_of f (t ∷ h) e none =
       let parts : error_count (t ∷ h) ≡ cond (is_error t) 1 0 + error_count h = sum_by-cons (λ u. cond (is_error u) 1 0) t h in
-      let here : refusal_at line_of (length (kept line_of before)) t ≡ [] = none_here t (length (kept line_of before)) (omega arith) in
-      let later : places_after line_of (refusal_at line_of) (before ++ t ∷ []) h ≡ [] = no_refusals (before ++ t ∷ []) h (omega arith) in
-      (λ i. here i ++ later i)
+      let here : f ([], t) ≡ [] = none [] t (omega arith) in
+      let later : flat_map (λ p. f (t ∷ p.0, p.1)) (with_before h) ≡ [] =
+      none_of (λ p. f (t ∷ p.0, p.1)) h (omega arith) (λ before u is. none (t ∷ before) u is) in
+      (λ i. here i ++ (flat_map-map f (λ p. (t ∷ p.0, p.1)) (with_before h) ∙ later) i)
+
+  -- If no hand and no flush returned an error, there is no place of a refused line.
+  no_refusals : (h : List (Turn A)) → error_count h ≡ 0 → refusals line_of h ≡ []
+  no_refusals h e = none_of (λ p. refusal_at line_of (length (kept line_of p.0)) p.1) h e
+      (λ before t is. none_here t (length (kept line_of before)) is)
 
   bit_le : (b : Bool) → cond b 1 0 ≤ 1
   bit_le true = omega arith
@@ -129,7 +140,7 @@ module _ {A : Type 0} (line_of : Call A → Option (List ℕ)) where
         record {
           admissible = (run_cut reports whole).admissible;
           no_later = subst (λ e. NoGroupHasRoom format.capacity e (groups_of s.cut (map (size_of format) (kept line_of h))))
-              (ap (λ r. marks line_of h ++ r) (no_refusals [] h no_errors) ∙ append-nil (marks line_of h)) (run_late reports whole);
+              (ap (λ r. marks line_of h ++ r) (no_refusals h no_errors) ∙ append-nil (marks line_of h)) (run_late reports whole);
         }
       where
         none_counted : (new old n m : ℕ) → new ≡ old → new % 2 ^ 64 ≡ (old + n) % 2 ^ 64 → n ≤ m → m < 2 ^ 64 → n ≡ 0

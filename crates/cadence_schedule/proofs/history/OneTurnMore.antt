@@ -1,8 +1,9 @@
 -- What one turn more adds to each word of a history.
 use Rattle.std.proofs.Common.{◌≡◌, ℕ, zero-le, ◌+◌, ◌≤◌, List, [], ◌∷◌, ◌++◌, Option, Some, None, Bool, true, false, length, refl, sym, ap}
 use Rattle.std.proofs.Common.{◌∙◌, arith, subst, cond, ◌||◌}
-use Rattle.std.specs.Prelude.{slice_get}
-use Rattle.std.proofs.lemmas.List.{append-nil, append_assoc}
+use Rattle.std.specs.Prelude.{map, slice_get}
+use Rattle.std.specs.List.{flat_map}
+use Rattle.std.proofs.lemmas.List.{append-nil, append_assoc, map-append}
 use Rattle.std.proofs.lemmas.List.Concat.{flat_map-append}
 use Rattle.std.proofs.lemmas.List.Sums.{sum_by_push}
 use Rattle.std.proofs.lemmas.List.Folds.{list_any-append}
@@ -11,8 +12,8 @@ use Rattle.cadence_queue.specs.declared.policy.QueuePolicy.{QueuePolicy}
 use Rattle.cadence_errors.specs.declared.SinkError.{SinkError}
 use Rattle.cadence_settings.specs.declared.call.Call.{Call}
 use Rattle.cadence_schedule.specs.RunHistory.{Turn, with_answers, taken_count, takes_text, dropped_count, drops_text, outcomes, outcome_by, stops}
-use Rattle.cadence_schedule.specs.RunHistory.{is_stopped, error_count, is_error, accepted, accepted_by, kept, places_after, marks, mark_at}
-use Rattle.cadence_schedule.specs.RunHistory.{refusals, refusal_at}
+use Rattle.cadence_schedule.specs.RunHistory.{is_stopped, error_count, is_error, accepted, accepted_by, kept, marks, mark_at}
+use Rattle.cadence_schedule.specs.RunHistory.{refusals, refusal_at, with_before}
 use Rattle.cadence_schedule.specs.Replies.{MayReply, MayReplyAfter}
 
 pub or_no : (b : Bool) → (b || false) ≡ b
@@ -54,6 +55,17 @@ length-with_answers (x ∷ xs) [] = zero-le
 length-with_answers (x ∷ xs) (Some y ∷ answers) = omega (arith, length-with_answers xs answers)
 length-with_answers (x ∷ xs) (None ∷ answers) = omega (arith, length-with_answers xs answers)
 
+-- One element more has all others before it.
+with_before-push : {X : Type 0} (xs : List X) (x : X) → with_before (xs ++ x ∷ []) ≡ with_before xs ++ (xs, x) ∷ []
+with_before-push [] x = refl
+with_before-push (y ∷ xs) x =
+    ap (λ l. ([], y) ∷ map (λ p. (y ∷ p.0, p.1)) l) (with_before-push xs x)
+    ∙ ap (λ l. ([], y) ∷ l) (map-append (λ p. (y ∷ p.0, p.1)) (with_before xs) ((xs, x) ∷ []))
+
+before-push : {X Y : Type 0} (f : List X × X → List Y) (xs : List X) (x : X)
+    → flat_map f (with_before (xs ++ x ∷ [])) ≡ flat_map f (with_before xs) ++ flat_map f ((xs, x) ∷ [])
+before-push f xs x = ap (flat_map f) (with_before-push xs x) ∙ flat_map-append f (with_before xs) ((xs, x) ∷ [])
+
 module _ {A : Type 0} where
   pub outcomes-push : (h : List (Turn A)) (t : Turn A) → outcomes (h ++ t ∷ []) ≡ outcomes h ++ outcome_by t
   outcomes-push h t = flat_map-append outcome_by h (t ∷ []) ∙ ap (λ l. outcomes h ++ l) (append-nil (outcome_by t))
@@ -74,22 +86,16 @@ module _ {A : Type 0} (line_of : Call A → Option (List ℕ)) where
   pub accepted-push : (h : List (Turn A)) (t : Turn A) → accepted line_of (h ++ t ∷ []) ≡ accepted line_of h ++ accepted_by line_of t
   accepted-push h t = flat_map-append (accepted_by line_of) h (t ∷ []) ∙ ap (λ l. accepted line_of h ++ l) (append-nil (accepted_by line_of t))
 
-  places-push : (at : ℕ → Turn A → List ℕ) (before h : List (Turn A)) (t : Turn A)
-      → places_after line_of at before (h ++ t ∷ []) ≡ places_after line_of at before h ++ at (length (kept line_of (before ++ h))) t
-  places-push at before [] t = append-nil (at (length (kept line_of before)) t) ∙ ap (λ b. at (length (kept line_of b)) t) (sym (append-nil before))
-  places-push at before (u ∷ h) t =
-      let tail = places-push at (before ++ u ∷ []) h t in
-      ap (λ l. at (length (kept line_of before)) u ++ l) (tail
-      ∙ ap (λ b. places_after line_of at (before ++ u ∷ []) h ++ at (length (kept line_of b)) t) (append_assoc before (u ∷ []) h))
-      ∙ sym (append_assoc (at (length (kept line_of before)) u) (places_after line_of at (before ++ u ∷ []) h)
-      (at (length (kept line_of (before ++ u ∷ h))) t))
-
   pub marks-push : (h : List (Turn A)) (t : Turn A) → marks line_of (h ++ t ∷ []) ≡ marks line_of h ++ mark_at line_of (length (kept line_of h)) t
-  marks-push h t = places-push (mark_at line_of) [] h t
+  marks-push h t =
+      before-push (λ p. mark_at line_of (length (kept line_of p.0)) p.1) h t
+      ∙ ap (λ l. marks line_of h ++ l) (append-nil (mark_at line_of (length (kept line_of h)) t))
 
   pub refusals-push : (h : List (Turn A)) (t : Turn A)
       → refusals line_of (h ++ t ∷ []) ≡ refusals line_of h ++ refusal_at line_of (length (kept line_of h)) t
-  refusals-push h t = places-push (refusal_at line_of) [] h t
+  refusals-push h t =
+      before-push (λ p. refusal_at line_of (length (kept line_of p.0)) p.1) h t
+      ∙ ap (λ l. refusals line_of h ++ l) (append-nil (refusal_at line_of (length (kept line_of h)) t))
 
   module _ (may_give : SinkError → Bool) (takes_whole : Bool) (format : Format) (queue : Option ℕ) (policy : QueuePolicy) where
     replies-push-after : (before h : List (Turn A)) (t : Turn A) → MayReplyAfter line_of may_give takes_whole format queue policy before h
