@@ -1,5 +1,6 @@
--- What each step does to the state of a run, in the words of the layers below: the queue, the hand, and the packer over
--- its writer.
+-- For proofs: a reader of the headline needs none of these definitions. They say what each step does to the state of a
+-- run, in the words of the layers below: the queue, the hand, and the packer over its writer. Private functions have
+-- contracts in these words.
 use Rattle.std.specs.Prelude.{◌≡◌, ◌≢◌, ℕ, ◌+◌, ◌%◌, ◌^◌, ◌<◌, nat_le, List, [], ◌∷◌, ◌++◌, Option, Some, None, Ok, Err, Result, Bool, true}
 use Rattle.std.specs.Prelude.{false, length, drop}
 use Rattle.std.specs.Option.{option_to_list}
@@ -8,9 +9,7 @@ use Rattle.cadence_flow.specs.Packer.{PackerState, Writes, Flushes}
 use Rattle.cadence_queue.specs.Queue.{at_capacity, drops_for_room}
 use Rattle.cadence_queue.specs.declared.policy.QueuePolicy.{QueuePolicy}
 use Rattle.cadence_flow.specs.Writer.{PacketHistory, WriterKind}
-use Rattle.cadence_errors.specs.declared.MetricError.{MetricError}
 use Rattle.cadence_errors.specs.declared.SinkError.{SinkError}
-use Rattle.cadence_errors.specs.Errors.{IsInvalid, out_of_memory}
 use Rattle.cadence_settings.specs.declared.call.Call.{Call}
 use Rattle.cadence_schedule.specs.declared.steps.Step.TheVariants as step
 use Rattle.cadence_schedule.specs.declared.steps.Reply.TheVariants as reply

@@ -1,4 +1,4 @@
--- The outcome of a run after its last step.
+-- For proofs: the outcome of a run after its last step, in the contract of a private function.
 use Rattle.std.specs.Prelude.{Vec, string_bytes}
 use Rattle.std.specs.Option.{option_map}
 use Rattle.cadence_schedule.specs.declared.counting.CountingWriter.{CountingWriter}

@@ -1,4 +1,5 @@
--- The state of a run between two steps, seen as lists and numbers, and what one step does to it.
+-- For proofs: the state of a run between two steps, seen as lists and numbers, and what one step does to it. Only private
+-- functions have contracts in these words.
 use Rattle.std.specs.Prelude.{◌≡◌, ℕ, ◌+◌, ◌<◌, ◌≤◌, ◌^◌, List, [], Option, None, Vec, map, string_bytes, vec_len, vec_capacity}
 use Rattle.std.specs.Option.{option_map}
 use Rattle.cadence_flow.specs.Packer.{new_packer}

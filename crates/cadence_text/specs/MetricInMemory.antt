@@ -1,11 +1,12 @@
--- Metrics that could be in memory as a `Record`: the texts are in UTF-8, each number could be a `Decimal`, and no text
--- and no list is longer than memory allows. `IsRepresentable` says the same without the limits of length. The limits
--- show that a line has fewer than 2 ^ 126 bytes, so that its length can be counted in 128 bits.
+-- For proofs: metrics that could be in memory as a `Record`. The texts are in UTF-8, each number could be a `Decimal`, and
+-- no text and no list is longer than memory allows. `IsRepresentable` says the same without the limits of length, and
+-- promises cite only that. The limits show that a line has fewer than 2 ^ 126 bytes, so that its length can be counted in
+-- 128 bits.
 use Rattle.std.specs.Prelude.{ℕ, ◌<◌, ◌^◌, Option, List, All, IfSome, length}
 use Rattle.std.specs.Str.{IsUtf8}
 use Rattle.cadence_text.specs.Metric.{Metric, Tag}
 use Rattle.cadence_value.specs.Number.{IsDecimal}
-pub use Rattle.cadence_value.specs.Takes.{AreNumbersInMemory, IsTextInMemory}
+pub use Rattle.cadence_value.specs.InMemory.{AreNumbersInMemory, IsTextInMemory}
 
 -- The tag could be a `Tag`: its key, if it has one, and its text could be a `&str`.
 pub record IsTagInMemory (tag : Tag) : Type 0 where

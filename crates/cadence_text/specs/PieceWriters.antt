@@ -1,5 +1,5 @@
--- What a line is written to, piece by piece: a window, a buffer or a counter of bytes. For each, the text that it ends
--- with.
+-- For proofs: what a line is written to, piece by piece, which is a window, a buffer or a counter of bytes. For each, the
+-- text that it ends with.
 use Rattle.std.specs.Prelude.{ℕ, ◌+◌, ◌-◌, ◌%◌, ◌^◌, nat_lt, if◌then◌else◌, List, [], ◌++◌, length, take, drop, replicate}
 use Rattle.cadence_text.specs.declared.line.line_buf.LengthCounter.{LengthCounter}
 use Rattle.cadence_text.specs.declared.line.line_buf.LineBuf.{LineBuf}

@@ -1,5 +1,5 @@
--- The number that a sign and the digits on each side of a dot denote. `w` are the digits before the dot, `f` those
--- after it.
+-- The number that a sign and the digits on each side of a dot denote. `w` are the digits before the dot, `f` those after
+-- it.
 use Rattle.std.specs.Prelude.{◌≡◌, ◌≢◌, ℕ, ◌+◌, ◌-◌, ◌*◌, ◌^◌, ◌<◌, ◌≤◌, Bool, true, if◌then◌else◌, List, [], ◌∷◌, ◌++◌, codes, length, slice_index, ℤ, pos}
 use Rattle.std.specs.Prelude.{neg_ℤ, Result, Ok, Err}
 use Rattle.std.specs.Int.RustNames.{FitsSigned}
@@ -9,13 +9,16 @@ use Rattle.cadence_value.specs.Number.{Number, number, number_text, IsDecimal}
 use Rattle.cadence_value.specs.declared.decimal.read.ParseDecimalError.{ParseDecimalError}
 use Rattle.cadence_value.specs.declared.decimal.read.ParseDecimalError.TheVariants.{NotANumber, TooManyPlaces, TooLarge}
 
--- the digits before and after the dot as one whole number: 1250 for 12.50
-abbrev pub joined_digits : List ℕ → List ℕ → ℕ
-joined_digits w f = digits_value 10 w * 10 ^ length f + digits_value 10 f
-
 -- the whole number with a minus before it, or without one
 abbrev pub signed_integer : Bool → ℕ → ℤ
 signed_integer below n = if below then neg_ℤ (pos n) else pos n
+
+-- For proofs. The rest of this file says how a decimal is read from its digits, for the contracts of private functions and
+-- of helpers on bytes.
+
+-- the digits before and after the dot as one whole number: 1250 for 12.50
+abbrev pub joined_digits : List ℕ → List ℕ → ℕ
+joined_digits w f = digits_value 10 w * 10 ^ length f + digits_value 10 f
 
 -- the number that the sign and the digits denote
 abbrev pub digits_number : Bool → List ℕ → List ℕ → Number

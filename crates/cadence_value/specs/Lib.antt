@@ -6,4 +6,5 @@ pub mod Digits
 pub mod DenotedNumber
 pub mod Values
 pub mod Takes
+pub mod InMemory
 pub mod NumberBuf

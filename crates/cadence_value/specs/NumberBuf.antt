@@ -1,4 +1,4 @@
--- What a number's text is written to when it is printed.
+-- For proofs: what a number's text is written to when it is printed.
 use Rattle.std.specs.Prelude.{ℕ, ◌+◌, ◌||◌, nat_lt, if◌then◌else◌, List, [], ◌++◌, length, take}
 use Rattle.cadence_value.specs.declared.text.display.NumberBuf.{NumberBuf}
 

@@ -4,7 +4,8 @@ ghost use Rattle.std.specs.Option.{option_copied};
 ghost use Rattle.cadence_text.specs.Draft.{lead};
 ghost use Rattle.cadence_text.specs.Line.{container_field, rate_field, tag_text, tags_field, time_field};
 ghost use Rattle.cadence_value.specs.Number.{IsDecimal, number};
-ghost use Rattle.cadence_value.specs.Takes.{IsTextInMemory, Takes};
+ghost use Rattle.cadence_value.specs.InMemory.{IsTextInMemory};
+ghost use Rattle.cadence_value.specs.Takes.{Takes};
 ghost use Rattle.cadence_text.specs.Record.{tag_of};
 ghost use Rattle.cadence_text.specs.MetricInMemory.{AreTagsInMemory, IsTagInMemory, IsTimestamp};
 

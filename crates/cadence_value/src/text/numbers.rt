@@ -2,7 +2,8 @@
 //! between them. Counts how many digits a number has.
 ghost use Rattle.std.specs.Prelude.{◌≡◌, ◌+◌, ◌++◌, ◌∷◌, ◌/◌, ◌%◌, ◌^◌, ◌<◌, ◌≤◌, ◌-◌, [], codes, length, map, replicate};
 ghost use Rattle.cadence_value.specs.Number.{IsDecimal, decimal_text, number, number_text, numbers_text, places_text};
-ghost use Rattle.cadence_value.specs.Takes.{AreNumbersInMemory, Takes};
+ghost use Rattle.cadence_value.specs.InMemory.{AreNumbersInMemory};
+ghost use Rattle.cadence_value.specs.Takes.{Takes};
 ghost use Rattle.cadence_value.specs.Values.{numbers_of};
 
 use crate::decimal;

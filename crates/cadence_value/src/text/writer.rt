@@ -1,7 +1,8 @@
 //! The traits of what takes the pieces of a line: a buffer, a counter of bytes, or a window on a part of the line.
 ghost use Rattle.std.specs.Prelude.{◌<◌, List, ℕ, ◌∷◌, []};
 ghost use Rattle.cadence_value.specs.Number.{decimal_text};
-ghost use Rattle.cadence_value.specs.Takes.{IsTextInMemory, Takes};
+ghost use Rattle.cadence_value.specs.InMemory.{IsTextInMemory};
+ghost use Rattle.cadence_value.specs.Takes.{Takes};
 
 /// Takes ASCII bytes, one after the other. Digits are written to it.
 pub trait DigitWriter {
