@@ -7,3 +7,4 @@ pub mod RunSteps
 pub mod SumSteps
 pub mod Tables
 pub mod TimingSteps
+pub mod Within

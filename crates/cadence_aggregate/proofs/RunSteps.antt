@@ -5,11 +5,13 @@ use Rattle.cadence_aggregate.specs.Aggregate.{accepted, said_by}
 use Rattle.cadence_aggregate.specs.Lines.{samples_of}
 use Rattle.cadence_aggregate.specs.Refusals.{after_reply, after_replies}
 use Rattle.cadence_aggregate.specs.Server.{Sample, IsSummary}
+use Rattle.cadence_aggregate.specs.Within.{StayWithin}
 use Rattle.cadence_aggregate.specs.declared.line.Line.{Line}
 use Rattle.cadence_aggregate.specs.declared.runs.Step.{Step}
 use Rattle.cadence_aggregate.specs.declared.runs.Step.TheVariants.{Add}
 use Rattle.cadence_aggregate.specs.declared.sink.Fault.{Fault}
 use Rattle.cadence_aggregate.proofs.Observed.{same_of, same_trans, same_more}
+use Rattle.cadence_aggregate.proofs.Within.{stay_further, stay_more, stay_same}
 
 abbrev Reply : Type 0
 Reply = Result (Unit {0}) Fault
@@ -28,6 +30,16 @@ step_said before past now xs rs x r h a b =
     same_trans _ _ _ (same_of (before ++ accepted (xs ++ x ∷ []) (rs ++ r ∷ [])) ((before ++ accepted xs rs) ++ said_by x r)
     (ap (λ t. before ++ t) (accepted_snoc xs rs x r h) ∙ sym (append_assoc before (accepted xs rs) (said_by x r))))
     (same_trans _ _ _ (same_more (before ++ accepted xs rs) past (said_by x r) a) b)
+
+-- one step further, the lines of values stay within the limit
+pub step_within : (limit : ℕ) (before past now : List Sample) (xs : List Step) (rs : List Reply) (x : Step) (r : Reply) → length rs ≡ length xs
+    → StayWithin limit (before ++ accepted xs rs) past → StayWithin limit (past ++ said_by x r) now → StayWithin limit (before ++ accepted (xs ++ x ∷ []) (rs ++ r ∷ [])) now
+step_within limit before past now xs rs x r h a b =
+    let whole = before ++ accepted (xs ++ x ∷ []) (rs ++ r ∷ []) in
+    let parts = (before ++ accepted xs rs) ++ said_by x r in
+    let same : parts ≡ whole = sym (ap (λ t. before ++ t) (accepted_snoc xs rs x r h) ∙ sym (append_assoc before (accepted xs rs) (said_by x r))) in
+    stay_further limit whole parts now (stay_same limit whole parts same)
+    (stay_further limit parts (past ++ said_by x r) now (stay_more limit (before ++ accepted xs rs) past (said_by x r) a) b)
 
 -- the refusals after one more reply
 pub refused_more : (first : ℕ) (rs : List Reply) (r : Reply) → after_replies first (rs ++ r ∷ []) ≡ after_reply (after_replies first rs) r

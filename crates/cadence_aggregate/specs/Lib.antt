@@ -5,3 +5,4 @@ pub mod Lines
 pub mod Quiet
 pub mod Refusals
 pub mod Server
+pub mod Within

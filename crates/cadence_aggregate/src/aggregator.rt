@@ -5,6 +5,7 @@ ghost use Rattle.cadence_aggregate.specs.Fewest.{AreFewest};
 ghost use Rattle.cadence_aggregate.specs.Lines.{samples_of};
 ghost use Rattle.cadence_aggregate.specs.Refusals.{after_reply};
 ghost use Rattle.cadence_aggregate.specs.Server.{IsSummary};
+ghost use Rattle.cadence_aggregate.specs.Within.{StayWithin, if_ok};
 
 use crate::levels::{flush_levels, pass_level, set_level};
 use crate::line::Line;
@@ -35,7 +36,8 @@ impl Aggregator {
         most: NonZeroUsize,
         most_bytes: usize,
     ) -> Result<Aggregator, AllocError>
-        ensures { IfOk result (λ a. held a ≡ []) }
+        ensures none { IfOk result (λ a. held a ≡ []) }
+        ensures limit { IfOk result (λ a. a.most_bytes ≡ most_bytes) }
     {
         Ok(Aggregator {
             alloc,
@@ -62,6 +64,11 @@ impl Aggregator {
             (S.sent sink.old ++ held self.old) (S.sent sink.new ++ held self.new)) }
         ensures quiet { CanHold self.old line.entry → S.sent sink.new ≡ S.sent sink.old }
         ensures refused { S.refusals sink.new ≡ after_reply (S.refusals sink.old) result }
+        ensures leads { S.leads sink.old sink.new }
+        ensures limit { self.new.most_bytes ≡ self.old.most_bytes }
+        ensures within { StayWithin self.old.most_bytes
+            ((S.sent sink.old ++ held self.old) ++ if_ok result (samples_of line.entry))
+            (S.sent sink.new ++ held self.new) }
     {
         match line {
             Line::Amount(context, by) => add_amount(self.alloc, &mut self.sums, sink, context, by),
@@ -100,6 +107,11 @@ impl Aggregator {
         ensures err { OnErr result (IsSummary
             (S.sent sink.old ++ held self.old) (S.sent sink.new ++ held self.new)) }
         ensures refused { S.refusals sink.new ≡ after_reply (S.refusals sink.old) result }
+        ensures leads { S.leads sink.old sink.new }
+        ensures limit { self.new.most_bytes ≡ self.old.most_bytes }
+        ensures within { StayWithin self.old.most_bytes
+            ((S.sent sink.old ++ held self.old) ++ if_ok result (samples_of line.entry))
+            (S.sent sink.new ++ held self.new) }
     {
         match line {
             Line::Amount(context, by) => sink.send(Line::Amount(context, by)),
@@ -120,6 +132,8 @@ impl Aggregator {
         ensures distinct { OnOk result (HasDistinct self.old) }
         ensures fewest { OnOk result (AreFewest (held self.old)) }
         ensures refused { S.refusals sink.new ≡ after_reply (S.refusals sink.old) result }
+        ensures leads { S.leads sink.old sink.new }
+        ensures limit { self.new.most_bytes ≡ self.old.most_bytes }
     {
         flush_sums(&mut self.sums, sink)?;
         flush_levels(&mut self.levels, sink)?;

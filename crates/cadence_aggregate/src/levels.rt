@@ -5,6 +5,7 @@ ghost use Rattle.cadence_aggregate.specs.Held.{held_levels};
 ghost use Rattle.cadence_aggregate.specs.Quiet.{AreDistinct, HasRoom};
 ghost use Rattle.cadence_aggregate.specs.Refusals.{after_reply};
 ghost use Rattle.cadence_aggregate.specs.Server.{IsSummary, is_plain, level};
+ghost use Rattle.cadence_aggregate.specs.Within.{AreWithin};
 
 use crate::line::Line;
 use crate::sink::{Fault, LineSink};
@@ -22,6 +23,9 @@ fn send_oldest<S: LineSink>(
         lru_cache (take (length levels.old.entries - 1) levels.old.entries) levels.old.cap) }
     ensures err { OnErr result (levels.new ≡ levels.old) }
     ensures refused { S.refusals sink.new ≡ after_reply (S.refusals sink.old) result }
+    ensures leads { S.leads sink.old sink.new }
+    ensures within { (most : _) →
+        AreWithin most (S.sent sink.old) → AreWithin most (S.sent sink.new) }
 {
     match levels.peek_lru() {
         Some((context, held)) => sink.send(Line::Level(context.as_str(), held.as_str()))?,
@@ -41,6 +45,7 @@ pub(crate) fn flush_levels<S: LineSink>(
     ensures ok { OnOk result (levels.new.entries ≡ []) }
     ensures distinct { AreDistinct levels.old.entries }
     ensures refused { S.refusals sink.new ≡ after_reply (S.refusals sink.old) result }
+    ensures leads { S.leads sink.old sink.new }
 {
     for _ in 0..levels.len() {
         send_oldest(levels, sink)?;
@@ -74,6 +79,9 @@ fn hold_level<S: LineSink>(
         (S.sent sink.old ++ held_levels levels.old.entries)
         (S.sent sink.new ++ held_levels levels.new.entries)) }
     ensures refused { S.refusals sink.new ≡ after_reply (S.refusals sink.old) result }
+    ensures leads { S.leads sink.old sink.new }
+    ensures within { (most : _) →
+        AreWithin most (S.sent sink.old) → AreWithin most (S.sent sink.new) }
     ensures quiet { HasRoom levels.old → S.sent sink.new ≡ S.sent sink.old }
 {
     let fresh = String::from_str(alloc, value)?;
@@ -103,6 +111,9 @@ pub(crate) fn pass_level<S: LineSink>(
         (S.sent sink.old ++ held_levels levels.old.entries)
         (S.sent sink.new ++ held_levels levels.new.entries)) }
     ensures refused { S.refusals sink.new ≡ after_reply (S.refusals sink.old) result }
+    ensures leads { S.leads sink.old sink.new }
+    ensures within { (most : _) →
+        AreWithin most (S.sent sink.old) → AreWithin most (S.sent sink.new) }
 {
     flush_levels(levels, sink)?;
     sink.send(Line::Level(context, value))
@@ -123,6 +134,9 @@ pub(crate) fn set_level<S: LineSink>(
         (S.sent sink.old ++ held_levels levels.old.entries)
         (S.sent sink.new ++ held_levels levels.new.entries)) }
     ensures refused { S.refusals sink.new ≡ after_reply (S.refusals sink.old) result }
+    ensures leads { S.leads sink.old sink.new }
+    ensures within { (most : _) →
+        AreWithin most (S.sent sink.old) → AreWithin most (S.sent sink.new) }
     ensures quiet { HasRoom levels.old → is_plain value.now ≡ true →
         S.sent sink.new ≡ S.sent sink.old }
 {

@@ -5,6 +5,7 @@ ghost use Rattle.cadence_aggregate.specs.Held.{held_members};
 ghost use Rattle.cadence_aggregate.specs.Quiet.{AreDistinct, HasRoom};
 ghost use Rattle.cadence_aggregate.specs.Refusals.{after_reply};
 ghost use Rattle.cadence_aggregate.specs.Server.{IsSummary, member};
+ghost use Rattle.cadence_aggregate.specs.Within.{AreWithin};
 
 use crate::line::Line;
 use crate::sink::{Fault, LineSink};
@@ -19,6 +20,9 @@ fn send_oldest<S: LineSink>(members: &mut LruCache<String, ()>, sink: &mut S) ->
         lru_cache (take (length members.old.entries - 1) members.old.entries) members.old.cap) }
     ensures err { OnErr result (members.new ≡ members.old) }
     ensures refused { S.refusals sink.new ≡ after_reply (S.refusals sink.old) result }
+    ensures leads { S.leads sink.old sink.new }
+    ensures within { (most : _) →
+        AreWithin most (S.sent sink.old) → AreWithin most (S.sent sink.new) }
 {
     match members.peek_lru() {
         Some((context, _)) => sink.send(Line::Member(context.as_str()))?,
@@ -38,6 +42,7 @@ pub(crate) fn flush_members<S: LineSink>(
     ensures ok { OnOk result (members.new.entries ≡ []) }
     ensures distinct { AreDistinct members.old.entries }
     ensures refused { S.refusals sink.new ≡ after_reply (S.refusals sink.old) result }
+    ensures leads { S.leads sink.old sink.new }
 {
     for _ in 0..members.len() {
         send_oldest(members, sink)?;
@@ -59,6 +64,9 @@ pub(crate) fn add_member<S: LineSink>(
         (S.sent sink.old ++ held_members members.old.entries)
         (S.sent sink.new ++ held_members members.new.entries)) }
     ensures refused { S.refusals sink.new ≡ after_reply (S.refusals sink.old) result }
+    ensures leads { S.leads sink.old sink.new }
+    ensures within { (most : _) →
+        AreWithin most (S.sent sink.old) → AreWithin most (S.sent sink.new) }
     ensures quiet { HasRoom members.old → S.sent sink.new ≡ S.sent sink.old }
 {
     if members.contains(context) {

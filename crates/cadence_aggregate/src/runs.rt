@@ -3,6 +3,7 @@ ghost use Rattle.std.specs.Prelude.{◌≡◌, ◌+◌, ◌++◌, ◌<◌, lengt
 ghost use Rattle.cadence_aggregate.specs.Aggregate.{held, accepted, said_by};
 ghost use Rattle.cadence_aggregate.specs.Refusals.{after_replies, after_reply};
 ghost use Rattle.cadence_aggregate.specs.Server.{IsSummary};
+ghost use Rattle.cadence_aggregate.specs.Within.{StayWithin};
 
 use crate::aggregator::Aggregator;
 use crate::line::Line;
@@ -35,6 +36,11 @@ fn take_step<S: LineSink>(
     ensures said { IsSummary ((S.sent sink.old ++ held aggregator.old) ++ said_by step.entry result)
         (S.sent sink.new ++ held aggregator.new) }
     ensures refused { S.refusals sink.new ≡ after_reply (S.refusals sink.old) result }
+    ensures leads { S.leads sink.old sink.new }
+    ensures within { StayWithin aggregator.old.most_bytes
+        ((S.sent sink.old ++ held aggregator.old) ++ said_by step.entry result)
+        (S.sent sink.new ++ held aggregator.new) }
+    ensures limit { aggregator.new.most_bytes ≡ aggregator.old.most_bytes }
 {
     match step {
         Step::Add(line) => aggregator.add(sink, line),
@@ -60,6 +66,10 @@ pub fn run<S: LineSink>(
         (S.sent sink.new ++ held o.aggregator)) }
     ensures refused { IfOk result (λ o. S.refusals sink.new
         ≡ after_replies (S.refusals sink.old) o.replies.items) }
+    ensures leads { S.leads sink.old sink.new }
+    ensures within { IfOk result (λ o. StayWithin most_bytes
+        (S.sent sink.old ++ accepted steps.now o.replies.items)
+        (S.sent sink.new ++ held o.aggregator)) }
 {
     let mut aggregator = Aggregator::new(alloc, most, most_bytes)?;
     let mut replies = Vec::with_capacity(alloc, steps.len())?;

@@ -41,9 +41,19 @@ pub trait LineSink {
     /// How many lines it refused, modulo 2 to the 64.
     ghost refusals: { Self → ℕ };
 
+    /// What a sink promises of its states before and after some lines were given to it.
+    ghost leads: { Self → Self → Type 0 };
+
     /// Takes a line, or refuses it. Memory may run out, and then the sink neither took nor refused it.
     fn send(&mut self, line: Line<'_>) -> Result<(), Fault>
         ensures ok { OnOk result (sent self.new ≡ sent self.old ++ samples_of line.entry) }
         ensures err { OnErr result (sent self.new ≡ sent self.old) }
-        ensures refused { refusals self.new ≡ after_reply (refusals self.old) result };
+        ensures refused { refusals self.new ≡ after_reply (refusals self.old) result }
+        ensures leads { leads self.old self.new };
+
+    /// It is so of a state and itself, because no line may be given.
+    ghost leads_to_itself: { (s : Self) → leads s s };
+
+    /// It is so of the first and the last of three states, if it is so from each to the next.
+    ghost leads_further: { (a b c : Self) → leads a b → leads b c → leads a c };
 }

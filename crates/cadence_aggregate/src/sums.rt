@@ -6,6 +6,7 @@ ghost use Rattle.cadence_aggregate.specs.Quiet.{AreDistinct, HasRoom, CanRaise, 
 ghost use Rattle.std.specs.Map.{lookup};
 ghost use Rattle.cadence_aggregate.specs.Refusals.{after_reply};
 ghost use Rattle.cadence_aggregate.specs.Server.{IsSummary, amount};
+ghost use Rattle.cadence_aggregate.specs.Within.{AreWithin};
 
 use crate::line::Line;
 use crate::sink::{Fault, LineSink};
@@ -20,6 +21,9 @@ fn send_oldest<S: LineSink>(sums: &mut LruCache<String, i64>, sink: &mut S) -> R
         lru_cache (take (length sums.old.entries - 1) sums.old.entries) sums.old.cap) }
     ensures err { OnErr result (sums.new ≡ sums.old) }
     ensures refused { S.refusals sink.new ≡ after_reply (S.refusals sink.old) result }
+    ensures leads { S.leads sink.old sink.new }
+    ensures within { (most : _) →
+        AreWithin most (S.sent sink.old) → AreWithin most (S.sent sink.new) }
 {
     match sums.peek_lru() {
         Some((context, sum)) => sink.send(Line::Amount(context.as_str(), *sum))?,
@@ -39,6 +43,7 @@ pub(crate) fn flush_sums<S: LineSink>(
     ensures ok { OnOk result (sums.new.entries ≡ []) }
     ensures distinct { AreDistinct sums.old.entries }
     ensures refused { S.refusals sink.new ≡ after_reply (S.refusals sink.old) result }
+    ensures leads { S.leads sink.old sink.new }
 {
     for _ in 0..sums.len() {
         send_oldest(sums, sink)?;
@@ -61,6 +66,9 @@ pub(crate) fn add_amount<S: LineSink>(
         (S.sent sink.old ++ held_sums sums.old.entries)
         (S.sent sink.new ++ held_sums sums.new.entries)) }
     ensures refused { S.refusals sink.new ≡ after_reply (S.refusals sink.old) result }
+    ensures leads { S.leads sink.old sink.new }
+    ensures within { (most : _) →
+        AreWithin most (S.sent sink.old) → AreWithin most (S.sent sink.new) }
     ensures quiet { HasRoom sums.old →
         CanRaise (lookup (is_context context.now) sums.old.entries) by →
         S.sent sink.new ≡ S.sent sink.old }

@@ -1,11 +1,12 @@
 //! The values of timers, histograms and distributions.
-ghost use Rattle.std.specs.Prelude.{◌≡◌, ◌++◌, ◌∷◌, ◌+◌, ◌-◌, [], OnOk, OnErr, length, string_bytes, take};
+ghost use Rattle.std.specs.Prelude.{◌≡◌, ◌++◌, ◌∷◌, ◌+◌, ◌-◌, ◌<◌, ◌≤◌, [], OnOk, OnErr, false, length, string_bytes, take, true};
 ghost use Rattle.lru.specs.LruCache.{lru_cache};
 ghost use Rattle.cadence_aggregate.specs.Held.{held_timings};
 ghost use Rattle.cadence_aggregate.specs.Quiet.{AreDistinct, HasRoom, CanAppend, is_context};
 ghost use Rattle.std.specs.Map.{lookup};
 ghost use Rattle.cadence_aggregate.specs.Refusals.{after_reply};
 ghost use Rattle.cadence_aggregate.specs.Server.{IsSummary, timing};
+ghost use Rattle.cadence_aggregate.specs.Within.{StayWithin, if_ok};
 
 use crate::line::Line;
 use crate::sink::{Fault, LineSink};
@@ -23,6 +24,7 @@ fn send_oldest<S: LineSink>(
         lru_cache (take (length timings.old.entries - 1) timings.old.entries) timings.old.cap) }
     ensures err { OnErr result (timings.new ≡ timings.old) }
     ensures refused { S.refusals sink.new ≡ after_reply (S.refusals sink.old) result }
+    ensures leads { S.leads sink.old sink.new }
 {
     match timings.peek_lru() {
         Some((context, text)) => sink.send(Line::Timing(context.as_str(), text.as_str()))?,
@@ -42,11 +44,31 @@ pub(crate) fn flush_timings<S: LineSink>(
     ensures ok { OnOk result (timings.new.entries ≡ []) }
     ensures distinct { AreDistinct timings.old.entries }
     ensures refused { S.refusals sink.new ≡ after_reply (S.refusals sink.old) result }
+    ensures leads { S.leads sink.old sink.new }
 {
     for _ in 0..timings.len() {
         send_oldest(timings, sink)?;
     }
     Ok(())
+}
+
+// Returns whether the line of a context with both texts of values, and two colons, has at most `most` bytes.
+fn fits(context: &str, text: &str, values: &str, most: usize) -> bool
+    ensures fits { result ≡ true →
+        length context.now + length text.now + length values.now + 2 ≤ most }
+    ensures longer { result ≡ false →
+        most < length context.now + length text.now + length values.now + 2 }
+{
+    let Some(room) = most.checked_sub(context.len()) else {
+        return false;
+    };
+    let Some(room) = room.checked_sub(text.len()) else {
+        return false;
+    };
+    let Some(room) = room.checked_sub(values.len()) else {
+        return false;
+    };
+    room >= 2
 }
 
 // Appends a colon and the values. If memory runs out, the text stays as it was.
@@ -77,17 +99,17 @@ pub(crate) fn add_timing<S: LineSink>(
         (S.sent sink.old ++ held_timings timings.old.entries)
         (S.sent sink.new ++ held_timings timings.new.entries)) }
     ensures refused { S.refusals sink.new ≡ after_reply (S.refusals sink.old) result }
+    ensures leads { S.leads sink.old sink.new }
+    ensures within { StayWithin most ((S.sent sink.old ++ held_timings timings.old.entries)
+        ++ if_ok result (timing context.now values.now ∷ []))
+        (S.sent sink.new ++ held_timings timings.new.entries) }
     ensures quiet { HasRoom timings.old →
         CanAppend (lookup (is_context context.now) timings.old.entries)
         (length context.now + length values.now) most →
         S.sent sink.new ≡ S.sent sink.old }
 {
     if let Some(text) = timings.get_mut(context) {
-        let len = context
-            .len()
-            .saturating_add(text.len())
-            .saturating_add(values.len());
-        if len.saturating_add(2) <= most {
+        if fits(context, text.as_str(), values, most) {
             append_values(text, values)?;
         } else {
             let fresh = String::from_str(alloc, values)?;

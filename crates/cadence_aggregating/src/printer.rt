@@ -65,6 +65,12 @@ impl<S: MetricSink> LineSink for Printer<S> {
 
     ghost refusals = { λ p. p.refusals };
 
+    ghost leads = { λ _ _. Unit {0} };
+
+    ghost leads_to_itself = { λ _. tt };
+
+    ghost leads_further = { λ _ _ _ _ _. tt };
+
     fn send(&mut self, line: Line<'_>) -> Result<(), Fault>
         ensures ok { OnOk result (map sample_of_note self.new.notes.items
             ≡ map sample_of_note self.old.notes.items ++ samples_of line.entry) }

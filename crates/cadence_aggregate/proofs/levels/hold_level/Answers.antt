@@ -33,3 +33,17 @@ returns-clause-ok g c =
           let e = put_said say c.args.context.now c.if-len-get.levels c.put.new.self c.in_ok-key.key c.in_ok-fresh.fresh said (g.S.LineSink.sent c.if-len-get.sink) old.entries (rw same none) c.in_ok-key.ensures.ok (rw same room) h c.in_ok-put.ensures.entries in
           same_of _ _ (sym (e ∙ ap (λ t. (said ++ held_levels old.entries) ++ level t (string_bytes c.in_ok-fresh.fresh) ∷ []) c.in_ok-key.ensures.ok ∙ ap (λ t. (said ++ held_levels old.entries) ++ level c.args.context.now t ∷ []) c.in_ok-fresh.ensures.ok))
     ]
+
+pub returns-in_err-put-clause-within : goal.returns-in_err-put-clause-within
+returns-in_err-put-clause-within g c =
+    elim c.if-len-get.branch [
+      | then-len-get+in_ok-send_oldest w ↦ rw w.sink-is w.in_ok-send_oldest.ensures.within
+      | else-len-get w ↦ rw w.sink-is (λ most within. within)
+    ]
+
+pub returns-clause-within : goal.returns-clause-within
+returns-clause-within g c =
+    elim c.if-len-get.branch [
+      | then-len-get+in_ok-send_oldest w ↦ rw w.sink-is w.in_ok-send_oldest.ensures.within
+      | else-len-get w ↦ rw w.sink-is (λ most within. within)
+    ]

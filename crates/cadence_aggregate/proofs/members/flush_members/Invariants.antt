@@ -2,10 +2,12 @@ use Rattle.std.proofs.Common.{◌≡◌, ◌++◌, ◌+◌, length}
 use Rattle.cadence_aggregate.specs.Held.{held_members}
 use Rattle.cadence_aggregate.proofs.members.flush_members.Given as goal
 
--- what is sent and held stays the same, one entry less is left after each turn, and nothing is refused
+-- what is sent and held stays the same, one entry less is left after each turn, nothing is refused, and
+-- the sink's first state leads to the one now
 abbrev pub invariant-loop : goal.invariant-loop
 invariant-loop g l = record {
   same : g.S.LineSink.sent l.sink ++ held_members l.members.entries ≡ g.S.LineSink.sent l.fn.sink ++ held_members l.fn.members.entries;
   left : length l.members.entries + l.counter ≡ length l.fn.members.entries;
   calm : g.S.LineSink.refusals l.sink ≡ g.S.LineSink.refusals l.fn.sink;
+  leads : g.S.LineSink.leads l.fn.sink l.sink;
 }

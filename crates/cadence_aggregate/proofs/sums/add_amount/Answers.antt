@@ -10,6 +10,7 @@ use Rattle.cadence_aggregate.specs.Held.{held_sums}
 use Rattle.cadence_aggregate.proofs.Observed.{same_of}
 use Rattle.cadence_aggregate.proofs.Tables.{has_context, its_context, put_said, room_after, on_err}
 use Rattle.cadence_aggregate.proofs.SumSteps.{raised, restarted, unwritten}
+use Rattle.cadence_aggregate.proofs.Within.{within_both}
 use Rattle.cadence_aggregate.proofs.sums.add_amount.Goals as goal
 use Rattle.cadence_aggregate.proofs.sums.add_amount.Goals.{then-len-get+in_ok-send_oldest, else-len-get}
 
@@ -54,4 +55,22 @@ returns-clause-ok g c =
           let h : g.S.LineSink.sent c.if-len-get.sink ++ held_sums c.if-len-get.sums.entries ≡ said ++ held_sums old.entries = rw (w.sums-is, w.sink-is) refl in
           let e = put_said say c.args.context.now c.if-len-get.sums c.put.new.self c.in_ok-key.key c.args.by said (g.S.LineSink.sent c.if-len-get.sink) old.entries (rw same none) c.in_ok-key.ensures.ok (rw same room) h (rw by at c.in_ok-put.ensures.entries) in
           same_of _ _ (sym (e ∙ ap (λ t. (said ++ held_sums old.entries) ++ amount t c.args.by ∷ []) c.in_ok-key.ensures.ok))
+    ]
+
+pub returns-in_ok-send-in-None-clause-within : goal.returns-in_ok-send-in-None-clause-within
+returns-in_ok-send-in-None-clause-within g c =
+    λ most within. rw c.in_ok-send-in-None.ensures.ok (within_both most (g.S.LineSink.sent c.args.sink.now) _ within tt)
+
+pub returns-in_err-put-clause-within : goal.returns-in_err-put-clause-within
+returns-in_err-put-clause-within g c =
+    elim c.if-len-get.branch [
+      | then-len-get+in_ok-send_oldest w ↦ rw w.sink-is w.in_ok-send_oldest.ensures.within
+      | else-len-get w ↦ rw w.sink-is (λ most within. within)
+    ]
+
+pub returns-clause-within : goal.returns-clause-within
+returns-clause-within g c =
+    elim c.if-len-get.branch [
+      | then-len-get+in_ok-send_oldest w ↦ rw w.sink-is w.in_ok-send_oldest.ensures.within
+      | else-len-get w ↦ rw w.sink-is (λ most within. within)
     ]

@@ -5,6 +5,7 @@ use mir.Syntax.{w64}
 use mir.Val.{SFits}
 use Rattle.cadence_aggregate.specs.Server.{amount}
 use Rattle.cadence_aggregate.proofs.Tables.{popped}
+use Rattle.cadence_aggregate.proofs.Within.{within_both}
 use Rattle.cadence_aggregate.proofs.sums.send_oldest.Goals as goal
 
 pub returns-clause-same : goal.returns-clause-same
@@ -13,3 +14,7 @@ returns-clause-same g c =
     let fits : SFits w64 c.in-Some.sum.now = search rules in
     rw (c.in_ok-send-in-Some.ensures.ok, c.pop_lru.ensures.entries, append_assoc, c.as_str.ensures.value, to_z-of_z w64 c.in-Some.sum.now fits)
     (ap (λ t. g.S.LineSink.sent c.args.sink.now ++ t) first)
+
+pub returns-clause-within : goal.returns-clause-within
+returns-clause-within g c =
+    λ most within. rw c.in_ok-send-in-Some.ensures.ok (within_both most (g.S.LineSink.sent c.args.sink.now) _ within tt)
