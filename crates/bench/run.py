@@ -35,6 +35,8 @@ MODES = [
     Work('dtags', '', '3 20 50', 'a counter with {} default tags', 100000),
     Work('values', '', '10 1000', 'a histogram of {} values', 20000, 2000),
     Work('key', '', '100 1000', 'a counter with a key of {} bytes', 500000),
+    Work('keys', '', '1 100 10000', 'a counter by one of {} keys, whose calls make no line', 500000),
+    Work('keys_tags', '', '1 100 10000', 'a counter with three tags by one of {} keys', 500000),
     Work('packer', '512 20', '', 'a line of 20 bytes into a packer of 512', 5000000),
     Work('packer', '1432 60', '', 'a line of 60 bytes into a packer of 1432', 5000000),
     Work('packer', '16 20', '', 'a line that passes the capacity', 5000000),
@@ -60,7 +62,7 @@ MODES = [
     Work('read_full_arena', '512 93', '', 'a byte of lines with every field, read into an arena', 20000, 500, 5 * 94),
     Work('read_full_arena', '1432 93', '', 'a byte of lines with every field, read into an arena', 10000, 500, 15 * 94),
 ]
-HERE_ALONE = ('strict_tags', 'read', 'read_full', 'read_arena', 'read_full_arena')   # the Rust crate doesn't do this
+HERE_ALONE = ('strict_tags', 'keys', 'keys_tags', 'read', 'read_full', 'read_arena', 'read_full_arena')   # the Rust crate doesn't do this
 PACKED = ('packer', 'udp', 'udp_callers')
 QUEUED = ('queue', 'callers', 'service')
 

@@ -64,10 +64,12 @@ pub enum Mode {
     Emit(Emitting),
     /// Counters of several callers through a queue into a buffered UDP sink.
     Service,
+    /// Counters by `size` keys of a client whose calls make no line, with three tags or without.
+    Keys(bool),
 }
 
 // The modes, each with its word.
-const MODES: [(Mode, &str); 19] = [
+const MODES: [(Mode, &str); 21] = [
     (Mode::Client(Calling::Count), "count"),
     (Mode::Client(Calling::CountTags), "count_tags"),
     (Mode::Client(Calling::Options), "options"),
@@ -87,6 +89,8 @@ const MODES: [(Mode, &str); 19] = [
     (Mode::Emit(Emitting::Callers), "callers"),
     (Mode::Emit(Emitting::UdpCallers), "udp_callers"),
     (Mode::Service, "service"),
+    (Mode::Keys(false), "keys"),
+    (Mode::Keys(true), "keys_tags"),
 ];
 
 // Returns the mode that a word names, and the word.
@@ -121,7 +125,7 @@ pub struct Arguments {
 
 /// The text that is printed if the words name no work.
 pub const USAGE: &str = "bench count|count_tags|options|strict_tags|histogram4 N
-bench tags|dtags|values|key N [SIZE]
+bench tags|dtags|values|key|keys|keys_tags N [SIZE]
 bench packer|udp|queue N [CAP LEN]
 bench read|read_full|read_arena|read_full_arena N [CAP LEN]
 bench callers|udp_callers N [CAP LEN CALLERS]

@@ -7,6 +7,7 @@
 //!
 //! - `arguments`: the words of the command line.
 //! - `lines`, `sizes`: calls of a client, of one size and of growing sizes.
+//! - `keys`: counts by the keys of a client whose calls make no line.
 //! - `packets`: lines into a packer.
 //! - `sinks`, `callers`: lines into sinks and queues, from one thread and from several.
 //! - `reading`: packets that are read.
@@ -18,6 +19,7 @@ mod arguments;
 mod callers;
 mod counting;
 mod done;
+mod keys;
 mod lines;
 mod packets;
 mod reading;
@@ -65,6 +67,7 @@ fn main(rt: HostRuntime) -> MetricResult<()> {
         Mode::Packer => packets::write_lines(&rt, alloc, &arguments)?,
         Mode::Read(what) => reading::read_packets(&rt, alloc, what, &arguments)?,
         Mode::Emit(what) => callers::emit(&rt, alloc, what, &arguments)?,
+        Mode::Keys(tagged) => keys::count(&rt, alloc, &arguments, tagged)?,
         Mode::Service => {
             let (_server, queue) = callers::make_queue_over_udp(&rt, alloc, &arguments)?;
             let sink: Box<dyn MetricSink + Send + Sync> = Box::new(alloc, queue.clone()?)?;

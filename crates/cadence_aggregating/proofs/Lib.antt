@@ -1,4 +1,6 @@
 pub mod Among
+pub mod Called
+pub mod Keyed
 pub mod MetricParts
 pub mod Origins
 pub mod Records

@@ -4,7 +4,7 @@ use Rattle.std.specs.Prelude.{All, Contains}
 use Rattle.std.specs.Int.RustNames.{FitsSigned}
 use Rattle.std.specs.List.{AllByRecursion, AllZip}
 use Rattle.std.proofs.lemmas.List.{length-append}
-use Rattle.std.proofs.lemmas.List.Elements.{All-from_recursion, Contains-append_left, Contains-append_right, Contains-push}
+use Rattle.std.proofs.lemmas.List.Elements.{All-from_recursion, recursion_from_All, Contains-append_left, Contains-append_right, Contains-push}
 use Rattle.std.proofs.Math.Nat.{div-le_self}
 use mir.Syntax.{w64}
 use Rattle.cadence_aggregate.specs.Server.{Sample, amount, level, member, timing, other, IsSummary}
@@ -12,10 +12,12 @@ use Rattle.cadence_value.specs.Number.{decimal_text, number_text, numbers_text, 
 use Rattle.cadence_value.proofs.digits.Digits.{length-decimal_text-le}
 use Rattle.cadence_value.proofs.digits.NumberText.{sign, sign-pos, unsigned_text}
 use Rattle.cadence_aggregating.specs.Notes.{line_of_note, sample_of_note}
-use Rattle.cadence_aggregating.specs.Origins.{ComesFrom, IsMadeOf}
-use Rattle.cadence_aggregating.specs.Past.{IsPast}
+use Rattle.cadence_aggregate.specs.Within.{AreWithin, StayWithin}
+use Rattle.cadence_aggregate.proofs.Within.{within_parts}
+use Rattle.cadence_aggregating.specs.Origins.{ComesFrom, IsMadeOf, IsNoLonger}
+use Rattle.cadence_aggregating.specs.Past.{SumsUpWithin}
 use Rattle.cadence_aggregating.specs.Printed.{before_bar, from_bar, spliced, text_of}
-use Rattle.cadence_aggregating.specs.Says.{LineSays}
+use Rattle.cadence_aggregating.specs.Says.{LineSays, context_of}
 use Rattle.cadence_aggregating.specs.declared.note.Note.{Note}
 use Rattle.cadence_aggregating.proofs.Among.{Among, amount_found, amount_shown, level_found, level_shown, member_found, member_shown, other_found, other_shown, is, is_level}
 use Rattle.cadence_aggregating.proofs.MetricParts.{line_parts}
@@ -79,12 +81,37 @@ size_spliced context values =
       ap (λ t. length t) (cut_whole context),
     )
 
-module _ (accepted : List (List ℕ)) (came sent : List Sample) (zip : AllZip LineSays accepted came) (same : IsSummary came sent) where
+-- the line of a timer, a histogram or a distribution is its context, a colon and its values
+timing_size : (line c t : List ℕ) → LineSays line (timing c t) → length line ≡ length c + length t + 1
+timing_size line c t (m, listed, its, (kind, time, context, values, some)) =
+    ap (λ l. length l) (sym its ∙ line_parts m) ∙ ap (λ l. length l) (sym (spliced_context m listed (numbers_text m.numbers)))
+    ∙ size_spliced (context_of m) (numbers_text m.numbers) ∙ ap₂ (λ a b. length a + length b + 1) (sym context) (sym values)
+
+-- the values of accepted lines are within what those lines are within
+accepted_within : (most : ℕ) (lines : List (List ℕ)) (said : List Sample) → AllZip LineSays lines said
+    → AllByRecursion (λ line. length line ≤ most) lines → AreWithin most said
+accepted_within most [] [] zip short = tt
+accepted_within most [] (x ∷ said) zip short = absurd zip
+accepted_within most (line ∷ lines) [] zip short = absurd zip
+accepted_within most (line ∷ lines) (amount c n ∷ said) (here, rest) (first, later) = accepted_within most lines said rest later
+accepted_within most (line ∷ lines) (level c v ∷ said) (here, rest) (first, later) = accepted_within most lines said rest later
+accepted_within most (line ∷ lines) (member c ∷ said) (here, rest) (first, later) = accepted_within most lines said rest later
+accepted_within most (line ∷ lines) (timing c t ∷ said) (here, rest) (first, later) =
+    (subst (λ n. n ≤ most) (timing_size line c t here) first, accepted_within most lines said rest later)
+accepted_within most (line ∷ lines) (other l ∷ said) (here, rest) (first, later) = accepted_within most lines said rest later
+
+-- each line of values among others is within what all are within
+one_within : (most : ℕ) (said : List Sample) (c t : List ℕ) → Among (timing c t) said → AreWithin most said → length c + length t + 1 ≤ most
+one_within most [] c t among within = absurd among
+one_within most (x ∷ said) c t (inl same) within = (subst (λ s. AreWithin most (s ∷ [])) same (within_parts most (x ∷ []) said within).0).0
+one_within most (x ∷ said) c t (inr later) within = one_within most said c t later (within_parts most (x ∷ []) said within).1
+
+module _ (limit : ℕ) (accepted : List (List ℕ)) (came sent : List Sample) (zip : AllZip LineSays accepted came) (same : IsSummary came sent) (stay : StayWithin limit came sent) where
   -- what was sent is the line of a metric, as the record shows
   says_itself : (s : Sample) → Among s sent → IsSized s → LineSays (text_of s) s
   says_itself = sayable came sent same (all_said accepted came zip)
 
-  sum_made : (c : List ℕ) (n : ℤ) → Among (amount c n) sent → FitsSigned w64 n → IsMadeOf accepted (text_of (amount c n))
+  sum_made : (c : List ℕ) (n : ℤ) → Among (amount c n) sent → FitsSigned w64 n → IsMadeOf limit accepted (text_of (amount c n))
   sum_made c n among fits =
       let (k, there) = amount_found c came (same.counters (is c) ∙ amount_shown c n sent among) in
       let (old, here, (m, listed, its, (kind, time, context, numbers, small))) = said_by_line accepted came zip (amount c k) there in
@@ -98,7 +125,12 @@ module _ (accepted : List (List ℕ)) (came sent : List Sample) (zip : AllZip Li
         kind = inl (kind', subst (λ d. length (spliced c (number_text (whole n))) ≤ length d + 21) context' size);
       }
 
-  values_made : (c t : List ℕ) → Among (timing c t) sent → IsMadeOf accepted (text_of (timing c t))
+  values_within : (c t : List ℕ) → Among (timing c t) sent → IsNoLonger limit accepted (text_of (timing c t))
+  values_within c t among most least short =
+      let within = stay most least (accepted_within most accepted came zip (recursion_from_All (λ line. length line ≤ most) accepted short)) in
+      omega (arith, one_within most sent c t among within, size_spliced c t)
+
+  values_made : (c t : List ℕ) → Among (timing c t) sent → IsMadeOf limit accepted (text_of (timing c t))
   values_made c t among =
       let (x, value) = first_value t in
       let (u, there, value') = value_came came sent same (all_said accepted came zip) c t x among value in
@@ -109,13 +141,13 @@ module _ (accepted : List (List ℕ)) (came sent : List Sample) (zip : AllZip Li
         listed = listed';
         whole = whole';
         context = (m, listed, subst (Contains accepted) (sym its) (contained old accepted here), sym context ∙ context');
-        kind = inr kind';
+        kind = inr (kind', values_within c t among);
       }
 
-  unchanged : (s : Sample) → Said accepted s → ((line : List ℕ) → LineSays line s → text_of s ≡ line) → ComesFrom accepted (text_of s)
+  unchanged : (s : Sample) → Said accepted s → ((line : List ℕ) → LineSays line s → text_of s ≡ line) → ComesFrom limit accepted (text_of s)
   unchanged s (line, here, says) text = inl (subst (Contains accepted) (sym (text line says)) (contained line accepted here))
 
-  origin : (s : Sample) → Among s sent → IsSized s → ComesFrom accepted (text_of s)
+  origin : (s : Sample) → Among s sent → IsSized s → ComesFrom limit accepted (text_of s)
   origin (amount c n) among fits = inr (sum_made c n among fits)
   origin (level c v) among fits =
       let there = level_found c v came (same.values (is_level c v) (level_shown c v sent among)) in
@@ -128,18 +160,18 @@ module _ (accepted : List (List ℕ)) (came sent : List Sample) (zip : AllZip Li
       let there = other_found l came (subst (Among l) (sym same.rest) (other_shown l sent among)) in
       unchanged (other l) (said_by_line accepted came zip (other l) there) (λ line (whole, none). whole)
 
-all_from : (accepted : List (List ℕ)) (notes : List Note) → ((note : Note) → Among note notes → ComesFrom accepted (line_of_note note))
-    → AllByRecursion (ComesFrom accepted) (map line_of_note notes)
-all_from accepted [] each = tt
-all_from accepted (note ∷ notes) each = (each note (inl refl), all_from accepted notes (λ n among. each n (inr among)))
+all_from : (limit : ℕ) (accepted : List (List ℕ)) (notes : List Note) → ((note : Note) → Among note notes → ComesFrom limit accepted (line_of_note note))
+    → AllByRecursion (ComesFrom limit accepted) (map line_of_note notes)
+all_from limit accepted [] each = tt
+all_from limit accepted (note ∷ notes) each = (each note (inl refl), all_from limit accepted notes (λ n among. each n (inr among)))
 
 -- where the lines of the record come from
-pub comes_from : (accepted : List (List ℕ)) (notes : List Note) (held : List Sample) → IsPast accepted (map sample_of_note notes) held
-    → All (ComesFrom accepted) (map line_of_note notes)
-comes_from accepted notes held (came, zip, same) =
+pub comes_from : (limit : ℕ) (accepted : List (List ℕ)) (notes : List Note) (held : List Sample) → SumsUpWithin limit accepted (map sample_of_note notes) held
+    → All (ComesFrom limit accepted) (map line_of_note notes)
+comes_from limit accepted notes held (came, zip, same, stay) =
     let sent = map sample_of_note notes in
-    let each : (note : Note) → Among note notes → ComesFrom accepted (line_of_note note) = λ note among.
-    subst (ComesFrom accepted) (sym note.printed)
-    (origin accepted came (sent ++ held) zip same (sample_of_note note)
+    let each : (note : Note) → Among note notes → ComesFrom limit accepted (line_of_note note) = λ note among.
+    subst (ComesFrom limit accepted) (sym note.printed)
+    (origin limit accepted came (sent ++ held) zip same stay (sample_of_note note)
     (among_left (sample_of_note note) sent held (among_mapped sample_of_note note notes among)) (sized note)) in
-    All-from_recursion (ComesFrom accepted) (map line_of_note notes) (all_from accepted notes each)
+    All-from_recursion (ComesFrom limit accepted) (map line_of_note notes) (all_from limit accepted notes each)

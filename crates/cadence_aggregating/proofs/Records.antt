@@ -6,7 +6,11 @@ use Rattle.cadence_aggregate.specs.Server.{Sample, IsSummary}
 use Rattle.cadence_aggregate.proofs.Observed.{same_of, same_trans, same_more, same_refl}
 use Rattle.cadence_aggregating.specs.Notes.{line_of_note, sample_of_note}
 use Rattle.cadence_aggregating.specs.Noted.{noted}
-use Rattle.cadence_aggregating.specs.Past.{IsPast, Summarizes, texts_in}
+use Rattle.cadence_aggregate.specs.Within.{StayWithin}
+use Rattle.cadence_aggregate.proofs.Within.{stay_further, stay_more, stay_same}
+use Rattle.cadence_aggregating.specs.Past.{SumsUp, SumsUpWithin, Summarizes}
+use Rattle.cadence_aggregating.specs.Accepted.{line_of_entry, lines_of_entries}
+use Rattle.cadence_aggregating.specs.declared.accepted.Accepted.{Accepted}
 use Rattle.cadence_aggregating.specs.Printed.{text_of}
 use Rattle.cadence_aggregating.specs.Says.{LineSays}
 use Rattle.cadence_aggregating.specs.declared.note.Note.{Note}
@@ -22,29 +26,44 @@ zip_more (y ∷ lines) [] line s h last = absurd h
 zip_more (y ∷ lines) (x ∷ said) line s (here, rest) last = (here, zip_more lines said line s rest last)
 
 -- nothing was accepted yet
-pub none_past : IsPast [] [] []
+pub none_past : SumsUp [] [] []
 none_past = ([], tt, same_refl [])
 
+pub none_within : (limit : ℕ) → SumsUpWithin limit [] [] []
+none_within limit = ([], tt, same_refl [], stay_same limit [] [] refl)
+
+-- the same past, whatever the limit is
+pub without_limit : (limit : ℕ) (accepted : List (List ℕ)) (sent held : List Sample) → SumsUpWithin limit accepted sent held → SumsUp accepted sent held
+without_limit limit accepted sent held (said, zip, sum, stay) = (said, zip, sum)
+
 -- one more line was accepted
-pub past_more : (accepted : List (List ℕ × ℕ)) (line : List ℕ) (count : ℕ) (sent held sent' held' : List Sample) (s : Sample)
-    → IsPast (texts_in accepted) sent held → LineSays line s → IsSummary ((sent ++ held) ++ s ∷ []) (sent' ++ held')
-    → IsPast (texts_in (accepted ++ (line, count) ∷ [])) sent' held'
-past_more accepted line count sent held sent' held' s (said, zip, sum) says step =
-    let texts : texts_in (accepted ++ (line, count) ∷ []) ≡ texts_in accepted ++ line ∷ [] = map-append (λ (t : List ℕ × ℕ). t.0) accepted ((line, count) ∷ []) in
-    subst (λ ts. IsPast ts sent' held') (sym texts) (
+pub past_more : (limit : ℕ) (accepted : List Accepted) (entry : Accepted) (sent held sent' held' : List Sample) (s : Sample)
+    → SumsUpWithin limit (lines_of_entries accepted) sent held → LineSays (line_of_entry entry) s
+    → IsSummary ((sent ++ held) ++ s ∷ []) (sent' ++ held') → StayWithin limit ((sent ++ held) ++ s ∷ []) (sent' ++ held')
+    → SumsUpWithin limit (lines_of_entries (accepted ++ entry ∷ [])) sent' held'
+past_more limit accepted entry sent held sent' held' s (said, zip, sum, stay) says step within =
+    let lines : lines_of_entries (accepted ++ entry ∷ []) ≡ lines_of_entries accepted ++ line_of_entry entry ∷ [] = map-append line_of_entry accepted (entry ∷ []) in
+    subst (λ ls. SumsUpWithin limit ls sent' held') (sym lines) (
       said ++ s ∷ [],
-      zip_more (texts_in accepted) said line s zip says,
+      zip_more (lines_of_entries accepted) said (line_of_entry entry) s zip says,
       same_trans _ _ _ (same_more said (sent ++ held) (s ∷ []) sum) step,
+      stay_further limit (said ++ s ∷ []) ((sent ++ held) ++ s ∷ []) (sent' ++ held') (stay_more limit said (sent ++ held) (s ∷ []) stay) within,
     )
 
 -- no line was accepted, and lines may have been sent
-pub past_kept : (accepted : List (List ℕ)) (sent held sent' held' : List Sample) → IsPast accepted sent held
-    → IsSummary (sent ++ held) (sent' ++ held') → IsPast accepted sent' held'
-past_kept accepted sent held sent' held' (said, zip, sum) step = (said, zip, same_trans _ _ _ sum step)
+pub past_kept : (limit : ℕ) (accepted : List (List ℕ)) (sent held sent' held' : List Sample) → SumsUpWithin limit accepted sent held
+    → IsSummary (sent ++ held) (sent' ++ held') → StayWithin limit (sent ++ held) (sent' ++ held') → SumsUpWithin limit accepted sent' held'
+past_kept limit accepted sent held sent' held' (said, zip, sum, stay) step within =
+    (said, zip, same_trans _ _ _ sum step, stay_further limit said (sent ++ held) (sent' ++ held') stay within)
 
-pub past_flushed : (accepted : List (List ℕ)) (sent held sent' held' : List Sample) → IsPast accepted sent held
-    → sent' ++ held' ≡ sent ++ held → IsPast accepted sent' held'
-past_flushed accepted sent held sent' held' past same = past_kept accepted sent held sent' held' past (same_of _ _ (sym same))
+pub past_flushed : (limit : ℕ) (accepted : List (List ℕ)) (sent held sent' held' : List Sample) → SumsUpWithin limit accepted sent held
+    → sent' ++ held' ≡ sent ++ held → SumsUpWithin limit accepted sent' held'
+past_flushed limit accepted sent held sent' held' past same =
+    past_kept limit accepted sent held sent' held' past (same_of _ _ (sym same)) (stay_same limit (sent ++ held) (sent' ++ held') same)
+
+-- a call that failed said nothing
+pub none_said : (limit : ℕ) (xs ys : List Sample) → StayWithin limit (xs ++ []) ys → StayWithin limit xs ys
+none_said limit xs ys stay = subst (λ zs. StayWithin limit zs ys) (append-nil xs) stay
 
 pub sized : (note : Note) → IsSized (sample_of_note note)
 sized note = elim note.kind as (λ k. IsSized (noted k note.by note.name note.values (line_of_note note))) [
@@ -71,7 +90,7 @@ all_noted [] each = tt
 all_noted (note ∷ notes) each = (each note (inl refl), all_noted notes (λ n among. each n (inr among)))
 
 -- what the record shows
-pub summarizes : (accepted : List (List ℕ)) (notes : List Note) (held : List Sample) → IsPast accepted (map sample_of_note notes) held
+pub summarizes : (accepted : List (List ℕ)) (notes : List Note) (held : List Sample) → SumsUp accepted (map sample_of_note notes) held
     → Summarizes accepted (map line_of_note notes) held
 summarizes accepted notes held (said, zip, sum) =
     let sent = map sample_of_note notes in

@@ -33,7 +33,7 @@ IsSized (timing c t) = Unit {0}
 IsSized (other l) = Unit {0}
 
 -- a metric with these numbers
-abbrev numbered : Metric → List Number → Metric
+abbrev pub numbered : Metric → List Number → Metric
 numbered m ns = record m { numbers = ns }
 
 module _ (m : Metric) (listed : IsListed m) where
@@ -43,10 +43,10 @@ module _ (m : Metric) (listed : IsListed m) where
       ap₂ (λ a b. a ++ 58 ∷ (values ++ b)) (before_found m.name _ lacks) (from_found m.name _ lacks)
 
   -- the line of the metric with these numbers
-  numbered_line : (ns : List Number) → line_of (numbered m ns) ≡ spliced (context_of m) (numbers_text ns)
+  pub numbered_line : (ns : List Number) → line_of (numbered m ns) ≡ spliced (context_of m) (numbers_text ns)
   numbered_line ns = line_parts (numbered m ns) ∙ sym (spliced_context (numbers_text ns))
 
-  numbered_listed : (ns : List Number) → All IsDecimal ns → IsListed (numbered m ns)
+  pub numbered_listed : (ns : List Number) → All IsDecimal ns → IsListed (numbered m ns)
   numbered_listed ns good = record {
     representable = record {
       name = listed.representable.name;
@@ -59,10 +59,10 @@ module _ (m : Metric) (listed : IsListed m) where
     free = record { name = listed.free.name; tags = listed.free.tags; container = listed.free.container };
   }
 
-one_number : (n : Number) → numbers_text (n ∷ []) ≡ number_text n
+pub one_number : (n : Number) → numbers_text (n ∷ []) ≡ number_text n
 one_number n = append-nil (number_text n)
 
-whole_is_decimal : (n : ℤ) → FitsSigned w64 n → IsDecimal (whole n)
+pub whole_is_decimal : (n : ℤ) → FitsSigned w64 n → IsDecimal (whole n)
 whole_is_decimal n fits = record { mantissa = grind (arith, fits); places = omega arith; lowest = refl }
 
 -- another sum of the same context

@@ -1,8 +1,12 @@
+pub mod Accepted
 pub mod Additions
 pub mod Answers
 pub mod Builder
 pub mod Causes
+pub mod Clients
+pub mod Contexts
 pub use Rattle.cadence_errors.specs.Errors
+pub mod Keys
 pub mod Noted
 pub mod Notes
 pub mod Origins
@@ -10,6 +14,7 @@ pub mod Past
 pub mod Printed
 pub mod Quiet
 pub mod Recorded
+pub mod Results
 pub mod Runs
 pub mod Says
 pub mod Shown

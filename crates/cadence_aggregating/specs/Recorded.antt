@@ -4,14 +4,14 @@ use Rattle.cadence_aggregate.specs.Aggregate.{held}
 use Rattle.cadence_aggregate.specs.Server.{Sample}
 use Rattle.cadence_aggregate.specs.declared.aggregator.Aggregator.{Aggregator}
 use Rattle.cadence_aggregating.specs.Notes.{line_of_note}
-use Rattle.cadence_aggregating.specs.Past.{texts_in}
+use Rattle.cadence_aggregating.specs.Accepted.{lines_of_entries}
 use Rattle.cadence_aggregating.specs.declared.limits.Limits.{Limits}
 use Rattle.cadence_aggregating.specs.declared.recorded.RecordedAggregator.{RecordedAggregator}
 
 module _ {S : Type 0} where
   -- the lines that were accepted, in order
   abbrev pub accepted_by : RecordedAggregator S → List (List ℕ)
-  accepted_by a = texts_in a.accepted.items
+  accepted_by a = lines_of_entries a.accepted.items
 
   -- the lines that the sink took, in order
   abbrev pub taken_by : RecordedAggregator S → List (List ℕ)

@@ -32,8 +32,8 @@ const MOST_BYTES: usize = 512;
 /// ```
 #[derive(Clone, Copy, Debug)]
 pub struct AggregatingMetricSinkBuilder {
-    limits: Limits,
-    period: Option<Duration>,
+    pub(crate) limits: Limits,
+    pub(crate) period: Option<Duration>,
 }
 
 impl AggregatingMetricSinkBuilder {

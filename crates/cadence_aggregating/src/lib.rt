@@ -11,9 +11,16 @@
 //! - `locked`: an aggregator of lines under a lock.
 //! - `sink`: the aggregating sink, which may flush by time.
 //! - `builder`: its settings.
+//! - `accepted`: a record of a line that was accepted, for proofs.
+//! - `keys`: the keys of calls that make no line.
+//! - `shared`: an aggregator that a client shares with a thread.
+//! - `client`: a client whose calls make no line.
 #![tactic(auto)]
 
+mod accepted;
 mod builder;
+mod client;
+mod keys;
 mod limits;
 mod locked;
 mod note;
@@ -22,11 +29,17 @@ mod printer;
 mod recorded;
 mod runs;
 mod said;
+mod shared;
 mod sink;
 mod under_lock;
 
 pub use builder::AggregatingMetricSinkBuilder;
+pub use client::AggregatedClient;
+pub use keys::{CounterKey, GaugeKey};
 pub use limits::Limits;
+pub use note::{Kind, Note};
+pub use printed::note_line;
 pub use recorded::RecordedAggregator;
 pub use runs::{Outcome, Step, run};
+pub use said::read_said;
 pub use sink::AggregatingMetricSink;

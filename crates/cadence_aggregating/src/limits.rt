@@ -19,8 +19,8 @@ impl Limits {
     ghost use Rattle.std.specs.Prelude.{◌≡◌, true};
     ghost use Rattle.cadence_aggregating.specs.ToHold.{IsToHold};
 
-    // Returns whether a line of `len` bytes, which says this, is held.
-    pub(crate) fn holds(&self, said: &Line<'_>, len: usize) -> bool
+    /// Returns whether a line of `len` bytes, which says this, is held.
+    pub fn holds(&self, said: &Line<'_>, len: usize) -> bool
         ensures { IsToHold self.now said.now len → result ≡ true }
     {
         if len > self.most_bytes {

@@ -1,4 +1,6 @@
-//! An aggregator under a lock.
+//! An aggregator under a lock. `called` has the calls by keys, which make no line.
+mod called;
+
 ghost use Rattle.cadence_aggregating.specs.Answers.{IsAggregated};
 ghost use Rattle.cadence_aggregating.specs.Shown.{ShowsAdded, ShowsEmptied};
 ghost use Rattle.cadence_errors.specs.Errors.{MayOnlyRunOutOfMemory};

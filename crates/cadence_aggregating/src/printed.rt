@@ -97,7 +97,7 @@ fn note_of(kind: Kind, by: i64, name: usize, values: usize, text: &String) -> No
 }
 
 /// Writes the line that says this, in place of what the text had. Returns a note of it.
-pub(crate) fn note_line(text: &mut String, line: Line<'_>) -> Result<Note, AllocError>
+pub fn note_line(text: &mut String, line: Line<'_>) -> Result<Note, AllocError>
     ensures said { IfOk result (λ note. sample_of_note note ≡ sample_of line.entry) }
     ensures line { IfOk result (λ note. string_bytes text.new ≡ line_of_note note) }
 {

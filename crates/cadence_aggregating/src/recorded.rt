@@ -1,23 +1,29 @@
-//! An aggregator of lines, over a sink of metrics, with a record of its past that only proofs read.
+//! An aggregator of lines, over a sink of metrics, with a record of its past that only proofs read. `called` has the
+//! calls that make no line.
+mod called;
+
 ghost use Rattle.std.specs.Prelude.{◌≡◌, ◌++◌, ◌∷◌, [], IfOk, OnErr, OnOk, map, true};
 ghost use Rattle.cadence_aggregate.specs.Aggregate.{CanHold, held};
 ghost use Rattle.cadence_aggregate.specs.Lines.{samples_of};
 ghost use Rattle.cadence_aggregate.specs.Refusals.{after_reply};
 ghost use Rattle.cadence_aggregate.specs.Server.{IsSummary};
 ghost use Rattle.cadence_aggregating.specs.Notes.{sample_of_note};
-ghost use Rattle.cadence_aggregating.specs.Past.{IsPast, texts_in};
+ghost use Rattle.cadence_aggregate.specs.Within.{StayWithin, if_ok};
+ghost use Rattle.cadence_aggregating.specs.Past.{SumsUpWithin};
+ghost use Rattle.cadence_aggregating.specs.Accepted.{lines_of_entries};
 
+use crate::accepted::Accepted;
 use crate::limits::Limits;
 use crate::printer::Printer;
 use crate::said::read_said;
 use cadence_aggregate::{Aggregator, Fault, Line};
 use cadence_errors::SinkError;
-use cadence_flow::{GhostTexts, MetricSink};
+use cadence_flow::{GhostList, MetricSink};
 use std::alloc::{AllocError, Global};
 
 /// An aggregator of lines over a sink of metrics, with a record of the lines that it accepted. The record exists in
 /// proofs only. The fact `past` is true of every `RecordedAggregator`: what the sink took, with what is still held, is
-/// a summary of what the accepted lines say.
+/// a summary of what the accepted lines say, and packed values make no line longer than the limit.
 #[derive(Drop)]
 pub struct RecordedAggregator<S: Drop> {
     alloc: Global,
@@ -25,8 +31,9 @@ pub struct RecordedAggregator<S: Drop> {
     aggregator: Aggregator,
     printer: Printer<S>,
     context: String,
-    accepted: GhostTexts,
-    pub ghost past: { ∥ IsPast (texts_in accepted.items)
+    accepted: GhostList<Accepted>,
+    pub ghost limit: { aggregator.most_bytes ≡ limits.most_bytes },
+    pub ghost past: { ∥ SumsUpWithin limits.most_bytes (lines_of_entries accepted.items)
         (map sample_of_note printer.notes.items) (held aggregator) ∥₁ },
 }
 
@@ -47,6 +54,11 @@ fn add_or_pass<S: MetricSink>(
     ensures quiet { is_held ≡ true → CanHold aggregator.old said.entry →
         map sample_of_note printer.new.notes.items ≡ map sample_of_note printer.old.notes.items }
     ensures refused { printer.new.refusals ≡ after_reply printer.old.refusals result }
+    ensures limit { aggregator.new.most_bytes ≡ aggregator.old.most_bytes }
+    ensures within { StayWithin aggregator.old.most_bytes
+        ((map sample_of_note printer.old.notes.items ++ held aggregator.old)
+        ++ if_ok result (samples_of said.entry))
+        (map sample_of_note printer.new.notes.items ++ held aggregator.new) }
 {
     if is_held {
         aggregator.add(printer, said)
@@ -70,6 +82,7 @@ impl<S: MetricSink> RecordedAggregator<S> {
         ensures taken { IfOk result (λ a. taken_by a ≡ []) }
         ensures held { IfOk result (λ a. held_by a ≡ []) }
         ensures refused { IfOk result (λ a. refusals_by a ≡ 0) }
+        ensures limits { IfOk result (λ a. limits_of a ≡ limits) }
     {
         let aggregator = Aggregator::new(alloc, limits.most_contexts, limits.most_bytes)?;
         let text = String::with_capacity(alloc, limits.most_bytes)?;
@@ -79,7 +92,7 @@ impl<S: MetricSink> RecordedAggregator<S> {
             aggregator,
             printer: Printer::new(sink, text),
             context: String::new(alloc),
-            accepted: GhostTexts::new(),
+            accepted: GhostList::new(),
         })
     }
 
@@ -90,21 +103,23 @@ impl<S: MetricSink> RecordedAggregator<S> {
         ensures quiet { OnOk result (∥ IsQuiet (limits_of self.old) (core_of self.old) line.now
             (taken_by self.old) (taken_by self.new) ∥₁) }
         ensures refused { refusals_by self.new ≡ after_reply (refusals_by self.old) result }
+        ensures limits { limits_of self.new ≡ limits_of self.old }
     {
         let said = read_said(self.alloc, line, &mut self.context)?;
         let is_held = self.limits.holds(&said, line.len());
         add_or_pass(&mut self.aggregator, &mut self.printer, said, is_held)?;
-        self.accepted.note(line.as_bytes(), line.len());
+        self.accepted = self.accepted.and(&Accepted::of(Line::Other(line)));
         Ok(())
     }
 
-    // Returns why a call failed.
-    fn error_of(&mut self, fault: Fault) -> SinkError
+    /// Returns why a call failed.
+    pub(crate) fn error_of(&mut self, fault: Fault) -> SinkError
         ensures accepted { accepted_by self.new ≡ accepted_by self.old }
         ensures taken { taken_by self.new ≡ taken_by self.old }
         ensures held { held_by self.new ≡ held_by self.old }
         ensures refused { refusals_by self.new ≡ refusals_by self.old }
         ensures cause { IsErrorOf fault result }
+        ensures limits { limits_of self.new ≡ limits_of self.old }
     {
         match fault {
             Fault::Refused => self.printer.take_fault(),
@@ -124,6 +139,7 @@ impl<S: MetricSink> RecordedAggregator<S> {
         ensures quiet { OnOk result (∥ IsQuiet (limits_of self.old) (core_of self.old) line.now
             (taken_by self.old) (taken_by self.new) ∥₁) }
         ensures refused { HasCountedCause (refusals_by self.old) (refusals_by self.new) result }
+        ensures limits { limits_of self.new ≡ limits_of self.old }
     {
         match self.try_add(line) {
             Ok(()) => Ok(()),
@@ -141,6 +157,7 @@ impl<S: MetricSink> RecordedAggregator<S> {
         ensures lines { OnOk result (taken_by self.new
             ≡ taken_by self.old ++ map text_of (held_by self.old)) }
         ensures refused { HasCountedCause (refusals_by self.old) (refusals_by self.new) result }
+        ensures limits { limits_of self.new ≡ limits_of self.old }
     {
         match self.aggregator.flush(&mut self.printer) {
             Ok(()) => Ok(()),
@@ -156,10 +173,12 @@ impl<S: MetricSink> RecordedAggregator<S> {
     }
 
     /// States that the lines that the sink took, with what is held, are a summary of the accepted lines: a server knows
-    /// the same after both. States also where each line comes from that the sink took. Does nothing when it is called.
+    /// the same after both. States also where each line comes from that the sink took, and how long it may be. Does
+    /// nothing when it is called.
     pub fn keeps_the_record(&self)
         ensures summary { ∥ Summarizes (accepted_by self.now)
             (taken_by self.now) (held_by self.now) ∥₁ }
-        ensures origins { ∥ All (ComesFrom (accepted_by self.now)) (taken_by self.now) ∥₁ }
+        ensures origins { ∥ All (ComesFrom (limits_of self.now).most_bytes (accepted_by self.now))
+            (taken_by self.now) ∥₁ }
     {}
 }

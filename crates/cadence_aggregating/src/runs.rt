@@ -2,7 +2,7 @@
 ghost use Rattle.std.specs.Prelude.{◌≡◌, ◌++◌, All, IfOk, length};
 ghost use Rattle.cadence_aggregating.specs.Origins.{ComesFrom};
 ghost use Rattle.cadence_aggregating.specs.Past.{Summarizes};
-ghost use Rattle.cadence_aggregating.specs.Recorded.{accepted_by, held_by, taken_by};
+ghost use Rattle.cadence_aggregating.specs.Recorded.{accepted_by, held_by, limits_of, taken_by};
 ghost use Rattle.cadence_aggregating.specs.Runs.{accepted_line, accepted_lines};
 
 use crate::limits::Limits;
@@ -32,8 +32,9 @@ fn take_step<S: MetricSink>(
     aggregator: &mut RecordedAggregator<S>,
     step: Step<'_>,
 ) -> Result<(), SinkError>
-    ensures { accepted_by aggregator.new
+    ensures accepted { accepted_by aggregator.new
         ≡ accepted_by aggregator.old ++ accepted_line step.entry result }
+    ensures limits { limits_of aggregator.new ≡ limits_of aggregator.old }
 {
     match step {
         Step::Add(line) => aggregator.add(line),
@@ -57,7 +58,7 @@ pub fn run<S: MetricSink>(
         (accepted_lines steps.now o.replies.items)
         (taken_by o.aggregator) (held_by o.aggregator) ∥₁) }
     ensures origins { IfOk result (λ o. ∥ All
-        (ComesFrom (accepted_lines steps.now o.replies.items))
+        (ComesFrom limits.most_bytes (accepted_lines steps.now o.replies.items))
         (taken_by o.aggregator) ∥₁) }
 {
     let mut aggregator = RecordedAggregator::new(alloc, limits, sink)?;

@@ -121,7 +121,7 @@ fn line_of_metric<'a>(
 }
 
 /// Reads what a line says. Its context, if it has one, is written into `context`, in place of what that had.
-pub(crate) fn read_said<'a>(
+pub fn read_said<'a>(
     alloc: Global,
     line: &'a str,
     context: &'a mut String,

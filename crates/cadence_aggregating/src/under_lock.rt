@@ -1,4 +1,4 @@
-//! What lies under the lock of an aggregating sink.
+//! What lies under the lock of an aggregating sink. `called` has the calls that make no line.
 ghost use Rattle.std.specs.Prelude.{◌≡◌, [], IfOk};
 ghost use Rattle.cadence_flow.specs.Opened.{opened};
 ghost use Rattle.cadence_aggregating.specs.Answers.{IsAggregated};
@@ -14,6 +14,7 @@ use std::alloc::{AllocError, Global};
 use std::snapshot::Snapshot;
 
 mod answers;
+mod called;
 
 pub use answers::{Added, Emptied, Failed};
 

@@ -7,6 +7,7 @@ use std::process::ExitCode;
 fn main(rt: HostRuntime) -> ExitCode {
     let status = run_script(
         rt.alloc(),
+        rt.alloc(),
         &mut rt.stdin(),
         &mut rt.stdout(),
         &mut rt.stderr(),

@@ -1,8 +1,31 @@
 //! Prints the report of a run, line by line.
 use cadence_cli::push_text;
 use cadence_flow::io::{Answer, PacketLog};
-use cadence_schedule::{Reply, Report};
+use cadence_flow::stats::SinkStats;
+use cadence_queue::QueueCore;
+use cadence_schedule::Reply;
 use std::alloc::{AllocError, Allocator};
+
+/// What the report of a run shows.
+#[derive(Clone, Copy)]
+pub struct Shown<'a, A: Allocator> {
+    /// The replies, one to each step.
+    pub replies: &'a [Reply],
+    /// The packets that the log took.
+    pub log: &'a PacketLog<A>,
+    /// The text that the packer holds.
+    pub held: &'a [u8],
+    /// The lines that the aggregator holds.
+    pub aggregated: &'a [String],
+    /// The queue, with the lines that wait.
+    pub queue: &'a QueueCore<String<A>, A>,
+    /// The line in hand.
+    pub in_hand: Option<&'a str>,
+    /// How many lines each packet has, and then the held text.
+    pub cut: &'a [usize],
+    /// The bytes and packets sent and dropped.
+    pub stats: SinkStats,
+}
 
 // Adds the line of one step's reply.
 fn push_reply<A: Allocator>(out: &mut String<A>, reply: &Reply) -> Result<(), AllocError> {
@@ -48,38 +71,42 @@ fn push_cut<A: Allocator>(
 // Adds the lines that wait in the queue, and then the line that the worker has in hand.
 fn push_waiting<A: Allocator>(
     out: &mut String<A>,
-    report: &Report<PacketLog<A>, A>,
+    queue: &QueueCore<String<A>, A>,
+    in_hand: Option<&str>,
 ) -> Result<(), AllocError> {
-    let queue = report.queue();
     for index in 0..queue.waiting() {
         if let Some(text) = queue.get(index) {
             push_text(out, "waiting", text.as_bytes())?;
         }
     }
-    match report.in_hand() {
+    match in_hand {
         Some(text) => push_text(out, "inhand", text.as_bytes()),
         None => Ok(()),
     }
 }
 
-/// Returns the text of a report: a line for each reply, the packets, the held text, the lines that wait, the line in
-/// hand, the cut, and the sums of bytes and packets that were sent and dropped.
+/// Returns the text of a report: a line for each reply, the packets, the held text, the lines that the aggregator
+/// holds, the lines that wait, the line in hand, the cut, and the sums of bytes and packets that were sent and
+/// dropped.
 pub fn report_text<A: Allocator>(
     alloc: A,
-    report: &Report<PacketLog<A>, A>,
+    shown: &Shown<'_, A>,
     answers: &[Answer],
 ) -> Result<String<A>, AllocError> {
     let mut out = String::new(alloc);
-    for reply in report.replies() {
+    for reply in shown.replies {
         push_reply(&mut out, reply)?;
     }
-    for packet in report.writer().packets() {
+    for packet in shown.log.packets() {
         push_text(&mut out, "packet", packet)?;
     }
-    push_text(&mut out, "held", report.held())?;
-    push_waiting(&mut out, report)?;
-    push_cut(&mut out, report.cut(), answers)?;
-    let stats = report.stats();
+    push_text(&mut out, "held", shown.held)?;
+    for line in shown.aggregated {
+        push_text(&mut out, "aggregated", line.as_bytes())?;
+    }
+    push_waiting(&mut out, shown.queue, shown.in_hand)?;
+    push_cut(&mut out, shown.cut, answers)?;
+    let stats = shown.stats;
     let (sent, packets) = (stats.bytes_sent, stats.packets_sent);
     let (dropped, refusals) = (stats.bytes_dropped, stats.packets_dropped);
     writeln!(out, "stats {sent} {packets} {dropped} {refusals}")?;

@@ -9,6 +9,7 @@ use cadence_queue::QueuePolicy;
 use cadence_schedule::Step;
 use cadence_settings::ClientSettings;
 use std::alloc::{AllocError, Allocator};
+use std::num::NonZeroUsize;
 use thiserror::Error;
 
 /// Why a text is not a script.
@@ -45,6 +46,8 @@ pub struct Script<A: Allocator> {
     pub queue: Option<usize>,
     /// What a full queue does with a new line.
     pub policy: QueuePolicy,
+    /// The most contexts of each kind that an aggregator before the packer holds. `None` means that there is none.
+    pub aggregate: Option<NonZeroUsize>,
     /// The answers of the packet log, in order.
     pub answers: Vec<Answer, A>,
     /// The steps, in order.
@@ -79,6 +82,7 @@ impl<A: Allocator + Clone> Script<A> {
             ending,
             queue: None,
             policy: QueuePolicy::Refuse,
+            aggregate: None,
             answers,
             steps,
         })
@@ -147,6 +151,7 @@ impl<A: Allocator + Clone> Script<A> {
             "ending" => self.ending = self.next_text(words)?,
             "queue" => self.queue = Some(number(words.word()?)?),
             "policy" => self.policy = policy_of(words.word()?)?,
+            "aggregate" => self.aggregate = Some(contexts_of(words.word()?)?),
             "writer" => self.read_answers(words)?,
             _ => return Err(LineError::Unreadable(BadLine)),
         }
@@ -184,6 +189,14 @@ fn policy_of(word: &str) -> Result<QueuePolicy, LineError> {
         "refuse" => Ok(QueuePolicy::Refuse),
         "drop" => Ok(QueuePolicy::DropOldest),
         _ => Err(LineError::Unreadable(BadLine)),
+    }
+}
+
+// Returns the number of contexts that a word stands for. It is not 0.
+fn contexts_of(word: &str) -> Result<NonZeroUsize, LineError> {
+    match NonZeroUsize::new(number(word)?) {
+        Some(contexts) => Ok(contexts),
+        None => Err(LineError::Unreadable(BadLine)),
     }
 }
 

@@ -1,9 +1,11 @@
-//! A sink that adds up lines, and what a spy below it receives.
+//! A sink that adds up lines, what a spy below it receives, and a client whose calls make no line.
 
+use cadence::client::ClientSettings;
+use cadence::line::Tag;
 use cadence::prelude::*;
 use cadence::ready::{buffered_udp_sink, host};
 use cadence::{MetricResult, MetricSink, SpyMetricSink, StatsdClient};
-use cadence_aggregating::{AggregatingMetricSink, AggregatingMetricSinkBuilder};
+use cadence_aggregating::{AggregatedClient, AggregatingMetricSink, AggregatingMetricSinkBuilder};
 use example_service::runtime::Runtime;
 use std::alloc::Global;
 use std::time::Duration;
@@ -20,7 +22,33 @@ pub fn count_by_sums<R: Runtime>(rt: &R, alloc: Global) -> MetricResult<()> {
     client.flush()
 }
 
-/// Returns the message of a spy that got the sum of two lines.
+/// Counts by the keys of a client that sends sums every two seconds, and whose calls make no line.
+pub fn count_by_keys<R: Runtime>(rt: &R, alloc: Global) -> MetricResult<()> {
+    let inner = buffered_udp_sink(rt, alloc, host(alloc, "localhost", 8125)?, 1432)?;
+    let builder = AggregatingMetricSinkBuilder::new().with_flush_period(Duration::from_secs(2));
+    let settings = ClientSettings::new(alloc, "my.service")?;
+    let client = builder.build_client(rt.clone()?, alloc, settings, inner)?;
+    let tag = Tag {
+        key: Some("page"),
+        text: "home",
+    };
+    let visits = client.counter_key("visits", &[tag])?; // once
+    client.incr(&visits)?;
+    client.count(&visits, 2)?; // my.service.visits:3|c|#page:home
+    client.flush()
+}
+
+// Counts by a key of a client over a sink.
+fn count_over<S: MetricSink, R: Runtime>(rt: &R, alloc: Global, sink: S) -> MetricResult<()> {
+    let client = AggregatedClient::from_sink(rt.clone()?, alloc, "my.service", sink)?;
+    let visits = client.counter_key("visits", &[])?;
+    client.incr(&visits)?;
+    client.count(&visits, 2)?;
+    client.flush()?; // my.service.visits:3|c
+    Ok(())
+}
+
+/// Returns the messages of two spies: one got the sum of two lines, and the other one that of two calls by a key.
 pub fn report<R: Runtime>(rt: &R, alloc: Global) -> MetricResult<String> {
     let (receiver, spy) = SpyMetricSink::new(rt.clone()?, alloc)?;
     let sink = AggregatingMetricSink::from(rt.clone()?, alloc, spy)?;
@@ -30,6 +58,11 @@ pub fn report<R: Runtime>(rt: &R, alloc: Global) -> MetricResult<String> {
     let message = receiver.try_recv(); // visits:3|c
     let mut text = String::new(alloc);
     if let Some(line) = message {
+        writeln!(text, "{}", String::from_utf8_lossy(alloc, &line)?)?;
+    }
+    let (receiver, spy) = SpyMetricSink::new(rt.clone()?, alloc)?;
+    count_over(rt, alloc, spy)?;
+    if let Some(line) = receiver.try_recv() {
         writeln!(text, "{}", String::from_utf8_lossy(alloc, &line)?)?;
     }
     Ok(text)

@@ -54,6 +54,7 @@ fn send_unheard<R: Runtime + ResolverRuntime + Env>(rt: &R, alloc: Global) -> Me
     documented::count_by_environment(rt, alloc)?;
     unix::count_within_a_second(rt, alloc)?;
     aggregated::count_by_sums(rt, alloc)?;
+    aggregated::count_by_keys(rt, alloc)?;
     ported::send_over_re_resolving_sink(rt, alloc)
 }
 

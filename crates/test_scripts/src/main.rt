@@ -10,9 +10,11 @@
 //! - Each line of `plans` is a plan, and whether `check_plan` accepts it and `plan_packets` makes it.
 //!
 //! Then each script is run again and again, and in each turn one thing fails: a request for memory, an answer of the
-//! writer, a read or a write. A report that then differs has to be one that `test_tools::model` allows. The program prints how
-//! many turns ended in which way; the last number, of wrong ends, has to be 0. At last each request for memory of each
-//! constructor of a sink, a queue or a client is refused in turn.
+//! writer, a read or a write. A report that then differs has to be one that `test_tools::model` allows. The program
+//! prints how many turns ended in which way; the last number, of wrong ends, has to be 0. The answers of the writer
+//! don't fail in a script with an aggregator, which that model doesn't know; `.ci/model` compares such scripts with a
+//! model of their own. At last each request for memory of each constructor of a sink, a queue or a client is refused
+//! in turn.
 //!
 //! The program calls the engine and not the program `statsd_schedule`, which `.ci/programs` runs over the same rows.
 //!

@@ -33,7 +33,7 @@ impl Outcome {
 pub fn outcome_of(alloc: Global, script: &[u8]) -> Outcome {
     let (mut output, mut errors) = (Vec::new(alloc), Vec::new(alloc));
     let mut input = script;
-    let status = run_script(alloc, &mut input, &mut output, &mut errors);
+    let status = run_script(alloc, alloc, &mut input, &mut output, &mut errors);
     Outcome {
         output,
         errors,
@@ -69,6 +69,11 @@ fn parse_status(file: Option<Vec<u8>>) -> io::Result<u8> {
 /// Reads the script of this row.
 pub fn read_script<R: Files + AllocGlobal>(rt: &R, name: &str) -> io::Result<Vec<u8>> {
     Ok(read_file(rt, name, "in")?.unwrap_or_else(|| Vec::new(rt.alloc())))
+}
+
+/// Returns whether a script has an aggregator. Its first line says so then.
+pub fn has_aggregator(script: &[u8]) -> bool {
+    script.starts_with(b"aggregate ")
 }
 
 /// Runs the script of this row, and returns what differs from the row's files. Returns `None` if nothing does.

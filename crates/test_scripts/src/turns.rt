@@ -4,7 +4,7 @@
 //! A turn has to end in one of these ways: as the run without a failure does, if the failure didn't happen or changed
 //! nothing; with the status and the message of the failure, and with no output or a first part of the report; or with a
 //! report that `test_tools::model` allows.
-use crate::scripts::{Outcome, outcome_of};
+use crate::scripts::{Outcome, has_aggregator, outcome_of};
 use cadence_script::run_script;
 use std::alloc::{AllocError, Global};
 use std::fmt;
@@ -102,8 +102,15 @@ enum End {
     Unwritten,
 }
 
+// Returns whether a report has a reply that says that memory ran out.
+fn lacks_memory(report: &str) -> bool {
+    report
+        .lines()
+        .any(|line| line.ends_with("err out of memory"))
+}
+
 // Returns whether a run printed nothing but a report that the model allows. `was_refused` says that one request for
-// memory was refused.
+// memory was refused. The model knows no aggregator, so a report of a script with one has to say that memory ran out.
 fn has_right_report(
     alloc: Global,
     script: &[u8],
@@ -113,11 +120,12 @@ fn has_right_report(
     let (Ok(script), Ok(report)) = (str::from_utf8(script), str::from_utf8(&outcome.output)) else {
         return Ok(false);
     };
-    Ok(
-        outcome.status == 0
-            && outcome.errors.is_empty()
-            && is_right_report(alloc, script, report, was_refused)?,
-    )
+    let is_right = if has_aggregator(script.as_bytes()) {
+        was_refused && lacks_memory(report)
+    } else {
+        is_right_report(alloc, script, report, was_refused)?
+    };
+    Ok(outcome.status == 0 && outcome.errors.is_empty() && is_right)
 }
 
 // Refuses each request for memory in turn, until a run asks for less.
@@ -131,7 +139,7 @@ fn refuse_memory(
         let heap = RefusingAllocator::after(alloc, alloc, granted)?;
         let (mut output, mut errors) = (Vec::new(alloc), Vec::new(alloc));
         let mut input = script;
-        let status = run_script(heap.clone()?, &mut input, &mut output, &mut errors);
+        let status = run_script(alloc, heap.clone()?, &mut input, &mut output, &mut errors);
         let outcome = Outcome {
             output,
             errors,
@@ -223,7 +231,7 @@ fn fail_reads(
     for passed in 0..MOST_TURNS {
         let mut input = FailingReader::after(ByteReader::new(script), passed);
         let (mut output, mut errors) = (Vec::new(alloc), Vec::new(alloc));
-        let status = run_script(alloc, &mut input, &mut output, &mut errors);
+        let status = run_script(alloc, alloc, &mut input, &mut output, &mut errors);
         let outcome = Outcome {
             output,
             errors,
@@ -260,7 +268,7 @@ fn fail_writes(
         let mut input = script;
         let mut output = FailingWriter::after(ByteWriter::new(alloc), passed);
         let mut errors = FailingWriter::after(ByteWriter::new(alloc), passed);
-        let status = run_script(alloc, &mut input, &mut output, &mut errors);
+        let status = run_script(alloc, alloc, &mut input, &mut output, &mut errors);
         let (printed, reported) = (output.get_ref().taken(), errors.get_ref().taken());
         if status == plain.status && printed == plain.output.as_slice() {
             ends.count(is_start(reported, &plain.errors, passed), End::Same);
@@ -288,11 +296,12 @@ pub fn fail_bytes_in_turn(
 }
 
 /// Runs a script, and then lets each request for memory and each answer of the writer be refused in turn. Counts the
-/// ends. A script that can be read and run must first have, without a failure, the report that the model works out.
+/// ends. A script that can be read and run must first have, without a failure, the report that the model works out. A
+/// script with an aggregator, which that model doesn't know, is refused memory alone.
 pub fn fail_in_turn(alloc: Global, script: &[u8], ends: &mut EndCounts) -> Result<(), AllocError> {
     let plain = outcome_of(alloc, script);
     refuse_memory(alloc, script, &plain, ends)?;
-    if plain.status != 0 {
+    if plain.status != 0 || has_aggregator(script) {
         return Ok(());
     }
     ends.count(

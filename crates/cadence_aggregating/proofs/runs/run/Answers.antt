@@ -5,6 +5,7 @@ use Rattle.cadence_aggregating.specs.Origins.{ComesFrom}
 use Rattle.cadence_aggregating.specs.Past.{Summarizes}
 use Rattle.cadence_aggregating.specs.Recorded.{accepted_by, held_by, taken_by}
 use Rattle.cadence_aggregating.specs.Runs.{accepted_line, accepted_lines}
+use Rattle.cadence_aggregating.specs.declared.limits.Limits.{Limits}
 use Rattle.cadence_aggregating.specs.declared.runs.Step.{Step}
 use Rattle.cadence_aggregating.specs.declared.runs.Step.TheVariants.{Add}
 use Rattle.cadence_aggregating.proofs.RunSteps.{Reply, accepted_more}
@@ -22,8 +23,9 @@ loop-step-preserved g c =
     record {
       replies = rw (c.in_ok-push.ensures.items, length-append past (reply ∷ [])) (omega (arith, c.loop-step.invariant.replies));
       accepted = rw (take_more steps i d lt, c.in_ok-push.ensures.items)
-          (c.take_step-reply.ensures ∙ ap (λ t. t ++ accepted_line (get_or steps i d) reply) c.loop-step.invariant.accepted
+          (c.take_step-reply.ensures.accepted ∙ ap (λ t. t ++ accepted_line (get_or steps i d) reply) c.loop-step.invariant.accepted
           ∙ sym (accepted_more (take i steps) past (get_or steps i d) reply (omega (arith, c.loop-step.invariant.replies, n))));
+      limits = c.take_step-reply.ensures.limits ∙ c.loop-step.invariant.limits;
     }
 
 -- the record has the accepted lines of the run
@@ -41,4 +43,5 @@ pub returns-clause-origins : goal.returns-clause-origins
 returns-clause-origins g c =
     let o = c.loop-step in
     let accepted = all_accepted c.args.steps.now o.replies.items o.step-index (accepted_by o.aggregator) c.loop-step-test.false o.invariant.accepted in
-    subst (λ lines. ∥ All (ComesFrom lines) (taken_by o.aggregator) ∥₁) accepted c.keeps_the_record.ensures.origins
+    subst (λ lines. ∥ All (ComesFrom c.args.limits.most_bytes lines) (taken_by o.aggregator) ∥₁) accepted
+    (subst (λ (l : Limits). ∥ All (ComesFrom l.most_bytes (accepted_by o.aggregator)) (taken_by o.aggregator) ∥₁) o.invariant.limits c.keeps_the_record.ensures.origins)

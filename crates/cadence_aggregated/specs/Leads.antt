@@ -1,0 +1,44 @@
+-- What calls of an aggregator do to the packer behind it.
+use Rattle.std.specs.Prelude.{◌≡◌, ℕ, List, [], ◌++◌, map, Option, Some, None}
+use Rattle.cadence_aggregate.specs.Server.{Sample}
+use Rattle.cadence_aggregating.specs.Notes.{line_of_note, sample_of_note}
+use Rattle.cadence_aggregating.specs.Past.{texts_in}
+use Rattle.cadence_errors.specs.declared.SinkError.{SinkError}
+use Rattle.cadence_flow.specs.Writer.{PacketHistory, WriterKind}
+use Rattle.cadence_aggregated.specs.Asked.{Writes}
+use Rattle.cadence_aggregated.specs.PackedRuns.{Keeps, SendsAll, packed_state}
+use Rattle.cadence_aggregated.specs.Sendings.{Sending, kept_counts}
+use Rattle.cadence_aggregated.specs.declared.packer_sink.PackerSink.{PackerSink}
+
+-- how many lines a sink refused that has this error of a refused line
+abbrev pub refusals_of : Option SinkError → ℕ
+refusals_of None = 0
+refusals_of (Some e) = 1
+
+-- A sink that has the error of a refused line asks nothing. One without writes lines, and has the error of the last one
+-- if that was refused.
+abbrev pub WritesAfter : Option SinkError → List Sending → Option SinkError → Type 0
+WritesAfter None asked error = Writes asked error
+WritesAfter (Some e) asked error = (asked ≡ []) × (error ≡ Some e)
+
+-- what the lines say that a sink took
+abbrev pub sent_by : {P A : Type 0} → PackerSink P A → List Sample
+sent_by sink = map sample_of_note sink.notes.items
+
+-- the lines that a sink took
+abbrev pub lines_by : {P A : Type 0} → PackerSink P A → List (List ℕ)
+lines_by sink = map line_of_note sink.notes.items
+
+module _ {P A : Type 0} (kind : P → WriterKind) (history : P → PacketHistory) where
+  -- The packer was asked this, in order, and the sink took the lines of it that the packer kept.
+  pub record Packs (old new : PackerSink P A) (asked : List Sending) : Type 0 where
+    pub lines : lines_by new ≡ lines_by old ++ texts_in (kept_counts asked)
+    pub keeps : Keeps kind old.packing new.packing
+    pub sends : SendsAll (kind old.packing.packer.writer) old.packing.packer.format (packed_state history old.packing) asked
+        (packed_state history new.packing)
+
+  -- Lines that the sink was given lead from one state of it to the other.
+  pub record Leads (old new : PackerSink P A) : Type 0 where
+    pub asked : List Sending
+    pub writes : WritesAfter old.refused asked new.refused
+    pub packs : Packs old new asked

@@ -1,0 +1,12 @@
+pub mod Aggregated
+pub mod Asked
+pub mod Causes
+pub mod Leads
+pub mod Led
+pub mod PackedRuns
+pub mod RunOutcome
+pub mod Sendings
+pub mod SoFar
+pub mod Steps
+pub use Rattle.cadence_schedule.specs.Headline
+pub use Rattle.cadence_aggregating.specs.Past

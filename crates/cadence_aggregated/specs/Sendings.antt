@@ -1,0 +1,38 @@
+-- What a packer was given, and what it answered.
+use Rattle.std.specs.Prelude.{ℕ, ◌+◌, List, [], ◌∷◌, Result, Ok, Err}
+use Rattle.cadence_errors.specs.declared.SinkError.{SinkError}
+
+-- A line was given to the packer, or the packer was flushed, with this answer.
+pub data Sending : Type 0 where
+  wrote : List ℕ → Result ℕ SinkError → Sending
+  flushed : Result (Unit {0}) SinkError → Sending
+
+-- the kept lines: those that were answered with Ok, in order, each with the count in that answer
+abbrev pub kept_counts : List Sending → List (List ℕ × ℕ)
+kept_counts [] = []
+kept_counts (wrote line (Ok n) ∷ xs) = (line, n) ∷ kept_counts xs
+kept_counts (wrote line (Err e) ∷ xs) = kept_counts xs
+kept_counts (flushed result ∷ xs) = kept_counts xs
+
+-- the marks, if this many lines were kept before: how many lines were kept before each flush that was answered with Ok
+abbrev pub marks_from : ℕ → List Sending → List ℕ
+marks_from place [] = []
+marks_from place (wrote line (Ok n) ∷ xs) = marks_from (place + 1) xs
+marks_from place (wrote line (Err e) ∷ xs) = marks_from place xs
+marks_from place (flushed (Ok done) ∷ xs) = place ∷ marks_from place xs
+marks_from place (flushed (Err e) ∷ xs) = marks_from place xs
+
+-- the places of refusals, if this many lines were kept before: how many lines were kept before each refused line
+abbrev pub refusals_from : ℕ → List Sending → List ℕ
+refusals_from place [] = []
+refusals_from place (wrote line (Ok n) ∷ xs) = refusals_from (place + 1) xs
+refusals_from place (wrote line (Err e) ∷ xs) = place ∷ refusals_from place xs
+refusals_from place (flushed result ∷ xs) = refusals_from place xs
+
+-- the errors with which lines or flushes were refused, in order
+abbrev pub errors_of : List Sending → List SinkError
+errors_of [] = []
+errors_of (wrote line (Ok n) ∷ xs) = errors_of xs
+errors_of (wrote line (Err e) ∷ xs) = e ∷ errors_of xs
+errors_of (flushed (Ok done) ∷ xs) = errors_of xs
+errors_of (flushed (Err e) ∷ xs) = e ∷ errors_of xs

@@ -1,0 +1,34 @@
+-- What contracts see of the keys of calls that make no line.
+use Rattle.std.specs.Prelude.{◌≡◌, ℕ, ℤ, List, [], ◌∷◌, string_bytes}
+use Rattle.cadence_aggregate.specs.Server.{amount, level}
+use Rattle.cadence_settings.specs.Call.{MetricCall, metric_of_call}
+use Rattle.cadence_settings.specs.Settings.{Settings}
+use Rattle.cadence_text.specs.Line.{line_of}
+use Rattle.cadence_value.specs.Number.{natural, number_text, whole}
+use Rattle.cadence_aggregating.specs.Printed.{text_of}
+use Rattle.cadence_aggregating.specs.declared.keys.CounterKey.{CounterKey}
+use Rattle.cadence_aggregating.specs.declared.keys.GaugeKey.{GaugeKey}
+
+-- the context of the lines of a counter
+abbrev pub context_of_counter : CounterKey → List ℕ
+context_of_counter key = string_bytes key.context
+
+-- the context of the lines of a gauge
+abbrev pub context_of_gauge : GaugeKey → List ℕ
+context_of_gauge key = string_bytes key.context
+
+-- the line that raises the counter by a number
+abbrev pub line_of_counter : CounterKey → ℤ → List ℕ
+line_of_counter key by = text_of (amount (context_of_counter key) by)
+
+-- the line that sets the gauge to a number
+abbrev pub line_of_gauge : GaugeKey → ℕ → List ℕ
+line_of_gauge key value = text_of (level (context_of_gauge key) (number_text (natural value)))
+
+-- Each line of the counter is the line that these settings make of this call with the number.
+abbrev pub CountsFor : Settings → MetricCall → CounterKey → Type 0
+CountsFor settings call key = (n : ℤ) → line_of_counter key n ≡ line_of (metric_of_call settings (record call { numbers = whole n ∷ [] }))
+
+-- Each line of the gauge is the line that these settings make of this call with the value.
+abbrev pub SetsFor : Settings → MetricCall → GaugeKey → Type 0
+SetsFor settings call key = (n : ℕ) → line_of_gauge key n ≡ line_of (metric_of_call settings (record call { numbers = natural n ∷ [] }))

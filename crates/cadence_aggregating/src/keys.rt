@@ -1,0 +1,216 @@
+//! The keys of calls that make no line.
+ghost use Rattle.std.specs.Prelude.{◌≡◌, [], List, Some, ℕ, IfErr, IfNone, IfOk, IfSome, IsFalse, IsTrue, OnErr, OnOk, map, string_bytes};
+ghost use Rattle.cadence_aggregate.specs.Lines.{sample_of};
+ghost use Rattle.cadence_errors.specs.Errors.{IsInvalid};
+ghost use Rattle.cadence_settings.specs.Call.{is_free_call, tagged};
+ghost use Rattle.cadence_settings.specs.CallData.{call_of, choice_of, kind_of_value, numbers_of_value};
+ghost use Rattle.cadence_text.specs.Record.{tag_of};
+ghost use Rattle.cadence_text.specs.declared.line.MetricType.TheVariants.{Counter, Gauge};
+ghost use Rattle.cadence_aggregating.specs.Contexts.{IsAmountIn, IsContextOf, IsLevelIn, IsLineOfZero, IsUntimed, MayFailFor, tagged_call, zeros};
+
+use crate::said::read_said;
+use cadence_aggregate::Line;
+use cadence_errors::{ErrorKind, MetricError, MetricResult};
+use cadence_settings::{Call, CallOption, CallValue, ClientSettings, strict_calls_are_free};
+use cadence_text::laws::line_reads_one_way;
+use cadence_text::line::Tag;
+use std::alloc::{AllocError, Global};
+
+/// Settings that are strict.
+#[derive(Drop)]
+pub(crate) struct StrictSettings {
+    settings: ClientSettings,
+    pub ghost strict: { IsTrue settings.strict },
+}
+
+impl StrictSettings {
+    ghost use Rattle.cadence_settings.specs.Settings.{is_free_settings, with_strict_texts};
+
+    /// Makes settings strict. The error is of kind `InvalidInput`, and comes if and only if a text of them has a
+    /// separator.
+    pub(crate) fn new(settings: ClientSettings) -> MetricResult<StrictSettings>
+        ensures settings { IfOk result (λ made. made.settings ≡ with_strict_texts settings) }
+        ensures free { OnOk result (IsTrue (is_free_settings settings)) }
+        ensures refused { IfErr result IsInvalid }
+        ensures unfree { OnErr result (IsFalse (is_free_settings settings)) }
+    {
+        let mut settings = settings;
+        settings.set_strict()?;
+        Ok(StrictSettings { settings })
+    }
+
+    // Returns the line of a call with the number 0.
+    fn line_of_zero(&self, call: &Call) -> MetricResult<String>
+        requires { numbers_of_value (call.now).value ≡ Some zeros }
+        ensures line { IfOk result (λ line.
+            IsLineOfZero self.now.settings (call_of call.now []) (string_bytes line)) }
+        ensures refused { IfErr result (MayFailFor (is_free_call (call_of call.now []))) }
+    {
+        self.settings.is_strict();
+        strict_calls_are_free();
+        match self.settings.line_of(call) {
+            Ok(line) => Ok(line),
+            Err(error) => Err(error),
+        }
+    }
+}
+
+/// The key of a counter, with all else that its lines have but the number: the prefix, the tags and the container. An
+/// `AggregatedClient` makes it once, and raises the counter by it without making a line.
+#[derive(Drop)]
+pub struct CounterKey {
+    pub(crate) context: String,
+    pub ghost of: { ∥ IsContextOf Counter (string_bytes context) ∥₁ },
+}
+
+/// The key of a gauge, with all else that its lines have but the value. An `AggregatedClient` makes it once.
+#[derive(Drop)]
+pub struct GaugeKey {
+    pub(crate) context: String,
+    pub ghost of: { ∥ IsContextOf Gauge (string_bytes context) ∥₁ },
+}
+
+// Returns the error for a line that can't be added to others. It never comes, because the lines of keys can.
+#[cold]
+fn not_added() -> MetricError {
+    MetricError::from((ErrorKind::InvalidInput, "no line to add up"))
+}
+
+// Returns the context of a counter that is raised.
+fn amount_context<'a>(said: Line<'a>) -> Option<&'a str>
+    ensures some { IfSome result (λ context. IsAmountIn context.now (sample_of said.entry)) }
+    ensures none { IfNone result ((c : List ℕ) → IsAmountIn c (sample_of said.entry) → ⊥) }
+{
+    match said {
+        Line::Amount(context, _) => Some(context),
+        Line::Level(_, _) | Line::Member(_) | Line::Timing(_, _) | Line::Other(_) => None,
+    }
+}
+
+// Returns the context of a gauge that is set.
+fn level_context<'a>(said: Line<'a>) -> Option<&'a str>
+    ensures some { IfSome result (λ context. IsLevelIn context.now (sample_of said.entry)) }
+    ensures none { IfNone result ((c : List ℕ) → IsLevelIn c (sample_of said.entry) → ⊥) }
+{
+    match said {
+        Line::Level(context, _) => Some(context),
+        Line::Amount(_, _) | Line::Member(_) | Line::Timing(_, _) | Line::Other(_) => None,
+    }
+}
+
+impl CounterKey {
+    ghost use Rattle.cadence_aggregating.specs.Keys.{CountsFor};
+
+    // Makes the key of a call that counts.
+    fn of_call(alloc: Global, settings: &StrictSettings, call: &Call) -> MetricResult<CounterKey>
+        requires kind { kind_of_value (call.now).value ≡ Counter }
+        requires zero { numbers_of_value (call.now).value ≡ Some zeros }
+        requires untimed { IsUntimed (call_of call.now []) }
+        ensures lines { IfOk result (CountsFor settings.now.settings (call_of call.now [])) }
+        ensures refused { IfErr result (MayFailFor (is_free_call (call_of call.now []))) }
+    {
+        line_reads_one_way();
+        let line = settings.line_of_zero(call)?;
+        let mut text = String::new(alloc);
+        let said = read_said(alloc, &line, &mut text)?;
+        let Some(context) = amount_context(said) else {
+            return Err(not_added());
+        };
+        Ok(CounterKey {
+            context: String::from_str(alloc, context)?,
+        })
+    }
+
+    /// Makes the key of a counter with tags.
+    ///
+    /// # Errors
+    /// An error of kind `InvalidInput` only if the key or a tag has a separator, and `SinkError::OutOfMemory`.
+    pub(crate) fn of_tagged(
+        alloc: Global,
+        settings: &StrictSettings,
+        key: &str,
+        tags: &[Tag<'_>],
+    ) -> MetricResult<CounterKey>
+        ensures lines { IfOk result (CountsFor settings.now.settings
+            (tagged_call Counter key.now (map tag_of tags.now))) }
+        ensures refused { IfErr result (MayFailFor
+            (is_free_call (tagged_call Counter key.now (map tag_of tags.now)))) }
+    {
+        let call = Call {
+            key: String::from_str(alloc, key)?,
+            value: CallValue::CountI64(0),
+            options: options_of(alloc, tags)?,
+        };
+        CounterKey::of_call(alloc, settings, &call)
+    }
+}
+
+impl GaugeKey {
+    ghost use Rattle.cadence_aggregating.specs.Keys.{SetsFor};
+
+    // Makes the key of a call that sets a gauge.
+    fn of_call(alloc: Global, settings: &StrictSettings, call: &Call) -> MetricResult<GaugeKey>
+        requires kind { kind_of_value (call.now).value ≡ Gauge }
+        requires zero { numbers_of_value (call.now).value ≡ Some zeros }
+        requires untimed { IsUntimed (call_of call.now []) }
+        ensures lines { IfOk result (SetsFor settings.now.settings (call_of call.now [])) }
+        ensures refused { IfErr result (MayFailFor (is_free_call (call_of call.now []))) }
+    {
+        line_reads_one_way();
+        let line = settings.line_of_zero(call)?;
+        let mut text = String::new(alloc);
+        let said = read_said(alloc, &line, &mut text)?;
+        let Some(context) = level_context(said) else {
+            return Err(not_added());
+        };
+        Ok(GaugeKey {
+            context: String::from_str(alloc, context)?,
+        })
+    }
+
+    /// Makes the key of a gauge with tags.
+    ///
+    /// # Errors
+    /// An error of kind `InvalidInput` only if the key or a tag has a separator, and `SinkError::OutOfMemory`.
+    pub(crate) fn of_tagged(
+        alloc: Global,
+        settings: &StrictSettings,
+        key: &str,
+        tags: &[Tag<'_>],
+    ) -> MetricResult<GaugeKey>
+        ensures lines { IfOk result (SetsFor settings.now.settings
+            (tagged_call Gauge key.now (map tag_of tags.now))) }
+        ensures refused { IfErr result (MayFailFor
+            (is_free_call (tagged_call Gauge key.now (map tag_of tags.now)))) }
+    {
+        let call = Call {
+            key: String::from_str(alloc, key)?,
+            value: CallValue::GaugeU64(0),
+            options: options_of(alloc, tags)?,
+        };
+        GaugeKey::of_call(alloc, settings, &call)
+    }
+}
+
+// Returns a tag as the option of a call. The only error is that memory ran out.
+fn option_of(alloc: Global, tag: &Tag<'_>) -> Result<CallOption, AllocError>
+    ensures { IfOk result (λ option. choice_of option ≡ tagged (tag_of tag.now)) }
+{
+    let text = String::from_str(alloc, tag.text)?;
+    match tag.key {
+        Some(key) => Ok(CallOption::Tag(String::from_str(alloc, key)?, text)),
+        None => Ok(CallOption::TagValue(text)),
+    }
+}
+
+// Returns tags as the options of a call. The only error is that memory ran out.
+fn options_of(alloc: Global, tags: &[Tag<'_>]) -> Result<Vec<CallOption>, AllocError>
+    ensures { IfOk result (λ options.
+        map choice_of options.items ≡ map tagged (map tag_of tags.now)) }
+{
+    let mut options = Vec::with_capacity(alloc, tags.len())?;
+    for tag in tags {
+        options.push(option_of(alloc, tag)?)?;
+    }
+    Ok(options)
+}

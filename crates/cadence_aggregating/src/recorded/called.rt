@@ -1,0 +1,107 @@
+//! Calls by keys, which make no line. A call is held if the context of its key fits the limit of a line.
+ghost use Rattle.std.specs.Prelude.{◌≡◌, ◌++◌, ◌∷◌, [], OnErr, OnOk, string_bytes};
+ghost use Rattle.cadence_aggregate.specs.Refusals.{after_reply};
+ghost use Rattle.cadence_value.specs.Number.{natural, number_text};
+
+use super::{RecordedAggregator, add_or_pass};
+use crate::accepted::Accepted;
+use crate::keys::{CounterKey, GaugeKey};
+use cadence_aggregate::{Fault, Line};
+use cadence_errors::SinkError;
+use cadence_flow::MetricSink;
+use cadence_value::decimal::Decimal;
+use std::alloc::AllocError;
+use std::fmt::Write;
+
+// Writes a whole number, in place of what the text had.
+fn rewrite(text: &mut String, number: u64) -> Result<(), AllocError>
+    ensures { OnOk result (string_bytes text.new ≡ number_text (natural number)) }
+{
+    text.clear();
+    let Ok(number) = Decimal::new(i128::from(number), 0) else {
+        return Err(AllocError);
+    };
+    write!(text, "{number}")
+}
+
+impl<S: MetricSink> RecordedAggregator<S> {
+    ghost use Rattle.cadence_aggregating.specs.Causes.{HasCountedCause};
+    ghost use Rattle.cadence_aggregating.specs.Keys.{line_of_counter, line_of_gauge};
+    ghost use Rattle.cadence_aggregating.specs.Quiet.{IsQuiet};
+    ghost use Rattle.cadence_aggregating.specs.Recorded.{accepted_by, core_of, limits_of, refusals_by, taken_by};
+
+    // Adds what the line of a counter says, or hands the line on.
+    fn try_count(&mut self, key: &CounterKey, by: i64) -> Result<(), Fault>
+        ensures ok { OnOk result (accepted_by self.new
+            ≡ accepted_by self.old ++ line_of_counter key.now by ∷ []) }
+        ensures err { OnErr result (accepted_by self.new ≡ accepted_by self.old) }
+        ensures quiet { OnOk result (∥ IsQuiet (limits_of self.old) (core_of self.old)
+            (line_of_counter key.now by) (taken_by self.old) (taken_by self.new) ∥₁) }
+        ensures refused { refusals_by self.new ≡ after_reply (refusals_by self.old) result }
+    {
+        let context: &str = &key.context;
+        let said = Line::Amount(context, by);
+        let is_held = self.limits.holds(&said, context.len());
+        add_or_pass(&mut self.aggregator, &mut self.printer, said, is_held)?;
+        self.accepted = self.accepted.and(&Accepted::of(said));
+        Ok(())
+    }
+
+    /// Raises a counter, as `add` does with the counter's line, but doesn't make the line, unless it has to be handed on
+    /// at once.
+    ///
+    /// # Errors
+    /// The error of the sink, if it refused a line that had to be sent, and `OutOfMemory`. After an error the counter is
+    /// not raised, and what was held is sent or still held.
+    pub(crate) fn count(&mut self, key: &CounterKey, by: i64) -> Result<(), SinkError>
+        ensures ok { OnOk result (accepted_by self.new
+            ≡ accepted_by self.old ++ line_of_counter key.now by ∷ []) }
+        ensures err { OnErr result (accepted_by self.new ≡ accepted_by self.old) }
+        ensures quiet { OnOk result (∥ IsQuiet (limits_of self.old) (core_of self.old)
+            (line_of_counter key.now by) (taken_by self.old) (taken_by self.new) ∥₁) }
+        ensures refused { HasCountedCause (refusals_by self.old) (refusals_by self.new) result }
+    {
+        match self.try_count(key, by) {
+            Ok(()) => Ok(()),
+            Err(fault) => Err(self.error_of(fault)),
+        }
+    }
+
+    // Adds what the line of a gauge says, or hands the line on.
+    fn try_gauge(&mut self, key: &GaugeKey, value: u64) -> Result<(), Fault>
+        ensures ok { OnOk result (accepted_by self.new
+            ≡ accepted_by self.old ++ line_of_gauge key.now value ∷ []) }
+        ensures err { OnErr result (accepted_by self.new ≡ accepted_by self.old) }
+        ensures quiet { OnOk result (∥ IsQuiet (limits_of self.old) (core_of self.old)
+            (line_of_gauge key.now value) (taken_by self.old) (taken_by self.new) ∥₁) }
+        ensures refused { refusals_by self.new ≡ after_reply (refusals_by self.old) result }
+    {
+        rewrite(&mut self.context, value)?;
+        let context: &str = &key.context;
+        let text: &str = &self.context;
+        let said = Line::Level(context, text);
+        let is_held = self.limits.holds(&said, context.len());
+        add_or_pass(&mut self.aggregator, &mut self.printer, said, is_held)?;
+        self.accepted = self.accepted.and(&Accepted::of(said));
+        Ok(())
+    }
+
+    /// Sets a gauge, as `add` does with the gauge's line, but doesn't make the line, unless it has to be handed on at
+    /// once.
+    ///
+    /// # Errors
+    /// Those of `count`. After an error the gauge is not set, and what was held is sent or still held.
+    pub(crate) fn gauge(&mut self, key: &GaugeKey, value: u64) -> Result<(), SinkError>
+        ensures ok { OnOk result (accepted_by self.new
+            ≡ accepted_by self.old ++ line_of_gauge key.now value ∷ []) }
+        ensures err { OnErr result (accepted_by self.new ≡ accepted_by self.old) }
+        ensures quiet { OnOk result (∥ IsQuiet (limits_of self.old) (core_of self.old)
+            (line_of_gauge key.now value) (taken_by self.old) (taken_by self.new) ∥₁) }
+        ensures refused { HasCountedCause (refusals_by self.old) (refusals_by self.new) result }
+    {
+        match self.try_gauge(key, value) {
+            Ok(()) => Ok(()),
+            Err(fault) => Err(self.error_of(fault)),
+        }
+    }
+}
