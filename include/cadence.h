@@ -15,12 +15,15 @@
  * finished packet (cadence_next), sends it, and then drops it (cadence_sent). A host that packs lines by itself needs
  * no client: cadence_format_signed and the calls after it write one line each.
  *
+ * Sums (cadence_open_sums) add lines up before a client keeps them: cadence_add_line in place of cadence_line, and then
+ * cadence_flush_sums before cadence_flush.
+ *
  * The last part of this header has the calls for texts that end with a zero byte: cadence_settings_of,
  * cadence_settings_make, cadence_count, cadence_gauge, cadence_time_millis and others.
  *
  * What the host must ensure:
- * - Only one call at a time uses a handle. Give each thread its own handle, or guard a handle with a lock. A handle may
- *   move to another thread under such a lock. Never copy a handle: it has one owner.
+ * - Only one call at a time uses a handle, or sums. Give each thread its own, or guard them with a lock. They may move
+ *   to another thread under such a lock. Never copy a handle or sums: they have one owner.
  * - A pointer points to as many values as the length beside it says. During a call no other thread writes what the call
  *   reads, and no other thread reads or writes what it writes. If the length is 0, the pointer may be null. A pointer
  *   without a length is never null. What a call writes is not what it reads.
@@ -29,9 +32,10 @@
  *   glibc does. A forked child has a copy of what its parent holds. The child must make a new client, because otherwise
  *   both processes send the same packets.
  *
- * Each call but cadence_free and cadence_version returns a status. If the status is not CADENCE_OK, the client is as it
- * was before the call. If several statuses apply, a call returns the first one in this list:
- * - cadence_open: CADENCE_INVALID, CADENCE_NO_MEMORY.
+ * Each call but cadence_free, cadence_free_sums and cadence_version returns a status. If the status is not CADENCE_OK,
+ * the client is as it was before the call, except that cadence_add_line and cadence_flush_sums may have given it lines
+ * of the sums. If several statuses apply, a call returns the first one in this list:
+ * - cadence_open: CADENCE_INVALID, CADENCE_NO_MEMORY. cadence_open_sums: CADENCE_NO_MEMORY.
  * - cadence_signed, cadence_unsigned, cadence_decimal, cadence_floating, cadence_duration:
  *   - for the values, CADENCE_INVALID if the call is cadence_duration and the kind has no durations, CADENCE_NO_MEMORY
  *     if there is not exactly one value and memory runs out, CADENCE_INVALID if a decimal has over 30 places, or a
@@ -41,7 +45,8 @@
  *     CADENCE_NOT_UTF8 for the container or a tag, CADENCE_INVALID for the rate, CADENCE_SEPARATOR, CADENCE_NO_MEMORY
  *     for the line;
  *   - CADENCE_FULL, CADENCE_NO_MEMORY for the packet.
- * - cadence_line, cadence_flush: CADENCE_NO_CLIENT, CADENCE_FULL, CADENCE_NO_MEMORY.
+ * - cadence_line, cadence_flush, cadence_flush_sums: CADENCE_NO_CLIENT, CADENCE_FULL, CADENCE_NO_MEMORY.
+ *   cadence_add_line: CADENCE_NO_CLIENT, CADENCE_NOT_UTF8, CADENCE_FULL, CADENCE_NO_MEMORY.
  * - cadence_next: CADENCE_NO_CLIENT, CADENCE_NO_PACKET, CADENCE_TOO_SMALL. cadence_sent: the first two.
  * - cadence_held: CADENCE_NO_CLIENT, CADENCE_TOO_SMALL. cadence_drop_held: CADENCE_NO_CLIENT, CADENCE_FULL.
  * - cadence_counts: CADENCE_NO_CLIENT.
@@ -88,10 +93,16 @@ typedef struct cadence_handle {
 
 #define CADENCE_CLOSED { CADENCE_NULL, false }
 
+/* Sums, or none. Initialize them with CADENCE_CLOSED, which is zeros. Only the library may use their fields. */
+typedef struct cadence_sums {
+    void *at;
+    bool open;
+} cadence_sums;
+
 /* The statuses. */
 enum {
     CADENCE_OK = 0,
-    CADENCE_NO_CLIENT = 1, /* the handle is closed: it has no client */
+    CADENCE_NO_CLIENT = 1, /* the handle is closed: it has no client; or the sums are closed */
     CADENCE_NO_MEMORY = 2, /* memory ran out */
     CADENCE_FULL = 3,      /* there is no room for the packets that the call makes: send a packet, then try again */
     CADENCE_INVALID = 4,   /* no such kind or policy, fewer than 2 packets, no durations in this kind, a bad number */
@@ -251,6 +262,33 @@ uint32_t cadence_drop_held(cadence_handle *handle);
 
 /* Writes the counts of the client into *counts. Returns CADENCE_OK, or CADENCE_NO_CLIENT with *counts unchanged. */
 uint32_t cadence_counts(cadence_handle *handle, cadence_counts_of *counts);
+
+/* Makes sums, and frees earlier ones there with all that they hold. Sums hold what lines say of their contexts. A
+ * context is a line without its values. Counters are summed, of a gauge the last value is held, and of a set each
+ * member once. If `packed` is set, the values of a timer, a histogram or a distribution are packed into one line, as
+ * t:1:2:3|ms, which not every server reads; otherwise such lines are not held. At most `contexts` contexts of each kind
+ * are held (0 counts as 1), and lines of at most `longest` bytes. Returns CADENCE_OK, or CADENCE_NO_MEMORY, with the
+ * sums as they were. */
+uint32_t cadence_open_sums(cadence_sums *sums, size_t contexts, size_t longest, bool packed);
+
+/* Frees the sums with all that they hold, and closes them. Closed sums stay closed. */
+void cadence_free_sums(cadence_sums *sums);
+
+/* Adds a line up, so that what it says is held and the client keeps no line of it. A line that can't be held, as one
+ * with a time, a decimal counter, a meter or a line that is too long, is kept by the client like that of cadence_line.
+ * Some calls give the client a line of what is held, which is then no longer held: of the context that was called least
+ * recently, if there is no room for a new one; of a sum that would pass 64 bits; and of values that would pass the
+ * length of a line. All gauges that are held come before a gauge whose value has a sign. A line for which the client
+ * has no room waits in the sums, and comes before all others. Returns CADENCE_OK; CADENCE_NO_CLIENT if the handle or
+ * the sums are closed; CADENCE_NOT_UTF8; CADENCE_FULL if a line waits and the client has no room for it; or
+ * CADENCE_NO_MEMORY. If it is not CADENCE_OK, the line is not added, and nothing that was added before is lost. */
+uint32_t cadence_add_line(cadence_sums *sums, cadence_handle *handle, const uint8_t *line, size_t line_len);
+
+/* Gives the client a line for each context that is held, so that nothing is held any more. Call cadence_flush after it.
+ * Returns CADENCE_OK, CADENCE_NO_CLIENT, CADENCE_NO_MEMORY or CADENCE_FULL. After the last two, what the client did not
+ * get is still there: send the packets that wait, and call again. With CADENCE_DROP_OLDEST the client drops packets of
+ * a large flush, if it makes more packets than may wait. */
+uint32_t cadence_flush_sums(cadence_sums *sums, cadence_handle *handle);
 
 /* These five calls write one line into `out`, without a newline, and set *length to its length in bytes. They need no
  * client and share nothing but the settings, which they only read, so threads may make them at the same time. They
@@ -488,6 +526,44 @@ static inline uint32_t cadence_time_nanos(cadence_handle *handle, const cadence_
 /* Keeps a line that the host has made, like cadence_line. */
 static inline uint32_t cadence_raw(cadence_handle *handle, const char *line) {
     return cadence_line(handle, CADENCE_BYTES(line), cadence_length_of(line));
+}
+
+/* Adds up a metric of one whole number: it makes the line of cadence_signed, and adds it like cadence_add_line. A line
+ * of more than 512 bytes is kept after a flush of the sums. */
+static inline uint32_t cadence_add_whole(cadence_sums *sums, cadence_handle *handle, const cadence_settings *settings,
+                                         uint32_t kind, const char *key, int64_t value,
+                                         const cadence_options *options) {
+    const cadence_options none = CADENCE_NO_OPTIONS;
+    const cadence_settings nothing = CADENCE_NO_SETTINGS;
+    uint8_t line[512];
+    size_t length;
+    uint32_t status = cadence_format_signed(settings != CADENCE_NULL ? settings : &nothing, kind, CADENCE_BYTES(key),
+                                            cadence_length_of(key), &value, 1,
+                                            options != CADENCE_NULL ? options : &none, line, sizeof line, &length);
+    if (status == CADENCE_OK) return cadence_add_line(sums, handle, line, length);
+    if (status == CADENCE_TOO_SMALL) status = cadence_flush_sums(sums, handle);
+    return status != CADENCE_OK ? status : cadence_whole(handle, settings, kind, key, value, options);
+}
+
+/* Adds up a metric of one double, like cadence_floating, in the same way. */
+static inline uint32_t cadence_add_double(cadence_sums *sums, cadence_handle *handle, const cadence_settings *settings,
+                                          uint32_t kind, const char *key, double value,
+                                          const cadence_options *options) {
+    const cadence_options none = CADENCE_NO_OPTIONS;
+    const cadence_settings nothing = CADENCE_NO_SETTINGS;
+    uint8_t line[512];
+    size_t length;
+    uint32_t status = cadence_format_floating(settings != CADENCE_NULL ? settings : &nothing, kind, CADENCE_BYTES(key),
+                                              cadence_length_of(key), &value, 1,
+                                              options != CADENCE_NULL ? options : &none, line, sizeof line, &length);
+    if (status == CADENCE_OK) return cadence_add_line(sums, handle, line, length);
+    if (status == CADENCE_TOO_SMALL) status = cadence_flush_sums(sums, handle);
+    return status != CADENCE_OK ? status : cadence_double(handle, settings, kind, key, value, options);
+}
+
+/* Adds up a line that the host has made, like cadence_add_line. */
+static inline uint32_t cadence_add_raw(cadence_sums *sums, cadence_handle *handle, const char *line) {
+    return cadence_add_line(sums, handle, CADENCE_BYTES(line), cadence_length_of(line));
 }
 
 #ifdef __cplusplus

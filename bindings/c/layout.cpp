@@ -8,6 +8,8 @@
 int main() {
     std::printf("handle %zu", sizeof(cadence_handle));
     AT(cadence_handle, at), AT(cadence_handle, open);
+    std::printf("\nsums %zu", sizeof(cadence_sums));
+    AT(cadence_sums, at), AT(cadence_sums, open);
     std::printf("\ntag %zu", sizeof(cadence_tag));
     AT(cadence_tag, key), AT(cadence_tag, key_len), AT(cadence_tag, text), AT(cadence_tag, text_len), AT(cadence_tag, keyed);
     std::printf("\ndecimal %zu", sizeof(cadence_decimal_number));

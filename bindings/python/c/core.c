@@ -12,6 +12,7 @@ enum { PLAIN, CHANGE, LEVEL, SPARE = 64 };
 typedef struct {
     PyObject_HEAD
     cadence_handle handle;
+    sums_of_packer sums;
     cadence_counts_of counts; /* as they were after the last call */
     cadence_settings settings; /* of each later call */
     uint8_t *texts; /* the texts of the settings */
@@ -59,7 +60,7 @@ static PyObject *answer(packer *self, uint32_t status) {
 
 static uint32_t renew(packer *self) {
     memset(&self->counts, 0, sizeof self->counts);
-    return cadence_open(&self->handle, self->capacity, self->packets, CADENCE_DROP_OLDEST);
+    return sums_open(&self->sums, &self->handle, self->capacity, self->packets);
 }
 
 /* Makes the texts of the settings, which already say whether they are strict. */
@@ -95,11 +96,11 @@ static bool begin(packer *self, PyObject *prefix, PyObject *container, const tag
 }
 
 static int packer_init(packer *self, PyObject *args, PyObject *named) {
-    static char *names[] = { "prefix", "capacity", "packets", "strict", "tags", "container", NULL };
+    static char *names[] = { "prefix", "capacity", "packets", "strict", "tags", "container", "adds_up", NULL };
     PyObject *prefix, *tags = Py_None, *container = Py_None;
     Py_ssize_t capacity, packets;
-    int strict = 0;
-    if (!PyArg_ParseTupleAndKeywords(args, named, "Unn|pOO", names, &prefix, &capacity, &packets, &strict, &tags, &container))
+    int strict = 0, adds_up = 0;
+    if (!PyArg_ParseTupleAndKeywords(args, named, "Unn|pOOp", names, &prefix, &capacity, &packets, &strict, &tags, &container, &adds_up))
         return -1;
     if (self->texts != NULL || self->container != NULL || capacity < 0 || packets < 0) {
         PyErr_SetString(PyExc_ValueError, "a Packer is made once, of a capacity and packets from 0 on");
@@ -112,6 +113,7 @@ static int packer_init(packer *self, PyObject *args, PyObject *named) {
     self->capacity = (size_t)capacity;
     self->packets = (size_t)packets;
     self->settings.strict = strict;
+    self->sums.used = adds_up;
     tags_of_call defaults;
     const bool made = tags_begin(&defaults, tags) && begin(self, prefix, container, &defaults);
     tags_end(&defaults);
@@ -121,6 +123,7 @@ static int packer_init(packer *self, PyObject *args, PyObject *named) {
 static void packer_dealloc(packer *self) {
     PyTypeObject *type = Py_TYPE((PyObject *)self);
     cadence_free(&self->handle);
+    cadence_free_sums(&self->sums.sums);
     PyMem_Free(self->texts);
     PyMem_Free(self->line);
     Py_XDECREF(self->container);
@@ -225,11 +228,11 @@ static uint32_t spliced(packer *self, call *c, size_t cut, const void *text, siz
     uint32_t status = put_line(self, c);
     if (status == CADENCE_OK && self->settings.strict) status = cadence_test_text(text, len);
     if (status == CADENCE_OK) status = splice(self, self->settings.prefix_len + c->key_len + 1, cut, text, len);
-    return status != CADENCE_OK ? status : cadence_line(&self->handle, self->line, self->line_len);
+    return status != CADENCE_OK ? status : sums_line(&self->sums, &self->handle, self->line, self->line_len);
 }
 
 /* Keeps the lines that set a gauge to a value below 0. A server reads a value with a sign as a change of the gauge, so
- * the first line sets it to 0. Both lines are in one packet. */
+ * the first line sets it to 0. Both lines are in one packet, unless they are added up. */
 static uint32_t below_zero(packer *self, call *c) {
     const int64_t mantissa = c->values.at->mantissa;
     const bool is_double = c->values.is_double;
@@ -238,9 +241,12 @@ static uint32_t below_zero(packer *self, call *c) {
     uint32_t status = put_line(self, c);
     c->values.at->mantissa = mantissa;
     c->values.is_double = is_double;
-    if (status == CADENCE_OK) status = splice(self, self->line_len, 0, "\n", 1);
+    if (status == CADENCE_OK && self->sums.used) {
+        status = sums_line(&self->sums, &self->handle, self->line, self->line_len);
+        self->line_len = 0;
+    } else if (status == CADENCE_OK) status = splice(self, self->line_len, 0, "\n", 1);
     if (status == CADENCE_OK) status = put_line(self, c);
-    return status != CADENCE_OK ? status : cadence_line(&self->handle, self->line, self->line_len);
+    return status != CADENCE_OK ? status : sums_line(&self->sums, &self->handle, self->line, self->line_len);
 }
 
 static uint32_t keep(packer *self, call *c) {
@@ -248,8 +254,12 @@ static uint32_t keep(packer *self, call *c) {
     const bool minus = c->values.len == 1 && !c->values.is_large && below;
     self->line_len = 0;
     if (c->text != NULL) return spliced(self, c, 1, c->text, c->text_len);
-    if (c->form == CHANGE && !minus) return spliced(self, c, 0, "+", 1);
+    if (c->form == CHANGE && !minus) {
+        const uint32_t status = sums_give(&self->sums, &self->handle);
+        return status != CADENCE_OK ? status : spliced(self, c, 0, "+", 1);
+    }
     if (c->form == LEVEL && minus) return below_zero(self, c);
+    if (self->sums.used) return spliced(self, c, 0, NULL, 0);
     if (c->values.is_double)
         return cadence_floating(&self->handle, &self->settings, c->kind, c->key, c->key_len, &c->values.number, 1, &c->options);
     if (c->values.is_large)
@@ -270,12 +280,12 @@ static PyObject *packer_line(packer *self, PyObject *line) {
     size_t len;
     if (!PyUnicode_Check(line)) return PyErr_Format(PyExc_TypeError, "the line %R is no str", line);
     if (!text_of(line, NULL, &at, &len)) return NULL;
-    return answer(self, cadence_line(&self->handle, at, len));
+    return answer(self, sums_line(&self->sums, &self->handle, at, len));
 }
 
 static PyObject *packer_flush(packer *self, PyObject *unused) {
     (void)unused;
-    return answer(self, cadence_flush(&self->handle));
+    return answer(self, sums_flush(&self->sums, &self->handle));
 }
 
 /* Removes the oldest packet that waits, and returns it as bytes. Returns None if no packet waits. */
@@ -295,21 +305,24 @@ static PyObject *packer_take(packer *self, PyObject *unused) {
 /* Returns the packets that are left, the held text included, in a list. The client is closed then. */
 static PyObject *packer_close(packer *self, PyObject *unused) {
     PyObject *packets = PyList_New(0), *packet;
-    const uint32_t status = cadence_flush(&self->handle);
-    if (packets == NULL) return NULL;
-    if (status != CADENCE_OK && status != CADENCE_NO_CLIENT) {
-        Py_DECREF(packets);
-        return refused(status);
+    uint32_t status = CADENCE_FULL;
+    while (packets != NULL && status == CADENCE_FULL) {
+        status = sums_flush(&self->sums, &self->handle);
+        if (status == CADENCE_NO_MEMORY) {
+            Py_DECREF(packets);
+            return refused(status);
+        }
+        while ((packet = packer_take(self, unused)) != NULL && packet != Py_None) {
+            const int put = PyList_Append(packets, packet);
+            Py_DECREF(packet);
+            if (put < 0) break;
+        }
+        if (packet != Py_None) Py_CLEAR(packets);
+        else Py_DECREF(packet);
     }
-    while ((packet = packer_take(self, unused)) != NULL && packet != Py_None) {
-        const int put = PyList_Append(packets, packet);
-        Py_DECREF(packet);
-        if (put < 0) break;
-    }
-    if (packet != Py_None) Py_CLEAR(packets);
-    else {
-        Py_DECREF(packet);
+    if (packets != NULL) {
         cadence_free(&self->handle);
+        cadence_free_sums(&self->sums.sums);
     }
     return packets;
 }
@@ -333,7 +346,7 @@ static PyMethodDef methods[] = {
     { "keep", (PyCFunction)(void (*)(void))packer_keep, METH_FASTCALL,
       "keep(kind, form, stat, value, rate, tags, container, timestamp): keeps a metric, and returns whether that made a packet." },
     { "line", (PyCFunction)packer_line, METH_O, "Keeps a line as it is, and returns whether that made a packet." },
-    { "flush", (PyCFunction)packer_flush, METH_NOARGS, "Makes a packet of the held text, and returns whether there was any." },
+    { "flush", (PyCFunction)packer_flush, METH_NOARGS, "Makes packets of all that is held, and returns whether there was any." },
     { "take", (PyCFunction)packer_take, METH_NOARGS, "Removes and returns the oldest packet, or returns None." },
     { "close", (PyCFunction)packer_close, METH_NOARGS, "Closes the Packer, and returns the packets that are left." },
     { "renew", (PyCFunction)packer_renew, METH_NOARGS, "Drops the held text and the packets that wait, unless the Packer is closed." },
@@ -342,7 +355,7 @@ static PyMethodDef methods[] = {
 };
 
 static PyType_Slot slots[] = {
-    { Py_tp_doc, "Packer(prefix, capacity, packets, strict=False, tags=None, container=None): makes lines and packs them into packets." },
+    { Py_tp_doc, "Packer(prefix, capacity, packets, strict=False, tags=None, container=None, adds_up=False): makes lines and packs them into packets." },
     { Py_tp_init, packer_init },
     { Py_tp_dealloc, packer_dealloc },
     { Py_tp_methods, methods },

@@ -36,4 +36,15 @@ void tags_end(tags_of_call *tags);
 PyObject *destination(PyObject *module, PyObject *values);
 PyObject *environment_tags(PyObject *module, PyObject *values);
 
+/* sums.c */
+typedef struct {
+    cadence_sums sums;
+    bool used;
+} sums_of_packer;
+
+uint32_t sums_open(sums_of_packer *self, cadence_handle *handle, size_t capacity, size_t packets);
+uint32_t sums_line(sums_of_packer *self, cadence_handle *handle, const uint8_t *line, size_t len);
+uint32_t sums_give(sums_of_packer *self, cadence_handle *handle);
+uint32_t sums_flush(sums_of_packer *self, cadence_handle *handle);
+
 #endif

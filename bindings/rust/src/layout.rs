@@ -25,7 +25,7 @@ impl Kind {
     }
 }
 
-/// A packer, or none. Only the library uses its fields.
+/// A packer or sums, or none. Only the library uses its fields.
 #[repr(C)]
 pub(crate) struct Handle {
     at: *mut u8,
@@ -216,6 +216,7 @@ mod tests {
         let header = std::fs::read_to_string(file).unwrap();
         let ours = [
             layout!("handle" Handle: at open),
+            layout!("sums" Handle: at open),
             layout!("tag" Tag<'_>: key.at key.len text.at text.len keyed),
             layout!("settings" Settings<'_>: prefix.at prefix.len tags.at tags.len container.at container.len contained strict),
             layout!("decimal" Decimal: mantissa places),

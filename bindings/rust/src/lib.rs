@@ -19,13 +19,13 @@
 //! # Which sink
 //!
 //! [`UdpMetricSink`] and [`UnixMetricSink`] send a datagram for each line. [`BufferedUdpMetricSink`] and
-//! [`BufferedUnixMetricSink`] pack lines. [`QueuingMetricSink`] passes lines to another sink in a thread of its own.
+//! [`BufferedUnixMetricSink`] pack lines. [`AggregatingMetricSink`] adds lines up before it passes them on. [`QueuingMetricSink`] passes lines to another sink in a thread of its own.
 //! [`SpyMetricSink`] and [`BufferedSpyMetricSink`] pass them to a test. [`NopMetricSink`] drops them. A sink of your
 //! own implements [`MetricSink`].
 //!
 //! # What is proved
 //!
-//! The library formats each line, packs the lines of buffered sinks, and reads the values of the variables of
+//! The library formats each line, packs the lines of buffered sinks, adds lines up, and reads the values of the variables of
 //! [`Environment`]. It is proved. The code around it, in this crate, is plain Rust, which is tested and not proved:
 //! sockets, threads and channels.
 //!
@@ -40,7 +40,8 @@
 //!
 //! [`StatsdClientBuilder::with_strict_texts`] makes a client that refuses texts with separators. [`StatsdClient::close`]
 //! waits until queued lines are sent, before the process ends. [`StatsdClient::timer`] times a scope. A queue's builder
-//! has a [policy](QueuingMetricSinkBuilder::with_policy) and a [period](QueuingMetricSinkBuilder::with_flush_period). [`Environment`] is what the variables of the process, such
+//! has a [policy](QueuingMetricSinkBuilder::with_policy) and a [period](QueuingMetricSinkBuilder::with_flush_period).
+//! [`AggregatingMetricSink`] adds lines up before it sends them. [`Environment`] is what the variables of the process, such
 //! as `DD_AGENT_HOST`, say about a client.
 //!
 //! # The library
@@ -61,9 +62,9 @@ pub use self::client::{
 pub use self::environment::{Environment, EnvironmentError, Target};
 pub use self::guard::TimingGuard;
 pub use self::sinks::{
-    BufferedSpyMetricSink, BufferedUdpMetricSink, BufferedUdpMetricSinkBuilder, BufferedUnixMetricSink, MetricSink,
-    NopMetricSink, QueuePolicy, QueuingMetricSink, QueuingMetricSinkBuilder, SinkStats, SpyMetricSink, UdpMetricSink,
-    UdpMetricSinkBuilder, UnixMetricSink,
+    AggregatingMetricSink, AggregatingMetricSinkBuilder, BufferedSpyMetricSink, BufferedUdpMetricSink,
+    BufferedUdpMetricSinkBuilder, BufferedUnixMetricSink, MetricSink, NopMetricSink, QueuePolicy, QueuingMetricSink,
+    QueuingMetricSinkBuilder, SinkStats, SpyMetricSink, UdpMetricSink, UdpMetricSinkBuilder, UnixMetricSink,
 };
 pub use self::types::{
     Counter, Distribution, ErrorKind, Gauge, Histogram, Meter, Metric, MetricError, MetricResult, Set, Timer,
@@ -84,6 +85,8 @@ pub mod prelude;
 mod raw;
 mod settings;
 mod sinks;
+#[allow(unsafe_code)]
+mod sums;
 mod sync;
 mod types;
 mod value;

@@ -34,10 +34,20 @@ unsafe impl Send for Packer {}
 impl Packer {
     /// Makes a packer whose packets have at most `capacity` bytes.
     pub(crate) fn new(capacity: usize) -> io::Result<Packer> {
+        Packer::with_packets(capacity, PACKETS)
+    }
+
+    /// Makes a packer in which at most `packets` packets wait, at least 2.
+    pub(crate) fn with_packets(capacity: usize, packets: usize) -> io::Result<Packer> {
         let mut handle = Handle::CLOSED;
         // SAFETY: the handle is closed.
-        checked(unsafe { cadence_open(&mut handle, capacity, PACKETS, REFUSE) })?;
+        checked(unsafe { cadence_open(&mut handle, capacity, packets, REFUSE) })?;
         Ok(Packer { handle, packet: Vec::new() })
+    }
+
+    /// Returns the handle, which is open and stays so.
+    pub(crate) fn handle(&mut self) -> &mut Handle {
+        &mut self.handle
     }
 
     /// Returns how many bytes are held for the next packet.

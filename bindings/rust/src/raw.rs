@@ -1,4 +1,4 @@
-//! The library, called as C, and safe calls of it. The only `unsafe` code of the crate is here and in `packer.rs`.
+//! The library, called as C, and safe calls of it. The only `unsafe` code of the crate is here, in `packer.rs` and in `sums.rs`.
 //!
 //! Each block is safe if the declarations fit `cadence.h` (a test of `layout.rs` compares the layouts), and if each pointer
 //! comes with the length of the memory that it points to.
@@ -69,6 +69,7 @@ impl OwnedSettings {
 
 pub(crate) const OK: u32 = 0;
 const NO_MEMORY: u32 = 2;
+pub(crate) const FULL: u32 = 3;
 const INVALID: u32 = 4;
 pub(crate) const TOO_SMALL: u32 = 7;
 const SEPARATOR: u32 = 8;

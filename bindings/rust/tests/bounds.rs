@@ -29,6 +29,7 @@ fn types_are_shared_between_threads() {
     shared::<UdpMetricSinkBuilder>();
     shared::<BufferedUdpMetricSinkBuilder>();
     shared::<QueuingMetricSinkBuilder>();
+    shared::<AggregatingMetricSinkBuilder>();
     safe::<QueuingMetricSink>();
     safe::<SpyReceiver<Vec<u8>>>();
     safe::<NopMetricSink>();
@@ -44,6 +45,7 @@ fn sinks_are_sinks_of_a_client() {
     sink::<UnixMetricSink>();
     sink::<BufferedUnixMetricSink>();
     sink::<QueuingMetricSink>();
+    sink::<AggregatingMetricSink<NopMetricSink>>();
     sink::<SpyMetricSink>();
     sink::<BufferedSpyMetricSink>();
     let boxed: Box<dyn MetricSink + Send + Sync + RefUnwindSafe> = Box::new(NopMetricSink);
@@ -99,6 +101,7 @@ fn metrics_have_their_derives() {
     defaults::<UdpMetricSinkBuilder>();
     defaults::<BufferedUdpMetricSinkBuilder>();
     defaults::<QueuingMetricSinkBuilder>();
+    defaults::<AggregatingMetricSinkBuilder>();
     let set: HashSet<Counter> = [Counter::new("", "a", 1), Counter::new("", "a", 1)].into();
     assert_eq!(1, set.len());
 }

@@ -1,14 +1,15 @@
 -- The record of an aggregator, one step further, and what it shows.
-use Rattle.std.proofs.Common.{◌≡◌, inl, inr, ℕ, List, [], ◌∷◌, ◌++◌, map, refl, sym, ap, ap₂, subst, ◌∙◌, append-nil}
+use Rattle.std.proofs.Common.{◌≡◌, inl, inr, ℕ, List, [], ◌∷◌, ◌++◌, map, refl, sym, ap, ap₂, subst, ◌∙◌, append-nil, append_assoc}
 use Rattle.std.proofs.lemmas.List.{map-append}
 use Rattle.std.specs.List.{AllZip}
 use Rattle.cadence_aggregate.specs.Server.{Sample, IsSummary}
 use Rattle.cadence_aggregate.proofs.Observed.{same_of, same_trans, same_more, same_refl}
+use Rattle.cadence_aggregate.proofs.Rearranged.{same_before}
 use Rattle.cadence_aggregating.specs.Notes.{line_of_note, sample_of_note}
 use Rattle.cadence_aggregating.specs.Noted.{noted}
 use Rattle.cadence_aggregate.specs.Within.{StayWithin}
 use Rattle.cadence_aggregate.proofs.Within.{stay_further, stay_more, stay_same}
-use Rattle.cadence_aggregating.specs.Past.{SumsUp, SumsUpWithin, Summarizes}
+use Rattle.cadence_aggregating.specs.Past.{SumsUp, SumsUpWithin, Summarizes, texts_in}
 use Rattle.cadence_aggregating.specs.Accepted.{line_of_entry, lines_of_entries}
 use Rattle.cadence_aggregating.specs.declared.accepted.Accepted.{Accepted}
 use Rattle.cadence_aggregating.specs.Printed.{text_of}
@@ -117,3 +118,75 @@ flushed_lines old new held held' same none =
 -- if the notes say the same, their lines are the same
 pub same_lines : (old new : List Note) → map sample_of_note new ≡ map sample_of_note old → map line_of_note new ≡ map line_of_note old
 same_lines old new same = noted_lines new ∙ ap (map text_of) same ∙ sym (noted_lines old)
+
+-- one more line was accepted
+sums_more : (accepted : List (List ℕ)) (line : List ℕ) (sent held sent' held' : List Sample) (s : Sample)
+    → SumsUp accepted sent held → LineSays line s → IsSummary ((sent ++ held) ++ s ∷ []) (sent' ++ held')
+    → SumsUp (accepted ++ line ∷ []) sent' held'
+sums_more accepted line sent held sent' held' s (said, zip, sum) says step =
+    (said ++ s ∷ [], zip_more accepted said line s zip says, same_trans _ _ _ (same_more said (sent ++ held) (s ∷ []) sum) step)
+
+sums_kept : (accepted : List (List ℕ)) (sent held sent' held' : List Sample) → SumsUp accepted sent held
+    → IsSummary (sent ++ held) (sent' ++ held') → SumsUp accepted sent' held'
+sums_kept accepted sent held sent' held' (said, zip, sum) step = (said, zip, same_trans _ _ _ sum step)
+
+-- the second is a summary of the first with one more step between what was sent before and what is held
+step_after : (gone before after : List Note) (held held' : List Sample) (said : List Sample)
+    → IsSummary ((map sample_of_note before ++ held) ++ said) (map sample_of_note after ++ held')
+    → IsSummary ((map sample_of_note (gone ++ before) ++ held) ++ said) (map sample_of_note (gone ++ after) ++ held')
+step_after gone before after held held' said step =
+    let g = map sample_of_note gone in
+    let first : (map sample_of_note (gone ++ before) ++ held) ++ said ≡ g ++ ((map sample_of_note before ++ held) ++ said) =
+    ap (λ t. (t ++ held) ++ said) (map-append sample_of_note gone before)
+    ∙ ap (λ t. t ++ said) (append_assoc g (map sample_of_note before) held)
+    ∙ append_assoc g (map sample_of_note before ++ held) said in
+    let last : map sample_of_note (gone ++ after) ++ held' ≡ g ++ (map sample_of_note after ++ held') =
+    ap (λ t. t ++ held') (map-append sample_of_note gone after) ∙ append_assoc g (map sample_of_note after) held' in
+    subst (λ t. IsSummary t (map sample_of_note (gone ++ after) ++ held')) (sym first)
+    (subst (IsSummary (g ++ ((map sample_of_note before ++ held) ++ said))) (sym last)
+    (same_before g ((map sample_of_note before ++ held) ++ said) (map sample_of_note after ++ held') step))
+
+-- one more line was accepted, and lines came to those that wait
+pub summed_more : (accepted : List (List ℕ × ℕ)) (line : List ℕ) (count : ℕ) (gone before after : List Note) (held held' : List Sample)
+    → SumsUp (texts_in accepted) (map sample_of_note (gone ++ before)) held
+    → (s : Sample) → LineSays line s → IsSummary ((map sample_of_note before ++ held) ++ s ∷ []) (map sample_of_note after ++ held')
+    → SumsUp (texts_in (accepted ++ (line, count) ∷ [])) (map sample_of_note (gone ++ after)) held'
+summed_more accepted line count gone before after held held' past s says step =
+    let texts : texts_in (accepted ++ (line, count) ∷ []) ≡ texts_in accepted ++ line ∷ [] = map-append (λ t. t.0) accepted ((line, count) ∷ []) in
+    subst (λ ls. SumsUp ls (map sample_of_note (gone ++ after)) held') (sym texts)
+    (sums_more (texts_in accepted) line (map sample_of_note (gone ++ before)) held (map sample_of_note (gone ++ after)) held' s past says
+    (step_after gone before after held held' (s ∷ []) step))
+
+-- no line was accepted, and lines came to those that wait
+pub summed_kept : (accepted : List (List ℕ)) (gone before after : List Note) (held held' : List Sample)
+    → SumsUp accepted (map sample_of_note (gone ++ before)) held
+    → IsSummary (map sample_of_note before ++ held) (map sample_of_note after ++ held')
+    → SumsUp accepted (map sample_of_note (gone ++ after)) held'
+summed_kept accepted gone before after held held' past step =
+    sums_kept accepted (map sample_of_note (gone ++ before)) held (map sample_of_note (gone ++ after)) held' past
+    (subst (λ t. IsSummary t (map sample_of_note (gone ++ after) ++ held')) (append-nil (map sample_of_note (gone ++ before) ++ held))
+    (step_after gone before after held held' []
+    (subst (λ t. IsSummary t (map sample_of_note after ++ held')) (sym (append-nil (map sample_of_note before ++ held))) step)))
+
+-- what was held came to the lines that wait
+pub summed_flushed : (accepted : List (List ℕ)) (gone before after : List Note) (held held' : List Sample)
+    → SumsUp accepted (map sample_of_note (gone ++ before)) held
+    → map sample_of_note after ++ held' ≡ map sample_of_note before ++ held
+    → SumsUp accepted (map sample_of_note (gone ++ after)) held'
+summed_flushed accepted gone before after held held' past same =
+    summed_kept accepted gone before after held held' past (same_of (map sample_of_note before ++ held) (map sample_of_note after ++ held') (sym same))
+
+-- the first line that waits is gone
+pub summed_dropped : (accepted : List (List ℕ)) (gone before after : List Note) (note : Note) (held : List Sample)
+    → SumsUp accepted (map sample_of_note (gone ++ before)) held → before ≡ note ∷ after
+    → SumsUp accepted (map sample_of_note ((gone ++ note ∷ []) ++ after)) held
+summed_dropped accepted gone before after note held past first =
+    subst (λ notes. SumsUp accepted (map sample_of_note notes) held)
+    (ap (λ t. gone ++ t) first ∙ sym (append_assoc gone (note ∷ []) after)) past
+
+-- what the record of lines that wait shows
+pub summed_shows : (accepted : List (List ℕ)) (gone waiting : List Note) (held : List Sample)
+    → SumsUp accepted (map sample_of_note (gone ++ waiting)) held
+    → Summarizes accepted (map line_of_note gone ++ map line_of_note waiting) held
+summed_shows accepted gone waiting held past =
+    subst (λ lines. Summarizes accepted lines held) (map-append line_of_note gone waiting) (summarizes accepted (gone ++ waiting) held past)

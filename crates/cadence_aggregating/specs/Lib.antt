@@ -18,4 +18,6 @@ pub mod Results
 pub mod Runs
 pub mod Says
 pub mod Shown
+pub mod Summed
 pub mod ToHold
+pub mod Waiting

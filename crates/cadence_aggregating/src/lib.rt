@@ -5,7 +5,9 @@
 //! - `printed`: writes the line that says something, and notes what it says.
 //! - `printer`: gives what lines say to a sink of metrics.
 //! - `limits`: the settings of an aggregator.
-//! - `recorded`: an aggregator of lines with a record of its past.
+//! - `recorded`: an aggregator of lines over a sink of metrics, with a record of its past.
+//! - `waiting`: lines that wait until their owner has sent them.
+//! - `summed`: lines that are added up for one thread, and wait to be sent.
 //! - `runs`: a run of lines and flushes.
 //! - `under_lock`: the same, with answers that can't be let go.
 //! - `locked`: an aggregator of lines under a lock.
@@ -31,7 +33,9 @@ mod runs;
 mod said;
 mod shared;
 mod sink;
+mod summed;
 mod under_lock;
+mod waiting;
 
 pub use builder::AggregatingMetricSinkBuilder;
 pub use client::AggregatedClient;
@@ -43,3 +47,4 @@ pub use recorded::RecordedAggregator;
 pub use runs::{Outcome, Step, run};
 pub use said::read_said;
 pub use sink::AggregatingMetricSink;
+pub use summed::SummedLines;

@@ -16,7 +16,7 @@ use crate::accepted::Accepted;
 use crate::limits::Limits;
 use crate::printer::Printer;
 use crate::said::read_said;
-use cadence_aggregate::{Aggregator, Fault, Line};
+use cadence_aggregate::{Aggregator, Fault, Line, LineSink};
 use cadence_errors::SinkError;
 use cadence_flow::{GhostList, MetricSink};
 use std::alloc::{AllocError, Global};
@@ -37,33 +37,30 @@ pub struct RecordedAggregator<S: Drop> {
         (map sample_of_note printer.notes.items) (held aggregator) ∥₁ },
 }
 
-// Adds what a line says, or hands the line on.
-fn add_or_pass<S: MetricSink>(
+/// Adds what a line says, or hands the line on.
+pub(crate) fn add_or_pass<S: LineSink>(
     aggregator: &mut Aggregator,
-    printer: &mut Printer<S>,
+    sink: &mut S,
     said: Line<'_>,
     is_held: bool,
 ) -> Result<(), Fault>
     ensures ok { OnOk result (IsSummary
-        ((map sample_of_note printer.old.notes.items ++ held aggregator.old)
-        ++ samples_of said.entry)
-        (map sample_of_note printer.new.notes.items ++ held aggregator.new)) }
+        ((S.sent sink.old ++ held aggregator.old) ++ samples_of said.entry)
+        (S.sent sink.new ++ held aggregator.new)) }
     ensures err { OnErr result (IsSummary
-        (map sample_of_note printer.old.notes.items ++ held aggregator.old)
-        (map sample_of_note printer.new.notes.items ++ held aggregator.new)) }
+        (S.sent sink.old ++ held aggregator.old) (S.sent sink.new ++ held aggregator.new)) }
     ensures quiet { is_held ≡ true → CanHold aggregator.old said.entry →
-        map sample_of_note printer.new.notes.items ≡ map sample_of_note printer.old.notes.items }
-    ensures refused { printer.new.refusals ≡ after_reply printer.old.refusals result }
+        S.sent sink.new ≡ S.sent sink.old }
+    ensures refused { S.refusals sink.new ≡ after_reply (S.refusals sink.old) result }
     ensures limit { aggregator.new.most_bytes ≡ aggregator.old.most_bytes }
     ensures within { StayWithin aggregator.old.most_bytes
-        ((map sample_of_note printer.old.notes.items ++ held aggregator.old)
-        ++ if_ok result (samples_of said.entry))
-        (map sample_of_note printer.new.notes.items ++ held aggregator.new) }
+        ((S.sent sink.old ++ held aggregator.old) ++ if_ok result (samples_of said.entry))
+        (S.sent sink.new ++ held aggregator.new) }
 {
     if is_held {
-        aggregator.add(printer, said)
+        aggregator.add(sink, said)
     } else {
-        aggregator.pass(printer, said)
+        aggregator.pass(sink, said)
     }
 }
 

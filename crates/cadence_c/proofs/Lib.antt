@@ -2,8 +2,10 @@
 -- and `handle` are by hand, and `AsBox` has the types that they share. The other folders have the answers of single
 -- functions.
 mod AsBox
+mod AsSumsBox
 pub mod Lines
 pub mod Lists
 pub mod Runs
 mod Variables
 mod Results
+mod GivenLines

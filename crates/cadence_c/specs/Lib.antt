@@ -8,3 +8,6 @@ pub mod Results
 pub mod Slot
 pub mod Run
 pub mod Handle
+pub mod Sums
+pub mod SumsSlot
+pub mod SumsHandle

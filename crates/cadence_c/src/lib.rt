@@ -11,6 +11,7 @@
 //! - `status`: the statuses that calls return, and the copy of a text into a buffer of C
 //! - `packet`: a finished packet
 //! - `client`: a client, with its held text and its queue of packets
+//! - `sums` and `sums_handle`: the calls that add lines up before a client keeps them, and the handle of the sums
 //! - `box_parts` and `handle`: a `Box` taken apart, and the handle that C stores
 //! - `laws`: what holds after many calls
 #![tactic(auto)]
@@ -27,6 +28,8 @@ mod line;
 mod packet;
 mod settings;
 mod status;
+mod sums;
+mod sums_handle;
 mod texts;
 mod value;
 

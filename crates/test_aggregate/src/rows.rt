@@ -1,7 +1,7 @@
 //! Rows of lines and flushes, with the lines that the wrapped sink takes. The expected lines are worked out by hand.
 use cadence::MetricResult;
 use cadence::sinks::{SpyMetricSink, SpyReceiver};
-use cadence_aggregating::{Limits, Step, run};
+use cadence_aggregating::{Limits, Step, SummedLines, run};
 use std::alloc::{AllocError, Global};
 use std::num::NonZeroUsize;
 use std::sync::Wait;
@@ -91,6 +91,15 @@ fn add_messages<R: Wait + Drop>(
     Ok(())
 }
 
+// Returns how many contexts and which lines are held in a row.
+fn limits_of(row: &Row) -> Limits {
+    Limits {
+        most_contexts: NonZeroUsize::new(row.0).unwrap_or(NonZeroUsize::MIN),
+        most_bytes: 24,
+        packs_values: true,
+    }
+}
+
 // Runs steps, and returns what came of them, as in `ROWS`.
 fn outcome<R: Wait + Clone + Drop>(
     rt: R,
@@ -99,12 +108,7 @@ fn outcome<R: Wait + Clone + Drop>(
     steps: &[Step<'_>],
 ) -> MetricResult<String> {
     let (receiver, sink) = SpyMetricSink::with_capacity(rt, alloc, row.1)?;
-    let limits = Limits {
-        most_contexts: NonZeroUsize::new(row.0).unwrap_or(NonZeroUsize::MIN),
-        most_bytes: 24,
-        packs_values: true,
-    };
-    let outcome = run(alloc, limits, sink, steps)?;
+    let outcome = run(alloc, limits_of(row), sink, steps)?;
     let mut text = String::new(alloc);
     for reply in &outcome.replies {
         text.push(if reply.is_ok() { 'y' } else { 'n' })?;
@@ -129,6 +133,40 @@ fn assert_comes_out<R: Wait + Clone + Drop>(rt: R, alloc: Global, row: &Row) -> 
 fn each_row_sends_its_lines(rt: HostRuntime) -> Result<(), Fail> {
     for row in ROWS {
         assert_comes_out(rt.clone()?, rt.alloc(), row)?;
+    }
+    Ok(())
+}
+
+// Adds up the lines of steps, which succeed, and returns the lines that wait after them, each with a space before it.
+fn waiting_lines(alloc: Global, row: &Row, steps: &[Step<'_>]) -> Result<String, AllocError> {
+    let mut sums = SummedLines::new(alloc, limits_of(row))?;
+    for step in steps {
+        match step {
+            Step::Add(line) => sums.add(line)?,
+            Step::Flush => sums.flush()?,
+        }
+    }
+    let mut text = String::new(alloc);
+    while let Some(line) = sums.first() {
+        text.push(' ')?;
+        text.push_str(line)?;
+        sums.drop_first();
+    }
+    Ok(text)
+}
+
+#[test]
+fn the_lines_of_each_row_wait(rt: HostRuntime) -> Result<(), Fail> {
+    let alloc = rt.alloc();
+    for row in ROWS {
+        let Some((steps, wanted)) = row.2.split_once('/') else {
+            return Err(Fail::new("a row without a slash"));
+        };
+        let text = waiting_lines(alloc, row, &steps_of(alloc, steps)?)?;
+        // A row with a sink that refuses lines has other ones.
+        if row.1 == 9 && !wanted.ends_with(text.as_str()) {
+            return Err(Fail::new(format_args!("{text} and not {wanted}")));
+        }
     }
     Ok(())
 }

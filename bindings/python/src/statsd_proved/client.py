@@ -15,6 +15,7 @@ from typing import Any, NoReturn, Self, TypedDict
 from . import environment, process
 from ._core import Packer
 from .environment import UNIX
+from .errors import Status, StatusError
 from .metrics import Metrics, Tags
 from .pipeline import Pipeline
 
@@ -86,6 +87,12 @@ class StatsClient(Metrics):
     call, or an OSError of a packet. If `raises` is set, the call raises the error too. If that is an OSError, the line of
     the call is kept, so the caller must not make the call again. Without both, the first error is logged by `logging`.
 
+    If `aggregate` is set, lines are added up before they are packed: counters are summed, of a gauge the last value is
+    held, and of a set each number once, for each name with its tags, rate and container. What is held is sent every
+    `flush_every` seconds, at `flush`, at `close` and when the process ends. Other lines, as those of timers, are packed at
+    once. If `packets` wait because the socket refuses them, a call for which one more has to be made keeps no line, and
+    counts as a bad one.
+
     If `strict` is set, a call with a colon, a comma, a bar or a newline in its name, in a tag, in the container or in the
     text of a set is refused with a StatusError of the status SEPARATOR, and no line of it is kept. So no text can make,
     change or split a metric. Tags with keys are then dicts or pairs, because a text as "page:home" has a colon. The
@@ -95,10 +102,11 @@ class StatsClient(Metrics):
     def __init__(self, host: str = "localhost", port: int = 8125, prefix: str | None = None, maxudpsize: int = 512,
                  ipv6: bool = False, *, tags: Tags | None = None, container: str | None = None, packets: int = 64,
                  flush_every: float | None = 1.0, on_error: Callable[[Exception], object] | None = None,
-                 raises: bool = False, strict: bool = False) -> None:
+                 raises: bool = False, strict: bool = False, aggregate: bool = False) -> None:
         tags = list(tags.items()) if isinstance(tags, Mapping) else tags
         self._settings = (prefix.rstrip(".") + "." if prefix else "", maxudpsize, packets, strict, tags, container)
-        self._packer = Packer(*self._settings)
+        self._packer = Packer(*self._settings, aggregate)
+        self._adds_up = aggregate
         self._flush_every = _period(flush_every)
         self._at_once = flush_every == 0
         self._on_error = on_error
@@ -292,21 +300,34 @@ class StatsClient(Metrics):
     def _flush(self) -> list[Exception]:
         with self._sending:
             faults = self._send_all()
-            try:
-                self._packer.flush()
-            except Exception as fault:
-                faults.append(fault)
+            while not self._pack(faults) and self._refused is None and not self._is_sending:
+                faults += self._send_all()
             if self._refused is None:
                 faults += self._send_all()
             return faults
 
+    def _pack(self, faults: list[Exception]) -> bool:
+        """Makes packets of all that is held, and returns False if more have to be sent before the rest can be packets."""
+        try:
+            self._packer.flush()
+        except StatusError as fault:
+            if fault.status is Status.FULL:
+                return False
+            faults.append(fault)
+        except Exception as fault:
+            faults.append(fault)
+        return True
+
     def _send_packets(self, packets: list[bytes]) -> None:
-        """Sends the packets of a pipeline, after the held text."""
+        """Sends the packets of a pipeline, after the held text. A client that adds lines up adds each of their lines."""
         faults: list[Exception] = []
+        texts = [packet.decode().removesuffix("\n") for packet in packets]
+        if self._adds_up:
+            texts = "\n".join(texts).split("\n") if texts else []
         with self._sending:
-            for packet in packets:
+            for text in texts:
                 try:
-                    self._packer.line(packet.decode().removesuffix("\n"))
+                    self._packer.line(text)
                 except Exception as fault:
                     self._bad_calls += 1
                     faults.append(fault)

@@ -1,4 +1,5 @@
 //! Sinks: a client passes its lines to one.
+mod aggregating;
 mod buffer;
 mod channel;
 mod core;
@@ -9,6 +10,7 @@ mod spy;
 mod udp;
 mod unix;
 
+pub use self::aggregating::{AggregatingMetricSink, AggregatingMetricSinkBuilder};
 pub use self::channel::SpyReceiver;
 pub use self::core::{MetricSink, NopMetricSink, SinkStats, SocketStats};
 pub use self::line_queue::QueuePolicy;

@@ -17,8 +17,8 @@ invariant_of-self-in-Break-branch-2 g c =
     record {
       limit = c.add_or_pass.ensures.limit ∙ old.limit;
       past = ∥∥₁_map old.past (λ past. past_kept old.limits.most_bytes (lines_of_entries old.accepted.items)
-          (map sample_of_note old.printer.notes.items) (held old.aggregator) (map sample_of_note new.printer.notes.items) (held new.aggregator)
-          past c.in_err-add_or_pass.ensures.err (none_said old.limits.most_bytes (map sample_of_note old.printer.notes.items ++ held old.aggregator) (map sample_of_note new.printer.notes.items ++ held new.aggregator)
+          (map sample_of_note old.printer.notes.items) (held old.aggregator) (map sample_of_note new.sink.notes.items) (held new.aggregator)
+          past c.in_err-add_or_pass.ensures.err (none_said old.limits.most_bytes (map sample_of_note old.printer.notes.items ++ held old.aggregator) (map sample_of_note new.sink.notes.items ++ held new.aggregator)
           (rw old.limit at c.in_err-add_or_pass.ensures.within)));
     }
 
@@ -29,9 +29,9 @@ invariant_of-self-2 g c =
     let entry = c.of.result in
     let is_line : line_of_entry entry ≡ c.args.line.now = ap text_of c.of.ensures in
     let says : LineSays (line_of_entry entry) (sample_of c.in_ok-said.said) = subst (λ line. LineSays line (sample_of c.in_ok-said.said)) (sym is_line) c.in_ok-said.ensures in
-    let past : ∥ SumsUpWithin old.limits.most_bytes (lines_of_entries c.and.result.items) (map sample_of_note new.printer.notes.items) (held new.aggregator) ∥₁ =
+    let past : ∥ SumsUpWithin old.limits.most_bytes (lines_of_entries c.and.result.items) (map sample_of_note new.sink.notes.items) (held new.aggregator) ∥₁ =
     rw c.and.ensures (∥∥₁_map old.past (λ past. past_more old.limits.most_bytes old.accepted.items entry
-    (map sample_of_note old.printer.notes.items) (held old.aggregator) (map sample_of_note new.printer.notes.items) (held new.aggregator)
+    (map sample_of_note old.printer.notes.items) (held old.aggregator) (map sample_of_note new.sink.notes.items) (held new.aggregator)
     (sample_of c.in_ok-said.said) past says c.in_ok-add_or_pass.ensures.ok (rw old.limit at c.in_ok-add_or_pass.ensures.within))) in
     record { limit = c.add_or_pass.ensures.limit ∙ old.limit; past = past }
 
@@ -42,5 +42,5 @@ returns-clause-quiet g c =
     ∣ (
       c.in_ok-said.said,
       c.in_ok-said.ensures,
-      λ to_hold can. same_lines old.printer.notes.items new.printer.notes.items (c.add_or_pass.ensures.quiet (c.holds-is_held.ensures to_hold) can),
+      λ to_hold can. same_lines old.printer.notes.items new.sink.notes.items (c.add_or_pass.ensures.quiet (c.holds-is_held.ensures to_hold) can),
     ) ∣₁

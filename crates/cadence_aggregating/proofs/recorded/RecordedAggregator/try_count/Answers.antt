@@ -26,8 +26,8 @@ invariant_of-self g c =
     record {
       limit = c.add_or_pass.ensures.limit ∙ old.limit;
       past = ∥∥₁_map old.past (λ past. past_kept old.limits.most_bytes (lines_of_entries old.accepted.items)
-          (map sample_of_note old.printer.notes.items) (held old.aggregator) (map sample_of_note new.printer.notes.items) (held new.aggregator)
-          past c.in_err-add_or_pass.ensures.err (none_said old.limits.most_bytes (map sample_of_note old.printer.notes.items ++ held old.aggregator) (map sample_of_note new.printer.notes.items ++ held new.aggregator)
+          (map sample_of_note old.printer.notes.items) (held old.aggregator) (map sample_of_note new.sink.notes.items) (held new.aggregator)
+          past c.in_err-add_or_pass.ensures.err (none_said old.limits.most_bytes (map sample_of_note old.printer.notes.items ++ held old.aggregator) (map sample_of_note new.sink.notes.items ++ held new.aggregator)
           (rw old.limit at c.in_err-add_or_pass.ensures.within)));
     }
 
@@ -39,9 +39,9 @@ invariant_of-self-2 g c =
     let fits : FitsSigned w64 c.args.by = search rules in
     let small : SFits w64 c.args.by = search rules in
     let same : to_z w64 (of_z w64 c.args.by) ≡ c.args.by = to_z-of_z w64 c.args.by small in
-    let past : ∥ SumsUpWithin old.limits.most_bytes (lines_of_entries c.and.result.items) (map sample_of_note new.printer.notes.items) (held new.aggregator) ∥₁ =
+    let past : ∥ SumsUpWithin old.limits.most_bytes (lines_of_entries c.and.result.items) (map sample_of_note new.sink.notes.items) (held new.aggregator) ∥₁ =
     rw c.and.ensures (∥∥₁_elim c.args.key.now.of ∥∥₁_prop (λ of. called_more old.limits.most_bytes old.accepted.items c.of.result (amount context c.args.by)
-    (map sample_of_note old.printer.notes.items) (held old.aggregator) (map sample_of_note new.printer.notes.items) (held new.aggregator)
+    (map sample_of_note old.printer.notes.items) (held old.aggregator) (map sample_of_note new.sink.notes.items) (held new.aggregator)
     (rw same at c.of.ensures) (counted context c.args.by fits (subst (IsContextOf Counter) (sym c.deref-context.ensures) of)) old.past
     (rw same at c.in_ok-add_or_pass.ensures.ok) (rw same at (rw old.limit at c.in_ok-add_or_pass.ensures.within)))) in
     record { limit = c.add_or_pass.ensures.limit ∙ old.limit; past = past }
@@ -71,5 +71,5 @@ returns-clause-quiet g c =
           let fit : length c.deref-context.result.now ≤ old.limits.most_bytes =
           subst (λ t. length t ≤ old.limits.most_bytes) (sym c.deref-context.ensures)
           (omega (arith, no_shorter context (number_text (whole c.args.by)), to_hold)) in
-          same_lines old.printer.notes.items new.printer.notes.items (c.add_or_pass.ensures.quiet (c.holds-is_held.ensures fit) can),
+          same_lines old.printer.notes.items new.sink.notes.items (c.add_or_pass.ensures.quiet (c.holds-is_held.ensures fit) can),
     ))

@@ -22,8 +22,8 @@ invariant_of-self-in-Break-branch-2 g c =
     record {
       limit = c.add_or_pass.ensures.limit ∙ old.limit;
       past = ∥∥₁_map old.past (λ past. past_kept old.limits.most_bytes (lines_of_entries old.accepted.items)
-          (map sample_of_note old.printer.notes.items) (held old.aggregator) (map sample_of_note new.printer.notes.items) (held new.aggregator)
-          past c.in_err-add_or_pass.ensures.err (none_said old.limits.most_bytes (map sample_of_note old.printer.notes.items ++ held old.aggregator) (map sample_of_note new.printer.notes.items ++ held new.aggregator)
+          (map sample_of_note old.printer.notes.items) (held old.aggregator) (map sample_of_note new.sink.notes.items) (held new.aggregator)
+          past c.in_err-add_or_pass.ensures.err (none_said old.limits.most_bytes (map sample_of_note old.printer.notes.items ++ held old.aggregator) (map sample_of_note new.sink.notes.items ++ held new.aggregator)
           (rw old.limit at c.in_err-add_or_pass.ensures.within)));
     }
 
@@ -35,9 +35,9 @@ invariant_of-self-2 g c =
     let text = c.deref-text.result.now in
     let small : c.args.value < 2 ^ 64 = search rules in
     let its : text ≡ number_text (natural c.args.value) = c.deref-text.ensures ∙ c.in_ok-rewrite.ensures in
-    let past : ∥ SumsUpWithin old.limits.most_bytes (lines_of_entries c.and.result.items) (map sample_of_note new.printer.notes.items) (held new.aggregator) ∥₁ =
+    let past : ∥ SumsUpWithin old.limits.most_bytes (lines_of_entries c.and.result.items) (map sample_of_note new.sink.notes.items) (held new.aggregator) ∥₁ =
     rw c.and.ensures (∥∥₁_elim c.args.key.now.of ∥∥₁_prop (λ of. called_more old.limits.most_bytes old.accepted.items c.of.result (level context text)
-    (map sample_of_note old.printer.notes.items) (held old.aggregator) (map sample_of_note new.printer.notes.items) (held new.aggregator)
+    (map sample_of_note old.printer.notes.items) (held old.aggregator) (map sample_of_note new.sink.notes.items) (held new.aggregator)
     c.of.ensures (set_to context text c.args.value small its (subst (IsContextOf Gauge) (sym c.deref-context.ensures) of)) old.past
     c.in_ok-add_or_pass.ensures.ok (rw old.limit at c.in_ok-add_or_pass.ensures.within))) in
     record { limit = c.add_or_pass.ensures.limit ∙ old.limit; past = past }
@@ -67,5 +67,5 @@ returns-clause-quiet g c =
           let fit : length c.deref-context.result.now ≤ old.limits.most_bytes =
           subst (λ t. length t ≤ old.limits.most_bytes) (sym c.deref-context.ensures)
           (omega (arith, no_shorter context (number_text (natural c.args.value)), to_hold)) in
-          same_lines old.printer.notes.items new.printer.notes.items (c.add_or_pass.ensures.quiet (c.holds-is_held.ensures fit) can),
+          same_lines old.printer.notes.items new.sink.notes.items (c.add_or_pass.ensures.quiet (c.holds-is_held.ensures fit) can),
     ))

@@ -1,0 +1,95 @@
+"""Clients that add lines up: what is sent at a flush and at once, and what happens if the socket refuses packets."""
+import unittest
+
+from receiver import ClientTest, Recorder
+from statsd_proved import SpyStatsClient
+
+
+class Sums(ClientTest):
+    def test_what_is_added_up_is_sent_at_a_flush(self):
+        client = self.client(aggregate=True, prefix="p")
+        for number in range(3):
+            client.incr("hits", number, tags={"k": "v"})
+            client.gauge("load", number / 2)
+            client.set("users", 7)
+        client.decr("hits", tags={"k": "v"})
+        client.incr("hits")
+        client.timing("wait", 12)
+        self.assertEqual(self.receiver.packets(), [])
+        client.flush()
+        self.assertEqual(self.receiver.lines(), ["p.wait:12|ms", "p.hits:2|c|#k:v", "p.hits:1|c", "p.load:1|g", "p.users:7|s"])
+        client.flush()
+        self.assertEqual(self.receiver.packets(), [])
+
+    def test_a_gauge_with_a_sign_comes_after_the_gauges_that_are_held(self):
+        client = self.client(aggregate=True)
+        client.gauge("g", 5)
+        client.gauge("g", -2)
+        client.gauge("h", 1)
+        client.gauge("h", 3, delta=True)
+        client.flush()
+        self.assertEqual(self.receiver.lines(), ["g:0|g", "g:-2|g", "h:1|g", "h:+3|g"])
+
+    def test_a_float_and_a_number_past_63_bits(self):
+        client = self.client(aggregate=True)
+        client.incr("a", 0.5)
+        client.gauge("g", 2 ** 64 - 1)
+        client.gauge("g", 0.25)
+        client.flush()
+        self.assertEqual(self.receiver.lines(), ["a:0.5|c", "g:0.25|g"])
+
+    def test_raw_lines_and_pipelines_are_added_up(self):
+        client = self.client(aggregate=True)
+        client.incr("a")
+        client.raw("a:2|c")
+        with client.pipeline() as pipeline:
+            pipeline.incr("a", 3)
+            pipeline.gauge("g", 1)
+            pipeline.incr("a", 4)
+        self.assertEqual(self.receiver.lines(), ["a:10|c", "g:1|g"])
+
+    def test_a_flush_makes_as_many_packets_as_it_needs(self):
+        client = self.client(aggregate=True, maxudpsize=8, packets=2)
+        for number in range(9):
+            client.incr(f"a{number}", number)
+        client.flush()
+        self.assertEqual(self.receiver.packets(), [f"a{number}:{number}|c\n" for number in range(9)])
+        self.assertEqual(client.counts()["dropped"], 0)
+
+    def test_a_refused_packet_loses_nothing(self):
+        client = self.client(aggregate=True, maxudpsize=8, packets=2, flush_every=None)
+        client._socket.close()
+        client._socket = Recorder()
+        client._socket.fault = OSError("refused")
+        for number in range(9):
+            client.incr(f"a{number}", number)
+        client.flush()
+        client.incr("a8")
+        client._socket.fault = None
+        client.flush()
+        self.assertEqual(client._socket.lines(), [f"a{number}:{number}|c" for number in range(9)])
+        self.assertEqual((client.counts()["bad"], client.counts()["dropped"]), (1, 0))
+
+    def test_close_and_the_end_of_a_with_send_what_is_held(self):
+        with self.client(aggregate=True, maxudpsize=8, packets=2) as client:
+            for number in range(9):
+                client.incr(f"a{number % 4}", number)
+        self.assertEqual(self.receiver.lines(), ["a1:6|c", "a2:8|c", "a3:10|c", "a0:12|c"])
+
+    def test_a_bad_call_adds_nothing(self):
+        client = SpyStatsClient(aggregate=True, strict=True, on_error=self.faults.append)
+        client.incr("a")
+        client.incr("a:b")
+        client.incr("a", 2 ** 64)
+        self.assertEqual(client.lines, ["a:1|c"])
+        self.assertEqual(client.counts()["bad"], 2)
+
+    def test_it_is_off_by_default(self):
+        client = SpyStatsClient()
+        client.incr("a")
+        client.incr("a")
+        self.assertEqual(client.lines, ["a:1|c", "a:1|c"])
+
+
+if __name__ == "__main__":
+    unittest.main()

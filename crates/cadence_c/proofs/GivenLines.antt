@@ -1,0 +1,59 @@
+-- The lines that sums give to a client.
+use Rattle.std.proofs.Common.{◌≡◌, ◌<◌, ℕ, List, [], ◌∷◌, ◌++◌, refl, sym, ap, ◌∙◌, append_assoc, append-nil, subst, arith, take, drop, length, Result, Ok, Err}
+use Rattle.std.specs.Prelude.{OnErr, OnOk}
+use Rattle.cadence_aggregating.specs.Summed.{accepted_in, gone_in, held_in, waiting_in}
+use Rattle.cadence_aggregating.specs.declared.summed.SummedLines.{SummedLines}
+use Rattle.cadence_c.specs.ClientState.{ClientState, KeepsLine}
+use Rattle.cadence_c.specs.Sums.{AddsUp, Empties, GivesLines, KeepsLines}
+
+pub kept_more : (xs ys : List (List ℕ)) (s m t : ClientState) → KeepsLines xs s m → KeepsLines ys m t → KeepsLines (xs ++ ys) s t
+kept_more [] ys s m t h k = subst (λ u. KeepsLines ys u t) h k
+kept_more (x ∷ xs) ys s m t (mid, first, rest) k = (mid, first, kept_more xs ys mid m t rest k)
+
+-- If nothing leaves the sums, the client stays as it is.
+pub gives_none : (a b : SummedLines) (s : ClientState) → gone_in b ≡ gone_in a → GivesLines a b s s
+gives_none a b s same = record { given = []; gone = same ∙ sym (append-nil (gone_in a)); kept = refl }
+
+pub gives_more : (a b c : SummedLines) (s m t : ClientState) → GivesLines a b s m → GivesLines b c m t → GivesLines a c s t
+gives_more a b c s m t h k = record {
+  given = h.given ++ k.given;
+  gone = k.gone ∙ ap (λ g. g ++ k.given) h.gone ∙ append_assoc (gone_in a) h.given k.given;
+  kept = kept_more h.given k.given s m t h.kept k.kept;
+}
+
+-- The first line that waits leaves the sums, and the client keeps it.
+pub gives_first : (a b : SummedLines) (s t : ClientState) (line : List ℕ) → take 1 (waiting_in a) ≡ line ∷ []
+    → gone_in b ≡ gone_in a ++ take 1 (waiting_in a) → KeepsLine s line t → GivesLines a b s t
+gives_first a b s t line first gone keeps = record { given = line ∷ []; gone = gone ∙ ap (λ l. gone_in a ++ l) first; kept = (t, keeps, refl) }
+
+shorter : (lines : List (List ℕ)) (line : List ℕ) → take 1 lines ≡ line ∷ [] → length (drop 1 lines) < length lines
+shorter [] line h = cc
+shorter (x ∷ lines) line h = omega arith
+
+-- Fewer lines wait after the first one is dropped.
+pub fewer_wait : (a b : SummedLines) (line : List ℕ) → take 1 (waiting_in a) ≡ line ∷ [] → waiting_in b ≡ drop 1 (waiting_in a)
+    → length (waiting_in b) < length (waiting_in a)
+fewer_wait a b line first rest = subst (λ ws. length ws < length (waiting_in a)) (sym rest) (shorter (waiting_in a) line first)
+
+-- A line was added between two times at which lines left the sums.
+pub adds_between : (lines : List (List ℕ)) (a b c d : SummedLines) (s m t : ClientState) → GivesLines a b s m → accepted_in b ≡ accepted_in a
+    → gone_in c ≡ gone_in b → accepted_in c ≡ accepted_in b ++ lines → GivesLines c d m t → accepted_in d ≡ accepted_in c
+    → AddsUp lines a d s t
+adds_between lines a b c d s m t first before gone more last after = record {
+  accepted = after ∙ more ∙ ap (λ l. l ++ lines) before;
+  gives = gives_more a b d s m t first (gives_more b c d m m t (gives_none b c m gone) last);
+}
+
+-- Lines left the sums, and nothing else.
+pub adds_none : (a b : SummedLines) (s t : ClientState) → GivesLines a b s t → accepted_in b ≡ accepted_in a → AddsUp [] a b s t
+adds_none a b s t gives same = record { accepted = same ∙ sym (append-nil (accepted_in a)); gives = gives }
+
+pub on_err : {A E P : Type 0} (r : Result A E) → P → OnErr r P
+on_err (Ok a) p = tt
+on_err (Err e) p = p
+
+-- If the lines that waited after a flush were given to the client, nothing is left.
+pub empties : {A E : Type 0} (r : Result A E) (a b : SummedLines) (s t : ClientState) → AddsUp [] a b s t → held_in b ≡ []
+    → OnOk r (waiting_in b ≡ []) → OnOk r (Empties a b s t)
+empties (Ok done) a b s t adds held waiting = record { adds = adds; held = held; waiting = waiting }
+empties (Err e) a b s t adds held waiting = tt

@@ -1,0 +1,221 @@
+//! The calls of C that add lines up before a client keeps them. A line that the client has no room for waits, and the
+//! next call gives it to the client first.
+ghost use Rattle.std.specs.Prelude.{◌≡◌, ◌≢◌, ◌⊎◌, ◌++◌, [], ◌∷◌, IfSome, IsSomeAnd, None, OnErr, OnOk};
+ghost use Rattle.std.specs.Str.{IsUtf8};
+ghost use Rattle.cadence_aggregating.specs.Summed.{accepted_in, held_in, waiting_in};
+ghost use Rattle.cadence_c.specs.Handle.{IsOpenAnd, OnOpen, client_of};
+ghost use Rattle.cadence_c.specs.Status.{status, CADENCE_FULL, CADENCE_NOT_UTF8, CADENCE_NO_CLIENT, CADENCE_NO_MEMORY, CADENCE_OK, IsOkOr};
+ghost use Rattle.cadence_c.specs.Sums.{AddsUp, Empties, GivesLines, IsNewSums, IsSummary, LacksRoomForFirst};
+ghost use Rattle.cadence_c.specs.SumsHandle.{OnBothOpen, sums_of};
+
+use crate::call::text_of;
+use crate::client::Client;
+use crate::handle::Handle;
+use crate::status::{NO_CLIENT, OK, StatusError, status_of};
+use crate::sums_handle::SumsHandle;
+use cadence_aggregating::{Limits, SummedLines};
+use std::alloc::Global;
+use std::num::NonZeroUsize;
+
+/// Makes sums in a handle, and drops earlier ones there. At most `contexts` contexts of each kind are held, and lines of
+/// at most `longest` bytes. If `packed` is set, the values of timers, histograms and distributions are packed into one
+/// line, and otherwise each of their lines is given to the client at once.
+#[unsafe(no_mangle)]
+pub extern "C" fn cadence_open_sums(
+    alloc: Global,
+    sums: &mut SumsHandle,
+    contexts: usize,
+    longest: usize,
+    packed: bool,
+) -> u32
+    ensures made { result ≡ CADENCE_OK → IsSomeAnd (sums_of sums.new) IsNewSums }
+    ensures refused { result ≢ CADENCE_OK → sums_of sums.new ≡ sums_of sums.old }
+    ensures statuses { IsOkOr (CADENCE_NO_MEMORY ∷ []) result }
+{
+    let limits = Limits {
+        most_contexts: NonZeroUsize::new(contexts).unwrap_or(NonZeroUsize::MIN),
+        most_bytes: longest,
+        packs_values: packed,
+    };
+    let Ok(lines) = SummedLines::new(alloc, limits) else {
+        return StatusError::NoMemory.code();
+    };
+    let Ok(made) = SumsHandle::new(alloc, lines) else {
+        return StatusError::NoMemory.code();
+    };
+    *sums = made;
+    OK
+}
+
+/// Drops the sums of a handle, with all that they hold. The handle has no sums then.
+#[unsafe(no_mangle)]
+pub extern "C" fn cadence_free_sums(alloc: Global, sums: &mut SumsHandle)
+    ensures { sums_of sums.new ≡ None }
+{
+    *sums = SumsHandle::empty(alloc);
+}
+
+// Gives the lines that wait to the client, in order, until it refuses one.
+fn give_waiting(
+    alloc: Global,
+    lines: &mut SummedLines,
+    client: &mut Client,
+) -> Result<(), StatusError>
+    ensures gives { GivesLines lines.old lines.new client.old client.new }
+    ensures accepted { accepted_in lines.new ≡ accepted_in lines.old }
+    ensures held { held_in lines.new ≡ held_in lines.old }
+    ensures all { OnOk result (waiting_in lines.new ≡ []) }
+    ensures full { status result ≡ CADENCE_FULL → LacksRoomForFirst lines.new client.new }
+    ensures statuses { IsOkOr (CADENCE_NO_MEMORY ∷ CADENCE_FULL ∷ []) (status result) }
+{
+    while let Some(line) = lines.first() {
+        client.pack(alloc, line.as_bytes())?;
+        lines.drop_first();
+    }
+    Ok(())
+}
+
+// Gives the lines that wait to the client, and then adds a line up and gives the client those that wait after that. A
+// line that the client refuses then waits.
+fn add_up(
+    alloc: Global,
+    lines: &mut SummedLines,
+    client: &mut Client,
+    line: &[u8],
+) -> Result<(), StatusError>
+    ensures ok { OnOk result (AddsUp (line.now ∷ []) lines.old lines.new client.old client.new) }
+    ensures err { OnErr result (AddsUp [] lines.old lines.new client.old client.new) }
+    ensures full { status result ≡ CADENCE_FULL → LacksRoomForFirst lines.new client.new }
+    ensures text { status result ≡ CADENCE_NOT_UTF8 → IsUtf8 line.now → ⊥ }
+    ensures same { status result ≡ CADENCE_NOT_UTF8 →
+        (lines.new ≡ lines.old) × (client.new ≡ client.old) }
+    ensures statuses { IsOkOr (CADENCE_NO_MEMORY ∷ CADENCE_FULL ∷ CADENCE_NOT_UTF8 ∷ [])
+        (status result) }
+{
+    let Some(line) = text_of(line) else {
+        return Err(StatusError::NotUtf8);
+    };
+    give_waiting(alloc, lines, client)?;
+    lines.add(line)?;
+    let _ = give_waiting(alloc, lines, client);
+    Ok(())
+}
+
+// Gives the client the lines that wait, and a line for each context that is held.
+fn empty(alloc: Global, lines: &mut SummedLines, client: &mut Client) -> Result<(), StatusError>
+    ensures ok { OnOk result (Empties lines.old lines.new client.old client.new) }
+    ensures err { OnErr result (AddsUp [] lines.old lines.new client.old client.new) }
+    ensures full { status result ≡ CADENCE_FULL → LacksRoomForFirst lines.new client.new }
+    ensures statuses { IsOkOr (CADENCE_NO_MEMORY ∷ CADENCE_FULL ∷ []) (status result) }
+{
+    give_waiting(alloc, lines, client)?;
+    lines.flush()?;
+    give_waiting(alloc, lines, client)
+}
+
+// Calls `add_up` with the client of a handle, and returns the status.
+fn add_with(alloc: Global, lines: &mut SummedLines, handle: &mut Handle, line: &[u8]) -> u32
+    ensures added { result ≡ CADENCE_OK →
+        OnOpen (AddsUp (line.now ∷ []) lines.old lines.new) handle.old handle.new }
+    ensures refused { (result ≡ CADENCE_FULL) ⊎ (result ≡ CADENCE_NO_MEMORY) →
+        OnOpen (AddsUp [] lines.old lines.new) handle.old handle.new }
+    ensures full { result ≡ CADENCE_FULL → IsOpenAnd handle.new (LacksRoomForFirst lines.new) }
+    ensures lines { (result ≡ CADENCE_NO_CLIENT) ⊎ (result ≡ CADENCE_NOT_UTF8) →
+        lines.new ≡ lines.old }
+    ensures client { (result ≡ CADENCE_NO_CLIENT) ⊎ (result ≡ CADENCE_NOT_UTF8) →
+        client_of handle.new ≡ client_of handle.old }
+    ensures closed { result ≡ CADENCE_NO_CLIENT → client_of handle.old ≡ None }
+    ensures text { result ≡ CADENCE_NOT_UTF8 → IsUtf8 line.now → ⊥ }
+    ensures statuses { IsOkOr (CADENCE_NO_CLIENT ∷ CADENCE_NO_MEMORY ∷ CADENCE_FULL
+        ∷ CADENCE_NOT_UTF8 ∷ []) result }
+{
+    let Some(mut client) = handle.take(alloc) else {
+        return NO_CLIENT;
+    };
+    let status = status_of(add_up(alloc, lines, &mut client, line));
+    handle.put(client);
+    status
+}
+
+// Calls `empty` with the client of a handle, and returns the status.
+fn empty_with(alloc: Global, lines: &mut SummedLines, handle: &mut Handle) -> u32
+    ensures flushed { result ≡ CADENCE_OK →
+        OnOpen (Empties lines.old lines.new) handle.old handle.new }
+    ensures refused { (result ≡ CADENCE_FULL) ⊎ (result ≡ CADENCE_NO_MEMORY) →
+        OnOpen (AddsUp [] lines.old lines.new) handle.old handle.new }
+    ensures full { result ≡ CADENCE_FULL → IsOpenAnd handle.new (LacksRoomForFirst lines.new) }
+    ensures lines { result ≡ CADENCE_NO_CLIENT → lines.new ≡ lines.old }
+    ensures client { result ≡ CADENCE_NO_CLIENT → client_of handle.new ≡ client_of handle.old }
+    ensures closed { result ≡ CADENCE_NO_CLIENT → client_of handle.old ≡ None }
+    ensures statuses { IsOkOr (CADENCE_NO_CLIENT ∷ CADENCE_NO_MEMORY ∷ CADENCE_FULL ∷ []) result }
+{
+    let Some(mut client) = handle.take(alloc) else {
+        return NO_CLIENT;
+    };
+    let status = status_of(empty(alloc, lines, &mut client));
+    handle.put(client);
+    status
+}
+
+/// Adds up a line, so that the client keeps no line for it, or keeps it at once if it can't be added.
+#[unsafe(no_mangle)]
+pub extern "C" fn cadence_add_line(
+    alloc: Global,
+    sums: &mut SumsHandle,
+    handle: &mut Handle,
+    line: &[u8],
+) -> u32
+    ensures added { result ≡ CADENCE_OK →
+        OnBothOpen (AddsUp (line.now ∷ [])) sums.old sums.new handle.old handle.new }
+    ensures refused { (result ≡ CADENCE_FULL) ⊎ (result ≡ CADENCE_NO_MEMORY) →
+        OnBothOpen (AddsUp []) sums.old sums.new handle.old handle.new }
+    ensures full { result ≡ CADENCE_FULL →
+        IsSomeAnd (sums_of sums.new) (λ b. IsOpenAnd handle.new (LacksRoomForFirst b)) }
+    ensures sums { (result ≡ CADENCE_NO_CLIENT) ⊎ (result ≡ CADENCE_NOT_UTF8) →
+        sums_of sums.new ≡ sums_of sums.old }
+    ensures client { (result ≡ CADENCE_NO_CLIENT) ⊎ (result ≡ CADENCE_NOT_UTF8) →
+        client_of handle.new ≡ client_of handle.old }
+    ensures closed { result ≡ CADENCE_NO_CLIENT →
+        (client_of handle.old ≡ None) ⊎ (sums_of sums.old ≡ None) }
+    ensures text { result ≡ CADENCE_NOT_UTF8 → IsUtf8 line.now → ⊥ }
+    ensures summary { IfSome (sums_of sums.new) IsSummary }
+    ensures statuses { IsOkOr (CADENCE_NO_CLIENT ∷ CADENCE_NO_MEMORY ∷ CADENCE_FULL
+        ∷ CADENCE_NOT_UTF8 ∷ []) result }
+{
+    let Some(mut lines) = sums.take(alloc) else {
+        return NO_CLIENT;
+    };
+    let status = add_with(alloc, &mut lines, handle, line);
+    lines.keeps_the_record();
+    sums.put(lines);
+    status
+}
+
+/// Gives the client a line for each context that is held, so that nothing is held any more.
+#[unsafe(no_mangle)]
+pub extern "C" fn cadence_flush_sums(
+    alloc: Global,
+    sums: &mut SumsHandle,
+    handle: &mut Handle,
+) -> u32
+    ensures flushed { result ≡ CADENCE_OK →
+        OnBothOpen Empties sums.old sums.new handle.old handle.new }
+    ensures refused { (result ≡ CADENCE_FULL) ⊎ (result ≡ CADENCE_NO_MEMORY) →
+        OnBothOpen (AddsUp []) sums.old sums.new handle.old handle.new }
+    ensures full { result ≡ CADENCE_FULL →
+        IsSomeAnd (sums_of sums.new) (λ b. IsOpenAnd handle.new (LacksRoomForFirst b)) }
+    ensures sums { result ≡ CADENCE_NO_CLIENT → sums_of sums.new ≡ sums_of sums.old }
+    ensures client { result ≡ CADENCE_NO_CLIENT → client_of handle.new ≡ client_of handle.old }
+    ensures closed { result ≡ CADENCE_NO_CLIENT →
+        (client_of handle.old ≡ None) ⊎ (sums_of sums.old ≡ None) }
+    ensures summary { IfSome (sums_of sums.new) IsSummary }
+    ensures statuses { IsOkOr (CADENCE_NO_CLIENT ∷ CADENCE_NO_MEMORY ∷ CADENCE_FULL ∷ []) result }
+{
+    let Some(mut lines) = sums.take(alloc) else {
+        return NO_CLIENT;
+    };
+    let status = empty_with(alloc, &mut lines, handle);
+    lines.keeps_the_record();
+    sums.put(lines);
+    status
+}
