@@ -34,7 +34,8 @@ fn a_flush_and_the_drop_pass_on_what_is_held() {
 #[test]
 fn the_builder_sets_how_much_is_held() {
     let (receiver, spy) = SpyMetricSink::new();
-    let sink = AggregatingMetricSinkBuilder::new().with_max_contexts(0).with_max_line(11).with_packed_values().build(spy).unwrap();
+    let sink =
+        AggregatingMetricSinkBuilder::new().with_max_contexts(0).with_max_line(11).with_packed_values().build(spy).unwrap();
     for line in ["a:1|c", "b:1|c", "a_long_name:1|c", "t:1|ms", "t:2:3|ms"] {
         assert_eq!(line.len(), sink.emit(line).unwrap());
     }
