@@ -1,7 +1,8 @@
-//! How a queuing sink ends: with its process, in a forked child, and under a handler that calls back.
+//! How sinks with a thread end: with their process, in a forked child, and under a handler that calls back.
 use cadence::prelude::*;
 use cadence::{
-    BufferedUdpMetricSink, MetricSink, QueuePolicy, QueuingMetricSink, QueuingMetricSinkBuilder, SpyMetricSink, StatsdClient,
+    AggregatingMetricSinkBuilder, BufferedUdpMetricSink, MetricSink, QueuePolicy, QueuingMetricSink, QueuingMetricSinkBuilder,
+    SpyMetricSink, StatsdClient,
 };
 use std::io;
 use std::net::UdpSocket;
@@ -65,6 +66,25 @@ fn a_forked_child_has_no_worker_and_ends_all_the_same() {
         sink.emit("after:1|c").unwrap();
         assert_eq!(b"after:1|c".to_vec(), receiver.recv_timeout(LONG).unwrap());
     }
+}
+
+#[test]
+fn a_forked_child_drops_sums_without_sending_them() {
+    let (receiver, spy) = SpyMetricSink::new();
+    let sink = AggregatingMetricSinkBuilder::new().with_flush_period(Duration::from_secs(3600)).build(spy).unwrap();
+    let sink = std::sync::Mutex::new(Some(sink));
+    let emit = |line| sink.lock().unwrap().as_ref().unwrap().emit(line).is_ok();
+    assert!(emit("visits:1|c"));
+    thread::sleep(Duration::from_millis(20));
+    let status = in_child(|| {
+        let added = emit("visits:5|c");
+        drop(sink.lock().unwrap().take());
+        u8::from(added && receiver.try_recv().is_err())
+    });
+    assert_eq!(1, status);
+    assert!(emit("visits:2|c"));
+    drop(sink.lock().unwrap().take());
+    assert_eq!(b"visits:3|c".to_vec(), receiver.recv_timeout(LONG).unwrap());
 }
 
 /// A sink that refuses each line and each flush.

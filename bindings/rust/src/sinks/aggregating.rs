@@ -2,7 +2,9 @@
 use super::core::{MetricSink, SinkStats};
 use crate::sums::Sums;
 use std::io;
+use std::mem;
 use std::panic::{catch_unwind, AssertUnwindSafe};
+use std::process;
 use std::sync::{Arc, Condvar, Mutex, MutexGuard, PoisonError};
 use std::thread::{self, JoinHandle};
 use std::time::Duration;
@@ -183,12 +185,14 @@ impl<S: MetricSink> Drop for Locked<S> {
     }
 }
 
-/// A thread that flushes after each period. The drop waits until the thread has ended.
+/// A thread that flushes after each period. The drop waits until the thread has ended, except in a forked child, which has
+/// no such thread.
 #[derive(Debug)]
 struct Timer {
     stop: Arc<(Mutex<bool>, Condvar)>,
     // Under a lock, because a client asks for a sink that is `RefUnwindSafe`.
     thread: Mutex<Option<JoinHandle<()>>>,
+    process: u32,
 }
 
 impl Timer {
@@ -202,7 +206,7 @@ impl Timer {
             }
         };
         let thread = Mutex::new(Some(thread::Builder::new().name("cadence".to_string()).spawn(run)?));
-        Ok(Timer { stop, thread })
+        Ok(Timer { stop, thread, process: process::id() })
     }
 }
 
@@ -217,8 +221,10 @@ impl Drop for Timer {
     fn drop(&mut self) {
         *self.stop.0.lock().unwrap_or_else(PoisonError::into_inner) = true;
         self.stop.1.notify_all();
-        if let Some(thread) = self.thread.get_mut().unwrap_or_else(PoisonError::into_inner).take() {
-            let _ = thread.join();
+        match self.thread.get_mut().unwrap_or_else(PoisonError::into_inner).take() {
+            Some(thread) if self.process == process::id() => drop(thread.join()),
+            // A forked child has no such thread.
+            thread => mem::forget(thread),
         }
     }
 }
