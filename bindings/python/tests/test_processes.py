@@ -168,13 +168,14 @@ class Processes(ClientTest):
         self.assertEqual(os.waitpid(child, 0)[1], 0)
 
     def test_nothing_is_sent_twice_after_a_fork(self):
-        for every in (None, 60):
-            client = self.client(flush_every=every)
+        for every, aggregate in ((None, False), (60, False), (60, True)):
+            client = self.client(flush_every=every, aggregate=aggregate)
             pipe = client.pipeline()
             client.incr("parent")
             pipe.incr("pipe")
             self.forked(lambda: (client.flush(), pipe.send(), client.close()))
             pipe.send()
+            client.flush()
             self.assertEqual(self.receiver.lines(), ["parent:1|c", "pipe:1|c"])
 
     def test_packets_that_wait_are_the_parents(self):
@@ -281,8 +282,8 @@ class Processes(ClientTest):
         self.assertEqual(self.receiver.lines(), ["a:1|c"])
 
     def test_the_end_of_a_worker(self):
-        for every in (None, 60):
-            client = self.client(flush_every=every)
+        for every, aggregate in ((None, False), (60, False), (60, True)):
+            client = self.client(flush_every=every, aggregate=aggregate)
             client.incr("parent")
             worker = multiprocessing.get_context("fork").Process(target=_in_worker, args=(client,))
             worker.start()
