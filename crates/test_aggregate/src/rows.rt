@@ -147,7 +147,10 @@ fn waiting_lines(alloc: Global, row: &Row, steps: &[Step<'_>]) -> Result<String,
         }
     }
     let mut text = String::new(alloc);
-    while let Some(line) = sums.first() {
+    for _ in 0..u64::MAX {
+        let Some(line) = sums.first() else {
+            break;
+        };
         text.push(' ')?;
         text.push_str(line)?;
         sums.drop_first();
