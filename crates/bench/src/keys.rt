@@ -27,6 +27,8 @@ const TAGS: &[Tag<'static>] = &[
     },
 ];
 
+const NO_TAGS: &[Tag<'static>] = &[];
+
 // Makes the keys of `count` counters.
 fn make_keys<R: Wait + Drop>(
     alloc: Global,
@@ -54,7 +56,7 @@ pub fn count<R: Clock + Wait + Threads + Clone + Drop + Send + Sync + 'static>(
     let client = AggregatingMetricSinkBuilder::new()
         .with_max_contexts(size)
         .build_client(rt.clone()?, alloc, settings, NopMetricSink)?;
-    let keys = make_keys(alloc, &client, size, if tagged { TAGS } else { &[] })?;
+    let keys = make_keys(alloc, &client, size, if tagged { TAGS } else { NO_TAGS })?;
     let hidden = BlackBox::new();
     let mut at = 0usize;
     let start = Instant::now(rt)?;
