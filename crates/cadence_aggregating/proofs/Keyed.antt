@@ -1,10 +1,10 @@
 -- The context of a key, which is that of the lines of its calls.
-use Rattle.std.proofs.Common.{◌≡◌, inl, inr, ℤ, pos, List, [], ◌∷◌, Option, Some, None, Bool, true, false, map, refl, sym, ap, subst, ◌∙◌, arith, rules}
+use Rattle.std.proofs.Common.{◌≡◌, inl, inr, ℤ, pos, List, [], ◌∷◌, Option, Some, None, Bool, true, false, map, refl, sym, ap, ap₂, subst, ◌∙◌, rules}
 use Rattle.std.specs.Prelude.{ℕ, IfSome, IsTrue, if◌then◌else◌, not, ◌||◌}
 use Rattle.std.specs.Int.RustNames.{FitsSigned}
 use Rattle.std.specs.Option.{option_map}
 use mir.Syntax.{w64}
-use Rattle.cadence_aggregate.specs.Server.{Sample, amount, level, member, timing, other}
+use Rattle.cadence_aggregate.specs.Server.{amount, level, member, timing, other}
 use Rattle.cadence_errors.specs.declared.MetricError.{MetricError}
 use Rattle.cadence_read.specs.Listed.{IsListed}
 use Rattle.cadence_settings.specs.Call.{MetricCall, allows_call, chosen_time, is_free_call, last_or, metric_of_call, tagged}
@@ -12,17 +12,20 @@ use Rattle.cadence_settings.specs.CallData.{LineFails, call_of, line_of_data, me
 use Rattle.cadence_settings.specs.Laws.{StrictCallsAreFree}
 use Rattle.cadence_settings.specs.Settings.{FailsFor, Settings, is_free_settings}
 use Rattle.cadence_settings.specs.declared.call.Call.{Call}
-use Rattle.cadence_text.specs.declared.line.MetricType.{MetricType}
-use Rattle.cadence_text.specs.declared.line.MetricType.TheVariants.{Counter, Gauge, Set}
+use Rattle.cadence_text.specs.declared.line.MetricType.TheVariants.{Counter, Gauge}
 use Rattle.cadence_text.specs.Laws.{LineReadsOneWay}
 use Rattle.cadence_text.specs.Line.{line_of}
 use Rattle.cadence_text.specs.Metric.{Metric, Tag}
 use Rattle.cadence_text.specs.Representable.{IsRepresentable}
-use Rattle.cadence_value.specs.Number.{Number, numbers_text}
-use Rattle.cadence_aggregating.specs.Contexts.{IsAmountIn, IsContextOf, IsContextOfCall, IsLevelIn, IsLineOfZero, IsUntimed, MayFailFor, zeros}
+use Rattle.cadence_value.specs.Number.{Number, natural, number_text, numbers_text, whole}
+use Rattle.cadence_aggregating.specs.Contexts.{IsContextOf, IsLineOfZero, IsUntimed, MayFailFor, zeros}
+use Rattle.cadence_aggregating.specs.Keys.{CountsFor, IsKeyOfLine, SaysNeither, SetsFor}
+use Rattle.cadence_aggregating.specs.declared.keys.CounterKey.{CounterKey}
+use Rattle.cadence_aggregating.specs.declared.keys.GaugeKey.{GaugeKey}
+use Rattle.cadence_aggregating.specs.declared.keys.LineKey.TheVariants.{Raises, Sets}
 use Rattle.cadence_aggregating.specs.Printed.{spliced}
 use Rattle.cadence_aggregating.specs.Says.{LineSays, MetricSays, context_of, is_timed}
-use Rattle.cadence_aggregating.proofs.Sayable.{numbered, numbered_line}
+use Rattle.cadence_aggregating.proofs.Sayable.{numbered, numbered_line, one_number}
 
 -- a call with tags alone has no time
 pub tags_untimed : (tags : List Tag) → last_or chosen_time None (map tagged tags) ≡ None
@@ -71,12 +74,6 @@ module _ (s : Settings) (call : MetricCall) (line : List ℕ) (zero : IsLineOfZe
   only : (m : Metric) → IsListed m → line_of m ≡ line → m ≡ metric_of_call s (record call { numbers = zeros })
   only m listed its = once m (metric_of_call s (record call { numbers = zeros })) listed.free zero.listed.free (its ∙ sym zero.whole)
 
-  -- the line of the call with other numbers has the same context
-  other_numbers : (m : Metric) (c : List ℕ) → IsListed m → line_of m ≡ line → c ≡ context_of m → IsContextOfCall s call c
-  unfolding metric_of_call
-  other_numbers m c listed its context ns =
-      ap (λ x. line_of (numbered x ns)) (sym (only m listed its)) ∙ numbered_line m listed ns ∙ ap (λ d. spliced d (numbers_text ns)) (sym context)
-
   kind_found : (m : Metric) → IsListed m → line_of m ≡ line → m.kind ≡ call.kind
   unfolding metric_of_call
   kind_found m listed its = ap (λ x. x.kind) (only m listed its)
@@ -92,60 +89,58 @@ module _ (s : Settings) (call : MetricCall) (line : List ℕ) (zero : IsLineOfZe
   unfolding metric_of_call
   zero_level kind untimed = (metric_of_call s (record call { numbers = zeros }), zero.listed, zero.whole, (kind, untimed, refl, refl))
 
-  pub counter_call_context : (c : List ℕ) (said : Sample) → LineSays line said → IsAmountIn c said → IsContextOfCall s call c
-  counter_call_context c (amount d n) (m, listed, its, (kind, time, context, numbers, fits)) same = other_numbers m c listed its (same ∙ context)
-  counter_call_context c (level d v) says h = absurd h
-  counter_call_context c (member l) says h = absurd h
-  counter_call_context c (timing d t) says h = absurd h
-  counter_call_context c (other l) says h = absurd h
+  -- the key of the line counts for the call
+  pub counts_for : (key : CounterKey) → IsKeyOfLine line (Raises key) → CountsFor s call key
+  unfolding metric_of_call
+  counts_for key (m, listed, its, (kind, lines)) n = lines n ∙ ap (λ x. line_of (numbered x (whole n ∷ []))) (only m listed its)
 
-  pub gauge_call_context : (c : List ℕ) (said : Sample) → LineSays line said → IsLevelIn c said → IsContextOfCall s call c
-  gauge_call_context c (amount d n) says h = absurd h
-  gauge_call_context c (level d v) (m, listed, its, (kind, time, context, values)) same = other_numbers m c listed its (same ∙ context)
-  gauge_call_context c (member l) says h = absurd h
-  gauge_call_context c (timing d t) says h = absurd h
-  gauge_call_context c (other l) says h = absurd h
+  -- the key of the line sets a gauge for the call
+  pub sets_for : (key : GaugeKey) → IsKeyOfLine line (Sets key) → SetsFor s call key
+  unfolding metric_of_call
+  sets_for key (m, listed, its, (kind, lines)) n = lines n ∙ ap (λ x. line_of (numbered x (natural n ∷ []))) (only m listed its)
 
-  module _ (kind : call.kind ≡ Counter) (untimed : IsUntimed call) where
-    counter_kind : (m : Metric) → IsListed m → line_of m ≡ line → m.kind ≡ Counter
-    counter_kind m listed its = kind_found m listed its ∙ kind
+  -- the line of a call that counts raises a counter
+  pub raises : call.kind ≡ Counter → IsUntimed call → SaysNeither line → ⊥
+  raises kind untimed (amount c n, says, h) = absurd h
+  raises kind untimed (level c v, says, h) = absurd h
+  raises kind untimed (member l, (m, listed, its, (k, time, same)), h) = cc (sym k ∙ kind_found m listed its ∙ kind)
+  raises kind untimed (timing c t, (m, listed, its, (timed, time, context, values, some)), h) =
+      cc (sym timed ∙ ap is_timed (kind_found m listed its ∙ kind))
+  raises kind untimed (other l, (same, nothing), h) =
+      nothing (amount (context_of (metric_of_call s (record call { numbers = zeros }))) (pos 0)) (zero_amount kind untimed)
 
-    -- the line of a call that counts raises a counter
-    pub raises : (said : Sample) → LineSays line said → ((c : List ℕ) → IsAmountIn c said → ⊥) → ⊥
-    raises (amount c n) says none = none c refl
-    raises (level c v) (m, listed, its, (k, time, context, values)) none = cc (sym k ∙ counter_kind m listed its)
-    raises (member l) (m, listed, its, (k, time, same)) none = cc (sym k ∙ counter_kind m listed its)
-    raises (timing c t) (m, listed, its, (timed, time, context, values, some)) none =
-        cc (sym timed ∙ ap is_timed (counter_kind m listed its))
-    raises (other l) (same, nothing) none =
-        nothing (amount (context_of (metric_of_call s (record call { numbers = zeros }))) (pos 0)) (zero_amount kind untimed)
+  pub raises_no_gauge : call.kind ≡ Counter → (key : GaugeKey) → IsKeyOfLine line (Sets key) → ⊥
+  raises_no_gauge kind key (m, listed, its, (k, lines)) = cc (sym k ∙ kind_found m listed its ∙ kind)
 
-  module _ (kind : call.kind ≡ Gauge) (untimed : IsUntimed call) where
-    gauge_kind : (m : Metric) → IsListed m → line_of m ≡ line → m.kind ≡ Gauge
-    gauge_kind m listed its = kind_found m listed its ∙ kind
+  -- the line of a call that sets a gauge sets one
+  pub sets : call.kind ≡ Gauge → IsUntimed call → SaysNeither line → ⊥
+  sets kind untimed (amount c n, says, h) = absurd h
+  sets kind untimed (level c v, says, h) = absurd h
+  sets kind untimed (member l, (m, listed, its, (k, time, same)), h) = cc (sym k ∙ kind_found m listed its ∙ kind)
+  sets kind untimed (timing c t, (m, listed, its, (timed, time, context, values, some)), h) =
+      cc (sym timed ∙ ap is_timed (kind_found m listed its ∙ kind))
+  sets kind untimed (other l, (same, nothing), h) =
+      nothing (level (context_of (metric_of_call s (record call { numbers = zeros }))) (numbers_text zeros)) (zero_level kind untimed)
 
-    -- the line of a call that sets a gauge sets one
-    pub sets : (said : Sample) → LineSays line said → ((c : List ℕ) → IsLevelIn c said → ⊥) → ⊥
-    sets (amount c n) (m, listed, its, (k, time, context, numbers, fits)) none = cc (sym k ∙ gauge_kind m listed its)
-    sets (level c v) says none = none c refl
-    sets (member l) (m, listed, its, (k, time, same)) none = cc (sym k ∙ gauge_kind m listed its)
-    sets (timing c t) (m, listed, its, (timed, time, context, values, some)) none =
-        cc (sym timed ∙ ap is_timed (gauge_kind m listed its))
-    sets (other l) (same, nothing) none =
-        nothing (level (context_of (metric_of_call s (record call { numbers = zeros }))) (numbers_text zeros)) (zero_level kind untimed)
+  pub sets_no_counter : call.kind ≡ Gauge → (key : CounterKey) → IsKeyOfLine line (Raises key) → ⊥
+  sets_no_counter kind key (m, listed, its, (k, lines)) = cc (sym k ∙ kind_found m listed its ∙ kind)
 
--- the context of a line that raises a counter
-pub counter_context : (line c : List ℕ) (said : Sample) → LineSays line said → IsAmountIn c said → IsContextOf Counter c
-counter_context line c (amount d n) (m, listed, its, (kind, time, context, numbers, fits)) same = (m, listed, kind, time, same ∙ context)
-counter_context line c (level d v) says h = absurd h
-counter_context line c (member l) says h = absurd h
-counter_context line c (timing d t) says h = absurd h
-counter_context line c (other l) says h = absurd h
+-- the context of a line that raises a counter, and its key
+pub counter_context : (line c : List ℕ) (n : ℤ) → LineSays line (amount c n) → IsContextOf Counter c
+counter_context line c n (m, listed, its, (kind, time, context, numbers, fits)) = (m, listed, kind, time, context)
 
--- the context of a line that sets a gauge
-pub gauge_context : (line c : List ℕ) (said : Sample) → LineSays line said → IsLevelIn c said → IsContextOf Gauge c
-gauge_context line c (amount d n) says h = absurd h
-gauge_context line c (level d v) (m, listed, its, (kind, time, context, values)) same = (m, listed, kind, time, same ∙ context)
-gauge_context line c (member l) says h = absurd h
-gauge_context line c (timing d t) says h = absurd h
-gauge_context line c (other l) says h = absurd h
+pub counter_key : (line c t : List ℕ) (n : ℤ) → LineSays line (amount c n) → t ≡ c
+    → (m : Metric) × IsListed m × (line_of m ≡ line)
+    × ((m.kind ≡ Counter) × ((k : ℤ) → spliced t (number_text (whole k)) ≡ line_of (numbered m (whole k ∷ []))))
+counter_key line c t n (m, listed, its, (kind, time, context, numbers, fits)) same =
+    (m, listed, its, (kind, λ k. ap₂ spliced (same ∙ context) (sym (one_number (whole k))) ∙ sym (numbered_line m listed (whole k ∷ []))))
+
+-- the context of a line that sets a gauge, and its key
+pub gauge_context : (line c v : List ℕ) → LineSays line (level c v) → IsContextOf Gauge c
+gauge_context line c v (m, listed, its, (kind, time, context, values)) = (m, listed, kind, time, context)
+
+pub gauge_key : (line c v t : List ℕ) → LineSays line (level c v) → t ≡ c
+    → (m : Metric) × IsListed m × (line_of m ≡ line)
+    × ((m.kind ≡ Gauge) × ((k : ℕ) → spliced t (number_text (natural k)) ≡ line_of (numbered m (natural k ∷ []))))
+gauge_key line c v t (m, listed, its, (kind, time, context, values)) same =
+    (m, listed, its, (kind, λ k. ap₂ spliced (same ∙ context) (sym (one_number (natural k))) ∙ sym (numbered_line m listed (natural k ∷ []))))

@@ -9,7 +9,7 @@ use Rattle.cadence_aggregating.specs.Notes.{line_of_note, sample_of_note}
 use Rattle.cadence_aggregating.specs.Noted.{noted}
 use Rattle.cadence_aggregate.specs.Within.{StayWithin}
 use Rattle.cadence_aggregate.proofs.Within.{stay_further, stay_more, stay_same}
-use Rattle.cadence_aggregating.specs.Past.{SumsUp, SumsUpWithin, Summarizes, texts_in}
+use Rattle.cadence_aggregating.specs.Past.{SumsUp, SumsUpWithin, Summarizes}
 use Rattle.cadence_aggregating.specs.Accepted.{line_of_entry, lines_of_entries}
 use Rattle.cadence_aggregating.specs.declared.accepted.Accepted.{Accepted}
 use Rattle.cadence_aggregating.specs.Printed.{text_of}
@@ -147,14 +147,14 @@ step_after gone before after held held' said step =
     (same_before g ((map sample_of_note before ++ held) ++ said) (map sample_of_note after ++ held') step))
 
 -- one more line was accepted, and lines came to those that wait
-pub summed_more : (accepted : List (List ℕ × ℕ)) (line : List ℕ) (count : ℕ) (gone before after : List Note) (held held' : List Sample)
-    → SumsUp (texts_in accepted) (map sample_of_note (gone ++ before)) held
-    → (s : Sample) → LineSays line s → IsSummary ((map sample_of_note before ++ held) ++ s ∷ []) (map sample_of_note after ++ held')
-    → SumsUp (texts_in (accepted ++ (line, count) ∷ [])) (map sample_of_note (gone ++ after)) held'
-summed_more accepted line count gone before after held held' past s says step =
-    let texts : texts_in (accepted ++ (line, count) ∷ []) ≡ texts_in accepted ++ line ∷ [] = map-append (λ t. t.0) accepted ((line, count) ∷ []) in
-    subst (λ ls. SumsUp ls (map sample_of_note (gone ++ after)) held') (sym texts)
-    (sums_more (texts_in accepted) line (map sample_of_note (gone ++ before)) held (map sample_of_note (gone ++ after)) held' s past says
+pub summed_more : (accepted : List Accepted) (entry : Accepted) (gone before after : List Note) (held held' : List Sample)
+    → SumsUp (lines_of_entries accepted) (map sample_of_note (gone ++ before)) held
+    → (s : Sample) → LineSays (line_of_entry entry) s → IsSummary ((map sample_of_note before ++ held) ++ s ∷ []) (map sample_of_note after ++ held')
+    → SumsUp (lines_of_entries (accepted ++ entry ∷ [])) (map sample_of_note (gone ++ after)) held'
+summed_more accepted entry gone before after held held' past s says step =
+    let lines : lines_of_entries (accepted ++ entry ∷ []) ≡ lines_of_entries accepted ++ line_of_entry entry ∷ [] = map-append line_of_entry accepted (entry ∷ []) in
+    subst (λ ls. SumsUp ls (map sample_of_note (gone ++ after)) held') (sym lines)
+    (sums_more (lines_of_entries accepted) (line_of_entry entry) (map sample_of_note (gone ++ before)) held (map sample_of_note (gone ++ after)) held' s past says
     (step_after gone before after held held' (s ∷ []) step))
 
 -- no line was accepted, and lines came to those that wait

@@ -1,6 +1,5 @@
 -- Contexts of calls that make no line.
 use Rattle.std.specs.Prelude.{◌≡◌, ◌⊎◌, ℕ, Bool, false, List, [], ◌∷◌, None, map, pos}
-use Rattle.cadence_aggregate.specs.Server.{Sample, amount, level, member, timing, other}
 use Rattle.cadence_errors.specs.Errors.{IsInvalid, out_of_memory}
 use Rattle.cadence_errors.specs.declared.MetricError.{MetricError}
 use Rattle.cadence_read.specs.Listed.{IsListed}
@@ -9,8 +8,7 @@ use Rattle.cadence_settings.specs.Settings.{Settings}
 use Rattle.cadence_text.specs.declared.line.MetricType.{MetricType}
 use Rattle.cadence_text.specs.Line.{line_of}
 use Rattle.cadence_text.specs.Metric.{Metric, Tag}
-use Rattle.cadence_value.specs.Number.{Number, numbers_text, whole}
-use Rattle.cadence_aggregating.specs.Printed.{spliced}
+use Rattle.cadence_value.specs.Number.{Number, whole}
 use Rattle.cadence_aggregating.specs.Says.{context_of}
 
 -- A metric of this kind without a time has this context, and no text of it has a separator.
@@ -20,11 +18,6 @@ IsContextOf kind context = (m : Metric) × IsListed m × (m.kind ≡ kind) × (m
 -- a call with these tags, and without other options and numbers
 abbrev pub tagged_call : MetricType → List ℕ → List Tag → MetricCall
 tagged_call kind key tags = record { kind = kind; key = key; numbers = []; choices = map tagged tags }
-
--- The context is that of the call's line: whichever numbers the call has, its line is the context with their text in it.
-abbrev pub IsContextOfCall : Settings → MetricCall → List ℕ → Type 0
-IsContextOfCall settings call context =
-    (ns : List Number) → line_of (metric_of_call settings (record call { numbers = ns })) ≡ spliced context (numbers_text ns)
 
 -- the list of the number 0
 abbrev pub zeros : List Number
@@ -38,22 +31,6 @@ IsUntimed call = last_or chosen_time None call.choices ≡ None
 pub record IsLineOfZero (settings : Settings) (call : MetricCall) (line : List ℕ) : Type 0 where
   pub listed : IsListed (metric_of_call settings (record call { numbers = zeros }))
   pub whole : line_of (metric_of_call settings (record call { numbers = zeros })) ≡ line
-
--- This raises a counter of this context.
-abbrev pub IsAmountIn : List ℕ → Sample → Type 0
-IsAmountIn context (amount c n) = context ≡ c
-IsAmountIn context (level c v) = ⊥
-IsAmountIn context (member l) = ⊥
-IsAmountIn context (timing c t) = ⊥
-IsAmountIn context (other l) = ⊥
-
--- This sets a gauge of this context.
-abbrev pub IsLevelIn : List ℕ → Sample → Type 0
-IsLevelIn context (amount c n) = ⊥
-IsLevelIn context (level c v) = context ≡ c
-IsLevelIn context (member l) = ⊥
-IsLevelIn context (timing c t) = ⊥
-IsLevelIn context (other l) = ⊥
 
 -- The error says why a key was not made: memory ran out, or a text has a separator, and then not all texts are free of
 -- separators (`false`).

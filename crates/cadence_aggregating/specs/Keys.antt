@@ -1,13 +1,19 @@
 -- What contracts see of the keys of calls that make no line.
 use Rattle.std.specs.Prelude.{◌≡◌, ℕ, ℤ, List, [], ◌∷◌, string_bytes}
-use Rattle.cadence_aggregate.specs.Server.{amount, level}
+use Rattle.cadence_aggregate.specs.Server.{Sample, amount, level, member, timing, other}
+use Rattle.cadence_read.specs.Listed.{IsListed}
 use Rattle.cadence_settings.specs.Call.{MetricCall, metric_of_call}
 use Rattle.cadence_settings.specs.Settings.{Settings}
+use Rattle.cadence_text.specs.declared.line.MetricType.TheVariants.{Counter, Gauge}
 use Rattle.cadence_text.specs.Line.{line_of}
+use Rattle.cadence_text.specs.Metric.{Metric}
 use Rattle.cadence_value.specs.Number.{natural, number_text, whole}
 use Rattle.cadence_aggregating.specs.Printed.{text_of}
+use Rattle.cadence_aggregating.specs.Says.{LineSays}
 use Rattle.cadence_aggregating.specs.declared.keys.CounterKey.{CounterKey}
 use Rattle.cadence_aggregating.specs.declared.keys.GaugeKey.{GaugeKey}
+use Rattle.cadence_aggregating.specs.declared.keys.LineKey.{LineKey}
+use Rattle.cadence_aggregating.specs.declared.keys.LineKey.TheVariants.{Raises, Sets}
 
 -- the context of the lines of a counter
 abbrev pub context_of_counter : CounterKey → List ℕ
@@ -32,3 +38,24 @@ CountsFor settings call key = (n : ℤ) → line_of_counter key n ≡ line_of (m
 -- Each line of the gauge is the line that these settings make of this call with the value.
 abbrev pub SetsFor : Settings → MetricCall → GaugeKey → Type 0
 SetsFor settings call key = (n : ℕ) → line_of_gauge key n ≡ line_of (metric_of_call settings (record call { numbers = natural n ∷ [] }))
+
+-- Each line of the key is the line of this metric with one other number.
+abbrev pub IsKeyOf : Metric → LineKey → Type 0
+IsKeyOf m (Raises key) = (m.kind ≡ Counter) × ((n : ℤ) → line_of_counter key n ≡ line_of (record m { numbers = whole n ∷ [] }))
+IsKeyOf m (Sets key) = (m.kind ≡ Gauge) × ((n : ℕ) → line_of_gauge key n ≡ line_of (record m { numbers = natural n ∷ [] }))
+
+-- The line is that of a metric with this key.
+abbrev pub IsKeyOfLine : List ℕ → LineKey → Type 0
+IsKeyOfLine line key = (m : Metric) × IsListed m × (line_of m ≡ line) × IsKeyOf m key
+
+-- This neither raises a counter nor sets a gauge.
+abbrev pub IsNeither : Sample → Type 0
+IsNeither (amount c n) = ⊥
+IsNeither (level c v) = ⊥
+IsNeither (member l) = Unit {0}
+IsNeither (timing c t) = Unit {0}
+IsNeither (other l) = Unit {0}
+
+-- The line neither raises a counter nor sets a gauge.
+abbrev pub SaysNeither : List ℕ → Type 0
+SaysNeither line = (said : Sample) × LineSays line said × IsNeither said

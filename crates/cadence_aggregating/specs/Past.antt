@@ -1,13 +1,9 @@
 -- What was sent and what is held, in place of the lines that were accepted.
-use Rattle.std.specs.Prelude.{ℕ, List, ◌++◌, map}
+use Rattle.std.specs.Prelude.{ℕ, List, ◌++◌}
 use Rattle.std.specs.List.{AllZip}
 use Rattle.cadence_aggregate.specs.Server.{Sample, IsSummary}
 use Rattle.cadence_aggregate.specs.Within.{StayWithin}
 use Rattle.cadence_aggregating.specs.Says.{LineSays}
-
--- the texts of a list of texts with counts
-abbrev pub texts_in : List (List ℕ × ℕ) → List (List ℕ)
-texts_in noted = map (λ text. text.0) noted
 
 -- What was sent, with what is held, is a summary of what the accepted lines say.
 abbrev pub SumsUp : List (List ℕ) → List Sample → List Sample → Type 0

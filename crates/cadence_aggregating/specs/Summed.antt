@@ -1,15 +1,15 @@
 -- What contracts see of lines that are added up and wait.
-use Rattle.std.specs.Prelude.{ℕ, List, ◌++◌, map}
+use Rattle.std.specs.Prelude.{ℕ, List, map}
 use Rattle.cadence_aggregate.specs.Aggregate.{held}
 use Rattle.cadence_aggregate.specs.Server.{Sample}
+use Rattle.cadence_aggregating.specs.Accepted.{lines_of_entries}
 use Rattle.cadence_aggregating.specs.Notes.{line_of_note}
-use Rattle.cadence_aggregating.specs.Past.{texts_in}
 use Rattle.cadence_aggregating.specs.Waiting.{notes_of}
 use Rattle.cadence_aggregating.specs.declared.summed.SummedLines.{SummedLines}
 
 -- the lines that were accepted, in order
 abbrev pub accepted_in : SummedLines → List (List ℕ)
-accepted_in s = texts_in s.accepted.items
+accepted_in s = lines_of_entries s.accepted.items
 
 -- the lines that are gone, because their owner sent and dropped them, in order
 abbrev pub gone_in : SummedLines → List (List ℕ)

@@ -1,5 +1,5 @@
 //! A record of a line that was accepted, for proofs.
-ghost use Rattle.std.specs.Prelude.{◌≡◌, ◌∷◌, [], string_bytes};
+ghost use Rattle.std.specs.Prelude.{◌≡◌};
 ghost use Rattle.cadence_aggregate.specs.Lines.{sample_of};
 ghost use Rattle.cadence_aggregating.specs.Accepted.{said_by_entry};
 ghost use Rattle.cadence_aggregating.specs.Noted.{only_text};

@@ -1,12 +1,11 @@
 //! The keys of calls that make no line.
-ghost use Rattle.std.specs.Prelude.{◌≡◌, [], List, Some, ℕ, IfErr, IfNone, IfOk, IfSome, IsFalse, IsTrue, OnErr, OnOk, map, string_bytes};
-ghost use Rattle.cadence_aggregate.specs.Lines.{sample_of};
+ghost use Rattle.std.specs.Prelude.{◌≡◌, [], Some, IfErr, IfNone, IfOk, IfSome, IsFalse, IsTrue, OnErr, OnOk, map, string_bytes};
 ghost use Rattle.cadence_errors.specs.Errors.{IsInvalid};
 ghost use Rattle.cadence_settings.specs.Call.{is_free_call, tagged};
 ghost use Rattle.cadence_settings.specs.CallData.{call_of, choice_of, kind_of_value, numbers_of_value};
 ghost use Rattle.cadence_text.specs.Record.{tag_of};
 ghost use Rattle.cadence_text.specs.declared.line.MetricType.TheVariants.{Counter, Gauge};
-ghost use Rattle.cadence_aggregating.specs.Contexts.{IsAmountIn, IsContextOf, IsLevelIn, IsLineOfZero, IsUntimed, MayFailFor, tagged_call, zeros};
+ghost use Rattle.cadence_aggregating.specs.Contexts.{IsContextOf, IsLineOfZero, IsUntimed, MayFailFor, tagged_call, zeros};
 
 use crate::said::read_said;
 use cadence_aggregate::Line;
@@ -76,25 +75,34 @@ fn not_added() -> MetricError {
     MetricError::from((ErrorKind::InvalidInput, "no line to add up"))
 }
 
-// Returns the context of a counter that is raised.
-fn amount_context<'a>(said: Line<'a>) -> Option<&'a str>
-    ensures some { IfSome result (λ context. IsAmountIn context.now (sample_of said.entry)) }
-    ensures none { IfNone result ((c : List ℕ) → IsAmountIn c (sample_of said.entry) → ⊥) }
-{
-    match said {
-        Line::Amount(context, _) => Some(context),
-        Line::Level(_, _) | Line::Member(_) | Line::Timing(_, _) | Line::Other(_) => None,
-    }
+/// The key of a line that can be added to others by its number.
+#[derive(Drop)]
+pub enum LineKey {
+    /// The line raises this counter.
+    Raises(CounterKey),
+    /// The line sets this gauge.
+    Sets(GaugeKey),
 }
 
-// Returns the context of a gauge that is set.
-fn level_context<'a>(said: Line<'a>) -> Option<&'a str>
-    ensures some { IfSome result (λ context. IsLevelIn context.now (sample_of said.entry)) }
-    ensures none { IfNone result ((c : List ℕ) → IsLevelIn c (sample_of said.entry) → ⊥) }
-{
-    match said {
-        Line::Level(context, _) => Some(context),
-        Line::Amount(_, _) | Line::Member(_) | Line::Timing(_, _) | Line::Other(_) => None,
+impl LineKey {
+    ghost use Rattle.cadence_aggregating.specs.Keys.{IsKeyOfLine, SaysNeither};
+
+    /// Makes the key of the counter that a line raises, or of the gauge that it sets. Returns `None` if the line does
+    /// neither. The only error is that memory ran out.
+    pub fn of_line(alloc: Global, line: &str) -> Result<Option<LineKey>, AllocError>
+        ensures key { IfOk result (λ made. IfSome made (IsKeyOfLine line.now)) }
+        ensures none { IfOk result (λ made. IfNone made (SaysNeither line.now)) }
+    {
+        let mut text = String::new(alloc);
+        match read_said(alloc, line, &mut text)? {
+            Line::Amount(context, _) => Ok(Some(LineKey::Raises(CounterKey {
+                context: String::from_str(alloc, context)?,
+            }))),
+            Line::Level(context, _) => Ok(Some(LineKey::Sets(GaugeKey {
+                context: String::from_str(alloc, context)?,
+            }))),
+            Line::Member(_) | Line::Timing(_, _) | Line::Other(_) => Ok(None),
+        }
     }
 }
 
@@ -111,14 +119,11 @@ impl CounterKey {
     {
         line_reads_one_way();
         let line = settings.line_of_zero(call)?;
-        let mut text = String::new(alloc);
-        let said = read_said(alloc, &line, &mut text)?;
-        let Some(context) = amount_context(said) else {
-            return Err(not_added());
-        };
-        Ok(CounterKey {
-            context: String::from_str(alloc, context)?,
-        })
+        match LineKey::of_line(alloc, &line)? {
+            Some(LineKey::Raises(key)) => Ok(key),
+            Some(LineKey::Sets(_)) => Err(not_added()),
+            None => Err(not_added()),
+        }
     }
 
     /// Makes the key of a counter with tags.
@@ -158,14 +163,11 @@ impl GaugeKey {
     {
         line_reads_one_way();
         let line = settings.line_of_zero(call)?;
-        let mut text = String::new(alloc);
-        let said = read_said(alloc, &line, &mut text)?;
-        let Some(context) = level_context(said) else {
-            return Err(not_added());
-        };
-        Ok(GaugeKey {
-            context: String::from_str(alloc, context)?,
-        })
+        match LineKey::of_line(alloc, &line)? {
+            Some(LineKey::Sets(key)) => Ok(key),
+            Some(LineKey::Raises(_)) => Err(not_added()),
+            None => Err(not_added()),
+        }
     }
 
     /// Makes the key of a gauge with tags.

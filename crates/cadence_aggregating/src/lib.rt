@@ -39,7 +39,7 @@ mod waiting;
 
 pub use builder::AggregatingMetricSinkBuilder;
 pub use client::AggregatedClient;
-pub use keys::{CounterKey, GaugeKey};
+pub use keys::{CounterKey, GaugeKey, LineKey};
 pub use limits::Limits;
 pub use note::{Kind, Note};
 pub use printed::note_line;

@@ -2,7 +2,7 @@
 ghost use Rattle.std.specs.Prelude.{◌≡◌, ◌++◌, ◌∷◌, [], IfOk, OnOk, length, string_bytes};
 ghost use Rattle.std.specs.Option.{option_copied};
 ghost use Rattle.cadence_aggregate.specs.Lines.{sample_of};
-ghost use Rattle.cadence_value.specs.Number.{number_text, whole};
+ghost use Rattle.cadence_value.specs.Number.{natural, number_text, whole};
 ghost use Rattle.cadence_aggregating.specs.Noted.{noted};
 ghost use Rattle.cadence_aggregating.specs.Notes.{line_of_note, sample_of_note};
 ghost use Rattle.cadence_aggregating.specs.Printed.{barred, before_bar, from_bar, spliced, text_of};
@@ -43,6 +43,17 @@ fn write_whole(text: &mut String, number: i64) -> Result<(), AllocError>
     ensures { OnOk result (string_bytes text.new
         ≡ string_bytes text.old ++ number_text (whole number)) }
 {
+    let Ok(number) = Decimal::new(i128::from(number), 0) else {
+        return Err(AllocError);
+    };
+    write!(text, "{number}")
+}
+
+/// Writes a whole number, in place of what the text had. The only error is that memory ran out.
+pub(crate) fn rewrite(text: &mut String, number: u64) -> Result<(), AllocError>
+    ensures { OnOk result (string_bytes text.new ≡ number_text (natural number)) }
+{
+    text.clear();
     let Ok(number) = Decimal::new(i128::from(number), 0) else {
         return Err(AllocError);
     };

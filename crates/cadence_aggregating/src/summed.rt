@@ -1,17 +1,22 @@
-//! Lines that are added up for one thread. A line that is to be sent waits until its owner has sent it.
+//! Lines that are added up for one thread. A line that is to be sent waits until its owner has sent it. `keyed` has the
+//! calls that make no line.
+mod keyed;
+
 ghost use Rattle.std.specs.Prelude.{◌≡◌, ◌++◌, ◌∷◌, [], IfNone, IfOk, IfSome, OnErr, OnOk, drop, map, take};
 ghost use Rattle.cadence_aggregate.specs.Aggregate.{held};
 ghost use Rattle.cadence_aggregating.specs.Notes.{sample_of_note};
-ghost use Rattle.cadence_aggregating.specs.Past.{SumsUp, texts_in};
+ghost use Rattle.cadence_aggregating.specs.Accepted.{lines_of_entries};
+ghost use Rattle.cadence_aggregating.specs.Past.{SumsUp};
 ghost use Rattle.cadence_aggregating.specs.Waiting.{notes_of};
 
+use crate::accepted::Accepted;
 use crate::limits::Limits;
 use crate::note::Note;
 use crate::recorded::add_or_pass;
 use crate::said::read_said;
 use crate::waiting::WaitingLines;
-use cadence_aggregate::Aggregator;
-use cadence_flow::{GhostList, GhostTexts};
+use cadence_aggregate::{Aggregator, Line};
+use cadence_flow::GhostList;
 use std::alloc::{AllocError, Global};
 
 /// Adds up lines. A line that is to be sent waits until its owner has sent it: `first` returns the first such line, and
@@ -27,9 +32,9 @@ pub struct SummedLines {
     aggregator: Aggregator,
     context: String,
     waiting: WaitingLines,
-    accepted: GhostTexts,
+    accepted: GhostList<Accepted>,
     gone: GhostList<Note>,
-    pub ghost past: { ∥ SumsUp (texts_in accepted.items)
+    pub ghost past: { ∥ SumsUp (lines_of_entries accepted.items)
         (map sample_of_note (gone.items ++ notes_of waiting)) (held aggregator) ∥₁ },
 }
 
@@ -52,7 +57,7 @@ impl SummedLines {
             aggregator,
             context: String::new(alloc),
             waiting: WaitingLines::new(alloc),
-            accepted: GhostTexts::new(),
+            accepted: GhostList::new(),
             gone: GhostList::new(),
         })
     }
@@ -73,7 +78,7 @@ impl SummedLines {
             Ok(()) => {}
             Err(_fault) => return Err(AllocError),
         }
-        self.accepted.note(line.as_bytes(), line.len());
+        self.accepted = self.accepted.and(&Accepted::of(Line::Other(line)));
         Ok(())
     }
 

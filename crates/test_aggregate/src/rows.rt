@@ -1,7 +1,7 @@
 //! Rows of lines and flushes, with the lines that the wrapped sink takes. The expected lines are worked out by hand.
 use cadence::MetricResult;
 use cadence::sinks::{SpyMetricSink, SpyReceiver};
-use cadence_aggregating::{Limits, Step, SummedLines, run};
+use cadence_aggregating::{Limits, LineKey, Step, SummedLines, run};
 use std::alloc::{AllocError, Global};
 use std::num::NonZeroUsize;
 use std::sync::Wait;
@@ -137,15 +137,8 @@ fn each_row_sends_its_lines(rt: HostRuntime) -> Result<(), Fail> {
     Ok(())
 }
 
-// Adds up the lines of steps, which succeed, and returns the lines that wait after them, each with a space before it.
-fn waiting_lines(alloc: Global, row: &Row, steps: &[Step<'_>]) -> Result<String, AllocError> {
-    let mut sums = SummedLines::new(alloc, limits_of(row))?;
-    for step in steps {
-        match step {
-            Step::Add(line) => sums.add(line)?,
-            Step::Flush => sums.flush()?,
-        }
-    }
+// Drops the lines that wait, and returns them, each with a space before it.
+fn take_all(alloc: Global, sums: &mut SummedLines) -> Result<String, AllocError> {
     let mut text = String::new(alloc);
     for _ in 0..u64::MAX {
         let Some(line) = sums.first() else {
@@ -156,6 +149,18 @@ fn waiting_lines(alloc: Global, row: &Row, steps: &[Step<'_>]) -> Result<String,
         sums.drop_first();
     }
     Ok(text)
+}
+
+// Adds up the lines of steps, which succeed, and returns the lines that wait after them, each with a space before it.
+fn waiting_lines(alloc: Global, row: &Row, steps: &[Step<'_>]) -> Result<String, AllocError> {
+    let mut sums = SummedLines::new(alloc, limits_of(row))?;
+    for step in steps {
+        match step {
+            Step::Add(line) => sums.add(line)?,
+            Step::Flush => sums.flush()?,
+        }
+    }
+    take_all(alloc, &mut sums)
 }
 
 #[test]
@@ -170,6 +175,37 @@ fn the_lines_of_each_row_wait(rt: HostRuntime) -> Result<(), Fail> {
         if row.1 == 9 && !wanted.ends_with(text.as_str()) {
             return Err(Fail::new(format_args!("{text} and not {wanted}")));
         }
+    }
+    Ok(())
+}
+
+// Adds up two numbers by the key of a line, if the line has one.
+fn add_by_key(alloc: Global, sums: &mut SummedLines, line: &str, numbers: (u32, u32)) -> Result<(), AllocError> {
+    match LineKey::of_line(alloc, line)? {
+        Some(LineKey::Raises(key)) => {
+            sums.count(&key, i64::from(numbers.0))?;
+            sums.count(&key, i64::from(numbers.1))
+        }
+        Some(LineKey::Sets(key)) => {
+            sums.gauge(&key, u64::from(numbers.0))?;
+            sums.gauge(&key, u64::from(numbers.1))
+        }
+        None => Ok(()),
+    }
+}
+
+#[test]
+fn keys_add_what_their_lines_say(rt: HostRuntime) -> Result<(), Fail> {
+    let alloc = rt.alloc();
+    let limits = limits_of(&(4, 9, ""));
+    let mut sums = SummedLines::new(alloc, limits)?;
+    for line in ["a:7|c|#k:v", "u:1|s", "g:0.5|g", "t:1|ms", "a:0.5|c", "a:1|c|T7", "no line", "a:7|c|#k:v"] {
+        add_by_key(alloc, &mut sums, line, (5, 40))?;
+    }
+    sums.flush()?;
+    let text = take_all(alloc, &mut sums)?;
+    if text.as_str() != " a:90|c|#k:v g:40|g" {
+        return Err(Fail::new(format_args!("{text}")));
     }
     Ok(())
 }

@@ -1,5 +1,6 @@
-//! Calls by keys, under the lock. A call is an `AnsweringSink` of its own, so that `emit_by` alone opens its answer. The
-//! text that this sink is given is empty: the call has a key and a number in place of a line.
+//! Calls by keys, under the lock. Each call is made as an `AnsweringSink` of its own, because only `emit_by` can open the
+//! answer of a step under a lock. This sink is given an empty text, because the call has a key and a number in place of
+//! a line.
 ghost use Rattle.cadence_aggregating.specs.Keys.{line_of_counter, line_of_gauge};
 ghost use Rattle.cadence_aggregating.specs.Results.{IsCallOf, IsResultOf};
 ghost use Rattle.cadence_aggregating.specs.Shown.{ShowsAdded};

@@ -1,28 +1,14 @@
 //! Calls by keys, which make no line. A call is held if the context of its key fits the limit of a line.
-ghost use Rattle.std.specs.Prelude.{◌≡◌, ◌++◌, ◌∷◌, [], OnErr, OnOk, string_bytes};
+ghost use Rattle.std.specs.Prelude.{◌≡◌, ◌++◌, ◌∷◌, [], OnErr, OnOk};
 ghost use Rattle.cadence_aggregate.specs.Refusals.{after_reply};
-ghost use Rattle.cadence_value.specs.Number.{natural, number_text};
 
 use super::{RecordedAggregator, add_or_pass};
 use crate::accepted::Accepted;
 use crate::keys::{CounterKey, GaugeKey};
+use crate::printed::rewrite;
 use cadence_aggregate::{Fault, Line};
 use cadence_errors::SinkError;
 use cadence_flow::MetricSink;
-use cadence_value::decimal::Decimal;
-use std::alloc::AllocError;
-use std::fmt::Write;
-
-// Writes a whole number, in place of what the text had.
-fn rewrite(text: &mut String, number: u64) -> Result<(), AllocError>
-    ensures { OnOk result (string_bytes text.new ≡ number_text (natural number)) }
-{
-    text.clear();
-    let Ok(number) = Decimal::new(i128::from(number), 0) else {
-        return Err(AllocError);
-    };
-    write!(text, "{number}")
-}
 
 impl<S: MetricSink> RecordedAggregator<S> {
     ghost use Rattle.cadence_aggregating.specs.Causes.{HasCountedCause};

@@ -1,39 +1,28 @@
-use Rattle.std.proofs.Common.{[], ◌∷◌, ◌∙◌, ap, string_bytes, subst, sym}
-use Rattle.cadence_aggregate.specs.Lines.{sample_of}
+use Rattle.std.proofs.Common.{[], rules, string_bytes, subst}
 use Rattle.cadence_settings.specs.CallData.{call_of}
-use Rattle.cadence_text.specs.declared.line.MetricType.TheVariants.{Counter}
-use Rattle.cadence_aggregating.specs.Contexts.{IsContextOf, IsAmountIn}
-use Rattle.cadence_value.specs.Number.{whole}
-use Rattle.cadence_aggregating.specs.Printed.{spliced}
-use Rattle.cadence_aggregating.specs.Says.{LineSays}
-use Rattle.cadence_aggregating.proofs.Keyed.{counter_call_context, counter_context, raises}
-use Rattle.cadence_aggregating.proofs.Sayable.{one_number}
+use Rattle.cadence_aggregating.specs.Keys.{IsKeyOfLine, SaysNeither}
+use Rattle.cadence_aggregating.specs.declared.keys.LineKey.TheVariants.{Raises, Sets}
+use Rattle.cadence_aggregating.proofs.Keyed.{counts_for, raises_no_gauge, raises}
 use Rattle.cadence_aggregating.proofs.keys.CounterKey.of_call.Goals as goal
 
-pub returns-in_default-clause-refused : goal.returns-in_default-clause-refused
-returns-in_default-clause-refused c =
+pub returns-in-Some-Raises-clause-lines : goal.returns-in-Some-Raises-clause-lines
+returns-in-Some-Raises-clause-lines c =
     let line = string_bytes c.in_ok-line.line in
-    let said = sample_of c.in_ok-said.said in
-    let says : LineSays line said = subst (λ t. LineSays t said) c.deref.ensures c.in_ok-said.ensures in
+    let key = c.in-Some-Raises.key in
+    let is : IsKeyOfLine line (Raises key) = subst (λ t. IsKeyOfLine t (Raises key)) c.deref.ensures (search rules) in
+    counts_for c.args.settings.now.settings (call_of c.args.call.now []) line c.in_ok-line.ensures.line c.line_reads_one_way.ensures key is
+
+pub returns-in-Some-Sets-clause-refused : goal.returns-in-Some-Sets-clause-refused
+returns-in-Some-Sets-clause-refused c =
+    let line = string_bytes c.in_ok-line.line in
+    let key = c.in-Some-Sets.field-0-0 in
+    let is : IsKeyOfLine line (Sets key) = subst (λ t. IsKeyOfLine t (Sets key)) c.deref.ensures (search rules) in
+    absurd (raises_no_gauge c.args.settings.now.settings (call_of c.args.call.now []) line c.in_ok-line.ensures.line c.line_reads_one_way.ensures
+    c.requires.kind key is)
+
+pub returns-clause-refused : goal.returns-clause-refused
+returns-clause-refused c =
+    let line = string_bytes c.in_ok-line.line in
+    let neither : SaysNeither line = subst SaysNeither c.deref.ensures (search rules) in
     absurd (raises c.args.settings.now.settings (call_of c.args.call.now []) line c.in_ok-line.ensures.line c.line_reads_one_way.ensures
-    c.requires.kind c.requires.untimed said says c.in_default.ensures.none)
-
-pub invariant_of-result : goal.invariant_of-result
-invariant_of-result c =
-    let line = string_bytes c.in_ok-line.line in
-    let said = sample_of c.in_ok-said.said in
-    let context = string_bytes c.in_ok-from_str.field-0 in
-    let says : LineSays line said = subst (λ t. LineSays t said) c.deref.ensures c.in_ok-said.ensures in
-    let there : IsAmountIn context said = subst (λ t. IsAmountIn t said) (sym c.in_ok-from_str.ensures.ok) c.in-Some.ensures.some in
-    let of : ∥ IsContextOf Counter context ∥₁ = ∣ counter_context line context said says there ∣₁ in
-    record { of = of }
-
-pub returns-clause-lines : goal.returns-clause-lines
-returns-clause-lines c =
-    let line = string_bytes c.in_ok-line.line in
-    let said = sample_of c.in_ok-said.said in
-    let context = string_bytes c.in_ok-from_str.field-0 in
-    let says : LineSays line said = subst (λ t. LineSays t said) c.deref.ensures c.in_ok-said.ensures in
-    let there : IsAmountIn context said = subst (λ t. IsAmountIn t said) (sym c.in_ok-from_str.ensures.ok) c.in-Some.ensures.some in
-    let its = counter_call_context c.args.settings.now.settings (call_of c.args.call.now []) line c.in_ok-line.ensures.line c.line_reads_one_way.ensures context said says there in
-    λ n. ap (spliced context) (sym (one_number (whole n))) ∙ sym (its (whole n ∷ []))
+    c.requires.kind c.requires.untimed neither)

@@ -1,39 +1,28 @@
-use Rattle.std.proofs.Common.{[], ◌∷◌, ◌∙◌, ap, string_bytes, subst, sym}
-use Rattle.cadence_aggregate.specs.Lines.{sample_of}
+use Rattle.std.proofs.Common.{[], rules, string_bytes, subst}
 use Rattle.cadence_settings.specs.CallData.{call_of}
-use Rattle.cadence_text.specs.declared.line.MetricType.TheVariants.{Gauge}
-use Rattle.cadence_aggregating.specs.Contexts.{IsContextOf, IsLevelIn}
-use Rattle.cadence_value.specs.Number.{natural}
-use Rattle.cadence_aggregating.specs.Printed.{spliced}
-use Rattle.cadence_aggregating.specs.Says.{LineSays}
-use Rattle.cadence_aggregating.proofs.Keyed.{gauge_call_context, gauge_context, sets}
-use Rattle.cadence_aggregating.proofs.Sayable.{one_number}
+use Rattle.cadence_aggregating.specs.Keys.{IsKeyOfLine, SaysNeither}
+use Rattle.cadence_aggregating.specs.declared.keys.LineKey.TheVariants.{Raises, Sets}
+use Rattle.cadence_aggregating.proofs.Keyed.{sets_for, sets_no_counter, sets}
 use Rattle.cadence_aggregating.proofs.keys.GaugeKey.of_call.Goals as goal
 
-pub returns-in_default-clause-refused : goal.returns-in_default-clause-refused
-returns-in_default-clause-refused c =
+pub returns-in-Some-Sets-clause-lines : goal.returns-in-Some-Sets-clause-lines
+returns-in-Some-Sets-clause-lines c =
     let line = string_bytes c.in_ok-line.line in
-    let said = sample_of c.in_ok-said.said in
-    let says : LineSays line said = subst (λ t. LineSays t said) c.deref.ensures c.in_ok-said.ensures in
+    let key = c.in-Some-Sets.key in
+    let is : IsKeyOfLine line (Sets key) = subst (λ t. IsKeyOfLine t (Sets key)) c.deref.ensures (search rules) in
+    sets_for c.args.settings.now.settings (call_of c.args.call.now []) line c.in_ok-line.ensures.line c.line_reads_one_way.ensures key is
+
+pub returns-in-Some-Raises-clause-refused : goal.returns-in-Some-Raises-clause-refused
+returns-in-Some-Raises-clause-refused c =
+    let line = string_bytes c.in_ok-line.line in
+    let key = c.in-Some-Raises.field-0-0 in
+    let is : IsKeyOfLine line (Raises key) = subst (λ t. IsKeyOfLine t (Raises key)) c.deref.ensures (search rules) in
+    absurd (sets_no_counter c.args.settings.now.settings (call_of c.args.call.now []) line c.in_ok-line.ensures.line c.line_reads_one_way.ensures
+    c.requires.kind key is)
+
+pub returns-clause-refused : goal.returns-clause-refused
+returns-clause-refused c =
+    let line = string_bytes c.in_ok-line.line in
+    let neither : SaysNeither line = subst SaysNeither c.deref.ensures (search rules) in
     absurd (sets c.args.settings.now.settings (call_of c.args.call.now []) line c.in_ok-line.ensures.line c.line_reads_one_way.ensures
-    c.requires.kind c.requires.untimed said says c.in_default.ensures.none)
-
-pub invariant_of-result : goal.invariant_of-result
-invariant_of-result c =
-    let line = string_bytes c.in_ok-line.line in
-    let said = sample_of c.in_ok-said.said in
-    let context = string_bytes c.in_ok-from_str.field-0 in
-    let says : LineSays line said = subst (λ t. LineSays t said) c.deref.ensures c.in_ok-said.ensures in
-    let there : IsLevelIn context said = subst (λ t. IsLevelIn t said) (sym c.in_ok-from_str.ensures.ok) c.in-Some.ensures.some in
-    let of : ∥ IsContextOf Gauge context ∥₁ = ∣ gauge_context line context said says there ∣₁ in
-    record { of = of }
-
-pub returns-clause-lines : goal.returns-clause-lines
-returns-clause-lines c =
-    let line = string_bytes c.in_ok-line.line in
-    let said = sample_of c.in_ok-said.said in
-    let context = string_bytes c.in_ok-from_str.field-0 in
-    let says : LineSays line said = subst (λ t. LineSays t said) c.deref.ensures c.in_ok-said.ensures in
-    let there : IsLevelIn context said = subst (λ t. IsLevelIn t said) (sym c.in_ok-from_str.ensures.ok) c.in-Some.ensures.some in
-    let its = gauge_call_context c.args.settings.now.settings (call_of c.args.call.now []) line c.in_ok-line.ensures.line c.line_reads_one_way.ensures context said says there in
-    λ n. ap (spliced context) (sym (one_number (natural n))) ∙ sym (its (natural n ∷ []))
+    c.requires.kind c.requires.untimed neither)

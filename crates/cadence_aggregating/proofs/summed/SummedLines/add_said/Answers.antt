@@ -1,0 +1,32 @@
+use Rattle.std.proofs.Common.{◌++◌, map, ap, sym, subst}
+use Rattle.std.proofs.Math.Logic.{∥∥₁_map, ∥∥₁_elim, ∥∥₁_prop}
+use Rattle.cadence_aggregate.specs.Aggregate.{held}
+use Rattle.cadence_aggregate.specs.Lines.{sample_of}
+use Rattle.cadence_aggregating.specs.Accepted.{lines_of_entries}
+use Rattle.cadence_aggregating.specs.Notes.{sample_of_note}
+use Rattle.cadence_aggregating.specs.Past.{SumsUp}
+use Rattle.cadence_aggregating.specs.Printed.{text_of}
+use Rattle.cadence_aggregating.specs.Says.{LineSays}
+use Rattle.cadence_aggregating.specs.Waiting.{notes_of}
+use Rattle.cadence_aggregating.proofs.Records.{summed_kept, summed_more}
+use Rattle.cadence_aggregating.proofs.summed.SummedLines.add_said.Goals as goal
+
+pub invariant_of-self : goal.invariant_of-self
+invariant_of-self c =
+    let old = c.args.self.now in
+    let new = c.add_or_pass.new in
+    record {
+      past = ∥∥₁_map old.past (λ past. summed_kept (lines_of_entries old.accepted.items) old.gone.items (notes_of old.waiting) (notes_of new.sink)
+          (held old.aggregator) (held new.aggregator) past c.in-Err.ensures.err);
+    }
+
+pub invariant_of-self-2 : goal.invariant_of-self-2
+invariant_of-self-2 c =
+    let old = c.args.self.now in
+    let new = c.add_or_pass.new in
+    let said = sample_of c.args.said in
+    let past : ∥ SumsUp (lines_of_entries c.and.result.items) (map sample_of_note (old.gone.items ++ notes_of new.sink)) (held new.aggregator) ∥₁ =
+    rw c.and.ensures (∥∥₁_elim c.requires ∥∥₁_prop (λ says. ∥∥₁_map old.past (λ past. summed_more old.accepted.items c.of.result
+    old.gone.items (notes_of old.waiting) (notes_of new.sink) (held old.aggregator) (held new.aggregator) past said
+    (subst (λ line. LineSays line said) (ap text_of (sym c.of.ensures)) says) c.in-Ok.ensures.ok))) in
+    record { past = past }
