@@ -16,7 +16,8 @@
  * no client: cadence_format_signed and the calls after it write one line each.
  *
  * Sums (cadence_open_sums) add lines up before a client keeps them: cadence_add_line in place of cadence_line, and then
- * cadence_flush_sums before cadence_flush.
+ * cadence_flush_sums before cadence_flush. With a key (cadence_make_key) a call adds a number up and makes no line:
+ * cadence_add_number.
  *
  * The last part of this header has the calls for texts that end with a zero byte: cadence_settings_of,
  * cadence_settings_make, cadence_count, cadence_gauge, cadence_time_millis and others.
@@ -33,8 +34,8 @@
  *   both processes send the same packets.
  *
  * Each call but cadence_free, cadence_free_sums and cadence_version returns a status. If the status is not CADENCE_OK,
- * the client is as it was before the call, except that cadence_add_line and cadence_flush_sums may have given it lines
- * of the sums. If several statuses apply, a call returns the first one in this list:
+ * the client is as it was before the call, except that cadence_add_line, cadence_add_number and cadence_flush_sums may
+ * have given it lines of the sums. If several statuses apply, a call returns the first one in this list:
  * - cadence_open: CADENCE_INVALID, CADENCE_NO_MEMORY. cadence_open_sums: CADENCE_NO_MEMORY.
  * - cadence_signed, cadence_unsigned, cadence_decimal, cadence_floating, cadence_duration:
  *   - for the values, CADENCE_INVALID if the call is cadence_duration and the kind has no durations, CADENCE_NO_MEMORY
@@ -46,7 +47,9 @@
  *     for the line;
  *   - CADENCE_FULL, CADENCE_NO_MEMORY for the packet.
  * - cadence_line, cadence_flush, cadence_flush_sums: CADENCE_NO_CLIENT, CADENCE_FULL, CADENCE_NO_MEMORY.
- *   cadence_add_line: CADENCE_NO_CLIENT, CADENCE_NOT_UTF8, CADENCE_FULL, CADENCE_NO_MEMORY.
+ *   cadence_add_line and cadence_add_number: CADENCE_NO_CLIENT for the sums, then CADENCE_NOT_UTF8 for the line or
+ *   CADENCE_INVALID for the key, CADENCE_NO_CLIENT for the handle, CADENCE_FULL, CADENCE_NO_MEMORY.
+ * - cadence_make_key: CADENCE_NO_CLIENT, CADENCE_NOT_UTF8, CADENCE_INVALID, CADENCE_NO_MEMORY.
  * - cadence_next: CADENCE_NO_CLIENT, CADENCE_NO_PACKET, CADENCE_TOO_SMALL. cadence_sent: the first two.
  * - cadence_held: CADENCE_NO_CLIENT, CADENCE_TOO_SMALL. cadence_drop_held: CADENCE_NO_CLIENT, CADENCE_FULL.
  * - cadence_counts: CADENCE_NO_CLIENT.
@@ -105,7 +108,7 @@ enum {
     CADENCE_NO_CLIENT = 1, /* the handle is closed: it has no client; or the sums are closed */
     CADENCE_NO_MEMORY = 2, /* memory ran out */
     CADENCE_FULL = 3,      /* there is no room for the packets that the call makes: send a packet, then try again */
-    CADENCE_INVALID = 4,   /* no such kind or policy, fewer than 2 packets, no durations in this kind, a bad number */
+    CADENCE_INVALID = 4,   /* no such kind, policy or key, fewer than 2 packets, a kind without durations, a bad number */
     CADENCE_NOT_UTF8 = 5,  /* a text is not UTF-8 */
     CADENCE_NO_PACKET = 6, /* no packet waits */
     CADENCE_TOO_SMALL = 7, /* the buffer is too small: *length is the size that is needed, in bytes */
@@ -283,6 +286,19 @@ void cadence_free_sums(cadence_sums *sums);
  * the sums are closed; CADENCE_NOT_UTF8; CADENCE_FULL if a line waits and the client has no room for it; or
  * CADENCE_NO_MEMORY. If it is not CADENCE_OK, the line is not added, and nothing that was added before is lost. */
 uint32_t cadence_add_line(cadence_sums *sums, cadence_handle *handle, const uint8_t *line, size_t line_len);
+
+/* Makes a key of a line, and writes the number of the key into *key. The line raises a counter, or sets a gauge; which
+ * number it has makes no difference. The key is part of these sums, and is gone with them. Make one key for each
+ * context and keep its number, because each call makes a new key. Returns CADENCE_OK; CADENCE_NO_CLIENT if the sums are
+ * closed; CADENCE_NOT_UTF8; CADENCE_INVALID if the line can't be added, or is not that of a counter or a gauge; or
+ * CADENCE_NO_MEMORY. */
+uint32_t cadence_make_key(cadence_sums *sums, const uint8_t *line, size_t line_len, size_t *key);
+
+/* Adds up a number by a key, as cadence_add_line does with the line of the key that has this number, but makes no line:
+ * it raises the counter by the number, or sets the gauge to it. The number is held if the line without it has at most
+ * `longest` bytes. Returns what cadence_add_line returns, but CADENCE_INVALID in place of CADENCE_NOT_UTF8: if these
+ * sums have no such key, or the number of a gauge is negative. */
+uint32_t cadence_add_number(cadence_sums *sums, cadence_handle *handle, size_t key, int64_t number);
 
 /* Gives the client a line for each context that is held, so that nothing is held any more. Call cadence_flush after it.
  * Returns CADENCE_OK, CADENCE_NO_CLIENT, CADENCE_NO_MEMORY or CADENCE_FULL. After the last two, what the client did not
@@ -559,6 +575,22 @@ static inline uint32_t cadence_add_double(cadence_sums *sums, cadence_handle *ha
     if (status == CADENCE_OK) return cadence_add_line(sums, handle, line, length);
     if (status == CADENCE_TOO_SMALL) status = cadence_flush_sums(sums, handle);
     return status != CADENCE_OK ? status : cadence_double(handle, settings, kind, key, value, options);
+}
+
+/* Makes the key of a counter or a gauge for cadence_add_number, like cadence_make_key. Returns what
+ * cadence_format_signed and cadence_make_key return: CADENCE_TOO_SMALL if its line has more than 512 bytes. */
+static inline uint32_t cadence_key_of(cadence_sums *sums, const cadence_settings *settings, uint32_t kind,
+                                      const char *name, const cadence_options *options, size_t *key) {
+    const cadence_options none = CADENCE_NO_OPTIONS;
+    const cadence_settings nothing = CADENCE_NO_SETTINGS;
+    const int64_t value = 0;
+    uint8_t line[512];
+    size_t length;
+    const uint32_t status = cadence_format_signed(settings != CADENCE_NULL ? settings : &nothing, kind,
+                                                  CADENCE_BYTES(name), cadence_length_of(name), &value, 1,
+                                                  options != CADENCE_NULL ? options : &none, line, sizeof line,
+                                                  &length);
+    return status != CADENCE_OK ? status : cadence_make_key(sums, line, length, key);
 }
 
 /* Adds up a line that the host has made, like cadence_add_line. */

@@ -1,5 +1,5 @@
-/* speed count|tags CALLS [THREADS [known]]: makes CALLS calls in each thread and prints how many nanoseconds a call
- * takes. With `known` the texts are not tested for UTF-8. Each thread has a handle and a socket of its own. Packets of
+/* speed count|tags CALLS [THREADS [known|key]]: makes CALLS calls in each thread and prints how many nanoseconds a call
+ * takes. With `known` the texts are not tested for UTF-8. With `key` the calls are added up by a key. Each thread has a handle and a socket of its own. Packets of
  * 1432 bytes are sent to the loopback address as soon as two wait. */
 #include "cadence.h"
 #include <arpa/inet.h>
@@ -16,6 +16,7 @@
 
 static struct sockaddr_in to;
 static long calls;
+static bool by_key;
 static cadence_options options = CADENCE_NO_OPTIONS;
 
 static void send_waiting(cadence_handle *handle, int fd) {
@@ -33,13 +34,20 @@ static void *work(void *unused) {
     if (connect(fd, (struct sockaddr *)&to, sizeof to)) exit(2);
     const cadence_settings settings = cadence_settings_of("some.prefix.");
     cadence_open(&handle, 1432, 2, CADENCE_REFUSE);
+    cadence_sums sums = CADENCE_CLOSED;
+    size_t key = 0;
+    if (by_key && (cadence_open_sums(&sums, 16, 512, false) || cadence_key_of(&sums, &settings, CADENCE_COUNTER, "some.counter", &options, &key)))
+        exit(4);
     for (long i = 0; i < calls; i++) {
         const int64_t value = i % 1000;
-        while (cadence_signed(&handle, &settings, CADENCE_COUNTER, TEXT("some.counter"), &value, 1, &options) == CADENCE_FULL)
+        while ((by_key ? cadence_add_number(&sums, &handle, key, value)
+                       : cadence_signed(&handle, &settings, CADENCE_COUNTER, TEXT("some.counter"), &value, 1, &options)) == CADENCE_FULL)
             send_waiting(&handle, fd);
     }
+    if (by_key) cadence_flush_sums(&sums, &handle);
     cadence_flush(&handle);
     send_waiting(&handle, fd);
+    cadence_free_sums(&sums);
     cadence_free(&handle);
     close(fd);
     return unused;
@@ -57,7 +65,8 @@ int main(int argc, char **argv) {
     if (argc < 3 || threads < 1 || threads > MOST_THREADS) return 2;
     calls = atol(argv[2]);
     if (!strcmp(argv[1], "tags")) options.tags = tags, options.tags_len = 3;
-    options.known = argc > 4;
+    by_key = argc > 4 && !strcmp(argv[4], "key");
+    options.known = argc > 4 && !by_key;
     to.sin_family = AF_INET;
     to.sin_addr.s_addr = htonl(INADDR_LOOPBACK);
     if (bind(server, (struct sockaddr *)&to, sizeof to) || getsockname(server, (struct sockaddr *)&to, &size)) return 2;

@@ -139,7 +139,46 @@ static void calls(void) {
     cadence_free(&handle);
 }
 
+/* A call by a key adds what the line of the key says with its number. A key is of these sums alone. */
+static void keys(void) {
+    cadence_handle handle = opened(0), none = CADENCE_CLOSED;
+    cadence_sums sums = summing(2, 16, false), closed_sums = CADENCE_CLOSED;
+    const cadence_settings prefix = cadence_settings_of("p.");
+    const cadence_tag tag = cadence_tag_of("k", "v");
+    const cadence_options tagged = cadence_options_of(&tag, 1);
+    static const char *const no_keys[] = { "s:1|s", "t:1|ms", "m:1|m", "a:0.5|c", "a:1|c|T7", "no line" };
+    size_t visits = 9, load = 9, other = 9, long_one = 9;
+    CHECK(cadence_make_key(&closed_sums, bad, 1, &visits) == CADENCE_NO_CLIENT);
+    CHECK(cadence_make_key(&sums, bad, 1, &visits) == CADENCE_NOT_UTF8 && visits == 9);
+    for (size_t i = 0; i < sizeof no_keys / sizeof no_keys[0]; i++)
+        CHECK(cadence_make_key(&sums, (const uint8_t *)no_keys[i], strlen(no_keys[i]), &visits) == CADENCE_INVALID);
+    CHECK(cadence_add_number(&sums, &handle, 0, 1) == CADENCE_INVALID);
+    CHECK(cadence_key_of(&sums, &prefix, CADENCE_COUNTER, "visits", &tagged, &visits) == CADENCE_OK && visits == 0);
+    CHECK(cadence_key_of(&sums, &prefix, CADENCE_GAUGE, "load", NULL, &load) == CADENCE_OK && load == 1);
+    CHECK(cadence_key_of(&sums, NULL, CADENCE_COUNTER, "a", NULL, &other) == CADENCE_OK && other == 2);
+    CHECK(cadence_key_of(&sums, NULL, CADENCE_COUNTER, "longer_than_that", NULL, &long_one) == CADENCE_OK);
+    CHECK(cadence_key_of(&sums, NULL, CADENCE_TIMER, "t", NULL, &other) == CADENCE_INVALID && other == 2);
+    CHECK(cadence_add_number(&sums, &none, visits, 1) == CADENCE_NO_CLIENT);
+    CHECK(cadence_add_number(&closed_sums, &handle, visits, 1) == CADENCE_NO_CLIENT);
+    CHECK(cadence_add_number(&sums, &handle, visits, 40) == CADENCE_OK);
+    CHECK(cadence_add_number(&sums, &handle, visits, -41) == CADENCE_OK);
+    CHECK(cadence_add_number(&sums, &handle, load, 7) == CADENCE_OK);
+    CHECK(cadence_add_number(&sums, &handle, load, INT64_MAX) == CADENCE_OK);
+    CHECK(cadence_add_number(&sums, &handle, load, -1) == CADENCE_INVALID && has_nothing(&handle));
+    add(&sums, &handle, "a:1|c");
+    CHECK(cadence_add_number(&sums, &handle, other, 4) == CADENCE_OK && has_nothing(&handle));
+    CHECK(cadence_add_number(&sums, &handle, long_one, 2) == CADENCE_OK && gives(&handle, "longer_than_that:2|c"));
+    CHECK(cadence_flush_sums(&sums, &handle) == CADENCE_FULL && gives(&handle, "p.visits:-1|c|#k:v") && gives(&handle, "a:5|c"));
+    CHECK(cadence_add_number(&sums, &handle, other, INT64_MAX) == CADENCE_OK && gives(&handle, "p.load:9223372036854775807|g"));
+    CHECK(cadence_add_number(&sums, &handle, other, 1) == CADENCE_OK && gives(&handle, "a:9223372036854775807|c"));
+    CHECK(cadence_flush_sums(&sums, &handle) == CADENCE_OK && gives(&handle, "a:1|c") && has_nothing(&handle));
+    CHECK(cadence_open_sums(&sums, 2, 16, false) == CADENCE_OK && cadence_add_number(&sums, &handle, visits, 1) == CADENCE_INVALID);
+    cadence_free_sums(&sums);
+    cadence_free(&handle);
+}
+
 int main(void) {
+    keys();
     lines();
     closed();
     full();

@@ -7,7 +7,7 @@
 #include "core.h"
 #include <string.h>
 
-enum { PLAIN, CHANGE, LEVEL, SPARE = 64 };
+enum { SPARE = 64 };
 
 typedef struct {
     PyObject_HEAD
@@ -123,7 +123,7 @@ static int packer_init(packer *self, PyObject *args, PyObject *named) {
 static void packer_dealloc(packer *self) {
     PyTypeObject *type = Py_TYPE((PyObject *)self);
     cadence_free(&self->handle);
-    cadence_free_sums(&self->sums.sums);
+    sums_free(&self->sums);
     PyMem_Free(self->texts);
     PyMem_Free(self->line);
     Py_XDECREF(self->container);
@@ -270,8 +270,16 @@ static uint32_t keep(packer *self, call *c) {
 static PyObject *packer_keep(packer *self, PyObject *const *args, Py_ssize_t count) {
     call c;
     PyObject *made = NULL;
-    if (call_begin(self, &c, args, count)) made = answer(self, keep(self, &c));
-    call_end(&c);
+    long long number;
+    PyObject *name = count == 8 ? sums_name(&self->sums, args, &number) : NULL;
+    const uint32_t status = name != NULL ? sums_number(&self->sums, &self->handle, name, number) : CADENCE_INVALID;
+    if (status != CADENCE_INVALID) made = answer(self, status);
+    else {
+        if (call_begin(self, &c, args, count)) made = answer(self, keep(self, &c));
+        if (made != NULL && name != NULL) sums_key(&self->sums, name, self->line, self->line_len);
+        call_end(&c);
+    }
+    Py_XDECREF(name);
     return made;
 }
 
@@ -322,7 +330,7 @@ static PyObject *packer_close(packer *self, PyObject *unused) {
     }
     if (packets != NULL) {
         cadence_free(&self->handle);
-        cadence_free_sums(&self->sums.sums);
+        sums_free(&self->sums);
     }
     return packets;
 }

@@ -36,14 +36,22 @@ void tags_end(tags_of_call *tags);
 PyObject *destination(PyObject *module, PyObject *values);
 PyObject *environment_tags(PyObject *module, PyObject *values);
 
+/* The forms of a call: a value, a change of a gauge, the value of a gauge. */
+enum { PLAIN, CHANGE, LEVEL };
+
 /* sums.c */
 typedef struct {
     cadence_sums sums;
+    PyObject *keys; /* the numbers of the keys by their names, or null */
     bool used;
 } sums_of_packer;
 
 uint32_t sums_open(sums_of_packer *self, cadence_handle *handle, size_t capacity, size_t packets);
 uint32_t sums_line(sums_of_packer *self, cadence_handle *handle, const uint8_t *line, size_t len);
+PyObject *sums_name(sums_of_packer *self, PyObject *const *args, long long *number);
+uint32_t sums_number(sums_of_packer *self, cadence_handle *handle, PyObject *name, long long number);
+void sums_key(sums_of_packer *self, PyObject *name, const uint8_t *line, size_t len);
+void sums_free(sums_of_packer *self);
 uint32_t sums_give(sums_of_packer *self, cadence_handle *handle);
 uint32_t sums_flush(sums_of_packer *self, cadence_handle *handle);
 

@@ -38,6 +38,41 @@ class Sums(ClientTest):
         client.flush()
         self.assertEqual(self.receiver.lines(), ["a:0.5|c", "g:0.25|g"])
 
+    def test_calls_are_one_context_if_their_texts_are_the_same(self):
+        client = self.client(aggregate=True)
+        tags = ["a:b"]
+        for _ in range(3):
+            client.incr("n", tags=tags)
+        tags.append("c:d")
+        client.incr("n", 2, tags=tags)
+        for _ in range(2):
+            for same in ({"a": "b"}, [("a", "b")], (("a", "b"),), ("a:b",)):
+                client.incr("n", 4, tags=same)
+        for value in (1, True, 1.0, 1, True, 1.0):
+            client.incr("n", tags={"k": value})
+        for number in (5, 6, 7):
+            client.gauge("n", number)
+            client.incr("n", number, container="x")
+            client.decr("n", number - 1, container="x")
+        client.gauge("n", 8, delta=True)
+        client.incr("n", 2 ** 63 - 1)
+        client.incr("n")
+        client.gauge("n", 9)
+        client.gauge("n", -1)
+        client.flush()
+        expected = ["n:2|c|#a:b,c:d", "n:35|c|#a:b", "n:2|c|#k:1", "n:2|c|#k:True", "n:2|c|#k:1.0", "n:3|c|c:x", "n:7|g", "n:+8|g"]
+        expected += ["n:9223372036854775807|c", "n:0|g", "n:-1|g", "n:1|c"]
+        self.assertEqual(self.receiver.lines(), expected)
+
+    def test_more_names_than_there_is_room_for(self):
+        client = SpyStatsClient(aggregate=True, maxudpsize=1 << 20, packets=1 << 14)
+        for _ in range(2):
+            for number in range(5000):
+                client.incr(f"a{number}")
+        lines = client.lines
+        self.assertEqual(sum(int(line.split(":")[1].split("|")[0]) for line in lines), 10000)
+        self.assertEqual(len({line.split(":")[0] for line in lines}), 5000)
+
     def test_raw_lines_and_pipelines_are_added_up(self):
         client = self.client(aggregate=True)
         client.incr("a")

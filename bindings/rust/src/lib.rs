@@ -63,8 +63,9 @@ pub use self::environment::{Environment, EnvironmentError, Target};
 pub use self::guard::TimingGuard;
 pub use self::sinks::{
     AggregatingMetricSink, AggregatingMetricSinkBuilder, BufferedSpyMetricSink, BufferedUdpMetricSink,
-    BufferedUdpMetricSinkBuilder, BufferedUnixMetricSink, MetricSink, NopMetricSink, QueuePolicy, QueuingMetricSink,
-    QueuingMetricSinkBuilder, SinkStats, SpyMetricSink, UdpMetricSink, UdpMetricSinkBuilder, UnixMetricSink,
+    BufferedUdpMetricSinkBuilder, BufferedUnixMetricSink, LineKey, MetricSink, NopMetricSink, QueuePolicy,
+    QueuingMetricSink, QueuingMetricSinkBuilder, SinkStats, SpyMetricSink, UdpMetricSink, UdpMetricSinkBuilder,
+    UnixMetricSink,
 };
 pub use self::types::{
     Counter, Distribution, ErrorKind, Gauge, Histogram, Meter, Metric, MetricError, MetricResult, Set, Timer,

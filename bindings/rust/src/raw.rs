@@ -70,7 +70,7 @@ impl OwnedSettings {
 pub(crate) const OK: u32 = 0;
 const NO_MEMORY: u32 = 2;
 pub(crate) const FULL: u32 = 3;
-const INVALID: u32 = 4;
+pub(crate) const INVALID: u32 = 4;
 pub(crate) const TOO_SMALL: u32 = 7;
 const SEPARATOR: u32 = 8;
 const VARIABLE: u32 = 9;

@@ -3,7 +3,7 @@
 //! Its `unsafe` code is safe for the reasons of `packer.rs`.
 use crate::layout::Handle;
 use crate::packer::Packer;
-use crate::raw::{checked, FULL};
+use crate::raw::{checked, FULL, INVALID};
 use std::{fmt, io};
 
 /// For how many gauges there is room among the lines that wait.
@@ -13,6 +13,8 @@ unsafe extern "C" {
     fn cadence_open_sums(sums: *mut Handle, contexts: usize, longest: usize, packed: bool) -> u32;
     fn cadence_free_sums(sums: *mut Handle);
     fn cadence_add_line(sums: *mut Handle, handle: *mut Handle, line: *const u8, len: usize) -> u32;
+    fn cadence_make_key(sums: *mut Handle, line: *const u8, len: usize, key: *mut usize) -> u32;
+    fn cadence_add_number(sums: *mut Handle, handle: *mut Handle, key: usize, number: i64) -> u32;
     fn cadence_flush_sums(sums: *mut Handle, handle: *mut Handle) -> u32;
 }
 
@@ -45,6 +47,24 @@ impl Sums {
         done(status)
     }
 
+    /// Makes the key of a line, and returns its number.
+    pub(crate) fn key(&mut self, line: &str) -> io::Result<usize> {
+        let mut key = 0;
+        // SAFETY: as in `add`.
+        let status = unsafe { cadence_make_key(&mut self.sums, line.as_ptr(), line.len(), &mut key) };
+        valid(status, "the line raises no counter and sets no gauge").map(|()| key)
+    }
+
+    /// Adds a number up by a key. Returns false, without adding it, if lines that wait have to be sent before.
+    pub(crate) fn add_number(&mut self, key: usize, number: i64) -> io::Result<bool> {
+        // SAFETY: as in `add`.
+        let status = unsafe { cadence_add_number(&mut self.sums, self.lines.handle(), key, number) };
+        if status == FULL {
+            return Ok(false);
+        }
+        valid(status, "a gauge can't be set to a negative number by a key").map(|()| true)
+    }
+
     /// Lets a line for each context wait. Returns false if lines that wait have to be sent before, and then again.
     pub(crate) fn flush(&mut self) -> io::Result<bool> {
         // SAFETY: as in `add`.
@@ -60,6 +80,14 @@ impl Sums {
     pub(crate) fn drop_first(&mut self) {
         self.lines.drop_oldest();
     }
+}
+
+// Returns an error with this text if the status is `INVALID`.
+fn valid(status: u32, text: &str) -> io::Result<()> {
+    if status == INVALID {
+        return Err(io::Error::new(io::ErrorKind::InvalidInput, text));
+    }
+    checked(status)
 }
 
 fn done(status: u32) -> io::Result<bool> {

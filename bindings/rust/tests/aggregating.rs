@@ -108,6 +108,31 @@ fn a_refusal_loses_no_line_that_was_held() {
 }
 
 #[test]
+fn a_call_by_a_key_adds_what_its_line_says() {
+    let below = Fickle::default();
+    let sink = AggregatingMetricSinkBuilder::new().with_max_line(9).build(below.clone()).unwrap();
+    let other = AggregatingMetricSink::from(below.clone()).unwrap();
+    let hits = sink.key("hits:7|c|#k:v").unwrap();
+    let load = sink.key("load:0.5|g").unwrap();
+    let queries = sink.key("queries:1|c").unwrap();
+    for line in ["u:1|s", "t:1|ms", "a:0.5|c", "a:1|c|T7", "no line"] {
+        assert_eq!(io::ErrorKind::InvalidInput, sink.key(line).unwrap_err().kind(), "{line}");
+    }
+    for (key, number) in [(hits, 5), (load, 7), (queries, i64::MAX), (queries, 1), (load, 8)] {
+        sink.add(key, number).unwrap();
+    }
+    assert_eq!(io::ErrorKind::InvalidInput, sink.add(load, -1).unwrap_err().kind());
+    assert_eq!(io::ErrorKind::InvalidInput, other.add(load, 1).unwrap_err().kind());
+    below.refuses.store(true, Ordering::Relaxed);
+    sink.add(hits, -6).unwrap();
+    assert_eq!(io::ErrorKind::ConnectionRefused, sink.flush().unwrap_err().kind());
+    below.refuses.store(false, Ordering::Relaxed);
+    sink.flush().unwrap();
+    let expected = ["hits:5|c|#k:v", "queries:9223372036854775807|c", "hits:-6|c|#k:v", "queries:1|c", "load:8|g"];
+    assert_eq!(expected, below.lines.lock().unwrap().as_slice());
+}
+
+#[test]
 fn calls_fail_while_too_many_lines_wait() {
     let below = Fickle::default();
     let sink = AggregatingMetricSinkBuilder::new().with_max_contexts(1).build(below.clone()).unwrap();

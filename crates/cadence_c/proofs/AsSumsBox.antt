@@ -6,8 +6,8 @@ use Rattle.std_alloc.proofs.BoxSteps.Form.{Bx}
 use Rattle.std_heap.specs.contracts.Global as Heap
 use Rattle.std_heap.specs.contracts.GlobalAllocator.TheImpl.{ghosts, dict}
 use Rattle.std_heap.proofs.Global.TheLaws as heap
-use Rattle.cadence_aggregating.specs.contracts.summed.SummedLines as Sums
-use Rattle.cadence_aggregating.proofs.summed.SummedLines.TheLaws as sums_laws
+use Rattle.cadence_c.specs.contracts.sums_handle.Sums as Sums
+use Rattle.cadence_c.proofs.sums_handle.Sums.TheLaws as sums_laws
 use Rattle.cadence_c.specs.contracts.box_parts.BoxParts as BoxParts
 use Rattle.cadence_c.specs.contracts.sums_handle.SumsPointer as SumsPointer
 

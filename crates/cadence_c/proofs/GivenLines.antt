@@ -1,9 +1,13 @@
--- The lines that sums give to a client.
-use Rattle.std.proofs.Common.{◌≡◌, ◌<◌, ℕ, List, [], ◌∷◌, ◌++◌, refl, sym, ap, ◌∙◌, append_assoc, append-nil, subst, arith, take, drop, length, Result, Ok, Err}
-use Rattle.std.specs.Prelude.{OnErr, OnOk}
+-- The lines that sums give to a client, and the keys of a handle.
+use Rattle.std.proofs.Common.{◌≡◌, ◌<◌, ℕ, List, [], ◌∷◌, ◌++◌, refl, sym, ap, ◌∙◌, append_assoc, append-nil, subst, arith, take, drop, length, Option, Some, Result, Ok, Err}
+use Rattle.std.specs.Prelude.{IsSomeAnd, OnErr, OnOk, option_map}
 use Rattle.cadence_aggregating.specs.Summed.{accepted_in, gone_in, held_in, waiting_in}
 use Rattle.cadence_aggregating.specs.declared.summed.SummedLines.{SummedLines}
 use Rattle.cadence_c.specs.ClientState.{ClientState, KeepsLine}
+use Rattle.cadence_c.specs.declared.sums_handle.Sums.{Sums}
+use Rattle.cadence_c.specs.declared.sums_handle.SumsHandle.{SumsHandle}
+use Rattle.cadence_c.specs.SumsHandle.{contents}
+use Rattle.cadence_c.specs.SumsKeys.{GetsKey, HasKeyMore}
 use Rattle.cadence_c.specs.Sums.{AddsUp, Empties, GivesLines, KeepsLines}
 
 pub kept_more : (xs ys : List (List ℕ)) (s m t : ClientState) → KeepsLines xs s m → KeepsLines ys m t → KeepsLines (xs ++ ys) s t
@@ -57,3 +61,11 @@ pub empties : {A E : Type 0} (r : Result A E) (a b : SummedLines) (s t : ClientS
     → OnOk r (waiting_in b ≡ []) → OnOk r (Empties a b s t)
 empties (Ok done) a b s t adds held waiting = record { adds = adds; held = held; waiting = waiting }
 empties (Err e) a b s t adds held waiting = tt
+
+-- A handle has one key more if what it contains has.
+pub has_key : (h k : SumsHandle) (a b : Sums) (line : List ℕ) (place : ℕ) → contents h ≡ Some a → contents k ≡ Some b
+    → GetsKey line place a.keys.items b.keys.items → HasKeyMore line place h k
+has_key h k a b line place before after gets =
+    subst (λ x. IsSomeAnd (option_map (λ s. s.keys.items) x) (λ old. IsSomeAnd (option_map (λ s. s.keys.items) (contents k)) (GetsKey line place old)))
+    (sym before)
+    (subst (λ y. IsSomeAnd (option_map (λ s. s.keys.items) y) (GetsKey line place a.keys.items)) (sym after) gets)

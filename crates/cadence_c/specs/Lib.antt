@@ -11,3 +11,4 @@ pub mod Handle
 pub mod Sums
 pub mod SumsSlot
 pub mod SumsHandle
+pub mod SumsKeys

@@ -6,7 +6,7 @@ use denote.RawPtr.{Ptr}
 use Rattle.std.specs.Box.Ownership.{box_owns}
 use Rattle.std.specs.Global.{Global, Box}
 use Rattle.std_heap.specs.contracts.GlobalAllocator.TheImpl.{ghosts}
-use Rattle.cadence_aggregating.specs.contracts.summed.SummedLines.{the_row}
+use Rattle.cadence_c.specs.contracts.sums_handle.Sums.{the_row}
 
 -- A pointer that has sums owns what a box of them owns. Without sums it owns nothing.
 abbrev pub pointer_owns : Global → Ptr → Option the_row.Denot → Fml

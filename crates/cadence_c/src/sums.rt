@@ -1,20 +1,23 @@
 //! The calls of C that add lines up before a client keeps them. A line that the client has no room for waits, and the
-//! next call gives it to the client first.
-ghost use Rattle.std.specs.Prelude.{◌≡◌, ◌≢◌, ◌⊎◌, ◌++◌, [], ◌∷◌, IfSome, IsSomeAnd, None, OnErr, OnOk};
+//! next call gives it to the client first. `keyed` has the calls that make no line.
+mod keyed;
+
+ghost use Rattle.std.specs.Prelude.{◌≡◌, ◌≢◌, ◌⊎◌, ◌++◌, [], ◌∷◌, IfSome, IsSomeAnd, None, OnErr, OnOk, Some};
 ghost use Rattle.std.specs.Str.{IsUtf8};
-ghost use Rattle.cadence_aggregating.specs.Summed.{accepted_in, held_in, waiting_in};
+ghost use Rattle.cadence_aggregating.specs.Summed.{accepted_in, gone_in, held_in, waiting_in};
 ghost use Rattle.cadence_c.specs.Handle.{IsOpenAnd, OnOpen, client_of};
 ghost use Rattle.cadence_c.specs.Status.{status, CADENCE_FULL, CADENCE_NOT_UTF8, CADENCE_NO_CLIENT, CADENCE_NO_MEMORY, CADENCE_OK, IsOkOr};
 ghost use Rattle.cadence_c.specs.Sums.{AddsUp, Empties, GivesLines, IsNewSums, IsSummary, LacksRoomForFirst};
-ghost use Rattle.cadence_c.specs.SumsHandle.{OnBothOpen, sums_of};
+ghost use Rattle.cadence_c.specs.SumsHandle.{OnBothOpen, keys_of, sums_of};
+ghost use Rattle.cadence_c.specs.SumsKeys.{line_of_addend};
 
 use crate::call::text_of;
 use crate::client::Client;
 use crate::handle::Handle;
 use crate::status::{NO_CLIENT, OK, StatusError, status_of};
-use crate::sums_handle::SumsHandle;
-use cadence_aggregating::{Limits, SummedLines};
-use std::alloc::Global;
+use crate::sums_handle::{Sums, SumsHandle};
+use cadence_aggregating::{CounterKey, GaugeKey, Limits, SummedLines};
+use std::alloc::{AllocError, Global};
 use std::num::NonZeroUsize;
 
 /// Makes sums in a handle, and drops earlier ones there. At most `contexts` contexts of each kind are held, and lines of
@@ -29,6 +32,7 @@ pub extern "C" fn cadence_open_sums(
     packed: bool,
 ) -> u32
     ensures made { result ≡ CADENCE_OK → IsSomeAnd (sums_of sums.new) IsNewSums }
+    ensures keys { result ≡ CADENCE_OK → keys_of sums.new ≡ Some [] }
     ensures refused { result ≢ CADENCE_OK → sums_of sums.new ≡ sums_of sums.old }
     ensures statuses { IsOkOr (CADENCE_NO_MEMORY ∷ []) result }
 {
@@ -40,7 +44,8 @@ pub extern "C" fn cadence_open_sums(
     let Ok(lines) = SummedLines::new(alloc, limits) else {
         return StatusError::NoMemory.code();
     };
-    let Ok(made) = SumsHandle::new(alloc, lines) else {
+    let keys = Vec::new(alloc);
+    let Ok(made) = SumsHandle::new(alloc, Sums { lines, keys }) else {
         return StatusError::NoMemory.code();
     };
     *sums = made;
@@ -75,28 +80,47 @@ fn give_waiting(
     Ok(())
 }
 
-// Gives the lines that wait to the client, and then adds a line up and gives the client those that wait after that. A
-// line that the client refuses then waits.
+// What a call adds up: a line, or a number by a key.
+#[derive(Clone, Copy)]
+enum Addend<'a> {
+    // This line.
+    Line(&'a str),
+    // The line that raises this counter by a number.
+    Raise(&'a CounterKey, i64),
+    // The line that sets this gauge.
+    Set(&'a GaugeKey, u64),
+}
+
+// Adds up. The only error is that memory ran out.
+fn add(lines: &mut SummedLines, addend: Addend<'_>) -> Result<(), AllocError>
+    ensures ok { OnOk result (accepted_in lines.new
+        ≡ accepted_in lines.old ++ line_of_addend addend.entry ∷ []) }
+    ensures err { OnErr result (accepted_in lines.new ≡ accepted_in lines.old) }
+    ensures gone { gone_in lines.new ≡ gone_in lines.old }
+{
+    match addend {
+        Addend::Line(line) => lines.add(line),
+        Addend::Raise(key, by) => lines.count(key, by),
+        Addend::Set(key, value) => lines.gauge(key, value),
+    }
+}
+
+// Gives the lines that wait to the client, and then adds up and gives the client those that wait after that. A line that
+// the client refuses then waits.
 fn add_up(
     alloc: Global,
     lines: &mut SummedLines,
     client: &mut Client,
-    line: &[u8],
+    addend: Addend<'_>,
 ) -> Result<(), StatusError>
-    ensures ok { OnOk result (AddsUp (line.now ∷ []) lines.old lines.new client.old client.new) }
+    ensures ok { OnOk result
+        (AddsUp (line_of_addend addend.entry ∷ []) lines.old lines.new client.old client.new) }
     ensures err { OnErr result (AddsUp [] lines.old lines.new client.old client.new) }
     ensures full { status result ≡ CADENCE_FULL → LacksRoomForFirst lines.new client.new }
-    ensures text { status result ≡ CADENCE_NOT_UTF8 → IsUtf8 line.now → ⊥ }
-    ensures same { status result ≡ CADENCE_NOT_UTF8 →
-        (lines.new ≡ lines.old) × (client.new ≡ client.old) }
-    ensures statuses { IsOkOr (CADENCE_NO_MEMORY ∷ CADENCE_FULL ∷ CADENCE_NOT_UTF8 ∷ [])
-        (status result) }
+    ensures statuses { IsOkOr (CADENCE_NO_MEMORY ∷ CADENCE_FULL ∷ []) (status result) }
 {
-    let Some(line) = text_of(line) else {
-        return Err(StatusError::NotUtf8);
-    };
     give_waiting(alloc, lines, client)?;
-    lines.add(line)?;
+    add(lines, addend)?;
     let _ = give_waiting(alloc, lines, client);
     Ok(())
 }
@@ -114,25 +138,26 @@ fn empty(alloc: Global, lines: &mut SummedLines, client: &mut Client) -> Result<
 }
 
 // Calls `add_up` with the client of a handle, and returns the status.
-fn add_with(alloc: Global, lines: &mut SummedLines, handle: &mut Handle, line: &[u8]) -> u32
-    ensures added { result ≡ CADENCE_OK →
-        OnOpen (AddsUp (line.now ∷ []) lines.old lines.new) handle.old handle.new }
+fn add_with(
+    alloc: Global,
+    lines: &mut SummedLines,
+    handle: &mut Handle,
+    addend: Addend<'_>,
+) -> u32
+    ensures added { result ≡ CADENCE_OK → OnOpen
+        (AddsUp (line_of_addend addend.entry ∷ []) lines.old lines.new) handle.old handle.new }
     ensures refused { (result ≡ CADENCE_FULL) ⊎ (result ≡ CADENCE_NO_MEMORY) →
         OnOpen (AddsUp [] lines.old lines.new) handle.old handle.new }
     ensures full { result ≡ CADENCE_FULL → IsOpenAnd handle.new (LacksRoomForFirst lines.new) }
-    ensures lines { (result ≡ CADENCE_NO_CLIENT) ⊎ (result ≡ CADENCE_NOT_UTF8) →
-        lines.new ≡ lines.old }
-    ensures client { (result ≡ CADENCE_NO_CLIENT) ⊎ (result ≡ CADENCE_NOT_UTF8) →
-        client_of handle.new ≡ client_of handle.old }
+    ensures lines { result ≡ CADENCE_NO_CLIENT → lines.new ≡ lines.old }
+    ensures client { result ≡ CADENCE_NO_CLIENT → client_of handle.new ≡ client_of handle.old }
     ensures closed { result ≡ CADENCE_NO_CLIENT → client_of handle.old ≡ None }
-    ensures text { result ≡ CADENCE_NOT_UTF8 → IsUtf8 line.now → ⊥ }
-    ensures statuses { IsOkOr (CADENCE_NO_CLIENT ∷ CADENCE_NO_MEMORY ∷ CADENCE_FULL
-        ∷ CADENCE_NOT_UTF8 ∷ []) result }
+    ensures statuses { IsOkOr (CADENCE_NO_CLIENT ∷ CADENCE_NO_MEMORY ∷ CADENCE_FULL ∷ []) result }
 {
     let Some(mut client) = handle.take(alloc) else {
         return NO_CLIENT;
     };
-    let status = status_of(add_up(alloc, lines, &mut client, line));
+    let status = status_of(add_up(alloc, lines, &mut client, addend));
     handle.put(client);
     status
 }
@@ -178,16 +203,20 @@ pub extern "C" fn cadence_add_line(
     ensures closed { result ≡ CADENCE_NO_CLIENT →
         (client_of handle.old ≡ None) ⊎ (sums_of sums.old ≡ None) }
     ensures text { result ≡ CADENCE_NOT_UTF8 → IsUtf8 line.now → ⊥ }
+    ensures keys { keys_of sums.new ≡ keys_of sums.old }
     ensures summary { IfSome (sums_of sums.new) IsSummary }
     ensures statuses { IsOkOr (CADENCE_NO_CLIENT ∷ CADENCE_NO_MEMORY ∷ CADENCE_FULL
         ∷ CADENCE_NOT_UTF8 ∷ []) result }
 {
-    let Some(mut lines) = sums.take(alloc) else {
+    let Some(mut held) = sums.take(alloc) else {
         return NO_CLIENT;
     };
-    let status = add_with(alloc, &mut lines, handle, line);
-    lines.keeps_the_record();
-    sums.put(lines);
+    let status = match text_of(line) {
+        Some(line) => add_with(alloc, &mut held.lines, handle, Addend::Line(line)),
+        None => StatusError::NotUtf8.code(),
+    };
+    held.lines.keeps_the_record();
+    sums.put(held);
     status
 }
 
@@ -208,14 +237,15 @@ pub extern "C" fn cadence_flush_sums(
     ensures client { result ≡ CADENCE_NO_CLIENT → client_of handle.new ≡ client_of handle.old }
     ensures closed { result ≡ CADENCE_NO_CLIENT →
         (client_of handle.old ≡ None) ⊎ (sums_of sums.old ≡ None) }
+    ensures keys { keys_of sums.new ≡ keys_of sums.old }
     ensures summary { IfSome (sums_of sums.new) IsSummary }
     ensures statuses { IsOkOr (CADENCE_NO_CLIENT ∷ CADENCE_NO_MEMORY ∷ CADENCE_FULL ∷ []) result }
 {
-    let Some(mut lines) = sums.take(alloc) else {
+    let Some(mut held) = sums.take(alloc) else {
         return NO_CLIENT;
     };
-    let status = empty_with(alloc, &mut lines, handle);
-    lines.keeps_the_record();
-    sums.put(lines);
+    let status = empty_with(alloc, &mut held.lines, handle);
+    held.lines.keeps_the_record();
+    sums.put(held);
     status
 }

@@ -1,15 +1,23 @@
-//! The handle of sums that C stores: it has a pointer to lines that are added up, or none. It is made as the handle of a
-//! client is, and only this module follows its pointer.
+//! The handle of sums that C stores: it has a pointer to sums, or none. It is made as the handle of a client is, and only
+//! this module follows its pointer.
 ghost use Rattle.std.specs.Prelude.{◌≡◌, Option, Some, None, IsSome, is_some};
-ghost use Rattle.cadence_aggregating.specs.declared.summed.SummedLines.{SummedLines};
+ghost use Rattle.cadence_c.specs.declared.sums_handle.Sums.{Sums};
 ghost use Rattle.cadence_c.specs.SumsSlot.{pointer_owns, sums_coded, box_value};
 ghost use Rattle.std.specs.Option.{option_map};
 
 use crate::box_parts::BoxParts;
-use cadence_aggregating::SummedLines;
+use cadence_aggregating::{LineKey, SummedLines};
 use std::alloc::{AllocError, Global};
 use std::marker::Model;
 use std::{mem, ptr};
+
+/// What a handle of sums contains: lines that are added up, and the keys of calls that make no line. The number of a key
+/// is how many keys were made before it.
+#[derive(Drop)]
+pub struct Sums {
+    pub(crate) lines: SummedLines,
+    pub(crate) keys: Vec<LineKey>,
+}
 
 /// A pointer to sums, or null, with the allocator. In proofs it has the sums, and it owns what a `Box` of them owns.
 #[repr(C)]
@@ -17,7 +25,7 @@ use std::{mem, ptr};
 pub struct SumsPointer {
     at: *mut u8,
     alloc: Global,
-    pub ghost sums: { Option SummedLines } by { sums_coded },
+    pub ghost sums: { Option Sums } by { sums_coded },
 }
 
 impl Model for SumsPointer {
@@ -38,7 +46,7 @@ impl SumsPointer {
     }
 
     /// Makes the pointer to sums of the parts of their `Box`.
-    pub fn from_parts(parts: BoxParts<SummedLines, Global>) -> SumsPointer
+    pub fn from_parts(parts: BoxParts<Sums, Global>) -> SumsPointer
         ensures { result.sums ≡ Some parts.value }
     {
         let BoxParts { ptr, alloc } = parts;
@@ -49,19 +57,19 @@ impl SumsPointer {
     }
 
     /// Makes the parts of the `Box` again.
-    pub fn into_parts(self) -> BoxParts<SummedLines, Global>
+    pub fn into_parts(self) -> BoxParts<Sums, Global>
         requires { IsSome self.sums }
         ensures { self.sums ≡ Some result.value }
     {
         let SumsPointer { at, alloc } = self;
         BoxParts {
-            ptr: at as *mut SummedLines,
+            ptr: at as *mut Sums,
             alloc,
         }
     }
 }
 
-/// The handle of sums that C stores: it has sums, or none. Contracts name `sums_of` a handle.
+/// The handle of sums that C stores: it has sums, or none. Contracts name `sums_of` and `keys_of` a handle.
 #[repr(C)]
 pub struct SumsHandle {
     pointer: SumsPointer,
@@ -71,11 +79,11 @@ pub struct SumsHandle {
 
 impl SumsHandle {
     ghost use Rattle.std.specs.Prelude.{◌≡◌, Some, None, IfOk};
-    ghost use Rattle.cadence_c.specs.SumsHandle.{sums_of};
+    ghost use Rattle.cadence_c.specs.SumsHandle.{contents};
 
     /// Makes a handle without sums.
     pub fn empty(alloc: Global) -> SumsHandle
-        ensures { sums_of result ≡ None }
+        ensures { contents result ≡ None }
     {
         SumsHandle {
             pointer: SumsPointer::empty(alloc),
@@ -84,8 +92,8 @@ impl SumsHandle {
     }
 
     /// Makes a handle of sums, which it moves into memory of their own. The error is that memory ran out.
-    pub fn new(alloc: Global, sums: SummedLines) -> Result<SumsHandle, AllocError>
-        ensures { IfOk result (λ h. sums_of h ≡ Some sums) }
+    pub fn new(alloc: Global, sums: Sums) -> Result<SumsHandle, AllocError>
+        ensures { IfOk result (λ h. contents h ≡ Some sums) }
     {
         let boxed = Box::new(alloc, sums)?;
         Ok(SumsHandle {
@@ -95,8 +103,8 @@ impl SumsHandle {
     }
 
     // Takes the handle apart and returns its sums, if it has some.
-    fn into_box(self) -> Option<Box<SummedLines>>
-        ensures { option_map box_value result ≡ sums_of self }
+    fn into_box(self) -> Option<Box<Sums>>
+        ensures { option_map box_value result ≡ contents self }
     {
         let SumsHandle { pointer, open } = self;
         if open {
@@ -107,17 +115,17 @@ impl SumsHandle {
     }
 
     /// Takes the sums out, if there are some, and leaves the handle without sums.
-    pub fn take(&mut self, alloc: Global) -> Option<Box<SummedLines>>
-        ensures taken { option_map box_value result ≡ sums_of self.old }
-        ensures left { sums_of self.new ≡ None }
+    pub fn take(&mut self, alloc: Global) -> Option<Box<Sums>>
+        ensures taken { option_map box_value result ≡ contents self.old }
+        ensures left { contents self.new ≡ None }
     {
         let whole = mem::replace(self, SumsHandle::empty(alloc));
         whole.into_box()
     }
 
     /// Puts sums in, and drops earlier ones.
-    pub fn put(&mut self, sums: Box<SummedLines>)
-        ensures { sums_of self.new ≡ Some sums.value }
+    pub fn put(&mut self, sums: Box<Sums>)
+        ensures { contents self.new ≡ Some sums.value }
     {
         *self = SumsHandle {
             pointer: SumsPointer::from_parts(BoxParts::from_box(sums)),

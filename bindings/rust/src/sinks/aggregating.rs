@@ -5,6 +5,7 @@ use std::io;
 use std::mem;
 use std::panic::{catch_unwind, AssertUnwindSafe};
 use std::process;
+use std::sync::atomic::{AtomicU64, Ordering};
 use std::sync::{Arc, Condvar, Mutex, MutexGuard, PoisonError};
 use std::thread::{self, JoinHandle};
 use std::time::Duration;
@@ -76,8 +77,7 @@ impl AggregatingMetricSinkBuilder {
     /// Makes the sink, and starts its thread if there is a period. It fails if memory runs out, or if the thread can't be
     /// started.
     pub fn build<S: MetricSink + Send + Sync + 'static>(self, sink: S) -> io::Result<AggregatingMetricSink<S>> {
-        let sums = Mutex::new(Sums::new(self.contexts, self.longest, self.packed)?);
-        let locked = Arc::new(Locked { sums, sink });
+        let locked = Arc::new(Locked::new(self, sink)?);
         let timer = match self.period {
             Some(period) => Some(Timer::start(Arc::clone(&locked), period)?),
             None => None,
@@ -107,10 +107,48 @@ pub struct AggregatingMetricSink<S: MetricSink> {
 impl<S: MetricSink> AggregatingMetricSink<S> {
     /// Makes a sink with the settings of a new builder. It starts no thread. It fails if memory runs out.
     pub fn from(sink: S) -> io::Result<Self> {
-        let AggregatingMetricSinkBuilder { contexts, longest, packed, .. } = AggregatingMetricSinkBuilder::new();
-        let sums = Mutex::new(Sums::new(contexts, longest, packed)?);
-        Ok(AggregatingMetricSink { _timer: None, locked: Arc::new(Locked { sums, sink }) })
+        let locked = Locked::new(AggregatingMetricSinkBuilder::new(), sink)?;
+        Ok(AggregatingMetricSink { _timer: None, locked: Arc::new(locked) })
     }
+
+    /// Makes the key of the counter that a line raises, or of the gauge that it sets. Which number the line has makes no
+    /// difference. Make a key once for each context and keep it: it takes memory until the sink is dropped. The error is of
+    /// kind `InvalidInput` if the line does neither, or can't be added.
+    ///
+    /// ```
+    /// use cadence::{AggregatingMetricSink, MetricSink, SpyMetricSink};
+    ///
+    /// let (receiver, spy) = SpyMetricSink::new();
+    /// let sink = AggregatingMetricSink::from(spy).unwrap();
+    /// let visits = sink.key("my.service.visits:0|c|#host:a").unwrap();
+    /// sink.add(visits, 1).unwrap();
+    /// sink.add(visits, 2).unwrap();
+    /// sink.flush().unwrap();
+    /// assert_eq!(b"my.service.visits:3|c|#host:a".to_vec(), receiver.recv().unwrap());
+    /// ```
+    pub fn key(&self, line: &str) -> io::Result<LineKey> {
+        let number = self.locked.sums().key(line)?;
+        Ok(LineKey { number, sink: self.locked.number })
+    }
+
+    /// Raises the counter of a key by a number, or sets the gauge of a key to it, and makes no line. It does what `emit`
+    /// does with the line of this number, but a line that has to be sent at once waits if the other sink refuses it. It
+    /// fails if such lines wait, and there is no room for one more. The error is of kind `InvalidInput` if the key is that
+    /// of another sink, or if the number of a gauge is negative. After an error the number is not added.
+    pub fn add(&self, key: LineKey, number: i64) -> io::Result<()> {
+        if key.sink != self.locked.number {
+            return Err(io::Error::new(io::ErrorKind::InvalidInput, "the key is that of another sink"));
+        }
+        self.locked.add(key.number, number)
+    }
+}
+
+/// The key of a counter or a gauge, with all else that its lines have but the number. An [`AggregatingMetricSink`] makes
+/// it, and adds numbers up by it without making a line.
+#[derive(Clone, Copy, Debug)]
+pub struct LineKey {
+    number: usize,
+    sink: u64,
 }
 
 impl<S: MetricSink> MetricSink for AggregatingMetricSink<S> {
@@ -137,9 +175,17 @@ impl<S: MetricSink> MetricSink for AggregatingMetricSink<S> {
 struct Locked<S: MetricSink> {
     sums: Mutex<Sums>,
     sink: S,
+    // No two of a process have the same, so that a key of one isn't taken for that of another.
+    number: u64,
 }
 
 impl<S: MetricSink> Locked<S> {
+    fn new(settings: AggregatingMetricSinkBuilder, sink: S) -> io::Result<Self> {
+        static MADE: AtomicU64 = AtomicU64::new(0);
+        let sums = Mutex::new(Sums::new(settings.contexts, settings.longest, settings.packed)?);
+        Ok(Locked { sums, sink, number: MADE.fetch_add(1, Ordering::Relaxed) })
+    }
+
     // The sums are in order after a panic in the other sink, because the library was not running then.
     fn sums(&self) -> MutexGuard<'_, Sums> {
         self.sums.lock().unwrap_or_else(PoisonError::into_inner)
@@ -157,6 +203,16 @@ impl<S: MetricSink> Locked<S> {
             }
         }
         Ok(line.len())
+    }
+
+    fn add(&self, key: usize, number: i64) -> io::Result<()> {
+        let mut sums = self.sums();
+        while !sums.add_number(key, number)? {
+            self.pass_on(&mut sums)?;
+        }
+        // What the other sink refuses waits, and comes first at the next call.
+        let _ = self.pass_on(&mut sums);
+        Ok(())
     }
 
     fn flush(&self) -> io::Result<()> {

@@ -10,7 +10,7 @@ mod spy;
 mod udp;
 mod unix;
 
-pub use self::aggregating::{AggregatingMetricSink, AggregatingMetricSinkBuilder};
+pub use self::aggregating::{AggregatingMetricSink, AggregatingMetricSinkBuilder, LineKey};
 pub use self::channel::SpyReceiver;
 pub use self::core::{MetricSink, NopMetricSink, SinkStats, SocketStats};
 pub use self::line_queue::QueuePolicy;

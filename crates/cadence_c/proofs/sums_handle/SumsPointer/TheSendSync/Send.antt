@@ -12,8 +12,8 @@ use Rattle.std.proofs.Crossing as heap
 use Rattle.std_alloc.proofs.SendSync.{quiet, lies}
 use Rattle.std_heap.proofs.Global.TheSendSync as handle
 use Rattle.cadence_c.specs.SumsSlot.{pointer_owns}
-use Rattle.cadence_aggregating.specs.contracts.summed.SummedLines as Sums
-use Rattle.cadence_aggregating.proofs.summed.SummedLines.TheSendSync.{the_send as sums}
+use Rattle.cadence_c.specs.contracts.sums_handle.Sums as Sums
+use Rattle.cadence_c.proofs.sums_handle.Sums.TheSendSync.{the_send as sums}
 use Rattle.cadence_c.specs.contracts.sums_handle.SumsPointer.{the_row, the_type}
 
 crosses : (a : Global) (p : Ptr) (s : Option (Sums.the_row).Denot) → Keyless (pointer_owns a p s)
