@@ -179,8 +179,25 @@ fn the_lines_of_each_row_wait(rt: HostRuntime) -> Result<(), Fail> {
     Ok(())
 }
 
+// The lines whose keys are tried. Those of sets, timers, decimal counters and times have no key.
+const LINES: &[&str] = &[
+    "a:7|c|#k:v",
+    "u:1|s",
+    "g:0.5|g",
+    "t:1|ms",
+    "a:0.5|c",
+    "a:1|c|T7",
+    "no line",
+    "a:7|c|#k:v",
+];
+
 // Adds up two numbers by the key of a line, if the line has one.
-fn add_by_key(alloc: Global, sums: &mut SummedLines, line: &str, numbers: (u32, u32)) -> Result<(), AllocError> {
+fn add_by_key(
+    alloc: Global,
+    sums: &mut SummedLines,
+    line: &str,
+    numbers: (u32, u32),
+) -> Result<(), AllocError> {
     match LineKey::of_line(alloc, line)? {
         Some(LineKey::Raises(key)) => {
             sums.count(&key, i64::from(numbers.0))?;
@@ -199,7 +216,7 @@ fn keys_add_what_their_lines_say(rt: HostRuntime) -> Result<(), Fail> {
     let alloc = rt.alloc();
     let limits = limits_of(&(4, 9, ""));
     let mut sums = SummedLines::new(alloc, limits)?;
-    for line in ["a:7|c|#k:v", "u:1|s", "g:0.5|g", "t:1|ms", "a:0.5|c", "a:1|c|T7", "no line", "a:7|c|#k:v"] {
+    for line in LINES {
         add_by_key(alloc, &mut sums, line, (5, 40))?;
     }
     sums.flush()?;
