@@ -11,7 +11,8 @@
 //! - `status`: the statuses that calls return, and the copy of a text into a buffer of C
 //! - `packet`: a finished packet
 //! - `client`: a client, with its held text and its queue of packets
-//! - `sums` and `sums_handle`: the calls that add up before a client keeps lines, and the handle of the sums with its keys
+//! - `sums` and `sums_handle`: the calls that add up before a client keeps lines, and the handle of the sums with its
+//!   keys
 //! - `box_parts` and `handle`: a `Box` taken apart, and the handle that C stores
 //! - `laws`: what holds after many calls
 #![tactic(auto)]

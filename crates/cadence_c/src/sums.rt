@@ -20,9 +20,9 @@ use cadence_aggregating::{CounterKey, GaugeKey, Limits, SummedLines};
 use std::alloc::{AllocError, Global};
 use std::num::NonZeroUsize;
 
-/// Makes sums in a handle, and drops earlier ones there. At most `contexts` contexts of each kind are held, and lines of
-/// at most `longest` bytes. If `packed` is set, the values of timers, histograms and distributions are packed into one
-/// line, and otherwise each of their lines is given to the client at once.
+/// Makes sums in a handle, and drops earlier ones there. At most `contexts` contexts of each kind are held, and lines
+/// of at most `longest` bytes. If `packed` is set, the values of timers, histograms and distributions are packed into
+/// one line, and otherwise each of their lines is given to the client at once.
 #[unsafe(no_mangle)]
 pub extern "C" fn cadence_open_sums(
     alloc: Global,
@@ -105,8 +105,8 @@ fn add(lines: &mut SummedLines, addend: Addend<'_>) -> Result<(), AllocError>
     }
 }
 
-// Gives the lines that wait to the client, and then adds up and gives the client those that wait after that. A line that
-// the client refuses then waits.
+// Gives the lines that wait to the client, and then adds up and gives the client those that wait after that. A line
+// that the client refuses then waits.
 fn add_up(
     alloc: Global,
     lines: &mut SummedLines,

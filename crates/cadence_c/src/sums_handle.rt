@@ -1,5 +1,5 @@
-//! The handle of sums that C stores: it has a pointer to sums, or none. It is made as the handle of a client is, and only
-//! this module follows its pointer.
+//! The handle of sums that C stores: it has a pointer to sums, or none. It is made as the handle of a client is, and
+//! only this module follows its pointer.
 ghost use Rattle.std.specs.Prelude.{◌≡◌, Option, Some, None, IsSome, is_some};
 ghost use Rattle.cadence_c.specs.declared.sums_handle.Sums.{Sums};
 ghost use Rattle.cadence_c.specs.SumsSlot.{pointer_owns, sums_coded, box_value};
@@ -11,8 +11,8 @@ use std::alloc::{AllocError, Global};
 use std::marker::Model;
 use std::{mem, ptr};
 
-/// What a handle of sums contains: lines that are added up, and the keys of calls that make no line. The number of a key
-/// is how many keys were made before it.
+/// What a handle of sums contains: lines that are added up, and the keys of calls that make no line. The number of a
+/// key is how many keys were made before it.
 #[derive(Drop)]
 pub struct Sums {
     pub(crate) lines: SummedLines,

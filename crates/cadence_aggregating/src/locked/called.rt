@@ -1,6 +1,6 @@
-//! Calls by keys, under the lock. Each call is made as an `AnsweringSink` of its own, because only `emit_by` can open the
-//! answer of a step under a lock. This sink is given an empty text, because the call has a key and a number in place of
-//! a line.
+//! Calls by keys, under the lock. Each call is made as an `AnsweringSink` of its own, because only `emit_by` can open
+//! the answer of a step under a lock. This sink is given an empty text, because the call has a key and a number in
+//! place of a line.
 ghost use Rattle.cadence_aggregating.specs.Keys.{line_of_counter, line_of_gauge};
 ghost use Rattle.cadence_aggregating.specs.Results.{IsCallOf, IsResultOf};
 ghost use Rattle.cadence_aggregating.specs.Shown.{ShowsAdded};
@@ -20,8 +20,8 @@ struct CounterCall<'a, S: MetricSink, R: Wait + Drop> {
     by: i64,
 }
 
-// The answer shows the aggregator before and after it accepted the line of the counter with this number. After an error
-// the counter is not raised.
+// The answer shows the aggregator before and after it accepted the line of the counter with this number. After an
+// error the counter is not raised.
 impl<'a, S: MetricSink, R: Wait + Drop> AnsweringSink for CounterCall<'a, S, R> {
     type Took = Added<S>;
 

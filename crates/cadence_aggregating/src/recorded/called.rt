@@ -33,12 +33,12 @@ impl<S: MetricSink> RecordedAggregator<S> {
         Ok(())
     }
 
-    /// Raises a counter, as `add` does with the counter's line, but doesn't make the line, unless it has to be handed on
-    /// at once.
+    /// Raises a counter, as `add` does with the counter's line, but doesn't make the line, unless it has to be handed
+    /// on at once.
     ///
     /// # Errors
-    /// The error of the sink, if it refused a line that had to be sent, and `OutOfMemory`. After an error the counter is
-    /// not raised, and what was held is sent or still held.
+    /// The error of the sink, if it refused a line that had to be sent, and `OutOfMemory`. After an error the counter
+    /// is not raised, and what was held is sent or still held.
     pub(crate) fn count(&mut self, key: &CounterKey, by: i64) -> Result<(), SinkError>
         ensures ok { OnOk result (accepted_by self.new
             ≡ accepted_by self.old ++ line_of_counter key.now by ∷ []) }

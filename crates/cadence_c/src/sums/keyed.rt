@@ -70,8 +70,8 @@ pub extern "C" fn cadence_make_key(
     }
 }
 
-// Returns what a number by a key adds up. Returns `None` if there is no such key, or if it is the key of a gauge and the
-// number is negative.
+// Returns what a number by a key adds up. Returns `None` if there is no such key, or if it is the key of a gauge and
+// the number is negative.
 fn addend_by(keys: &[LineKey], key: usize, number: i64) -> Option<Addend<'_>>
     ensures { option_map line_of_addend result ≡ line_by keys.now key number }
 {
