@@ -29,7 +29,7 @@ pub none_refused : (o : Option SinkError) → refusals_of o ≡ 0 → o ≡ None
 none_refused None e = refl
 none_refused (Some x) e = absurd (omega (arith, e))
 
--- A call that failed asked to write lines, of which the last one was refused, or memory ran out.
+-- If a call failed, it asked the packer to write lines, and the packer refused the last one or memory ran out.
 pub fails_by : (asked : List Sending) (why : Fault) (refused : Option SinkError) (e : SinkError)
     → refusals_of refused ≡ after_reply {T = Unit {0}} 0 (Err why) → IsCause why refused e → Writes asked refused → FailsBy asked e
 fails_by asked fault.Refused None e count cause writes = absurd (omega (arith, count))

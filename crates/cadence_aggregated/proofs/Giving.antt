@@ -1,4 +1,4 @@
--- What one line does that a packer's sink is given.
+-- These lemmas say what changes if the sink of a packer is given one line.
 use Rattle.std.proofs.Common.{◌≡◌, ℕ, List, [], ◌∷◌, ◌++◌, Some, None, Ok, Err, map, refl, sym, ap, ◌∙◌, subst}
 use Rattle.std.proofs.lemmas.List.{append-nil, map-append}
 use Rattle.cadence_aggregating.specs.Notes.{line_of_note}

@@ -28,11 +28,12 @@ outcome_of report = record {
   writer = report.writer;
 }
 
--- what the lines say that the aggregator of a report holds
+-- what is said by the lines that the aggregator of a report holds
 abbrev pub held_by : {W A : Type 0} → AggregatedReport W A → List Sample
 held_by report = held report.aggregator
 
--- what a run is given, if each line that is handed on is taken whole or refused with any error, as by an aggregator
+-- This is what a run is given, but with the answers of an aggregator in place of those of its writer: each line in hand
+-- is taken whole or refused with any error.
 abbrev pub with_aggregator : {A : Type 0} → Given A → Given A
 with_aggregator given = record given {
   kind = record given.kind { may_give = λ e. true; takes_whole = true };
@@ -58,8 +59,8 @@ module _ {W A : Type 0} (history : W → PacketHistory) (given : Given A) (outco
         → IsTight given.format.capacity (marks_from 0 all) (map (size_of given.format) (lines_in all)) outcome.cut
     pub fewest : ReportsWhole given.kind → (after_of history given outcome).refusals ≡ given.before.refusals
         → IsFewest given.format.capacity (marks_from 0 all) (map (size_of given.format) (lines_in all)) outcome.cut
-    -- Each error of a line or of a flush is one that the writer may give, and as many there were as the writer refused
-    -- packets in the run, modulo 2 to the 64.
+    -- Each error of a line or of a flush is one that the writer may give. There were as many errors as packets that the
+    -- writer refused in the run, modulo 2 to the 64.
     pub causes : AllByRecursion (MayFail given.kind.may_give given.kind.takes_whole) (errors_of all)
     pub errors : given.kind.takes_whole ≡ true
         → (after_of history given outcome).refusals % 2 ^ 64 ≡ (given.before.refusals + length (errors_of all)) % 2 ^ 64

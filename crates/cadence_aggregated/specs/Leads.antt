@@ -10,18 +10,18 @@ use Rattle.cadence_aggregated.specs.PackedRuns.{Keeps, SendsAll, packed_state}
 use Rattle.cadence_aggregated.specs.Sendings.{Sending, kept_counts}
 use Rattle.cadence_aggregated.specs.declared.packer_sink.PackerSink.{PackerSink}
 
--- how many lines a sink refused that has this error of a refused line
+-- how many lines a sink refused, if this is its error of a refused line
 abbrev pub refusals_of : Option SinkError → ℕ
 refusals_of None = 0
 refusals_of (Some e) = 1
 
--- A sink that has the error of a refused line asks nothing. One without writes lines, and has the error of the last one
--- if that was refused.
+-- A sink that has the error of a refused line asks nothing. A sink that has none writes lines, and has the error of the
+-- last line if that line was refused.
 abbrev pub WritesAfter : Option SinkError → List Sending → Option SinkError → Type 0
 WritesAfter None asked error = Writes asked error
 WritesAfter (Some e) asked error = (asked ≡ []) × (error ≡ Some e)
 
--- what the lines say that a sink took
+-- what is said by the lines that a sink took
 abbrev pub sent_by : {P A : Type 0} → PackerSink P A → List Sample
 sent_by sink = map sample_of_note sink.notes.items
 

@@ -57,7 +57,7 @@ fn plain_text<A: Allocator + Clone>(
     report_text(alloc, &shown, &script.answers)
 }
 
-// Runs a script with an aggregator of so many contexts, and returns the text of its report.
+// Runs a script with an aggregator that holds at most `most_contexts` contexts, and returns the text of its report.
 fn aggregated_text<A: Allocator + Clone>(
     global: Global,
     alloc: A,

@@ -192,7 +192,7 @@ fn policy_of(word: &str) -> Result<QueuePolicy, LineError> {
     }
 }
 
-// Returns the number of contexts that a word stands for. It is not 0.
+// Returns the number of contexts that a word stands for. A word that stands for 0 is refused.
 fn contexts_of(word: &str) -> Result<NonZeroUsize, LineError> {
     match NonZeroUsize::new(number(word)?) {
         Some(contexts) => Ok(contexts),
