@@ -14,33 +14,33 @@ use Rattle.cadence_flow.specs.Writer.{PacketHistory, WriterKind}
 use Rattle.cadence_schedule.specs.RunHistory.{Turn}
 use Rattle.cadence_schedule.specs.declared.steps.Step.TheVariants as step
 use Rattle.cadence_schedule.specs.declared.steps.Reply.TheVariants as reply
-use Rattle.cadence_aggregated.specs.Asked.{Asks, FailsBy, Writes, WritesThen}
+use Rattle.cadence_aggregated.specs.Asked.{Asks, FailsBy, WritesLines, WritesThen}
 use Rattle.cadence_aggregated.specs.Causes.{IsCause}
-use Rattle.cadence_aggregated.specs.Leads.{Leads, Packs, lines_by, refusals_of, sent_by}
+use Rattle.cadence_aggregated.specs.Leads.{LeadsSink, SinkPacks, lines_by, refused_count, sent_by}
 use Rattle.cadence_aggregated.specs.Led.{packs_joined, packs_none}
-use Rattle.cadence_aggregated.specs.PackedRuns.{Keeps, Sends, packed_state}
+use Rattle.cadence_aggregated.specs.PackedRuns.{KeepsKindAndFormat, MovesPacker, packed_state}
 use Rattle.cadence_aggregated.specs.Sendings.{Sending, flushed}
-use Rattle.cadence_aggregated.specs.Steps.{SumsTurn, accepted_in}
+use Rattle.cadence_aggregated.specs.Steps.{SumsTurn, accepted_in_turn}
 use Rattle.cadence_aggregated.specs.declared.packer_sink.PackerSink.{PackerSink}
 use Rattle.cadence_aggregated.specs.declared.sums.Sums.{Sums}
 
 -- A sink that refused no line has no error.
-pub none_refused : (o : Option SinkError) → refusals_of o ≡ 0 → o ≡ None
+pub none_refused : (o : Option SinkError) → refused_count o ≡ 0 → o ≡ None
 none_refused None e = refl
 none_refused (Some x) e = absurd (omega (arith, e))
 
 -- If a call failed, it asked the packer to write lines, and the packer refused the last one or memory ran out.
 pub fails_by : (asked : List Sending) (why : Fault) (refused : Option SinkError) (e : SinkError)
-    → refusals_of refused ≡ after_reply {T = Unit {0}} 0 (Err why) → IsCause why refused e → Writes asked refused → FailsBy asked e
+    → refused_count refused ≡ after_reply {T = Unit {0}} 0 (Err why) → IsCause why refused e → WritesLines asked refused → FailsBy asked e
 fails_by asked fault.Refused None e count cause writes = absurd (omega (arith, count))
-fails_by asked fault.Refused (Some x) e count cause writes = inl (subst (λ o. Writes asked (Some o)) (sym cause) writes)
+fails_by asked fault.Refused (Some x) e count cause writes = inl (subst (λ o. WritesLines asked (Some o)) (sym cause) writes)
 fails_by asked fault.OutOfMemory None e count cause writes = inr (writes, cause)
 fails_by asked fault.OutOfMemory (Some x) e count cause writes = absurd (omega (arith, count))
 
 module _ {P A : Type 0} (kind : P → WriterKind) (history : P → PacketHistory) where
   -- A turn that leaves the aggregator and the packer asked nothing.
   pub idle : (hand : Option (List ℕ)) (old : Sums P A) (t : Turn A) (new : Sums P A)
-      → accepted_in t hand ≡ [] → Asks t [] → new ≡ old → SumsTurn kind history hand old t new
+      → accepted_in_turn t hand ≡ [] → Asks t [] → new ≡ old → SumsTurn kind history hand old t new
   idle hand old t new none asks same = subst (λ s. SumsTurn kind history hand old t s) (sym same) (record {
     asked = [];
     asks = asks;
@@ -53,12 +53,12 @@ module _ {P A : Type 0} (kind : P → WriterKind) (history : P → PacketHistory
   -- a call that began with no error asked this
   record Called (old s : PackerSink P A) : Type 0 where
     asked : List Sending
-    writes : Writes asked s.refused
-    packs : Packs kind history old s asked
+    writes : WritesLines asked s.refused
+    packs : SinkPacks kind history old s asked
 
-  called : (old b s : PackerSink P A) → b ≡ record old { refused = None } → Leads kind history b s → Called old s
+  called : (old b s : PackerSink P A) → b ≡ record old { refused = None } → LeadsSink kind history b s → Called old s
   called old b s same leads =
-      let l = subst (λ x. Leads kind history x s) same leads in
+      let l = subst (λ x. LeadsSink kind history x s) same leads in
       record {
         asked = l.asked;
         writes = l.writes;
@@ -70,19 +70,19 @@ module _ {P A : Type 0} (kind : P → WriterKind) (history : P → PacketHistory
       }
 
   -- a call that took the error
-  without_error : (old s r : PackerSink P A) (asked : List Sending) → r ≡ record s { refused = None } → Packs kind history old s asked
-      → Packs kind history old r asked
-  without_error old s r asked same packs = subst (λ x. Packs kind history old x asked) (sym same) (record {
+  without_error : (old s r : PackerSink P A) (asked : List Sending) → r ≡ record s { refused = None } → SinkPacks kind history old s asked
+      → SinkPacks kind history old r asked
+  without_error old s r asked same packs = subst (λ x. SinkPacks kind history old x asked) (sym same) (record {
     lines = packs.lines;
     keeps = record { same_kind = packs.keeps.same_kind; same_format = packs.keeps.same_format };
     sends = packs.sends;
   })
 
   -- after the packer was flushed
-  then_flushed : (old s r : PackerSink P A) (asked : List Sending) (result : Result (Unit {0}) SinkError) → Packs kind history old s asked
-      → r ≡ record s { packing = r.packing } → Keeps kind s.packing r.packing
-      → Sends (kind s.packing.packer.writer) s.packing.packer.format (packed_state history s.packing) (flushed result) (packed_state history r.packing)
-      → Packs kind history old r (asked ++ flushed result ∷ [])
+  then_flushed : (old s r : PackerSink P A) (asked : List Sending) (result : Result (Unit {0}) SinkError) → SinkPacks kind history old s asked
+      → r ≡ record s { packing = r.packing } → KeepsKindAndFormat kind s.packing r.packing
+      → MovesPacker (kind s.packing.packer.writer) s.packing.packer.format (packed_state history s.packing) (flushed result) (packed_state history r.packing)
+      → SinkPacks kind history old r (asked ++ flushed result ∷ [])
   then_flushed old s r asked result packs same keeps send =
       packs_joined kind history old s r asked (flushed result ∷ []) packs (record {
         lines = ap (λ (x : PackerSink P A). lines_by x) same ∙ sym (append-nil (lines_by s));
@@ -90,24 +90,24 @@ module _ {P A : Type 0} (kind : P → WriterKind) (history : P → PacketHistory
         sends = (packed_state history r.packing, send, refl);
       })
 
-  module _ (old new : Sums P A) (b s : PackerSink P A) (began : b ≡ record old.sink { refused = None }) (leads : Leads kind history b s) where
+  module _ (old new : Sums P A) (b s : PackerSink P A) (began : b ≡ record old.sink { refused = None }) (leads : LeadsSink kind history b s) where
     begun : Called old.sink s
     begun = called old.sink b s began leads
 
     sent_before : sent_by b ≡ sent_by old.sink
     sent_before = ap (λ (x : PackerSink P A). sent_by x) began
 
-    none_before : refusals_of b.refused ≡ 0
-    none_before = ap (λ (x : PackerSink P A). refusals_of x.refused) began
+    none_before : refused_count b.refused ≡ 0
+    none_before = ap (λ (x : PackerSink P A). refused_count x.refused) began
 
     -- A line was added.
-    pub added : (line : List ℕ) (n : ℕ) (said : Sample) → LineSays line said → refusals_of s.refused ≡ refusals_of b.refused
+    pub added : (line : List ℕ) (n : ℕ) (said : Sample) → LineSays line said → refused_count s.refused ≡ refused_count b.refused
         → IsSummary ((sent_by b ++ held old.aggregator) ++ said ∷ []) (sent_by s ++ held new.aggregator) → new.sink ≡ s
         → SumsTurn kind history (Some line) old (step.Hand, reply.Handed (Ok n)) new
     added line n said says count sum same = record {
       asked = begun.asked;
-      asks = subst (λ o. Writes begun.asked o) (none_refused s.refused (count ∙ none_before)) begun.writes;
-      packs = subst (λ x. Packs kind history old.sink x begun.asked) (sym same) begun.packs;
+      asks = subst (λ o. WritesLines begun.asked o) (none_refused s.refused (count ∙ none_before)) begun.writes;
+      packs = subst (λ x. SinkPacks kind history old.sink x begun.asked) (sym same) begun.packs;
       said = said ∷ [];
       says = (says, tt);
       summary = subst (λ x. IsSummary ((sent_by old.sink ++ held old.aggregator) ++ said ∷ []) (sent_by x ++ held new.aggregator)) (sym same)
@@ -115,12 +115,12 @@ module _ {P A : Type 0} (kind : P → WriterKind) (history : P → PacketHistory
     }
 
     module _ (why : Fault) (e : SinkError) (cause : IsCause why s.refused e)
-        (count : refusals_of s.refused ≡ after_reply {T = Unit {0}} (refusals_of b.refused) (Err why)) (taken : new.sink ≡ record s { refused = None }) where
+        (count : refused_count s.refused ≡ after_reply {T = Unit {0}} (refused_count b.refused) (Err why)) (taken : new.sink ≡ record s { refused = None }) where
       asks_failed : FailsBy begun.asked e
       asks_failed =
           fails_by begun.asked why s.refused e (count ∙ ap (λ n. after_reply {T = Unit {0}} n (Err why)) none_before) cause begun.writes
 
-      packs_failed : Packs kind history old.sink new.sink begun.asked
+      packs_failed : SinkPacks kind history old.sink new.sink begun.asked
       packs_failed = without_error old.sink s new.sink begun.asked taken begun.packs
 
       sum_failed : IsSummary (sent_by b ++ held old.aggregator) (sent_by s ++ held new.aggregator)
@@ -154,15 +154,15 @@ module _ {P A : Type 0} (kind : P → WriterKind) (history : P → PacketHistory
     asks_flush (Err e) asked then = inr then
 
     -- The packer was flushed, or its flush failed.
-    pub flushed_both : (hand : Option (List ℕ)) (result : Result (Unit {0}) SinkError) → refusals_of s.refused ≡ refusals_of b.refused
+    pub flushed_both : (hand : Option (List ℕ)) (result : Result (Unit {0}) SinkError) → refused_count s.refused ≡ refused_count b.refused
         → sent_by s ++ held new.aggregator ≡ sent_by b ++ held old.aggregator → new.sink ≡ record s { packing = new.sink.packing }
-        → Keeps kind s.packing new.sink.packing
-        → Sends (kind s.packing.packer.writer) s.packing.packer.format (packed_state history s.packing) (flushed result) (packed_state history new.sink.packing)
+        → KeepsKindAndFormat kind s.packing new.sink.packing
+        → MovesPacker (kind s.packing.packer.writer) s.packing.packer.format (packed_state history s.packing) (flushed result) (packed_state history new.sink.packing)
         → SumsTurn kind history hand old (step.Flush, reply.Flushed result) new
     flushed_both hand result count same only keeps send = record {
       asked = begun.asked ++ flushed result ∷ [];
       asks = asks_flush result (begun.asked ++ flushed result ∷ [])
-          (begun.asked, subst (λ o. Writes begun.asked o) (none_refused s.refused (count ∙ none_before)) begun.writes, refl);
+          (begun.asked, subst (λ o. WritesLines begun.asked o) (none_refused s.refused (count ∙ none_before)) begun.writes, refl);
       packs = then_flushed old.sink s new.sink begun.asked result begun.packs only keeps send;
       said = [];
       says = tt;

@@ -20,7 +20,7 @@ use Rattle.cadence_aggregated.specs.Leads.{sent_by}
 use Rattle.cadence_aggregated.specs.Led.{packs_joined, packs_none}
 use Rattle.cadence_aggregated.specs.Sendings.{Sending}
 use Rattle.cadence_aggregated.specs.SoFar.{SoFar}
-use Rattle.cadence_aggregated.specs.Steps.{Goes, MovesQueue, QueueMoves, SumsTurn, accepted_in, hand_of, queue_state}
+use Rattle.cadence_aggregated.specs.Steps.{Goes, MovesQueue, QueueMoves, SumsTurn, accepted_in_turn, hand_of, queue_state}
 use Rattle.cadence_aggregated.specs.declared.running.Running.{Running}
 
 -- One step more, with its reply.
@@ -53,18 +53,18 @@ ask_more (u ∷ turns) t all asked (now, rest, all_are, first, later) asks =
 
 module _ {A : Type 0} (line_of : Call A → Option (List ℕ)) (queue : Option ℕ) (policy : QueuePolicy) where
   goes_more : (old mid new : RunState) (turns : List (Turn A)) (lines : List (List ℕ)) (t : Turn A) → Goes line_of queue policy old turns lines mid
-      → QueueMoves line_of queue policy mid t new → Goes line_of queue policy old (turns ++ t ∷ []) (lines ++ accepted_in t mid.in_hand) new
+      → QueueMoves line_of queue policy mid t new → Goes line_of queue policy old (turns ++ t ∷ []) (lines ++ accepted_in_turn t mid.in_hand) new
   goes_more old mid new [] lines t (none, same) move = (
     new,
     [],
-    ap (λ ls. ls ++ accepted_in t mid.in_hand) none ∙ ap (λ s. accepted_in t s.in_hand) same ∙ sym (append-nil (accepted_in t old.in_hand)),
+    ap (λ ls. ls ++ accepted_in_turn t mid.in_hand) none ∙ ap (λ s. accepted_in_turn t s.in_hand) same ∙ sym (append-nil (accepted_in_turn t old.in_hand)),
     subst (λ s. QueueMoves line_of queue policy s t new) same move,
     (refl, refl),
   )
   goes_more old mid new (u ∷ turns) lines t (next, rest, are, first, later) move = (
     next,
-    rest ++ accepted_in t mid.in_hand,
-    ap (λ ls. ls ++ accepted_in t mid.in_hand) are ∙ append_assoc (accepted_in u old.in_hand) rest (accepted_in t mid.in_hand),
+    rest ++ accepted_in_turn t mid.in_hand,
+    ap (λ ls. ls ++ accepted_in_turn t mid.in_hand) are ∙ append_assoc (accepted_in_turn u old.in_hand) rest (accepted_in_turn t mid.in_hand),
     first,
     goes_more next mid new turns rest t later move,
   )
@@ -88,14 +88,14 @@ module _ {P A : Type 0} (kind : P → WriterKind) (history : P → PacketHistory
   pub so_far_more : (first mid new : Running P A) (turns : List (Turn A)) (t : Turn A) → SoFar kind history line_of first mid turns
       → MovesQueue line_of mid t new → SumsTurn kind history (hand_of mid) mid.sums t new.sums → SoFar kind history line_of first new (turns ++ t ∷ [])
   so_far_more first mid new turns t s queue sums = record {
-    accepted = s.accepted ++ accepted_in t (hand_of mid);
+    accepted = s.accepted ++ accepted_in_turn t (hand_of mid);
     goes = goes_more line_of first.queue.capacity first.queue.policy (queue_state first) (queue_state mid) (queue_state new) turns s.accepted t s.goes
         (subst (λ p. QueueMoves line_of first.queue.capacity p (queue_state mid) t (queue_state new)) s.same_policy
         (subst (λ q. QueueMoves line_of q mid.queue.policy (queue_state mid) t (queue_state new)) s.same_queue queue.moves));
     all = s.all ++ sums.asked;
     asked = ask_more turns t s.all sums.asked s.asked sums.asks;
     packs = packs_joined kind history first.sums.sink mid.sums.sink new.sums.sink s.all sums.asked s.packs sums.packs;
-    past = past_step s.accepted (accepted_in t (hand_of mid)) sums.said (sent_by mid.sums.sink) (sent_by new.sums.sink) (held mid.sums.aggregator)
+    past = past_step s.accepted (accepted_in_turn t (hand_of mid)) sums.said (sent_by mid.sums.sink) (sent_by new.sums.sink) (held mid.sums.aggregator)
         (held new.sums.aggregator) s.past sums.says sums.summary;
     same_queue = queue.same_queue ∙ s.same_queue;
     same_policy = queue.same_policy ∙ s.same_policy;

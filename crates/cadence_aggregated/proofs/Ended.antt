@@ -39,9 +39,9 @@ use Rattle.cadence_text.specs.Line.{line_of}
 use Rattle.cadence_text.specs.Metric.{Metric}
 use Rattle.cadence_aggregated.specs.Aggregated.{HasAggregated, with_aggregator}
 use Rattle.cadence_aggregated.specs.Leads.{lines_by}
-use Rattle.cadence_aggregated.specs.PackedRuns.{PackedState, SendsAll, packed_state}
-use Rattle.cadence_aggregated.specs.RunOutcome.{outcome_after}
-use Rattle.cadence_aggregated.specs.Sendings.{errors_of, kept_counts, marks_from, refusals_from}
+use Rattle.cadence_aggregated.specs.PackedRuns.{PackedState, AllMovePacker, packed_state}
+use Rattle.cadence_aggregated.specs.RunOutcome.{outcome_of_running}
+use Rattle.cadence_aggregated.specs.Sendings.{errors_of, counts_of_kept, marks_from, refusals_from}
 use Rattle.cadence_aggregated.specs.SoFar.{SoFar, Starts}
 use Rattle.cadence_aggregated.specs.Steps.{Goes, nothing, queue_state}
 use Rattle.cadence_aggregated.specs.declared.counting.CountingWriter.{CountingWriter}
@@ -130,12 +130,12 @@ module _ {W A : Type 0} (kind_of : W → WriterKind) (history_of : W → PacketH
         (subst (λ p. Goes lines queue p (queue_state first) turns s.accepted (queue_state run)) (ap (λ q. q.policy) start.queue_is)
         (subst (λ c. Goes lines c first.queue.policy (queue_state first) turns s.accepted (queue_state run)) (ap (λ q. q.capacity) start.queue_is) s.goes)))
 
-    lines_are : lines_by run.sums.sink ≡ texts_in (kept_counts s.all)
-    lines_are = s.packs.lines ∙ ap (λ ns. map line_of_note ns ++ texts_in (kept_counts s.all)) start.notes_are
+    lines_are : lines_by run.sums.sink ≡ texts_in (counts_of_kept s.all)
+    lines_are = s.packs.lines ∙ ap (λ ns. map line_of_note ns ++ texts_in (counts_of_kept s.all)) start.notes_are
 
-    summary : Summarizes (kept lines turns) (texts_in (kept_counts s.all)) (held run.sums.aggregator)
+    summary : Summarizes (kept lines turns) (texts_in (counts_of_kept s.all)) (held run.sums.aggregator)
     summary =
-        subst (λ ls. Summarizes ls (texts_in (kept_counts s.all)) (held run.sums.aggregator)) after.kept_is
+        subst (λ ls. Summarizes ls (texts_in (counts_of_kept s.all)) (held run.sums.aggregator)) after.kept_is
         (subst (λ ls. Summarizes s.accepted ls (held run.sums.aggregator)) lines_are
         (summarizes s.accepted run.sums.sink.notes.items (held run.sums.aggregator) s.past))
 
@@ -150,7 +150,7 @@ module _ {W A : Type 0} (kind_of : W → WriterKind) (history_of : W → PacketH
         each (Some line) h = h line refl
 
     has_replies : HasReplies history_of (with_aggregator (given_of kind_of history_of settings capacity ending queue policy steps writer))
-        (outcome_after run replies)
+        (outcome_of_running run replies)
     has_replies = record {
       one_each = one_each;
       causes = after.replies;
@@ -172,37 +172,37 @@ module _ {W A : Type 0} (kind_of : W → WriterKind) (history_of : W → PacketH
     first_is : packed_state inner (packing_of first) ≡ record { cut = []; history = before; held = [] }
     first_is = λ i. record { cut = start.cut_is i; history = inner (start.packer_is i).writer; held = (start.packer_is i).held }
 
-    sends : SendsAll kind format (record { cut = []; history = before; held = [] }) s.all now
+    sends : AllMovePacker kind format (record { cut = []; history = before; held = [] }) s.all now
     sends =
-        subst (λ x. SendsAll kind format x s.all now) first_is
-        (subst (λ f. SendsAll kind f (packed_state inner (packing_of first)) s.all now) (ap (λ p. p.format) start.packer_is)
-        (subst (λ k. SendsAll k (packing_of first).packer.format (packed_state inner (packing_of first)) s.all now) kind_is s.packs.sends))
+        subst (λ x. AllMovePacker kind format x s.all now) first_is
+        (subst (λ f. AllMovePacker kind f (packed_state inner (packing_of first)) s.all now) (ap (λ p. p.format) start.packer_is)
+        (subst (λ k. AllMovePacker k (packing_of first).packer.format (packed_state inner (packing_of first)) s.all now) kind_is s.packs.sends))
 
     cut_after : (reports : kind.reports ≡ true) (whole : kind.takes_whole ≡ true)
-        → CutAfter kind format reports whole before.packets (marks_from 0 s.all) (refusals_from 0 s.all) (texts_in (kept_counts s.all)) now
+        → CutAfter kind format reports whole before.packets (marks_from 0 s.all) (refusals_from 0 s.all) (texts_in (counts_of_kept s.all)) now
     cut_after reports whole =
         cut_all kind format reports whole before.packets s.all [] [] [] (record { cut = []; history = before; held = [] }) now sends
-        (kept_filled law (kept lines turns) (kept_counts s.all) (held run.sums.aggregator) all_filled summary)
-        (omega (arith, no_more_kept (kept lines turns) (kept_counts s.all) (held run.sums.aggregator) summary, length-kept lines turns, short))
+        (kept_filled law (kept lines turns) (counts_of_kept s.all) (held run.sums.aggregator) all_filled summary)
+        (omega (arith, no_more_kept (kept lines turns) (counts_of_kept s.all) (held run.sums.aggregator) summary, length-kept lines turns, short))
         (record { packets = []; groups = []; since = sym (append-nil before.packets); plan_is = refl; cut = no_lines format })
 
     packed_cut : ReportsWhole (kind_of writer)
-        → ArePacketsOf format (marks_from 0 s.all) (refusals_from 0 s.all) (texts_in (kept_counts s.all)) now.cut (packets_between before now.history) now.held
+        → ArePacketsOf format (marks_from 0 s.all) (refusals_from 0 s.all) (texts_in (counts_of_kept s.all)) now.cut (packets_between before now.history) now.held
     packed_cut whole =
         let b = cut_after whole.0 whole.1 in
-        subst (λ p. ArePacketsOf format (marks_from 0 s.all) (refusals_from 0 s.all) (texts_in (kept_counts s.all)) now.cut p now.held)
+        subst (λ p. ArePacketsOf format (marks_from 0 s.all) (refusals_from 0 s.all) (texts_in (counts_of_kept s.all)) now.cut p now.held)
         (sym (between_is before now.history b.packets b.since))
-        (subst (λ p. ArePacketsOf format (marks_from 0 s.all) (refusals_from 0 s.all) (texts_in (kept_counts s.all)) p b.packets now.held) (sym b.plan_is)
-        (shown format (marks_from 0 s.all) (refusals_from 0 s.all) (texts_in (kept_counts s.all)) b.groups b.packets now.held b.cut))
+        (subst (λ p. ArePacketsOf format (marks_from 0 s.all) (refusals_from 0 s.all) (texts_in (counts_of_kept s.all)) p b.packets now.held) (sym b.plan_is)
+        (shown format (marks_from 0 s.all) (refusals_from 0 s.all) (texts_in (counts_of_kept s.all)) b.groups b.packets now.held b.cut))
 
     packed_late : ReportsWhole (kind_of writer)
         → NoGroupHasRoom capacity (marks_from 0 s.all ++ refusals_from 0 s.all)
-        (groups_of now.cut (map (size_of format) (texts_in (kept_counts s.all))))
+        (groups_of now.cut (map (size_of format) (texts_in (counts_of_kept s.all))))
     packed_late whole =
         let b = cut_after whole.0 whole.1 in
         subst (λ p. NoGroupHasRoom capacity (marks_from 0 s.all ++ refusals_from 0 s.all)
-        (groups_of p (map (size_of format) (texts_in (kept_counts s.all))))) (sym b.plan_is)
-        (shown_late format (marks_from 0 s.all) (refusals_from 0 s.all) (texts_in (kept_counts s.all)) b.groups b.packets now.held b.cut)
+        (groups_of p (map (size_of format) (texts_in (counts_of_kept s.all))))) (sym b.plan_is)
+        (shown_late format (marks_from 0 s.all) (refusals_from 0 s.all) (texts_in (counts_of_kept s.all)) b.groups b.packets now.held b.cut)
 
     no_error : (kind_of writer).takes_whole ≡ true → now.history.refusals ≡ before.refusals → length (errors_of s.all) ≡ 0
     no_error whole none =
@@ -214,27 +214,27 @@ module _ {W A : Type 0} (kind_of : W → WriterKind) (history_of : W → PacketH
 
     packed_tight : ReportsWhole (kind_of writer) → now.history.refusals ≡ before.refusals
         → IsTight capacity (marks_from 0 s.all)
-        (map (size_of format) (texts_in (kept_counts s.all))) now.cut
+        (map (size_of format) (texts_in (counts_of_kept s.all))) now.cut
     packed_tight whole none = record {
       admissible = (packed_cut whole).admissible;
-      no_later = subst (λ e. NoGroupHasRoom capacity e (groups_of now.cut (map (size_of format) (texts_in (kept_counts s.all)))))
+      no_later = subst (λ e. NoGroupHasRoom capacity e (groups_of now.cut (map (size_of format) (texts_in (counts_of_kept s.all)))))
           (ap (λ r. marks_from 0 s.all ++ r) (none_refused 0 s.all (no_error whole.1 none)) ∙ append-nil (marks_from 0 s.all)) (packed_late whole);
     }
 
     packed_taken : (kind_of writer).reports ≡ true
-        → concat (packets_between before now.history) ++ now.held ≡ taken_stream format (kept_counts s.all)
+        → concat (packets_between before now.history) ++ now.held ≡ taken_stream format (counts_of_kept s.all)
     packed_taken reports =
         let (more, e) = extends_all kind format reports s.all _ now sends in
-        let text : concat before.packets ++ (concat more ++ now.held) ≡ concat before.packets ++ taken_stream format (kept_counts s.all) =
+        let text : concat before.packets ++ (concat more ++ now.held) ≡ concat before.packets ++ taken_stream format (counts_of_kept s.all) =
         sym (append_assoc (concat before.packets) (concat more) now.held)
         ∙ ap (λ t. t ++ now.held) (sym (concat-append before.packets more) ∙ ap concat (sym e))
         ∙ text_all kind format reports s.all _ now sends
-        ∙ ap (λ t. t ++ taken_stream format (kept_counts s.all)) (append-nil (concat before.packets)) in
+        ∙ ap (λ t. t ++ taken_stream format (counts_of_kept s.all)) (append-nil (concat before.packets)) in
         ap (λ p. concat p ++ now.held) (between_is before now.history more e)
-        ∙ goes_on (concat before.packets) (concat more ++ now.held) (taken_stream format (kept_counts s.all)) text
+        ∙ goes_on (concat before.packets) (concat more ++ now.held) (taken_stream format (counts_of_kept s.all)) text
 
     packed_stream : ReportsWhole (kind_of writer)
-        → concat (packets_between before now.history) ++ now.held ≡ stream format (texts_in (kept_counts s.all))
+        → concat (packets_between before now.history) ++ now.held ≡ stream format (texts_in (counts_of_kept s.all))
     packed_stream whole =
         let b = cut_after whole.0 whole.1 in
         ap (λ p. concat p ++ now.held) (between_is before now.history b.packets b.since)
@@ -243,7 +243,7 @@ module _ {W A : Type 0} (kind_of : W → WriterKind) (history_of : W → PacketH
     -- the promise, of a whole run
     pub has_aggregated : length now.held ≤ (packing_of run).packer.format.capacity
         → (packing_of run).packer.writer.stats.bytes_sent < 2 ^ 64 → (packing_of run).packer.writer.stats.packets_sent < 2 ^ 64
-        → HasAggregated history_of (given_of kind_of history_of settings capacity ending queue policy steps writer) (outcome_after run replies)
+        → HasAggregated history_of (given_of kind_of history_of settings capacity ending queue policy steps writer) (outcome_of_running run replies)
         (held run.sums.aggregator) s.all
     has_aggregated bound bytes packets = record {
       replies = has_replies;

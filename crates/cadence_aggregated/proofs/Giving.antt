@@ -5,16 +5,16 @@ use Rattle.cadence_aggregating.specs.Notes.{line_of_note}
 use Rattle.cadence_aggregating.specs.declared.note.Note.{Note}
 use Rattle.cadence_errors.specs.declared.SinkError.{SinkError}
 use Rattle.cadence_flow.specs.Writer.{PacketHistory, WriterKind}
-use Rattle.cadence_aggregated.specs.Leads.{Leads, WritesAfter, lines_by}
+use Rattle.cadence_aggregated.specs.Leads.{LeadsSink, WritesAfter, lines_by}
 use Rattle.cadence_aggregated.specs.Led.{after_none}
-use Rattle.cadence_aggregated.specs.PackedRuns.{Keeps, Sends, packed_state}
+use Rattle.cadence_aggregated.specs.PackedRuns.{KeepsKindAndFormat, MovesPacker, packed_state}
 use Rattle.cadence_aggregated.specs.Sendings.{wrote}
 use Rattle.cadence_aggregated.specs.declared.packer_sink.PackerSink.{PackerSink}
 
-module _ {P A : Type 0} (kind : P → WriterKind) (history : P → PacketHistory) (old new : PackerSink P A) (keeps : Keeps kind old.packing new.packing) where
+module _ {P A : Type 0} (kind : P → WriterKind) (history : P → PacketHistory) (old new : PackerSink P A) (keeps : KeepsKindAndFormat kind old.packing new.packing) where
   -- Memory ran out, and nothing was asked.
   pub asks_nothing : packed_state history new.packing ≡ packed_state history old.packing → new.refused ≡ old.refused
-      → new.notes.items ≡ old.notes.items → Leads kind history old new
+      → new.notes.items ≡ old.notes.items → LeadsSink kind history old new
   asks_nothing packed refused notes = record {
     asked = [];
     writes = subst (λ o. WritesAfter old.refused [] o) (sym refused) (after_none old.refused);
@@ -23,8 +23,8 @@ module _ {P A : Type 0} (kind : P → WriterKind) (history : P → PacketHistory
 
   -- A line was kept.
   pub line_kept : (text : List ℕ) (n : ℕ) (note : Note) → old.refused ≡ None → new.refused ≡ None
-      → Sends (kind old.packing.packer.writer) old.packing.packer.format (packed_state history old.packing) (wrote text (Ok n)) (packed_state history new.packing)
-      → new.notes.items ≡ old.notes.items ++ note ∷ [] → text ≡ line_of_note note → Leads kind history old new
+      → MovesPacker (kind old.packing.packer.writer) old.packing.packer.format (packed_state history old.packing) (wrote text (Ok n)) (packed_state history new.packing)
+      → new.notes.items ≡ old.notes.items ++ note ∷ [] → text ≡ line_of_note note → LeadsSink kind history old new
   line_kept text n note none still send notes text_is = record {
     asked = wrote text (Ok n) ∷ [];
     writes = subst (λ o. WritesAfter o (wrote text (Ok n) ∷ []) new.refused) (sym none) still;
@@ -37,8 +37,8 @@ module _ {P A : Type 0} (kind : P → WriterKind) (history : P → PacketHistory
 
   -- A line was refused.
   pub line_refused : (text : List ℕ) (e : SinkError) → old.refused ≡ None → new.refused ≡ Some e
-      → Sends (kind old.packing.packer.writer) old.packing.packer.format (packed_state history old.packing) (wrote text (Err e)) (packed_state history new.packing)
-      → new.notes.items ≡ old.notes.items → Leads kind history old new
+      → MovesPacker (kind old.packing.packer.writer) old.packing.packer.format (packed_state history old.packing) (wrote text (Err e)) (packed_state history new.packing)
+      → new.notes.items ≡ old.notes.items → LeadsSink kind history old new
   line_refused text e none some send notes = record {
     asked = wrote text (Err e) ∷ [];
     writes = subst (λ o. WritesAfter o (wrote text (Err e) ∷ []) new.refused) (sym none) (refl, some);

@@ -11,8 +11,8 @@ use Rattle.cadence_schedule.proofs.packets.CutSoFar.{IsCutSoFar, held_last, join
 use Rattle.cadence_schedule.proofs.packets.ListEnds.{joined}
 use Rattle.cadence_schedule.proofs.packets.PackerSteps.{cut_refused, cut_written, refused, written}
 use Rattle.cadence_schedule.specs.Moves.{HasLast}
-use Rattle.cadence_aggregated.specs.PackedRuns.{PackedState, SendsAll, packer_of}
-use Rattle.cadence_aggregated.specs.Sendings.{Sending, wrote, flushed, kept_counts, marks_from, refusals_from}
+use Rattle.cadence_aggregated.specs.PackedRuns.{PackedState, AllMovePacker, packer_in_state}
+use Rattle.cadence_aggregated.specs.Sendings.{Sending, wrote, flushed, counts_of_kept, marks_from, refusals_from}
 
 -- Each kept line is not empty.
 abbrev pub AreFilled : List (List ℕ × ℕ) → Type 0
@@ -20,20 +20,20 @@ AreFilled kept = AllByRecursion (λ (k : List ℕ × ℕ). k.0 ≢ []) kept
 
 module _ (kind : WriterKind) (format : Format) (reports : kind.reports ≡ true) where
   -- The text of the packer grows by what was taken of the kept lines.
-  pub text_all : (xs : List Sending) (s s' : PackedState) → SendsAll kind format s xs s'
-      → whole_text (packer_of s') ≡ whole_text (packer_of s) ++ taken_stream format (kept_counts xs)
-  text_all [] s s' same = ap (λ t. whole_text (packer_of t)) same ∙ sym (append-nil (whole_text (packer_of s)))
+  pub text_all : (xs : List Sending) (s s' : PackedState) → AllMovePacker kind format s xs s'
+      → whole_text (packer_in_state s') ≡ whole_text (packer_in_state s) ++ taken_stream format (counts_of_kept xs)
+  text_all [] s s' same = ap (λ t. whole_text (packer_in_state t)) same ∙ sym (append-nil (whole_text (packer_in_state s)))
   text_all (wrote line (Ok n) ∷ xs) s s' (mid, (w, counts), rest) =
-      text_all xs mid s' rest ∙ ap (λ t. t ++ taken_stream format (kept_counts xs)) (w.text reports)
-      ∙ append_assoc (whole_text (packer_of s)) (frame_of format line n) (taken_stream format (kept_counts xs))
+      text_all xs mid s' rest ∙ ap (λ t. t ++ taken_stream format (counts_of_kept xs)) (w.text reports)
+      ∙ append_assoc (whole_text (packer_in_state s)) (frame_of format line n) (taken_stream format (counts_of_kept xs))
   text_all (wrote line (Err e) ∷ xs) s s' (mid, (w, counts), rest) =
       text_all xs mid s' rest
-      ∙ ap (λ t. t ++ taken_stream format (kept_counts xs)) (w.text reports ∙ append-nil (whole_text (packer_of s)))
+      ∙ ap (λ t. t ++ taken_stream format (counts_of_kept xs)) (w.text reports ∙ append-nil (whole_text (packer_in_state s)))
   text_all (flushed result ∷ xs) s s' (mid, (f, same), rest) =
-      text_all xs mid s' rest ∙ ap (λ t. t ++ taken_stream format (kept_counts xs)) (f.text reports)
+      text_all xs mid s' rest ∙ ap (λ t. t ++ taken_stream format (counts_of_kept xs)) (f.text reports)
 
   -- The packets that were there before come first.
-  pub extends_all : (xs : List Sending) (s s' : PackedState) → SendsAll kind format s xs s' → Extends s.history s'.history
+  pub extends_all : (xs : List Sending) (s s' : PackedState) → AllMovePacker kind format s xs s' → Extends s.history s'.history
   extends_all [] s s' same = ([], ap (λ t. t.history.packets) same ∙ sym (append-nil s.history.packets))
   extends_all (wrote line result ∷ xs) s s' (mid, (w, counts), rest) =
       Extends-trans s.history mid.history s'.history (w.extends reports) (extends_all xs mid s' rest)
@@ -76,9 +76,9 @@ module _ (kind : WriterKind) (format : Format) (reports : kind.reports ≡ true)
     more_lines lines line = length-append lines (line ∷ [])
 
     -- All that was given keeps the cut.
-    pub cut_all : (xs : List Sending) (marks refusals : List ℕ) (lines : List (List ℕ)) (s s' : PackedState) → SendsAll kind format s xs s'
-        → AreFilled (kept_counts xs) → length lines + length (kept_counts xs) < 2 ^ 64 → CutAfter marks refusals lines s
-        → CutAfter (marks ++ marks_from (length lines) xs) (refusals ++ refusals_from (length lines) xs) (lines ++ texts_in (kept_counts xs)) s'
+    pub cut_all : (xs : List Sending) (marks refusals : List ℕ) (lines : List (List ℕ)) (s s' : PackedState) → AllMovePacker kind format s xs s'
+        → AreFilled (counts_of_kept xs) → length lines + length (counts_of_kept xs) < 2 ^ 64 → CutAfter marks refusals lines s
+        → CutAfter (marks ++ marks_from (length lines) xs) (refusals ++ refusals_from (length lines) xs) (lines ++ texts_in (counts_of_kept xs)) s'
     cut_all [] marks refusals lines s s' same filled short a =
         along _ _ _ _ _ _ _ _ (sym (append-nil marks)) (sym (append-nil refusals)) (sym (append-nil lines)) (sym same) a
     cut_all (wrote line (Ok n) ∷ xs) marks refusals lines s s' (mid, (w, counts), rest) (some, filled) short a =
@@ -90,7 +90,7 @@ module _ (kind : WriterKind) (format : Format) (reports : kind.reports ≡ true)
         let next : CutAfter marks refusals (lines ++ line ∷ []) mid =
         record { packets = packets'; groups = groups'; since = since'; plan_is = plan'; cut = cut' } in
         along _ _ _ _ _ _ _ _ (ap (λ k. marks ++ marks_from k xs) (more_lines lines line)) (ap (λ k. refusals ++ refusals_from k xs) (more_lines lines line))
-        (append_assoc lines (line ∷ []) (texts_in (kept_counts xs))) refl
+        (append_assoc lines (line ∷ []) (texts_in (counts_of_kept xs))) refl
         (cut_all xs marks refusals (lines ++ line ∷ []) mid s' rest filled (omega (arith, more_lines lines line)) next)
     cut_all (wrote line (Err e) ∷ xs) marks refusals lines s s' (mid, (w, counts), rest) filled short a =
         let (packets', since', way) =

@@ -17,7 +17,7 @@ use Rattle.cadence_schedule.specs.RunHistory.{Turn, accepted, accepted_by, drops
 use Rattle.cadence_schedule.specs.declared.steps.Step.TheVariants as step
 use Rattle.cadence_schedule.specs.declared.steps.Reply.TheVariants as reply
 use Rattle.cadence_settings.specs.declared.call.Call.{Call}
-use Rattle.cadence_aggregated.specs.Steps.{Goes, QueueMoves, accepted_in, any_writer, nothing}
+use Rattle.cadence_aggregated.specs.Steps.{Goes, QueueMoves, accepted_in_turn, any_writer, nothing}
 
 same_queue : (s s' : RunState) → s' ≡ s → SameQueue s s'
 same_queue s s' e = record {
@@ -54,7 +54,7 @@ module _ {A : Type 0} (line_of : Call A → Option (List ℕ)) (format : Format)
   -- a turn that hands on no line
   leaves : (h : List (Turn A)) (t : Turn A) (s s' : RunState) (lines : List (List ℕ)) → Queued h s lines
       → MayReply line_of any_writer.may_give any_writer.takes_whole format queue policy h t → QueueAfter line_of queue (h ++ t ∷ []) s'
-      → outcome_by t ≡ [] → accepted_in t s.in_hand ≡ [] → Queued (h ++ t ∷ []) s' (lines ++ accepted_in t s.in_hand)
+      → outcome_by t ≡ [] → accepted_in_turn t s.in_hand ≡ [] → Queued (h ++ t ∷ []) s' (lines ++ accepted_in_turn t s.in_hand)
   leaves h t s s' lines a reply line b none = record {
     replies = replies-push line_of any_writer.may_give any_writer.takes_whole format queue policy h t a.replies reply;
     line = line;
@@ -66,14 +66,14 @@ module _ {A : Type 0} (line_of : Call A → Option (List ℕ)) (format : Format)
   only_answers : (h : List (Turn A)) (t : Turn A) (s s' : RunState) (lines : List (List ℕ)) → s' ≡ s → Queued h s lines
       → MayReply line_of any_writer.may_give any_writer.takes_whole format queue policy h t
       → accepted_by line_of t ≡ [] → takes_text t ≡ false → drops_text t ≡ false → outcome_by t ≡ [] → stops t ≡ false
-      → accepted_in t s.in_hand ≡ [] → Queued (h ++ t ∷ []) s' (lines ++ accepted_in t s.in_hand)
+      → accepted_in_turn t s.in_hand ≡ [] → Queued (h ++ t ∷ []) s' (lines ++ accepted_in_turn t s.in_hand)
   only_answers h t s s' lines same a reply x k d b z none =
       leaves h t s s' lines a reply
       (quiet line_of queue h t s s' (same_queue s s' same) (ap (λ y. y.in_hand) same) x k d b z a.line) b none
 
   -- Each turn keeps it.
   queued_turn : (h : List (Turn A)) (old : RunState) (t : Turn A) (new : RunState) (lines : List (List ℕ)) → Queued h old lines
-      → QueueMoves line_of queue policy old t new → Queued (h ++ t ∷ []) new (lines ++ accepted_in t old.in_hand)
+      → QueueMoves line_of queue policy old t new → Queued (h ++ t ∷ []) new (lines ++ accepted_in_turn t old.in_hand)
   queued_turn h old (step.Call call, reply.Called (Err e)) new lines a (answer, same) =
       only_answers h (step.Call call, reply.Called (Err e)) old new lines same a
       (call_reply line_of any_writer format queue policy h old a.line call (reply.Called (Err e)) answer) refl refl refl refl refl refl
@@ -116,14 +116,14 @@ module _ {A : Type 0} (line_of : Call A → Option (List ℕ)) (format : Format)
   queued_turn h old (step.Hand, reply.Handed (Ok n)) new lines a (line, some, count, same) =
       let (next, text) = full_hand line_of queue h old line a.line some in
       let more : kept_counts line_of (h ++ (step.Hand, reply.Handed (Ok n)) ∷ []) ≡ kept_counts line_of h ++ (line, n) ∷ [] = counts_more line_of h n line text in
-      subst (λ s. Queued (h ++ (step.Hand, reply.Handed (Ok n)) ∷ []) s (lines ++ accepted_in {A = A} (step.Hand, reply.Handed (Ok n)) old.in_hand)) (sym same)
+      subst (λ s. Queued (h ++ (step.Hand, reply.Handed (Ok n)) ∷ []) s (lines ++ accepted_in_turn {A = A} (step.Hand, reply.Handed (Ok n)) old.in_hand)) (sym same)
       (record {
         replies = replies-push line_of any_writer.may_give any_writer.takes_whole format queue policy h (step.Hand, reply.Handed (Ok n)) a.replies
             (hand_reply line_of any_writer format queue policy h old (Some line) (reply.Handed (Ok n)) a.line some
             (inl (n, record { within = omega (arith, count); fits = λ small. count; whole = λ whole. count }, refl)));
         line = queue_hand line_of queue h (step.Hand, reply.Handed (Ok n)) (Some n) line old (record old { in_hand = None })
             (record { waiting = refl; stopped = refl; submitted = refl; drained = refl; dropped = refl }) refl refl refl refl refl refl a.line some;
-        kept_is = ap (λ o. lines ++ accepted_in {A = A} (step.Hand, reply.Handed (Ok n)) o) some ∙ ap (λ ls. ls ++ line ∷ []) a.kept_is
+        kept_is = ap (λ o. lines ++ accepted_in_turn {A = A} (step.Hand, reply.Handed (Ok n)) o) some ∙ ap (λ ls. ls ++ line ∷ []) a.kept_is
             ∙ sym (ap (map (λ (k : List ℕ × ℕ). k.0)) more ∙ map-append (λ (k : List ℕ × ℕ). k.0) (kept_counts line_of h) ((line, n) ∷ []));
       })
   queued_turn h old (step.Hand, reply.Handed (Err e)) new lines a (line, some, count, same) =
@@ -153,9 +153,9 @@ module _ {A : Type 0} (line_of : Call A → Option (List ℕ)) (format : Format)
       (subst (λ h. Queued h new lines) (sym (append-nil before)) (subst (λ s. Queued before s lines) (sym same) a)))
   queued_all before (t ∷ turns) old new lines more a (mid, rest, are, first, later) =
       subst (λ ls. Queued (before ++ t ∷ turns) new (lines ++ ls)) (sym are)
-      (subst (λ ls. Queued (before ++ t ∷ turns) new ls) (append_assoc lines (accepted_in t old.in_hand) rest)
-      (subst (λ h. Queued h new ((lines ++ accepted_in t old.in_hand) ++ rest)) (append_assoc before (t ∷ []) turns)
-      (queued_all (before ++ t ∷ []) turns mid new (lines ++ accepted_in t old.in_hand) rest (queued_turn before old t mid lines a first) later)))
+      (subst (λ ls. Queued (before ++ t ∷ turns) new ls) (append_assoc lines (accepted_in_turn t old.in_hand) rest)
+      (subst (λ h. Queued h new ((lines ++ accepted_in_turn t old.in_hand) ++ rest)) (append_assoc before (t ∷ []) turns)
+      (queued_all (before ++ t ∷ []) turns mid new (lines ++ accepted_in_turn t old.in_hand) rest (queued_turn before old t mid lines a first) later)))
 
   pub queued_none : Queued [] (at_start nothing) []
   queued_none = record { replies = tt; line = queue_none line_of queue nothing; kept_is = refl }

@@ -9,8 +9,8 @@ use Rattle.cadence_schedule.specs.Replies.{MayFail}
 use Rattle.cadence_schedule.specs.RunHistory.{Turn}
 use Rattle.cadence_schedule.specs.declared.steps.Step.TheVariants as step
 use Rattle.cadence_schedule.specs.declared.steps.Reply.TheVariants as reply
-use Rattle.cadence_aggregated.specs.Asked.{AskAll, Asks, FailsBy, Writes, WritesThen}
-use Rattle.cadence_aggregated.specs.PackedRuns.{PackedState, SendsAll}
+use Rattle.cadence_aggregated.specs.Asked.{AskAll, Asks, FailsBy, WritesLines, WritesThen}
+use Rattle.cadence_aggregated.specs.PackedRuns.{PackedState, AllMovePacker}
 use Rattle.cadence_aggregated.specs.Sendings.{Sending, wrote, flushed, errors_of, refusals_from}
 
 module _ (kind : WriterKind) where
@@ -32,7 +32,7 @@ module _ (kind : WriterKind) where
   one_more old mid new n more e f g = omega arith
 
   module _ (format : Format) where
-    pub causes_all : (xs : List Sending) (s s' : PackedState) → SendsAll kind format s xs s'
+    pub causes_all : (xs : List Sending) (s s' : PackedState) → AllMovePacker kind format s xs s'
         → AllByRecursion (MayFail kind.may_give kind.takes_whole) (errors_of xs)
     causes_all [] s s' same = tt
     causes_all (wrote line (Ok n) ∷ xs) s s' (mid, (w, counts), rest) = causes_all xs mid s' rest
@@ -41,7 +41,7 @@ module _ (kind : WriterKind) where
     causes_all (flushed (Ok done) ∷ xs) s s' (mid, (f, same), rest) = causes_all xs mid s' rest
     causes_all (flushed (Err e) ∷ xs) s s' (mid, (f, same), rest) = (may_fail s.history mid.history _ _ e f.cause, causes_all xs mid s' rest)
 
-    pub refused_all : kind.takes_whole ≡ true → (xs : List Sending) (s s' : PackedState) → SendsAll kind format s xs s'
+    pub refused_all : kind.takes_whole ≡ true → (xs : List Sending) (s s' : PackedState) → AllMovePacker kind format s xs s'
         → s'.history.refusals % 2 ^ 64 ≡ (s.history.refusals + length (errors_of xs)) % 2 ^ 64
     refused_all whole [] s s' same = none_more s.history.refusals s'.history.refusals s'.history.refusals 0 (ap (λ t. t.history.refusals) same) (omega arith)
     refused_all whole (wrote line (Ok n) ∷ xs) s s' (mid, (w, counts), rest) =
@@ -70,13 +70,13 @@ more_errors (wrote line (Err e) ∷ xs) ys = omega (arith, more_errors xs ys)
 more_errors (flushed (Ok done) ∷ xs) ys = more_errors xs ys
 more_errors (flushed (Err e) ∷ xs) ys = omega (arith, more_errors xs ys)
 
-no_error : (asked : List Sending) → Writes asked None → length (errors_of asked) ≡ 0
+no_error : (asked : List Sending) → WritesLines asked None → length (errors_of asked) ≡ 0
 no_error [] w = refl
 no_error (wrote line (Ok n) ∷ xs) w = no_error xs w
 no_error (wrote line (Err e) ∷ xs) (ends, w) = absurd (let bad : ◌≡◌ {A = Option SinkError} None (Some e) = w in cc)
 no_error (flushed result ∷ xs) w = absurd w
 
-one_error : (asked : List Sending) (error : Option SinkError) → Writes asked error → length (errors_of asked) ≤ 1
+one_error : (asked : List Sending) (error : Option SinkError) → WritesLines asked error → length (errors_of asked) ≤ 1
 one_error [] error w = zero-le
 one_error (wrote line (Ok n) ∷ xs) error w = one_error xs error w
 one_error (wrote line (Err e) ∷ xs) error (ends, w) = omega (arith, ap (λ ys. length (errors_of ys)) ends)

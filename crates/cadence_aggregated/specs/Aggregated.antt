@@ -13,12 +13,12 @@ use Rattle.cadence_schedule.specs.Plan.{groups_of, IsTight, IsFewest, NoGroupHas
 use Rattle.cadence_schedule.specs.Replies.{MayFail}
 use Rattle.cadence_schedule.specs.Report.{Outcome}
 use Rattle.cadence_aggregated.specs.Asked.{AskAll}
-use Rattle.cadence_aggregated.specs.Sendings.{Sending, errors_of, kept_counts, marks_from, refusals_from}
+use Rattle.cadence_aggregated.specs.Sendings.{Sending, errors_of, counts_of_kept, marks_from, refusals_from}
 use Rattle.cadence_aggregated.specs.declared.report.AggregatedReport.{AggregatedReport}
 
 -- the outcome that a report shows
-abbrev pub outcome_of : {W A : Type 0} → AggregatedReport W A → Outcome W A
-outcome_of report = record {
+abbrev pub outcome_shown : {W A : Type 0} → AggregatedReport W A → Outcome W A
+outcome_shown report = record {
   replies = report.replies.items;
   cut = report.cut.items;
   held = report.held.items;
@@ -29,8 +29,8 @@ outcome_of report = record {
 }
 
 -- what is said by the lines that the aggregator of a report holds
-abbrev pub held_by : {W A : Type 0} → AggregatedReport W A → List Sample
-held_by report = held report.aggregator
+abbrev pub held_in_report : {W A : Type 0} → AggregatedReport W A → List Sample
+held_in_report report = held report.aggregator
 
 -- This is what a run is given, but with the answers of an aggregator in place of those of its writer: each line in hand
 -- is taken whole or refused with any error.
@@ -41,7 +41,7 @@ with_aggregator given = record given {
 
 -- the lines that a packer kept of what it was given
 abbrev pub lines_in : List Sending → List (List ℕ)
-lines_in all = texts_in (kept_counts all)
+lines_in all = texts_in (counts_of_kept all)
 
 module _ {W A : Type 0} (history : W → PacketHistory) (given : Given A) (outcome : Outcome W A) where
   -- What the headline says of the kept lines is so of the lines that the aggregator handed on and the packer kept.
@@ -66,7 +66,7 @@ module _ {W A : Type 0} (history : W → PacketHistory) (given : Given A) (outco
         → (after_of history given outcome).refusals % 2 ^ 64 ≡ (given.before.refusals + length (errors_of all)) % 2 ^ 64
     -- of an oversize line, its first bytes that were counted, also over a writer with short counts
     pub taken : given.kind.reports ≡ true
-        → concat (packets_of history given outcome) ++ outcome.held ≡ taken_stream given.format (kept_counts all)
+        → concat (packets_of history given outcome) ++ outcome.held ≡ taken_stream given.format (counts_of_kept all)
     pub earlier : given.kind.reports ≡ true → Extends given.before (after_of history given outcome)
     pub stats : given.kind.reports ≡ true → AreSumsBetween given.before (after_of history given outcome) outcome.stats
     pub within : length outcome.held ≤ given.format.capacity

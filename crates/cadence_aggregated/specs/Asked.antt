@@ -9,25 +9,25 @@ use Rattle.cadence_aggregated.specs.Sendings.{Sending, wrote, flushed}
 
 -- The packer was asked to write lines and kept each, except the last one if there is an error: it refused that one with
 -- this error.
-abbrev pub Writes : List Sending → Option SinkError → Type 0
-Writes [] error = error ≡ None
-Writes (wrote line (Ok n) ∷ xs) error = Writes xs error
-Writes (wrote line (Err e) ∷ xs) error = (xs ≡ []) × (error ≡ Some e)
-Writes (flushed result ∷ xs) error = ⊥
+abbrev pub WritesLines : List Sending → Option SinkError → Type 0
+WritesLines [] error = error ≡ None
+WritesLines (wrote line (Ok n) ∷ xs) error = WritesLines xs error
+WritesLines (wrote line (Err e) ∷ xs) error = (xs ≡ []) × (error ≡ Some e)
+WritesLines (flushed result ∷ xs) error = ⊥
 
 -- The packer was asked to write lines and kept each, and then it was flushed with this answer.
 abbrev pub WritesThen : List Sending → Sending → Type 0
-WritesThen asked last = (lines : List Sending) × Writes lines None × (asked ≡ lines ++ last ∷ [])
+WritesThen asked last = (lines : List Sending) × WritesLines lines None × (asked ≡ lines ++ last ∷ [])
 
 -- The last line was refused with this error, or memory ran out before a line was written.
 abbrev pub FailsBy : List Sending → SinkError → Type 0
-FailsBy asked e = Writes asked (Some e) ⊎ (Writes asked None × (e ≡ OutOfMemory))
+FailsBy asked e = WritesLines asked (Some e) ⊎ (WritesLines asked None × (e ≡ OutOfMemory))
 
 module _ {A : Type 0} where
   -- A hand wrote lines. A flush wrote lines, and then flushed the packer. If one failed, the last thing that it asked was
   -- refused with its error, or memory ran out. Other steps asked nothing.
   abbrev pub Asks : Turn A → List Sending → Type 0
-  Asks (step.Hand, reply.Handed (Ok n)) asked = Writes asked None
+  Asks (step.Hand, reply.Handed (Ok n)) asked = WritesLines asked None
   Asks (step.Hand, reply.Handed (Err e)) asked = FailsBy asked e
   Asks (step.Flush, reply.Flushed (Ok done)) asked = WritesThen asked (flushed (Ok done))
   Asks (step.Flush, reply.Flushed (Err e)) asked = FailsBy asked e ⊎ WritesThen asked (flushed (Err e))

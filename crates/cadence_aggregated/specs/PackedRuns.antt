@@ -17,8 +17,8 @@ pub record PackedState : Type 0 where
   pub held : List ℕ
 
 -- the packer in it
-abbrev pub packer_of : PackedState → PackerState
-packer_of s = record { history = s.history; held = s.held }
+abbrev pub packer_in_state : PackedState → PackerState
+packer_in_state s = record { history = s.history; held = s.held }
 
 -- the state of a packing, if this is how a writer shows its history
 abbrev pub packed_state : {P A : Type 0} → (P → PacketHistory) → Packing P A → PackedState
@@ -26,19 +26,19 @@ packed_state history p =
     record { cut = p.cut.items; history = history p.packer.writer; held = p.packer.held }
 
 -- The kind of the writer and the format of the packer are the same.
-pub record Keeps {P A : Type 0} (kind : P → WriterKind) (old new : Packing P A) : Type 0 where
+pub record KeepsKindAndFormat {P A : Type 0} (kind : P → WriterKind) (old new : Packing P A) : Type 0 where
   pub same_kind : kind new.packer.writer ≡ kind old.packer.writer
   pub same_format : new.packer.format ≡ old.packer.format
 
 -- by the writer's kind, and the packer's capacity and ending
 module _ (kind : WriterKind) (format : Format) where
   -- What the packer was given, with this answer, leads from the old state to the new one.
-  abbrev pub Sends : PackedState → Sending → PackedState → Type 0
-  Sends old (wrote line result) new =
-      Writes kind format (packer_of old) (packer_of new) line result × CountsLine format old.held line result old.cut new.cut
-  Sends old (flushed result) new = Flushes kind (packer_of old) (packer_of new) result × (new.cut ≡ old.cut)
+  abbrev pub MovesPacker : PackedState → Sending → PackedState → Type 0
+  MovesPacker old (wrote line result) new =
+      Writes kind format (packer_in_state old) (packer_in_state new) line result × CountsLine format old.held line result old.cut new.cut
+  MovesPacker old (flushed result) new = Flushes kind (packer_in_state old) (packer_in_state new) result × (new.cut ≡ old.cut)
 
   -- All of it, in order, leads from the old state to the new one.
-  abbrev pub SendsAll : PackedState → List Sending → PackedState → Type 0
-  SendsAll old [] new = new ≡ old
-  SendsAll old (sending ∷ xs) new = (mid : PackedState) × Sends old sending mid × SendsAll mid xs new
+  abbrev pub AllMovePacker : PackedState → List Sending → PackedState → Type 0
+  AllMovePacker old [] new = new ≡ old
+  AllMovePacker old (sending ∷ xs) new = (mid : PackedState) × MovesPacker old sending mid × AllMovePacker mid xs new

@@ -7,8 +7,8 @@ use Rattle.cadence_aggregated.specs.declared.counting.CountingWriter.{CountingWr
 use Rattle.cadence_aggregated.specs.declared.running.Running.{Running}
 
 -- the outcome of a run, from its last state and its replies
-abbrev pub outcome_after : {W A : Type 0} → Running (CountingWriter W) A → Vec Reply A → Outcome W A
-outcome_after run replies = record {
+abbrev pub outcome_of_running : {W A : Type 0} → Running (CountingWriter W) A → Vec Reply A → Outcome W A
+outcome_of_running run replies = record {
   replies = replies.items;
   cut = run.sums.sink.packing.cut.items;
   held = run.sums.sink.packing.packer.held;

@@ -8,11 +8,11 @@ pub data Sending : Type 0 where
   flushed : Result (Unit {0}) SinkError → Sending
 
 -- the kept lines: those that were answered with Ok, in order, each with the count in that answer
-abbrev pub kept_counts : List Sending → List (List ℕ × ℕ)
-kept_counts [] = []
-kept_counts (wrote line (Ok n) ∷ xs) = (line, n) ∷ kept_counts xs
-kept_counts (wrote line (Err e) ∷ xs) = kept_counts xs
-kept_counts (flushed result ∷ xs) = kept_counts xs
+abbrev pub counts_of_kept : List Sending → List (List ℕ × ℕ)
+counts_of_kept [] = []
+counts_of_kept (wrote line (Ok n) ∷ xs) = (line, n) ∷ counts_of_kept xs
+counts_of_kept (wrote line (Err e) ∷ xs) = counts_of_kept xs
+counts_of_kept (flushed result ∷ xs) = counts_of_kept xs
 
 -- the marks, if this many lines were kept before: how many lines were kept before each flush that was answered with Ok
 abbrev pub marks_from : ℕ → List Sending → List ℕ

@@ -9,7 +9,7 @@ use Rattle.cadence_queue.specs.declared.policy.QueuePolicy.{QueuePolicy}
 use Rattle.cadence_schedule.specs.RunHistory.{Turn}
 use Rattle.cadence_settings.specs.declared.call.Call.{Call}
 use Rattle.cadence_aggregated.specs.Asked.{AskAll}
-use Rattle.cadence_aggregated.specs.Leads.{Packs, sent_by}
+use Rattle.cadence_aggregated.specs.Leads.{SinkPacks, sent_by}
 use Rattle.cadence_aggregated.specs.Sendings.{Sending}
 use Rattle.cadence_aggregated.specs.Steps.{Goes, queue_state}
 use Rattle.cadence_aggregated.specs.declared.running.Running.{Running}
@@ -32,7 +32,7 @@ module _ {P A : Type 0} (kind : P → WriterKind) (history : P → PacketHistory
     pub goes : Goes line_of first.queue.capacity first.queue.policy (queue_state first) turns accepted (queue_state run)
     pub all : List Sending
     pub asked : AskAll turns all
-    pub packs : Packs kind history first.sums.sink run.sums.sink all
+    pub packs : SinkPacks kind history first.sums.sink run.sums.sink all
     pub past : SumsUp accepted (sent_by run.sums.sink) (held run.sums.aggregator)
     pub same_queue : run.queue.capacity ≡ first.queue.capacity
     pub same_policy : run.queue.policy ≡ first.queue.policy

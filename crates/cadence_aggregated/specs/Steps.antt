@@ -15,7 +15,7 @@ use Rattle.cadence_schedule.specs.RunHistory.{Turn}
 use Rattle.cadence_schedule.specs.declared.steps.Step.TheVariants as step
 use Rattle.cadence_schedule.specs.declared.steps.Reply.TheVariants as reply
 use Rattle.cadence_aggregated.specs.Asked.{Asks}
-use Rattle.cadence_aggregated.specs.Leads.{Packs, sent_by}
+use Rattle.cadence_aggregated.specs.Leads.{SinkPacks, sent_by}
 use Rattle.cadence_aggregated.specs.Sendings.{Sending}
 use Rattle.cadence_aggregated.specs.declared.running.Running.{Running}
 use Rattle.cadence_aggregated.specs.declared.sums.Sums.{Sums}
@@ -33,9 +33,9 @@ abbrev pub any_writer : WriterKind
 any_writer = record { may_give = λ e. true; reports = true; takes_whole = true; start = zero_sums }
 
 -- the line in hand, if it was accepted in this turn
-abbrev pub accepted_in : {A : Type 0} → Turn A → Option (List ℕ) → List (List ℕ)
-accepted_in (step.Hand, reply.Handed (Ok n)) (Some line) = line ∷ []
-accepted_in turn hand = []
+abbrev pub accepted_in_turn : {A : Type 0} → Turn A → Option (List ℕ) → List (List ℕ)
+accepted_in_turn (step.Hand, reply.Handed (Ok n)) (Some line) = line ∷ []
+accepted_in_turn turn hand = []
 
 -- by the line of each call, and the queue's capacity and policy
 module _ {A : Type 0} (line_of : Call A → Option (List ℕ)) (queue : Option ℕ) (policy : QueuePolicy) where
@@ -51,7 +51,7 @@ module _ {A : Type 0} (line_of : Call A → Option (List ℕ)) (queue : Option �
   abbrev pub Goes : RunState → List (Turn A) → List (List ℕ) → RunState → Type 0
   Goes old [] lines new = (lines ≡ []) × (new ≡ old)
   Goes old (turn ∷ turns) lines new =
-      (mid : RunState) × (rest : List (List ℕ)) × (lines ≡ accepted_in turn old.in_hand ++ rest) × QueueMoves old turn mid × Goes mid turns rest new
+      (mid : RunState) × (rest : List (List ℕ)) × (lines ≡ accepted_in_turn turn old.in_hand ++ rest) × QueueMoves old turn mid × Goes mid turns rest new
 
 module _ {P A : Type 0} where
   -- the line in hand
@@ -84,9 +84,9 @@ module _ {P A : Type 0} where
       -- what the packer was asked
       pub asked : List Sending
       pub asks : Asks turn asked
-      pub packs : Packs kind history old.sink new.sink asked
+      pub packs : SinkPacks kind history old.sink new.sink asked
       -- what the accepted line says, if there is one
       pub said : List Sample
-      pub says : AllZip LineSays (accepted_in turn hand) said
+      pub says : AllZip LineSays (accepted_in_turn turn hand) said
       -- What was sent and what is held are a summary of what they were before, with what was said.
       pub summary : IsSummary ((sent_by old.sink ++ held old.aggregator) ++ said) (sent_by new.sink ++ held new.aggregator)

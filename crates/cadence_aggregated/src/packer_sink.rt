@@ -70,14 +70,14 @@ impl<P: PacketWriter, A: Allocator> PackerSink<P, A> {
 }
 
 impl<P: PacketWriter, A: Allocator> LineSink for PackerSink<P, A> {
-    ghost use Rattle.cadence_aggregated.specs.Leads.{Leads, refusals_of, sent_by};
+    ghost use Rattle.cadence_aggregated.specs.Leads.{LeadsSink, refused_count, sent_by};
     ghost use Rattle.cadence_aggregated.specs.Led.{leads_joined, leads_none};
 
     ghost sent = { λ s. sent_by s };
 
-    ghost refusals = { λ s. refusals_of s.refused };
+    ghost refusals = { λ s. refused_count s.refused };
 
-    ghost leads = { λ a b. Leads P.kind P.history a b };
+    ghost leads = { λ a b. LeadsSink P.kind P.history a b };
 
     fn send(&mut self, line: Line<'_>) -> Result<(), Fault> {
         if self.refused.is_some() {

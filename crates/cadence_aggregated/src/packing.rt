@@ -29,7 +29,7 @@ fn count_line<A: Allocator>(cut: &mut Vec<usize, A>, joins: bool)
 impl<P: PacketWriter, A: Allocator> Packing<P, A> {
     ghost use Rattle.std.specs.Prelude.{◌≡◌, ◌<◌, IfOk, OnErr, vec_len, vec_capacity};
     ghost use Rattle.cadence_schedule.specs.Moves.{joins_held};
-    ghost use Rattle.cadence_aggregated.specs.PackedRuns.{Keeps, Sends, packed_state};
+    ghost use Rattle.cadence_aggregated.specs.PackedRuns.{KeepsKindAndFormat, MovesPacker, packed_state};
     ghost use Rattle.cadence_aggregated.specs.Sendings.{flushed, wrote};
 
     // Returns whether the packer holds text that has room for this line and its ending.
@@ -42,8 +42,8 @@ impl<P: PacketWriter, A: Allocator> Packing<P, A> {
     // Writes a line, and counts it if it was kept.
     fn write_counted(&mut self, line: &str) -> Result<usize, SinkError>
         requires { vec_len self.old.cut < vec_capacity self.old.cut }
-        ensures keeps { Keeps P.kind self.old self.new }
-        ensures sends { Sends (P.kind self.old.packer.writer) self.old.packer.format
+        ensures keeps { KeepsKindAndFormat P.kind self.old self.new }
+        ensures sends { MovesPacker (P.kind self.old.packer.writer) self.old.packer.format
             (packed_state P.history self.old) (wrote line.now result)
             (packed_state P.history self.new) }
     {
@@ -61,9 +61,9 @@ impl<P: PacketWriter, A: Allocator> Packing<P, A> {
     // Writes a line, and counts it if it was kept. The only error is that there is no memory to count it, and then
     // nothing was written.
     pub(crate) fn write(&mut self, line: &str) -> Result<Result<usize, SinkError>, AllocError>
-        ensures keeps { Keeps P.kind self.old self.new }
+        ensures keeps { KeepsKindAndFormat P.kind self.old self.new }
         ensures sends { IfOk result (λ answer.
-            Sends (P.kind self.old.packer.writer) self.old.packer.format
+            MovesPacker (P.kind self.old.packer.writer) self.old.packer.format
             (packed_state P.history self.old) (wrote line.now answer)
             (packed_state P.history self.new)) }
         ensures unchanged { OnErr result
@@ -75,8 +75,8 @@ impl<P: PacketWriter, A: Allocator> Packing<P, A> {
 
     // Sends the held text.
     pub(crate) fn flush(&mut self) -> Result<(), SinkError>
-        ensures keeps { Keeps P.kind self.old self.new }
-        ensures sends { Sends (P.kind self.old.packer.writer) self.old.packer.format
+        ensures keeps { KeepsKindAndFormat P.kind self.old self.new }
+        ensures sends { MovesPacker (P.kind self.old.packer.writer) self.old.packer.format
             (packed_state P.history self.old) (flushed result)
             (packed_state P.history self.new) }
     {

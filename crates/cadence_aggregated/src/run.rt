@@ -5,9 +5,9 @@ ghost use Rattle.cadence_aggregate.specs.Aggregate.{held};
 ghost use Rattle.cadence_queue.specs.Queue.{new_queue};
 ghost use Rattle.cadence_schedule.specs.Headline.{given_of};
 ghost use Rattle.cadence_settings.specs.CallData.{line_of_data};
-ghost use Rattle.cadence_aggregated.specs.Aggregated.{HasAggregated, held_by, outcome_of};
+ghost use Rattle.cadence_aggregated.specs.Aggregated.{HasAggregated, held_in_report, outcome_shown};
 ghost use Rattle.cadence_aggregated.specs.Leads.{sent_by};
-ghost use Rattle.cadence_aggregated.specs.RunOutcome.{outcome_after};
+ghost use Rattle.cadence_aggregated.specs.RunOutcome.{outcome_of_running};
 ghost use Rattle.cadence_aggregated.specs.Sendings.{Sending};
 ghost use Rattle.cadence_aggregated.specs.SoFar.{SoFar, Starts};
 
@@ -119,12 +119,12 @@ fn report_of<W: PacketWriter, A: Allocator>(
     running: Running<CountingWriter<W>, A>,
     replies: Vec<Reply, A>,
 ) -> AggregatedReport<W, A>
-    ensures outcome { outcome_of result ≡ outcome_after running replies }
+    ensures outcome { outcome_shown result ≡ outcome_of_running running replies }
     ensures aggregator { result.aggregator ≡ running.sums.aggregator }
-    ensures held { length (outcome_of result).held
+    ensures held { length (outcome_shown result).held
         ≤ running.sums.sink.packing.packer.format.capacity }
-    ensures bytes_sent { (outcome_of result).stats.bytes_sent < 2 ^ 64 }
-    ensures packets_sent { (outcome_of result).stats.packets_sent < 2 ^ 64 }
+    ensures bytes_sent { (outcome_shown result).stats.bytes_sent < 2 ^ 64 }
+    ensures packets_sent { (outcome_shown result).stats.packets_sent < 2 ^ 64 }
 {
     let Running {
         queue,
@@ -177,7 +177,7 @@ pub fn run_schedule_aggregated<W: PacketWriter, A: Allocator + Clone>(
     ensures headline { let given =
         given_of W.kind W.history settings.now capacity ending.now queue policy steps.now writer in
         IfOk result (λ report. (all : List Sending)
-        × HasAggregated W.history given (outcome_of report) (held_by report) all) }
+        × HasAggregated W.history given (outcome_shown report) (held_in_report report) all) }
     ensures returned { IfErr result (λ back. back ≡ writer) }
 {
     // Laws, which only the proof needs. The calls compile to no code.

@@ -50,7 +50,7 @@ impl<P: PacketWriter, A: Allocator> Sums<P, A> {
     ghost use Rattle.cadence_aggregating.specs.Says.{LineSays};
     ghost use Rattle.cadence_schedule.specs.declared.steps.Reply.TheVariants as reply;
     ghost use Rattle.cadence_schedule.specs.declared.steps.Step.TheVariants as step;
-    ghost use Rattle.cadence_aggregated.specs.Leads.{Leads, refusals_of, sent_by};
+    ghost use Rattle.cadence_aggregated.specs.Leads.{LeadsSink, refused_count, sent_by};
     ghost use Rattle.cadence_aggregated.specs.Steps.{SumsTurn};
 
     // Puts an aggregator that holds nothing before the packer.
@@ -81,9 +81,9 @@ impl<P: PacketWriter, A: Allocator> Sums<P, A> {
         ensures err { OnErr result (IsSummary
             (sent_by self.old.sink ++ held self.old.aggregator)
             (sent_by self.new.sink ++ held self.new.aggregator)) }
-        ensures refused { refusals_of self.new.sink.refused
-            ≡ after_reply (refusals_of self.old.sink.refused) result }
-        ensures leads { Leads P.kind P.history self.old.sink self.new.sink }
+        ensures refused { refused_count self.new.sink.refused
+            ≡ after_reply (refused_count self.old.sink.refused) result }
+        ensures leads { LeadsSink P.kind P.history self.old.sink self.new.sink }
     {
         let said = read_said(self.alloc, line, &mut self.context)?;
         let is_held = self.limits.holds(&said, line.len());

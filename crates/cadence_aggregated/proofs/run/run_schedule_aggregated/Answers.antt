@@ -1,7 +1,7 @@
 use Rattle.std.proofs.Common.{◌<◌, ◌≤◌, ◌^◌, length, sym, subst}
 use Rattle.cadence_aggregate.specs.Aggregate.{held}
 use Rattle.cadence_schedule.specs.Headline.{given_of}
-use Rattle.cadence_aggregated.specs.Aggregated.{HasAggregated, outcome_of}
+use Rattle.cadence_aggregated.specs.Aggregated.{HasAggregated, outcome_shown}
 use Rattle.cadence_aggregated.specs.SoFar.{Starts}
 use Rattle.cadence_aggregated.proofs.Ended.{has_aggregated}
 use Rattle.cadence_aggregated.proofs.run.run_schedule_aggregated.Goals as goal
@@ -17,7 +17,7 @@ returns-in-Ok-clause-headline g c =
     let start = subst (λ w. Starts c.args.capacity c.args.ending.now c.args.queue c.args.policy w c.in-Ok.running) c.new-counting.ensures c.in-Ok.ensures.begun in
     let s = c.run_steps.ensures.so_far in (
       s.all,
-      subst (λ a. HasAggregated history_of given (outcome_of c.report_of.result) (held a) s.all) (sym ended.aggregator)
+      subst (λ a. HasAggregated history_of given (outcome_shown c.report_of.result) (held a) s.all) (sym ended.aggregator)
           (subst (λ o. HasAggregated history_of given o (held run.sums.aggregator) s.all) (sym ended.outcome)
           (has_aggregated kind_of history_of c.args.settings.now c.args.capacity c.args.ending.now c.args.queue c.args.policy c.args.steps.now c.args.writer
           c.no_line_is_empty.ensures c.tight_is_fewest.ensures c.in-Ok.running run c.run_steps.new.replies start s c.run_steps.ensures.one_each
