@@ -1,4 +1,4 @@
--- There is one way to cut a word into a number and a unit.
+-- There is one way to split a word into a number and a unit.
 use Rattle.std.proofs.Common.{◌≡◌, ℕ, ◌<◌, ◌≤◌, ◌*◌, ◌^◌, ◌-◌, Bool, List, [], ◌∷◌, ◌++◌, Option, Some, None, get_or, refl, sym}
 use Rattle.std.proofs.Common.{◌∙◌, ap, subst, ltb, true, arith, pos}
 use Rattle.std.specs.Prelude.{All}

@@ -84,7 +84,7 @@ raised_once text a b d e h free k plain = by_tails (tail_of text a d h) (tail_of
         let rests : rest ≡ rest' = cc in
         (same, n ∙ ap (signed_digits_value 10) rests ∙ sym m)
 
--- If the text after a mark says no exponent, the whole text has no exponent that is cut off at that mark.
+-- If the text after a mark says no exponent, the whole text has no exponent after that mark.
 pub exponent_none : (text front rest : List ℕ) (mark : ℕ) (b : List ℕ) (e : ℤ) → IsMark mark → text ≡ front ++ mark ∷ rest
     → AllByRecursion NoMark front → (IsNumeral 10 (without_leading_sign rest) × FitsSigned w32 (signed_digits_value 10 rest) → ⊥) → IsRaised text b e
     → AllByRecursion NoMark b → ⊥
@@ -128,7 +128,7 @@ dotted_once text w f v g (inl p) hw (inr (q, none)) hv = absurd (let (_, s) = cu
 dotted_once text w f v g (inr (p, none)) hw (inl q) hv = absurd (let (_, s) = cut_at 46 w v [] (46 ∷ g) hw hv tt refl (append-nil w ∙ sym p ∙ q) in cc)
 dotted_once text w f v g (inr (p, none)) hw (inr (q, empty)) hv = (sym p ∙ q, none ∙ sym empty)
 
--- The parts of a text that says a number are those into which it is cut.
+-- The parts of a text that says a number are those into which it is split.
 pub parts_once : (below : Bool) (text front w f : List ℕ) (e : ℤ) (n : Number) → IsRaised text front e → AllByRecursion NoMark front
     → IsDotted front w f → Lacks 46 w → SaysUnsigned below text n → IsOfDigits below w f e n
 parts_once below text front w f e n raised plain dotted lacks h =
@@ -150,22 +150,22 @@ number_once text a b h k =
     k.is
 
 -- If a text is split into no front and exponent, it says no number.
-pub none_cut : (below : Bool) (text : List ℕ) (b : Bor (List ℕ)) (n : Number)
+pub none_split : (below : Bool) (text : List ℕ) (b : Bor (List ℕ)) (n : Number)
     → ((r : Bor (List ℕ) × ℤ) → IsRaised text r.0.now r.1 × All NoMark r.0.now → ⊥) → SaysUnsigned below text n → ⊥
-none_cut below text b n none h =
+none_split below text b n none h =
     none (record b { now = h.front }, h.exponent) (
       h.raised,
       All-from_recursion NoMark h.front
           (front_plain h.front h.whole h.fraction h.dotted h.is.digits),
     )
 
--- The parts into which a text is cut say the number that the text says.
-pub found_cut : (below : Bool) (text front w f : List ℕ) (e : ℤ) (r : Option Number) → IsRaised text front e × All NoMark front
+-- The parts into which a text is split say the number that the text says.
+pub found_split : (below : Bool) (text front w f : List ℕ) (e : ℤ) (r : Option Number) → IsRaised text front e × All NoMark front
     → IsDotted front w f → All (λ b. b ≢ 46) w → Finds (λ n. IsDecimal n × IsOfDigits below w f e n) r
     → Finds (λ n. IsDecimal n × SaysUnsigned below text n) r
-found_cut below text front w f e (Some n) raised dotted lacks h =
+found_split below text front w f e (Some n) raised dotted lacks h =
     (h.0, record { front = front; whole = w; fraction = f; exponent = e; raised = raised.0; dotted = dotted; is = h.1 })
-found_cut below text front w f e None raised dotted lacks h = λ n k.
+found_split below text front w f e None raised dotted lacks h = λ n k.
     h n (
       k.0,
       parts_once below text front w f e n raised.0 (recursion_from_All NoMark front raised.1) dotted

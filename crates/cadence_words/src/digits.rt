@@ -43,7 +43,7 @@ struct Significant<'a> {
     zeros: u128,
 }
 
-// Cuts the zeros at the end off the digits before and after a dot.
+// Removes the zeros at the end of the digits before and after a dot.
 fn trim_both<'a>(whole: &'a [u8], fraction: &'a [u8]) -> Significant<'a>
     ensures { IsTrimmed whole.now fraction.now
         (result.whole.now ++ result.fraction.now) result.zeros }

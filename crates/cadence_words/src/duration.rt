@@ -47,7 +47,7 @@ fn read_unit(word: &[u8]) -> Option<Unit>
 }
 
 // Splits a word before the first byte that comes after the digits in ASCII, as all letters do.
-fn cut_unit(word: &[u8]) -> Option<(&[u8], &[u8])>
+fn split_unit(word: &[u8]) -> Option<(&[u8], &[u8])>
     ensures none { IfNone result (All (λ byte. byte ≤ 57) word.now) }
     ensures front { IfSome result (λ parts. All (λ byte. byte ≤ 57) parts.0.now) }
     ensures rest { IfSome result (λ parts. 57 < slice_index parts.1.now 0) }
@@ -74,7 +74,7 @@ fn nanos_of(number: Decimal, unit: Unit) -> Option<u128>
 fn read_nanos(word: &[u8]) -> Option<u128>
     ensures { Finds (λ nanos. IsTimeWord word.now nanos × (nanos < 2 ^ 128)) result }
 {
-    let (digits, unit) = cut_unit(word)?;
+    let (digits, unit) = split_unit(word)?;
     let unit = read_unit(unit)?;
     let number = read_bytes(digits)?;
     nanos_of(number, unit)

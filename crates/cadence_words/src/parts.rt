@@ -10,7 +10,7 @@ use cadence_value::bytes::split_once;
 use std::str;
 
 // Returns whether the text begins with a minus, and the text without a plus or a minus at its beginning.
-pub(crate) fn cut_sign(text: &[u8]) -> (bool, &[u8])
+pub(crate) fn split_sign(text: &[u8]) -> (bool, &[u8])
     ensures below { result.0 ≡ starts_with_minus text.now }
     ensures rest { result.1.now ≡ without_leading_sign text.now }
 {
@@ -30,7 +30,7 @@ struct Marked<'a> {
 }
 
 // Splits a text at its first mark of an exponent.
-fn cut_mark(text: &[u8]) -> Option<Marked<'_>>
+fn split_mark(text: &[u8]) -> Option<Marked<'_>>
     ensures none { IfNone result (All (λ b. (b ≢ 101) × (b ≢ 69)) text.now) }
     ensures front { IfSome result (λ m. All (λ b. (b ≢ 101) × (b ≢ 69)) m.front.now) }
     ensures mark { IfSome result (λ m. IsMark m.mark) }
@@ -55,11 +55,11 @@ fn read_exponent(text: &[u8]) -> Option<i32>
 }
 
 // Returns the text before the exponent, and the exponent, which is 0 if there is none.
-pub(crate) fn cut_exponent(text: &[u8]) -> Option<(&[u8], i32)>
+pub(crate) fn split_exponent(text: &[u8]) -> Option<(&[u8], i32)>
     ensures { Finds (λ r. IsRaised text.now r.0.now r.1
         × All (λ b. (b ≢ 101) × (b ≢ 69)) r.0.now) result }
 {
-    let Some(Marked { front, rest, .. }) = cut_mark(text) else {
+    let Some(Marked { front, rest, .. }) = split_mark(text) else {
         return Some((text, 0));
     };
     let exponent = read_exponent(rest)?;
@@ -67,7 +67,7 @@ pub(crate) fn cut_exponent(text: &[u8]) -> Option<(&[u8], i32)>
 }
 
 // Returns the texts before and after the first dot. Without a dot, the second is empty.
-pub(crate) fn cut_dot(text: &[u8]) -> (&[u8], &[u8])
+pub(crate) fn split_dot(text: &[u8]) -> (&[u8], &[u8])
     ensures dotted { IsDotted text.now result.0.now result.1.now }
     ensures front { All (λ b. b ≢ 46) result.0.now }
 {

@@ -3,16 +3,16 @@ ghost use Rattle.cadence_words.specs.Printed.{SaysDecimal};
 ghost use Rattle.cadence_value.specs.Finds.{Finds};
 
 use crate::digits::number_of;
-use crate::parts::{cut_dot, cut_exponent, cut_sign};
+use crate::parts::{split_dot, split_exponent, split_sign};
 use cadence_value::decimal::{Decimal, read_number};
 
 // Returns what `read_printed` returns. It reads each text from its parts.
 fn read_parts(text: &[u8]) -> Option<Decimal>
     ensures { Finds (SaysDecimal text.now) result }
 {
-    let (is_below, unsigned) = cut_sign(text);
-    let (front, exponent) = cut_exponent(unsigned)?;
-    let (whole, fraction) = cut_dot(front);
+    let (is_below, unsigned) = split_sign(text);
+    let (front, exponent) = split_exponent(unsigned)?;
+    let (whole, fraction) = split_dot(front);
     number_of(is_below, whole, fraction, exponent)
 }
 

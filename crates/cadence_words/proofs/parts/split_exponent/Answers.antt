@@ -1,6 +1,6 @@
 use Rattle.std.proofs.lemmas.List.Elements.{recursion_from_All}
 use Rattle.cadence_words.proofs.OneReading.{NoMark, exponent_none}
-use Rattle.cadence_words.proofs.parts.cut_exponent.Goals as goal
+use Rattle.cadence_words.proofs.parts.split_exponent.Goals as goal
 
 pub returns-in_err-exponent : goal.returns-in_err-exponent
 returns-in_err-exponent c =
