@@ -21,7 +21,8 @@ use std::alloc::Allocator;
 /// answers is short, and the metrics of the kept calls have no separators, then exactly these metrics are read, in
 /// order.
 ///
-/// # Errors `NotMetrics` if a packet or the held text is not the packet of any metrics, and `OutOfMemory`.
+/// # Errors
+/// `NotMetrics` if a packet or the held text is not the packet of any metrics, and `OutOfMemory`.
 pub fn run_and_read<A: Allocator + Clone>(
     alloc: A,
     settings: &ClientSettings<A>,

@@ -202,7 +202,8 @@ fn option_of<A: Allocator + Clone>(
 
 /// Reads a call from its words: the kind, the key, the value and any options.
 ///
-/// # Errors `Unreadable` if the words don't make a call, and `OutOfMemory`.
+/// # Errors
+/// `Unreadable` if the words don't make a call, and `OutOfMemory`.
 pub fn call_of<A: Allocator + Clone>(
     alloc: &A,
     words: &mut Words<'_>,

@@ -214,7 +214,8 @@ fn answer_of(word: &str) -> Result<Answer, LineError> {
 
 /// Reads a whole script.
 ///
-/// # Errors `Unusable`, with the number of the first line that can't be read, and `OutOfMemory`.
+/// # Errors
+/// `Unusable`, with the number of the first line that can't be read, and `OutOfMemory`.
 pub fn read_script<A: Allocator + Clone>(
     alloc: A,
     text: &str,
