@@ -18,7 +18,7 @@ fn read_parts(text: &[u8]) -> Option<Decimal>
 
 /// Returns the decimal number that a text says: digits with at most one dot, perhaps with a plus or a minus before them,
 /// and perhaps with an exponent after them, as in `.5`, `+1`, `-0.0` and `1.5e+06`. These are the finite numbers that
-/// the `f64` of Rust reads, but they are read exactly. Takes no memory.
+/// the `f64` of Rust reads, but they are read exactly. It takes no memory.
 ///
 /// Returns `None` if the text says no number, if its exponent does not fit 32 bits, or if no `Decimal` is that number.
 pub fn read_printed(text: &str) -> Option<Decimal>
