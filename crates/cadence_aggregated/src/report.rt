@@ -31,7 +31,7 @@ pub struct AggregatedReport<W, A: Allocator = Global> {
 
 impl<W, A: Allocator> AggregatedReport<W, A> {
     ghost use Rattle.std.specs.Prelude.{◌≡◌, IfOk, map, string_bytes};
-    ghost use Rattle.cadence_aggregating.specs.Printed.{text_of};
+    ghost use Rattle.cadence_aggregating.specs.Printed.{line_saying};
     ghost use Rattle.cadence_aggregated.specs.Aggregated.{held_in_report};
 
     /// Returns the lines that the next flush would send to the packer, in order. The aggregator forgets them.
@@ -40,7 +40,7 @@ impl<W, A: Allocator> AggregatedReport<W, A> {
     /// Memory ran out. Some of the lines are lost then.
     pub fn take_lines(&mut self, alloc: Global) -> Result<Vec<String>, AllocError>
         ensures { IfOk result (λ lines.
-            map string_bytes lines.items ≡ map text_of (held_in_report self.old)) }
+            map string_bytes lines.items ≡ map line_saying (held_in_report self.old)) }
     {
         let mut listed = ListedLines::new(alloc);
         match self.aggregator.flush(&mut listed) {

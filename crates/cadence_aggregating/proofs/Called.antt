@@ -15,14 +15,14 @@ use Rattle.cadence_aggregating.specs.declared.accepted.Accepted.{Accepted}
 use Rattle.cadence_aggregate.specs.Within.{StayWithin}
 use Rattle.cadence_aggregating.specs.Past.{SumsUpWithin}
 use Rattle.cadence_aggregating.specs.Contexts.{IsContextOf}
-use Rattle.cadence_aggregating.specs.Printed.{before_bar, from_bar, spliced, text_of}
+use Rattle.cadence_aggregating.specs.Printed.{before_bar, from_bar, spliced, line_saying}
 use Rattle.cadence_aggregating.specs.Says.{LineSays}
 use Rattle.cadence_aggregating.proofs.Records.{past_more}
 use Rattle.cadence_aggregating.proofs.Spliced.{cut_whole}
 use Rattle.cadence_aggregating.proofs.Sayable.{numbered, numbered_line, numbered_listed, one_number, whole_is_decimal}
 
 -- the line that raises the counter of a context says just this
-pub counted : (c : List ℕ) (n : ℤ) → FitsSigned w64 n → IsContextOf Counter c → LineSays (text_of (amount c n)) (amount c n)
+pub counted : (c : List ℕ) (n : ℤ) → FitsSigned w64 n → IsContextOf Counter c → LineSays (line_saying (amount c n)) (amount c n)
 counted c n fits (m, listed, kind, time, context) =
     let ns = whole n ∷ [] in
     let good : All IsDecimal ns = All-from_recursion IsDecimal ns (whole_is_decimal n fits, tt) in
@@ -31,7 +31,7 @@ counted c n fits (m, listed, kind, time, context) =
     (numbered m ns, numbered_listed m listed ns good, text, (kind, time, context, refl, fits))
 
 -- the line that sets the gauge of a context says just this
-leveled : (c : List ℕ) (n : Number) → IsDecimal n → IsContextOf Gauge c → LineSays (text_of (level c (number_text n))) (level c (number_text n))
+leveled : (c : List ℕ) (n : Number) → IsDecimal n → IsContextOf Gauge c → LineSays (line_saying (level c (number_text n))) (level c (number_text n))
 leveled c n fits (m, listed, kind, time, context) =
     let ns = n ∷ [] in
     let good : All IsDecimal ns = All-from_recursion IsDecimal ns (fits, tt) in
@@ -43,21 +43,21 @@ pub natural_is_decimal : (n : ℕ) → n < 2 ^ 64 → IsDecimal (natural n)
 natural_is_decimal n small = record { mantissa = grind (arith, small); places = omega arith; lowest = refl }
 
 -- the line that sets the gauge of a context to a whole number says just this
-pub set_to : (c text : List ℕ) (n : ℕ) → n < 2 ^ 64 → text ≡ number_text (natural n) → IsContextOf Gauge c → LineSays (text_of (level c text)) (level c text)
-set_to c text n small its of = subst (λ t. LineSays (text_of (level c t)) (level c t)) (sym its) (leveled c (natural n) (natural_is_decimal n small) of)
+pub set_to : (c text : List ℕ) (n : ℕ) → n < 2 ^ 64 → text ≡ number_text (natural n) → IsContextOf Gauge c → LineSays (line_saying (level c text)) (level c text)
+set_to c text n small its of = subst (λ t. LineSays (line_saying (level c t)) (level c t)) (sym its) (leveled c (natural n) (natural_is_decimal n small) of)
 
 -- one more call by a key was accepted
 pub called_more : (limit : ℕ) (accepted : List Accepted) (entry : Accepted) (s : Sample) (sent held sent' held' : List Sample)
-    → said_by_entry entry ≡ s → LineSays (text_of s) s → ∥ SumsUpWithin limit (lines_of_entries accepted) sent held ∥₁
+    → said_by_entry entry ≡ s → LineSays (line_saying s) s → ∥ SumsUpWithin limit (lines_of_entries accepted) sent held ∥₁
     → IsSummary ((sent ++ held) ++ s ∷ []) (sent' ++ held') → StayWithin limit ((sent ++ held) ++ s ∷ []) (sent' ++ held')
     → ∥ SumsUpWithin limit (lines_of_entries (accepted ++ entry ∷ [])) sent' held' ∥₁
 called_more limit accepted entry s sent held sent' held' its says past step within =
-    ∥∥₁_map past (λ p. past_more limit accepted entry sent held sent' held' s p (subst (λ line. LineSays line s) (ap text_of (sym its)) says) step within)
+    ∥∥₁_map past (λ p. past_more limit accepted entry sent held sent' held' s p (subst (λ line. LineSays line s) (ap line_saying (sym its)) says) step within)
 
 -- the record after one more entry
 pub entry_more : (accepted : List Accepted) (entry : Accepted) (s : Sample) → said_by_entry entry ≡ s
-    → lines_of_entries (accepted ++ entry ∷ []) ≡ lines_of_entries accepted ++ text_of s ∷ []
-entry_more accepted entry s its = map-append line_of_entry accepted (entry ∷ []) ∙ ap (λ t. lines_of_entries accepted ++ text_of t ∷ []) its
+    → lines_of_entries (accepted ++ entry ∷ []) ≡ lines_of_entries accepted ++ line_saying s ∷ []
+entry_more accepted entry s its = map-append line_of_entry accepted (entry ∷ []) ∙ ap (λ t. lines_of_entries accepted ++ line_saying t ∷ []) its
 
 -- a line is no shorter than its context
 pub no_shorter : (c v : List ℕ) → length c ≤ length (spliced c v)

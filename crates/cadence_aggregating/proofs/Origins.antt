@@ -16,7 +16,7 @@ use Rattle.cadence_aggregate.specs.Within.{AreWithin, StayWithin}
 use Rattle.cadence_aggregate.proofs.Within.{within_parts}
 use Rattle.cadence_aggregating.specs.Origins.{ComesFrom, IsMadeOf, IsNoLonger}
 use Rattle.cadence_aggregating.specs.Past.{SumsUpWithin}
-use Rattle.cadence_aggregating.specs.Printed.{before_bar, from_bar, spliced, text_of}
+use Rattle.cadence_aggregating.specs.Printed.{before_bar, from_bar, spliced, line_saying}
 use Rattle.cadence_aggregating.specs.Says.{LineSays, context_of}
 use Rattle.cadence_aggregating.specs.declared.note.Note.{Note}
 use Rattle.cadence_aggregating.proofs.Among.{Among, amount_found, amount_shown, level_found, level_shown, member_found, member_shown, other_found, other_shown, is, is_level}
@@ -108,10 +108,10 @@ one_within most (x ∷ said) c t (inr later) within = one_within most said c t l
 
 module _ (limit : ℕ) (accepted : List (List ℕ)) (came sent : List Sample) (zip : AllZip LineSays accepted came) (same : IsSummary came sent) (stay : StayWithin limit came sent) where
   -- what was sent is the line of a metric, as the record shows
-  says_itself : (s : Sample) → Among s sent → IsSized s → LineSays (text_of s) s
+  says_itself : (s : Sample) → Among s sent → IsSized s → LineSays (line_saying s) s
   says_itself = sayable came sent same (all_said accepted came zip)
 
-  sum_made : (c : List ℕ) (n : ℤ) → Among (amount c n) sent → FitsSigned w64 n → IsMadeOf limit accepted (text_of (amount c n))
+  sum_made : (c : List ℕ) (n : ℤ) → Among (amount c n) sent → FitsSigned w64 n → IsMadeOf limit accepted (line_saying (amount c n))
   sum_made c n among fits =
       let (k, there) = amount_found c came (same.counters (is c) ∙ amount_shown c n sent among) in
       let (old, here, (m, listed, its, (kind, time, context, numbers, small))) = said_by_line accepted came zip (amount c k) there in
@@ -125,12 +125,12 @@ module _ (limit : ℕ) (accepted : List (List ℕ)) (came sent : List Sample) (z
         kind = inl (kind', subst (λ d. length (spliced c (number_text (whole n))) ≤ length d + 21) context' size);
       }
 
-  values_within : (c t : List ℕ) → Among (timing c t) sent → IsNoLonger limit accepted (text_of (timing c t))
+  values_within : (c t : List ℕ) → Among (timing c t) sent → IsNoLonger limit accepted (line_saying (timing c t))
   values_within c t among most least short =
       let within = stay most least (accepted_within most accepted came zip (recursion_from_All (λ line. length line ≤ most) accepted short)) in
       omega (arith, one_within most sent c t among within, size_spliced c t)
 
-  values_made : (c t : List ℕ) → Among (timing c t) sent → IsMadeOf limit accepted (text_of (timing c t))
+  values_made : (c t : List ℕ) → Among (timing c t) sent → IsMadeOf limit accepted (line_saying (timing c t))
   values_made c t among =
       let (x, value) = first_value t in
       let (u, there, value') = value_came came sent same (all_said accepted came zip) c t x among value in
@@ -144,10 +144,10 @@ module _ (limit : ℕ) (accepted : List (List ℕ)) (came sent : List Sample) (z
         kind = inr (kind', values_within c t among);
       }
 
-  unchanged : (s : Sample) → Said accepted s → ((line : List ℕ) → LineSays line s → text_of s ≡ line) → ComesFrom limit accepted (text_of s)
+  unchanged : (s : Sample) → Said accepted s → ((line : List ℕ) → LineSays line s → line_saying s ≡ line) → ComesFrom limit accepted (line_saying s)
   unchanged s (line, here, says) text = inl (subst (Contains accepted) (sym (text line says)) (contained line accepted here))
 
-  origin : (s : Sample) → Among s sent → IsSized s → ComesFrom limit accepted (text_of s)
+  origin : (s : Sample) → Among s sent → IsSized s → ComesFrom limit accepted (line_saying s)
   origin (amount c n) among fits = inr (sum_made c n among fits)
   origin (level c v) among fits =
       let there = level_found c v came (same.values (is_level c v) (level_shown c v sent among)) in

@@ -12,7 +12,7 @@ use Rattle.cadence_aggregate.proofs.Within.{stay_further, stay_more, stay_same}
 use Rattle.cadence_aggregating.specs.Past.{SumsUp, SumsUpWithin, Summarizes}
 use Rattle.cadence_aggregating.specs.Accepted.{line_of_entry, lines_of_entries}
 use Rattle.cadence_aggregating.specs.declared.accepted.Accepted.{Accepted}
-use Rattle.cadence_aggregating.specs.Printed.{text_of}
+use Rattle.cadence_aggregating.specs.Printed.{line_saying}
 use Rattle.cadence_aggregating.specs.Says.{LineSays}
 use Rattle.cadence_aggregating.specs.declared.note.Note.{Note}
 use Rattle.cadence_aggregating.specs.declared.note.Kind.TheVariants.{Amount, Level, Member, Timing, Other}
@@ -102,22 +102,22 @@ summarizes accepted notes held (said, zip, sum) =
     (sent, all_noted notes each, (said, zip, sum))
 
 -- the lines of notes say what the notes say
-pub noted_lines : (notes : List Note) → map line_of_note notes ≡ map text_of (map sample_of_note notes)
+pub noted_lines : (notes : List Note) → map line_of_note notes ≡ map line_saying (map sample_of_note notes)
 noted_lines [] = refl
 noted_lines (note ∷ notes) = ap₂ (λ a b. a ∷ b) note.printed (noted_lines notes)
 
 -- the lines that a flush sends
 pub flushed_lines : (old new : List Note) (held held' : List Sample) → map sample_of_note new ++ held' ≡ map sample_of_note old ++ held → held' ≡ []
-    → map line_of_note new ≡ map line_of_note old ++ map text_of held
+    → map line_of_note new ≡ map line_of_note old ++ map line_saying held
 flushed_lines old new held held' same none =
     let before = map sample_of_note old in
     let after = map sample_of_note new in
     let sent : after ≡ before ++ held = sym (append-nil after) ∙ ap (λ t. after ++ t) (sym none) ∙ same in
-    noted_lines new ∙ ap (map text_of) sent ∙ map-append text_of before held ∙ ap (λ t. t ++ map text_of held) (sym (noted_lines old))
+    noted_lines new ∙ ap (map line_saying) sent ∙ map-append line_saying before held ∙ ap (λ t. t ++ map line_saying held) (sym (noted_lines old))
 
 -- if the notes say the same, their lines are the same
 pub same_lines : (old new : List Note) → map sample_of_note new ≡ map sample_of_note old → map line_of_note new ≡ map line_of_note old
-same_lines old new same = noted_lines new ∙ ap (map text_of) same ∙ sym (noted_lines old)
+same_lines old new same = noted_lines new ∙ ap (map line_saying) same ∙ sym (noted_lines old)
 
 -- one more line was accepted
 sums_more : (accepted : List (List ℕ)) (line : List ℕ) (sent held sent' held' : List Sample) (s : Sample)

@@ -14,7 +14,7 @@ use Rattle.cadence_text.specs.Metric.{Metric}
 use Rattle.cadence_text.proofs.grammar.LineText.{joined_texts-joined, number_lacks}
 use Rattle.cadence_value.specs.Number.{Number, IsDecimal, number_text, numbers_text, whole}
 use Rattle.cadence_value.proofs.lists.SplitTexts.{Lacks, each_image}
-use Rattle.cadence_aggregating.specs.Printed.{spliced, text_of}
+use Rattle.cadence_aggregating.specs.Printed.{spliced, line_saying}
 use Rattle.cadence_aggregating.specs.Says.{LineSays, MetricSays, context_of, fields_of}
 use Rattle.cadence_aggregating.proofs.Among.{Among, HasValue, amount_shown, amount_found, level_shown, level_found, member_shown, member_found, other_shown, other_found, timing_shown, timing_found, is, is_level}
 use Rattle.cadence_aggregating.proofs.MetricParts.{line_parts, name_lacks}
@@ -22,7 +22,7 @@ use Rattle.cadence_aggregating.proofs.Spliced.{before_found, from_found}
 
 -- The line that says this says just this.
 abbrev pub IsSayable : Sample → Type 0
-IsSayable said = LineSays (text_of said) said
+IsSayable said = LineSays (line_saying said) said
 
 -- The numbers of a counter's line fit 64 bits.
 abbrev pub IsSized : Sample → Type 0
@@ -155,13 +155,13 @@ module _ (came sent : List Sample) (same : IsSummary came sent) (said : (s : Sam
       let (u, there, its) = value_came c t x among value in
       let text : t ≡ numbers_text numbers.0 = joined_numbers t numbers.0 numbers.2 in
       subst (λ s. IsSayable (timing c s)) (sym text)
-      (other_values (text_of (timing c u)) c u numbers.0 (said (timing c u) there) (All-from_recursion IsDecimal numbers.0 numbers.1) (some_numbers t numbers.0 numbers.2))
+      (other_values (line_saying (timing c u)) c u numbers.0 (said (timing c u) there) (All-from_recursion IsDecimal numbers.0 numbers.1) (some_numbers t numbers.0 numbers.2))
 
   -- each of what was sent is what its line says
   pub sayable : (s : Sample) → Among s sent → IsSized s → IsSayable s
   sayable (amount c n) among fits =
       let (k, there) = amount_found c came (same.counters (is c) ∙ amount_shown c n sent among) in
-      another_sum (text_of (amount c k)) c k n (said (amount c k) there) fits
+      another_sum (line_saying (amount c k)) c k n (said (amount c k) there) fits
   sayable (level c v) among fits = said (level c v) (level_found c v came (same.values (is_level c v) (level_shown c v sent among)))
   sayable (member l) among fits = said (member l) (member_found l came (same.members (is l) ∙ member_shown l sent among))
   sayable (timing c t) among fits = sayable_timing c t among

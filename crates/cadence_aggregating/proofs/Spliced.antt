@@ -7,7 +7,7 @@ use Rattle.cadence_aggregate.specs.Server.{amount, level, timing}
 use Rattle.cadence_value.specs.Number.{number_text, whole}
 use Rattle.cadence_aggregating.specs.Noted.{around, within, noted}
 use Rattle.cadence_aggregating.specs.declared.note.Kind.TheVariants.{Amount, Level, Timing}
-use Rattle.cadence_aggregating.specs.Printed.{before_bar, from_bar, spliced, text_of}
+use Rattle.cadence_aggregating.specs.Printed.{before_bar, from_bar, spliced, line_saying}
 
 pub before_found : (front rest : List ℕ) → Lacks 124 front → before_bar (front ++ 124 ∷ rest) ≡ front
 before_found [] rest h = refl
@@ -61,8 +61,8 @@ module _ (text context : List ℕ) (name size : ℕ) (is_name : name ≡ length 
     pub amount_noted : noted Amount by name size text ≡ amount context by
     amount_noted = ap (λ t. amount (around name size t) by) written ∙ ap (λ c. amount c by) (around_spliced context (number_text (whole by)) name size is_name is_size)
 
-    pub amount_printed : text ≡ text_of (noted Amount by name size text)
-    amount_printed = written ∙ ap text_of (sym amount_noted)
+    pub amount_printed : text ≡ line_saying (noted Amount by name size text)
+    amount_printed = written ∙ ap line_saying (sym amount_noted)
 
   module _ (by : ℤ) (values : List ℕ) (written : text ≡ spliced context values) (is_size : size ≡ length values) where
     pub level_noted : noted Level by name size text ≡ level context values
@@ -70,13 +70,13 @@ module _ (text context : List ℕ) (name size : ℕ) (is_name : name ≡ length 
         ap (λ t. level (around name size t) (within name size t)) written
         ∙ ap₂ level (around_spliced context values name size is_name is_size) (within_spliced context values name size is_name is_size)
 
-    pub level_printed : text ≡ text_of (noted Level by name size text)
-    level_printed = written ∙ ap text_of (sym level_noted)
+    pub level_printed : text ≡ line_saying (noted Level by name size text)
+    level_printed = written ∙ ap line_saying (sym level_noted)
 
     pub timing_noted : noted Timing by name size text ≡ timing context values
     timing_noted =
         ap (λ t. timing (around name size t) (within name size t)) written
         ∙ ap₂ timing (around_spliced context values name size is_name is_size) (within_spliced context values name size is_name is_size)
 
-    pub timing_printed : text ≡ text_of (noted Timing by name size text)
-    timing_printed = written ∙ ap text_of (sym timing_noted)
+    pub timing_printed : text ≡ line_saying (noted Timing by name size text)
+    timing_printed = written ∙ ap line_saying (sym timing_noted)

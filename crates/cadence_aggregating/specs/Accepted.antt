@@ -2,7 +2,7 @@
 use Rattle.std.specs.Prelude.{ℕ, ℤ, List, map}
 use Rattle.cadence_aggregate.specs.Server.{Sample, amount, level, member, timing, other}
 use Rattle.cadence_aggregating.specs.Noted.{only_text}
-use Rattle.cadence_aggregating.specs.Printed.{text_of}
+use Rattle.cadence_aggregating.specs.Printed.{line_saying}
 use Rattle.cadence_aggregating.specs.declared.accepted.Accepted.{Accepted}
 use Rattle.cadence_aggregating.specs.declared.note.Kind.{Kind}
 use Rattle.cadence_aggregating.specs.declared.note.Kind.TheVariants.{Amount, Level, Member, Timing, Other}
@@ -21,7 +21,7 @@ said_by_entry a = said_of_parts a.kind a.by (only_text a.context.items) (only_te
 
 -- the line of an entry of the record
 abbrev pub line_of_entry : Accepted → List ℕ
-line_of_entry a = text_of (said_by_entry a)
+line_of_entry a = line_saying (said_by_entry a)
 
 -- the lines of the entries of a record
 abbrev pub lines_of_entries : List Accepted → List (List ℕ)

@@ -8,8 +8,8 @@ use Rattle.cadence_settings.specs.Settings.{Settings}
 use Rattle.cadence_aggregating.specs.declared.client.AggregatedClient.{AggregatedClient}
 
 -- the prefix and the defaults of a client
-abbrev pub settings_of_client : {S R : Type 0} → AggregatedClient S R → Settings
-settings_of_client c = c.settings.settings
+abbrev pub settings_of_aggregated : {S R : Type 0} → AggregatedClient S R → Settings
+settings_of_aggregated c = c.settings.settings
 
 -- The result of a flush is what the sink of the client answered.
 abbrev pub IsFlushOfClient : Result (Unit {0}) MetricError → Type 0

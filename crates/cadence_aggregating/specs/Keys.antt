@@ -8,7 +8,7 @@ use Rattle.cadence_text.specs.declared.line.MetricType.TheVariants.{Counter, Gau
 use Rattle.cadence_text.specs.Line.{line_of}
 use Rattle.cadence_text.specs.Metric.{Metric}
 use Rattle.cadence_value.specs.Number.{natural, number_text, whole}
-use Rattle.cadence_aggregating.specs.Printed.{text_of}
+use Rattle.cadence_aggregating.specs.Printed.{line_saying}
 use Rattle.cadence_aggregating.specs.Says.{LineSays}
 use Rattle.cadence_aggregating.specs.declared.keys.CounterKey.{CounterKey}
 use Rattle.cadence_aggregating.specs.declared.keys.GaugeKey.{GaugeKey}
@@ -25,11 +25,11 @@ context_of_gauge key = string_bytes key.context
 
 -- the line that raises the counter by a number
 abbrev pub line_of_counter : CounterKey → ℤ → List ℕ
-line_of_counter key by = text_of (amount (context_of_counter key) by)
+line_of_counter key by = line_saying (amount (context_of_counter key) by)
 
 -- the line that sets the gauge to a number
 abbrev pub line_of_gauge : GaugeKey → ℕ → List ℕ
-line_of_gauge key value = text_of (level (context_of_gauge key) (number_text (natural value)))
+line_of_gauge key value = line_saying (level (context_of_gauge key) (number_text (natural value)))
 
 -- Each line of the counter is the line that these settings make of this call with the number.
 abbrev pub CountsFor : Settings → MetricCall → CounterKey → Type 0

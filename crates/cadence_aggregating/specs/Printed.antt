@@ -23,9 +23,9 @@ abbrev pub spliced : List ℕ → List ℕ → List ℕ
 spliced context values = before_bar context ++ (codes ":" ++ (values ++ from_bar context))
 
 -- the line that says this
-abbrev pub text_of : Sample → List ℕ
-text_of (amount c n) = spliced c (number_text (whole n))
-text_of (level c v) = spliced c v
-text_of (member l) = l
-text_of (timing c t) = spliced c t
-text_of (other l) = l
+abbrev pub line_saying : Sample → List ℕ
+line_saying (amount c n) = spliced c (number_text (whole n))
+line_saying (level c v) = spliced c v
+line_saying (member l) = l
+line_saying (timing c t) = spliced c t
+line_saying (other l) = l

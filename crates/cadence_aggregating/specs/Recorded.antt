@@ -10,28 +10,28 @@ use Rattle.cadence_aggregating.specs.declared.recorded.RecordedAggregator.{Recor
 
 module _ {S : Type 0} where
   -- the lines that were accepted, in order
-  abbrev pub accepted_by : RecordedAggregator S → List (List ℕ)
-  accepted_by a = lines_of_entries a.accepted.items
+  abbrev pub lines_accepted : RecordedAggregator S → List (List ℕ)
+  lines_accepted a = lines_of_entries a.accepted.items
 
   -- the lines that the sink took, in order
-  abbrev pub taken_by : RecordedAggregator S → List (List ℕ)
-  taken_by a = map line_of_note a.printer.notes.items
+  abbrev pub lines_taken : RecordedAggregator S → List (List ℕ)
+  lines_taken a = map line_of_note a.printer.notes.items
 
   -- how many lines the sink refused, modulo 2 to the 64
   abbrev pub refusals_by : RecordedAggregator S → ℕ
   refusals_by a = a.printer.refusals
 
   -- what the lines of the next flush say
-  abbrev pub held_by : RecordedAggregator S → List Sample
-  held_by a = held a.aggregator
+  abbrev pub samples_held : RecordedAggregator S → List Sample
+  samples_held a = held a.aggregator
 
   -- what may be held, and how long a line may be
   abbrev pub limits_of : RecordedAggregator S → Limits
   limits_of a = a.limits
 
   -- what holds what lines say
-  abbrev pub core_of : RecordedAggregator S → Aggregator
-  core_of a = a.aggregator
+  abbrev pub aggregator_of : RecordedAggregator S → Aggregator
+  aggregator_of a = a.aggregator
 
   -- the wrapped sink
   abbrev pub sink_of : RecordedAggregator S → S

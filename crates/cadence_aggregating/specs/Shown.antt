@@ -3,9 +3,9 @@ use Rattle.std.specs.Prelude.{◌≡◌, ◌⊎◌, ℕ, List, [], ◌∷◌, �
 use Rattle.cadence_errors.specs.declared.SinkError.{SinkError}
 use Rattle.cadence_flow.specs.Opened.{opened_flush}
 use Rattle.cadence_aggregating.specs.Causes.{HasCountedCause}
-use Rattle.cadence_aggregating.specs.Printed.{text_of}
+use Rattle.cadence_aggregating.specs.Printed.{line_saying}
 use Rattle.cadence_aggregating.specs.Quiet.{IsQuiet}
-use Rattle.cadence_aggregating.specs.Recorded.{accepted_by, core_of, held_by, limits_of, refusals_by, sink_of, taken_by}
+use Rattle.cadence_aggregating.specs.Recorded.{lines_accepted, aggregator_of, samples_held, limits_of, refusals_by, sink_of, lines_taken}
 use Rattle.cadence_aggregating.specs.declared.recorded.RecordedAggregator.{RecordedAggregator}
 use Rattle.cadence_aggregating.specs.declared.under_lock.UnderLock.{UnderLock}
 use Rattle.cadence_aggregating.specs.declared.under_lock.answers.Added.{Added}
@@ -50,20 +50,20 @@ module _ {S : Type 0} where
     -- The aggregator accepted just this line, and the sink refused none. If the line was to be held, and could be, the sink
     -- took none either.
     pub record AcceptsLine (line : List ℕ) : Type 0 where
-      pub accepted : accepted_by new ≡ accepted_by old ++ line ∷ []
-      pub quiet : ∥ IsQuiet (limits_of old) (core_of old) line (taken_by old) (taken_by new) ∥₁
+      pub accepted : lines_accepted new ≡ lines_accepted old ++ line ∷ []
+      pub quiet : ∥ IsQuiet (limits_of old) (aggregator_of old) line (lines_taken old) (lines_taken new) ∥₁
       pub refused : refusals_by new ≡ refusals_by old
 
     -- The aggregator accepted no line. The sink refused one, or it refused none and memory ran out.
     pub record AcceptsNone (e : SinkError) : Type 0 where
-      pub accepted : accepted_by new ≡ accepted_by old
+      pub accepted : lines_accepted new ≡ lines_accepted old
       pub cause : HasCountedCause (refusals_by old) (refusals_by new) (Err e)
 
     -- The sink took the lines of what was held, in order, and nothing is held any more.
     pub record SendsAll : Type 0 where
-      pub accepted : accepted_by new ≡ accepted_by old
-      pub lines : taken_by new ≡ taken_by old ++ map text_of (held_by old)
-      pub none : held_by new ≡ []
+      pub accepted : lines_accepted new ≡ lines_accepted old
+      pub lines : lines_taken new ≡ lines_taken old ++ map line_saying (samples_held old)
+      pub none : samples_held new ≡ []
       pub refused : refusals_by new ≡ refusals_by old
 
     -- All that was held was sent, and then the sink was flushed with this result. Or there is an error, and it came before

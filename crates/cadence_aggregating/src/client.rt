@@ -39,7 +39,7 @@ impl AggregatingMetricSinkBuilder {
     ghost use Rattle.cadence_errors.specs.Errors.{IsInvalid};
     ghost use Rattle.cadence_queuing.specs.Queuing.{IsQueuingRefusal};
     ghost use Rattle.cadence_settings.specs.Settings.{is_free_settings, with_strict_texts};
-    ghost use Rattle.cadence_aggregating.specs.Clients.{settings_of_client};
+    ghost use Rattle.cadence_aggregating.specs.Clients.{settings_of_aggregated};
 
     /// Makes a client that adds its calls up with these settings, over a sink that takes the sums. The settings of the
     /// client are made strict. It starts a thread if there is a period.
@@ -58,7 +58,7 @@ impl AggregatingMetricSinkBuilder {
         sink: S,
     ) -> MetricResult<AggregatedClient<S, R>>
         ensures settings { IfOk result (λ client.
-            settings_of_client client ≡ with_strict_texts settings) }
+            settings_of_aggregated client ≡ with_strict_texts settings) }
         ensures free { OnOk result (IsTrue (is_free_settings settings)) }
         ensures refused { IfErr result (λ e. IsQueuingRefusal e
             ⊎ (IsInvalid e × (is_free_settings settings ≡ false))) }
@@ -85,7 +85,7 @@ impl<S: MetricSink, R: Wait + Drop> AggregatedClient<S, R> {
     ghost use Rattle.cadence_text.specs.declared.line.MetricType.TheVariants.{Counter, Gauge};
     ghost use Rattle.cadence_text.specs.Record.{tag_of};
     ghost use Rattle.cadence_aggregating.specs.Contexts.{MayFailFor, tagged_call};
-    ghost use Rattle.cadence_aggregating.specs.Clients.{IsFlushOfClient, settings_of_client};
+    ghost use Rattle.cadence_aggregating.specs.Clients.{IsFlushOfClient, settings_of_aggregated};
     ghost use Rattle.cadence_aggregating.specs.Keys.{CountsFor, SetsFor, line_of_counter, line_of_gauge};
     ghost use Rattle.cadence_aggregating.specs.Results.{IsCallOf};
 
@@ -96,7 +96,7 @@ impl<S: MetricSink, R: Wait + Drop> AggregatedClient<S, R> {
     /// wrapped sink is dropped then.
     pub fn from_sink(rt: R, alloc: Global, prefix: &str, sink: S) -> MetricResult<Self>
         ensures settings { IfOk result (λ client.
-            settings_of_client client ≡ with_strict_texts (settings_of prefix.now)) }
+            settings_of_aggregated client ≡ with_strict_texts (settings_of prefix.now)) }
         ensures refused { IfErr result (MayFailFor (is_free_settings (settings_of prefix.now))) }
     {
         let limits = AggregatingMetricSinkBuilder::new().limits;
@@ -115,7 +115,7 @@ impl<S: MetricSink, R: Wait + Drop> AggregatedClient<S, R> {
     /// # Errors
     /// An error of kind `InvalidInput` only if the key or a tag has a separator, and `OutOfMemory`.
     pub fn counter_key(&self, key: &str, tags: &[Tag<'_>]) -> MetricResult<CounterKey>
-        ensures lines { IfOk result (CountsFor (settings_of_client self.now)
+        ensures lines { IfOk result (CountsFor (settings_of_aggregated self.now)
             (tagged_call Counter key.now (map tag_of tags.now))) }
         ensures refused { IfErr result (MayFailFor
             (is_free_call (tagged_call Counter key.now (map tag_of tags.now)))) }
@@ -125,7 +125,7 @@ impl<S: MetricSink, R: Wait + Drop> AggregatedClient<S, R> {
 
     /// Makes the key of a gauge, with tags after the default ones. The errors are those of `counter_key`.
     pub fn gauge_key(&self, key: &str, tags: &[Tag<'_>]) -> MetricResult<GaugeKey>
-        ensures lines { IfOk result (SetsFor (settings_of_client self.now)
+        ensures lines { IfOk result (SetsFor (settings_of_aggregated self.now)
             (tagged_call Gauge key.now (map tag_of tags.now))) }
         ensures refused { IfErr result (MayFailFor
             (is_free_call (tagged_call Gauge key.now (map tag_of tags.now)))) }

@@ -2,7 +2,7 @@
 ghost use Rattle.std.specs.Prelude.{◌≡◌, FitsSigned};
 ghost use mir.Syntax.{w64};
 ghost use Rattle.cadence_aggregating.specs.Noted.{noted, only_text};
-ghost use Rattle.cadence_aggregating.specs.Printed.{text_of};
+ghost use Rattle.cadence_aggregating.specs.Printed.{line_saying};
 
 use cadence_flow::GhostTexts;
 
@@ -32,5 +32,5 @@ pub struct Note {
     pub(crate) line: GhostTexts,
     pub ghost in_range: { FitsSigned w64 by },
     pub ghost printed: { only_text line.items
-        ≡ text_of (noted kind by name values (only_text line.items)) },
+        ≡ line_saying (noted kind by name values (only_text line.items)) },
 }

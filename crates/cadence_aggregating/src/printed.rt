@@ -5,7 +5,7 @@ ghost use Rattle.cadence_aggregate.specs.Lines.{sample_of};
 ghost use Rattle.cadence_value.specs.Number.{natural, number_text, whole};
 ghost use Rattle.cadence_aggregating.specs.Noted.{noted};
 ghost use Rattle.cadence_aggregating.specs.Notes.{line_of_note, sample_of_note};
-ghost use Rattle.cadence_aggregating.specs.Printed.{barred, before_bar, from_bar, spliced, text_of};
+ghost use Rattle.cadence_aggregating.specs.Printed.{barred, before_bar, from_bar, spliced, line_saying};
 
 use crate::note::{Kind, Note};
 use cadence_aggregate::Line;
@@ -94,7 +94,8 @@ fn write_values(text: &mut String, context: &str, values: &str) -> Result<usize,
 
 // Notes what the line in a text says.
 fn note_of(kind: Kind, by: i64, name: usize, values: usize, text: &String) -> Note
-    requires { string_bytes text.now ≡ text_of (noted kind by name values (string_bytes text.now)) }
+    requires { string_bytes text.now
+        ≡ line_saying (noted kind by name values (string_bytes text.now)) }
     ensures said { sample_of_note result ≡ noted kind by name values (string_bytes text.now) }
     ensures line { line_of_note result ≡ string_bytes text.now }
 {

@@ -4,7 +4,7 @@ ghost use Rattle.std.specs.Prelude.{◌≡◌, ◌++◌, [], OnErr, OnOk, map};
 ghost use Rattle.cadence_aggregate.specs.Lines.{sample_of, samples_of};
 ghost use Rattle.cadence_aggregate.specs.Refusals.{after_reply};
 ghost use Rattle.cadence_aggregating.specs.Notes.{sample_of_note};
-ghost use Rattle.cadence_aggregating.specs.Printed.{text_of};
+ghost use Rattle.cadence_aggregating.specs.Printed.{line_saying};
 ghost use Rattle.cadence_aggregating.specs.Causes.{IsReplyFor};
 
 use crate::note::Note;
@@ -78,7 +78,7 @@ impl<S: MetricSink> LineSink for Printer<S> {
             ≡ map sample_of_note self.old.notes.items) }
         ensures refused { self.new.refusals ≡ after_reply self.old.refusals result }
         ensures asked { IsReplyFor S.may_answer self.old.sink
-            (text_of (sample_of line.entry)) result }
+            (line_saying (sample_of line.entry)) result }
     {
         let Ok(note) = note_line(&mut self.text, line) else {
             return Err(Fault::OutOfMemory);

@@ -65,19 +65,19 @@ pub(crate) fn add_or_pass<S: LineSink>(
 }
 
 impl<S: MetricSink> RecordedAggregator<S> {
-    ghost use Rattle.cadence_aggregating.specs.Recorded.{accepted_by, core_of, held_by, limits_of, refusals_by, sink_of, taken_by};
+    ghost use Rattle.cadence_aggregating.specs.Recorded.{lines_accepted, aggregator_of, samples_held, limits_of, refusals_by, sink_of, lines_taken};
     ghost use Rattle.cadence_aggregating.specs.Causes.{HasCountedCause, IsErrorOf};
     ghost use Rattle.cadence_aggregating.specs.Quiet.{IsQuiet};
     ghost use Rattle.std.specs.Prelude.{All};
     ghost use Rattle.cadence_aggregating.specs.Origins.{ComesFrom};
     ghost use Rattle.cadence_aggregating.specs.Past.{Summarizes};
-    ghost use Rattle.cadence_aggregating.specs.Printed.{text_of};
+    ghost use Rattle.cadence_aggregating.specs.Printed.{line_saying};
 
     /// Makes an aggregator that accepted no line yet. The only error is that memory ran out.
     pub fn new(alloc: Global, limits: Limits, sink: S) -> Result<Self, AllocError>
-        ensures accepted { IfOk result (λ a. accepted_by a ≡ []) }
-        ensures taken { IfOk result (λ a. taken_by a ≡ []) }
-        ensures held { IfOk result (λ a. held_by a ≡ []) }
+        ensures accepted { IfOk result (λ a. lines_accepted a ≡ []) }
+        ensures taken { IfOk result (λ a. lines_taken a ≡ []) }
+        ensures held { IfOk result (λ a. samples_held a ≡ []) }
         ensures refused { IfOk result (λ a. refusals_by a ≡ 0) }
         ensures limits { IfOk result (λ a. limits_of a ≡ limits) }
     {
@@ -95,10 +95,12 @@ impl<S: MetricSink> RecordedAggregator<S> {
 
     // Reads a line, and adds it or hands it on.
     fn try_add(&mut self, line: &str) -> Result<(), Fault>
-        ensures ok { OnOk result (accepted_by self.new ≡ accepted_by self.old ++ line.now ∷ []) }
-        ensures err { OnErr result (accepted_by self.new ≡ accepted_by self.old) }
-        ensures quiet { OnOk result (∥ IsQuiet (limits_of self.old) (core_of self.old) line.now
-            (taken_by self.old) (taken_by self.new) ∥₁) }
+        ensures ok { OnOk result (lines_accepted self.new
+            ≡ lines_accepted self.old ++ line.now ∷ []) }
+        ensures err { OnErr result (lines_accepted self.new ≡ lines_accepted self.old) }
+        ensures quiet { OnOk result (∥ IsQuiet (limits_of self.old)
+            (aggregator_of self.old) line.now
+            (lines_taken self.old) (lines_taken self.new) ∥₁) }
         ensures refused { refusals_by self.new ≡ after_reply (refusals_by self.old) result }
         ensures limits { limits_of self.new ≡ limits_of self.old }
     {
@@ -111,9 +113,9 @@ impl<S: MetricSink> RecordedAggregator<S> {
 
     /// Returns why a call failed.
     pub(crate) fn error_of(&mut self, fault: Fault) -> SinkError
-        ensures accepted { accepted_by self.new ≡ accepted_by self.old }
-        ensures taken { taken_by self.new ≡ taken_by self.old }
-        ensures held { held_by self.new ≡ held_by self.old }
+        ensures accepted { lines_accepted self.new ≡ lines_accepted self.old }
+        ensures taken { lines_taken self.new ≡ lines_taken self.old }
+        ensures held { samples_held self.new ≡ samples_held self.old }
         ensures refused { refusals_by self.new ≡ refusals_by self.old }
         ensures cause { IsErrorOf fault result }
         ensures limits { limits_of self.new ≡ limits_of self.old }
@@ -131,10 +133,12 @@ impl<S: MetricSink> RecordedAggregator<S> {
     /// The error of the sink, if it refused a line that had to be sent, and `OutOfMemory`. After an error the line is
     /// not added, and what was held is sent or still held.
     pub fn add(&mut self, line: &str) -> Result<(), SinkError>
-        ensures ok { OnOk result (accepted_by self.new ≡ accepted_by self.old ++ line.now ∷ []) }
-        ensures err { OnErr result (accepted_by self.new ≡ accepted_by self.old) }
-        ensures quiet { OnOk result (∥ IsQuiet (limits_of self.old) (core_of self.old) line.now
-            (taken_by self.old) (taken_by self.new) ∥₁) }
+        ensures ok { OnOk result (lines_accepted self.new
+            ≡ lines_accepted self.old ++ line.now ∷ []) }
+        ensures err { OnErr result (lines_accepted self.new ≡ lines_accepted self.old) }
+        ensures quiet { OnOk result (∥ IsQuiet (limits_of self.old)
+            (aggregator_of self.old) line.now
+            (lines_taken self.old) (lines_taken self.new) ∥₁) }
         ensures refused { HasCountedCause (refusals_by self.old) (refusals_by self.new) result }
         ensures limits { limits_of self.new ≡ limits_of self.old }
     {
@@ -149,10 +153,10 @@ impl<S: MetricSink> RecordedAggregator<S> {
     /// # Errors
     /// The error of the sink, if it refused a line, and `OutOfMemory`. What was not sent is still held.
     pub fn flush(&mut self) -> Result<(), SinkError>
-        ensures ok { OnOk result (held_by self.new ≡ []) }
-        ensures accepted { accepted_by self.new ≡ accepted_by self.old }
-        ensures lines { OnOk result (taken_by self.new
-            ≡ taken_by self.old ++ map text_of (held_by self.old)) }
+        ensures ok { OnOk result (samples_held self.new ≡ []) }
+        ensures accepted { lines_accepted self.new ≡ lines_accepted self.old }
+        ensures lines { OnOk result (lines_taken self.new
+            ≡ lines_taken self.old ++ map line_saying (samples_held self.old)) }
         ensures refused { HasCountedCause (refusals_by self.old) (refusals_by self.new) result }
         ensures limits { limits_of self.new ≡ limits_of self.old }
     {
@@ -173,9 +177,10 @@ impl<S: MetricSink> RecordedAggregator<S> {
     /// the same after both. States also where each line comes from that the sink took, and how long it may be. Does
     /// nothing when it is called.
     pub fn keeps_the_record(&self)
-        ensures summary { ∥ Summarizes (accepted_by self.now)
-            (taken_by self.now) (held_by self.now) ∥₁ }
-        ensures origins { ∥ All (ComesFrom (limits_of self.now).most_bytes (accepted_by self.now))
-            (taken_by self.now) ∥₁ }
+        ensures summary { ∥ Summarizes (lines_accepted self.now)
+            (lines_taken self.now) (samples_held self.now) ∥₁ }
+        ensures origins { ∥ All (ComesFrom (limits_of self.now).most_bytes
+            (lines_accepted self.now))
+            (lines_taken self.now) ∥₁ }
     {}
 }

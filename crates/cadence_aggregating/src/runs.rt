@@ -2,7 +2,7 @@
 ghost use Rattle.std.specs.Prelude.{◌≡◌, ◌++◌, All, IfOk, length};
 ghost use Rattle.cadence_aggregating.specs.Origins.{ComesFrom};
 ghost use Rattle.cadence_aggregating.specs.Past.{Summarizes};
-ghost use Rattle.cadence_aggregating.specs.Recorded.{accepted_by, held_by, limits_of, taken_by};
+ghost use Rattle.cadence_aggregating.specs.Recorded.{lines_accepted, samples_held, limits_of, lines_taken};
 ghost use Rattle.cadence_aggregating.specs.Runs.{accepted_line, accepted_lines};
 
 use crate::limits::Limits;
@@ -32,8 +32,8 @@ fn take_step<S: MetricSink>(
     aggregator: &mut RecordedAggregator<S>,
     step: Step<'_>,
 ) -> Result<(), SinkError>
-    ensures accepted { accepted_by aggregator.new
-        ≡ accepted_by aggregator.old ++ accepted_line step.entry result }
+    ensures accepted { lines_accepted aggregator.new
+        ≡ lines_accepted aggregator.old ++ accepted_line step.entry result }
     ensures limits { limits_of aggregator.new ≡ limits_of aggregator.old }
 {
     match step {
@@ -56,10 +56,10 @@ pub fn run<S: MetricSink>(
     ensures replies { IfOk result (λ o. length o.replies.items ≡ length steps.now) }
     ensures headline { IfOk result (λ o. ∥ Summarizes
         (accepted_lines steps.now o.replies.items)
-        (taken_by o.aggregator) (held_by o.aggregator) ∥₁) }
+        (lines_taken o.aggregator) (samples_held o.aggregator) ∥₁) }
     ensures origins { IfOk result (λ o. ∥ All
         (ComesFrom limits.most_bytes (accepted_lines steps.now o.replies.items))
-        (taken_by o.aggregator) ∥₁) }
+        (lines_taken o.aggregator) ∥₁) }
 {
     let mut aggregator = RecordedAggregator::new(alloc, limits, sink)?;
     let mut replies = Vec::with_capacity(alloc, steps.len())?;

@@ -40,7 +40,7 @@ pub struct SummedLines {
 
 impl SummedLines {
     ghost use Rattle.cadence_aggregating.specs.Past.{Summarizes};
-    ghost use Rattle.cadence_aggregating.specs.Printed.{text_of};
+    ghost use Rattle.cadence_aggregating.specs.Printed.{line_saying};
     ghost use Rattle.cadence_aggregating.specs.Summed.{accepted_in, gone_in, held_in, waiting_in};
 
     /// Makes sums of no line. The only error is that memory ran out.
@@ -89,7 +89,7 @@ impl SummedLines {
     pub fn flush(&mut self) -> Result<(), AllocError>
         ensures ok { OnOk result (held_in self.new ≡ []) }
         ensures lines { OnOk result (waiting_in self.new
-            ≡ waiting_in self.old ++ map text_of (held_in self.old)) }
+            ≡ waiting_in self.old ++ map line_saying (held_in self.old)) }
         ensures accepted { accepted_in self.new ≡ accepted_in self.old }
         ensures gone { gone_in self.new ≡ gone_in self.old }
     {

@@ -2,7 +2,7 @@
 ghost use Rattle.std.specs.Prelude.{◌≡◌, [], IfOk};
 ghost use Rattle.cadence_flow.specs.Opened.{opened};
 ghost use Rattle.cadence_aggregating.specs.Answers.{IsAggregated};
-ghost use Rattle.cadence_aggregating.specs.Recorded.{accepted_by};
+ghost use Rattle.cadence_aggregating.specs.Recorded.{lines_accepted};
 ghost use Rattle.cadence_aggregating.specs.Shown.{AnswersAdded, AnswersEmptied, EndsFlush, added_bytes, recorded_of};
 
 use crate::limits::Limits;
@@ -28,7 +28,7 @@ pub struct UnderLock<S: Drop> {
 impl<S: MetricSink> UnderLock<S> {
     /// Makes an aggregator that accepted no line yet. The only error is that memory ran out.
     pub(crate) fn new(alloc: Global, limits: Limits, sink: S) -> Result<Self, AllocError>
-        ensures accepted { IfOk result (λ u. accepted_by (recorded_of u) ≡ []) }
+        ensures accepted { IfOk result (λ u. lines_accepted (recorded_of u) ≡ []) }
     {
         let aggregator = RecordedAggregator::new(alloc, limits, sink)?;
         Ok(UnderLock { aggregator })

@@ -8,7 +8,7 @@ use Rattle.cadence_c.specs.declared.sums_handle.Sums.{Sums}
 use Rattle.cadence_c.specs.declared.sums_handle.SumsHandle.{SumsHandle}
 use Rattle.cadence_c.specs.SumsHandle.{contents}
 use Rattle.cadence_c.specs.SumsKeys.{GetsKey, HasKeyMore}
-use Rattle.cadence_c.specs.Sums.{AddsUp, Empties, GivesLines, KeepsLines}
+use Rattle.cadence_c.specs.Sums.{AddsUp, GivesAll, GivesLines, KeepsLines}
 
 pub kept_more : (xs ys : List (List ℕ)) (s m t : ClientState) → KeepsLines xs s m → KeepsLines ys m t → KeepsLines (xs ++ ys) s t
 kept_more [] ys s m t h k = subst (λ u. KeepsLines ys u t) h k
@@ -58,7 +58,7 @@ on_err (Err e) p = p
 
 -- If the lines that waited after a flush were given to the client, nothing is left.
 pub empties : {A E : Type 0} (r : Result A E) (a b : SummedLines) (s t : ClientState) → AddsUp [] a b s t → held_in b ≡ []
-    → OnOk r (waiting_in b ≡ []) → OnOk r (Empties a b s t)
+    → OnOk r (waiting_in b ≡ []) → OnOk r (GivesAll a b s t)
 empties (Ok done) a b s t adds held waiting = record { adds = adds; held = held; waiting = waiting }
 empties (Err e) a b s t adds held waiting = tt
 

@@ -29,14 +29,14 @@ pub record AddsUp (lines : List (List ℕ)) (a b : SummedLines) (s t : ClientSta
   pub gives : GivesLines a b s t
 
 -- The sums accepted no line, gave lines to the client, and have nothing left.
-pub record Empties (a b : SummedLines) (s t : ClientState) : Type 0 where
+pub record GivesAll (a b : SummedLines) (s t : ClientState) : Type 0 where
   pub adds : AddsUp [] a b s t
   pub held : held_in b ≡ []
   pub waiting : waiting_in b ≡ []
 
 -- What the client kept of the sums, with what waits and what is held, is a summary of the accepted lines.
-abbrev pub IsSummary : SummedLines → Type 0
-IsSummary a = ∥ Summarizes (accepted_in a) (gone_in a ++ waiting_in a) (held_in a) ∥₁
+abbrev pub HasSummary : SummedLines → Type 0
+HasSummary a = ∥ Summarizes (accepted_in a) (gone_in a ++ waiting_in a) (held_in a) ∥₁
 
 -- The client has no room for the first line that waits.
 abbrev pub LacksRoomForFirst : SummedLines → ClientState → Type 0

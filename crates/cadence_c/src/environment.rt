@@ -92,7 +92,8 @@ fn read_variable(text: &[u8], variable: Variable, is_wanted: bool) -> Result<&st
 // it is not tested, and so has each other variable.
 fn read_places<'a>(texts: &CVariables<'a>) -> Result<Variables<'a>, EnvironmentError>
     ensures read { IfOk result (ArePlacesRead texts.now) }
-    ensures refused { IfErr result (λ e. (v : TheVariables) → HasTexts texts.now v → IsRefusedVariable v e) }
+    ensures refused { IfErr result (λ e. (v : TheVariables) →
+        HasTexts texts.now v → IsRefusedVariable v e) }
 {
     let no_url = texts.url.is_empty();
     let no_agent = no_url && texts.agent_host.is_empty() && texts.agent_port.is_empty();
@@ -113,7 +114,8 @@ fn read_places<'a>(texts: &CVariables<'a>) -> Result<Variables<'a>, EnvironmentE
 // Returns the texts of the variables that say tags. Each other variable has the empty text.
 fn read_tag_texts<'a>(texts: &CVariables<'a>) -> Result<Variables<'a>, EnvironmentError>
     ensures read { IfOk result (AreTagsRead texts.now) }
-    ensures refused { IfErr result (λ e. (v : TheVariables) → HasTexts texts.now v → IsRefusedVariable v e) }
+    ensures refused { IfErr result (λ e. (v : TheVariables) →
+        HasTexts texts.now v → IsRefusedVariable v e) }
 {
     Ok(Variables {
         url: "",
@@ -211,7 +213,8 @@ pub extern "C" fn cadence_variable_text(
     size: &mut usize,
 ) -> u32
     ensures invalid { result ≡ CADENCE_INVALID → variable_named variable ≡ None }
-    ensures statuses { IsOkOr (CADENCE_INVALID ∷ CADENCE_NO_MEMORY ∷ CADENCE_TOO_SMALL ∷ []) result }
+    ensures statuses { IsOkOr
+        (CADENCE_INVALID ∷ CADENCE_NO_MEMORY ∷ CADENCE_TOO_SMALL ∷ []) result }
 {
     *size = 0;
     let Some(variable) = variable_of(variable) else {

@@ -7,7 +7,7 @@ ghost use Rattle.std.specs.Str.{IsUtf8};
 ghost use Rattle.cadence_aggregating.specs.Summed.{accepted_in, gone_in, held_in, waiting_in};
 ghost use Rattle.cadence_c.specs.Handle.{IsOpenAnd, OnOpen, client_of};
 ghost use Rattle.cadence_c.specs.Status.{status, CADENCE_FULL, CADENCE_NOT_UTF8, CADENCE_NO_CLIENT, CADENCE_NO_MEMORY, CADENCE_OK, IsOkOr};
-ghost use Rattle.cadence_c.specs.Sums.{AddsUp, Empties, GivesLines, IsNewSums, IsSummary, LacksRoomForFirst};
+ghost use Rattle.cadence_c.specs.Sums.{AddsUp, GivesAll, GivesLines, IsNewSums, HasSummary, LacksRoomForFirst};
 ghost use Rattle.cadence_c.specs.SumsHandle.{OnBothOpen, keys_of, sums_of};
 ghost use Rattle.cadence_c.specs.SumsKeys.{line_of_addend};
 
@@ -127,7 +127,7 @@ fn add_up(
 
 // Gives the client the lines that wait, and a line for each context that is held.
 fn empty(alloc: Global, lines: &mut SummedLines, client: &mut Client) -> Result<(), StatusError>
-    ensures ok { OnOk result (Empties lines.old lines.new client.old client.new) }
+    ensures ok { OnOk result (GivesAll lines.old lines.new client.old client.new) }
     ensures err { OnErr result (AddsUp [] lines.old lines.new client.old client.new) }
     ensures full { status result ≡ CADENCE_FULL → LacksRoomForFirst lines.new client.new }
     ensures statuses { IsOkOr (CADENCE_NO_MEMORY ∷ CADENCE_FULL ∷ []) (status result) }
@@ -165,7 +165,7 @@ fn add_with(
 // Calls `empty` with the client of a handle, and returns the status.
 fn empty_with(alloc: Global, lines: &mut SummedLines, handle: &mut Handle) -> u32
     ensures flushed { result ≡ CADENCE_OK →
-        OnOpen (Empties lines.old lines.new) handle.old handle.new }
+        OnOpen (GivesAll lines.old lines.new) handle.old handle.new }
     ensures refused { (result ≡ CADENCE_FULL) ⊎ (result ≡ CADENCE_NO_MEMORY) →
         OnOpen (AddsUp [] lines.old lines.new) handle.old handle.new }
     ensures full { result ≡ CADENCE_FULL → IsOpenAnd handle.new (LacksRoomForFirst lines.new) }
@@ -204,7 +204,7 @@ pub extern "C" fn cadence_add_line(
         (client_of handle.old ≡ None) ⊎ (sums_of sums.old ≡ None) }
     ensures text { result ≡ CADENCE_NOT_UTF8 → IsUtf8 line.now → ⊥ }
     ensures keys { keys_of sums.new ≡ keys_of sums.old }
-    ensures summary { IfSome (sums_of sums.new) IsSummary }
+    ensures summary { IfSome (sums_of sums.new) HasSummary }
     ensures statuses { IsOkOr (CADENCE_NO_CLIENT ∷ CADENCE_NO_MEMORY ∷ CADENCE_FULL
         ∷ CADENCE_NOT_UTF8 ∷ []) result }
 {
@@ -228,7 +228,7 @@ pub extern "C" fn cadence_flush_sums(
     handle: &mut Handle,
 ) -> u32
     ensures flushed { result ≡ CADENCE_OK →
-        OnBothOpen Empties sums.old sums.new handle.old handle.new }
+        OnBothOpen GivesAll sums.old sums.new handle.old handle.new }
     ensures refused { (result ≡ CADENCE_FULL) ⊎ (result ≡ CADENCE_NO_MEMORY) →
         OnBothOpen (AddsUp []) sums.old sums.new handle.old handle.new }
     ensures full { result ≡ CADENCE_FULL →
@@ -238,7 +238,7 @@ pub extern "C" fn cadence_flush_sums(
     ensures closed { result ≡ CADENCE_NO_CLIENT →
         (client_of handle.old ≡ None) ⊎ (sums_of sums.old ≡ None) }
     ensures keys { keys_of sums.new ≡ keys_of sums.old }
-    ensures summary { IfSome (sums_of sums.new) IsSummary }
+    ensures summary { IfSome (sums_of sums.new) HasSummary }
     ensures statuses { IsOkOr (CADENCE_NO_CLIENT ∷ CADENCE_NO_MEMORY ∷ CADENCE_FULL ∷ []) result }
 {
     let Some(mut held) = sums.take(alloc) else {

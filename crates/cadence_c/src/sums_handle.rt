@@ -2,7 +2,8 @@
 //! only this module follows its pointer.
 ghost use Rattle.std.specs.Prelude.{◌≡◌, Option, Some, None, IsSome, is_some};
 ghost use Rattle.cadence_c.specs.declared.sums_handle.Sums.{Sums};
-ghost use Rattle.cadence_c.specs.SumsSlot.{pointer_owns, sums_coded, box_value};
+ghost use Rattle.cadence_c.specs.Slot.{box_value};
+ghost use Rattle.cadence_c.specs.SumsSlot.{sums_coded, sums_pointer_owns};
 ghost use Rattle.std.specs.Option.{option_map};
 
 use crate::box_parts::BoxParts;
@@ -29,7 +30,7 @@ pub struct SumsPointer {
 }
 
 impl Model for SumsPointer {
-    ghost also_owns = { λ s. pointer_owns s.alloc s.at s.sums };
+    ghost also_owns = { λ s. sums_pointer_owns s.alloc s.at s.sums };
 }
 
 unsafe impl Send for SumsPointer {}

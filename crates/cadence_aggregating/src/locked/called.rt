@@ -27,7 +27,8 @@ impl<'a, S: MetricSink, R: Wait + Drop> AnsweringSink for CounterCall<'a, S, R> 
 
     type Refused = Failed<S>;
 
-    ghost may_answer = { λ call _ answer. IsResultOf (line_of_counter call.key.now call.by) answer };
+    ghost may_answer = { λ call _ answer.
+        IsResultOf (line_of_counter call.key.now call.by) answer };
 
     ghost shows = { λ call _ answer e. ShowsAdded (line_of_counter call.key.now call.by) answer e };
 
@@ -51,9 +52,11 @@ impl<'a, S: MetricSink, R: Wait + Drop> AnsweringSink for GaugeCall<'a, S, R> {
 
     type Refused = Failed<S>;
 
-    ghost may_answer = { λ call _ answer. IsResultOf (line_of_gauge call.key.now call.value) answer };
+    ghost may_answer = { λ call _ answer.
+        IsResultOf (line_of_gauge call.key.now call.value) answer };
 
-    ghost shows = { λ call _ answer e. ShowsAdded (line_of_gauge call.key.now call.value) answer e };
+    ghost shows = { λ call _ answer e.
+        ShowsAdded (line_of_gauge call.key.now call.value) answer e };
 
     fn emit_line(&self, _none: &str, fault: &mut SinkError) -> Result<Self::Took, Self::Refused> {
         acquire(&self.to.lines, &self.to.rt).gauge(self.key, self.value, fault)

@@ -14,15 +14,15 @@ impl<S: MetricSink> RecordedAggregator<S> {
     ghost use Rattle.cadence_aggregating.specs.Causes.{HasCountedCause};
     ghost use Rattle.cadence_aggregating.specs.Keys.{line_of_counter, line_of_gauge};
     ghost use Rattle.cadence_aggregating.specs.Quiet.{IsQuiet};
-    ghost use Rattle.cadence_aggregating.specs.Recorded.{accepted_by, core_of, limits_of, refusals_by, taken_by};
+    ghost use Rattle.cadence_aggregating.specs.Recorded.{lines_accepted, aggregator_of, limits_of, refusals_by, lines_taken};
 
     // Adds what the line of a counter says, or hands the line on.
     fn try_count(&mut self, key: &CounterKey, by: i64) -> Result<(), Fault>
-        ensures ok { OnOk result (accepted_by self.new
-            ≡ accepted_by self.old ++ line_of_counter key.now by ∷ []) }
-        ensures err { OnErr result (accepted_by self.new ≡ accepted_by self.old) }
-        ensures quiet { OnOk result (∥ IsQuiet (limits_of self.old) (core_of self.old)
-            (line_of_counter key.now by) (taken_by self.old) (taken_by self.new) ∥₁) }
+        ensures ok { OnOk result (lines_accepted self.new
+            ≡ lines_accepted self.old ++ line_of_counter key.now by ∷ []) }
+        ensures err { OnErr result (lines_accepted self.new ≡ lines_accepted self.old) }
+        ensures quiet { OnOk result (∥ IsQuiet (limits_of self.old) (aggregator_of self.old)
+            (line_of_counter key.now by) (lines_taken self.old) (lines_taken self.new) ∥₁) }
         ensures refused { refusals_by self.new ≡ after_reply (refusals_by self.old) result }
     {
         let context: &str = &key.context;
@@ -40,11 +40,11 @@ impl<S: MetricSink> RecordedAggregator<S> {
     /// The error of the sink, if it refused a line that had to be sent, and `OutOfMemory`. After an error the counter
     /// is not raised, and what was held is sent or still held.
     pub(crate) fn count(&mut self, key: &CounterKey, by: i64) -> Result<(), SinkError>
-        ensures ok { OnOk result (accepted_by self.new
-            ≡ accepted_by self.old ++ line_of_counter key.now by ∷ []) }
-        ensures err { OnErr result (accepted_by self.new ≡ accepted_by self.old) }
-        ensures quiet { OnOk result (∥ IsQuiet (limits_of self.old) (core_of self.old)
-            (line_of_counter key.now by) (taken_by self.old) (taken_by self.new) ∥₁) }
+        ensures ok { OnOk result (lines_accepted self.new
+            ≡ lines_accepted self.old ++ line_of_counter key.now by ∷ []) }
+        ensures err { OnErr result (lines_accepted self.new ≡ lines_accepted self.old) }
+        ensures quiet { OnOk result (∥ IsQuiet (limits_of self.old) (aggregator_of self.old)
+            (line_of_counter key.now by) (lines_taken self.old) (lines_taken self.new) ∥₁) }
         ensures refused { HasCountedCause (refusals_by self.old) (refusals_by self.new) result }
     {
         match self.try_count(key, by) {
@@ -55,11 +55,11 @@ impl<S: MetricSink> RecordedAggregator<S> {
 
     // Adds what the line of a gauge says, or hands the line on.
     fn try_gauge(&mut self, key: &GaugeKey, value: u64) -> Result<(), Fault>
-        ensures ok { OnOk result (accepted_by self.new
-            ≡ accepted_by self.old ++ line_of_gauge key.now value ∷ []) }
-        ensures err { OnErr result (accepted_by self.new ≡ accepted_by self.old) }
-        ensures quiet { OnOk result (∥ IsQuiet (limits_of self.old) (core_of self.old)
-            (line_of_gauge key.now value) (taken_by self.old) (taken_by self.new) ∥₁) }
+        ensures ok { OnOk result (lines_accepted self.new
+            ≡ lines_accepted self.old ++ line_of_gauge key.now value ∷ []) }
+        ensures err { OnErr result (lines_accepted self.new ≡ lines_accepted self.old) }
+        ensures quiet { OnOk result (∥ IsQuiet (limits_of self.old) (aggregator_of self.old)
+            (line_of_gauge key.now value) (lines_taken self.old) (lines_taken self.new) ∥₁) }
         ensures refused { refusals_by self.new ≡ after_reply (refusals_by self.old) result }
     {
         rewrite(&mut self.context, value)?;
@@ -78,11 +78,11 @@ impl<S: MetricSink> RecordedAggregator<S> {
     /// # Errors
     /// Those of `count`. After an error the gauge is not set, and what was held is sent or still held.
     pub(crate) fn gauge(&mut self, key: &GaugeKey, value: u64) -> Result<(), SinkError>
-        ensures ok { OnOk result (accepted_by self.new
-            ≡ accepted_by self.old ++ line_of_gauge key.now value ∷ []) }
-        ensures err { OnErr result (accepted_by self.new ≡ accepted_by self.old) }
-        ensures quiet { OnOk result (∥ IsQuiet (limits_of self.old) (core_of self.old)
-            (line_of_gauge key.now value) (taken_by self.old) (taken_by self.new) ∥₁) }
+        ensures ok { OnOk result (lines_accepted self.new
+            ≡ lines_accepted self.old ++ line_of_gauge key.now value ∷ []) }
+        ensures err { OnErr result (lines_accepted self.new ≡ lines_accepted self.old) }
+        ensures quiet { OnOk result (∥ IsQuiet (limits_of self.old) (aggregator_of self.old)
+            (line_of_gauge key.now value) (lines_taken self.old) (lines_taken self.new) ∥₁) }
         ensures refused { HasCountedCause (refusals_by self.old) (refusals_by self.new) result }
     {
         match self.try_gauge(key, value) {

@@ -2,7 +2,7 @@
 //! limit of a line.
 ghost use Rattle.std.specs.Prelude.{◌≡◌, ◌++◌, ◌∷◌, [], OnErr, OnOk};
 ghost use Rattle.cadence_aggregate.specs.Lines.{sample_of};
-ghost use Rattle.cadence_aggregating.specs.Printed.{text_of};
+ghost use Rattle.cadence_aggregating.specs.Printed.{line_saying};
 ghost use Rattle.cadence_aggregating.specs.Says.{LineSays};
 
 use super::SummedLines;
@@ -20,9 +20,9 @@ impl SummedLines {
 
     // Adds what a line says that was not made. Its context has `len` bytes.
     fn add_said(&mut self, said: Line<'_>, len: usize) -> Result<(), AllocError>
-        requires { ∥ LineSays (text_of (sample_of said)) (sample_of said) ∥₁ }
+        requires { ∥ LineSays (line_saying (sample_of said)) (sample_of said) ∥₁ }
         ensures ok { OnOk result (accepted_in self.new
-            ≡ accepted_in self.old ++ text_of (sample_of said.entry) ∷ []) }
+            ≡ accepted_in self.old ++ line_saying (sample_of said.entry) ∷ []) }
         ensures err { OnErr result (accepted_in self.new ≡ accepted_in self.old) }
         ensures gone { gone_in self.new ≡ gone_in self.old }
     {

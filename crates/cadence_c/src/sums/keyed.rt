@@ -4,7 +4,7 @@ ghost use Rattle.std.specs.Str.{IsUtf8};
 ghost use Rattle.cadence_aggregating.specs.Keys.{SaysNeither};
 ghost use Rattle.cadence_c.specs.Handle.{IsOpenAnd, OnOpen, client_of};
 ghost use Rattle.cadence_c.specs.Status.{CADENCE_FULL, CADENCE_INVALID, CADENCE_NOT_UTF8, CADENCE_NO_CLIENT, CADENCE_NO_MEMORY, CADENCE_OK, IsOkOr, status};
-ghost use Rattle.cadence_c.specs.Sums.{AddsUp, IsSummary, LacksRoomForFirst};
+ghost use Rattle.cadence_c.specs.Sums.{AddsUp, HasSummary, LacksRoomForFirst};
 ghost use Rattle.cadence_c.specs.SumsHandle.{OnBothOpen, keys_of, sums_of};
 ghost use Rattle.cadence_c.specs.SumsKeys.{GetsKey, HasKeyMore, line_by, line_by_handle, line_of_addend};
 
@@ -133,7 +133,7 @@ pub extern "C" fn cadence_add_number(
         (client_of handle.old ≡ None) ⊎ (sums_of sums.old ≡ None) }
     ensures invalid { result ≡ CADENCE_INVALID → line_by_handle sums.old key number ≡ None }
     ensures keys { keys_of sums.new ≡ keys_of sums.old }
-    ensures summary { IfSome (sums_of sums.new) IsSummary }
+    ensures summary { IfSome (sums_of sums.new) HasSummary }
     ensures statuses { IsOkOr (CADENCE_NO_CLIENT ∷ CADENCE_NO_MEMORY ∷ CADENCE_FULL
         ∷ CADENCE_INVALID ∷ []) result }
 {

@@ -3,7 +3,7 @@ use Rattle.std.proofs.Common.{◌≡◌, ◌++◌, ◌∷◌, ◌<◌, ◌≤◌
 use Rattle.std.proofs.lemmas.List.{take_all, take_more, length-take-le}
 use Rattle.cadence_aggregating.specs.Origins.{ComesFrom}
 use Rattle.cadence_aggregating.specs.Past.{Summarizes}
-use Rattle.cadence_aggregating.specs.Recorded.{accepted_by, held_by, taken_by}
+use Rattle.cadence_aggregating.specs.Recorded.{lines_accepted, samples_held, lines_taken}
 use Rattle.cadence_aggregating.specs.Runs.{accepted_line, accepted_lines}
 use Rattle.cadence_aggregating.specs.declared.limits.Limits.{Limits}
 use Rattle.cadence_aggregating.specs.declared.runs.Step.{Step}
@@ -36,12 +36,12 @@ all_accepted steps replies n lines long same = same ∙ ap (λ s. accepted_lines
 pub returns-clause-headline : goal.returns-clause-headline
 returns-clause-headline g c =
     let o = c.loop-step in
-    let accepted = all_accepted c.args.steps.now o.replies.items o.step-index (accepted_by o.aggregator) c.loop-step-test.false o.invariant.accepted in
-    subst (λ lines. ∥ Summarizes lines (taken_by o.aggregator) (held_by o.aggregator) ∥₁) accepted c.keeps_the_record.ensures.summary
+    let accepted = all_accepted c.args.steps.now o.replies.items o.step-index (lines_accepted o.aggregator) c.loop-step-test.false o.invariant.accepted in
+    subst (λ lines. ∥ Summarizes lines (lines_taken o.aggregator) (samples_held o.aggregator) ∥₁) accepted c.keeps_the_record.ensures.summary
 
 pub returns-clause-origins : goal.returns-clause-origins
 returns-clause-origins g c =
     let o = c.loop-step in
-    let accepted = all_accepted c.args.steps.now o.replies.items o.step-index (accepted_by o.aggregator) c.loop-step-test.false o.invariant.accepted in
-    subst (λ lines. ∥ All (ComesFrom c.args.limits.most_bytes lines) (taken_by o.aggregator) ∥₁) accepted
-    (subst (λ (l : Limits). ∥ All (ComesFrom l.most_bytes (accepted_by o.aggregator)) (taken_by o.aggregator) ∥₁) o.invariant.limits c.keeps_the_record.ensures.origins)
+    let accepted = all_accepted c.args.steps.now o.replies.items o.step-index (lines_accepted o.aggregator) c.loop-step-test.false o.invariant.accepted in
+    subst (λ lines. ∥ All (ComesFrom c.args.limits.most_bytes lines) (lines_taken o.aggregator) ∥₁) accepted
+    (subst (λ (l : Limits). ∥ All (ComesFrom l.most_bytes (lines_accepted o.aggregator)) (lines_taken o.aggregator) ∥₁) o.invariant.limits c.keeps_the_record.ensures.origins)

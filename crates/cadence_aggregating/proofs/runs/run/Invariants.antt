@@ -1,5 +1,5 @@
 use Rattle.std.proofs.Common.{◌≡◌, length, take}
-use Rattle.cadence_aggregating.specs.Recorded.{accepted_by, limits_of}
+use Rattle.cadence_aggregating.specs.Recorded.{lines_accepted, limits_of}
 use Rattle.cadence_aggregating.specs.Runs.{accepted_lines}
 use Rattle.cadence_aggregating.proofs.runs.run.Given as goal
 
@@ -7,6 +7,6 @@ use Rattle.cadence_aggregating.proofs.runs.run.Given as goal
 abbrev pub invariant-loop-step : goal.invariant-loop-step
 invariant-loop-step g l = record {
   replies : length l.replies.items ≡ l.step-index;
-  accepted : accepted_by l.aggregator ≡ accepted_lines (take l.step-index l.steps) l.replies.items;
+  accepted : lines_accepted l.aggregator ≡ accepted_lines (take l.step-index l.steps) l.replies.items;
   limits : limits_of l.aggregator ≡ l.fn.limits;
 }

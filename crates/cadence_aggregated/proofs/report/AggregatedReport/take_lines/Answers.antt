@@ -1,7 +1,7 @@
 use Rattle.std.proofs.Common.{◌≡◌, ◌++◌, map, sym, ap, ◌∙◌, append-nil}
 use Rattle.cadence_aggregate.specs.Aggregate.{held}
 use Rattle.cadence_aggregating.specs.Notes.{sample_of_note}
-use Rattle.cadence_aggregating.specs.Printed.{text_of}
+use Rattle.cadence_aggregating.specs.Printed.{line_saying}
 use Rattle.cadence_aggregating.proofs.Records.{noted_lines}
 use Rattle.cadence_aggregated.proofs.report.AggregatedReport.take_lines.Goals as goal
 
@@ -12,4 +12,4 @@ returns-in-Ok g c =
     let said : map sample_of_note notes ≡ before = sym (append-nil (map sample_of_note notes))
     ∙ ap (λ h. map sample_of_note notes ++ h) (sym c.in-Ok.ensures.ok) ∙ c.in-Ok.ensures.same
     ∙ ap (λ ns. map sample_of_note ns ++ before) c.new-listed.ensures in
-    c.into_lines.ensures ∙ noted_lines notes ∙ ap (map text_of) said
+    c.into_lines.ensures ∙ noted_lines notes ∙ ap (map line_saying) said

@@ -5,7 +5,7 @@ use Rattle.cadence_aggregate.specs.Lines.{sample_of}
 use Rattle.cadence_aggregating.specs.Notes.{sample_of_note}
 use Rattle.cadence_aggregating.specs.Past.{SumsUpWithin}
 use Rattle.cadence_aggregating.specs.Accepted.{line_of_entry, lines_of_entries}
-use Rattle.cadence_aggregating.specs.Printed.{text_of}
+use Rattle.cadence_aggregating.specs.Printed.{line_saying}
 use Rattle.cadence_aggregating.specs.Says.{LineSays}
 use Rattle.cadence_aggregating.proofs.Records.{past_more, none_said, past_kept, same_lines}
 use Rattle.cadence_aggregating.proofs.recorded.RecordedAggregator.try_add.Goals as goal
@@ -27,7 +27,7 @@ invariant_of-self-2 g c =
     let old = c.args.self.now in
     let new = c.add_or_pass.new in
     let entry = c.of.result in
-    let is_line : line_of_entry entry ≡ c.args.line.now = ap text_of c.of.ensures in
+    let is_line : line_of_entry entry ≡ c.args.line.now = ap line_saying c.of.ensures in
     let says : LineSays (line_of_entry entry) (sample_of c.in_ok-said.said) = subst (λ line. LineSays line (sample_of c.in_ok-said.said)) (sym is_line) c.in_ok-said.ensures in
     let past : ∥ SumsUpWithin old.limits.most_bytes (lines_of_entries c.and.result.items) (map sample_of_note new.sink.notes.items) (held new.aggregator) ∥₁ =
     rw c.and.ensures (∥∥₁_map old.past (λ past. past_more old.limits.most_bytes old.accepted.items entry

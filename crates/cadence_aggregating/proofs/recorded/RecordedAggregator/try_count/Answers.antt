@@ -13,7 +13,7 @@ use Rattle.cadence_aggregating.specs.Accepted.{lines_of_entries}
 use Rattle.cadence_aggregating.specs.Contexts.{IsContextOf}
 use Rattle.cadence_aggregating.specs.Notes.{sample_of_note}
 use Rattle.cadence_aggregating.specs.Past.{SumsUpWithin}
-use Rattle.cadence_aggregating.specs.Printed.{text_of}
+use Rattle.cadence_aggregating.specs.Printed.{line_saying}
 use Rattle.cadence_aggregating.specs.Says.{LineSays}
 use Rattle.cadence_aggregating.proofs.Called.{counted, called_more, entry_more, no_shorter}
 use Rattle.cadence_aggregating.proofs.Records.{none_said, past_kept, same_lines}
@@ -59,7 +59,7 @@ returns-clause-quiet g c =
     let old = c.args.self.now in
     let new = c.add_or_pass.new in
     let context = string_bytes c.args.key.now.context in
-    let line = text_of (amount context c.args.by) in
+    let line = line_saying (amount context c.args.by) in
     let fits : FitsSigned w64 c.args.by = search rules in
     let small : SFits w64 c.args.by = search rules in
     let same : to_z w64 (of_z w64 c.args.by) ≡ c.args.by = to_z-of_z w64 c.args.by small in

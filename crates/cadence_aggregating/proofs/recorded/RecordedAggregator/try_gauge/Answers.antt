@@ -9,7 +9,7 @@ use Rattle.cadence_aggregating.specs.Accepted.{lines_of_entries}
 use Rattle.cadence_aggregating.specs.Contexts.{IsContextOf}
 use Rattle.cadence_aggregating.specs.Notes.{sample_of_note}
 use Rattle.cadence_aggregating.specs.Past.{SumsUpWithin}
-use Rattle.cadence_aggregating.specs.Printed.{text_of}
+use Rattle.cadence_aggregating.specs.Printed.{line_saying}
 use Rattle.cadence_aggregating.specs.Says.{LineSays}
 use Rattle.cadence_aggregating.proofs.Called.{called_more, entry_more, no_shorter, set_to}
 use Rattle.cadence_aggregating.proofs.Records.{none_said, past_kept, same_lines}
@@ -58,11 +58,11 @@ returns-clause-quiet g c =
     let text = c.deref-text.result.now in
     let small : c.args.value < 2 ^ 64 = search rules in
     let its : text ≡ number_text (natural c.args.value) = c.deref-text.ensures ∙ c.in_ok-rewrite.ensures in
-    let line = text_of (level context (number_text (natural c.args.value))) in
+    let line = line_saying (level context (number_text (natural c.args.value))) in
     ∥∥₁_map c.args.key.now.of (λ of. (
       Level c.deref-context.result c.deref-text.result,
       subst (λ t. LineSays line (level t text)) (sym c.deref-context.ensures)
-          (subst (λ v. LineSays (text_of (level context v)) (level context text)) its (set_to context text c.args.value small its of)),
+          (subst (λ v. LineSays (line_saying (level context v)) (level context text)) its (set_to context text c.args.value small its of)),
       λ to_hold can.
           let fit : length c.deref-context.result.now ≤ old.limits.most_bytes =
           subst (λ t. length t ≤ old.limits.most_bytes) (sym c.deref-context.ensures)

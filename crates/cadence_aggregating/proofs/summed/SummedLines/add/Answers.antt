@@ -5,7 +5,7 @@ use Rattle.cadence_aggregate.specs.Lines.{sample_of}
 use Rattle.cadence_aggregating.specs.Accepted.{line_of_entry, lines_of_entries}
 use Rattle.cadence_aggregating.specs.Notes.{sample_of_note}
 use Rattle.cadence_aggregating.specs.Past.{SumsUp}
-use Rattle.cadence_aggregating.specs.Printed.{text_of}
+use Rattle.cadence_aggregating.specs.Printed.{line_saying}
 use Rattle.cadence_aggregating.specs.Says.{LineSays}
 use Rattle.cadence_aggregating.specs.Waiting.{notes_of}
 use Rattle.cadence_aggregating.proofs.Records.{summed_kept, summed_more}
@@ -25,7 +25,7 @@ invariant_of-self-2 c =
     let old = c.args.self.now in
     let new = c.add_or_pass.new in
     let entry = c.of.result in
-    let is_line : line_of_entry entry ≡ c.args.line.now = ap text_of c.of.ensures in
+    let is_line : line_of_entry entry ≡ c.args.line.now = ap line_saying c.of.ensures in
     let says : LineSays (line_of_entry entry) (sample_of c.in_ok-said.said) = subst (λ line. LineSays line (sample_of c.in_ok-said.said)) (sym is_line) c.in_ok-said.ensures in
     let past : ∥ SumsUp (lines_of_entries c.and.result.items) (map sample_of_note (old.gone.items ++ notes_of new.sink)) (held new.aggregator) ∥₁ =
     rw c.and.ensures (∥∥₁_map old.past (λ past. summed_more old.accepted.items entry

@@ -5,7 +5,7 @@ use Rattle.cadence_aggregate.specs.Lines.{sample_of}
 use Rattle.cadence_aggregating.specs.Accepted.{lines_of_entries}
 use Rattle.cadence_aggregating.specs.Notes.{sample_of_note}
 use Rattle.cadence_aggregating.specs.Past.{SumsUp}
-use Rattle.cadence_aggregating.specs.Printed.{text_of}
+use Rattle.cadence_aggregating.specs.Printed.{line_saying}
 use Rattle.cadence_aggregating.specs.Says.{LineSays}
 use Rattle.cadence_aggregating.specs.Waiting.{notes_of}
 use Rattle.cadence_aggregating.proofs.Records.{summed_kept, summed_more}
@@ -28,5 +28,5 @@ invariant_of-self-2 c =
     let past : ∥ SumsUp (lines_of_entries c.and.result.items) (map sample_of_note (old.gone.items ++ notes_of new.sink)) (held new.aggregator) ∥₁ =
     rw c.and.ensures (∥∥₁_elim c.requires ∥∥₁_prop (λ says. ∥∥₁_map old.past (λ past. summed_more old.accepted.items c.of.result
     old.gone.items (notes_of old.waiting) (notes_of new.sink) (held old.aggregator) (held new.aggregator) past said
-    (subst (λ line. LineSays line said) (ap text_of (sym c.of.ensures)) says) c.in-Ok.ensures.ok))) in
+    (subst (λ line. LineSays line said) (ap line_saying (sym c.of.ensures)) says) c.in-Ok.ensures.ok))) in
     record { past = past }

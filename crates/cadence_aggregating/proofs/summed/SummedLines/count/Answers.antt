@@ -7,7 +7,7 @@ use mir.Val.{SFits}
 use Rattle.cadence_aggregate.specs.Server.{amount}
 use Rattle.cadence_text.specs.declared.line.MetricType.TheVariants.{Counter}
 use Rattle.cadence_aggregating.specs.Contexts.{IsContextOf}
-use Rattle.cadence_aggregating.specs.Printed.{text_of}
+use Rattle.cadence_aggregating.specs.Printed.{line_saying}
 use Rattle.cadence_aggregating.specs.Says.{LineSays}
 use Rattle.cadence_aggregating.proofs.Called.{counted}
 use Rattle.cadence_aggregating.proofs.summed.SummedLines.count.Goals as goal
@@ -19,5 +19,5 @@ add_said-requires c =
     let fits : FitsSigned w64 by = search rules in
     let small : SFits w64 by = search rules in
     let same : to_z w64 (of_z w64 by) ≡ by = to_z-of_z w64 by small in
-    ∥∥₁_map c.args.key.now.of (λ of. subst (λ n. LineSays (text_of (amount context n)) (amount context n)) (sym same)
+    ∥∥₁_map c.args.key.now.of (λ of. subst (λ n. LineSays (line_saying (amount context n)) (amount context n)) (sym same)
     (counted context by fits (subst (IsContextOf Counter) (sym c.deref-context.ensures) of)))

@@ -11,12 +11,12 @@ use Rattle.std.specs.Global.{Global}
 use Rattle.std.proofs.Crossing as heap
 use Rattle.std_alloc.proofs.SendSync.{quiet, lies}
 use Rattle.std_heap.proofs.Global.TheSendSync as handle
-use Rattle.cadence_c.specs.SumsSlot.{pointer_owns}
+use Rattle.cadence_c.specs.SumsSlot.{sums_pointer_owns}
 use Rattle.cadence_c.specs.contracts.sums_handle.Sums as Sums
 use Rattle.cadence_c.proofs.sums_handle.Sums.TheSendSync.{the_send as sums}
 use Rattle.cadence_c.specs.contracts.sums_handle.SumsPointer.{the_row, the_type}
 
-crosses : (a : Global) (p : Ptr) (s : Option (Sums.the_row).Denot) → Keyless (pointer_owns a p s)
+crosses : (a : Global) (p : Ptr) (s : Option (Sums.the_row).Denot) → Keyless (sums_pointer_owns a p s)
 crosses a p None = tt
 crosses a p (Some x) = (lies Sums.the_row sums p x, heap.frees.frees a (raw (lone (Sums.the_row).mir)) p)
 
