@@ -5,7 +5,8 @@ use std::fmt;
 use std::io;
 use std::net::{SocketAddr, ToSocketAddrs};
 use std::panic::RefUnwindSafe;
-use std::sync::{Arc, Condvar, Mutex, PoisonError, RwLock};
+use std::sync::mpsc::{self, RecvTimeoutError};
+use std::sync::{Arc, PoisonError, RwLock};
 use std::time::Duration;
 
 /// Receives the errors of lookups after the first one.
@@ -15,29 +16,22 @@ pub(crate) type LookupHandler = Box<dyn Fn(io::Error) + Sync + Send + RefUnwindS
 #[derive(Debug)]
 pub(crate) enum Resolver {
     Once(SocketAddr),
-    Periodic(Arc<Periodic>),
-}
-
-/// What the thread that looks up shares with its sink.
-#[derive(Debug)]
-pub(crate) struct Periodic {
-    address: RwLock<SocketAddr>,
-    ended: Mutex<bool>,
-    end: Condvar,
+    /// The address that was found last, and a channel whose end ends the thread.
+    Periodic {
+        address: Arc<RwLock<SocketAddr>>,
+        _channel: mpsc::Sender<()>,
+    },
 }
 
 fn first_address<A: ToSocketAddrs>(name: &A) -> io::Result<Option<SocketAddr>> {
     Ok(name.to_socket_addrs()?.next())
 }
 
-fn known_address<A: ToSocketAddrs>(name: &A) -> MetricResult<SocketAddr> {
-    first_address(name)?.ok_or_else(|| MetricError::from((ErrorKind::InvalidInput, "No socket addresses yielded")))
-}
-
 impl Resolver {
     /// Looks the name up once, now.
     pub(crate) fn once<A: ToSocketAddrs>(name: &A) -> MetricResult<Self> {
-        Ok(Resolver::Once(known_address(name)?))
+        let no_address = || MetricError::from((ErrorKind::InvalidInput, "No socket addresses yielded"));
+        first_address(name)?.ok_or_else(no_address).map(Resolver::Once)
     }
 
     /// Looks the name up now. If there is a period, a thread looks it up again each time that the period has passed.
@@ -46,16 +40,20 @@ impl Resolver {
         period: Option<Duration>,
         errors: Option<LookupHandler>,
     ) -> MetricResult<Self> {
-        let Some(period) = period else { return Self::once(&name) };
-        let (address, ended, end) = (RwLock::new(known_address(&name)?), Mutex::new(false), Condvar::new());
-        let shared = Arc::new(Periodic { address, ended, end });
-        let looked_up = Arc::clone(&shared);
+        let once = Self::once(&name)?;
+        let Some(period) = period else { return Ok(once) };
+        let (address, (channel, ended)) = (Arc::new(RwLock::new(once.address())), mpsc::channel());
+        let known = Arc::clone(&address);
         run_to_end(move || {
-            while !looked_up.ends_within(period) {
-                looked_up.look_up(&name, errors.as_ref());
+            while ended.recv_timeout(period) == Err(RecvTimeoutError::Timeout) {
+                match (look_up(&name), &errors) {
+                    (Ok(address), _) => *known.write().unwrap_or_else(PoisonError::into_inner) = address,
+                    (Err(error), Some(handler)) => handler(error),
+                    (Err(_), None) => {}
+                }
             }
         })?;
-        Ok(Resolver::Periodic(shared))
+        Ok(Resolver::Periodic { address, _channel: channel })
     }
 
     /// Returns the address that was found last.
@@ -63,37 +61,13 @@ impl Resolver {
     pub(crate) fn address(&self) -> SocketAddr {
         match self {
             Resolver::Once(address) => *address,
-            Resolver::Periodic(shared) => *shared.address.read().unwrap_or_else(PoisonError::into_inner),
+            Resolver::Periodic { address, .. } => *address.read().unwrap_or_else(PoisonError::into_inner),
         }
     }
 }
 
-impl Drop for Resolver {
-    fn drop(&mut self) {
-        if let Resolver::Periodic(shared) = self {
-            *shared.ended.lock().unwrap_or_else(PoisonError::into_inner) = true;
-            shared.end.notify_all();
-        }
-    }
-}
-
-impl Periodic {
-    /// Waits for a period, and returns whether the sink was dropped meanwhile.
-    fn ends_within(&self, period: Duration) -> bool {
-        let ended = self.ended.lock().unwrap_or_else(PoisonError::into_inner);
-        let ended = self.end.wait_timeout_while(ended, period, |ended| !*ended).unwrap_or_else(PoisonError::into_inner).0;
-        *ended
-    }
-
-    fn look_up<A: ToSocketAddrs + fmt::Debug>(&self, name: &A, errors: Option<&LookupHandler>) {
-        let found = first_address(name).and_then(|address| {
-            let text = || format!("{name:?} did not resolve to any addresses");
-            address.ok_or_else(|| io::Error::new(io::ErrorKind::NotFound, text()))
-        });
-        match (found, errors) {
-            (Ok(address), _) => *self.address.write().unwrap_or_else(PoisonError::into_inner) = address,
-            (Err(error), Some(handler)) => handler(error),
-            (Err(_), None) => {}
-        }
-    }
+/// Looks a name up again.
+fn look_up<A: ToSocketAddrs + fmt::Debug>(name: &A) -> io::Result<SocketAddr> {
+    let text = || format!("{name:?} did not resolve to any addresses");
+    first_address(name)?.ok_or_else(|| io::Error::new(io::ErrorKind::NotFound, text()))
 }
