@@ -8,9 +8,6 @@ use std::{fmt, io};
 /// What the library does if a packet is made and as many wait as may: it refuses the call.
 const REFUSE: u32 = 0;
 
-/// How many packets may wait in a packer, which is the least: one does, and only until its line is sent alone.
-const PACKETS: usize = 2;
-
 unsafe extern "C" {
     fn cadence_open(handle: *mut Handle, capacity: usize, packets: usize, policy: u32) -> u32;
     fn cadence_free(handle: *mut Handle);
@@ -32,9 +29,9 @@ pub(crate) struct Packer {
 unsafe impl Send for Packer {}
 
 impl Packer {
-    /// Makes a packer whose packets have at most `capacity` bytes.
+    /// Makes a packer whose packets have at most `capacity` bytes, and in which as few wait as may.
     pub(crate) fn new(capacity: usize) -> io::Result<Packer> {
-        Packer::with_packets(capacity, PACKETS)
+        Packer::with_packets(capacity, 2)
     }
 
     /// Makes a packer in which at most `packets` packets wait, at least 2.
@@ -61,15 +58,17 @@ impl Packer {
 
     /// Adds a line to the held text, or makes a packet of it. After an error the packer is as it was.
     #[inline]
-    pub(crate) fn keep(&mut self, line: &[u8]) -> io::Result<()> {
+    pub(crate) fn keep(&mut self, line: &str) -> io::Result<()> {
         // SAFETY: as in `held_len`; the pointer has the length of its slice.
         checked(unsafe { cadence_line(&mut self.handle, line.as_ptr(), line.len()) })
     }
 
     /// Returns the held text, which stays held.
-    pub(crate) fn held(&mut self) -> &[u8] {
+    pub(crate) fn held(&mut self) -> &str {
         // SAFETY: as in `held_len`; the pointer has the length of its slice.
-        self.copied(|handle, at, room, size| unsafe { cadence_held(handle, at, room, size) }).unwrap_or_default()
+        let held = self.copied(|handle, at, room, size| unsafe { cadence_held(handle, at, room, size) });
+        // SAFETY: it consists of lines, each of which was a `&str`, and newlines.
+        unsafe { std::str::from_utf8_unchecked(held.unwrap_or_default()) }
     }
 
     /// Drops the held text, after it was sent. After an error it is still held.

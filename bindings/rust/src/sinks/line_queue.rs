@@ -1,9 +1,8 @@
 //! The queue of a queuing sink: a channel, or a ring that drops its oldest line for a new one.
-use super::channel::{channel, Sender};
-use std::collections::VecDeque;
+use super::ring::{disconnected, full, ring, Ring, RingEnd};
 use std::io;
-use std::sync::mpsc::{self, RecvTimeoutError, TryRecvError};
-use std::sync::{Arc, Condvar, Mutex, MutexGuard, PoisonError};
+use std::sync::mpsc::{self, RecvTimeoutError, TryRecvError, TrySendError};
+use std::sync::Arc;
 use std::time::Duration;
 
 /// What a full queue does with one line more.
@@ -16,69 +15,34 @@ pub enum QueuePolicy {
     DropOldest,
 }
 
-/// The lines that wait in a ring, and whether no more will come.
-#[derive(Debug, Default)]
-struct Waiting {
-    lines: VecDeque<String>,
-    ended: bool,
-}
-
-#[derive(Debug)]
-pub(crate) struct Ring {
-    capacity: usize,
-    waiting: Mutex<Waiting>,
-    changed: Condvar,
-}
-
-impl Ring {
-    fn waiting(&self) -> MutexGuard<'_, Waiting> {
-        self.waiting.lock().unwrap_or_else(PoisonError::into_inner)
-    }
-
-    fn receive(&self, left: Option<Duration>) -> Result<String, RecvTimeoutError> {
-        let (waiting, rests) = (self.waiting(), |waiting: &mut Waiting| waiting.lines.is_empty() && !waiting.ended);
-        let mut waiting = match left {
-            None => self.changed.wait_while(waiting, rests).unwrap_or_else(PoisonError::into_inner),
-            Some(left) => self.changed.wait_timeout_while(waiting, left, rests).unwrap_or_else(PoisonError::into_inner).0,
-        };
-        let end = if waiting.ended { RecvTimeoutError::Disconnected } else { RecvTimeoutError::Timeout };
-        waiting.lines.pop_front().ok_or(end)
-    }
-}
-
 /// The end of a queue for callers. After its drop the worker gets the lines that wait, and then the end.
 #[derive(Debug)]
 pub(crate) enum Callers {
-    Channel(Sender<String>),
-    Ring(RingEnd),
-}
-
-#[derive(Debug)]
-pub(crate) struct RingEnd(Arc<Ring>);
-
-impl Drop for RingEnd {
-    fn drop(&mut self) {
-        self.0.waiting().ended = true;
-        self.0.changed.notify_one();
-    }
+    Unbounded(mpsc::Sender<String>),
+    Bounded(mpsc::SyncSender<String>),
+    Ring(RingEnd<String>),
 }
 
 /// The end of a queue for its worker.
 pub(crate) enum Worker {
     Channel(mpsc::Receiver<String>),
-    Ring(Arc<Ring>),
+    Ring(Arc<Ring<String>>),
 }
 
 /// Makes a queue. Without a capacity it takes every line.
 pub(crate) fn line_queue(capacity: Option<usize>, policy: QueuePolicy) -> (Callers, Worker) {
-    match (capacity, policy) {
-        (Some(capacity), QueuePolicy::DropOldest) if capacity > 0 => {
-            let ring = Arc::new(Ring { capacity, waiting: Mutex::default(), changed: Condvar::new() });
-            (Callers::Ring(RingEnd(Arc::clone(&ring))), Worker::Ring(ring))
+    match capacity {
+        None => {
+            let (sender, receiver) = mpsc::channel();
+            (Callers::Unbounded(sender), Worker::Channel(receiver))
         }
-        _ => {
-            let (sender, receiver) = channel(capacity);
-            (Callers::Channel(sender), Worker::Channel(receiver))
+        Some(1..) if policy == QueuePolicy::DropOldest => {
+            let (end, ring) = ring(capacity, policy);
+            (Callers::Ring(end), Worker::Ring(ring))
+        }
+        Some(capacity) => {
+            let (sender, receiver) = mpsc::sync_channel(capacity);
+            (Callers::Bounded(sender), Worker::Channel(receiver))
         }
     }
 }
@@ -86,18 +50,15 @@ pub(crate) fn line_queue(capacity: Option<usize>, policy: QueuePolicy) -> (Calle
 impl Callers {
     /// Adds a line at the end, or returns why it can't. Returns whether the oldest line was dropped for it.
     pub(crate) fn add(&self, line: String) -> io::Result<bool> {
-        let ring = match self {
-            Callers::Channel(sender) => return sender.try_send(line).map(|()| false),
-            Callers::Ring(end) => &end.0,
-        };
-        let mut waiting = ring.waiting();
-        let drops = waiting.lines.len() == ring.capacity;
-        if drops {
-            waiting.lines.pop_front();
+        match self {
+            Callers::Unbounded(sender) => sender.send(line).map_err(|_| disconnected())?,
+            Callers::Bounded(sender) => sender.try_send(line).map_err(|error| match error {
+                TrySendError::Full(_) => full(),
+                TrySendError::Disconnected(_) => disconnected(),
+            })?,
+            Callers::Ring(end) => return end.add(line),
         }
-        waiting.lines.push_back(line);
-        ring.changed.notify_one();
-        Ok(drops)
+        Ok(false)
     }
 }
 

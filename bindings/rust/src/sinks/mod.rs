@@ -1,20 +1,21 @@
 //! Sinks: a client passes its lines to one.
 mod aggregating;
 mod buffer;
-mod channel;
 mod core;
 mod line_queue;
 mod queuing;
+mod receiver;
 mod resolve;
+mod ring;
 mod spy;
 mod udp;
 mod unix;
 
 pub use self::aggregating::{AggregatingMetricSink, AggregatingMetricSinkBuilder, LineKey};
-pub use self::channel::SpyReceiver;
 pub use self::core::{MetricSink, NopMetricSink, SinkStats, SocketStats};
 pub use self::line_queue::QueuePolicy;
 pub use self::queuing::{QueuingMetricSink, QueuingMetricSinkBuilder};
+pub use self::receiver::SpyReceiver;
 pub use self::spy::{BufferedSpyMetricSink, SpyMetricSink};
 pub use self::udp::{BufferedUdpMetricSink, BufferedUdpMetricSinkBuilder, UdpMetricSink, UdpMetricSinkBuilder};
 pub use self::unix::{BufferedUnixMetricSink, UnixMetricSink};

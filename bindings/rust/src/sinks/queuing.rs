@@ -1,7 +1,7 @@
 //! A sink that passes lines to another one in a thread of its own.
-use super::channel::disconnected;
 use super::core::{MetricSink, SinkStats};
 use super::line_queue::{line_queue, Callers, QueuePolicy, Worker};
+use super::ring::disconnected;
 use crate::sync::run_to_end;
 use std::cell::Cell;
 use std::fmt;
@@ -50,8 +50,15 @@ impl QueuingMetricSinkBuilder {
         let sink = Arc::new(sink);
         let (callers, lines) = line_queue(self.capacity, self.policy);
         let counts = Arc::new(Counts::default());
-        let flushes = self.period.map(FlushTimer::new);
-        let job = Job { lines, counts: Arc::clone(&counts), sink: Arc::clone(&sink), errors: self.errors, flushes };
+        let job = Job {
+            lines,
+            counts: Arc::clone(&counts),
+            sink: Arc::clone(&sink),
+            errors: self.errors,
+            period: self.period,
+            flushed: Cell::new(Instant::now()),
+            due_after: Cell::new(None),
+        };
         let panics = run_to_end(move || job.run()).expect("a queuing sink needs a thread");
         QueuingMetricSink { queue: Arc::new(callers), counts, panics, sink }
     }
@@ -81,83 +88,63 @@ impl QueuingMetricSinkBuilder {
     /// whenever no line waits. After an error, which goes to the handler, the worker tries again one period later, and
     /// after a millisecond at least. The crate `cadence` doesn't have this call.
     pub fn with_flush_period(mut self, period: Duration) -> Self {
-        self.period = Some(period);
+        self.period = Some(if period.is_zero() { period } else { period.max(MILLISECOND) });
         self
     }
 }
 
 const MILLISECOND: Duration = Duration::from_millis(1);
 
-/// When a worker flushes the wrapped sink. What it knows survives a panic of the worker's job.
-struct FlushTimer {
-    /// `None` if the worker flushes whenever no line waits.
-    period: Option<Duration>,
-    last: Cell<Instant>,
-    owed: Cell<bool>,
-    failed: Cell<bool>,
-}
-
-impl FlushTimer {
-    fn new(period: Duration) -> FlushTimer {
-        let period = (!period.is_zero()).then(|| period.max(MILLISECOND));
-        FlushTimer { period, last: Cell::new(Instant::now()), owed: Cell::new(false), failed: Cell::new(false) }
-    }
-
-    /// Returns how long the worker may wait for a line before it flushes, if it owes a flush.
-    fn left(&self) -> Option<Duration> {
-        let period = self.period.unwrap_or(if self.failed.get() { MILLISECOND } else { Duration::ZERO });
-        self.owed.get().then(|| period.saturating_sub(self.last.get().elapsed()))
-    }
-
-    /// Returns whether a flush is due, also if lines wait.
-    fn is_due(&self) -> bool {
-        self.period.is_some() && self.left() == Some(Duration::ZERO)
-    }
-}
-
-/// What a worker does.
+/// What a worker does. What it knows survives a panic of the wrapped sink.
 struct Job<T> {
     lines: Worker,
     counts: Arc<Counts>,
     sink: Arc<T>,
     errors: Option<Handler>,
-    flushes: Option<FlushTimer>,
+    period: Option<Duration>,
+    /// When the sink was flushed last, and how long after that the next flush is due, if one is owed.
+    flushed: Cell<Instant>,
+    due_after: Cell<Option<Duration>>,
 }
 
 impl<T: MetricSink> Job<T> {
     fn run(&self) {
         loop {
             self.counts.passed.store(self.counts.drained.load(Ordering::Relaxed), Ordering::Release);
-            match self.lines.wait(self.flushes.as_ref().and_then(FlushTimer::left)) {
+            match self.lines.wait(self.left()) {
                 Ok(line) => self.pass_on(&line),
                 Err(RecvTimeoutError::Timeout) => self.flush(),
                 Err(RecvTimeoutError::Disconnected) => break,
             }
         }
-        if self.flushes.as_ref().is_some_and(|flushes| flushes.owed.get()) {
+        if self.due_after.get().is_some() {
             self.flush();
         }
     }
 
+    /// Returns how long the worker may wait for a line before it flushes, if it owes a flush.
+    fn left(&self) -> Option<Duration> {
+        self.due_after.get().map(|time| time.saturating_sub(self.flushed.get().elapsed()))
+    }
+
     fn pass_on(&self, line: &str) {
         self.counts.drained.fetch_add(1, Ordering::Relaxed);
-        if let Some(flushes) = &self.flushes {
-            flushes.owed.set(true);
-        }
+        self.due_after.set(self.due_after.get().or(self.period));
         self.tell(self.sink.emit(line));
-        if self.flushes.as_ref().is_some_and(FlushTimer::is_due) {
+        // Without a time between flushes, a flush waits until no line does.
+        if self.period != Some(Duration::ZERO) && self.left() == Some(Duration::ZERO) {
             self.flush();
         }
     }
 
     fn flush(&self) {
-        let Some(flushes) = &self.flushes else { return };
-        flushes.last.set(Instant::now());
+        self.flushed.set(Instant::now());
         // After a panic of the sink no flush is owed, so that a worker at its end doesn't try for ever.
-        flushes.owed.set(false);
+        self.due_after.set(None);
         let result = self.sink.flush();
-        flushes.failed.set(result.is_err());
-        flushes.owed.set(result.is_err());
+        if result.is_err() {
+            self.due_after.set(self.period.map(|period| period.max(MILLISECOND)));
+        }
         self.tell(result);
     }
 

@@ -1,6 +1,8 @@
 //! Sinks for tests, whose lines a receiver returns.
-use super::buffer::{buffered_sink, Buffer, Outlet};
-use super::channel::{spy_channel, SpyReceiver, SpySender};
+use super::buffer::{buffered_sink, Buffer};
+use super::line_queue::QueuePolicy;
+use super::receiver::SpyReceiver;
+use super::ring::{ring, RingEnd};
 use super::{MetricSink, SinkStats, DEFAULT_CAPACITY};
 use std::io;
 
@@ -17,9 +19,7 @@ use std::io;
 /// assert_eq!(b"my.service.visits:3|c".to_vec(), receiver.recv().unwrap());
 /// ```
 #[derive(Debug)]
-pub struct SpyMetricSink {
-    sender: SpySender,
-}
+pub struct SpyMetricSink(RingEnd<Vec<u8>>);
 
 impl SpyMetricSink {
     /// Makes a spy that accepts every line.
@@ -34,20 +34,15 @@ impl SpyMetricSink {
     }
 
     fn of(queue: Option<usize>) -> (SpyReceiver<Vec<u8>>, Self) {
-        let (sender, receiver) = spy_channel(queue);
-        (receiver, SpyMetricSink { sender })
+        let (end, ring) = ring(queue, QueuePolicy::Refuse);
+        (SpyReceiver(ring), SpyMetricSink(end))
     }
 }
 
 impl MetricSink for SpyMetricSink {
     fn emit(&self, metric: &str) -> io::Result<usize> {
-        self.sender.send(metric.as_bytes())
-    }
-}
-
-impl Outlet for SpySender {
-    fn send(&self, packet: &[u8]) -> io::Result<usize> {
-        SpySender::send(self, packet)
+        self.0.add(metric.as_bytes().to_vec())?;
+        Ok(metric.len())
     }
 }
 
@@ -68,9 +63,7 @@ impl Outlet for SpySender {
 /// assert_eq!(b"my.service.visits:1|c\nmy.service.logins:1|c\n".to_vec(), receiver.recv().unwrap());
 /// ```
 #[derive(Debug)]
-pub struct BufferedSpyMetricSink {
-    buffer: Buffer<SpySender>,
-}
+pub struct BufferedSpyMetricSink(Buffer<SpyMetricSink>);
 
 impl BufferedSpyMetricSink {
     /// Makes a spy with packets of at most 512 bytes, which accepts every packet.
@@ -86,8 +79,8 @@ impl BufferedSpyMetricSink {
     ///
     /// If memory for the buffer is refused.
     pub fn with_capacity(queue: Option<usize>, buffer: Option<usize>) -> (SpyReceiver<Vec<u8>>, Self) {
-        let (sender, receiver) = spy_channel(queue);
-        (receiver, BufferedSpyMetricSink { buffer: Buffer::expect(sender, buffer.unwrap_or(DEFAULT_CAPACITY)) })
+        let (receiver, sink) = SpyMetricSink::of(queue);
+        (receiver, BufferedSpyMetricSink(Buffer::expect(sink, buffer.unwrap_or(DEFAULT_CAPACITY))))
     }
 }
 

@@ -1,5 +1,5 @@
 //! Sinks over UDP.
-use super::buffer::{buffered_sink, Buffer, Outlet};
+use super::buffer::{buffered_sink, Buffer};
 use super::core::{MetricSink, SinkStats, SocketStats};
 use super::resolve::{LookupHandler, Resolver};
 use super::DEFAULT_CAPACITY;
@@ -9,29 +9,6 @@ use std::io;
 use std::net::{ToSocketAddrs, UdpSocket};
 use std::panic::RefUnwindSafe;
 use std::time::Duration;
-
-#[derive(Debug)]
-struct UdpOutlet {
-    resolver: Resolver,
-    socket: UdpSocket,
-    stats: SocketStats,
-}
-
-impl UdpOutlet {
-    fn new(resolver: Resolver, socket: UdpSocket) -> Self {
-        UdpOutlet { resolver, socket, stats: SocketStats::default() }
-    }
-}
-
-impl Outlet for UdpOutlet {
-    fn send(&self, packet: &[u8]) -> io::Result<usize> {
-        self.stats.update(self.socket.send_to(packet, self.resolver.address()), packet.len())
-    }
-
-    fn stats(&self) -> SocketStats {
-        self.stats.clone()
-    }
-}
 
 /// Makes a [`UdpMetricSink`] that looks its host up again and again.
 ///
@@ -69,7 +46,7 @@ impl UdpMetricSinkBuilder {
         to_addr: A,
         socket: UdpSocket,
     ) -> MetricResult<UdpMetricSink> {
-        Ok(UdpMetricSink { outlet: UdpOutlet::new(Resolver::new(to_addr, self.period, self.errors)?, socket) })
+        Ok(UdpMetricSink::of(Resolver::new(to_addr, self.period, self.errors)?, socket))
     }
 
     /// Lets a thread look the host up again after each period. The drop of the sink ends the thread.
@@ -106,7 +83,9 @@ impl UdpMetricSinkBuilder {
 /// ```
 #[derive(Debug)]
 pub struct UdpMetricSink {
-    outlet: UdpOutlet,
+    resolver: Resolver,
+    socket: UdpSocket,
+    stats: SocketStats,
 }
 
 impl UdpMetricSink {
@@ -119,17 +98,21 @@ impl UdpMetricSink {
     ///
     /// It fails with `IoError` if the host can't be looked up, and with `InvalidInput` if it has no address.
     pub fn from<A: ToSocketAddrs>(to_addr: A, socket: UdpSocket) -> MetricResult<Self> {
-        Ok(UdpMetricSink { outlet: UdpOutlet::new(Resolver::once(&to_addr)?, socket) })
+        Ok(Self::of(Resolver::once(&to_addr)?, socket))
+    }
+
+    fn of(resolver: Resolver, socket: UdpSocket) -> Self {
+        UdpMetricSink { resolver, socket, stats: SocketStats::default() }
     }
 }
 
 impl MetricSink for UdpMetricSink {
     fn emit(&self, metric: &str) -> io::Result<usize> {
-        self.outlet.send(metric.as_bytes())
+        self.stats.update(self.socket.send_to(metric.as_bytes(), self.resolver.address()), metric.len())
     }
 
     fn stats(&self) -> SinkStats {
-        (&self.outlet.stats).into()
+        (&self.stats).into()
     }
 }
 
@@ -138,7 +121,7 @@ impl MetricSink for UdpMetricSink {
 #[derive(Default)]
 pub struct BufferedUdpMetricSinkBuilder {
     capacity: Option<usize>,
-    outlet: UdpMetricSinkBuilder,
+    sink: UdpMetricSinkBuilder,
 }
 
 impl BufferedUdpMetricSinkBuilder {
@@ -154,8 +137,8 @@ impl BufferedUdpMetricSinkBuilder {
         to_addr: A,
         socket: UdpSocket,
     ) -> MetricResult<BufferedUdpMetricSink> {
-        let outlet = self.outlet.build(to_addr, socket)?.outlet;
-        BufferedUdpMetricSink::of(outlet, self.capacity.unwrap_or(DEFAULT_CAPACITY))
+        let sink = self.sink.build(to_addr, socket)?;
+        Ok(BufferedUdpMetricSink(Buffer::new(sink, self.capacity.unwrap_or(DEFAULT_CAPACITY))?))
     }
 
     /// Sets how many bytes a packet has at most.
@@ -166,7 +149,7 @@ impl BufferedUdpMetricSinkBuilder {
 
     /// Lets a thread look the host up again after each period. The drop of the sink ends the thread.
     pub fn with_resolver_period(mut self, duration: Duration) -> Self {
-        self.outlet = self.outlet.with_resolver_period(duration);
+        self.sink = self.sink.with_resolver_period(duration);
         self
     }
 
@@ -176,7 +159,7 @@ impl BufferedUdpMetricSinkBuilder {
         mut self,
         error_handler: F,
     ) -> Self {
-        self.outlet = self.outlet.with_resolver_error_handler(error_handler);
+        self.sink = self.sink.with_resolver_error_handler(error_handler);
         self
     }
 }
@@ -209,9 +192,7 @@ impl BufferedUdpMetricSinkBuilder {
 /// assert_eq!(b"my.service.visits:1|c\nmy.service.load:0.75|g\n", &packet[..size]);
 /// ```
 #[derive(Debug)]
-pub struct BufferedUdpMetricSink {
-    buffer: Buffer<UdpOutlet>,
-}
+pub struct BufferedUdpMetricSink(Buffer<UdpMetricSink>);
 
 impl BufferedUdpMetricSink {
     /// Makes a sink with packets of at most 512 bytes, which sends to the first address that the host has now.
@@ -225,16 +206,12 @@ impl BufferedUdpMetricSink {
     /// Makes a sink with packets of at most `cap` bytes, which sends to the first address that the host has now. The
     /// socket keeps its settings, such as whether it blocks. It fails as [`from`](Self::from) does.
     pub fn with_capacity<A: ToSocketAddrs>(to_addr: A, socket: UdpSocket, cap: usize) -> MetricResult<Self> {
-        Self::of(UdpOutlet::new(Resolver::once(&to_addr)?, socket), cap)
+        Ok(BufferedUdpMetricSink(Buffer::new(UdpMetricSink::from(to_addr, socket)?, cap)?))
     }
 
     /// Starts a sink that may look its host up again and again.
     pub fn builder() -> BufferedUdpMetricSinkBuilder {
         BufferedUdpMetricSinkBuilder::new()
-    }
-
-    fn of(outlet: UdpOutlet, capacity: usize) -> MetricResult<Self> {
-        Ok(BufferedUdpMetricSink { buffer: Buffer::new(outlet, capacity)? })
     }
 }
 

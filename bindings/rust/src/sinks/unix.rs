@@ -1,33 +1,10 @@
 //! Sinks over Unix datagram sockets.
-use super::buffer::{buffered_sink, Buffer, Outlet};
+use super::buffer::{buffered_sink, Buffer};
 use super::core::{MetricSink, SinkStats, SocketStats};
 use super::DEFAULT_CAPACITY;
 use std::io;
 use std::os::unix::net::UnixDatagram;
 use std::path::{Path, PathBuf};
-
-#[derive(Debug)]
-struct UnixOutlet {
-    socket: UnixDatagram,
-    path: PathBuf,
-    stats: SocketStats,
-}
-
-impl UnixOutlet {
-    fn new<P: AsRef<Path>>(path: P, socket: UnixDatagram) -> Self {
-        UnixOutlet { socket, path: path.as_ref().to_path_buf(), stats: SocketStats::default() }
-    }
-}
-
-impl Outlet for UnixOutlet {
-    fn send(&self, packet: &[u8]) -> io::Result<usize> {
-        self.stats.update(self.socket.send_to(packet, &self.path), packet.len())
-    }
-
-    fn stats(&self) -> SocketStats {
-        self.stats.clone()
-    }
-}
 
 /// Sends each line as a datagram to a Unix socket, in the caller's thread.
 ///
@@ -42,23 +19,25 @@ impl Outlet for UnixOutlet {
 /// ```
 #[derive(Debug)]
 pub struct UnixMetricSink {
-    outlet: UnixOutlet,
+    socket: UnixDatagram,
+    path: PathBuf,
+    stats: SocketStats,
 }
 
 impl UnixMetricSink {
     /// Makes a sink that sends to a path. The socket keeps its settings, such as whether it blocks, and may be unbound.
     pub fn from<P: AsRef<Path>>(path: P, socket: UnixDatagram) -> UnixMetricSink {
-        UnixMetricSink { outlet: UnixOutlet::new(path, socket) }
+        UnixMetricSink { socket, path: path.as_ref().to_path_buf(), stats: SocketStats::default() }
     }
 }
 
 impl MetricSink for UnixMetricSink {
     fn emit(&self, metric: &str) -> io::Result<usize> {
-        self.outlet.send(metric.as_bytes())
+        self.stats.update(self.socket.send_to(metric.as_bytes(), &self.path), metric.len())
     }
 
     fn stats(&self) -> SinkStats {
-        (&self.outlet.stats).into()
+        (&self.stats).into()
     }
 }
 
@@ -75,9 +54,7 @@ impl MetricSink for UnixMetricSink {
 /// let client = StatsdClient::from_sink("my.service", sink);
 /// ```
 #[derive(Debug)]
-pub struct BufferedUnixMetricSink {
-    buffer: Buffer<UnixOutlet>,
-}
+pub struct BufferedUnixMetricSink(Buffer<UnixMetricSink>);
 
 impl BufferedUnixMetricSink {
     /// Makes a sink with packets of at most 512 bytes, which sends to a path.
@@ -96,7 +73,7 @@ impl BufferedUnixMetricSink {
     ///
     /// If memory for the buffer is refused.
     pub fn with_capacity<P: AsRef<Path>>(path: P, socket: UnixDatagram, cap: usize) -> BufferedUnixMetricSink {
-        BufferedUnixMetricSink { buffer: Buffer::expect(UnixOutlet::new(path, socket), cap) }
+        BufferedUnixMetricSink(Buffer::expect(UnixMetricSink::from(path, socket), cap))
     }
 }
 
