@@ -46,16 +46,21 @@ impl<'m, 'c, T: Metric + From<String>> MetricBuilder<'m, 'c, T> {
         self
     }
 
+    #[inline]
+    pub(crate) fn tagged(self, tag: Tag<'m>) -> Self {
+        self.with(|record| record.add_tag(tag))
+    }
+
     /// Adds a tag with a key and a value, after the client's tags and those that were added before.
     #[inline]
     pub fn with_tag(self, key: &'m str, value: &'m str) -> Self {
-        self.with(|record| record.add_tag(Tag::new(Some(key), value)))
+        self.tagged(Tag::new(Some(key), value))
     }
 
     /// Adds a tag that is only a value, after the client's tags and those that were added before.
     #[inline]
     pub fn with_tag_value(self, value: &'m str) -> Self {
-        self.with(|record| record.add_tag(Tag::new(None, value)))
+        self.tagged(Tag::new(None, value))
     }
 
     /// Sets the container, in place of the client's.
@@ -98,9 +103,3 @@ impl<'m, 'c, T: Metric + From<String>> MetricBuilder<'m, 'c, T> {
         }
     }
 }
-
-// A builder is `Send` and `Sync`, as a builder of the crate `cadence` is.
-const _: fn() = || {
-    fn both<T: Send + Sync>() {}
-    both::<MetricBuilder<'_, '_, crate::Counter>>();
-};

@@ -1,18 +1,17 @@
 //! The client, its builder and the traits of its calls.
 use crate::builder::MetricBuilder;
-use crate::layout::Kind;
+use crate::layout::{Kind, Tag};
 use crate::line::Record;
-use crate::raw::{separator_error, OwnedSettings};
+use crate::raw::{call_refusal, OwnedSettings, OK};
 use crate::sealed::Sealed;
-use crate::settings;
 use crate::sinks::MetricSink;
-use crate::types::{Counter, Distribution, ErrorKind, Gauge, Histogram, Meter, Metric, MetricError, MetricResult, Set, Timer};
+use crate::types::{Counter, Distribution, Gauge, Histogram, Meter, Metric, MetricError, MetricResult, Set, Timer};
 use crate::value::{
     MetricValue, ToCounterValue, ToDistributionValue, ToGaugeValue, ToHistogramValue, ToMeterValue, ToSetValue, ToTimerValue,
 };
+use std::fmt;
 use std::panic::RefUnwindSafe;
 use std::time::Duration;
-use std::{fmt, io};
 
 /// Makes a client from a prefix, a sink, default tags, a container and an error handler.
 ///
@@ -37,9 +36,8 @@ pub struct StatsdClientBuilder {
 
 impl StatsdClientBuilder {
     fn new<S: MetricSink + Sync + Send + RefUnwindSafe + 'static>(prefix: &str, sink: S) -> Self {
-        let (sink, errors, settings) =
-            (Box::new(sink), Box::new(|_| ()), OwnedSettings::new(String::new(), String::new(), None, false));
-        let client = StatsdClient { settings, sink, errors, tags: Vec::new(), refusal: None };
+        let (settings, sink, errors) = (OwnedSettings::default(), Box::new(sink), Box::new(|_| ()));
+        let client = StatsdClient { settings, sink, errors, tags: Vec::new(), refusal: OK };
         StatsdClientBuilder { client, prefix: prefix.to_string(), container: None, strict: false }
     }
 
@@ -92,9 +90,10 @@ impl StatsdClientBuilder {
 
     /// Makes the client.
     pub fn build(mut self) -> StatsdClient {
-        match settings::make(&self.prefix, &self.client.tags, self.container, self.strict) {
+        let tags: Vec<Tag<'_>> = self.client.tags.iter().map(|(key, text)| Tag::new(key.as_deref(), text)).collect();
+        match OwnedSettings::new(&self.prefix, &tags, self.container.as_deref(), self.strict) {
             Ok(settings) => self.client.settings = settings,
-            Err(error) => self.client.refusal = Some(error.kind()),
+            Err(status) => self.client.refusal = status,
         }
         self.client
     }
@@ -129,8 +128,8 @@ pub struct StatsdClient {
     sink: Box<dyn MetricSink + Sync + Send + RefUnwindSafe>,
     errors: Box<dyn Fn(MetricError) + Sync + Send + RefUnwindSafe>,
     tags: Vec<(Option<String>, String)>,
-    /// The kind of error of each call, if the settings couldn't be made.
-    refusal: Option<ErrorKind>,
+    /// The status that the library returned for the settings. If it isn't `OK`, each call fails with its error.
+    refusal: u32,
 }
 
 impl StatsdClient {
@@ -164,9 +163,8 @@ impl StatsdClient {
     #[inline]
     pub(crate) fn check(&self) -> MetricResult<()> {
         match self.refusal {
-            None => Ok(()),
-            Some(ErrorKind::InvalidInput) => Err(separator_error()),
-            Some(_) => Err(io::Error::from(io::ErrorKind::OutOfMemory).into()),
+            OK => Ok(()),
+            status => Err(call_refusal(status)),
         }
     }
 

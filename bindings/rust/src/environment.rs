@@ -5,7 +5,7 @@ use crate::raw::{destination, environment_tags, variable_text};
 use crate::sinks::{BufferedUdpMetricSink, BufferedUnixMetricSink};
 use crate::types::MetricResult;
 use std::ffi::OsString;
-use std::net::{Ipv4Addr, Ipv6Addr, SocketAddr, ToSocketAddrs, UdpSocket};
+use std::net::{SocketAddr, ToSocketAddrs, UdpSocket};
 use std::os::unix::net::UnixDatagram;
 use std::{env, error, fmt};
 
@@ -156,10 +156,7 @@ impl Environment {
 /// Makes a sink over UDP, with a socket of the family of the host's first address.
 fn udp_sink(host: &str, port: u16) -> MetricResult<BufferedUdpMetricSink> {
     let addresses: Vec<SocketAddr> = (host, port).to_socket_addrs()?.collect();
-    let any = match addresses.first() {
-        Some(SocketAddr::V6(_)) => SocketAddr::from((Ipv6Addr::UNSPECIFIED, 0)),
-        _ => SocketAddr::from((Ipv4Addr::UNSPECIFIED, 0)),
-    };
+    let any = if addresses.first().is_some_and(SocketAddr::is_ipv6) { "[::]:0" } else { "0.0.0.0:0" };
     let socket = UdpSocket::bind(any)?;
     socket.set_nonblocking(true)?;
     BufferedUdpMetricSink::from(&addresses[..], socket)

@@ -1,5 +1,6 @@
 //! A timer that sends how long a scope took.
 use crate::client::{StatsdClient, Timed};
+use crate::layout::Tag;
 use crate::types::{MetricResult, Timer};
 use std::fmt;
 use std::time::{Duration, Instant};
@@ -22,7 +23,7 @@ use std::time::{Duration, Instant};
 pub struct TimingGuard<'a> {
     client: &'a StatsdClient,
     key: &'a str,
-    tags: Vec<(Option<&'a str>, &'a str)>,
+    tags: Vec<Tag<'a>>,
     start: Option<Instant>,
 }
 
@@ -36,13 +37,13 @@ impl StatsdClient {
 impl<'a> TimingGuard<'a> {
     /// Adds a tag with a key.
     pub fn with_tag(mut self, key: &'a str, value: &'a str) -> Self {
-        self.tags.push((Some(key), value));
+        self.tags.push(Tag::new(Some(key), value));
         self
     }
 
     /// Adds a tag without a key.
     pub fn with_tag_value(mut self, value: &'a str) -> Self {
-        self.tags.push((None, value));
+        self.tags.push(Tag::new(None, value));
         self
     }
 
@@ -54,10 +55,7 @@ impl<'a> TimingGuard<'a> {
     }
 
     fn builder(&self, time: Duration) -> crate::MetricBuilder<'_, '_, Timer> {
-        self.tags.iter().fold(self.client.time_with_tags(self.key, time), |builder, tag| match *tag {
-            (Some(key), value) => builder.with_tag(key, value),
-            (None, value) => builder.with_tag_value(value),
-        })
+        self.tags.iter().fold(self.client.time_with_tags(self.key, time), |builder, tag| builder.tagged(*tag))
     }
 }
 

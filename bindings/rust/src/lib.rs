@@ -84,7 +84,6 @@ mod packer;
 pub mod prelude;
 #[allow(unsafe_code)]
 mod raw;
-mod settings;
 mod sinks;
 #[allow(unsafe_code)]
 mod sums;

@@ -1,16 +1,9 @@
 //! The line of a metric.
 use crate::layout::{Kind, Options, Settings, Tag};
-use crate::raw::{append_line, decimal_of, Numbers, Tags};
+use crate::raw::{decimal_of, write_line, Tags};
 use crate::types::MetricResult;
 use crate::value::MetricValue;
 use std::fmt;
-
-/// How many bytes a number has in a line at most, which is so many for a decimal of 30 places.
-const NUMBER: usize = 33;
-
-/// How many bytes a line has at most beside its texts and its values: the kind, the rate, the time and the characters
-/// between the parts.
-const REST: usize = 2 * NUMBER + 16;
 
 /// What a line is made of. The library formats it.
 pub(crate) struct Record<'a> {
@@ -37,14 +30,12 @@ impl<'a> Record<'a> {
     // Inlined, because the call would save and load all registers.
     #[inline(always)]
     pub(crate) fn write(&self, line: &mut String) -> MetricResult<()> {
-        let numbers = Numbers::new(&self.value);
         let mut options = self.options.with_tags(self.tags.as_slice());
         if let Some(rate) = self.rate {
             options.set_rate(decimal_of(rate)?);
         }
         let texts = self.settings.size() + self.key.len() + self.tags_size + options.size();
-        *line = String::with_capacity(texts + numbers.len * (NUMBER + 1) + REST);
-        append_line(line, self.settings, self.kind, self.key, numbers, &options)
+        write_line(line, texts, self.settings, self.kind, self.key, &self.value, &options)
     }
 
     #[inline]

@@ -45,9 +45,26 @@ pub(crate) struct OwnedSettings {
 }
 
 impl OwnedSettings {
-    pub(crate) fn new(prefix: String, tags: String, container: Option<String>, strict: bool) -> OwnedSettings {
-        let contained = container.is_some();
-        let texts = [prefix, tags, container.unwrap_or_default()];
+    /// Makes settings of a prefix, default tags, a default container, and whether they are strict. The error is a status,
+    /// which is `SEPARATOR` if they are strict and a text has a separator.
+    pub(crate) fn new(prefix: &str, tags: &[Tag<'_>], container: Option<&str>, strict: bool) -> Result<Self, u32> {
+        let text = container.unwrap_or_default();
+        // SAFETY: each pointer comes with the length of its slice. The first text is a part of the prefix and a dot, and the
+        // second one consists of texts in UTF-8 and of ASCII characters.
+        let texts = unsafe {
+            if strict && cadence_test_text(text.as_ptr(), text.len()) != OK {
+                return Err(SEPARATOR);
+            }
+            [
+                text_of(|out, room, size| cadence_prefix_text(prefix.as_ptr(), prefix.len(), strict, out, room, size))?,
+                text_of(|out, room, size| cadence_tags_text(tags.as_ptr(), tags.len(), strict, out, room, size))?,
+                text.to_string(),
+            ]
+        };
+        Ok(Self::of(texts, container.is_some(), strict))
+    }
+
+    fn of(texts: [String; 3], contained: bool, strict: bool) -> OwnedSettings {
         let [prefix, tags, container] = texts.each_ref().map(String::as_str);
         let lent = Settings::new(prefix, tags, contained.then_some(container), strict);
         // SAFETY: `lend` returns it only for as long as the texts are there.
@@ -67,6 +84,12 @@ impl OwnedSettings {
     }
 }
 
+impl Default for OwnedSettings {
+    fn default() -> Self {
+        Self::of(Default::default(), false, false)
+    }
+}
+
 pub(crate) const OK: u32 = 0;
 const NO_MEMORY: u32 = 2;
 pub(crate) const FULL: u32 = 3;
@@ -75,32 +98,24 @@ pub(crate) const TOO_SMALL: u32 = 7;
 const SEPARATOR: u32 = 8;
 const VARIABLE: u32 = 9;
 
-/// A call that writes a line. `values` points to numbers of the type that the call expects.
-type Format = unsafe extern "C" fn(
-    settings: *const Settings<'_>,
-    kind: u32,
-    key: *const u8,
-    key_len: usize,
-    values: *const c_void,
-    values_len: usize,
-    options: *const Options<'_>,
-    out: *mut u8,
-    room: usize,
-    size: *mut usize,
-) -> u32;
-
+/// Declares the calls that write a line, and their type. `values` points to numbers of the type that the call expects.
 macro_rules! formats {
-    ($($name:ident)*) => {
+    ($arguments:tt $($name:ident)*) => {
+        type Format = unsafe extern "C" fn $arguments -> u32;
+
         unsafe extern "C" {
-            $(fn $name(
-                settings: *const Settings<'_>, kind: u32, key: *const u8, key_len: usize, values: *const c_void,
-                values_len: usize, options: *const Options<'_>, out: *mut u8, room: usize, size: *mut usize,
-            ) -> u32;)*
+            $(fn $name $arguments -> u32;)*
         }
     };
 }
 
-formats! { cadence_format_signed cadence_format_unsigned cadence_format_floating }
+formats! {
+    (
+        settings: *const Settings<'_>, kind: u32, key: *const u8, key_len: usize, values: *const c_void, values_len: usize,
+        options: *const Options<'_>, out: *mut u8, room: usize, size: *mut usize,
+    )
+    cadence_format_signed cadence_format_unsigned cadence_format_floating
+}
 
 unsafe extern "C" {
     fn cadence_prefix_text(prefix: *const u8, len: usize, strict: bool, out: *mut u8, room: usize, size: *mut usize) -> u32;
@@ -123,9 +138,18 @@ unsafe extern "C" {
         variable: *mut u32,
     ) -> u32;
     fn cadence_variable_text(variable: u32, out: *mut u8, room: usize, size: *mut usize) -> u32;
+    fn cadence_c_lend(lent: bool);
 }
 
-/// Returns the error of a status that isn't `OK`.
+/// Returns an error if a status isn't `OK`.
+#[inline]
+pub(crate) fn checked(status: u32) -> io::Result<()> {
+    match status {
+        OK => Ok(()),
+        status => Err(refusal(status)),
+    }
+}
+
 #[cold]
 fn refusal(status: u32) -> io::Error {
     match status {
@@ -134,36 +158,15 @@ fn refusal(status: u32) -> io::Error {
     }
 }
 
-/// Returns an error if a status isn't `OK`.
-#[inline]
-pub(crate) fn checked(status: u32) -> io::Result<()> {
-    if status == OK {
-        Ok(())
-    } else {
-        Err(refusal(status))
-    }
-}
-
-/// Returns the error of a call that makes or tests a text.
+/// Returns the error of a call that was given texts and numbers. Kinds and rates are valid here, so a number that is invalid
+/// is a float.
 #[cold]
-fn text_refusal(status: u32) -> MetricError {
+pub(crate) fn call_refusal(status: u32) -> MetricError {
     match status {
-        SEPARATOR => separator_error(),
-        INVALID => number_error(),
+        SEPARATOR => (ErrorKind::InvalidInput, "separator in a text").into(),
+        INVALID => (ErrorKind::InvalidInput, "a float is NaN, infinite or too large").into(),
         status => refusal(status).into(),
     }
-}
-
-/// Returns the error of a strict client that was given a text with a separator.
-#[cold]
-pub(crate) fn separator_error() -> MetricError {
-    MetricError::from((ErrorKind::InvalidInput, "separator in a text"))
-}
-
-/// Returns the error of a number that the library doesn't print. Kinds and rates are valid here, so the number is a float.
-#[cold]
-fn number_error() -> MetricError {
-    MetricError::from((ErrorKind::InvalidInput, "a float is NaN, infinite or too large"))
 }
 
 /// Adds the text that a call of the library writes to a text. `call` gets the spare room of the text, and how many bytes
@@ -200,30 +203,6 @@ unsafe fn text_of(call: impl FnMut(*mut u8, usize, &mut usize) -> u32) -> Result
     unsafe { append(&mut text, call) }.map(|()| text)
 }
 
-/// Returns the text that each name with a prefix begins with. It fails with `InvalidInput` if it is strict and the prefix
-/// has a separator.
-pub(crate) fn prefix_text(prefix: &str, strict: bool) -> MetricResult<String> {
-    let (at, len) = (prefix.as_ptr(), prefix.len());
-    // SAFETY: each pointer comes with the length of its slice. The text is a part of the prefix and a dot.
-    unsafe { text_of(|out, room, size| cadence_prefix_text(at, len, strict, out, room, size)) }.map_err(text_refusal)
-}
-
-/// Returns the text of default tags. It fails with `InvalidInput` if it is strict and a tag has a separator.
-pub(crate) fn tags_text(tags: &[Tag<'_>], strict: bool) -> MetricResult<String> {
-    let (at, len) = (tags.as_ptr(), tags.len());
-    // SAFETY: as in `prefix_text`; the text consists of texts in UTF-8 and of ASCII characters.
-    unsafe { text_of(|out, room, size| cadence_tags_text(at, len, strict, out, room, size)) }.map_err(text_refusal)
-}
-
-/// Returns an error if a text has a separator.
-pub(crate) fn test_text(text: &str) -> MetricResult<()> {
-    // SAFETY: the pointer comes with the length of its slice.
-    match unsafe { cadence_test_text(text.as_ptr(), text.len()) } {
-        OK => Ok(()),
-        status => Err(text_refusal(status)),
-    }
-}
-
 /// Returns the decimal of a rate. It fails with `InvalidInput` if the rate is NaN or infinite, or if its decimal needs more
 /// than 63 bits.
 #[inline]
@@ -232,7 +211,7 @@ pub(crate) fn decimal_of(rate: f64) -> MetricResult<Decimal> {
     // SAFETY: the call writes a decimal in the layout of `Decimal`.
     match unsafe { cadence_decimal_of_double(rate, &mut decimal) } {
         OK => Ok(decimal),
-        _ => Err(number_error()),
+        status => Err(call_refusal(status)),
     }
 }
 
@@ -330,70 +309,51 @@ impl fmt::Debug for Tags<'_> {
     }
 }
 
-/// The numbers of a value as the library reads them: where they are, how many there are, and the call for their type.
-pub(crate) struct Numbers<'a> {
-    format: Format,
-    at: *const c_void,
-    pub(crate) len: usize,
-    of: PhantomData<&'a MetricValue>,
-}
-
-impl<'a> Numbers<'a> {
-    #[inline]
-    pub(crate) fn new(value: &'a MetricValue) -> Self {
-        let (format, at, len): (Format, *const c_void, usize) = match value {
-            MetricValue::Signed(value) => (cadence_format_signed, ptr::from_ref(value).cast(), 1),
-            MetricValue::PackedSigned(values) => (cadence_format_signed, values.as_ptr().cast(), values.len()),
-            MetricValue::Unsigned(value) => (cadence_format_unsigned, ptr::from_ref(value).cast(), 1),
-            MetricValue::PackedUnsigned(values) => (cadence_format_unsigned, values.as_ptr().cast(), values.len()),
-            MetricValue::Float(value) => (cadence_format_floating, ptr::from_ref(value).cast(), 1),
-            MetricValue::PackedFloat(values) => (cadence_format_floating, values.as_ptr().cast(), values.len()),
-        };
-        Numbers { format, at, len, of: PhantomData }
+/// Returns the numbers of a value as the library reads them: the call for their type, where they are, and how many there are.
+#[inline]
+fn numbers_of(value: &MetricValue) -> (Format, *const c_void, usize) {
+    match value {
+        MetricValue::Signed(value) => (cadence_format_signed, ptr::from_ref(value).cast(), 1),
+        MetricValue::PackedSigned(values) => (cadence_format_signed, values.as_ptr().cast(), values.len()),
+        MetricValue::Unsigned(value) => (cadence_format_unsigned, ptr::from_ref(value).cast(), 1),
+        MetricValue::PackedUnsigned(values) => (cadence_format_unsigned, values.as_ptr().cast(), values.len()),
+        MetricValue::Float(value) => (cadence_format_floating, ptr::from_ref(value).cast(), 1),
+        MetricValue::PackedFloat(values) => (cadence_format_floating, values.as_ptr().cast(), values.len()),
     }
 }
 
-/// Adds the line of a metric to a text. The line is made in the spare room of the text, if that is enough. It fails with
-/// `InvalidInput` if the settings are strict and a text of the call has a separator, or if a float is NaN, infinite or too
-/// large.
+/// How many bytes a number has in a line at most, which is so many for a decimal of 30 places.
+const NUMBER: usize = 33;
+
+/// How many bytes a line has at most beside its texts and its values: the kind, the rate, the time and the characters
+/// between the parts.
+const REST: usize = 2 * NUMBER + 16;
+
+/// Writes the line of a metric, whose texts have at most so many bytes, in place of a text. It fails with `InvalidInput` if
+/// the settings are strict and a text of the call has a separator, or if a float is NaN, infinite or too large.
 #[inline]
-pub(crate) fn append_line(
+pub(crate) fn write_line(
     line: &mut String,
+    texts: usize,
     settings: &Settings<'_>,
     kind: Kind,
     key: &str,
-    numbers: Numbers<'_>,
+    value: &MetricValue,
     options: &Options<'_>,
 ) -> MetricResult<()> {
-    let Numbers { format, at, len, .. } = numbers;
+    let (format, at, len) = numbers_of(value);
     let (key_at, key_len) = (key.as_ptr(), key.len());
+    *line = String::with_capacity(texts + len * (NUMBER + 1) + REST);
     // SAFETY: each pointer comes with the length of its slice, `format` is the call for the type of the numbers, the call
-    // only writes to the room, and it keeps no pointer. A line consists of texts in UTF-8 and of ASCII characters.
+    // only writes to the room, and it keeps no pointer. A line consists of texts in UTF-8 and of ASCII characters. While the
+    // room of `heap.c` is lent, the call gets its memory from there; it frees that before it returns.
     let made = unsafe {
         append(line, |out, room, size| {
-            scratch::lent(|| format(settings, kind as u32, key_at, key_len, at, len, options, out, room, size))
+            cadence_c_lend(true);
+            let status = format(settings, kind as u32, key_at, key_len, at, len, options, out, room, size);
+            cadence_c_lend(false);
+            status
         })
     };
-    made.map_err(text_refusal)
-}
-
-/// The room of each thread that the library's heap has, from `heap.c`.
-///
-/// A call that formats a line requests memory for the line, and frees it before it returns. While the room is lent to it,
-/// it gets pieces of the room as long as they fit. All other memory comes from malloc.
-mod scratch {
-    unsafe extern "C" {
-        fn cadence_c_lend(lent: bool);
-    }
-
-    /// Lends the room to a call that frees all memory that it requests.
-    #[inline]
-    pub(super) fn lent<R>(call: impl FnOnce() -> R) -> R {
-        // SAFETY: the call frees what it requests before the room is taken back, and no memory is left of an earlier call.
-        unsafe { cadence_c_lend(true) };
-        let answer = call();
-        // SAFETY: as above.
-        unsafe { cadence_c_lend(false) };
-        answer
-    }
+    made.map_err(call_refusal)
 }
