@@ -16,7 +16,7 @@ typedef struct {
     cadence_counts_of counts; /* as they were after the last call */
     cadence_settings settings; /* of each later call */
     uint8_t *texts; /* the texts of the settings */
-    PyObject *container; /* the default container, or null */
+    PyObject *kept; /* a list that keeps the text of the default container alive */
     size_t capacity, packets;
     uint8_t *line; /* the text of the lines that this file puts together itself */
     size_t line_len, line_room;
@@ -27,26 +27,33 @@ typedef struct {
     values_of_call values;
     tags_of_call tags;
     cadence_options options;
-    PyObject *texts;
     const uint8_t *key, *text;
     size_t key_len, text_len;
     uint32_t kind;
     long form;
 } call;
 
-/* Sets the StatusError of a status. Each interpreter of the process has a class of its own. */
+PyObject *object_of(const char *module, const char *name) {
+    PyObject *from = PyImport_ImportModule(module);
+    PyObject *text = from != NULL ? PyUnicode_InternFromString(name) : NULL; /* a new text each time would fill a cache */
+    PyObject *found = text != NULL ? PyObject_GetAttr(from, text) : NULL;
+    Py_XDECREF(text);
+    Py_XDECREF(from);
+    return found;
+}
+
+PyObject *refused_by(const char *module, const char *name, PyObject *arguments) {
+    PyObject *kind = arguments != NULL ? object_of(module, name) : NULL;
+    if (kind != NULL) PyErr_SetObject(kind, arguments);
+    Py_XDECREF(kind);
+    Py_XDECREF(arguments);
+    return NULL;
+}
+
+/* Sets the StatusError of a status. */
 static PyObject *refused(uint32_t status) {
     if (status == CADENCE_NO_MEMORY) return PyErr_NoMemory();
-    PyObject *errors = PyImport_ImportModule("statsd_proved.errors");
-    PyObject *name = errors != NULL ? PyUnicode_InternFromString("StatusError") : NULL;
-    PyObject *kind = name != NULL ? PyObject_GetAttr(errors, name) : NULL;
-    PyObject *arguments = kind != NULL ? Py_BuildValue("(Is)", status, cadence_status_text(status)) : NULL;
-    if (arguments != NULL) PyErr_SetObject(kind, arguments);
-    Py_XDECREF(arguments);
-    Py_XDECREF(kind);
-    Py_XDECREF(name);
-    Py_XDECREF(errors);
-    return NULL;
+    return refused_by("statsd_proved.errors", "StatusError", Py_BuildValue("(Is)", status, cadence_status_text(status)));
 }
 
 /* Returns the result of a call that keeps a line: whether it made a packet. If the status isn't CADENCE_OK, it sets an
@@ -85,11 +92,10 @@ static bool begin(packer *self, PyObject *prefix, PyObject *container, const tag
     size_t len;
     if (!text_of(prefix, NULL, &text, &len)) return false;
     self->settings.contained = container != Py_None;
-    if (self->settings.contained) {
-        PyObject *kept = PyUnicode_Check(container) ? Py_NewRef(container) : PyObject_Str(container);
-        self->container = kept;
-        if (kept == NULL || !text_of(kept, NULL, &self->settings.container, &self->settings.container_len)) return false;
-    }
+    self->kept = Py_BuildValue("[O]", container);
+    if (self->kept == NULL) return false;
+    if (self->settings.contained && !text_of(container, &self->kept, &self->settings.container, &self->settings.container_len))
+        return false;
     uint32_t status = make_texts(self, text, len, tags);
     if (status == CADENCE_OK) status = renew(self);
     return status == CADENCE_OK || refused(status) != NULL;
@@ -102,19 +108,15 @@ static int packer_init(packer *self, PyObject *args, PyObject *named) {
     int strict = 0, adds_up = 0;
     if (!PyArg_ParseTupleAndKeywords(args, named, "Unn|pOOp", names, &prefix, &capacity, &packets, &strict, &tags, &container, &adds_up))
         return -1;
-    if (self->texts != NULL || self->container != NULL || capacity < 0 || packets < 0) {
+    if (self->texts != NULL || self->kept != NULL || capacity < 0 || packets < 0) {
         PyErr_SetString(PyExc_ValueError, "a Packer is made once, of a capacity and packets from 0 on");
-        return -1;
-    }
-    if (container != Py_None && !PyUnicode_Check(container) && !PyNumber_Check(container)) {
-        PyErr_Format(PyExc_TypeError, "%R is neither a str nor a number", container);
         return -1;
     }
     self->capacity = (size_t)capacity;
     self->packets = (size_t)packets;
     self->settings.strict = strict;
     self->sums.used = adds_up;
-    tags_of_call defaults;
+    tags_of_call defaults = { .len = 0 };
     const bool made = tags_begin(&defaults, tags) && begin(self, prefix, container, &defaults);
     tags_end(&defaults);
     return made ? 0 : -1;
@@ -126,7 +128,7 @@ static void packer_dealloc(packer *self) {
     sums_free(&self->sums);
     PyMem_Free(self->texts);
     PyMem_Free(self->line);
-    Py_XDECREF(self->container);
+    Py_XDECREF(self->kept);
     freefunc release = (freefunc)PyType_GetSlot(type, Py_tp_free);
     release(self);
     Py_DECREF(type);
@@ -139,7 +141,7 @@ static bool read_options(call *c, PyObject *rate, PyObject *container, PyObject 
     c->options.rated = !(PyLong_Check(rate) && PyLong_AsLong(rate) == 1);
     if (PyErr_Occurred() || (c->options.rated && !decimal_of(rate, false, &c->options.rate))) return false;
     c->options.contained = container != Py_None;
-    if (c->options.contained && !text_of(container, c->texts, &c->options.container, &c->options.container_len))
+    if (c->options.contained && !text_of(container, &c->tags.texts, &c->options.container, &c->options.container_len))
         return false;
     c->options.timed = time != Py_None;
     if (c->options.timed) c->options.time = PyLong_AsUnsignedLongLong(time);
@@ -155,8 +157,8 @@ static bool call_begin(packer *self, call *c, PyObject *const *args, Py_ssize_t 
     c->values.at = c->values.small;
     c->tags.at = c->tags.small;
     if (self->texts == NULL) return refused(CADENCE_NO_CLIENT) != NULL;
-    if (count != 8 || (c->texts = PyList_New(0)) == NULL) {
-        if (!PyErr_Occurred()) PyErr_SetString(PyExc_TypeError, "keep takes 8 arguments");
+    if (count != 8) {
+        PyErr_SetString(PyExc_TypeError, "keep takes 8 arguments");
         return false;
     }
     c->kind = (uint32_t)PyLong_AsUnsignedLong(args[0]);
@@ -181,7 +183,6 @@ static bool call_begin(packer *self, call *c, PyObject *const *args, Py_ssize_t 
 static void call_end(call *c) {
     values_end(&c->values);
     tags_end(&c->tags);
-    Py_XDECREF(c->texts);
 }
 
 static bool has_room(packer *self, size_t room) {
@@ -222,18 +223,9 @@ static uint32_t splice(packer *self, size_t at, size_t cut, const void *text, si
     return CADENCE_OK;
 }
 
-/* Keeps the line of a number, with a text in place of the number's first `cut` bytes. The library can't print such a
- * value. */
-static uint32_t spliced(packer *self, call *c, size_t cut, const void *text, size_t len) {
-    uint32_t status = put_line(self, c);
-    if (status == CADENCE_OK && self->settings.strict) status = cadence_test_text(text, len);
-    if (status == CADENCE_OK) status = splice(self, self->settings.prefix_len + c->key_len + 1, cut, text, len);
-    return status != CADENCE_OK ? status : sums_line(&self->sums, &self->handle, self->line, self->line_len);
-}
-
-/* Keeps the lines that set a gauge to a value below 0. A server reads a value with a sign as a change of the gauge, so
- * the first line sets it to 0. Both lines are in one packet, unless they are added up. */
-static uint32_t below_zero(packer *self, call *c) {
+/* Puts the line that sets a gauge to 0, before one that sets it to a value below 0. A server reads a value with a sign as a
+ * change of the gauge. Both lines are in one packet, unless they are added up. */
+static uint32_t put_zero(packer *self, call *c) {
     const int64_t mantissa = c->values.at->mantissa;
     const bool is_double = c->values.is_double;
     c->options.rated = c->values.is_double = false;
@@ -241,30 +233,27 @@ static uint32_t below_zero(packer *self, call *c) {
     uint32_t status = put_line(self, c);
     c->values.at->mantissa = mantissa;
     c->values.is_double = is_double;
-    if (status == CADENCE_OK && self->sums.used) {
-        status = sums_line(&self->sums, &self->handle, self->line, self->line_len);
-        self->line_len = 0;
-    } else if (status == CADENCE_OK) status = splice(self, self->line_len, 0, "\n", 1);
-    if (status == CADENCE_OK) status = put_line(self, c);
-    return status != CADENCE_OK ? status : sums_line(&self->sums, &self->handle, self->line, self->line_len);
+    if (status != CADENCE_OK || !self->sums.used) return status != CADENCE_OK ? status : splice(self, self->line_len, 0, "\n", 1);
+    status = sums_line(&self->sums, &self->handle, self->line, self->line_len);
+    self->line_len = 0;
+    return status;
 }
 
+/* Keeps the line of a call. The library prints neither a text as a value nor a sign before a number, so these are put into
+ * the line of a number. */
 static uint32_t keep(packer *self, call *c) {
     const bool below = c->values.is_double ? c->values.number < 0 : c->values.at->mantissa < 0;
-    const bool minus = c->values.len == 1 && !c->values.is_large && below;
+    const bool minus = c->values.len == 1 && !c->values.is_large && below, plus = c->form == CHANGE && !minus;
+    const size_t at = self->settings.prefix_len + c->key_len + 1; /* where the value is */
+    uint32_t status = CADENCE_OK;
     self->line_len = 0;
-    if (c->text != NULL) return spliced(self, c, 1, c->text, c->text_len);
-    if (c->form == CHANGE && !minus) {
-        const uint32_t status = sums_give(&self->sums, &self->handle);
-        return status != CADENCE_OK ? status : spliced(self, c, 0, "+", 1);
-    }
-    if (c->form == LEVEL && minus) return below_zero(self, c);
-    if (self->sums.used) return spliced(self, c, 0, NULL, 0);
-    if (c->values.is_double)
-        return cadence_floating(&self->handle, &self->settings, c->kind, c->key, c->key_len, &c->values.number, 1, &c->options);
-    if (c->values.is_large)
-        return cadence_unsigned(&self->handle, &self->settings, c->kind, c->key, c->key_len, &c->values.large, 1, &c->options);
-    return cadence_decimal(&self->handle, &self->settings, c->kind, c->key, c->key_len, c->values.at, c->values.len, &c->options);
+    if (plus) status = sums_give(&self->sums, &self->handle);
+    if (c->form == LEVEL && minus) status = put_zero(self, c);
+    if (status == CADENCE_OK) status = put_line(self, c);
+    if (status == CADENCE_OK && c->text != NULL && self->settings.strict) status = cadence_test_text(c->text, c->text_len);
+    if (status == CADENCE_OK && c->text != NULL) status = splice(self, at, 1, c->text, c->text_len);
+    if (status == CADENCE_OK && plus) status = splice(self, at, 0, "+", 1);
+    return status != CADENCE_OK ? status : sums_line(&self->sums, &self->handle, self->line, self->line_len);
 }
 
 static PyObject *packer_keep(packer *self, PyObject *const *args, Py_ssize_t count) {
@@ -389,8 +378,8 @@ static int fill(PyObject *module) {
 static PyModuleDef_Slot parts[] = { { Py_mod_exec, fill }, { 0, NULL }, { 0, NULL } };
 
 static PyMethodDef functions[] = {
-    { "destination", destination, METH_O, "destination(values): the host and the port that the variables say, or a path and 0." },
-    { "environment_tags", environment_tags, METH_O, "environment_tags(values): the text of the tags that the variables say, and 0." },
+    { "destination", destination, METH_VARARGS, "destination(*values): the host and the port that the variables say, or a path and 0." },
+    { "environment_tags", environment_tags, METH_VARARGS, "environment_tags(*values): the text of the tags that the variables say, and 0." },
     { NULL, NULL, 0, NULL },
 };
 

@@ -23,14 +23,20 @@ typedef struct {
     PyObject *items, *texts;
 } tags_of_call;
 
-/* Each of these returns false if it has set an exception. values_end and tags_end have to be called in any case. */
+/* Each of these returns false if it has set an exception. The structs have to be zeros at first, and values_end and tags_end
+ * have to be called in any case. */
 bool decimal_of(PyObject *value, bool in_millis, cadence_decimal_number *to);
 bool values_begin(values_of_call *values, PyObject *value, bool in_millis);
 void values_end(values_of_call *values);
-bool text_of(PyObject *value, PyObject *texts, const uint8_t **at, size_t *len);
-bool tag_of(PyObject *item, PyObject *texts, cadence_tag *to);
+bool text_of(PyObject *value, PyObject **texts, const uint8_t **at, size_t *len);
 bool tags_begin(tags_of_call *tags, PyObject *given);
 void tags_end(tags_of_call *tags);
+
+/* Returns what a module of the package has under this name. Each interpreter of the process has objects of its own. */
+PyObject *object_of(const char *module, const char *name);
+
+/* Sets an error of a class of the package with these arguments, to which it takes the reference, and returns null. */
+PyObject *refused_by(const char *module, const char *name, PyObject *arguments);
 
 /* The functions of the module that read variables of the environment. */
 PyObject *destination(PyObject *module, PyObject *values);

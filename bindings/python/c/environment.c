@@ -1,30 +1,13 @@
 /* What the variables of the environment say, as functions of statsd_proved._core. */
 #include "core.h"
-#include <string.h>
 
-enum { VARIABLES = 10 };
+#define TEXT(name) (const char **)&to->name, (Py_ssize_t *)&to->name##_len
 
-/* Reads the values of the variables, a tuple of bytes in the order of cadence.h. Returns false if it has set an
- * exception. */
+/* Reads the values of the variables, which are bytes, in the order of cadence.h. Returns false if it has set an exception. */
 static bool read_variables(PyObject *values, cadence_variables *to) {
-    struct {
-        const uint8_t *at;
-        size_t len;
-    } texts[VARIABLES];
-    _Static_assert(sizeof texts == sizeof *to, "the variables of cadence.h are pairs of a pointer and a length");
-    if (!PyTuple_Check(values) || PyTuple_Size(values) != VARIABLES) {
-        PyErr_SetString(PyExc_TypeError, "the values of the variables are a tuple of ten bytes");
-        return false;
-    }
-    for (Py_ssize_t i = 0; i < VARIABLES; i++) {
-        char *at;
-        Py_ssize_t len;
-        if (PyBytes_AsStringAndSize(PyTuple_GetItem(values, i), &at, &len) < 0) return false;
-        texts[i].at = (const uint8_t *)at;
-        texts[i].len = (size_t)len;
-    }
-    memcpy(to, texts, sizeof *to);
-    return true;
+    return PyArg_ParseTuple(values, "y#y#y#y#y#y#y#y#y#y#", TEXT(url), TEXT(agent_host), TEXT(agent_port), TEXT(statsd_host),
+                            TEXT(statsd_port), TEXT(env), TEXT(service), TEXT(version),
+                            TEXT(tags), TEXT(entity_id));
 }
 
 /* Sets a VariableError, or a MemoryError. */
@@ -33,15 +16,8 @@ static PyObject *refused(uint32_t status, uint32_t variable) {
     size_t len;
     if (status != CADENCE_VARIABLE || cadence_variable_text(variable, text, sizeof text, &len) != CADENCE_OK)
         return PyErr_NoMemory();
-    PyObject *module = PyImport_ImportModule("statsd_proved.environment");
-    PyObject *kind = module != NULL ? PyObject_GetAttrString(module, "VariableError") : NULL;
-    PyObject *arguments = kind != NULL
-        ? Py_BuildValue("(ss#)", cadence_variable_name(variable), (const char *)text, (Py_ssize_t)len) : NULL;
-    if (arguments != NULL) PyErr_SetObject(kind, arguments);
-    Py_XDECREF(arguments);
-    Py_XDECREF(kind);
-    Py_XDECREF(module);
-    return NULL;
+    return refused_by("statsd_proved.environment", "VariableError",
+                      Py_BuildValue("(ss#)", cadence_variable_name(variable), (const char *)text, (Py_ssize_t)len));
 }
 
 /* A call that writes a text about the variables. */

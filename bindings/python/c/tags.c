@@ -1,18 +1,19 @@
 /* Converts texts and tags of Python to those of the library. */
 #include "core.h"
 
-/* Reads a str, or the text of a number. The list `texts` gets the text of a number and keeps it alive. */
-bool text_of(PyObject *value, PyObject *texts, const uint8_t **at, size_t *len) {
+/* Reads a str, or the text of a number. The list `texts`, which is made if there is none, gets the text of a number and
+ * keeps it alive. */
+bool text_of(PyObject *value, PyObject **texts, const uint8_t **at, size_t *len) {
     Py_ssize_t size;
     if (!PyUnicode_Check(value)) {
         if (!PyNumber_Check(value)) {
             PyErr_Format(PyExc_TypeError, "%R is neither a str nor a number", value);
             return false;
         }
-        value = PyObject_Str(value);
-        if (value == NULL) return false;
-        const int put = PyList_Append(texts, value);
-        Py_DECREF(value);
+        if (*texts == NULL) *texts = PyList_New(0);
+        value = *texts != NULL ? PyObject_Str(value) : NULL;
+        const int put = value != NULL ? PyList_Append(*texts, value) : -1;
+        Py_XDECREF(value);
         if (put < 0) return false;
     }
     *at = (const uint8_t *)PyUnicode_AsUTF8AndSize(value, &size);
@@ -21,7 +22,7 @@ bool text_of(PyObject *value, PyObject *texts, const uint8_t **at, size_t *len) 
 }
 
 /* Reads a tag: a pair of a key and a text, or a text alone, for example "page:home". */
-bool tag_of(PyObject *item, PyObject *texts, cadence_tag *to) {
+static bool tag_of(PyObject *item, PyObject **texts, cadence_tag *to) {
     to->keyed = PyTuple_Check(item);
     to->key = NULL;
     to->key_len = 0;
@@ -49,19 +50,16 @@ static PyObject *items_of(PyObject *given) {
 
 bool tags_begin(tags_of_call *tags, PyObject *given) {
     tags->at = tags->small;
-    tags->len = 0;
-    tags->items = tags->texts = NULL;
     if (given == Py_None) return true;
     tags->items = items_of(given);
-    tags->texts = tags->items != NULL ? PyList_New(0) : NULL;
-    if (tags->texts == NULL) return false;
+    if (tags->items == NULL) return false;
     const size_t len = (size_t)PyList_Size(tags->items);
     if (len > sizeof tags->small / sizeof tags->small[0]) {
         tags->at = PyMem_Calloc(len, sizeof *tags->at);
         if (tags->at == NULL) return PyErr_NoMemory() != NULL;
     }
     for (; tags->len < len; tags->len++)
-        if (!tag_of(PyList_GetItem(tags->items, (Py_ssize_t)tags->len), tags->texts, &tags->at[tags->len])) return false;
+        if (!tag_of(PyList_GetItem(tags->items, (Py_ssize_t)tags->len), &tags->texts, &tags->at[tags->len])) return false;
     return true;
 }
 

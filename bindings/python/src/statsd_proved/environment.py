@@ -34,13 +34,13 @@ def _values(variables: Variables) -> tuple[bytes, ...]:
 
 def address(variables: Variables) -> tuple[str, int]:
     """Returns the host, which is `unix://PATH` for a Unix socket, and the port."""
-    text, port = _core.destination(_values(variables))
+    text, port = _core.destination(*_values(variables))
     return (text, port) if port else (UNIX + text, DEFAULT_PORT)
 
 
 def tags(variables: Variables) -> list[Tag]:
     """Returns the tags, in their order: pairs of a key and a text, and texts."""
-    text, _ = _core.environment_tags(_values(variables))
+    text, _ = _core.environment_tags(*_values(variables))
     return [_tag(tag) for tag in text.removeprefix("|#").split(",")] if text else []
 
 
