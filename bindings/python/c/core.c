@@ -194,12 +194,16 @@ static bool has_room(packer *self, size_t room) {
     return true;
 }
 
+/* Lends the room of the library's heap to a call that frees all memory that it requests. It is a function of that heap. */
+void cadence_c_lend(bool lent);
+
 /* Appends the line of a call to the text in self->line. */
 static uint32_t put_line(packer *self, const call *c) {
     for (;;) {
         size_t len = 0;
         uint8_t *out = self->line + self->line_len;
         const size_t room = self->line_room - self->line_len;
+        cadence_c_lend(true);
         const uint32_t status = c->values.is_double
             ? cadence_format_floating(&self->settings, c->kind, c->key, c->key_len, &c->values.number, 1,
                                       &c->options, out, room, &len)
@@ -208,6 +212,7 @@ static uint32_t put_line(packer *self, const call *c) {
                                       &c->options, out, room, &len)
             : cadence_format_decimal(&self->settings, c->kind, c->key, c->key_len, c->values.at,
                                      c->values.len, &c->options, out, room, &len);
+        cadence_c_lend(false);
         if (status == CADENCE_OK) self->line_len += len;
         if (status != CADENCE_TOO_SMALL) return status;
         if (!has_room(self, self->line_len + len)) return CADENCE_NO_MEMORY;

@@ -20,27 +20,22 @@ static PyObject *refused(uint32_t status, uint32_t variable) {
                       Py_BuildValue("(ss#)", cadence_variable_name(variable), (const char *)text, (Py_ssize_t)len));
 }
 
-/* A call that writes a text about the variables. */
-typedef uint32_t call(const cadence_variables *variables, uint8_t *out, size_t out_len, size_t *len, uint16_t *port, uint32_t *variable);
-
-static uint32_t put_tags(const cadence_variables *variables, uint8_t *out, size_t out_len, size_t *len, uint16_t *port, uint32_t *variable) {
-    *port = 0;
-    return cadence_environment_tags(variables, out, out_len, len, variable);
-}
-
-/* Returns the text that a call writes, and the port that it sets. */
-static PyObject *said(call *call, PyObject *values) {
+/* Returns the text of the tags and 0, or where to send: the host and the port, or a path and 0. */
+static PyObject *said(PyObject *values, bool tags) {
     cadence_variables variables;
-    uint32_t variable = 0, status;
+    uint32_t variable = 0, status = CADENCE_TOO_SMALL;
     uint16_t port = 0;
-    size_t len = 0, room = 0;
+    size_t len = 1, room = 0;
     PyObject *made = NULL;
-    uint8_t *text = NULL, *more = NULL;
+    uint8_t *text = NULL, *more;
     if (!read_variables(values, &variables)) return NULL;
-    while ((status = call(&variables, text, room, &len, &port, &variable)) == CADENCE_TOO_SMALL
-           && (more = PyMem_Realloc(text, len)) != NULL)
-        text = more, room = len;
-    if (status == CADENCE_OK) made = Py_BuildValue("(s#i)", text != NULL ? (const char *)text : "", (Py_ssize_t)len, (int)port);
+    while (status == CADENCE_TOO_SMALL && (more = PyMem_Realloc(text, len)) != NULL) {
+        text = more;
+        room = len;
+        status = tags ? cadence_environment_tags(&variables, text, room, &len, &variable)
+                      : cadence_destination(&variables, text, room, &len, &port, &variable);
+    }
+    if (status == CADENCE_OK) made = Py_BuildValue("(s#i)", (const char *)text, (Py_ssize_t)len, (int)port);
     else refused(status, variable);
     PyMem_Free(text);
     return made;
@@ -48,10 +43,10 @@ static PyObject *said(call *call, PyObject *values) {
 
 PyObject *destination(PyObject *module, PyObject *values) {
     (void)module;
-    return said(cadence_destination, values);
+    return said(values, false);
 }
 
 PyObject *environment_tags(PyObject *module, PyObject *values) {
     (void)module;
-    return said(put_tags, values);
+    return said(values, true);
 }

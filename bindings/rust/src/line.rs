@@ -1,6 +1,6 @@
 //! The line of a metric.
 use crate::layout::{Kind, Options, Settings, Tag};
-use crate::raw::{decimal_of, write_line, Tags};
+use crate::raw::{decimal_of, write_line, Numbers, Tags};
 use crate::types::MetricResult;
 use crate::value::MetricValue;
 use std::fmt;
@@ -30,12 +30,13 @@ impl<'a> Record<'a> {
     // Inlined, because the call would save and load all registers.
     #[inline(always)]
     pub(crate) fn write(&self, line: &mut String) -> MetricResult<()> {
+        let numbers = Numbers::new(&self.value);
         let mut options = self.options.with_tags(self.tags.as_slice());
         if let Some(rate) = self.rate {
             options.set_rate(decimal_of(rate)?);
         }
         let texts = self.settings.size() + self.key.len() + self.tags_size + options.size();
-        write_line(line, texts, self.settings, self.kind, self.key, &self.value, &options)
+        write_line(line, texts, self.settings, self.kind, self.key, numbers, &options)
     }
 
     #[inline]
@@ -50,7 +51,7 @@ impl fmt::Debug for Record<'_> {
         f.debug_struct("Record")
             .field("key", &self.key)
             .field("value", &self.value)
-            .field("tags", &self.tags)
+            .field("tags", &self.tags.as_slice())
             .finish_non_exhaustive()
     }
 }

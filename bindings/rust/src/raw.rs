@@ -1,6 +1,6 @@
 //! The library, called as C, and safe calls of it. The only `unsafe` code of the crate is here, in `packer.rs` and in `sums.rs`.
 //!
-//! Each block is safe if the declarations fit `cadence.h` (a test of `layout.rs` compares the layouts), and if each pointer
+//! Each block is safe if the declarations fit `cadence.h` (a test compares the layouts), and if each pointer
 //! comes with the length of the memory that it points to.
 use crate::layout::{Decimal, Kind, Options, Settings, Tag, Variables};
 use crate::types::{ErrorKind, MetricError, MetricResult};
@@ -9,7 +9,7 @@ use std::alloc::{handle_alloc_error, Layout};
 use std::ffi::c_void;
 use std::marker::PhantomData;
 use std::mem::{self, MaybeUninit};
-use std::{fmt, io, ptr, slice};
+use std::{io, ptr, slice};
 
 /// A slice as C has it: a pointer, and how many values it points to.
 #[repr(C)]
@@ -303,22 +303,26 @@ fn more_tags<'a>(mut more: Vec<Tag<'a>>, first: [MaybeUninit<Tag<'a>>; FIRST], t
     more
 }
 
-impl fmt::Debug for Tags<'_> {
-    fn fmt(&self, f: &mut fmt::Formatter<'_>) -> fmt::Result {
-        self.as_slice().fmt(f)
-    }
+/// The numbers of a value as the library reads them: the call for their type, where they are, and how many there are.
+pub(crate) struct Numbers<'a> {
+    format: Format,
+    at: *const c_void,
+    len: usize,
+    of: PhantomData<&'a MetricValue>,
 }
 
-/// Returns the numbers of a value as the library reads them: the call for their type, where they are, and how many there are.
-#[inline]
-fn numbers_of(value: &MetricValue) -> (Format, *const c_void, usize) {
-    match value {
-        MetricValue::Signed(value) => (cadence_format_signed, ptr::from_ref(value).cast(), 1),
-        MetricValue::PackedSigned(values) => (cadence_format_signed, values.as_ptr().cast(), values.len()),
-        MetricValue::Unsigned(value) => (cadence_format_unsigned, ptr::from_ref(value).cast(), 1),
-        MetricValue::PackedUnsigned(values) => (cadence_format_unsigned, values.as_ptr().cast(), values.len()),
-        MetricValue::Float(value) => (cadence_format_floating, ptr::from_ref(value).cast(), 1),
-        MetricValue::PackedFloat(values) => (cadence_format_floating, values.as_ptr().cast(), values.len()),
+impl<'a> Numbers<'a> {
+    #[inline]
+    pub(crate) fn new(value: &'a MetricValue) -> Self {
+        let (format, at, len): (Format, *const c_void, usize) = match value {
+            MetricValue::Signed(value) => (cadence_format_signed, ptr::from_ref(value).cast(), 1),
+            MetricValue::PackedSigned(values) => (cadence_format_signed, values.as_ptr().cast(), values.len()),
+            MetricValue::Unsigned(value) => (cadence_format_unsigned, ptr::from_ref(value).cast(), 1),
+            MetricValue::PackedUnsigned(values) => (cadence_format_unsigned, values.as_ptr().cast(), values.len()),
+            MetricValue::Float(value) => (cadence_format_floating, ptr::from_ref(value).cast(), 1),
+            MetricValue::PackedFloat(values) => (cadence_format_floating, values.as_ptr().cast(), values.len()),
+        };
+        Numbers { format, at, len, of: PhantomData }
     }
 }
 
@@ -331,17 +335,17 @@ const REST: usize = 2 * NUMBER + 16;
 
 /// Writes the line of a metric, whose texts have at most so many bytes, in place of a text. It fails with `InvalidInput` if
 /// the settings are strict and a text of the call has a separator, or if a float is NaN, infinite or too large.
-#[inline]
+#[inline(always)]
 pub(crate) fn write_line(
     line: &mut String,
     texts: usize,
     settings: &Settings<'_>,
     kind: Kind,
     key: &str,
-    value: &MetricValue,
+    numbers: Numbers<'_>,
     options: &Options<'_>,
 ) -> MetricResult<()> {
-    let (format, at, len) = numbers_of(value);
+    let Numbers { format, at, len, .. } = numbers;
     let (key_at, key_len) = (key.as_ptr(), key.len());
     *line = String::with_capacity(texts + len * (NUMBER + 1) + REST);
     // SAFETY: each pointer comes with the length of its slice, `format` is the call for the type of the numbers, the call

@@ -11,8 +11,7 @@ pub trait Metric {
     fn as_metric_str(&self) -> &str;
 }
 
-/// Returns the line of a metric's constructor, which can't return an error. The line of a float that a client refuses has
-/// the text of the float. If memory runs out, the process ends, as it does for a `Vec`.
+/// Returns the line of a metric's constructor. If memory runs out, the process ends, as it does for a `Vec`.
 fn line_of(prefix: &str, kind: Kind, key: &str, value: MetricValue) -> String {
     let (mut line, settings) = (String::new(), Settings::new(prefix, "", None, false));
     let record = Record::new(&settings, kind, key, value);
@@ -24,19 +23,24 @@ fn line_of(prefix: &str, kind: Kind, key: &str, value: MetricValue) -> String {
 }
 
 macro_rules! metric {
-    ($(#[$about:meta])* $name:ident: $($(#[$of:meta])* $new:ident($type:ty => $value:ident);)*) => {
+    ($(#[$about:meta])* $name:ident: $($new:ident($type:ty => $value:ident))*) => {
         $(#[$about])*
         ///
-        /// A metric is its line, which `as_metric_str` returns.
+        /// A metric is its line, which `as_metric_str` returns. It is made without a client by a constructor, which prints the
+        /// prefix as it is: no dot is added after it. A constructor can't return an error, so it prints a float that a client
+        /// refuses as Rust prints it, for example as `NaN`.
         #[derive(PartialEq, Eq, Debug, Hash, Clone)]
         pub struct $name {
             repr: String,
         }
 
         impl $name {
-            $($(#[$of])* pub fn $new(prefix: &str, key: &str, value: $type) -> Self {
-                Self::from(line_of(prefix, Kind::$name, key, MetricValue::$value(value)))
-            })*
+            $(
+                #[doc = concat!("Makes a metric of a prefix, a key and a value of the type `", stringify!($type), "`.")]
+                pub fn $new(prefix: &str, key: &str, value: $type) -> Self {
+                    Self::from(line_of(prefix, Kind::$name, key, MetricValue::$value(value)))
+                }
+            )*
         }
 
         impl From<String> for $name {
@@ -55,64 +59,37 @@ macro_rules! metric {
 
 metric! {
     /// A counter, which a server adds up.
-    Counter:
-    /// Makes a counter without a client. The prefix is printed as it is: no dot is added after it.
     ///
     /// ```
     /// use cadence::{Counter, Metric};
     ///
     /// assert_eq!("my.service.visits:4|c", Counter::new("my.service.", "visits", 4).as_metric_str());
     /// ```
-    new(i64 => Signed);
+    Counter: new(i64 => Signed)
 }
-
 metric! {
     /// A time in milliseconds.
-    Timer:
-    /// Makes a timer without a client. The prefix is printed as it is.
-    new(u64 => Unsigned);
+    Timer: new(u64 => Unsigned)
 }
-
 metric! {
     /// The value of a gauge at a moment. A server keeps it until the next one.
-    Gauge:
-    /// Makes a gauge of a whole number without a client. The prefix is printed as it is.
-    new(u64 => Unsigned);
-    /// Makes a gauge of a float without a client. The prefix is printed as it is. A float that a client refuses is printed
-    /// as Rust prints it, for example as `NaN`, because this call can't return an error.
-    new_f64(f64 => Float);
+    Gauge: new(u64 => Unsigned) new_f64(f64 => Float)
 }
-
 metric! {
     /// A count of events for a meter. A server measures the rate of the events.
-    Meter:
-    /// Makes a meter without a client. The prefix is printed as it is.
-    new(u64 => Unsigned);
+    Meter: new(u64 => Unsigned)
 }
-
 metric! {
     /// A value for a histogram. A server computes the distribution of the values.
-    Histogram:
-    /// Makes a histogram of a whole number without a client. The prefix is printed as it is.
-    new(u64 => Unsigned);
-    /// Makes a histogram of a float without a client, as [`Gauge::new_f64`] makes a gauge.
-    new_f64(f64 => Float);
+    Histogram: new(u64 => Unsigned) new_f64(f64 => Float)
 }
-
 metric! {
     /// A value for a distribution, which a server computes over all hosts.
-    Distribution:
-    /// Makes a distribution of a whole number without a client. The prefix is printed as it is.
-    new(u64 => Unsigned);
-    /// Makes a distribution of a float without a client, as [`Gauge::new_f64`] makes a gauge.
-    new_f64(f64 => Float);
+    Distribution: new(u64 => Unsigned) new_f64(f64 => Float)
 }
-
 metric! {
     /// A member of a set. A server counts the distinct members.
-    Set:
-    /// Makes a member of a set without a client. The prefix is printed as it is.
-    new(i64 => Signed);
+    Set: new(i64 => Signed)
 }
 
 /// The kind of an error.

@@ -65,7 +65,8 @@ def _flush_often(client: weakref.ref[StatsClient], seconds: float, ended: thread
         it = client()
         if it is None:
             return
-        it._tick()
+        if not it._ended:
+            it._tell(it._flush(), may_raise=False)
         del it
 
 
@@ -273,10 +274,6 @@ class StatsClient(Metrics):
             self._bad_calls += 1
         self._report(fault)
         return self._raises
-
-    def _tick(self) -> None:
-        if not self._ended:
-            self._tell(self._flush(), may_raise=False)
 
     def _report(self, fault: Exception) -> None:
         if self._on_error is not None:
