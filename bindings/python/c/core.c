@@ -17,6 +17,7 @@ typedef struct {
     cadence_settings settings; /* of each later call */
     uint8_t *texts; /* the texts of the settings */
     PyObject *kept; /* a list that keeps the text of the default container alive */
+    PyObject *parts; /* the function of statsd_proved.decimals */
     size_t capacity, packets;
     uint8_t *line; /* the text of the lines that this file puts together itself */
     size_t line_len, line_room;
@@ -93,7 +94,8 @@ static bool begin(packer *self, PyObject *prefix, PyObject *container, const tag
     if (!text_of(prefix, NULL, &text, &len)) return false;
     self->settings.contained = container != Py_None;
     self->kept = Py_BuildValue("[O]", container);
-    if (self->kept == NULL) return false;
+    self->parts = self->kept != NULL ? object_of("statsd_proved.decimals", "parts") : NULL;
+    if (self->parts == NULL) return false;
     if (self->settings.contained && !text_of(container, &self->kept, &self->settings.container, &self->settings.container_len))
         return false;
     uint32_t status = make_texts(self, text, len, tags);
@@ -129,6 +131,7 @@ static void packer_dealloc(packer *self) {
     PyMem_Free(self->texts);
     PyMem_Free(self->line);
     Py_XDECREF(self->kept);
+    Py_XDECREF(self->parts);
     freefunc release = (freefunc)PyType_GetSlot(type, Py_tp_free);
     release(self);
     Py_DECREF(type);
@@ -136,10 +139,10 @@ static void packer_dealloc(packer *self) {
 
 /* Reads the options of a call: its rate if that isn't 1, its container, and its time. Returns false if it has set an
  * exception. */
-static bool read_options(call *c, PyObject *rate, PyObject *container, PyObject *time) {
+static bool read_options(call *c, PyObject *parts, PyObject *rate, PyObject *container, PyObject *time) {
     c->options.known = true; /* what text_of gives is UTF-8 */
     c->options.rated = !(PyLong_Check(rate) && PyLong_AsLong(rate) == 1);
-    if (PyErr_Occurred() || (c->options.rated && !decimal_of(rate, false, &c->options.rate))) return false;
+    if (PyErr_Occurred() || (c->options.rated && !decimal_of(rate, parts, false, &c->options.rate))) return false;
     c->options.contained = container != Py_None;
     if (c->options.contained && !text_of(container, &c->tags.texts, &c->options.container, &c->options.container_len))
         return false;
@@ -172,8 +175,8 @@ static bool call_begin(packer *self, call *c, PyObject *const *args, Py_ssize_t 
     if (c->kind == CADENCE_SET && PyUnicode_Check(args[3])) {
         if (!text_of(args[3], NULL, &c->text, &c->text_len)) return false;
         c->values.len = 1;
-    } else if (!values_begin(&c->values, args[3], c->kind == CADENCE_TIMER)) return false;
-    if (!read_options(c, args[4], args[6], args[7])) return false;
+    } else if (!values_begin(&c->values, args[3], self->parts, c->kind == CADENCE_TIMER)) return false;
+    if (!read_options(c, self->parts, args[4], args[6], args[7])) return false;
     if (!tags_begin(&c->tags, args[5])) return false;
     c->options.tags = c->tags.at;
     c->options.tags_len = c->tags.len;

@@ -24,9 +24,9 @@ typedef struct {
 } tags_of_call;
 
 /* Each of these returns false if it has set an exception. The structs have to be zeros at first, and values_end and tags_end
- * have to be called in any case. */
-bool decimal_of(PyObject *value, bool in_millis, cadence_decimal_number *to);
-bool values_begin(values_of_call *values, PyObject *value, bool in_millis);
+ * have to be called in any case. `parts` is the function of statsd_proved.decimals. */
+bool decimal_of(PyObject *value, PyObject *parts, bool in_millis, cadence_decimal_number *to);
+bool values_begin(values_of_call *values, PyObject *value, PyObject *parts, bool in_millis);
 void values_end(values_of_call *values);
 bool text_of(PyObject *value, PyObject **texts, const uint8_t **at, size_t *len);
 bool tags_begin(tags_of_call *tags, PyObject *given);

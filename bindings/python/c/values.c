@@ -24,20 +24,18 @@ static bool decimal_of_whole(PyObject *value, cadence_decimal_number *to) {
 }
 
 /* Reads the text of a number. */
-static bool decimal_of_text(PyObject *text, PyObject *value, cadence_decimal_number *to) {
-    PyObject *parts = object_of("statsd_proved.decimals", "parts");
-    PyObject *made = parts != NULL ? PyObject_CallFunctionObjArgs(parts, text, NULL) : NULL;
+static bool decimal_of_text(PyObject *text, PyObject *value, PyObject *parts, cadence_decimal_number *to) {
+    PyObject *made = PyObject_CallFunctionObjArgs(parts, text, NULL);
     long long mantissa;
     const bool fits = made != NULL && PyArg_ParseTuple(made, "Lb", &mantissa, &to->places);
     Py_XDECREF(made);
-    Py_XDECREF(parts);
     to->mantissa = fits ? mantissa : 0;
     return fits || (PyErr_ExceptionMatches(PyExc_ArithmeticError) && does_not_fit(value));
 }
 
 /* Reads a number of another type: by its __index__ if it has one, by its text if that is a number, as a Decimal's is, and
  * otherwise by its __float__. */
-static bool decimal_of_other(PyObject *value, bool in_millis, cadence_decimal_number *to) {
+static bool decimal_of_other(PyObject *value, PyObject *parts, bool in_millis, cadence_decimal_number *to) {
     if (!PyNumber_Check(value)) {
         PyErr_Format(PyExc_TypeError, "%R is no number", value);
         return false;
@@ -48,7 +46,7 @@ static bool decimal_of_other(PyObject *value, bool in_millis, cadence_decimal_nu
     const char *text = whole || made == NULL ? "" : PyUnicode_AsUTF8AndSize(made, &len);
     bool fits = false;
     if (whole) fits = made != NULL && decimal_of_whole(made, to);
-    else if (text != NULL && len != 0 && strspn(text, "0123456789+-.Ee") == (size_t)len) fits = decimal_of_text(made, value, to);
+    else if (text != NULL && len != 0 && strspn(text, "0123456789+-.Ee") == (size_t)len) fits = decimal_of_text(made, value, parts, to);
     else if (made != NULL && text != NULL) {
         PyObject *number = PyNumber_Float(value);
         fits = number != NULL && decimal_of_float(number, in_millis, to);
@@ -58,16 +56,16 @@ static bool decimal_of_other(PyObject *value, bool in_millis, cadence_decimal_nu
     return fits;
 }
 
-bool decimal_of(PyObject *value, bool in_millis, cadence_decimal_number *to) {
+bool decimal_of(PyObject *value, PyObject *parts, bool in_millis, cadence_decimal_number *to) {
     if (PyLong_Check(value)) return decimal_of_whole(value, to);
     if (PyFloat_Check(value)) return decimal_of_float(value, in_millis, to);
-    return decimal_of_other(value, in_millis, to);
+    return decimal_of_other(value, parts, in_millis, to);
 }
 
 /* Reads one value. If it is a whole number, it may have up to 64 bits. A float past 63 bits is left to the library. */
-static bool one_value(values_of_call *values, PyObject *value, bool in_millis) {
+static bool one_value(values_of_call *values, PyObject *value, PyObject *parts, bool in_millis) {
     values->len = 1;
-    if (decimal_of(value, in_millis, values->at)) return true;
+    if (decimal_of(value, parts, in_millis, values->at)) return true;
     if (PyFloat_Check(value) && (values->is_double = isfinite(values->number = PyFloat_AsDouble(value)))) PyErr_Clear();
     if (!PyLong_Check(value)) return values->is_double;
     PyErr_Clear();
@@ -81,7 +79,7 @@ static bool one_value(values_of_call *values, PyObject *value, bool in_millis) {
 
 /* Reads the values of a tuple, to which no other code has a reference. There has to be one, because no server reads a
  * metric without a value. */
-static bool each_value(values_of_call *values, PyObject *tuple, bool in_millis) {
+static bool each_value(values_of_call *values, PyObject *tuple, PyObject *parts, bool in_millis) {
     const size_t len = (size_t)PyTuple_Size(tuple);
     if (len == 0) {
         PyErr_SetString(PyExc_ValueError, "the list of values is empty");
@@ -93,18 +91,18 @@ static bool each_value(values_of_call *values, PyObject *tuple, bool in_millis) 
     }
     for (; values->len < len; values->len++) {
         PyObject *value = PyTuple_GetItem(tuple, (Py_ssize_t)values->len);
-        if (!decimal_of(value, in_millis, &values->at[values->len])) return false;
+        if (!decimal_of(value, parts, in_millis, &values->at[values->len])) return false;
     }
     return true;
 }
 
-bool values_begin(values_of_call *values, PyObject *value, bool in_millis) {
+bool values_begin(values_of_call *values, PyObject *value, PyObject *parts, bool in_millis) {
     const bool is_number = PyLong_Check(value) || PyFloat_Check(value);
     if (is_number || !PySequence_Check(value) || PyUnicode_Check(value) || PyBytes_Check(value))
-        return one_value(values, value, in_millis);
+        return one_value(values, value, parts, in_millis);
     PyObject *tuple = PySequence_Tuple(value);
     if (tuple == NULL) return false;
-    const bool all = each_value(values, tuple, in_millis);
+    const bool all = each_value(values, tuple, parts, in_millis);
     Py_DECREF(tuple);
     return all;
 }

@@ -95,11 +95,15 @@ class Values(ClientTest):
     def test_numbers_of_other_types(self):
         self.assertEqual(self.sent_by(lambda c: [c.gauge("x", value, delta=True) for value in (
             fractions.Fraction(1, 2), Odd("<odd>", number=2.5), Odd("1\0junk", number=3.5), Odd("1E 2", number=4.5),
-            Odd("", number=5.5), Odd("1E2", number=6.5), Odd("-1.50", number=7.5), decimal.Decimal("0.12345678901234567"))]),
-            ["x:+0.5|g", "x:+2.5|g", "x:+3.5|g", "x:+4.5|g", "x:+5.5|g", "x:+100|g", "x:-1.5|g", "x:+0.12345678901234567|g"])
+            Odd("", number=5.5), Odd("1E2", number=6.5), Odd("-1.50", number=7.5), decimal.Decimal("0.12345678901234567"),
+            decimal.Decimal("1e-200000"), decimal.Decimal("1." + 500 * "0"), decimal.Decimal("0e99"))]),
+            ["x:+0.5|g", "x:+2.5|g", "x:+3.5|g", "x:+4.5|g", "x:+5.5|g", "x:+100|g", "x:-1.5|g", "x:+0.12345678901234567|g",
+             "x:+0|g", "x:+1|g", "x:+0|g"])
         self.refuses(TypeError, lambda c: c.incr("x", 1j))
         self.refuses(ValueError, *(lambda c, text=text: c.incr("x", Odd(text)) for text in ("1E", "1E+", "1.2.3", "--1", "1-", "E1")),
-                     lambda c: c.incr("x", decimal.Decimal("123456789012345678.123")), lambda c: c.incr("x", fractions.Fraction(10 ** 40)))
+                     *(lambda c, text=text: c.incr("x", decimal.Decimal(text)) for text in (
+                         "123456789012345678.123", "9223372036854775808", "1e200000", "1e9999999")),
+                     lambda c: c.incr("x", fractions.Fraction(10 ** 40)))
 
     def test_tags_that_are_none(self):
         self.refuses(TypeError, *(lambda c, tags=tags: c.incr("x", tags=tags)

@@ -29,12 +29,7 @@ pub(crate) struct Packer {
 unsafe impl Send for Packer {}
 
 impl Packer {
-    /// Makes a packer whose packets have at most `capacity` bytes, and in which as few wait as may.
-    pub(crate) fn new(capacity: usize) -> io::Result<Packer> {
-        Packer::with_packets(capacity, 2)
-    }
-
-    /// Makes a packer in which at most `packets` packets wait, at least 2.
+    /// Makes a packer whose packets have at most `capacity` bytes, and in which at most `packets` packets wait, at least 2.
     pub(crate) fn with_packets(capacity: usize, packets: usize) -> io::Result<Packer> {
         let mut handle = Handle::CLOSED;
         // SAFETY: the handle is closed.

@@ -34,7 +34,7 @@ pub(crate) struct Buffer<S: MetricSink> {
 
 impl<S: MetricSink> Buffer<S> {
     pub(crate) fn new(sink: S, capacity: usize) -> io::Result<Self> {
-        Ok(Buffer { packer: Mutex::new(Packer::new(capacity)?), sink, capacity })
+        Ok(Buffer { packer: Mutex::new(Packer::with_packets(capacity, 2)?), sink, capacity })
     }
 
     /// Makes a buffer for a constructor that can't return an error. It panics if memory runs out.
