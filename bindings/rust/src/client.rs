@@ -35,12 +35,6 @@ pub struct StatsdClientBuilder {
 }
 
 impl StatsdClientBuilder {
-    fn new<S: MetricSink + Sync + Send + RefUnwindSafe + 'static>(prefix: &str, sink: S) -> Self {
-        let (settings, sink, errors) = (OwnedSettings::default(), Box::new(sink), Box::new(|_| ()));
-        let client = StatsdClient { settings, sink, errors, tags: Vec::new(), refusal: OK };
-        StatsdClientBuilder { client, prefix: prefix.to_string(), container: None, strict: false }
-    }
-
     /// Sets the handler that receives the errors of [`MetricBuilder::send`], in the caller's thread. Without a handler
     /// they are dropped.
     pub fn with_error_handler<F: Fn(MetricError) + Sync + Send + RefUnwindSafe + 'static>(mut self, errors: F) -> Self {
@@ -141,7 +135,9 @@ impl StatsdClient {
 
     /// Returns the builder of a client with a prefix, as in [`from_sink`](Self::from_sink), and a sink.
     pub fn builder<S: MetricSink + Sync + Send + RefUnwindSafe + 'static>(prefix: &str, sink: S) -> StatsdClientBuilder {
-        StatsdClientBuilder::new(prefix, sink)
+        let (settings, sink, errors) = (OwnedSettings::default(), Box::new(sink), Box::new(|_| ()));
+        let client = StatsdClient { settings, sink, errors, tags: Vec::new(), refusal: OK };
+        StatsdClientBuilder { client, prefix: prefix.to_string(), container: None, strict: false }
     }
 
     /// Flushes the sink, which then sends the lines that it has buffered.

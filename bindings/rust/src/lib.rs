@@ -19,9 +19,10 @@
 //! # Which sink
 //!
 //! [`UdpMetricSink`] and [`UnixMetricSink`] send a datagram for each line. [`BufferedUdpMetricSink`] and
-//! [`BufferedUnixMetricSink`] pack lines. [`AggregatingMetricSink`] adds lines up before it passes them on. [`QueuingMetricSink`] passes lines to another sink in a thread of its own.
-//! [`SpyMetricSink`] and [`BufferedSpyMetricSink`] pass them to a test. [`NopMetricSink`] drops them. A sink of your
-//! own implements [`MetricSink`].
+//! [`BufferedUnixMetricSink`] pack lines. [`AggregatingMetricSink`] adds lines up before it passes them on.
+//! [`QueuingMetricSink`] passes lines to another sink in a thread of its own. [`SpyMetricSink`] and
+//! [`BufferedSpyMetricSink`] pass them to a test. [`NopMetricSink`] drops them. A sink of your own implements
+//! [`MetricSink`].
 //!
 //! # What is proved
 //!

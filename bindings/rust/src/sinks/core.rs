@@ -42,36 +42,31 @@ pub struct SinkStats {
 /// ```
 #[derive(Debug, Clone, Default)]
 pub struct SocketStats {
-    counts: Arc<Counts>,
-}
-
-#[derive(Debug, Default)]
-struct Counts {
-    bytes_sent: AtomicU64,
-    packets_sent: AtomicU64,
-    bytes_dropped: AtomicU64,
-    packets_dropped: AtomicU64,
+    bytes_sent: Arc<AtomicU64>,
+    packets_sent: Arc<AtomicU64>,
+    bytes_dropped: Arc<AtomicU64>,
+    packets_dropped: Arc<AtomicU64>,
 }
 
 impl SocketStats {
     /// Counts bytes that were sent.
     pub fn incr_bytes_sent(&self, n: u64) {
-        self.counts.bytes_sent.fetch_add(n, Ordering::Relaxed);
+        self.bytes_sent.fetch_add(n, Ordering::Relaxed);
     }
 
     /// Counts a packet that was sent.
     pub fn incr_packets_sent(&self) {
-        self.counts.packets_sent.fetch_add(1, Ordering::Relaxed);
+        self.packets_sent.fetch_add(1, Ordering::Relaxed);
     }
 
     /// Counts bytes that were refused.
     pub fn incr_bytes_dropped(&self, n: u64) {
-        self.counts.bytes_dropped.fetch_add(n, Ordering::Relaxed);
+        self.bytes_dropped.fetch_add(n, Ordering::Relaxed);
     }
 
     /// Counts a packet that was refused.
     pub fn incr_packets_dropped(&self) {
-        self.counts.packets_dropped.fetch_add(1, Ordering::Relaxed);
+        self.packets_dropped.fetch_add(1, Ordering::Relaxed);
     }
 
     /// Counts the result of a socket for a packet of `len` bytes, and returns this result.
@@ -93,10 +88,10 @@ impl SocketStats {
 impl From<&SocketStats> for SinkStats {
     fn from(stats: &SocketStats) -> Self {
         SinkStats {
-            bytes_sent: stats.counts.bytes_sent.load(Ordering::Relaxed),
-            packets_sent: stats.counts.packets_sent.load(Ordering::Relaxed),
-            bytes_dropped: stats.counts.bytes_dropped.load(Ordering::Relaxed),
-            packets_dropped: stats.counts.packets_dropped.load(Ordering::Relaxed),
+            bytes_sent: stats.bytes_sent.load(Ordering::Relaxed),
+            packets_sent: stats.packets_sent.load(Ordering::Relaxed),
+            bytes_dropped: stats.bytes_dropped.load(Ordering::Relaxed),
+            packets_dropped: stats.packets_dropped.load(Ordering::Relaxed),
         }
     }
 }

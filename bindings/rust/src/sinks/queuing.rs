@@ -168,10 +168,11 @@ struct Counts {
 /// Puts lines into a queue. A worker thread passes them to another sink, so that a caller doesn't wait for a socket.
 ///
 /// `emit` fails if the queue is full, and the line is not queued then, unless the [policy](QueuePolicy) is to drop the
-/// oldest line. A queue without a limit is never full. `flush` flushes the wrapped sink, and doesn't wait for the queue. Clones share the queue. After the drop of the last clone
-/// the worker passes on the queued lines, drops the wrapped sink, and ends. The drop doesn't wait for that, so a process
-/// that ends calls [`stop_and_wait`](MetricSink::stop_and_wait), or [`close`](crate::StatsdClient::close) of its client. If
-/// the wrapped sink panics, the line is lost, and the worker goes on.
+/// oldest line. A queue without a limit is never full. `flush` flushes the wrapped sink, and doesn't wait for the
+/// queue. Clones share the queue. After the drop of the last clone the worker passes on the queued lines, drops the
+/// wrapped sink, and ends. The drop doesn't wait for that, so a process that ends calls
+/// [`stop_and_wait`](MetricSink::stop_and_wait), or [`close`](crate::StatsdClient::close) of its client. If the
+/// wrapped sink panics, the line is lost, and the worker goes on.
 ///
 /// ```
 /// use cadence::{MetricSink, QueuingMetricSink, SpyMetricSink};
