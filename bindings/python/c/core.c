@@ -155,10 +155,15 @@ static bool read_options(call *c, PyObject *parts, PyObject *rate, PyObject *con
  * exception. call_end has to be called in any case. */
 static bool call_begin(packer *self, call *c, PyObject *const *args, Py_ssize_t count) {
     const cadence_options none = CADENCE_NO_OPTIONS;
-    memset(c, 0, sizeof *c);
     c->options = none;
+    c->text = NULL;
     c->values.at = c->values.small;
+    c->values.small[0] = (cadence_decimal_number){ .mantissa = 0 }; /* put_line prints it if the value is a text */
+    c->values.len = 0;
+    c->values.is_large = c->values.is_double = false;
     c->tags.at = c->tags.small;
+    c->tags.len = 0;
+    c->tags.items = c->tags.texts = NULL;
     if (self->texts == NULL) return refused(CADENCE_NO_CLIENT) != NULL;
     if (count != 8) {
         PyErr_SetString(PyExc_TypeError, "keep takes 8 arguments");

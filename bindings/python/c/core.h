@@ -23,7 +23,7 @@ typedef struct {
     PyObject *items, *texts;
 } tags_of_call;
 
-/* Each of these returns false if it has set an exception. The structs have to be zeros at first, and values_end and tags_end
+/* Each of these returns false if it has set an exception. The structs have to be empty at first, and values_end and tags_end
  * have to be called in any case. `parts` is the function of statsd_proved.decimals. */
 bool decimal_of(PyObject *value, PyObject *parts, bool in_millis, cadence_decimal_number *to);
 bool values_begin(values_of_call *values, PyObject *value, PyObject *parts, bool in_millis);
