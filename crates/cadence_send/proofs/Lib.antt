@@ -2,4 +2,5 @@
 -- packets that were lost, and `Targets` reads addresses.
 pub mod Fates
 pub mod Feeding
+pub mod Summing
 pub mod Targets

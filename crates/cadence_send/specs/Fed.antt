@@ -1,8 +1,6 @@
 -- Input that arrives piece by piece: the texts that ended in a newline, and the text whose newline has not arrived yet.
 use Rattle.std.specs.Prelude.{◌≡◌, ◌≢◌, ℕ, List, [], ◌∷◌, ◌++◌, All}
 use Rattle.std.specs.List.{flat_map}
-use Rattle.cadence_flow.specs.Packer.{Packer}
-use Rattle.cadence_flow.specs.Writer.{PacketHistory, WriterKind}
 use Rattle.cadence_send.specs.Sent.{TakesTexts}
 use Rattle.cadence_words.specs.declared.defaults.Defaults.{Defaults}
 
@@ -16,19 +14,19 @@ with_newlines texts = flat_map (λ text. text ++ 10 ∷ []) texts
 
 -- Bytes waited, and more bytes arrived. Each text that a newline then ended was taken, and the bytes after the last
 -- newline wait.
-pub record Feeds {W Z : Type 0} (d : Defaults Z) (kind : W → WriterKind) (history : W → PacketHistory) (old new : Packer W)
+pub record Feeds {S Z : Type 0} (d : Defaults Z) (takes : S → S → List (List ℕ) → Type 0) (old new : S)
     (before bytes after : List ℕ) : Type 0 where
   pub texts : List (List ℕ)
   pub cut : before ++ bytes ≡ with_newlines texts ++ after
   pub each : All IsOneText texts
   pub rest : IsOneText after
-  pub taken : TakesTexts d kind history old new texts
+  pub taken : TakesTexts d takes old new texts
 
 -- Bytes waited, and more bytes arrived. Some of the texts that a newline then ended were taken: the first ones.
-pub record FeedsSome {W Z : Type 0} (d : Defaults Z) (kind : W → WriterKind) (history : W → PacketHistory) (old new : Packer W)
+pub record FeedsSome {S Z : Type 0} (d : Defaults Z) (takes : S → S → List (List ℕ) → Type 0) (old new : S)
     (before bytes : List ℕ) : Type 0 where
   pub texts : List (List ℕ)
   pub rest : List ℕ
   pub cut : before ++ bytes ≡ with_newlines texts ++ rest
   pub each : All IsOneText texts
-  pub taken : TakesTexts d kind history old new texts
+  pub taken : TakesTexts d takes old new texts

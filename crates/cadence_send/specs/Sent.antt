@@ -42,26 +42,26 @@ pub record TakesLines {W : Type 0} (kind : W → WriterKind) (history : W → Pa
   pub text : Reports (kind old.writer) → TakesWhole (kind old.writer)
       → whole_text (packer_state history new) ≡ whole_text (packer_state history old) ++ stream old.format lines
 
--- The packer took the lines of the texts that ask for a metric.
-pub record TakesTexts {W Z : Type 0} (d : Defaults Z) (kind : W → WriterKind) (history : W → PacketHistory) (old new : Packer W)
-    (texts : List (List ℕ)) : Type 0 where
+-- In these records `takes` says of two states of what takes lines, and of lines, that it took these lines between them.
+
+-- It took the lines of the texts that ask for a metric.
+pub record TakesTexts {S Z : Type 0} (d : Defaults Z) (takes : S → S → List (List ℕ) → Type 0) (old new : S) (texts : List (List ℕ)) : Type 0 where
   pub lines : List (List ℕ)
   pub are : AreLinesOf d texts lines
-  pub takes : TakesLines kind history old new lines
+  pub took : takes old new lines
 
--- The packer took the lines of the first texts, as far as they ask for a metric, and none of the others.
-pub record TakesFirst {W Z : Type 0} (d : Defaults Z) (kind : W → WriterKind) (history : W → PacketHistory) (old new : Packer W)
-    (texts : List (List ℕ)) : Type 0 where
+-- It took the lines of the first texts, as far as they ask for a metric, and none of the others.
+pub record TakesFirst {S Z : Type 0} (d : Defaults Z) (takes : S → S → List (List ℕ) → Type 0) (old new : S) (texts : List (List ℕ)) : Type 0 where
   pub front : List (List ℕ)
   pub rest : List (List ℕ)
   pub cut : texts ≡ front ++ rest
-  pub taken : TakesTexts d kind history old new front
+  pub taken : TakesTexts d takes old new front
 
--- The packer took the lines of the texts that ask for a metric, and no text is held any more.
-pub record SendsTexts {W Z : Type 0} (d : Defaults Z) (kind : W → WriterKind) (history : W → PacketHistory) (old new : Packer W)
+-- It took the lines of the texts that ask for a metric, and nothing is held any more.
+pub record SendsTexts {S Z : Type 0} (d : Defaults Z) (takes : S → S → List (List ℕ) → Type 0) (is_sent : S → Type 0) (old new : S)
     (texts : List (List ℕ)) : Type 0 where
-  pub taken : TakesTexts d kind history old new texts
-  pub none_held : new.held ≡ []
+  pub taken : TakesTexts d takes old new texts
+  pub none_held : is_sent new
 
 -- If no part of the words was reported as unreadable, the packer took the line of the words, and no text is held any
 -- more. Otherwise the words ask for no metric, or for one whose line is longer than a line may be, and the packer is

@@ -1,62 +1,20 @@
 //! Takes the lines of an input as it arrives, with any reader, any writer of packets and any writer of errors.
-ghost use Rattle.std.specs.Prelude.{◌≡◌, ◌⊎◌, ◌∷◌, ◌++◌, [], IfNone, IfSome, OnErr, OnOk};
+ghost use Rattle.std.specs.Prelude.{◌≡◌, ◌∷◌, ◌++◌, [], IfNone, IfSome, OnErr, OnOk};
 ghost use Rattle.cadence_send.specs.Fed.{Feeds, FeedsSome, IsOneText};
-ghost use Rattle.cadence_send.specs.Sent.{TakesFirst, TakesLines, TakesTexts, texts_of_input, without_return};
+ghost use Rattle.cadence_send.specs.Sent.{TakesFirst, TakesTexts, texts_of_input, without_return};
 
+use crate::error::RunError;
+use crate::outlet::Outlet;
 use crate::pace::Pace;
-use cadence_errors::SinkError;
-use cadence_flow::io::{LineBuffer, PacketWriter};
+use crate::taker::LineTaker;
 use cadence_words::{Defaults, Part, WordError, write_line_of_text};
 use memchr::memchr;
-use std::alloc::{AllocError, Allocator};
+use std::alloc::Allocator;
 use std::io;
 use std::io::{ErrorKind, Read, Write};
-use thiserror::Error;
 
 // The most bytes that are read at once.
 const CHUNK: usize = 16384;
-
-/// Why a run ended early.
-#[derive(Debug, Drop, Error)]
-pub enum RunError {
-    /// The input can't be read, for this reason.
-    #[error("input: cannot read: {0}")]
-    Input(io::Error),
-    /// The writer of packets refused a packet.
-    #[error("cannot send: {0}")]
-    Writer(SinkError),
-    /// Memory ran out.
-    #[error("out of memory")]
-    OutOfMemory,
-}
-
-impl From<AllocError> for RunError {
-    fn from(_error: AllocError) -> RunError {
-        RunError::OutOfMemory
-    }
-}
-
-impl From<SinkError> for RunError {
-    fn from(error: SinkError) -> RunError {
-        match error {
-            SinkError::OutOfMemory => RunError::OutOfMemory,
-            refusal => RunError::Writer(refusal),
-        }
-    }
-}
-
-impl RunError {
-    /// Returns the exit status of a program that ends with this error: 3 if memory ran out, and 1 for every other
-    /// error.
-    pub fn status(&self) -> u8
-        ensures { (result ≡ 1) ⊎ (result ≡ 3) }
-    {
-        match self {
-            RunError::Input(_) | RunError::Writer(_) => 1,
-            RunError::OutOfMemory => 3,
-        }
-    }
-}
 
 /// How many lines of the input were taken, and how many of them can't be read.
 #[derive(Clone, Copy, Debug, PartialEq, Eq)]
@@ -84,23 +42,6 @@ fn is_blank(text: &[u8]) -> bool {
     text.iter().all(|byte| *byte == b' ')
 }
 
-// Gives a line to the packer. Most lines fit the packet, and `hold` then takes them with less work than `write`.
-fn take_line<T: PacketWriter, A: Allocator>(
-    lines: &mut LineBuffer<T, A>,
-    line: &[u8],
-) -> Result<(), RunError>
-    ensures taken { OnOk result
-        (TakesLines T.kind T.history lines.old lines.new (line.now ∷ [])) }
-    ensures kept { OnErr result (TakesLines T.kind T.history lines.old lines.new []) }
-{
-    if lines.hold(line) {
-        return Ok(());
-    }
-    let mut fault = SinkError::NothingWritten;
-    lines.write(line, &mut fault).ok_or(fault)?;
-    Ok(())
-}
-
 // Buffers that are used again for each line of the input.
 #[derive(Drop)]
 struct Buffers<A: Allocator> {
@@ -121,19 +62,19 @@ fn without_return(text: &[u8]) -> &[u8]
     text
 }
 
-// Gives the metric's line of a text to the packer, unless it is longer than a line may be. A carriage return at the end
-// of the text is no part of it. If the text has words and no line is given, this function returns the part that can't
-// be read. The line is written into the buffer.
-fn take_text<T: PacketWriter, A: Allocator + Clone>(
+// Gives the metric's line of a text to what takes lines, unless it is longer than a line may be. A carriage return at
+// the end of the text is no part of it. If the text has words and no line is given, this function returns the part that
+// can't be read. The line is written into the buffer.
+fn take_text<L: LineTaker, A: Allocator + Clone>(
     alloc: &A,
     defaults: &Defaults<A>,
-    lines: &mut LineBuffer<T, A>,
+    lines: &mut L,
     buffer: &mut Vec<u8, A>,
     text: &[u8],
 ) -> Result<Option<Part>, RunError>
     ensures taken { OnOk result
-        (TakesTexts defaults.now T.kind T.history lines.old lines.new (text.now ∷ [])) }
-    ensures kept { OnErr result (TakesLines T.kind T.history lines.old lines.new []) }
+        (TakesTexts defaults.now L.takes lines.old lines.new (text.now ∷ [])) }
+    ensures kept { OnErr result (L.takes lines.old lines.new []) }
 {
     let text = without_return(text);
     match write_line_of_text(alloc, defaults, buffer, text) {
@@ -141,7 +82,7 @@ fn take_text<T: PacketWriter, A: Allocator + Clone>(
             if buffer.len() > defaults.longest {
                 return Ok(Some(Part::Length));
             }
-            take_line(lines, buffer)?;
+            lines.take(buffer)?;
             Ok(None)
         }
         Err(WordError::Unreadable(part)) => Ok(if is_blank(text) { None } else { Some(part) }),
@@ -150,16 +91,16 @@ fn take_text<T: PacketWriter, A: Allocator + Clone>(
 }
 
 // Takes the text that begins with the waiting bytes and ends with these. Afterwards no bytes wait.
-fn take_text_end<T: PacketWriter, A: Allocator + Clone>(
+fn take_text_end<L: LineTaker, A: Allocator + Clone>(
     alloc: &A,
     defaults: &Defaults<A>,
-    lines: &mut LineBuffer<T, A>,
+    lines: &mut L,
     buffers: &mut Buffers<A>,
     end: &[u8],
 ) -> Result<Option<Part>, RunError>
-    ensures taken { OnOk result (TakesTexts defaults.now T.kind T.history lines.old lines.new
+    ensures taken { OnOk result (TakesTexts defaults.now L.takes lines.old lines.new
         ((buffers.old.waiting.items ++ end.now) ∷ [])) }
-    ensures kept { OnErr result (TakesLines T.kind T.history lines.old lines.new []) }
+    ensures kept { OnErr result (L.takes lines.old lines.new []) }
     ensures none { OnOk result (buffers.new.waiting.items ≡ []) }
 {
     if buffers.waiting.is_empty() {
@@ -183,19 +124,19 @@ pub(crate) fn split_line(bytes: &[u8]) -> Option<(&[u8], &[u8])>
 }
 
 // Takes each text that a newline of these bytes ends. The bytes after the last newline wait.
-fn feed<T: PacketWriter, E: Write, A: Allocator + Clone>(
+fn feed<L: LineTaker, E: Write, A: Allocator + Clone>(
     alloc: &A,
     defaults: &Defaults<A>,
-    lines: &mut LineBuffer<T, A>,
+    lines: &mut L,
     errors: &mut E,
     counts: &mut TextCounts,
     buffers: &mut Buffers<A>,
     bytes: &[u8],
 ) -> Result<(), RunError>
     requires { IsOneText buffers.old.waiting.items }
-    ensures all { OnOk result (Feeds defaults.now T.kind T.history lines.old lines.new
+    ensures all { OnOk result (Feeds defaults.now L.takes lines.old lines.new
         buffers.old.waiting.items bytes.now buffers.new.waiting.items) }
-    ensures some { OnErr result (FeedsSome defaults.now T.kind T.history lines.old lines.new
+    ensures some { OnErr result (FeedsSome defaults.now L.takes lines.old lines.new
         buffers.old.waiting.items bytes.now) }
 {
     let mut left = bytes;
@@ -208,84 +149,87 @@ fn feed<T: PacketWriter, E: Write, A: Allocator + Clone>(
     Ok(())
 }
 
-// Returns whether the held text is to be sent before more input is read.
-fn is_due<T: PacketWriter, P: Pace, A: Allocator>(lines: &LineBuffer<T, A>, pace: &mut P) -> bool {
-    pace.is_due() || (!lines.held().is_empty() && pace.wait_until_due())
+// Returns whether what is held is to be sent before more input is read.
+fn is_due<L: LineTaker, P: Pace>(lines: &L, pace: &mut P) -> bool {
+    pace.is_due() || (lines.is_holding() && pace.wait_until_due())
 }
 
-// Sends the held text if it is due before more input is read.
-fn keep_pace<T: PacketWriter, P: Pace, A: Allocator>(
-    lines: &mut LineBuffer<T, A>,
-    pace: &mut P,
-) -> Result<(), RunError>
-    ensures { TakesLines T.kind T.history lines.old lines.new [] }
+// Sends what is held if it is due before more input is read.
+fn keep_pace<L: LineTaker, P: Pace>(lines: &mut L, pace: &mut P) -> Result<(), RunError>
+    ensures { L.takes lines.old lines.new [] }
 {
     if !is_due(lines, pace) {
         return Ok(());
     }
-    let mut fault = SinkError::NothingWritten;
-    lines.flush(&mut fault).ok_or(fault)?;
-    Ok(())
+    lines.send()
 }
 
-/// Reads the lines of the input, and gives the metric's line of each to the packer. For a line that can't be read, its
-/// number and the reason are written to `errors`. An error of `errors` is ignored. After each piece of input, the held
-/// text is sent if the pace says that it is due, now or before more input comes. The text that is held at the end of
-/// the input is not sent.
-///
-/// # Errors
-/// `Input` if the reader fails, `Writer` if a packet is refused, and `OutOfMemory`. The lines before the error were
-/// taken, and none of the others: what a writer refused of them is still held.
-pub fn take_input<T, I, E, P, A>(
-    alloc: &A,
-    defaults: &Defaults<A>,
-    lines: &mut LineBuffer<T, A>,
-    input: &mut I,
-    errors: &mut E,
-    pace: &mut P,
-) -> Result<TextCounts, RunError>
-where
-    T: PacketWriter,
-    I: Read,
-    E: Write,
-    P: Pace,
-    A: Allocator + Clone,
-    ensures all { OnOk result (IfSome (I.remaining input.old) (λ text.
-        TakesTexts defaults.now T.kind T.history lines.old lines.new (texts_of_input text))) }
-    ensures first { OnErr result (IfSome (I.remaining input.old) (λ text.
-        TakesFirst defaults.now T.kind T.history lines.old lines.new (texts_of_input text))) }
-{
-    let mut counts = TextCounts {
-        texts: 0,
-        unread: 0,
-    };
-    let mut buffers = Buffers {
-        waiting: Vec::new(alloc.clone()?),
-        line: Vec::new(alloc.clone()?),
-    };
-    let mut buffer = [0u8; CHUNK];
-    for _ in 0..u64::MAX {
-        match input.read(&mut buffer) {
-            Ok(0) => {
-                let is_text = !buffers.waiting.is_empty();
-                let unread = take_text_end(alloc, defaults, lines, &mut buffers, b"")?;
-                if is_text {
-                    counts.count_text(unread, errors);
+/// What a run over an input has besides the input and what takes the lines.
+#[derive(Drop)]
+pub struct Sending<'a, E, P, A: Allocator> {
+    /// The memory of the buffers.
+    pub alloc: &'a A,
+    /// What each metric gets.
+    pub defaults: &'a Defaults<A>,
+    /// The place to which packets go.
+    pub outlet: Outlet<'a>,
+    /// What is wrong with a line or a run is written to this. An error of `errors` is ignored.
+    pub errors: &'a mut E,
+    /// When what is held is sent before more input is read.
+    pub pace: &'a mut P,
+}
+
+impl<E: Write, P: Pace, A: Allocator + Clone> Sending<'_, E, P, A> {
+    /// Reads the lines of the input, and gives the metric's line of each to what takes them. For a line that can't be
+    /// read, its number and the reason are written to `errors`. After each piece of input, what is held is sent if the
+    /// pace says that it is due, now or before more input comes. What is held at the end of the input is not sent.
+    ///
+    /// # Errors
+    /// `Input` if the reader fails, `Writer` if a packet is refused, and `OutOfMemory`. The lines before the error were
+    /// taken, and none of the others: what a writer refused of them is still held.
+    pub fn take_input<L: LineTaker, I: Read>(
+        &mut self,
+        lines: &mut L,
+        input: &mut I,
+    ) -> Result<TextCounts, RunError>
+        ensures all { OnOk result (IfSome (I.remaining input.old) (λ text.
+            TakesTexts self.old.defaults.now L.takes lines.old lines.new (texts_of_input text))) }
+        ensures first { OnErr result (IfSome (I.remaining input.old) (λ text.
+            TakesFirst self.old.defaults.now L.takes lines.old lines.new (texts_of_input text))) }
+    {
+        let (alloc, defaults) = (self.alloc, self.defaults);
+        let mut counts = TextCounts {
+            texts: 0,
+            unread: 0,
+        };
+        let mut buffers = Buffers {
+            waiting: Vec::new(alloc.clone()?),
+            line: Vec::new(alloc.clone()?),
+        };
+        let mut buffer = [0u8; CHUNK];
+        for _ in 0..u64::MAX {
+            match input.read(&mut buffer) {
+                Ok(0) => {
+                    let is_text = !buffers.waiting.is_empty();
+                    let unread = take_text_end(alloc, defaults, lines, &mut buffers, b"")?;
+                    if is_text {
+                        counts.count_text(unread, self.errors);
+                    }
+                    return Ok(counts);
                 }
-                return Ok(counts);
+                Ok(count) => feed(
+                    alloc,
+                    defaults,
+                    lines,
+                    self.errors,
+                    &mut counts,
+                    &mut buffers,
+                    &buffer[..count],
+                )?,
+                Err(error) => return Err(RunError::Input(error)),
             }
-            Ok(count) => feed(
-                alloc,
-                defaults,
-                lines,
-                errors,
-                &mut counts,
-                &mut buffers,
-                &buffer[..count],
-            )?,
-            Err(error) => return Err(RunError::Input(error)),
+            keep_pace(lines, self.pace)?;
         }
-        keep_pace(lines, pace)?;
+        Err(RunError::Input(io::Error::from(ErrorKind::Other)))
     }
-    Err(RunError::Input(io::Error::from(ErrorKind::Other)))
 }

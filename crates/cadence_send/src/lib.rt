@@ -1,6 +1,7 @@
 //! The engine of `statsd_send`: it takes the lines of metrics, packs them and sends the packets.
 //!
 //! - `engine`: takes the lines of an input, as it arrives.
+//! - `error`: why a run ended early.
 //! - `lasting`: a writer of packets that outlives refusals, and counts what is lost.
 //! - `nowhere`: a record of packets that exists in proofs only.
 //! - `options`: the options of the command line, and what they add to each metric.
@@ -8,9 +9,12 @@
 //! - `pace`: when buffered lines are sent before more input is read.
 //! - `packets`: prints packets.
 //! - `run`: sends one metric, or those of an input, and returns the exit status.
+//! - `summed`: lines that are added up before a packer takes them.
+//! - `taker`: what takes the lines of the engine: a packer, or sums over a packer.
 #![tactic(auto)]
 
 mod engine;
+mod error;
 mod lasting;
 mod nowhere;
 mod options;
@@ -18,11 +22,16 @@ mod outlet;
 mod pace;
 mod packets;
 mod run;
+mod summed;
+mod taker;
 
-pub use engine::{RunError, TextCounts};
+pub use engine::{Sending, TextCounts};
+pub use error::RunError;
 pub use lasting::{LastingWriter, Losses};
 pub use options::{Destination, OptionError, Options, Setting};
 pub use outlet::Outlet;
 pub use pace::Pace;
 pub use packets::PacketPrinter;
-pub use run::{run_input, run_stream, run_words, send_input, send_stream, send_words};
+pub use run::{run_words, send_words};
+pub use summed::SummedPacker;
+pub use taker::LineTaker;

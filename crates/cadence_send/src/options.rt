@@ -43,6 +43,8 @@ pub struct Options<'a, A: Allocator> {
     pub capacity: usize,
     /// The most milliseconds that buffered lines wait for more input.
     pub flush_every: Option<u64>,
+    /// Whether lines are added up before they are packed.
+    pub is_adding_up: bool,
     /// Whether the settings are strict, so that they refuse each text that has a separator.
     pub is_strict: bool,
     /// Whether packets are printed instead of sent.
@@ -201,6 +203,7 @@ impl<'a, A: Allocator> Options<'a, A> {
             sample: None,
             capacity: DEFAULT_CAPACITY,
             flush_every: None,
+            is_adding_up: false,
             is_strict: false,
             is_printing: false,
             is_dropping: false,

@@ -1,60 +1,22 @@
 //! Sends one metric, or those of an input, and returns the exit status.
 ghost use Rattle.std.specs.Prelude.{◌≡◌, ◌≤◌, ◌⊎◌, [], IfSome, IsOk, OnErr, OnOk, IfOk, map};
-ghost use Rattle.cadence_send.specs.Losses.{losses_of};
-ghost use Rattle.cadence_send.specs.Sent.{SendsTexts, SendsWords, TakesFirst, TakesLines, texts_of_input};
-ghost use Rattle.cadence_send.specs.Streams.{Accounts, AccountsFirst, fates_in};
+ghost use Rattle.cadence_send.specs.Losses.{lasting_kind, losses_of};
+ghost use Rattle.cadence_send.specs.Sent.{SendsTexts, SendsWords, TakesFirst, texts_of_input};
+ghost use Rattle.cadence_send.specs.Streams.{Accounts, AccountsFirst, fates_in, given_history};
+ghost use Rattle.cadence_send.specs.Summed.{IsAllSent, IsSummary, TakesSummed, packer_of};
 
-use crate::engine::{RunError, TextCounts, take_input};
+use crate::engine::{Sending, TextCounts};
+use crate::error::RunError;
 use crate::lasting::{LastingWriter, Losses};
 use crate::outlet::Outlet;
 use crate::pace::Pace;
+use crate::summed::SummedPacker;
+use crate::taker::{LineTaker, flush_all};
 use cadence_errors::SinkError;
 use cadence_flow::io::{LineBuffer, PacketWriter};
 use cadence_words::{Defaults, Part, WordError, write_line_of_words};
 use std::alloc::Allocator;
 use std::io::{Read, Write};
-
-// Sends the held text.
-fn flush_all<T: PacketWriter, A: Allocator>(lines: &mut LineBuffer<T, A>) -> Result<(), RunError>
-    ensures same { TakesLines T.kind T.history lines.old lines.new [] }
-    ensures empty { OnOk result (lines.new.held ≡ []) }
-{
-    let mut fault = SinkError::NothingWritten;
-    lines.flush(&mut fault).ok_or(fault)?;
-    Ok(())
-}
-
-/// Sends the metrics of the input's lines. It calls `take_input`, and then sends the held text, also after an error of
-/// `take_input`.
-///
-/// # Errors
-/// `Input` if the reader fails, `Writer` if a packet is refused, and `OutOfMemory`. The lines before the error were
-/// taken, and none of the others: what a writer refused of them is still held.
-pub fn send_input<T, I, E, P, A>(
-    alloc: &A,
-    defaults: &Defaults<A>,
-    lines: &mut LineBuffer<T, A>,
-    input: &mut I,
-    errors: &mut E,
-    pace: &mut P,
-) -> Result<TextCounts, RunError>
-where
-    T: PacketWriter,
-    I: Read,
-    E: Write,
-    P: Pace,
-    A: Allocator + Clone,
-    ensures all { OnOk result (IfSome (I.remaining input.old) (λ text.
-        SendsTexts defaults.now T.kind T.history lines.old lines.new (texts_of_input text))) }
-    ensures first { OnErr result (IfSome (I.remaining input.old) (λ text.
-        TakesFirst defaults.now T.kind T.history lines.old lines.new (texts_of_input text))) }
-{
-    let taken = take_input(alloc, defaults, lines, input, errors, pace);
-    let flushed = flush_all(lines);
-    let counts = taken?;
-    flushed?;
-    Ok(counts)
-}
 
 /// Sends the text that is held, and then the metric of the words. If the words ask for no metric, or the metric's line is
 /// longer than a line may be, this function sends nothing and returns the part that can't be read.
@@ -144,64 +106,6 @@ fn report_end<E: Write>(
     2
 }
 
-/// Sends the metrics of the input's lines with `send_input`, and returns the exit status of the program: 0 if the
-/// metrics of all lines were sent, 1 if the reader failed or a packet was refused, 2 if some lines can't be read and
-/// the metrics of the others were sent, and 3 if memory ran out. For every status but 0, the reason is written to
-/// `errors`. An error of `errors` is ignored.
-pub fn run_input<T, I, E, P, A>(
-    alloc: &A,
-    defaults: &Defaults<A>,
-    lines: &mut LineBuffer<T, A>,
-    input: &mut I,
-    outlet: Outlet<'_>,
-    errors: &mut E,
-    pace: &mut P,
-) -> u8
-where
-    T: PacketWriter,
-    I: Read,
-    E: Write,
-    P: Pace,
-    A: Allocator + Clone,
-    ensures status { result ≤ 3 }
-    ensures sent { (result ≡ 0) ⊎ (result ≡ 2) → IfSome (I.remaining input.old) (λ text.
-        SendsTexts defaults.now T.kind T.history lines.old lines.new (texts_of_input text)) }
-{
-    let ended = send_input(alloc, defaults, lines, input, errors, pace);
-    report_end(ended, outlet, errors)
-}
-
-/// Sends the metrics of the input's lines with `send_input`, over a writer that outlives refusals. Afterwards the
-/// packets that the writer was given, sent or lost, are the lines of the whole input and nothing else, and the writer's
-/// `losses` are those of these packets.
-///
-/// # Errors
-/// `Input` if the reader fails, and `OutOfMemory`. The first lines of the input are then in packets or still held, and
-/// none of the others.
-pub fn send_stream<T, F, I, E, P, A>(
-    alloc: &A,
-    defaults: &Defaults<A>,
-    lines: &mut LineBuffer<LastingWriter<'_, T, F, A>, A>,
-    input: &mut I,
-    errors: &mut E,
-    pace: &mut P,
-) -> Result<TextCounts, RunError>
-where
-    T: PacketWriter,
-    F: Write + Drop,
-    I: Read,
-    E: Write,
-    P: Pace,
-    A: Allocator + Clone,
-    ensures whole { OnOk result (IfSome (I.remaining input.old) (λ text.
-        Accounts defaults.now lines.old lines.new (texts_of_input text))) }
-    ensures none_held { OnOk result (IfSome (I.remaining input.old) (λ _. lines.new.held ≡ [])) }
-    ensures first { OnErr result (IfSome (I.remaining input.old) (λ text.
-        AccountsFirst defaults.now lines.old lines.new (texts_of_input text))) }
-{
-    send_input(alloc, defaults, lines, input, errors, pace)
-}
-
 // Writes to `errors` how much was lost, if anything was. Returns the exit status of a run that ended with `status`: 1 in
 // place of 0 or 2 if anything was lost.
 fn report_losses<E: Write>(status: u8, losses: Losses, errors: &mut E) -> u8
@@ -224,32 +128,105 @@ fn report_losses<E: Write>(status: u8, losses: Losses, errors: &mut E) -> u8
     if status == 3 { 3 } else { 1 }
 }
 
-/// Sends the metrics of the input's lines with `send_stream`, and returns the exit status of the program. It is that of
-/// `run_input`, except that it is 1 in place of 0 or 2 if packets were lost (but not 2^64, or a multiple of that). How
-/// many packets and lines were lost is written to `errors`.
-pub fn run_stream<T, F, I, E, P, A>(
-    alloc: &A,
-    defaults: &Defaults<A>,
-    lines: &mut LineBuffer<LastingWriter<'_, T, F, A>, A>,
-    input: &mut I,
-    outlet: Outlet<'_>,
-    errors: &mut E,
-    pace: &mut P,
-) -> u8
-where
-    T: PacketWriter,
-    F: Write + Drop,
-    I: Read,
-    E: Write,
-    P: Pace,
-    A: Allocator + Clone,
-    ensures status { result ≤ 3 }
-    ensures sent { (result ≡ 0) ⊎ (result ≡ 2) → IfSome (I.remaining input.old) (λ text.
-        Accounts defaults.now lines.old lines.new (texts_of_input text)) }
-    ensures none_lost { (result ≡ 0) ⊎ (result ≡ 2) →
-        (losses_of (fates_in lines.new.writer)).packets ≡ 0 }
-{
-    let ended = send_stream(alloc, defaults, lines, input, errors, pace);
-    let status = report_end(ended, outlet, errors);
-    report_losses(status, lines.get_ref().losses(), errors)
+impl<E: Write, P: Pace, A: Allocator + Clone> Sending<'_, E, P, A> {
+    /// Sends the metrics of the input's lines. It calls `take_input`, and then sends what is held, also after an error of
+    /// `take_input`.
+    ///
+    /// # Errors
+    /// `Input` if the reader fails, `Writer` if a packet is refused, and `OutOfMemory`. The lines before the error were
+    /// taken, and none of the others: what a writer refused of them is still held.
+    pub fn send_input<L: LineTaker, I: Read>(
+        &mut self,
+        lines: &mut L,
+        input: &mut I,
+    ) -> Result<TextCounts, RunError>
+        ensures all { OnOk result (IfSome (I.remaining input.old) (λ text.
+            SendsTexts self.old.defaults.now L.takes L.is_sent
+            lines.old lines.new (texts_of_input text))) }
+        ensures first { OnErr result (IfSome (I.remaining input.old) (λ text.
+            TakesFirst self.old.defaults.now L.takes lines.old lines.new (texts_of_input text))) }
+    {
+        let taken = self.take_input(lines, input);
+        let flushed = lines.send();
+        let counts = taken?;
+        flushed?;
+        Ok(counts)
+    }
+
+    /// Sends the metrics of the input's lines with `send_input`, and returns the exit status of the program: 0 if the
+    /// metrics of all lines were sent, 1 if the reader failed or a packet was refused, 2 if some lines can't be read and
+    /// the metrics of the others were sent, and 3 if memory ran out. For every status but 0, the reason is written to
+    /// `errors`.
+    pub fn run_input<L: LineTaker, I: Read>(&mut self, lines: &mut L, input: &mut I) -> u8
+        ensures status { result ≤ 3 }
+        ensures sent { (result ≡ 0) ⊎ (result ≡ 2) → IfSome (I.remaining input.old) (λ text.
+            SendsTexts self.old.defaults.now L.takes L.is_sent
+            lines.old lines.new (texts_of_input text)) }
+    {
+        let ended = self.send_input(lines, input);
+        report_end(ended, self.outlet, self.errors)
+    }
+
+    /// Sends the metrics of the input's lines with `send_input`, over a writer that outlives refusals. Afterwards the
+    /// packets that the writer was given, sent or lost, are the lines of the whole input and nothing else, and the
+    /// writer's `losses` are those of these packets.
+    ///
+    /// # Errors
+    /// `Input` if the reader fails, and `OutOfMemory`. The first lines of the input are then in packets or still held,
+    /// and none of the others.
+    pub fn send_stream<T: PacketWriter, F: Write + Drop, I: Read>(
+        &mut self,
+        lines: &mut LineBuffer<LastingWriter<'_, T, F, A>, A>,
+        input: &mut I,
+    ) -> Result<TextCounts, RunError>
+        ensures whole { OnOk result (IfSome (I.remaining input.old) (λ text.
+            Accounts self.old.defaults.now lines.old lines.new (texts_of_input text))) }
+        ensures none_held { OnOk result
+            (IfSome (I.remaining input.old) (λ _. lines.new.held ≡ [])) }
+        ensures first { OnErr result (IfSome (I.remaining input.old) (λ text.
+            AccountsFirst self.old.defaults.now lines.old lines.new (texts_of_input text))) }
+    {
+        self.send_input(lines, input)
+    }
+
+    /// Sends the metrics of the input's lines with `send_stream`, and returns the exit status of the program. It is that
+    /// of `run_input`, except that it is 1 in place of 0 or 2 if packets were lost (but not 2^64, or a multiple of that).
+    /// How many packets and lines were lost is written to `errors`.
+    pub fn run_stream<T: PacketWriter, F: Write + Drop, I: Read>(
+        &mut self,
+        lines: &mut LineBuffer<LastingWriter<'_, T, F, A>, A>,
+        input: &mut I,
+    ) -> u8
+        ensures status { result ≤ 3 }
+        ensures sent { (result ≡ 0) ⊎ (result ≡ 2) → IfSome (I.remaining input.old) (λ text.
+            Accounts self.old.defaults.now lines.old lines.new (texts_of_input text)) }
+        ensures none_lost { (result ≡ 0) ⊎ (result ≡ 2) →
+            (losses_of (fates_in lines.new.writer)).packets ≡ 0 }
+    {
+        let ended = self.send_stream(lines, input);
+        let status = report_end(ended, self.outlet, self.errors);
+        report_losses(status, lines.get_ref().losses(), self.errors)
+    }
+
+    /// Sends the metrics of the input's lines with `send_input`, added up before they are packed, and returns the exit
+    /// status of the program as `run_stream` does. The lines that the packer took and those that wait, with what is held,
+    /// are a summary of the lines that were added up.
+    pub fn run_summed<T: PacketWriter, F: Write + Drop, I: Read>(
+        &mut self,
+        lines: &mut SummedPacker<LastingWriter<'_, T, F, A>, A>,
+        input: &mut I,
+    ) -> u8
+        ensures status { result ≤ 3 }
+        ensures sent { (result ≡ 0) ⊎ (result ≡ 2) → IfSome (I.remaining input.old) (λ text.
+            SendsTexts self.old.defaults.now (TakesSummed (λ _. lasting_kind) given_history)
+            IsAllSent lines.old lines.new (texts_of_input text)) }
+        ensures summary { IsSummary lines.new }
+        ensures none_lost { (result ≡ 0) ⊎ (result ≡ 2) →
+            (losses_of (fates_in (packer_of lines.new).writer)).packets ≡ 0 }
+    {
+        let ended = self.send_input(lines, input);
+        lines.keeps_the_record();
+        let status = report_end(ended, self.outlet, self.errors);
+        report_losses(status, lines.get_ref().losses(), self.errors)
+    }
 }

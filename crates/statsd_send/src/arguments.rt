@@ -62,6 +62,10 @@ const FLUSH_EVERY: &str = "sends buffered lines after each MS milliseconds, also
 input comes; with 0 no line waits; without this option lines wait
 until a packet is full or the input ends";
 
+const AGGREGATE: &str = "adds up the lines of the input, and sends what they come to after each
+MS milliseconds and at the end; timers, histograms and distributions
+are not added up";
+
 // Returns the argument of an option that has a value. It may be there several times.
 fn option<'a>(
     alloc: Global,
@@ -112,6 +116,7 @@ fn command<'a>(alloc: Global) -> Result<Command<'a>, AllocError> {
         .arg(sample)?
         .arg(option(alloc, "capacity", "BYTES", CAPACITY, PACKETS))?
         .arg(option(alloc, "flush-every", "MS", FLUSH_EVERY, PACKETS))?
+        .arg(flag(alloc, "aggregate", AGGREGATE, PACKETS)?)?
         .arg(flag(alloc, "drop", DROP, TARGET)?)?
         .arg(flag(alloc, "print", "prints the packets, and sends none", TARGET)?)?
         .arg(flag(alloc, "strict", STRICT, METRICS)?)
@@ -199,6 +204,7 @@ fn set_options<'a>(
             options.set(setting, unguarded(value))?;
         }
     }
+    options.is_adding_up = matches.get_flag("aggregate");
     options.is_dropping = matches.get_flag("drop");
     options.is_printing = matches.get_flag("print");
     options.is_strict = matches.get_flag("strict");

@@ -1,6 +1,7 @@
 //! `statsd_send`: sends the metric of its words, or the metrics of its standard input.
 //!
 //! - `arguments`: the words of the command line.
+//! - `asked`: what the options ask for besides the target.
 //! - `host`: a socket that sends each packet to a host, whose name is looked up again and again.
 //! - `pace`: a pace that follows the clock.
 //! - `place`: the place to which packets are sent, and where it comes from.
@@ -8,14 +9,15 @@
 #![tactic(auto)]
 
 mod arguments;
+mod asked;
 mod host;
 mod pace;
 mod place;
 mod unix;
 
 use crate::arguments::{ArgumentError, Arguments, guarded, read_arguments};
+use crate::asked::{asked_input, asked_limits, asked_pace, asked_sampler, exit_without_sample};
 use crate::host::{LONGEST_DATAGRAM, SocketOfHost};
-use crate::pace::Every;
 use crate::place::{Place, check_destination, find_place};
 use crate::unix::SocketOfPath;
 use cadence_agent::{Destination, Environment, EnvironmentError, UnixSocket};
@@ -23,17 +25,14 @@ use cadence_errors::{ErrorKind as MetricErrorKind, MetricError};
 use cadence_flow::io::{LineBuffer, PacketWriter};
 use cadence_resolve::{bind_socket, find_address};
 use cadence_send::{
-    LastingWriter, Options, Outlet, PacketPrinter, RunError, run_input, run_stream, run_words,
+    LastingWriter, Outlet, PacketPrinter, RunError, Sending, SummedPacker, run_words,
 };
 use cadence_sinks::SocketWriter;
-use cadence_words::{Defaults, SampledReader, Sampler};
-use rand::make_rng;
-use rand::rngs::SmallRng;
+use cadence_words::Defaults;
 use std::alloc::{AllocError, Global};
-use std::io::{ErrorKind, Read, Stdin};
+use std::io::{ErrorKind, Read};
 use std::process::ExitCode;
-use std::time::Duration;
-use std::{env, fmt, io};
+use std::{env, fmt};
 
 const OUT_OF_MEMORY: &str = "out of memory";
 
@@ -184,17 +183,21 @@ fn print_packets(rt: &HostRuntime, arguments: &Arguments<'_>, defaults: &Default
     let Ok(mut pace) = asked_pace(rt, &arguments.options) else {
         return exit_with_error(rt, 3, OUT_OF_MEMORY);
     };
-    let (alloc, mut errors) = (rt.alloc(), rt.stderr());
-    let status = run_input(
-        &alloc,
+    let (alloc, mut errors, outlet) = (rt.alloc(), rt.stderr(), Outlet::Output);
+    let mut sending = Sending {
+        alloc: &alloc,
         defaults,
-        &mut lines,
-        &mut input,
-        Outlet::Output,
-        &mut errors,
-        &mut pace,
-    );
-    ExitCode::from(status)
+        outlet,
+        errors: &mut errors,
+        pace: &mut pace,
+    };
+    if !arguments.options.is_adding_up {
+        return ExitCode::from(sending.run_input(&mut lines, &mut input));
+    }
+    let Ok(mut sums) = SummedPacker::new(alloc, asked_limits(&arguments.options), lines) else {
+        return exit_with_error(rt, 3, OUT_OF_MEMORY);
+    };
+    ExitCode::from(sending.run_input(&mut sums, &mut input))
 }
 
 // Sends to a host. Returns the exit status.
@@ -272,40 +275,6 @@ fn exit_without_socket<T: fmt::Display + Drop>(
     exit_with_error(rt, 1, Failed { step, place, why })
 }
 
-// Returns the pace of the option `--flush-every`, if it is set. A clock takes memory.
-fn asked_pace(
-    rt: &HostRuntime,
-    options: &Options<'_, Global>,
-) -> Result<Option<Every<HostRuntime, Stdin>>, AllocError> {
-    let Some(period) = options.flush_every else {
-        return Ok(None);
-    };
-    let clock = rt.clone()?;
-    Ok(Some(Every::new(clock, rt.stdin(), Duration::from_millis(period))))
-}
-
-// Returns the sampler of the option `--sample`, which chooses every line if the option is not set.
-fn asked_sampler(rt: &HostRuntime, options: &Options<'_, Global>) -> io::Result<Sampler<SmallRng>> {
-    let Some(chance) = options.sample else {
-        return Ok(Sampler::all());
-    };
-    Ok(Sampler::new(chance, make_rng(rt)?))
-}
-
-// Returns the lines of the standard input that the option `--sample` lets pass.
-fn asked_input(
-    rt: &HostRuntime,
-    options: &Options<'_, Global>,
-) -> io::Result<SampledReader<Stdin, SmallRng>> {
-    Ok(SampledReader::new(rt.stdin(), asked_sampler(rt, options)?))
-}
-
-// Prints to the standard error why there are no random numbers, and returns the exit status.
-fn exit_without_sample(rt: &HostRuntime, why: io::Error) -> ExitCode {
-    let _ = eprintln!(rt; "statsd_send: cannot make random numbers for --sample: {why}");
-    ExitCode::from(1)
-}
-
 // A capacity that is more than the target takes.
 #[derive(Drop)]
 struct TooMuch<'a>(usize, usize, &'a Place);
@@ -354,16 +323,20 @@ fn send_with<T: PacketWriter>(
         return exit_with_error(rt, 3, OUT_OF_MEMORY);
     };
     let mut errors = rt.stderr();
-    let status = run_stream(
-        &alloc,
-        &defaults,
-        &mut lines,
-        &mut input,
+    let mut sending = Sending {
+        alloc: &alloc,
+        defaults: &defaults,
         outlet,
-        &mut errors,
-        &mut pace,
-    );
-    ExitCode::from(status)
+        errors: &mut errors,
+        pace: &mut pace,
+    };
+    if !arguments.options.is_adding_up {
+        return ExitCode::from(sending.run_stream(&mut lines, &mut input));
+    }
+    let Ok(mut sums) = SummedPacker::new(alloc, asked_limits(&arguments.options), lines) else {
+        return exit_with_error(rt, 3, OUT_OF_MEMORY);
+    };
+    ExitCode::from(sending.run_summed(&mut sums, &mut input))
 }
 
 // Sends the metric of the words, if the option `--sample` lets it pass, and otherwise only reads the words. Returns the

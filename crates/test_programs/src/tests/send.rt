@@ -1,9 +1,9 @@
 //! The engine of `statsd_send` over a reader, writers, packets and memory that fail. A run has to end with the status
 //! and the message of its failure, and to send the lines before it.
-use super::stream::{OUTLET, Waiting};
+use super::stream::{OUTLET, Waiting, target};
 use cadence_errors::ErrorKind;
 use cadence_flow::io::{Answer, LineBuffer, PacketLog, PacketWriter};
-use cadence_send::{Options, PacketPrinter, Setting, run_input, run_words};
+use cadence_send::{Options, PacketPrinter, Sending, Setting, run_words};
 use cadence_text::line::OwnedTag;
 use cadence_words::Defaults;
 use std::alloc::{Allocator, Global};
@@ -89,15 +89,15 @@ fn drive<A: Allocator + Clone, T: PacketWriter, I: Read, E: Write>(
     let defaults = defaults_of(&alloc)?;
     let mut unhurried: Option<Waiting> = None;
     let status = if words.is_empty() {
-        run_input(
-            &alloc,
-            &defaults,
-            &mut lines,
-            input,
-            OUTLET,
+        let outlet = target("host:1", "--to");
+        let mut sending = Sending {
+            alloc: &alloc,
+            defaults: &defaults,
+            outlet,
             errors,
-            &mut unhurried,
-        )
+            pace: &mut unhurried,
+        };
+        sending.run_input(&mut lines, input)
     } else {
         run_words(&alloc, &defaults, &mut lines, words, OUTLET, errors)
     };

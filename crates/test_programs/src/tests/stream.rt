@@ -1,7 +1,7 @@
 //! Streams of `statsd_send`: what is sent and counted as lost over a writer that refuses packets, and when held lines
 //! are sent before more input comes.
 use cadence_flow::io::{Answer, LineBuffer, PacketLog};
-use cadence_send::{LastingWriter, Options, Outlet, Pace, run_stream, send_input};
+use cadence_send::{LastingWriter, Options, Outlet, Pace, Sending};
 use std::alloc::Global;
 use std::io::Write;
 use std::test::Fail;
@@ -9,6 +9,11 @@ use test_tools::reader::ByteReader;
 
 // The place that the messages name.
 pub(crate) const OUTLET: Outlet<'static> = Outlet::Target("host:1", "--to");
+
+// Returns a place. What a `Sending` has is lent for one time, and a constant is lent for ever.
+pub(crate) fn target<'a>(place: &'a str, source: &'a str) -> Outlet<'a> {
+    Outlet::Target(place, source)
+}
 
 // Answers of a log; and then the status, the packets that it takes of three lines, and the message.
 type LossRow = (&'static [Answer], u8, &'static [u8], &'static [u8]);
@@ -56,15 +61,15 @@ fn run_over_log<E: Write + Drop>(
     };
     let mut input = ByteReader::new(b"c a 1\nc b 2\nc c 3");
     let mut unhurried: Option<Waiting> = None;
-    let status = run_stream(
-        &alloc,
-        &defaults,
-        &mut lines,
-        &mut input,
-        OUTLET,
+    let outlet = target("host:1", "--to");
+    let mut sending = Sending {
+        alloc: &alloc,
+        defaults: &defaults,
+        outlet,
         errors,
-        &mut unhurried,
-    );
+        pace: &mut unhurried,
+    };
+    let status = sending.run_stream(&mut lines, &mut input);
     let mut taken = Vec::new(alloc);
     for packet in lines.get_ref().get_ref().packets() {
         taken.extend_from_slice(packet)?;
@@ -119,14 +124,15 @@ fn a_pace_waits_only_while_a_line_is_held(rt: HostRuntime) -> Result<(), Fail> {
     };
     let mut pace = Waiting { waits: 0 };
     let (mut input, mut errors) = (ByteReader::new(b"c a 1\n\nc b 2\n"), Vec::new(alloc));
-    send_input(
-        &alloc,
-        &defaults,
-        &mut lines,
-        &mut input,
-        &mut errors,
-        &mut pace,
-    )?;
+    let outlet = target("host:1", "--to");
+    let mut sending = Sending {
+        alloc: &alloc,
+        defaults: &defaults,
+        outlet,
+        errors: &mut errors,
+        pace: &mut pace,
+    };
+    sending.send_input(&mut lines, &mut input)?;
     let (log, held) = lines.into_parts();
     assert_eq!(rt; pace.waits, 2);
     assert!(rt; held.is_empty() && log.packets().len() == 2);

@@ -7,5 +7,5 @@ decreases-loop-front g l = length l.left
 
 abbrev pub invariant-loop-front : goal.invariant-loop-front
 invariant-loop-front g l =
-    Feeding g.T.PacketWriter.kind g.T.PacketWriter.history l.defaults l.initial.lines l.lines l.initial.buffers.waiting.items l.fn.bytes
+    Feeding g.L.LineTaker.takes g.met.L.LineTaker.takes_none g.met.L.LineTaker.takes_more l.defaults l.initial.lines l.lines l.initial.buffers.waiting.items l.fn.bytes
     l.buffers.waiting.items l.left

@@ -8,34 +8,34 @@ returns-then-len-defaults-clause-taken g c =
     let d = c.args.defaults.now in
     let line = c.write_line_of_text.new.buffer.items in
     let long : d.longest < length line = search (rules, arith) in
-    text_without g.T.PacketWriter.kind g.T.PacketWriter.history d _ _ (inr (
+    text_without g.L.LineTaker.takes g.met.L.LineTaker.takes_none g.met.L.LineTaker.takes_more d _ _ (inr (
       line,
       subst (λ t. IsLineOfText d t line) c.without_return-text.ensures c.in-Ok.ensures,
       long,
     ))
 
-pub returns-in_ok-take_line-in-Ok-clause-taken : goal.returns-in_ok-take_line-in-Ok-clause-taken
-returns-in_ok-take_line-in-Ok-clause-taken g c =
+pub returns-in_ok-take-in-Ok-clause-taken : goal.returns-in_ok-take-in-Ok-clause-taken
+returns-in_ok-take-in-Ok-clause-taken g c =
     let d = c.args.defaults.now in
     let line = c.deref.result.now in
     let same : line ≡ c.write_line_of_text.new.buffer.items = search rules in
     let short : length c.write_line_of_text.new.buffer.items ≤ d.longest = search (rules, arith) in
-    text_taken g.T.PacketWriter.kind g.T.PacketWriter.history d _ _ _ line (
+    text_taken g.L.LineTaker.takes g.met.L.LineTaker.takes_none g.met.L.LineTaker.takes_more d _ _ _ line (
       subst (λ t. IsLineOfText d t line) c.without_return-text.ensures
           (subst (IsLineOfText d c.without_return-text.result.now) (sym same) c.in-Ok.ensures),
       subst (λ l. length l ≤ d.longest) (sym same) short,
-    ) c.in_ok-take_line-in-Ok.ensures.taken
+    ) c.in_ok-take-in-Ok.ensures.taken
 
 pub returns-then-is_blank-clause-taken : goal.returns-then-is_blank-clause-taken
 returns-then-is_blank-clause-taken g c =
     let d = c.args.defaults.now in
     let none : (line : List ℕ) → IsLineOfText d c.without_return-text.result.now line → ⊥ = search rules in
-    text_without g.T.PacketWriter.kind g.T.PacketWriter.history d _ _
+    text_without g.L.LineTaker.takes g.met.L.LineTaker.takes_none g.met.L.LineTaker.takes_more d _ _
     (inl (subst (λ t. (line : List ℕ) → IsLineOfText d t line → ⊥) c.without_return-text.ensures none))
 
 pub returns-else-is_blank-clause-taken : goal.returns-else-is_blank-clause-taken
 returns-else-is_blank-clause-taken g c =
     let d = c.args.defaults.now in
     let none : (line : List ℕ) → IsLineOfText d c.without_return-text.result.now line → ⊥ = search rules in
-    text_without g.T.PacketWriter.kind g.T.PacketWriter.history d _ _
+    text_without g.L.LineTaker.takes g.met.L.LineTaker.takes_none g.met.L.LineTaker.takes_more d _ _
     (inl (subst (λ t. (line : List ℕ) → IsLineOfText d t line → ⊥) c.without_return-text.ensures none))

@@ -1,6 +1,6 @@
 use Rattle.std.specs.Option.{ok_or}
 use Rattle.cadence_send.proofs.Feeding.{flush_takes}
-use Rattle.cadence_send.proofs.run.flush_all.Goals as goal
+use Rattle.cadence_send.proofs.taker.flush_all.Goals as goal
 
 pub returns-clause-same : goal.returns-clause-same
 returns-clause-same g c =

@@ -1,0 +1,108 @@
+//! Lines that are added up before a packer takes them.
+ghost use Rattle.std.specs.Prelude.{◌≡◌, ◌∷◌, ◌++◌, [], IfOk, OnErr, OnOk};
+ghost use Rattle.cadence_aggregating.specs.Summed.{accepted_in, gone_in, held_in, waiting_in};
+
+use crate::error::RunError;
+use crate::taker::LineTaker;
+use cadence_aggregating::{Limits, SummedLines};
+use cadence_errors::SinkError;
+use cadence_flow::io::{LineBuffer, PacketWriter};
+use std::alloc::{AllocError, Allocator, Global};
+use std::io::{self, ErrorKind};
+use std::str;
+
+/// Adds up lines, and gives a packer those that are to be sent.
+#[derive(Drop)]
+pub struct SummedPacker<T, A: Allocator = Global> {
+    sums: SummedLines,
+    lines: LineBuffer<T, A>,
+    // Whether a line was taken since everything was sent.
+    is_holding: bool,
+}
+
+impl<T: PacketWriter, A: Allocator> SummedPacker<T, A> {
+    ghost use Rattle.cadence_send.specs.Summed.{GivesLines, IsSummary, packer_of, sums_of};
+
+    /// Returns sums of no line over a packer. The only error is that memory ran out.
+    pub fn new(
+        alloc: Global,
+        limits: Limits,
+        lines: LineBuffer<T, A>,
+    ) -> Result<SummedPacker<T, A>, AllocError>
+        ensures accepted { IfOk result (λ p. accepted_in (sums_of p) ≡ []) }
+        ensures gone { IfOk result (λ p. gone_in (sums_of p) ≡ []) }
+        ensures packer { IfOk result (λ p. packer_of p ≡ lines) }
+    {
+        Ok(SummedPacker {
+            sums: SummedLines::new(alloc, limits)?,
+            lines,
+            is_holding: false,
+        })
+    }
+
+    /// Returns the writer of the packer.
+    pub fn get_ref(&self) -> &T
+        ensures { result.now ≡ (packer_of self.now).writer }
+    {
+        self.lines.get_ref()
+    }
+
+    /// States that the lines that the packer took and those that wait, with what is held, are a summary of the accepted
+    /// lines: a server knows the same after both. Does nothing when it is called.
+    pub fn keeps_the_record(&self)
+        ensures { IsSummary self.now }
+    {
+        self.sums.keeps_the_record();
+    }
+
+    // Gives the packer the lines that wait, in order, until it refuses one.
+    fn give_waiting(&mut self) -> Result<(), RunError>
+        ensures gives { GivesLines T.kind T.history self.old self.new }
+        ensures accepted { accepted_in (sums_of self.new) ≡ accepted_in (sums_of self.old) }
+        ensures held { held_in (sums_of self.new) ≡ held_in (sums_of self.old) }
+        ensures all { OnOk result (waiting_in (sums_of self.new) ≡ []) }
+    {
+        while let Some(line) = self.sums.first() {
+            self.lines.take(line.as_bytes())?;
+            self.sums.drop_first();
+        }
+        Ok(())
+    }
+}
+
+/// What is held waits for a flush. A line that the packer refuses waits too, and comes before all others.
+impl<T: PacketWriter, A: Allocator> LineTaker for SummedPacker<T, A> {
+    ghost use Rattle.cadence_send.specs.Summed.{IsAllSent, TakesSummed, summed_more, summed_none};
+
+    ghost takes = { TakesSummed T.kind T.history };
+
+    ghost is_sent = { IsAllSent };
+
+    ghost takes_none = { summed_none T.kind T.history };
+
+    ghost takes_more = { summed_more T.kind T.history };
+
+    fn take(&mut self, line: &[u8]) -> Result<(), RunError> {
+        let Ok(text) = str::from_utf8(line) else {
+            return Err(RunError::Input(io::Error::from(ErrorKind::InvalidData)));
+        };
+        self.give_waiting()?;
+        self.sums.add(text)?;
+        self.is_holding = true;
+        let _ = self.give_waiting();
+        Ok(())
+    }
+
+    fn send(&mut self) -> Result<(), RunError> {
+        self.give_waiting()?;
+        self.sums.flush()?;
+        self.give_waiting()?;
+        self.lines.send()?;
+        self.is_holding = false;
+        Ok(())
+    }
+
+    fn is_holding(&self) -> bool {
+        self.is_holding
+    }
+}
