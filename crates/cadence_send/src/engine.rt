@@ -4,7 +4,6 @@ ghost use Rattle.cadence_send.specs.Fed.{Feeds, FeedsSome, IsOneText};
 ghost use Rattle.cadence_send.specs.Sent.{TakesFirst, TakesTexts, texts_of_input, without_return};
 
 use crate::error::RunError;
-use crate::outlet::Outlet;
 use crate::pace::Pace;
 use crate::taker::LineTaker;
 use cadence_words::{Defaults, Part, WordError, write_line_of_text};
@@ -171,8 +170,6 @@ pub struct Sending<'a, E, P, A: Allocator> {
     pub alloc: &'a A,
     /// What each metric gets.
     pub defaults: &'a Defaults<A>,
-    /// The place to which packets go.
-    pub outlet: Outlet<'a>,
     /// What is wrong with a line or a run is written to this. An error of `errors` is ignored.
     pub errors: &'a mut E,
     /// When what is held is sent before more input is read.

@@ -11,8 +11,7 @@ use crate::lasting::{LastingWriter, Losses};
 use crate::outlet::Outlet;
 use crate::pace::Pace;
 use crate::summed::SummedPacker;
-use crate::taker::{LineTaker, flush_all};
-use cadence_errors::SinkError;
+use crate::taker::LineTaker;
 use cadence_flow::io::{LineBuffer, PacketWriter};
 use cadence_words::{Defaults, Part, WordError, write_line_of_words};
 use std::alloc::Allocator;
@@ -38,9 +37,8 @@ pub fn send_words<T: PacketWriter, A: Allocator + Clone>(
             if line.len() > defaults.longest {
                 return Ok(Some(Part::Length));
             }
-            let mut fault = SinkError::NothingWritten;
-            lines.write(&line, &mut fault).ok_or(fault)?;
-            flush_all(lines)?;
+            lines.take(&line)?;
+            lines.send()?;
             Ok(None)
         }
         Err(WordError::Unreadable(part)) => Ok(Some(part)),
@@ -157,14 +155,19 @@ impl<E: Write, P: Pace, A: Allocator + Clone> Sending<'_, E, P, A> {
     /// metrics of all lines were sent, 1 if the reader failed or a packet was refused, 2 if some lines can't be read and
     /// the metrics of the others were sent, and 3 if memory ran out. For every status but 0, the reason is written to
     /// `errors`.
-    pub fn run_input<L: LineTaker, I: Read>(&mut self, lines: &mut L, input: &mut I) -> u8
+    pub fn run_input<L: LineTaker, I: Read>(
+        &mut self,
+        lines: &mut L,
+        input: &mut I,
+        outlet: Outlet<'_>,
+    ) -> u8
         ensures status { result ≤ 3 }
         ensures sent { (result ≡ 0) ⊎ (result ≡ 2) → IfSome (I.remaining input.old) (λ text.
             SendsTexts self.old.defaults.now L.takes L.is_sent
             lines.old lines.new (texts_of_input text)) }
     {
         let ended = self.send_input(lines, input);
-        report_end(ended, self.outlet, self.errors)
+        report_end(ended, outlet, self.errors)
     }
 
     /// Sends the metrics of the input's lines with `send_input`, over a writer that outlives refusals. Afterwards the
@@ -196,6 +199,7 @@ impl<E: Write, P: Pace, A: Allocator + Clone> Sending<'_, E, P, A> {
         &mut self,
         lines: &mut LineBuffer<LastingWriter<'_, T, F, A>, A>,
         input: &mut I,
+        outlet: Outlet<'_>,
     ) -> u8
         ensures status { result ≤ 3 }
         ensures sent { (result ≡ 0) ⊎ (result ≡ 2) → IfSome (I.remaining input.old) (λ text.
@@ -204,7 +208,7 @@ impl<E: Write, P: Pace, A: Allocator + Clone> Sending<'_, E, P, A> {
             (losses_of (fates_in lines.new.writer)).packets ≡ 0 }
     {
         let ended = self.send_stream(lines, input);
-        let status = report_end(ended, self.outlet, self.errors);
+        let status = report_end(ended, outlet, self.errors);
         report_losses(status, lines.get_ref().losses(), self.errors)
     }
 
@@ -215,6 +219,7 @@ impl<E: Write, P: Pace, A: Allocator + Clone> Sending<'_, E, P, A> {
         &mut self,
         lines: &mut SummedPacker<LastingWriter<'_, T, F, A>, A>,
         input: &mut I,
+        outlet: Outlet<'_>,
     ) -> u8
         ensures status { result ≤ 3 }
         ensures sent { (result ≡ 0) ⊎ (result ≡ 2) → IfSome (I.remaining input.old) (λ text.
@@ -226,7 +231,7 @@ impl<E: Write, P: Pace, A: Allocator + Clone> Sending<'_, E, P, A> {
     {
         let ended = self.send_input(lines, input);
         lines.keeps_the_record();
-        let status = report_end(ended, self.outlet, self.errors);
+        let status = report_end(ended, outlet, self.errors);
         report_losses(status, lines.get_ref().losses(), self.errors)
     }
 }

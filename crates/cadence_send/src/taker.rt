@@ -42,35 +42,6 @@ pub trait LineTaker {
         takes q r others → takes p r (lines ++ others) };
 }
 
-// Gives a line to the packer. Most lines fit the packet, and `hold` then takes them with less work than `write`.
-fn take_line<T: PacketWriter, A: Allocator>(
-    lines: &mut LineBuffer<T, A>,
-    line: &[u8],
-) -> Result<(), RunError>
-    ensures taken { OnOk result
-        (TakesLines T.kind T.history lines.old lines.new (line.now ∷ [])) }
-    ensures kept { OnErr result (TakesLines T.kind T.history lines.old lines.new []) }
-{
-    if lines.hold(line) {
-        return Ok(());
-    }
-    let mut fault = SinkError::NothingWritten;
-    lines.write(line, &mut fault).ok_or(fault)?;
-    Ok(())
-}
-
-/// Sends the held text.
-pub(crate) fn flush_all<T: PacketWriter, A: Allocator>(
-    lines: &mut LineBuffer<T, A>,
-) -> Result<(), RunError>
-    ensures same { TakesLines T.kind T.history lines.old lines.new [] }
-    ensures empty { OnOk result (lines.new.held ≡ []) }
-{
-    let mut fault = SinkError::NothingWritten;
-    lines.flush(&mut fault).ok_or(fault)?;
-    Ok(())
-}
-
 /// A packer holds text.
 impl<T: PacketWriter, A: Allocator> LineTaker for LineBuffer<T, A> {
     ghost use Rattle.cadence_send.specs.Takes.{takes_more as packer_takes_more, takes_none as packer_takes_none};
@@ -83,12 +54,21 @@ impl<T: PacketWriter, A: Allocator> LineTaker for LineBuffer<T, A> {
 
     ghost takes_more = { packer_takes_more T.kind T.history };
 
+    #[inline(always)]
     fn take(&mut self, line: &[u8]) -> Result<(), RunError> {
-        take_line(self, line)
+        // Most lines fit the packet, and `hold` then takes them with less work than `write`.
+        if self.hold(line) {
+            return Ok(());
+        }
+        let mut fault = SinkError::NothingWritten;
+        self.write(line, &mut fault).ok_or(fault)?;
+        Ok(())
     }
 
     fn send(&mut self) -> Result<(), RunError> {
-        flush_all(self)
+        let mut fault = SinkError::NothingWritten;
+        self.flush(&mut fault).ok_or(fault)?;
+        Ok(())
     }
 
     fn is_holding(&self) -> bool {

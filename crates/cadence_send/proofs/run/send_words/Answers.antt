@@ -1,7 +1,6 @@
-use Rattle.std.proofs.Common.{rules, arith, ◌≡◌, ◌<◌, ◌≤◌, inl, inr, length, map, refl, subst, sym}
-use Rattle.std.specs.Option.{ok_or}
+use Rattle.std.proofs.Common.{rules, arith, [], ◌∷◌, ◌≡◌, ◌<◌, ◌≤◌, inl, inr, length, map, refl, subst, sym}
 use Rattle.cadence_words.specs.Lines.{IsLineOfWords}
-use Rattle.cadence_send.proofs.Feeding.{word_sent}
+use Rattle.cadence_send.specs.Takes.{takes_more}
 use Rattle.cadence_send.proofs.run.send_words.Goals as goal
 
 pub returns-then-len-defaults : goal.returns-then-len-defaults
@@ -20,10 +19,9 @@ returns-in-Ok g c =
         subst (IsLineOfWords c.args.defaults.now (map (λ w. w.now) c.args.words.now)) (sym same) c.in-Ok.ensures,
         subst (λ l. length l ≤ c.args.defaults.now.longest) (sym same) short,
       ),
-      word_sent g.T.PacketWriter.kind g.T.PacketWriter.history c.args.lines.now c.write.new.self c.flush_all.new.lines c.deref.result.now
-          c.in_ok-ok_or-in-Ok.field-0 (ok_or c.write.result c.write.new.fault) (search rules) c.write.ensures.writes
-          c.in_ok-flush_all-in-Ok.ensures.same,
-      c.in_ok-flush_all-in-Ok.ensures.empty,
+      takes_more g.T.PacketWriter.kind g.T.PacketWriter.history c.args.lines.now c.take.new.self c.send.new.self (line ∷ []) []
+          c.in_ok-take-in-Ok.ensures.taken c.send.ensures.same,
+      c.in_ok-send-in-Ok.ensures.sent,
     )
 
 pub returns-in-Err-Unreadable : goal.returns-in-Err-Unreadable
