@@ -1,20 +1,18 @@
 -- Input that arrives piece by piece, and the lines that a packer takes of its texts.
-use Rattle.std.proofs.Common.{◌≡◌, ◌≢◌, ℕ, ◌++◌, List, [], ◌∷◌, length, take, refl, sym, ap, ap₂, ◌∙◌, subst, eqb, arith, true, false}
-use Rattle.std.proofs.Common.{if◌then◌else◌, Option, Some, None, Result, Ok, Err}
-use Rattle.std.specs.Prelude.{All, IfSome, IfOk, OnErr}
+use Rattle.std.proofs.Common.{◌≡◌, ◌≢◌, ℕ, ◌++◌, List, [], ◌∷◌, refl, sym, ap, ap₂, ◌∙◌, subst, eqb}
+use Rattle.std.proofs.Common.{Option, Some, None, Result, Ok, Err}
+use Rattle.std.specs.Prelude.{All, IfSome, OnErr}
 use Rattle.std.specs.Io.KnownBytes.{Consumes}
 use Rattle.std.specs.List.{AllByRecursion, AllZip}
 use Rattle.std.proofs.lemmas.Bool.{ne_eqb}
-use Rattle.std.proofs.lemmas.List.{append_assoc, append-nil, take_all}
+use Rattle.std.proofs.lemmas.List.{append_assoc, append-nil}
 use Rattle.std.proofs.lemmas.List.Concat.{flat_map-append}
 use Rattle.std.proofs.lemmas.List.Elements.{All-append, All-nil, All-cons, recursion_from_All, filter_map-append}
 use Rattle.std.proofs.lemmas.List.Splits.{slice_split_none, slice_split_at}
 use Rattle.cadence_errors.specs.declared.SinkError.{SinkError}
-use Rattle.cadence_flow.specs.Frame.{Format, frame, frame_of, is_oversize}
-use Rattle.cadence_flow.specs.Packer.{FlushesHeld, Packer, WritesLine, given_by, packer_state, whole_text}
+use Rattle.cadence_flow.specs.Packer.{FlushesHeld, Packer, packer_state, whole_text}
 use Rattle.cadence_flow.specs.Writer.{PacketHistory, WriterKind}
 use Rattle.cadence_send.specs.Fed.{Feeds, FeedsSome, IsOneText, with_newlines}
-use Rattle.cadence_send.specs.Takes.{takes_more}
 use Rattle.cadence_send.specs.Sent.{AreLinesOf, AsksFor, SendsTexts, TakesFirst, TakesLines, TakesTexts, texts_of_input}
 use Rattle.cadence_words.specs.declared.defaults.Defaults.{Defaults}
 
@@ -52,34 +50,6 @@ lines_more d texts more lines others (given, zip, are) (given', zip', are') = (
 )
 
 module _ {W : Type 0} (kind : W → WriterKind) (history : W → PacketHistory) where
-  frame_whole : (f : Format) (line : List ℕ) (n : ℕ) → n ≡ length line → frame_of f line n ≡ frame f line
-  frame_whole f line n e = by_size (is_oversize f line)
-    where
-      by_size : (b : _) → (if b then take n line else line ++ f.ending) ≡ (if b then line else line ++ f.ending)
-      by_size true = take_all n line (omega (arith, e))
-      by_size false = refl
-
-  -- A packer to which a line is written takes that line.
-  pub write_takes : (p q : Packer W) (line : List ℕ) (n : ℕ) (r : Result ℕ SinkError) → r ≡ Ok n → WritesLine kind history p q line r
-      → TakesLines kind history p q (line ∷ [])
-  write_takes p q line n r e h = record {
-    same_kind = h.same_kind;
-    same_format = h.same_format;
-    text = λ reports whole.
-        let count : n ≡ length line = subst (λ a. IfOk a (λ m. m ≡ length line)) e (h.writes.count.takes_whole whole) in
-        h.writes.text reports ∙ ap (λ a. whole_text (packer_state history p) ++ given_by p.format line a) e
-        ∙ ap (λ t. whole_text (packer_state history p) ++ t) (frame_whole p.format line n count ∙ sym (append-nil (frame p.format line)));
-  }
-
-  -- A packer that fails to write a line takes no line.
-  pub error_takes : (p q : Packer W) (line : List ℕ) (e : SinkError) (r : Result ℕ SinkError) → r ≡ Err e → WritesLine kind history p q line r
-      → TakesLines kind history p q []
-  error_takes p q line e r is h = record {
-    same_kind = h.same_kind;
-    same_format = h.same_format;
-    text = λ reports whole. h.writes.text reports ∙ ap (λ a. whole_text (packer_state history p) ++ given_by p.format line a) is;
-  }
-
   -- A flush takes no lines.
   pub flush_takes : {A : Type 0} (p q : Packer W) (r : Result A SinkError) → FlushesHeld kind history p q r → TakesLines kind history p q []
   flush_takes p q r h = record {
@@ -271,11 +241,6 @@ sent_all takes is_sent more d (Some text) p q r taken flushed none = record {
   };
   none_held = none;
 }
-
-pub word_sent : {W : Type 0} (kind : W → WriterKind) (history : W → PacketHistory) (p q r : Packer W) (line : List ℕ) (n : ℕ) (a : Result ℕ SinkError)
-    → a ≡ Ok n → WritesLine kind history p q line a → TakesLines kind history q r [] → TakesLines kind history p r (line ∷ [])
-word_sent kind history p q r line n a e written flushed =
-    takes_more kind history p q r (line ∷ []) [] (write_takes kind history p q line n a e written) flushed
 
 -- If the first texts were taken and then what is held is sent, the same texts were taken.
 pub first_flushed : {S Z : Type 0} (takes : S → S → List (List ℕ) → Type 0) (none : (p : S) → takes p p [])

@@ -131,8 +131,7 @@ impl<E: Write, P: Pace, A: Allocator + Clone> Sending<'_, E, P, A> {
     /// `take_input`.
     ///
     /// # Errors
-    /// `Input` if the reader fails, `Writer` if a packet is refused, and `OutOfMemory`. The lines before the error were
-    /// taken, and none of the others: what a writer refused of them is still held.
+    /// Those of `take_input`, which says what becomes of the lines then.
     pub fn send_input<L: LineTaker, I: Read>(
         &mut self,
         lines: &mut L,
@@ -154,7 +153,7 @@ impl<E: Write, P: Pace, A: Allocator + Clone> Sending<'_, E, P, A> {
     /// Sends the metrics of the input's lines with `send_input`, and returns the exit status of the program: 0 if the
     /// metrics of all lines were sent, 1 if the reader failed or a packet was refused, 2 if some lines can't be read and
     /// the metrics of the others were sent, and 3 if memory ran out. For every status but 0, the reason is written to
-    /// `errors`.
+    /// `errors`, with the outlet if a packet was refused.
     pub fn run_input<L: LineTaker, I: Read>(
         &mut self,
         lines: &mut L,
