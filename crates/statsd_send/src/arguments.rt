@@ -62,9 +62,9 @@ const FLUSH_EVERY: &str = "sends buffered lines after each MS milliseconds, also
 input comes; with 0 no line waits; without this option lines wait
 until a packet is full or the input ends";
 
-const AGGREGATE: &str = "adds up the lines of the input, and sends what they come to after each
-MS milliseconds and at the end; timers, histograms and distributions
-are not added up";
+const AGGREGATE: &str = "adds up the lines of the input, and sends what they come to when
+--flush-every says so and at the end of the input; timers, histograms
+and distributions are not added up";
 
 // Returns the argument of an option that has a value. It may be there several times.
 fn option<'a>(

@@ -183,21 +183,20 @@ fn print_packets(rt: &HostRuntime, arguments: &Arguments<'_>, defaults: &Default
     let Ok(mut pace) = asked_pace(rt, &arguments.options) else {
         return exit_with_error(rt, 3, OUT_OF_MEMORY);
     };
-    let (alloc, mut errors, outlet) = (rt.alloc(), rt.stderr(), Outlet::Output);
+    let (alloc, mut errors) = (rt.alloc(), rt.stderr());
     let mut sending = Sending {
         alloc: &alloc,
         defaults,
-        outlet,
         errors: &mut errors,
         pace: &mut pace,
     };
     if !arguments.options.is_adding_up {
-        return ExitCode::from(sending.run_input(&mut lines, &mut input));
+        return ExitCode::from(sending.run_input(&mut lines, &mut input, Outlet::Output));
     }
     let Ok(mut sums) = SummedPacker::new(alloc, asked_limits(&arguments.options), lines) else {
         return exit_with_error(rt, 3, OUT_OF_MEMORY);
     };
-    ExitCode::from(sending.run_input(&mut sums, &mut input))
+    ExitCode::from(sending.run_input(&mut sums, &mut input, Outlet::Output))
 }
 
 // Sends to a host. Returns the exit status.
@@ -326,17 +325,16 @@ fn send_with<T: PacketWriter>(
     let mut sending = Sending {
         alloc: &alloc,
         defaults: &defaults,
-        outlet,
         errors: &mut errors,
         pace: &mut pace,
     };
     if !arguments.options.is_adding_up {
-        return ExitCode::from(sending.run_stream(&mut lines, &mut input));
+        return ExitCode::from(sending.run_stream(&mut lines, &mut input, outlet));
     }
     let Ok(mut sums) = SummedPacker::new(alloc, asked_limits(&arguments.options), lines) else {
         return exit_with_error(rt, 3, OUT_OF_MEMORY);
     };
-    ExitCode::from(sending.run_summed(&mut sums, &mut input))
+    ExitCode::from(sending.run_summed(&mut sums, &mut input, outlet))
 }
 
 // Sends the metric of the words, if the option `--sample` lets it pass, and otherwise only reads the words. Returns the

@@ -1,6 +1,6 @@
 //! The engine of `statsd_send` over a reader, writers, packets and memory that fail. A run has to end with the status
 //! and the message of its failure, and to send the lines before it.
-use super::stream::{OUTLET, Waiting, target};
+use super::stream::{OUTLET, Waiting};
 use cadence_errors::ErrorKind;
 use cadence_flow::io::{Answer, LineBuffer, PacketLog, PacketWriter};
 use cadence_send::{Options, PacketPrinter, Sending, Setting, run_words};
@@ -89,15 +89,13 @@ fn drive<A: Allocator + Clone, T: PacketWriter, I: Read, E: Write>(
     let defaults = defaults_of(&alloc)?;
     let mut unhurried: Option<Waiting> = None;
     let status = if words.is_empty() {
-        let outlet = target("host:1", "--to");
         let mut sending = Sending {
             alloc: &alloc,
             defaults: &defaults,
-            outlet,
             errors,
             pace: &mut unhurried,
         };
-        sending.run_input(&mut lines, input)
+        sending.run_input(&mut lines, input, OUTLET)
     } else {
         run_words(&alloc, &defaults, &mut lines, words, OUTLET, errors)
     };

@@ -10,11 +10,6 @@ use test_tools::reader::ByteReader;
 // The place that the messages name.
 pub(crate) const OUTLET: Outlet<'static> = Outlet::Target("host:1", "--to");
 
-// Returns a place. What a `Sending` has is lent for one time, and a constant is lent for ever.
-pub(crate) fn target<'a>(place: &'a str, source: &'a str) -> Outlet<'a> {
-    Outlet::Target(place, source)
-}
-
 // Answers of a log; and then the status, the packets that it takes of three lines, and the message.
 type LossRow = (&'static [Answer], u8, &'static [u8], &'static [u8]);
 
@@ -61,15 +56,13 @@ fn run_over_log<E: Write + Drop>(
     };
     let mut input = ByteReader::new(b"c a 1\nc b 2\nc c 3");
     let mut unhurried: Option<Waiting> = None;
-    let outlet = target("host:1", "--to");
     let mut sending = Sending {
         alloc: &alloc,
         defaults: &defaults,
-        outlet,
         errors,
         pace: &mut unhurried,
     };
-    let status = sending.run_stream(&mut lines, &mut input);
+    let status = sending.run_stream(&mut lines, &mut input, OUTLET);
     let mut taken = Vec::new(alloc);
     for packet in lines.get_ref().get_ref().packets() {
         taken.extend_from_slice(packet)?;
@@ -124,11 +117,9 @@ fn a_pace_waits_only_while_a_line_is_held(rt: HostRuntime) -> Result<(), Fail> {
     };
     let mut pace = Waiting { waits: 0 };
     let (mut input, mut errors) = (ByteReader::new(b"c a 1\n\nc b 2\n"), Vec::new(alloc));
-    let outlet = target("host:1", "--to");
     let mut sending = Sending {
         alloc: &alloc,
         defaults: &defaults,
-        outlet,
         errors: &mut errors,
         pace: &mut pace,
     };

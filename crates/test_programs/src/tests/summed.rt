@@ -1,5 +1,5 @@
 //! Lines of `statsd_send` that are added up before they are packed.
-use super::stream::{OUTLET, target};
+use super::stream::OUTLET;
 use cadence_aggregating::Limits;
 use cadence_flow::io::{Answer, LineBuffer, PacketLog};
 use cadence_send::{LastingWriter, Options, Pace, Sending, SummedPacker};
@@ -40,15 +40,13 @@ fn sent<P: Pace>(alloc: Global, mut pace: P, wanted: u8) -> Result<Vec<u8>, Fail
     };
     let mut sums = SummedPacker::new(alloc, LIMITS, lines)?;
     let (mut input, mut errors) = (ByteReader::new(INPUT), Vec::new(alloc));
-    let outlet = target("host:1", "--to");
     let mut sending = Sending {
         alloc: &alloc,
         defaults: &defaults,
-        outlet,
         errors: &mut errors,
         pace: &mut pace,
     };
-    let status = sending.run_input(&mut sums, &mut input);
+    let status = sending.run_input(&mut sums, &mut input, OUTLET);
     if status != wanted {
         return Err(Fail::new(format_args!("status {status}")));
     }
@@ -93,15 +91,13 @@ fn lost_packets_of_added_lines_are_counted(rt: HostRuntime) -> Result<(), Fail> 
     let mut sums = SummedPacker::new(alloc, LIMITS, lines)?;
     let (mut input, mut errors) = (ByteReader::new(b"c a 1\nc a 2"), Vec::new(alloc));
     let mut never: Option<Eager> = None;
-    let outlet = target("host:1", "--to");
     let mut sending = Sending {
         alloc: &alloc,
         defaults: &defaults,
-        outlet,
         errors: &mut errors,
         pace: &mut never,
     };
-    let status = sending.run_summed(&mut sums, &mut input);
+    let status = sending.run_summed(&mut sums, &mut input, OUTLET);
     if status != 1
         || errors.as_slice()
             != b"statsd_send: 1 of 1 packets were lost, with 1 lines\n".as_slice()
