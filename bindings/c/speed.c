@@ -1,6 +1,6 @@
 /* speed count|tags CALLS [THREADS [known|key]]: makes CALLS calls in each thread and prints how many nanoseconds a call
- * takes. With `known` the texts are not tested for UTF-8. With `key` the calls are added up by a key. Each thread has a handle and a socket of its own. Packets of
- * 1432 bytes are sent to the loopback address as soon as two wait. */
+ * takes. With `known` the texts are not tested for UTF-8. With `key` the calls are added up by a key. Each thread has a
+ * handle and a socket of its own. Packets of 1432 bytes are sent to the loopback address as soon as two wait. */
 #include "cadence.h"
 #include <arpa/inet.h>
 #include <pthread.h>
@@ -36,13 +36,16 @@ static void *work(void *unused) {
     cadence_open(&handle, 1432, 2, CADENCE_REFUSE);
     cadence_sums sums = CADENCE_CLOSED;
     size_t key = 0;
-    if (by_key && (cadence_open_sums(&sums, 16, 512, false) || cadence_key_of(&sums, &settings, CADENCE_COUNTER, "some.counter", &options, &key)))
-        exit(4);
+    if (by_key && cadence_open_sums(&sums, 16, 512, false)) exit(4);
+    if (by_key && cadence_key_of(&sums, &settings, CADENCE_COUNTER, "some.counter", &options, &key)) exit(4);
     for (long i = 0; i < calls; i++) {
         const int64_t value = i % 1000;
-        while ((by_key ? cadence_add_number(&sums, &handle, key, value)
-                       : cadence_signed(&handle, &settings, CADENCE_COUNTER, TEXT("some.counter"), &value, 1, &options)) == CADENCE_FULL)
-            send_waiting(&handle, fd);
+        uint32_t status;
+        do {
+            status = by_key ? cadence_add_number(&sums, &handle, key, value)
+                            : cadence_signed(&handle, &settings, CADENCE_COUNTER, TEXT("some.counter"), &value, 1, &options);
+            if (status == CADENCE_FULL) send_waiting(&handle, fd);
+        } while (status == CADENCE_FULL);
     }
     if (by_key) cadence_flush_sums(&sums, &handle);
     cadence_flush(&handle);
