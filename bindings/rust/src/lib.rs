@@ -42,8 +42,8 @@
 //! [`StatsdClientBuilder::with_strict_texts`] makes a client that refuses texts with separators. [`StatsdClient::close`]
 //! waits until queued lines are sent, before the process ends. [`StatsdClient::timer`] times a scope. A queue's builder
 //! has a [policy](QueuingMetricSinkBuilder::with_policy) and a [period](QueuingMetricSinkBuilder::with_flush_period).
-//! [`AggregatingMetricSink`] adds lines up before it sends them. [`Environment`] is what the variables of the process, such
-//! as `DD_AGENT_HOST`, say about a client.
+//! [`AggregatingMetricSink`] adds lines up before it sends them, and adds numbers up by a [`LineKey`] without making a
+//! line. [`Environment`] is what the variables of the process, such as `DD_AGENT_HOST`, say about a client.
 //!
 //! # The library
 //!

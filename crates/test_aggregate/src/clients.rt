@@ -1,8 +1,9 @@
 //! A client whose calls make no line, over a spy: what leaves at a flush, after a refusal, at a drop, after a period and
 //! with two callers.
+use super::spied::assert_got;
 use cadence::client::ClientSettings;
 use cadence::line::Tag;
-use cadence::sinks::{MetricSink, SpyMetricSink, SpyReceiver};
+use cadence::sinks::{MetricSink, SpyMetricSink};
 use cadence::{ErrorKind, MetricResult};
 use cadence_aggregating::{AggregatedClient, AggregatingMetricSinkBuilder, CounterKey};
 use std::sync::Wait;
@@ -19,21 +20,6 @@ const BETA: Tag<'static> = Tag {
     key: None,
     text: "beta",
 };
-
-// Asserts that these are the messages of a spy, with a space between two.
-fn assert_got<R: Wait + Drop>(receiver: &SpyReceiver<R>, lines: &str) -> Result<(), Fail> {
-    for line in lines.split(' ') {
-        match receiver.recv() {
-            Some(message) if message.as_slice() == line.as_bytes() => {}
-            _ => return Err(Fail::new("another line")),
-        }
-    }
-    if receiver.is_empty() {
-        Ok(())
-    } else {
-        Err(Fail::new("one line too many"))
-    }
-}
 
 #[test]
 fn calls_are_added_up(rt: HostRuntime) -> Result<(), Fail> {

@@ -8,3 +8,5 @@ mod clients;
 mod rows;
 #[cfg(test)]
 mod sinks;
+#[cfg(test)]
+mod spied;

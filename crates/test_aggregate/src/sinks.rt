@@ -1,11 +1,11 @@
 //! The aggregating sink over a spy: what leaves at a flush, after a refusal, at a drop, after a period, with two
 //! callers and below a client.
+use super::spied::assert_got;
 use cadence::prelude::*;
-use cadence::sinks::{MetricSink, SpyMetricSink, SpyReceiver};
+use cadence::sinks::{MetricSink, SpyMetricSink};
 use cadence::{MetricResult, StatsdClient};
 use cadence_aggregating::{AggregatingMetricSink, AggregatingMetricSinkBuilder};
 use std::alloc::Global;
-use std::sync::Wait;
 use std::test::Fail;
 use std::thread;
 use std::time::Duration;
@@ -18,21 +18,6 @@ fn assert_takes<S: MetricSink>(sink: &S, lines: &str) -> Result<(), Fail> {
         }
     }
     Ok(())
-}
-
-// Asserts that these are the messages of a spy, with a space between two.
-fn assert_got<R: Wait + Drop>(receiver: &SpyReceiver<R>, lines: &str) -> Result<(), Fail> {
-    for line in lines.split(' ') {
-        match receiver.recv() {
-            Some(message) if message.as_slice() == line.as_bytes() => {}
-            _ => return Err(Fail::new("another line")),
-        }
-    }
-    if receiver.is_empty() {
-        Ok(())
-    } else {
-        Err(Fail::new("one line too many"))
-    }
 }
 
 #[test]
