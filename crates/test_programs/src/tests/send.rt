@@ -74,6 +74,24 @@ fn defaults_of<A: Allocator + Clone>(alloc: &A) -> Option<Defaults<A>> {
     options.defaults(alloc.clone().ok()?, &none).ok()
 }
 
+// Runs the lines of the input over a packer. Returns the status.
+fn run_lines<A: Allocator + Clone, T: PacketWriter, I: Read, E: Write>(
+    alloc: &A,
+    defaults: &Defaults<A>,
+    lines: &mut LineBuffer<T, A>,
+    input: &mut I,
+    errors: &mut E,
+) -> u8 {
+    let mut unhurried: Option<Waiting> = None;
+    let mut sending = Sending {
+        alloc,
+        defaults,
+        errors,
+        pace: &mut unhurried,
+    };
+    sending.run_input(lines, input, OUTLET)
+}
+
 // Runs the words, or the input if there are no words, over a packer whose packets hold one line. Returns the status,
 // whether no text is held at the end, and the writer. Returns `None` if memory was refused before the run.
 fn drive<A: Allocator + Clone, T: PacketWriter, I: Read, E: Write>(
@@ -87,15 +105,8 @@ fn drive<A: Allocator + Clone, T: PacketWriter, I: Read, E: Write>(
         return None;
     };
     let defaults = defaults_of(&alloc)?;
-    let mut unhurried: Option<Waiting> = None;
     let status = if words.is_empty() {
-        let mut sending = Sending {
-            alloc: &alloc,
-            defaults: &defaults,
-            errors,
-            pace: &mut unhurried,
-        };
-        sending.run_input(&mut lines, input, OUTLET)
+        run_lines(&alloc, &defaults, &mut lines, input, errors)
     } else {
         run_words(&alloc, &defaults, &mut lines, words, OUTLET, errors)
     };
