@@ -138,12 +138,7 @@ fn empty(alloc: Global, lines: &mut SummedLines, client: &mut Client) -> Result<
 }
 
 // Calls `add_up` with the client of a handle, and returns the status.
-fn add_with(
-    alloc: Global,
-    lines: &mut SummedLines,
-    handle: &mut Handle,
-    addend: Addend<'_>,
-) -> u32
+fn add_with(alloc: Global, lines: &mut SummedLines, handle: &mut Handle, addend: Addend<'_>) -> u32
     ensures added { result ≡ CADENCE_OK → OnOpen
         (AddsUp (line_of_addend addend.entry ∷ []) lines.old lines.new) handle.old handle.new }
     ensures refused { (result ≡ CADENCE_FULL) ⊎ (result ≡ CADENCE_NO_MEMORY) →

@@ -88,7 +88,7 @@ fn addend_by(keys: &[LineKey], key: usize, number: i64) -> Option<Addend<'_>>
 fn add_by(alloc: Global, sums: &mut Sums, handle: &mut Handle, key: usize, number: i64) -> u32
     ensures added { result ≡ CADENCE_OK →
         IsSomeAnd (line_by sums.old.keys.items key number) (λ line. OnOpen
-            (AddsUp (line ∷ []) sums.old.lines sums.new.lines) handle.old handle.new) }
+        (AddsUp (line ∷ []) sums.old.lines sums.new.lines) handle.old handle.new) }
     ensures refused { (result ≡ CADENCE_FULL) ⊎ (result ≡ CADENCE_NO_MEMORY) →
         OnOpen (AddsUp [] sums.old.lines sums.new.lines) handle.old handle.new }
     ensures full { result ≡ CADENCE_FULL →
@@ -120,7 +120,7 @@ pub extern "C" fn cadence_add_number(
 ) -> u32
     ensures added { result ≡ CADENCE_OK →
         IsSomeAnd (line_by_handle sums.old key number) (λ line. OnBothOpen
-            (AddsUp (line ∷ [])) sums.old sums.new handle.old handle.new) }
+        (AddsUp (line ∷ [])) sums.old sums.new handle.old handle.new) }
     ensures refused { (result ≡ CADENCE_FULL) ⊎ (result ≡ CADENCE_NO_MEMORY) →
         OnBothOpen (AddsUp []) sums.old sums.new handle.old handle.new }
     ensures full { result ≡ CADENCE_FULL →
