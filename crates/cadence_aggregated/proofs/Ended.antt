@@ -10,7 +10,7 @@ use Rattle.std.proofs.lemmas.List.Folds.{concat-append}
 use Rattle.std.proofs.lemmas.List.{drop_at}
 use Rattle.cadence_aggregate.specs.Aggregate.{held}
 use Rattle.cadence_aggregating.specs.Notes.{line_of_note}
-use Rattle.cadence_aggregating.specs.Past.{Summarizes, texts_in}
+use Rattle.cadence_aggregating.specs.Past.{Summarizes}
 use Rattle.cadence_aggregating.proofs.Records.{summarizes}
 use Rattle.cadence_flow.specs.Frame.{Format, frame, held_packet, size_of, stream, taken_stream}
 use Rattle.cadence_flow.specs.Sums.{counted_kind, zero_sums}
@@ -41,7 +41,7 @@ use Rattle.cadence_aggregated.specs.Aggregated.{HasAggregated, with_aggregator}
 use Rattle.cadence_aggregated.specs.Leads.{lines_by}
 use Rattle.cadence_aggregated.specs.PackedRuns.{PackedState, AllMovePacker, packed_state}
 use Rattle.cadence_aggregated.specs.RunOutcome.{outcome_of_running}
-use Rattle.cadence_aggregated.specs.Sendings.{errors_of, counts_of_kept, marks_from, refusals_from}
+use Rattle.cadence_aggregated.specs.Sendings.{errors_of, counts_of_kept, marks_from, refusals_from, texts_in}
 use Rattle.cadence_aggregated.specs.SoFar.{SoFar, Starts}
 use Rattle.cadence_aggregated.specs.Steps.{Goes, nothing, queue_state}
 use Rattle.cadence_aggregated.specs.declared.counting.CountingWriter.{CountingWriter}

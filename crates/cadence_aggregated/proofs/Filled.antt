@@ -2,9 +2,10 @@
 use Rattle.std.proofs.Common.{◌≡◌, ◌≢◌, ℕ, ◌<◌, ◌≤◌, List, [], ◌∷◌, ◌++◌, length, sym, ap, ◌∙◌, subst, arith}
 use Rattle.std.specs.List.{AllByRecursion, AllZip}
 use Rattle.std.proofs.lemmas.List.{length-append, length-map}
+use Rattle.cadence_aggregated.specs.Sendings.{texts_in}
 use Rattle.cadence_aggregate.specs.Server.{Sample, amount, level, member, timing, other, others}
 use Rattle.cadence_aggregate.proofs.Observed.{others-append}
-use Rattle.cadence_aggregating.specs.Past.{Summarizes, texts_in}
+use Rattle.cadence_aggregating.specs.Past.{Summarizes}
 use Rattle.cadence_aggregating.specs.Says.{LineSays, MetricSays}
 use Rattle.cadence_text.specs.Line.{line_of}
 use Rattle.cadence_text.specs.Metric.{Metric}

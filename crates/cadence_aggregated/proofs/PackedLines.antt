@@ -2,7 +2,6 @@
 use Rattle.std.proofs.Common.{◌≡◌, ◌≢◌, ℕ, ◌+◌, ◌^◌, ◌<◌, List, [], ◌∷◌, ◌++◌, Ok, Err, true, length, map, refl, sym, ap, ◌∙◌, subst, arith}
 use Rattle.std.specs.List.{AllByRecursion}
 use Rattle.std.proofs.lemmas.List.{append-nil, append_assoc, length-append, map-append}
-use Rattle.cadence_aggregating.specs.Past.{texts_in}
 use Rattle.cadence_flow.proofs.Histories.{Extends-trans}
 use Rattle.cadence_flow.specs.Frame.{Format, frame_of, held_packet, taken_stream}
 use Rattle.cadence_flow.specs.Packer.{whole_text}
@@ -12,7 +11,7 @@ use Rattle.cadence_schedule.proofs.packets.ListEnds.{joined}
 use Rattle.cadence_schedule.proofs.packets.PackerSteps.{cut_refused, cut_written, refused, written}
 use Rattle.cadence_schedule.specs.Moves.{HasLast}
 use Rattle.cadence_aggregated.specs.PackedRuns.{PackedState, AllMovePacker, packer_in_state}
-use Rattle.cadence_aggregated.specs.Sendings.{Sending, wrote, flushed, counts_of_kept, marks_from, refusals_from}
+use Rattle.cadence_aggregated.specs.Sendings.{Sending, wrote, flushed, counts_of_kept, marks_from, refusals_from, texts_in}
 
 -- Each kept line is not empty.
 abbrev pub AreFilled : List (List ℕ × ℕ) → Type 0

@@ -4,7 +4,7 @@ use Rattle.std.specs.List.{AllByRecursion, concat}
 use Rattle.std.specs.Option.{option_map}
 use Rattle.cadence_aggregate.specs.Aggregate.{held}
 use Rattle.cadence_aggregate.specs.Server.{Sample}
-use Rattle.cadence_aggregating.specs.Past.{Summarizes, texts_in}
+use Rattle.cadence_aggregating.specs.Past.{Summarizes}
 use Rattle.cadence_flow.specs.Frame.{size_of, stream, taken_stream}
 use Rattle.cadence_flow.specs.Writer.{PacketHistory, Extends}
 use Rattle.cadence_schedule.specs.Headline.{Given, ReportsWhole, HasReplies, AreSumsBetween, after_of, packets_of, turns_of, kept_of}
@@ -13,7 +13,7 @@ use Rattle.cadence_schedule.specs.Plan.{groups_of, IsTight, IsFewest, NoGroupHas
 use Rattle.cadence_schedule.specs.Replies.{MayFail}
 use Rattle.cadence_schedule.specs.Report.{Outcome}
 use Rattle.cadence_aggregated.specs.Asked.{AskAll}
-use Rattle.cadence_aggregated.specs.Sendings.{Sending, errors_of, counts_of_kept, marks_from, refusals_from}
+use Rattle.cadence_aggregated.specs.Sendings.{Sending, errors_of, counts_of_kept, marks_from, refusals_from, texts_in}
 use Rattle.cadence_aggregated.specs.declared.report.AggregatedReport.{AggregatedReport}
 
 -- the outcome that a report shows

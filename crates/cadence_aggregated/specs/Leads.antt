@@ -2,12 +2,11 @@
 use Rattle.std.specs.Prelude.{◌≡◌, ℕ, List, [], ◌++◌, map, Option, Some, None}
 use Rattle.cadence_aggregate.specs.Server.{Sample}
 use Rattle.cadence_aggregating.specs.Notes.{line_of_note, sample_of_note}
-use Rattle.cadence_aggregating.specs.Past.{texts_in}
 use Rattle.cadence_errors.specs.declared.SinkError.{SinkError}
 use Rattle.cadence_flow.specs.Writer.{PacketHistory, WriterKind}
 use Rattle.cadence_aggregated.specs.Asked.{WritesLines}
 use Rattle.cadence_aggregated.specs.PackedRuns.{KeepsKindAndFormat, AllMovePacker, packed_state}
-use Rattle.cadence_aggregated.specs.Sendings.{Sending, counts_of_kept}
+use Rattle.cadence_aggregated.specs.Sendings.{Sending, counts_of_kept, texts_in}
 use Rattle.cadence_aggregated.specs.declared.packer_sink.PackerSink.{PackerSink}
 
 -- how many lines a sink refused, if this is its error of a refused line

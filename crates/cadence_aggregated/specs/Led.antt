@@ -2,14 +2,13 @@
 -- be joined.
 use Rattle.std.proofs.Common.{◌≡◌, ℕ, List, [], ◌∷◌, ◌++◌, Ok, Err, Option, Some, None, refl, sym, ap, ◌∙◌, subst}
 use Rattle.std.proofs.lemmas.List.{append-nil, append_assoc, map-append}
-use Rattle.cadence_aggregating.specs.Past.{texts_in}
 use Rattle.cadence_errors.specs.declared.SinkError.{SinkError}
 use Rattle.cadence_flow.specs.Frame.{Format}
 use Rattle.cadence_flow.specs.Writer.{PacketHistory, WriterKind}
 use Rattle.cadence_aggregated.specs.Asked.{WritesLines}
 use Rattle.cadence_aggregated.specs.Leads.{LeadsSink, SinkPacks, WritesAfter, lines_by}
 use Rattle.cadence_aggregated.specs.PackedRuns.{PackedState, AllMovePacker, packed_state}
-use Rattle.cadence_aggregated.specs.Sendings.{Sending, wrote, flushed, counts_of_kept}
+use Rattle.cadence_aggregated.specs.Sendings.{Sending, wrote, flushed, counts_of_kept, texts_in}
 use Rattle.cadence_aggregated.specs.declared.packer_sink.PackerSink.{PackerSink}
 
 kept_joined : (xs ys : List Sending) → counts_of_kept (xs ++ ys) ≡ counts_of_kept xs ++ counts_of_kept ys

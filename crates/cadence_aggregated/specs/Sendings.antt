@@ -1,5 +1,5 @@
 -- What a packer was given, and what it answered.
-use Rattle.std.specs.Prelude.{ℕ, ◌+◌, List, [], ◌∷◌, Result, Ok, Err}
+use Rattle.std.specs.Prelude.{ℕ, ◌+◌, List, [], ◌∷◌, Result, Ok, Err, map}
 use Rattle.cadence_errors.specs.declared.SinkError.{SinkError}
 
 -- A line was given to the packer, or the packer was flushed, with this answer.
@@ -13,6 +13,10 @@ counts_of_kept [] = []
 counts_of_kept (wrote line (Ok n) ∷ xs) = (line, n) ∷ counts_of_kept xs
 counts_of_kept (wrote line (Err e) ∷ xs) = counts_of_kept xs
 counts_of_kept (flushed result ∷ xs) = counts_of_kept xs
+
+-- the texts of a list of texts with counts
+abbrev pub texts_in : List (List ℕ × ℕ) → List (List ℕ)
+texts_in counted = map (λ text. text.0) counted
 
 -- the marks, if this many lines were kept before: how many lines were kept before each flush that was answered with Ok
 abbrev pub marks_from : ℕ → List Sending → List ℕ
