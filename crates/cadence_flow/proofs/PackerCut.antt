@@ -1,23 +1,38 @@
 -- What the calls of a recorded packer do to the cut of its offers.
 use Rattle.std.proofs.Common.{◌≡◌, ℕ, ◌+◌, Bool, true, false, List, [], ◌∷◌, ◌++◌, Some, Result, Ok, Err, MatchResult, is_ok, OnOk, length}
 use Rattle.std.proofs.Common.{ap, sym, ◌∙◌, subst, refl, arith, ⊎_elim}
-use Rattle.std.proofs.Math.Logic.{∥∥₁_map}
+use Rattle.std.proofs.Math.Logic.{∥∥₁_map, ∥∥₁_prop}
+use Rattle.std.proofs.Math.Nat.{ℕ_set}
 use Rattle.std.proofs.lemmas.Bool.{cases_lt}
 use Rattle.std.proofs.lemmas.List.{append-nil}
 use Rattle.cadence_errors.specs.declared.SinkError.{SinkError}
-use Rattle.cadence_flow.specs.Frame.{Fits, size_of, is_oversize}
+use Rattle.cadence_flow.specs.Frame.{Fits, size_of, is_oversize, taken_stream}
 use Rattle.cadence_flow.specs.Offers.{FlushesOffers, WritesOffers}
 use Rattle.cadence_flow.specs.Packer.{Packer, FlushesHeld, WritesLine, with_line_held}
 use Rattle.cadence_flow.specs.Writer.{PacketHistory, WriterKind}
-use Rattle.cadence_flow.specs.Cut.{IsCut}
+use Rattle.cadence_flow.specs.Cut.{IsCut, bytes_taken}
 use Rattle.cadence_flow.specs.RecordedWriter.{offers_of, recorded_history, recorded_kind}
+use Rattle.cadence_flow.specs.declared.recorded_packer.RecordedPacker.{RecordedPacker}
 use Rattle.cadence_flow.specs.declared.recorded_packer.RecordedWriter.{RecordedWriter}
+use mathlib.Core.List.{is_set}
 use Rattle.cadence_flow.proofs.CutLemmas.{cut_flush, write_held, write_closes, write_alone, write_fails}
 
 module _ {W : Type 0} where
   -- The offers of the packer are cut from the lines that it accepted.
   abbrev pub PackerCut : Packer (RecordedWriter W) → List (List ℕ × ℕ) → Type 0
   PackerCut p accepted = IsCut p.format (offers_of p.writer) accepted p.held
+
+module _ {W A : Type 0} (p : RecordedPacker W A) where
+  -- The packets and the held text of this packer are the frames of the accepted lines.
+  abbrev HasStream : Packer (RecordedWriter W) → Type 0
+  HasStream l = bytes_taken (offers_of l.writer) ++ l.held ≡ taken_stream l.format p.accepted.items
+
+  -- A recorded packer over the same packer, with the same record, is the same.
+  pub same_packer : (l : Packer (RecordedWriter W)) → l ≡ p.lines → (s : HasStream l) (cut : ∥ PackerCut l p.accepted.items ∥₁)
+      → ◌≡◌ {A = RecordedPacker W A} (record { lines = l; accepted = p.accepted; stream = s; cut = cut }) p
+  same_packer l e = subst (λ (l : Packer (RecordedWriter W)). (s : HasStream l) (cut : ∥ PackerCut l p.accepted.items ∥₁)
+      → ◌≡◌ {A = RecordedPacker W A} (record { lines = l; accepted = p.accepted; stream = s; cut = cut }) p) (sym e) (λ s cut.
+      λ i. record { lines = p.lines; accepted = p.accepted; stream = is_set ℕ_set _ _ s p.stream i; cut = ∥∥₁_prop cut p.cut i })
 
 module _ {W : Type 0} (kind : W → WriterKind) (history : W → PacketHistory) (old new : Packer (RecordedWriter W)) where
   ok_emptied : {A : Type 0} (r : Result A SinkError) (rest : List ℕ) → OnOk r (rest ≡ []) → is_ok r ≡ true → rest ≡ []

@@ -7,9 +7,9 @@ use Rattle.cadence_flow.specs.Opened.{opened_flush}
 use Rattle.cadence_flow.specs.RecordedPacker.{accepted_of, packer_of}
 use Rattle.cadence_flow.specs.RecordedWriter.{recorded_history, recorded_kind}
 use Rattle.cadence_flow.specs.declared.recorded_packer.RecordedPacker.{RecordedPacker}
-use Rattle.cadence_flow.specs.declared.recorded_packer.answers.Flushed.{Flushed}
-use Rattle.cadence_flow.specs.declared.recorded_packer.answers.Packed.{Packed}
-use Rattle.cadence_flow.specs.declared.recorded_packer.answers.Refused.{Refused}
+use Rattle.cadence_flow.specs.declared.recorded_packer.Flushed.{Flushed}
+use Rattle.cadence_flow.specs.declared.recorded_packer.Packed.{Packed}
+use Rattle.cadence_flow.specs.declared.recorded_packer.Refused.{Refused}
 
 module _ {P : Type 0} where
   -- the number of bytes that a caller gets

@@ -1,17 +1,19 @@
-//! A packer with a record of its past that only proofs read, over a writer with a record of its packets.
+//! A packer with a record of its past that only proofs read, over a writer with a record of its packets; and what the
+//! packer answers: that it took a line, that it refused one, or that it was flushed.
+//!
+//! An answer has the states of the packer between which it made the step. The states exist in proofs only, and have no
+//! bytes. Only this module makes an answer. No answer can be let go, because its type has no `Drop`: it has to reach
+//! `emit_by` or `flush_by`, which alone can open it.
 ghost use Rattle.std.specs.Prelude.{◌≡◌, ◌∷◌, ◌++◌, []};
 ghost use Rattle.cadence_flow.specs.Frame.{taken_stream};
 ghost use Rattle.cadence_flow.specs.Cut.{IsCut, bytes_taken};
 
+use crate::answering_sink::{Closed, Opened, Opener};
 use crate::ghost_texts::GhostTexts;
 use crate::io::{LineBuffer, PacketWriter};
 use cadence_errors::{MetricError, MetricResult, SinkError};
 use std::alloc::{Allocator, Global};
 use std::snapshot::Snapshot;
-
-mod answers;
-
-pub use answers::{Flushed, Packed, Refused};
 
 /// A packer whose ending is the newline, with a record of the lines that it accepted, each with the number of bytes
 /// that its call returned. The record exists in proofs only. Two facts are true of every `RecordedPacker`:
@@ -66,22 +68,9 @@ impl<W: PacketWriter, A: Allocator> RecordedPacker<W, A> {
     ) -> Result<Packed<Self>, Refused<Self>>
         ensures { AnswersLine W.kind W.history self.old self.new line.now result fault.new }
     {
-        let before = Snapshot::of(self);
-        match self.lines.write(line, fault) {
-            Some(bytes) => {
-                self.accepted.note(line, bytes);
-                Ok(Packed {
-                    bytes,
-                    returned: Snapshot::of(&bytes),
-                    before,
-                    after: Snapshot::of(self),
-                })
-            }
-            None => Err(Refused {
-                why: Snapshot::of(fault),
-                before,
-                after: Snapshot::of(self),
-            }),
+        match self.hold(line) {
+            Some(packed) => Ok(packed),
+            None => self.write_late(line, fault),
         }
     }
 
@@ -122,7 +111,7 @@ impl<W: PacketWriter, A: Allocator> RecordedPacker<W, A> {
             × (after_of p ≡ self.new) × (returned_of p ≡ bytes_of p)) }
         ensures accepted { IfSome result (λ p. (bytes_of p ≡ length line.now)
             × (accepted_of self.new ≡ accepted_of self.old ++ (line.now, length line.now) ∷ [])) }
-        ensures unchanged { result ≡ None → accepted_of self.new ≡ accepted_of self.old }
+        ensures unchanged { result ≡ None → self.new ≡ self.old }
         ensures holds { HoldsLine (packer_of self.old) (packer_of self.new)
             line.now (is_some result) }
     {
@@ -173,6 +162,86 @@ impl<W: PacketWriter, A: Allocator> RecordedPacker<W, A> {
             ≡ taken_stream packer.format (accepted_of self.now) }
     {
         self.lines.held()
+    }
+}
+
+/// The packer took a line.
+pub struct Packed<P> {
+    bytes: usize,
+    returned: Snapshot<usize>,
+    before: Snapshot<P>,
+    after: Snapshot<P>,
+}
+
+/// The packer refused a line, or a flush of it failed.
+pub struct Refused<P> {
+    why: Snapshot<SinkError>,
+    before: Snapshot<P>,
+    after: Snapshot<P>,
+}
+
+/// The packer was flushed, and holds nothing.
+pub struct Flushed<P> {
+    before: Snapshot<P>,
+    after: Snapshot<P>,
+}
+
+impl<P> Packed<P> {
+    ghost use Rattle.cadence_flow.specs.Packed.{after_of, before_of, bytes_of, returned_of};
+
+    /// Returns the same answer with this number of bytes for the caller. It is for a sink that stores the capacity of
+    /// its packer beside the lock, where no clause ties it to the packer's own: the sink returns the length of a line
+    /// that fits by this capacity.
+    pub fn with_bytes(self, bytes: usize) -> Self
+        ensures bytes { bytes_of result ≡ bytes }
+        ensures same { (returned_of result ≡ returned_of self)
+            × (before_of result ≡ before_of self) × (after_of result ≡ after_of self) }
+    {
+        let Packed {
+            bytes: _,
+            returned,
+            before,
+            after,
+        } = self;
+        Packed {
+            bytes,
+            returned,
+            before,
+            after,
+        }
+    }
+}
+
+impl<P> Opened for Packed<P> {
+    ghost bytes = { λ p. p.bytes };
+
+    fn open(self, _by: Opener) -> usize {
+        let Packed {
+            bytes,
+            returned: _,
+            before: _,
+            after: _,
+        } = self;
+        bytes
+    }
+}
+
+impl<P> Closed for Refused<P> {
+    fn close(self, _by: Opener) {
+        let Refused {
+            why: _,
+            before: _,
+            after: _,
+        } = self;
+    }
+}
+
+impl<P> Closed for Flushed<P> {
+    fn close(self, _by: Opener) {
+        let Flushed {
+            before: _,
+            after: _,
+        } = self;
     }
 }
 

@@ -5,9 +5,9 @@ use Rattle.cadence_flow.specs.Writer.{history_of}
 use Rattle.cadence_queue.specs.Answers.{queue_kind}
 use Rattle.cadence_flow.specs.Packed.{ShowsFlush, ShowsLine, bytes_of, returned_of}
 use Rattle.cadence_flow.specs.declared.recorded_packer.RecordedPacker.{RecordedPacker}
-use Rattle.cadence_flow.specs.declared.recorded_packer.answers.Flushed.{Flushed}
-use Rattle.cadence_flow.specs.declared.recorded_packer.answers.Packed.{Packed}
-use Rattle.cadence_flow.specs.declared.recorded_packer.answers.Refused.{Refused}
+use Rattle.cadence_flow.specs.declared.recorded_packer.Flushed.{Flushed}
+use Rattle.cadence_flow.specs.declared.recorded_packer.Packed.{Packed}
+use Rattle.cadence_flow.specs.declared.recorded_packer.Refused.{Refused}
 use Rattle.cadence_sinks.specs.Sockets.{socket_kind}
 use Rattle.cadence_sinks.specs.declared.datagram.CountedSocket.{CountedSocket}
 use Rattle.cadence_sinks.specs.declared.datagram.SocketWriter.{SocketWriter}
