@@ -1,7 +1,7 @@
 -- What contracts see of a counted answer of a socket.
 use Rattle.std.specs.Prelude.{ℕ, Option, Some, None, Result, Ok, Err}
-use Rattle.cadence_flow.specs.declared.socket_stats.Sent.{Sent}
-use Rattle.cadence_flow.specs.declared.socket_stats.Dropped.{Dropped}
+use Rattle.cadence_flow.specs.declared.stats.Sent.{Sent}
+use Rattle.cadence_flow.specs.declared.stats.Dropped.{Dropped}
 
 -- how many bytes a counted answer has
 abbrev pub bytes_sent : Sent → ℕ

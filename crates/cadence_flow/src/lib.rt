@@ -3,13 +3,12 @@
 //! time.
 //!
 //! - `io`: the packer, the writers of packets below it, and a writer that keeps its packets
-//! - `stats`: sums of bytes and packets
+//! - `stats`: sums of bytes and packets, and the counts of a socket, which are such sums under a lock
 //! - `metric_sink`: the trait of all sinks, and a sink that drops each line
 //! - `answering_sink`: the one body of `emit` and of `flush` of the library's own sinks
 //! - `recorded_packer`: a packer with a record of the lines that it accepted, over a writer with a record of the packets
 //!   that it was offered, and the answers that only this packer makes
 //! - `ghost_list` and `ghost_texts`: a list and a list of texts that exist in proofs only
-//! - `socket_stats`: the counts of a socket, under a lock
 //! - `lock`: how a lock is taken
 //! - `thread`: starts a thread that does a job
 //! - `handler`: a caller's closure that receives the errors of a sink or of a resolver
@@ -23,7 +22,6 @@ pub mod io;
 mod lock;
 mod metric_sink;
 mod recorded_packer;
-mod socket_stats;
 pub mod stats;
 pub mod thread;
 
@@ -36,4 +34,4 @@ pub use handler::{Handler, SinkErrorHandler};
 pub use lock::{acquire, spin};
 pub use metric_sink::{MetricSink, NopMetricSink};
 pub use recorded_packer::{Flushed, Packed, RecordedPacker, RecordedWriter, Refused};
-pub use socket_stats::{Dropped, Sent, SocketStats};
+pub use stats::{Dropped, Sent, SocketStats};
