@@ -44,7 +44,7 @@ use Rattle.cadence_aggregated.specs.RunOutcome.{outcome_of_running}
 use Rattle.cadence_aggregated.specs.Sendings.{errors_of, counts_of_kept, marks_from, refusals_from, texts_in}
 use Rattle.cadence_aggregated.specs.SoFar.{SoFar, Starts}
 use Rattle.cadence_aggregated.specs.Steps.{Goes, nothing, queue_state}
-use Rattle.cadence_aggregated.specs.declared.counting.CountingWriter.{CountingWriter}
+use Rattle.cadence_flow.specs.declared.io.counting.CountingWriter.{CountingWriter}
 use Rattle.cadence_aggregated.specs.declared.packing.Packing.{Packing}
 use Rattle.cadence_aggregated.specs.declared.running.Running.{Running}
 use Rattle.cadence_aggregated.proofs.Filled.{kept_filled, no_more_kept}

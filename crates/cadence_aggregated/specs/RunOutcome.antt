@@ -3,7 +3,7 @@ use Rattle.std.specs.Prelude.{Vec, string_bytes}
 use Rattle.std.specs.Option.{option_map}
 use Rattle.cadence_schedule.specs.Report.{Outcome}
 use Rattle.cadence_schedule.specs.declared.steps.Reply.{Reply}
-use Rattle.cadence_aggregated.specs.declared.counting.CountingWriter.{CountingWriter}
+use Rattle.cadence_flow.specs.declared.io.counting.CountingWriter.{CountingWriter}
 use Rattle.cadence_aggregated.specs.declared.running.Running.{Running}
 
 -- the outcome of a run, from its last state and its replies

@@ -7,10 +7,8 @@
 //! - `packer_sink`: the packer as a sink of what lines say.
 //! - `packing`: the packer, with the numbers of lines in its packets.
 //! - `listed`: a list of lines as a sink of what lines say.
-//! - `counting`: a writer that counts what another one took and refused.
 #![tactic(auto)]
 
-mod counting;
 mod listed;
 mod packer_sink;
 mod packing;

@@ -11,7 +11,6 @@ ghost use Rattle.cadence_aggregated.specs.RunOutcome.{outcome_of_running};
 ghost use Rattle.cadence_aggregated.specs.Sendings.{Sending};
 ghost use Rattle.cadence_aggregated.specs.SoFar.{SoFar, Starts};
 
-use crate::counting::CountingWriter;
 use crate::packing::Packing;
 use crate::report::AggregatedReport;
 use crate::running::Running;
@@ -19,7 +18,7 @@ use crate::sums::Sums;
 use cadence_aggregate::Aggregator;
 use cadence_aggregating::Limits;
 use cadence_errors::MetricResult;
-use cadence_flow::io::{LineBuffer, PacketWriter};
+use cadence_flow::io::{CountingWriter, LineBuffer, PacketWriter};
 use cadence_queue::{QueueCore, QueuePolicy};
 use cadence_schedule::{Reply, Step, tight_is_fewest};
 use cadence_settings::ClientSettings;

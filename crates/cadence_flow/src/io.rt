@@ -5,8 +5,10 @@
 //! - `multi_line_writer`: the packer with the interface of the Rust crate, which flushes when it is dropped
 //! - `writer`: the trait of a writer of packets
 //! - `packet_log`: a writer that keeps its packets in memory
+//! - `counting`: a writer that counts what another one took and refused
 //! - `refusals`: how many packets a writer refused
 
+mod counting;
 mod held_lines;
 mod line_buffer;
 mod multi_line_writer;
@@ -14,6 +16,7 @@ mod packet_log;
 mod refusals;
 mod writer;
 
+pub use counting::CountingWriter;
 pub use held_lines::HeldLines;
 pub use line_buffer::LineBuffer;
 pub use multi_line_writer::MultiLineWriter;

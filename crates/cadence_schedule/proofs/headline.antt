@@ -5,4 +5,3 @@ pub mod FinishedRun
 pub mod ReplyCauses
 pub mod RunOfTurns
 pub mod WholeRun
-pub mod WriterSums

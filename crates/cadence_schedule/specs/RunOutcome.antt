@@ -1,7 +1,7 @@
 -- For proofs: the outcome of a run after its last step, in the contract of a private function.
 use Rattle.std.specs.Prelude.{Vec, string_bytes}
 use Rattle.std.specs.Option.{option_map}
-use Rattle.cadence_schedule.specs.declared.counting.CountingWriter.{CountingWriter}
+use Rattle.cadence_flow.specs.declared.io.counting.CountingWriter.{CountingWriter}
 use Rattle.cadence_schedule.specs.declared.running.Running.{Running}
 use Rattle.cadence_schedule.specs.declared.steps.Reply.{Reply}
 use Rattle.cadence_schedule.specs.Report.{Outcome}

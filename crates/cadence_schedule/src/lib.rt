@@ -6,11 +6,9 @@
 //! - `running`: the state of a run between two steps, and what each step does
 //! - `reports`: what a run returns
 //! - `plan`: plans that say how many lines each packet has
-//! - `counting`: a writer that counts what it took and refused
 //! - `laws`: laws that follow from the definitions
 #![tactic(auto)]
 
-mod counting;
 mod laws;
 mod plan;
 mod reports;

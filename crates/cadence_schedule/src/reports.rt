@@ -1,9 +1,8 @@
 //! The report of a run: its replies, its packets, and what is left in the queue, in hand and in the packer.
 
-use super::counting::CountingWriter;
 use super::running::Running;
 use super::steps::Reply;
-use cadence_flow::io::PacketWriter;
+use cadence_flow::io::{CountingWriter, PacketWriter};
 use cadence_flow::stats::SinkStats;
 use cadence_queue::QueueCore;
 use std::alloc::{Allocator, Global};

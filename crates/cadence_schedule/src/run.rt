@@ -11,13 +11,12 @@ ghost use Rattle.cadence_schedule.specs.Report.{outcome_of};
 ghost use Rattle.cadence_schedule.specs.Running.{IsAtStart, run_state};
 ghost use Rattle.cadence_queue.specs.declared.policy.QueuePolicy.TheVariants.{Refuse};
 
-use super::counting::CountingWriter;
 use super::laws::{packets_read_one_way, tight_is_fewest};
 use super::reports::Report;
 use super::running::Running;
 use super::steps::{Reply, Step};
 use cadence_errors::MetricResult;
-use cadence_flow::io::{LineBuffer, PacketWriter};
+use cadence_flow::io::{CountingWriter, LineBuffer, PacketWriter};
 use cadence_queue::{QueueCore, QueuePolicy};
 use cadence_settings::{ClientSettings, strict_calls_are_free};
 use cadence_text::laws::no_line_is_empty;

@@ -12,7 +12,7 @@ use Rattle.cadence_text.specs.Metric.{Metric}
 use Rattle.cadence_text.specs.OneReading.{IsFreeOfSeparators}
 use Rattle.cadence_text.specs.Representable.{IsRepresentable}
 use Rattle.cadence_settings.specs.declared.call.Call.{Call}
-use Rattle.cadence_schedule.specs.declared.counting.CountingWriter.{CountingWriter}
+use Rattle.cadence_flow.specs.declared.io.counting.CountingWriter.{CountingWriter}
 use Rattle.cadence_schedule.specs.declared.running.Running.{Running}
 use Rattle.cadence_schedule.specs.declared.steps.Reply.{Reply}
 use Rattle.cadence_schedule.specs.declared.steps.Step.{Step}

@@ -1,21 +1,23 @@
 //! A writer that counts the bytes and the packets that another one took and refused.
+use super::writer::PacketWriter;
+use crate::stats::SinkStats;
 use cadence_errors::SinkError;
-use cadence_flow::io::PacketWriter;
-use cadence_flow::stats::SinkStats;
 
-// A writer, and the sums of the bytes and the packets that it took and refused.
+/// A writer, and the sums of the bytes and the packets that it took and refused.
 #[derive(Drop)]
-pub(crate) struct CountingWriter<W: PacketWriter> {
-    pub(crate) inner: W,
-    pub(crate) stats: SinkStats,
+pub struct CountingWriter<W: PacketWriter> {
+    /// The writer that takes the packets.
+    pub inner: W,
+    /// The sums, each modulo 2^64.
+    pub stats: SinkStats,
 }
 
 impl<W: PacketWriter> CountingWriter<W> {
     ghost use Rattle.std.specs.Prelude.{◌≡◌, ◌<◌, ◌^◌};
     ghost use Rattle.cadence_flow.specs.Sums.{zero_sums};
 
-    // Starts counting, with sums of zero.
-    pub(crate) fn new(inner: W) -> CountingWriter<W>
+    /// Starts counting, with sums of zero.
+    pub fn new(inner: W) -> CountingWriter<W>
         ensures { result ≡ record { inner = inner; stats = zero_sums } }
     {
         CountingWriter {
@@ -29,16 +31,16 @@ impl<W: PacketWriter> CountingWriter<W> {
         }
     }
 
-    // Returns the writer.
-    pub(crate) fn into_inner(self) -> W
+    /// Returns the writer.
+    pub fn into_inner(self) -> W
         ensures { result ≡ self.inner }
     {
         let CountingWriter { inner, stats: _ } = self;
         inner
     }
 
-    // Returns the writer and the sums.
-    pub(crate) fn into_parts(self) -> (W, SinkStats)
+    /// Returns the writer and the sums.
+    pub fn into_parts(self) -> (W, SinkStats)
         ensures writer { result.0 ≡ self.inner }
         ensures stats { result.1 ≡ self.stats }
         ensures bytes_sent { result.1.bytes_sent < 2 ^ 64 }

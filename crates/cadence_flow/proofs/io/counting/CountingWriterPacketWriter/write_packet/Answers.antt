@@ -1,5 +1,5 @@
-use Rattle.cadence_schedule.proofs.headline.WriterSums.{counted_answer}
-use Rattle.cadence_aggregated.proofs.counting.CountingWriterPacketWriter.write_packet.Goals as goal
+use Rattle.cadence_flow.proofs.WriterSums.{counted_answer}
+use Rattle.cadence_flow.proofs.io.counting.CountingWriterPacketWriter.write_packet.Goals as goal
 
 pub returns-clause-same_kind : goal.returns-clause-same_kind
 returns-clause-same_kind g c =
