@@ -5,8 +5,8 @@ use Rattle.cadence_queue.specs.Queue.{IsQueueRefusal, is_queue_refusal}
 use Rattle.cadence_flow.specs.Sums.{zero_sums}
 use Rattle.cadence_flow.specs.Writer.{WriterKind}
 use Rattle.cadence_queue.specs.Shown.{accepted_of, text_of}
-use Rattle.cadence_queue.specs.declared.shown.Queued.{Queued}
-use Rattle.cadence_queue.specs.declared.shown.Refusal.{Refusal}
+use Rattle.cadence_queue.specs.declared.under_lock.Queued.{Queued}
+use Rattle.cadence_queue.specs.declared.under_lock.Refusal.{Refusal}
 
 -- The result is the length of the text, or an error of a queue.
 abbrev pub IsQueueAnswer : List ℕ → Result ℕ SinkError → Type 0

@@ -3,11 +3,11 @@ use Rattle.std.specs.Prelude.{◌≡◌, ℕ, ◌<◌, Option, Some, None, List,
 use Rattle.cadence_queue.specs.QueueState.{Queue}
 use Rattle.cadence_queue.specs.declared.queue_core.Taken.{Taken}
 use Rattle.cadence_queue.specs.declared.queue_error.QueueError.{QueueError}
-use Rattle.cadence_queue.specs.declared.shown.Accepted.{Accepted}
-use Rattle.cadence_queue.specs.declared.shown.Queued.{Queued}
-use Rattle.cadence_queue.specs.declared.shown.Refusal.{Refusal}
-use Rattle.cadence_queue.specs.declared.shown.Took.{Took}
-use Rattle.cadence_queue.specs.declared.shown.End.{End}
+use Rattle.cadence_queue.specs.declared.under_lock.Accepted.{Accepted}
+use Rattle.cadence_queue.specs.declared.under_lock.Queued.{Queued}
+use Rattle.cadence_queue.specs.declared.under_lock.Refusal.{Refusal}
+use Rattle.cadence_queue.specs.declared.under_lock.Took.{Took}
+use Rattle.cadence_queue.specs.declared.under_lock.End.{End}
 
 module _ {T A : Type 0} where
   -- the text that was accepted

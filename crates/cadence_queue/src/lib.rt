@@ -7,8 +7,7 @@
 //! - `text_ring`: the ring that stores the texts
 //! - `recorded_queue`: a queue with a record of the texts that it accepted and of those that were taken
 //! - `shared_queue`: a recorded queue under a lock
-//! - `under_lock`: what lies under that lock
-//! - `shown`: what a call of a shared queue shows of the step that it made under the lock
+//! - `under_lock`: what lies under that lock, and what a call shows of the step that it made there
 //! - `taking`: how texts are taken out of a shared queue
 //! - `taker`: how the worker takes them, several at a time
 //! - `backoff`: how long the worker waits between two looks at an empty queue
@@ -22,7 +21,6 @@ mod queue_core;
 mod queue_error;
 mod recorded_queue;
 mod shared_queue;
-mod shown;
 mod taker;
 mod taking;
 mod text_ring;
@@ -33,6 +31,6 @@ pub use policy::QueuePolicy;
 pub use queue_core::{QueueCore, Taken};
 pub use queue_error::QueueError;
 pub use shared_queue::SharedQueue;
-pub use shown::{Accepted, End, Left, Queued, Refusal, Stopped, Took};
 pub use taker::{Taker, TakerRoom};
 pub use text_ring::TextRing;
+pub use under_lock::{Accepted, End, Left, Queued, Refusal, Stopped, Took};

@@ -12,8 +12,7 @@ ghost use Rattle.cadence_queue.specs.Shown.{at_of, text_of, why_of};
 
 use super::backoff::give_way;
 use super::recorded_queue::RecordedQueue;
-use super::shown::{Accepted, Left, Refusal, Stopped};
-use super::under_lock::UnderLock;
+use super::under_lock::{Accepted, Left, Refusal, Stopped, UnderLock};
 use crate::{QueueError, QueuePolicy};
 use cadence_errors::{MetricResult, SinkError};
 use cadence_flow::acquire;

@@ -2,7 +2,7 @@
 ghost use Rattle.std.specs.Prelude.{◌≡◌, ◌<◌, [], ◌++◌, is_some, true};
 
 use super::shared_queue::SharedQueue;
-use super::shown::End;
+use super::under_lock::End;
 use crate::TextRing;
 use cadence_flow::GhostList;
 use std::alloc::{AllocError, Allocator, Global};

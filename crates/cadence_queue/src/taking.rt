@@ -6,8 +6,8 @@ ghost use Rattle.cadence_queue.specs.Taker.{given_by, has_ended};
 
 use super::backoff::{LOOKS, TRIES, wait_for_lock};
 use super::shared_queue::SharedQueue;
-use super::shown::{End, Took};
 use super::taker::{Taker, TakerRoom};
+use super::under_lock::{End, Took};
 use crate::{Taken, TextRing};
 use cadence_flow::{GhostList, acquire};
 use std::alloc::{AllocError, Allocator};
