@@ -10,11 +10,9 @@
 //! - `under_lock`: what lies under that lock, and what a call shows of the step that it made there
 //! - `taking`: how texts are taken out of a shared queue
 //! - `taker`: how the worker takes them, several at a time
-//! - `backoff`: how long the worker waits between two looks at an empty queue
 //! - `latch`: a mark that one thread sets and that others wait for
 #![tactic(auto)]
 
-mod backoff;
 mod latch;
 mod policy;
 mod queue_core;

@@ -10,15 +10,19 @@ ghost use Rattle.cadence_queue.specs.RecordedQueue.{core_of};
 ghost use Rattle.cadence_queue.specs.SharedQueue.{bound_of, rule_of};
 ghost use Rattle.cadence_queue.specs.Shown.{at_of, text_of, why_of};
 
-use super::backoff::give_way;
 use super::recorded_queue::RecordedQueue;
 use super::under_lock::{Accepted, Left, Refusal, Stopped, UnderLock};
 use crate::{QueueError, QueuePolicy};
 use cadence_errors::{MetricResult, SinkError};
-use cadence_flow::acquire;
+use cadence_flow::{acquire, spin};
 use std::alloc::{AllocError, Allocator, Global};
 use std::snapshot::Snapshot;
 use std::sync::{Condvar, Mutex, MutexGuard, Wait};
+
+/// How many turns of an empty loop a caller waits that finds the queue full. More turns let more lines in, and a burst
+/// takes longer. It doesn't let other threads run: on a busy machine that takes milliseconds. The number was chosen by
+/// measurement. It decides how fast a caller is, and nothing else: no contract speaks of it.
+const TURNS_TO_GIVE_WAY: u32 = 20;
 
 /// A queue of texts under a lock, which threads share by reference. Each call takes the lock and does one step of a
 /// `QueueCore`; a `Taker` does several takes in a row. What lies under the lock is a `RecordedQueue`, so whenever the
@@ -204,7 +208,7 @@ impl<T, A: Allocator, M> SharedQueue<T, A, M> {
             return state;
         }
         drop(state);
-        give_way();
+        spin(TURNS_TO_GIVE_WAY);
         acquire(&self.state, rt)
     }
 

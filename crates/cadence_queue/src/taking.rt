@@ -4,16 +4,28 @@ ghost use Rattle.cadence_queue.specs.declared.queue_core.Taken.TheVariants.{Empt
 ghost use Rattle.cadence_queue.specs.Shown.{AreMoved, taken_of};
 ghost use Rattle.cadence_queue.specs.Taker.{given_by, has_ended};
 
-use super::backoff::{LOOKS, TRIES, wait_for_lock};
 use super::shared_queue::SharedQueue;
 use super::taker::{Taker, TakerRoom};
 use super::under_lock::{End, Took};
 use crate::{Taken, TextRing};
-use cadence_flow::{GhostList, acquire};
+use cadence_flow::{GhostList, acquire, spin};
 use std::alloc::{AllocError, Allocator};
 use std::sync::Wait;
 use std::thread;
 use std::time::{Clock, Duration};
+
+// The three numbers here were chosen by measurement. They decide how fast the worker is, and nothing else: no contract
+// speaks of them, and the queue would be correct with any others.
+
+/// How often a worker looks for texts before it sleeps. It doesn't sleep at once, because a caller that has to wake the
+/// worker takes longer.
+const LOOKS: u32 = 8;
+
+/// How often a worker tries the lock in one look, if another thread holds it.
+const TRIES: u32 = 8;
+
+/// How many turns of an empty loop a worker waits between two tries of the lock. A caller waits longer (`acquire`).
+const TURNS_BETWEEN_TRIES: u32 = 100;
 
 /// The right to take texts out of a queue. Only this module makes one. It has no bytes.
 #[derive(Clone, Copy)]
@@ -176,7 +188,7 @@ impl<T, A: Allocator, M: Drop> SharedQueue<T, A, M> {
                 }
                 return Some(state.take_some(HAND, texts, taken, done));
             }
-            wait_for_lock();
+            spin(TURNS_BETWEEN_TRIES);
         }
         None
     }
