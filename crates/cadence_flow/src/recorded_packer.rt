@@ -52,13 +52,11 @@ impl<W: PacketWriter, A: Allocator + Clone> RecordedPacker<W, A> {
 }
 
 impl<W: PacketWriter, A: Allocator> RecordedPacker<W, A> {
-    ghost use Rattle.std.specs.List.{concat};
     ghost use Rattle.std.specs.Prelude.{length, IfSome, None, is_some};
     ghost use Rattle.cadence_flow.specs.Frame.{Fits};
     ghost use Rattle.cadence_flow.specs.Packer.{HoldsLine};
     ghost use Rattle.cadence_flow.specs.Packed.{AnswersFlush, AnswersLine, after_of, before_of, bytes_of, returned_of};
     ghost use Rattle.cadence_flow.specs.RecordedPacker.{accepted_of, packer_of};
-    ghost use Rattle.cadence_flow.specs.RecordedWriter.{packets_of};
 
     /// Writes a line as `LineBuffer::write` does, and adds it to the record if it was accepted.
     pub fn write(
@@ -151,17 +149,6 @@ impl<W: PacketWriter, A: Allocator> RecordedPacker<W, A> {
     pub fn finish(mut self) {
         let mut fault = SinkError::NothingWritten;
         let _ = self.lines.flush(&mut fault);
-    }
-
-    /// Returns the held text, which waits to be written. The packets that the writer took, followed by this text, are
-    /// the frames of the accepted lines.
-    pub fn held(&self) -> &[u8]
-        ensures text { result.now ≡ (packer_of self.now).held }
-        ensures stream { let packer = packer_of self.now in
-            concat (packets_of packer.writer) ++ result.now
-            ≡ taken_stream packer.format (accepted_of self.now) }
-    {
-        self.lines.held()
     }
 }
 
