@@ -1,7 +1,7 @@
 -- What a builder of a metric stores, and what the calls that send a metric may return. A pending draft is the draft
 -- that a builder stores, or the error that it stores instead.
 use Rattle.std.specs.Prelude.{◌≡◌, ℕ, ◌⊎◌, List, [], Option, Some, None, Result, Ok, Err, IfOk, IfErr, IsErr, String}
-use Rattle.std.specs.Prelude.{Bool, IsTrue, string_bytes}
+use Rattle.std.specs.Prelude.{Bool, IsTrue, if◌then◌else◌, string_bytes}
 use Rattle.std.specs.Option.{option_map}
 use Rattle.cadence_text.specs.declared.line.MetricType.{MetricType}
 use Rattle.cadence_errors.specs.declared.MetricError.{MetricError}
@@ -13,7 +13,7 @@ use Rattle.cadence_text.specs.Line.{line_of}
 use Rattle.cadence_text.specs.Metric.{Metric}
 use Rattle.cadence_value.specs.Number.{Number}
 use Rattle.cadence_settings.specs.Call.{Choice, tagged, contained, timed, rated, MetricCall, metric_of_call, plain_call, with_choice}
-use Rattle.cadence_settings.specs.Call.{allows_choice, numbers_if_allowed}
+use Rattle.cadence_settings.specs.Call.{allows_call, allows_choice}
 use Rattle.cadence_settings.specs.Settings.{Settings, FailsFor}
 
 -- for each text, which results a sink may return for it
@@ -43,7 +43,8 @@ IsMadeFrom {M} {Z} gives line m = (s : String Z) × (string_bytes s ≡ line) ×
 -- the metric of a call without options, if its value has numbers and the settings allow the call
 abbrev pub plain_metric_of : Settings → MetricType → List ℕ → Option (List Number) → Option Metric
 plain_metric_of settings kind key numbers =
-    option_map (λ ns. metric_of_call settings (plain_call kind key ns)) (numbers_if_allowed settings (plain_call kind key []) numbers)
+    option_map (λ ns. metric_of_call settings (plain_call kind key ns))
+    (if allows_call settings (plain_call kind key []) then numbers else None)
 
 -- A call sent the line of its metric. If there is no metric, it returned an invalid input instead.
 abbrev pub SendsMetric : {M : Type 0} → SinkResults → (List ℕ → M → Type 0) → Option Metric → Result M MetricError → Type 0

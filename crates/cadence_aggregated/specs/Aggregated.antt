@@ -7,7 +7,7 @@ use Rattle.cadence_aggregate.specs.Server.{Sample}
 use Rattle.cadence_aggregating.specs.Past.{Summarizes}
 use Rattle.cadence_flow.specs.Frame.{size_of, stream, taken_stream}
 use Rattle.cadence_flow.specs.Writer.{PacketHistory, Extends}
-use Rattle.cadence_schedule.specs.Headline.{Given, ReportsWhole, HasReplies, AreSumsBetween, after_of, packets_of, turns_of, kept_of}
+use Rattle.cadence_schedule.specs.Headline.{Given, ReportsWhole, HasReplies, AreSumsBetween, packets_of, turns_of, kept_of}
 use Rattle.cadence_schedule.specs.Packets.{ArePacketsOf}
 use Rattle.cadence_schedule.specs.Plan.{groups_of, IsTight, IsFewest, NoGroupHasRoom}
 use Rattle.cadence_schedule.specs.Replies.{MayFail}
@@ -55,20 +55,20 @@ module _ {W A : Type 0} (history : W → PacketHistory) (given : Given A) (outco
         (groups_of outcome.cut (map (size_of given.format) (lines_in all)))
     -- If the writer refused nothing in the run, no group could have had one line more, except one that a flush came
     -- after, and no cut that ends at every flush has fewer groups.
-    pub tight : ReportsWhole given.kind → (after_of history given outcome).refusals ≡ given.before.refusals
+    pub tight : ReportsWhole given.kind → (history outcome.writer).refusals ≡ given.before.refusals
         → IsTight given.format.capacity (marks_from 0 all) (map (size_of given.format) (lines_in all)) outcome.cut
-    pub fewest : ReportsWhole given.kind → (after_of history given outcome).refusals ≡ given.before.refusals
+    pub fewest : ReportsWhole given.kind → (history outcome.writer).refusals ≡ given.before.refusals
         → IsFewest given.format.capacity (marks_from 0 all) (map (size_of given.format) (lines_in all)) outcome.cut
     -- Each error of a line or of a flush is one that the writer may give. There were as many errors as packets that the
     -- writer refused in the run, modulo 2 to the 64.
     pub causes : AllByRecursion (MayFail given.kind.may_give given.kind.takes_whole) (errors_of all)
     pub errors : given.kind.takes_whole ≡ true
-        → (after_of history given outcome).refusals % 2 ^ 64 ≡ (given.before.refusals + length (errors_of all)) % 2 ^ 64
+        → (history outcome.writer).refusals % 2 ^ 64 ≡ (given.before.refusals + length (errors_of all)) % 2 ^ 64
     -- of an oversize line, its first bytes that were counted, also over a writer with short counts
     pub taken : given.kind.reports ≡ true
         → concat (packets_of history given outcome) ++ outcome.held ≡ taken_stream given.format (counts_of_kept all)
-    pub earlier : given.kind.reports ≡ true → Extends given.before (after_of history given outcome)
-    pub stats : given.kind.reports ≡ true → AreSumsBetween given.before (after_of history given outcome) outcome.stats
+    pub earlier : given.kind.reports ≡ true → Extends given.before (history outcome.writer)
+    pub stats : given.kind.reports ≡ true → AreSumsBetween given.before (history outcome.writer) outcome.stats
     pub within : length outcome.held ≤ given.format.capacity
 
   -- The packer was asked all of this, and holds what these samples say.

@@ -29,10 +29,6 @@ Reports kind = kind.reports ≡ true
 abbrev pub TakesWhole : WriterKind → Type 0
 TakesWhole kind = kind.takes_whole ≡ true
 
--- The writer reports its packets, and it takes each packet whole or refuses it.
-abbrev pub ReportsWhole : WriterKind → Type 0
-ReportsWhole kind = Reports kind × TakesWhole kind
-
 -- the history after one more packet was taken
 abbrev pub after_packet : PacketHistory → List ℕ → PacketHistory
 after_packet h packet =

@@ -8,8 +8,7 @@ use Rattle.cadence_text.specs.Metric.{Metric}
 use Rattle.cadence_text.specs.OneReading.{IsFreeOfSeparators}
 use Rattle.cadence_text.specs.Representable.{IsRepresentable}
 use Rattle.cadence_flow.specs.Frame.{Format, size_of, stream, taken_stream}
-use Rattle.cadence_flow.specs.Writer.{PacketHistory, WriterKind, Extends, Reports, TakesWhole}
-pub use Rattle.cadence_flow.specs.Writer.{ReportsWhole}
+use Rattle.cadence_flow.specs.Writer.{PacketHistory, WriterKind, Extends}
 use Rattle.cadence_queue.specs.declared.policy.QueuePolicy.{QueuePolicy}
 use Rattle.cadence_flow.specs.declared.stats.SinkStats.{SinkStats}
 use Rattle.cadence_settings.specs.declared.call.Call.{Call}
@@ -18,10 +17,14 @@ use Rattle.cadence_settings.specs.CallData.{metric_of_data}
 use Rattle.cadence_schedule.specs.RunHistory.{Turn, accepted, taken_count, dropped_count, left_count, kept, kept_counts, in_hand}
 use Rattle.cadence_schedule.specs.RunHistory.{is_stopped, error_count, marks, refusals}
 use Rattle.cadence_schedule.specs.Packets.{ArePacketsOf, ReadsAs}
-use Rattle.cadence_schedule.specs.Plan.{groups_of, IsTight, IsFewest, NoGroupHasRoom}
+use Rattle.cadence_schedule.specs.Plan.{groups_of, IsFewest, NoGroupHasRoom}
 use Rattle.cadence_schedule.specs.Replies.{MayReplyAfter}
 use Rattle.cadence_schedule.specs.Report.{Outcome}
 use Rattle.cadence_settings.specs.Settings.{Settings}
+
+-- The writer reports its packets, and it takes each packet whole or refuses it.
+abbrev pub ReportsWhole : WriterKind → Type 0
+ReportsWhole kind = (kind.reports ≡ true) × (kind.takes_whole ≡ true)
 
 -- what a run is given: the metric of each call, whether the settings are strict, the writer's kind and its history
 -- before the run, the packer's capacity and ending, the queue's capacity and policy, and the steps
@@ -70,25 +73,13 @@ module _ {W A : Type 0} (history : W → PacketHistory) (given : Given A) (outco
   abbrev pub turns_of : List (Turn A)
   turns_of = zip given.steps outcome.replies
 
-  -- the writer's history after the run
-  abbrev pub after_of : PacketHistory
-  after_of = history outcome.writer
-
   -- the packets that the writer took during the run
   abbrev pub packets_of : List (List ℕ)
-  packets_of = packets_between given.before after_of
+  packets_of = packets_between given.before (history outcome.writer)
 
   -- the kept lines: those that were handed on with the result Ok
   abbrev pub kept_of : List (List ℕ)
   kept_of = kept (line_by given) turns_of
-
-  -- the sizes of the kept lines, each with its ending
-  abbrev pub sizes_of : List ℕ
-  sizes_of = map (size_of given.format) kept_of
-
-  -- the marks: how many lines were kept before each flush that returned Ok
-  abbrev pub marks_of : List ℕ
-  marks_of = marks (line_by given) turns_of
 
   -- Each reply has its stated cause, and the queue, its counts and the hand are left as the steps and replies say.
   pub record HasReplies : Type 0 where
@@ -103,12 +94,6 @@ module _ {W A : Type 0} (history : W → PacketHistory) (given : Given A) (outco
     pub policy : outcome.queue.policy ≡ given.policy
     pub in_hand : outcome.in_hand ≡ in_hand (line_by given) turns_of
 
-  -- No cut of the kept lines that ends at every flush has fewer groups than the report's, and no group could have had
-  -- one line more.
-  pub record HasFewest : Type 0 where
-    pub tight : IsTight given.format.capacity marks_of sizes_of outcome.cut
-    pub fewest : IsFewest given.format.capacity marks_of sizes_of outcome.cut
-
   -- The headline speaks of any list of metric calls, worker steps, flushes and stops. The packets and then the held
   -- text are the lines of those accepted calls that were handed on and kept, in the order of acceptance. Each line has
   -- its ending, except that an oversize line is alone in its packet and has none. No line is split. Each refusal has
@@ -122,7 +107,7 @@ module _ {W A : Type 0} (history : W → PacketHistory) (given : Given A) (outco
     -- Over such a writer: packets and held text are those of the report's cut of the kept lines, whole frames in each,
     -- none beyond the capacity but an oversize line alone, and a packet ends at each flush that returned Ok.
     pub cut : ReportsWhole given.kind
-        → ArePacketsOf given.format marks_of (refusals (line_by given) turns_of) kept_of outcome.cut packets_of outcome.held
+        → ArePacketsOf given.format (marks (line_by given) turns_of) (refusals (line_by given) turns_of) kept_of outcome.cut packets_of outcome.held
     -- Over every writer: each reply is one that the steps and replies before it allow, what waits are the accepted
     -- lines after the first ones, which were taken or dropped, the queue's counts are the numbers accepted, taken and
     -- dropped, it has the capacity and the policy that were given, and the line in hand is the one that was taken and not
@@ -130,28 +115,33 @@ module _ {W A : Type 0} (history : W → PacketHistory) (given : Given A) (outco
     pub replies : HasReplies
     -- Over a writer that takes each packet whole or refuses it: as many hands and flushes returned an error as the
     -- writer refused packets in the run, modulo 2 to the 64.
-    pub errors : TakesWhole given.kind → after_of.refusals % 2 ^ 64 ≡ (given.before.refusals + error_count turns_of) % 2 ^ 64
-    -- Over a writer that reports its packets and takes each whole, if it refused nothing in the run: no cut of the
-    -- kept lines that ends at every flush has fewer packets, the held text counted as one if it is not empty.
-    pub fewest : ReportsWhole given.kind → after_of.refusals ≡ given.before.refusals → HasFewest
+    pub errors : given.kind.takes_whole ≡ true
+        → (history outcome.writer).refusals % 2 ^ 64 ≡ (given.before.refusals + error_count turns_of) % 2 ^ 64
+    -- Over a writer that reports its packets and takes each whole, if it refused nothing in the run: no group could have
+    -- had one line more, except one that a flush came after, and no cut of the kept lines that ends at every flush has
+    -- fewer packets, the held text counted as one if it is not empty.
+    pub fewest : ReportsWhole given.kind → (history outcome.writer).refusals ≡ given.before.refusals
+        → NoGroupHasRoom given.format.capacity (marks (line_by given) turns_of) (groups_of outcome.cut (map (size_of given.format) kept_of))
+        × IsFewest given.format.capacity (marks (line_by given) turns_of) (map (size_of given.format) kept_of) outcome.cut
 
   -- What is promised beside the headline, of refusals, short counts, sums, earlier packets, and what a listener reads.
   pub record IsAccounted : Type 0 where
     -- Over a writer that reports its packets and takes each whole or refuses it, refusals included: no group could have
     -- had one line more, except one that a flush or a refused line came after.
     pub late : ReportsWhole given.kind
-        → NoGroupHasRoom given.format.capacity (marks_of ++ refusals (line_by given) turns_of) (groups_of outcome.cut sizes_of)
+        → NoGroupHasRoom given.format.capacity (marks (line_by given) turns_of ++ refusals (line_by given) turns_of)
+        (groups_of outcome.cut (map (size_of given.format) kept_of))
     -- Over a writer that reports its packets, short counts included: the packets of the run, joined, and then the held
     -- text are the frames of the kept lines, in order; of an oversize line whose hand returned Ok(n), its first n
     -- bytes. Over a writer that takes each packet whole, n is the length of the line, and this is `stream` of the
     -- headline.
-    pub taken : Reports given.kind → concat packets_of ++ outcome.held ≡ taken_stream given.format (kept_counts (line_by given) turns_of)
+    pub taken : given.kind.reports ≡ true → concat packets_of ++ outcome.held ≡ taken_stream given.format (kept_counts (line_by given) turns_of)
     -- Over every writer, the held text is within the packer's capacity.
     pub held : length outcome.held ≤ given.format.capacity
     -- The sums of the report are those of what the writer took and refused in the run.
-    pub stats : Reports given.kind → AreSumsBetween given.before after_of outcome.stats
+    pub stats : given.kind.reports ≡ true → AreSumsBetween given.before (history outcome.writer) outcome.stats
     -- The packets that the writer had taken before the run come first in its history.
-    pub earlier : Reports given.kind → Extends given.before after_of
+    pub earlier : given.kind.reports ≡ true → Extends given.before (history outcome.writer)
     -- The kept metrics have texts in UTF-8, numbers that a `Decimal` holds, and times of 64 bits.
     pub representable : All IsRepresentable (kept given.metric_of turns_of)
     -- With the newline as ending, and kept metrics that are free of separators: a listener reads the kept metrics, and

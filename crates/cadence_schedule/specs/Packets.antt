@@ -1,9 +1,9 @@
 -- The packets that a cut of lines makes, and what a listener reads from them.
-use Rattle.std.specs.Prelude.{◌≡◌, ◌≢◌, ℕ, List, [], ◌∷◌, ◌++◌, length, map, All, Contains}
+use Rattle.std.specs.Prelude.{◌≡◌, ◌≢◌, ℕ, List, [], ◌∷◌, ◌++◌, length, map, All, Contains, true, false}
 use Rattle.std.specs.List.{AllZip, flat_map}
 use Rattle.cadence_text.specs.Metric.{Metric}
 use Rattle.cadence_text.specs.OneReading.{IsFreeOfSeparators, IsPacketOf}
-use Rattle.cadence_flow.specs.Frame.{Format, IsNotOversize, IsOversize, size_of, stream, held_packet}
+use Rattle.cadence_flow.specs.Frame.{Format, is_oversize, size_of, stream, held_packet}
 use Rattle.cadence_schedule.specs.Plan.{groups_of, IsAdmissible}
 
 -- The cut is admissible, and its groups are the packets and then the held text, each the frames of its lines. The last
@@ -14,8 +14,8 @@ pub record ArePacketsOf (format : Format) (marks refusals : List ℕ) (lines : L
   pub admissible : IsAdmissible format.capacity marks (map (size_of format) lines) plan
   pub groups : packets ++ held_packet held ≡ map (stream format) (groups_of plan lines)
   pub flushed : Contains marks (length lines) → held ≡ []
-  pub oversize : (before : List (List ℕ)) (line : List ℕ) → lines ≡ before ++ line ∷ [] → IsOversize format line → held ≡ []
-  pub holds : (before : List (List ℕ)) (line : List ℕ) → lines ≡ before ++ line ∷ [] → IsNotOversize format line
+  pub oversize : (before : List (List ℕ)) (line : List ℕ) → lines ≡ before ++ line ∷ [] → is_oversize format line ≡ true → held ≡ []
+  pub holds : (before : List (List ℕ)) (line : List ℕ) → lines ≡ before ++ line ∷ [] → is_oversize format line ≡ false
       → ¬ Contains marks (length lines) → ¬ Contains refusals (length lines) → held ≢ []
 
 -- The packet has the lines of these metrics, which are free of separators, and of no other list of such metrics.

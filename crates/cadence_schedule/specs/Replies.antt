@@ -5,7 +5,7 @@ use Rattle.cadence_errors.specs.declared.MetricError.TheVariants.{Sink}
 use Rattle.cadence_errors.specs.declared.SinkError.{SinkError}
 use Rattle.cadence_errors.specs.declared.SinkError.TheVariants.{ChannelFull, ChannelDisconnected, NothingWritten}
 use Rattle.cadence_errors.specs.Errors.{IsInvalid, out_of_memory}
-use Rattle.cadence_flow.specs.Frame.{Format, IsNotOversize}
+use Rattle.cadence_flow.specs.Frame.{Format, is_oversize}
 use Rattle.cadence_queue.specs.Queue.{at_capacity, drops_for_room}
 use Rattle.cadence_queue.specs.declared.policy.QueuePolicy.{QueuePolicy}
 use Rattle.cadence_settings.specs.declared.call.Call.{Call}
@@ -39,7 +39,7 @@ TakeReplies None None false answer = answer ≡ reply.Empty
 -- may take less.
 pub record IsCount (takes_whole : Bool) (format : Format) (line : List ℕ) (n : ℕ) : Type 0 where
   pub within : n ≤ length line
-  pub fits : IsNotOversize format line → n ≡ length line
+  pub fits : is_oversize format line ≡ false → n ≡ length line
   pub whole : takes_whole ≡ true → n ≡ length line
 
 -- The error is one that the writer may give, or `NothingWritten`, if the writer may take a part of a packet: it took 0

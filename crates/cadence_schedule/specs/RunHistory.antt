@@ -79,10 +79,6 @@ module _ {A : Type 0} where
   abbrev pub outcomes : List (Turn A) → List (Option ℕ)
   outcomes history = flat_map outcome_by history
 
-  -- how many lines were handed on
-  abbrev pub handed_count : List (Turn A) → ℕ
-  handed_count history = length (outcomes history)
-
   -- whether the turn is a stop
   abbrev pub stops : Turn A → Bool
   stops (step.Stop, _) = true
@@ -132,7 +128,8 @@ module _ {A X : Type 0} (line_of : Call A → Option X) where
   -- the line in hand: the one that was taken last, if it was not yet handed on
   abbrev pub in_hand : List (Turn A) → Option X
   in_hand history =
-      if taken_count history == handed_count history + 1 then slice_get (undropped_lines history) (handed_count history) else None
+      if taken_count history == length (outcomes history) + 1
+      then slice_get (undropped_lines history) (length (outcomes history)) else None
 
   -- the mark of a flush that returned Ok, by how many lines were kept before it
   abbrev pub mark_at : ℕ → Turn A → List ℕ

@@ -1,7 +1,7 @@
 -- Calls, their options, and the metric that a call makes with the settings of a client.
 use Rattle.std.specs.Prelude.{◌≡◌, ℕ, Option, None, Some, List, [], ◌∷◌, ◌++◌, Result, Ok, Err}
 use Rattle.std.specs.Option.{option_or}
-use Rattle.std.specs.Prelude.{Bool, true, not, ◌&&◌, ◌||◌, if◌then◌else◌}
+use Rattle.std.specs.Prelude.{Bool, true, not, ◌&&◌, ◌||◌}
 use Rattle.std.specs.List.{filter_map, fold, list_all}
 use Rattle.cadence_text.specs.declared.line.MetricType.{MetricType}
 use Rattle.cadence_errors.specs.declared.MetricError.{MetricError}
@@ -85,10 +85,6 @@ allows_choice s o = not s.strict || is_free_choice o
 -- whether the settings allow the call: each call, or if they are strict, each one without a separator
 abbrev pub allows_call : Settings → MetricCall → Bool
 allows_call s c = not s.strict || is_free_call c
-
--- the numbers of a call, or none if the settings don't allow the call
-abbrev pub numbers_if_allowed : Settings → MetricCall → Option (List Number) → Option (List Number)
-numbers_if_allowed s c numbers = if allows_call s c then numbers else None
 
 -- The metric of a call. Its name is the prefix and the key; its tags are the default tags and then the call's own; its
 -- container is the last one that the call sets, or the default one if there is none; its rate and its time are the last

@@ -1,10 +1,10 @@
 -- Calls that are kept as data: the kind of the metric, the numbers of the value, the metric and its line.
-use Rattle.std.specs.Prelude.{◌≡◌, None, ℕ, Option, Some, List, [], ◌∷◌, map, string_bytes}
+use Rattle.std.specs.Prelude.{◌≡◌, None, ℕ, if◌then◌else◌, Option, Some, List, [], ◌∷◌, map, string_bytes}
 use Rattle.std.specs.Option.{option_map}
 use Rattle.cadence_text.specs.declared.line.MetricType.{MetricType}
 use Rattle.cadence_text.specs.declared.line.MetricType.TheVariants.{Counter, Timer, Gauge, Meter, Histogram, Set, Distribution}
 use Rattle.cadence_text.specs.Line.{line_of}
-use Rattle.cadence_text.specs.Metric.{Metric, keyed, unkeyed}
+use Rattle.cadence_text.specs.Metric.{Metric}
 use Rattle.cadence_errors.specs.declared.MetricError.{MetricError}
 use Rattle.cadence_errors.specs.Errors.{IsInvalid, out_of_memory}
 use Rattle.cadence_value.specs.Number.{Number, whole, natural}
@@ -19,7 +19,7 @@ use Rattle.cadence_settings.specs.declared.call.CallValue.TheVariants.{Histogram
 use Rattle.cadence_settings.specs.declared.call.CallValue.TheVariants.{HistogramVecDecimal, HistogramVecDuration, DistributionU64}
 use Rattle.cadence_settings.specs.declared.call.CallValue.TheVariants.{DistributionDecimal, DistributionVecU64, DistributionVecDecimal}
 use Rattle.cadence_settings.specs.declared.call.CallValue.TheVariants.{SetI64}
-use Rattle.cadence_settings.specs.Call.{Choice, tagged, contained, timed, rated, MetricCall, metric_of_call, numbers_if_allowed}
+use Rattle.cadence_settings.specs.Call.{Choice, tagged, contained, timed, rated, MetricCall, metric_of_call, allows_call}
 use Rattle.cadence_settings.specs.Settings.{Settings}
 
 -- the kind of metric that a value is for
@@ -75,8 +75,8 @@ numbers_of_value (SetI64 n) = Some (whole n ∷ [])
 
 -- what an option of a call chooses
 abbrev pub choice_of : {Z : Type 0} → CallOption Z → Choice
-choice_of (Tag key text) = tagged (keyed (string_bytes key) (string_bytes text))
-choice_of (TagValue text) = tagged (unkeyed (string_bytes text))
+choice_of (Tag key text) = tagged (record { key = Some (string_bytes key); text = string_bytes text })
+choice_of (TagValue text) = tagged (record { key = None; text = string_bytes text })
 choice_of (Container text) = contained (string_bytes text)
 choice_of (Time n) = timed n
 choice_of (Rate r) = rated r
@@ -87,7 +87,7 @@ call_of c numbers = record { kind = kind_of_value c.value; key = string_bytes c.
 
 -- the numbers of a call, or none if a duration of it passes 64 bits or the settings don't allow the call
 abbrev pub numbers_of_data : {Z : Type 0} → Settings → Call Z → Option (List Number)
-numbers_of_data s c = numbers_if_allowed s (call_of c []) (numbers_of_value c.value)
+numbers_of_data s c = if allows_call s (call_of c []) then numbers_of_value c.value else None
 
 -- the metric of a call, or none if a duration of it passes 64 bits or the settings don't allow the call
 abbrev pub metric_of_data : {Z : Type 0} → Settings → Call Z → Option Metric

@@ -13,7 +13,7 @@ use Rattle.cadence_queue.specs.Queue.{at_capacity, drops_for_room}
 use Rattle.cadence_queue.specs.declared.policy.QueuePolicy.{QueuePolicy}
 use Rattle.cadence_flow.specs.Writer.{PacketHistory, WriterKind, Extends}
 use Rattle.cadence_settings.specs.declared.call.Call.{Call}
-use Rattle.cadence_schedule.specs.RunHistory.{Turn, takes_text, drops_text, left_count, outcome_by, handed_count, stops, is_stopped, error_count}
+use Rattle.cadence_schedule.specs.RunHistory.{Turn, takes_text, drops_text, left_count, outcomes, outcome_by, stops, is_stopped, error_count}
 use Rattle.cadence_schedule.specs.RunHistory.{is_error, accepted, accepted_by, kept, kept_counts, marks, mark_at, refusals, refusal_at}
 use Rattle.cadence_schedule.specs.Replies.{MayReply, MayReplyAfter}
 use Rattle.cadence_schedule.specs.Moves.{RunState, Moves, HasLast, CountsLine, packer_of}
@@ -213,7 +213,7 @@ module _ {A : Type 0} (line_of : Call A → Option (List ℕ)) (filled : (call :
             b.since (has_last h old.cut old.history old.held b short) w counts in
             let (groups', plan', cut') =
             cut_written format (marks line_of h) (refusals line_of h) (kept line_of h) b.groups line old.cut new.cut b.packets
-            packets' old.held new.held (undropped_lines_filled line_of filled line h (handed_count h) text) b.plan_is b.cut way in
+            packets' old.held new.held (undropped_lines_filled line_of filled line h (length (outcomes h)) text) b.plan_is b.cut way in
             record {
               packets = packets';
               groups = groups';

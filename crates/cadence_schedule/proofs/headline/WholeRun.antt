@@ -5,7 +5,7 @@ use Rattle.std.specs.Prelude.{All, IsTrue, codes, string_bytes}
 use Rattle.std.specs.Option.{option_map}
 use Rattle.cadence_flow.specs.Frame.{Format}
 use Rattle.cadence_flow.specs.Sums.{counted_kind, zero_sums}
-use Rattle.cadence_flow.specs.Writer.{PacketHistory, ReportsWhole, WriterKind}
+use Rattle.cadence_flow.specs.Writer.{PacketHistory, WriterKind}
 use Rattle.cadence_queue.specs.declared.policy.QueuePolicy.{QueuePolicy}
 use Rattle.cadence_text.specs.Line.{line_of}
 use Rattle.cadence_text.specs.Metric.{Metric}
@@ -17,7 +17,7 @@ use Rattle.cadence_schedule.specs.declared.running.Running.{Running}
 use Rattle.cadence_schedule.specs.declared.steps.Reply.{Reply}
 use Rattle.cadence_schedule.specs.declared.steps.Step.{Step}
 use Rattle.cadence_settings.specs.CallData.{line_of_data, metric_of_data}
-use Rattle.cadence_schedule.specs.Headline.{given_of, packets_between, HasHeadline, IsAccounted}
+use Rattle.cadence_schedule.specs.Headline.{given_of, packets_between, HasHeadline, IsAccounted, ReportsWhole}
 use Rattle.cadence_schedule.specs.RunHistory.{Turn, accepted, kept, marks, refusals}
 use Rattle.cadence_schedule.specs.Laws.{LeastPackets, PacketsReadOneWay}
 use Rattle.cadence_settings.specs.Laws.{StrictCallsAreFree}
@@ -117,7 +117,7 @@ module _ {W A : Type 0} (kind_of : W → WriterKind) (history_of : W → PacketH
       errors = after.refusals;
       fewest = λ whole none.
           let tight = run_tight lines filled kind format queue policy before turns ended after short whole.0 whole.1 none in
-          record { tight = tight; fewest = least _ _ _ _ tight };
+          (tight.no_later, least _ _ _ _ tight);
     }
 
     -- a listener reads the kept metrics, if they are free of separators

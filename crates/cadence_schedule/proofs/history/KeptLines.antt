@@ -10,7 +10,7 @@ use Rattle.cadence_settings.specs.declared.call.Call.{Call}
 use Rattle.cadence_schedule.specs.declared.steps.Step.TheVariants as step
 use Rattle.cadence_schedule.specs.declared.steps.Reply.TheVariants as reply
 use Rattle.cadence_schedule.specs.RunHistory.{Turn, with_answers, without_dropped, taken_count, left_count, exits, exit_by, outcomes}
-use Rattle.cadence_schedule.specs.RunHistory.{outcome_by, handed_count}
+use Rattle.cadence_schedule.specs.RunHistory.{outcome_by}
 use Rattle.cadence_schedule.specs.RunHistory.{accepted, accepted_by, undropped_lines, kept, kept_counts}
 use Rattle.cadence_schedule.proofs.history.OneTurnMore.{accepted-push, outcomes-push, with_answers-longer, with_answers-some}
 use Rattle.cadence_schedule.proofs.history.OneTurnMore.{with_answers-none, length-with_answers}
@@ -25,7 +25,7 @@ each_get P (y ∷ xs) (suc i) x (h, hs) e = each_get P xs i x hs e
 
 module _ {A : Type 0} (line_of : Call A → Option (List ℕ)) where
   -- A turn that hands on no line does not change the kept lines.
-  pub counts_same : (h : List (Turn A)) (t : Turn A) → outcome_by t ≡ [] → handed_count h ≤ taken_count h → left_count h ≤ length (accepted line_of h)
+  pub counts_same : (h : List (Turn A)) (t : Turn A) → outcome_by t ≡ [] → length (outcomes h) ≤ taken_count h → left_count h ≤ length (accepted line_of h)
       → kept_counts line_of (h ++ t ∷ []) ≡ kept_counts line_of h
   counts_same h t b handed within =
       let few : length (outcomes h) ≤ length (out line_of h) = omega (arith, handed, length-out line_of h within) in
@@ -44,7 +44,7 @@ module _ {A : Type 0} (line_of : Call A → Option (List ℕ)) where
       ((exits-push h t ∙ ap (λ l. exits h ++ l) e ∙ append-nil (exits h)) i)
 
   -- After a hand that returned `Ok`, the kept lines have one more: the line that was in hand.
-  pub counts_more : (h : List (Turn A)) (n : ℕ) (line : List ℕ) → slice_get (undropped_lines line_of h) (handed_count h) ≡ Some line
+  pub counts_more : (h : List (Turn A)) (n : ℕ) (line : List ℕ) → slice_get (undropped_lines line_of h) (length (outcomes h)) ≡ Some line
       → kept_counts line_of (h ++ (step.Hand, reply.Handed (Ok n)) ∷ []) ≡ kept_counts line_of h ++ (line, n) ∷ []
   counts_more h n line text =
       (λ i. with_answers (undropped_lines_same h (step.Hand, reply.Handed (Ok n)) refl refl i) (outcomes-push h (step.Hand, reply.Handed (Ok n)) i))

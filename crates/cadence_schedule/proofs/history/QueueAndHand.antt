@@ -13,8 +13,7 @@ use Rattle.cadence_settings.specs.declared.call.Call.{Call}
 use Rattle.cadence_schedule.specs.declared.steps.Step.TheVariants as step
 use Rattle.cadence_schedule.specs.declared.steps.Reply.TheVariants as reply
 use Rattle.cadence_schedule.specs.RunHistory.{Turn, taken_count, takes_text, dropped_count, drops_text, left_count, outcomes, outcome_by}
-use Rattle.cadence_schedule.specs.RunHistory.{handed_count, stops}
-use Rattle.cadence_schedule.specs.RunHistory.{is_stopped, accepted, accepted_by, undropped_lines, in_hand}
+use Rattle.cadence_schedule.specs.RunHistory.{stops, is_stopped, accepted, accepted_by, undropped_lines, in_hand}
 use Rattle.cadence_schedule.specs.Moves.{RunState}
 use Rattle.cadence_flow.specs.Writer.{PacketHistory}
 use Rattle.cadence_schedule.proofs.history.OneTurnMore.{or_no, accepted-push, outcomes-push, taken_count-push, dropped_count-push, stopped-push}
@@ -90,8 +89,8 @@ pub record SameQueue (old new : RunState) : Type 0 where
 
 module _ {A : Type 0} (line_of : Call A → Option (List ℕ)) (queue : Option ℕ) where
   pub record QueueAfter (h : List (Turn A)) (s : RunState) : Type 0 where
-    pub handed_le : handed_count h ≤ taken_count h
-    pub ahead : taken_count h ≤ handed_count h + 1
+    pub handed_le : length (outcomes h) ≤ taken_count h
+    pub ahead : taken_count h ≤ length (outcomes h) + 1
     pub within : left_count h ≤ length (accepted line_of h)
     pub waiting_is : s.waiting ≡ drop (left_count h) (accepted line_of h)
     pub hand_is : s.in_hand ≡ in_hand line_of h
@@ -106,7 +105,7 @@ module _ {A : Type 0} (line_of : Call A → Option (List ℕ)) (queue : Option �
   record Grows (h h' : List (Turn A)) (lines : List (List ℕ)) (handed taken dropped : ℕ) (stop : Bool) : Type 0 where
     accepted_is : accepted line_of h' ≡ accepted line_of h ++ lines
     length_is : length (accepted line_of h') ≡ length (accepted line_of h) + length lines
-    handed_is : handed_count h' ≡ handed_count h + handed
+    handed_is : length (outcomes h') ≡ length (outcomes h) + handed
     taken_is : taken_count h' ≡ taken_count h + taken
     dropped_is : dropped_count h' ≡ dropped_count h + dropped
     left_is : left_count h' ≡ left_count h + (taken + dropped)
@@ -142,53 +141,53 @@ module _ {A : Type 0} (line_of : Call A → Option (List ℕ)) (queue : Option �
       )
 
   -- If one more line was taken than handed on, the next undropped line is in hand.
-  hand_when : (h : List (Turn A)) → taken_count h ≡ handed_count h + 1 → in_hand line_of h ≡ slice_get (undropped_lines line_of h) (handed_count h)
+  hand_when : (h : List (Turn A)) → taken_count h ≡ length (outcomes h) + 1 → in_hand line_of h ≡ slice_get (undropped_lines line_of h) (length (outcomes h))
   hand_when h e =
-      cond-true (taken_count h == handed_count h + 1) (slice_get (undropped_lines line_of h) (handed_count h)) None
-      (eq-eqb (taken_count h) (handed_count h + 1) e)
+      cond-true (taken_count h == length (outcomes h) + 1) (slice_get (undropped_lines line_of h) (length (outcomes h))) None
+      (eq-eqb (taken_count h) (length (outcomes h) + 1) e)
 
-  hand_else : (h : List (Turn A)) → taken_count h ≤ handed_count h → in_hand line_of h ≡ None
+  hand_else : (h : List (Turn A)) → taken_count h ≤ length (outcomes h) → in_hand line_of h ≡ None
   hand_else h none =
-      cond-false (taken_count h == handed_count h + 1) (slice_get (undropped_lines line_of h) (handed_count h)) None
-      (ne_eqb (taken_count h) (handed_count h + 1) (λ e. absurd (omega arith)))
+      cond-false (taken_count h == length (outcomes h) + 1) (slice_get (undropped_lines line_of h) (length (outcomes h))) None
+      (ne_eqb (taken_count h) (length (outcomes h) + 1) (λ e. absurd (omega arith)))
 
   -- A turn by which nothing is taken or handed on leaves the hand as it is.
-  hand_same : (h : List (Turn A)) (t : Turn A) → taken_count h ≤ handed_count h + 1 → left_count h ≤ length (accepted line_of h)
-      → taken_count (h ++ t ∷ []) ≡ taken_count h → handed_count (h ++ t ∷ []) ≡ handed_count h
+  hand_same : (h : List (Turn A)) (t : Turn A) → taken_count h ≤ length (outcomes h) + 1 → left_count h ≤ length (accepted line_of h)
+      → taken_count (h ++ t ∷ []) ≡ taken_count h → length (outcomes (h ++ t ∷ [])) ≡ length (outcomes h)
       → in_hand line_of h ≡ in_hand line_of (h ++ t ∷ [])
   hand_same h t ahead within same handed =
       ⊎_elim
-      (λ (more : handed_count h < taken_count h). let next : taken_count h ≡ handed_count h + 1 = omega (arith, ahead) in
+      (λ (more : length (outcomes h) < taken_count h). let next : taken_count h ≡ length (outcomes h) + 1 = omega (arith, ahead) in
       let (rest, grown) = undropped_lines-push line_of h t within in
-      hand_when h next ∙ ap (λ l. slice_get l (handed_count h)) (undropped_lines_is line_of h)
-      ∙ same_front (out line_of h) (drop (left_count h) (accepted line_of h)) rest (handed_count h) (omega (arith, length-out line_of h within))
+      hand_when h next ∙ ap (λ l. slice_get l (length (outcomes h))) (undropped_lines_is line_of h)
+      ∙ same_front (out line_of h) (drop (left_count h) (accepted line_of h)) rest (length (outcomes h)) (omega (arith, length-out line_of h within))
       ∙ (λ i. slice_get (sym grown i) (sym handed i)) ∙ sym (hand_when (h ++ t ∷ []) (omega (arith, same, handed, next))))
-      (λ (none : taken_count h ≤ handed_count h). hand_else h none ∙ sym (hand_else (h ++ t ∷ []) (omega (arith, same, handed))))
-      (cases_lt (handed_count h) (taken_count h))
+      (λ (none : taken_count h ≤ length (outcomes h)). hand_else h none ∙ sym (hand_else (h ++ t ∷ []) (omega (arith, same, handed))))
+      (cases_lt (length (outcomes h)) (taken_count h))
 
   -- If the hand is empty, as many lines were handed on as were taken.
-  pub empty_hand : (h : List (Turn A)) (s : RunState) → QueueAfter h s → s.in_hand ≡ None → taken_count h ≡ handed_count h
+  pub empty_hand : (h : List (Turn A)) (s : RunState) → QueueAfter h s → s.in_hand ≡ None → taken_count h ≡ length (outcomes h)
   empty_hand h s q e =
       ⊎_elim
-      (λ (more : handed_count h < taken_count h). absurd (slice_get_some (undropped_lines line_of h) (handed_count h) (omega (arith, long h q.within))
+      (λ (more : length (outcomes h) < taken_count h). absurd (slice_get_some (undropped_lines line_of h) (length (outcomes h)) (omega (arith, long h q.within))
       (sym (hand_when h (omega (arith, q.ahead)))
       ∙ sym q.hand_is ∙ e)))
-      (λ (none : taken_count h ≤ handed_count h). let goal : taken_count h ≡ handed_count h = omega (arith, q.handed_le) in goal)
-      (cases_lt (handed_count h) (taken_count h))
+      (λ (none : taken_count h ≤ length (outcomes h)). let goal : taken_count h ≡ length (outcomes h) = omega (arith, q.handed_le) in goal)
+      (cases_lt (length (outcomes h)) (taken_count h))
 
   -- If a line is in hand, it is the next undropped line after those that were handed on.
   pub full_hand : (h : List (Turn A)) (s : RunState) (line : List ℕ) → QueueAfter h s → s.in_hand ≡ Some line
-      → (taken_count h ≡ handed_count h + 1) × (slice_get (undropped_lines line_of h) (handed_count h) ≡ Some line)
+      → (taken_count h ≡ length (outcomes h) + 1) × (slice_get (undropped_lines line_of h) (length (outcomes h)) ≡ Some line)
   full_hand h s line q e =
       ⊎_elim
-      (λ (more : handed_count h < taken_count h). let next : taken_count h ≡ handed_count h + 1 = omega (arith, q.ahead) in (
+      (λ (more : length (outcomes h) < taken_count h). let next : taken_count h ≡ length (outcomes h) + 1 = omega (arith, q.ahead) in (
         next,
         sym (hand_when h next)
             ∙ sym q.hand_is ∙ e,
       ))
-      (λ (none : taken_count h ≤ handed_count h). absurd (let bad : ◌≡◌ {A = Option (List ℕ)} None (Some line) = sym (hand_else h none)
+      (λ (none : taken_count h ≤ length (outcomes h)). absurd (let bad : ◌≡◌ {A = Option (List ℕ)} None (Some line) = sym (hand_else h none)
       ∙ sym q.hand_is ∙ e in cc))
-      (cases_lt (handed_count h) (taken_count h))
+      (cases_lt (length (outcomes h)) (taken_count h))
 
   -- The queue and the hand stay right after a turn that accepts, takes, drops, hands on and stops nothing.
   pub quiet : (h : List (Turn A)) (t : Turn A) (s s' : RunState) → SameQueue s s' → s'.in_hand ≡ s.in_hand → accepted_by line_of t ≡ []
@@ -272,12 +271,12 @@ module _ {A : Type 0} (line_of : Call A → Option (List ℕ)) (queue : Option �
 
   -- A line that was taken with an empty hand is the next one to be handed on.
   text_taken : (h : List (Turn A)) (n : ℕ) (line : List ℕ) (rest : List (List ℕ)) → left_count h ≤ length (accepted line_of h)
-      → drop (left_count h) (accepted line_of h) ≡ line ∷ rest → taken_count h ≡ handed_count h
-      → slice_get (undropped_lines line_of (h ++ (step.Take, reply.Text n) ∷ [])) (handed_count h) ≡ Some line
+      → drop (left_count h) (accepted line_of h) ≡ line ∷ rest → taken_count h ≡ length (outcomes h)
+      → slice_get (undropped_lines line_of (h ++ (step.Take, reply.Text n) ∷ [])) (length (outcomes h)) ≡ Some line
   text_taken h n line rest within shown equal =
       let split : undropped_lines line_of (h ++ (step.Take, reply.Text n) ∷ []) ≡ out line_of h ++ line ∷ rest = undropped_lines-take line_of h n
       ∙ undropped_lines_is line_of h ∙ ap (λ l. out line_of h ++ l) shown in
-      let place : handed_count h ≡ length (out line_of h) = sym equal ∙ sym (length-out line_of h within) in
+      let place : length (outcomes h) ≡ length (out line_of h) = sym equal ∙ sym (length-out line_of h within) in
       (λ i. slice_get (split i) (place i))
       ∙ slice_get-is (out line_of h ++ line ∷ rest) (length (out line_of h)) line rest
       (drop_at (out line_of h) (line ∷ rest) (length (out line_of h)) refl)
@@ -292,8 +291,8 @@ module _ {A : Type 0} (line_of : Call A → Option (List ℕ)) (queue : Option �
       let accepted_same : accepted line_of (h ++ (step.Take, reply.Text n) ∷ []) ≡ accepted line_of h =
       w.accepted_is ∙ append-nil (accepted line_of h) in
       let left_is : left_count (h ++ (step.Take, reply.Text n) ∷ []) ≡ left_count h + 1 = omega (arith, w.left_is) in
-      let handed_same : handed_count (h ++ (step.Take, reply.Text n) ∷ []) ≡ handed_count h = omega (arith, w.handed_is) in
-      let equal : taken_count h ≡ handed_count h = empty_hand h s q none in
+      let handed_same : length (outcomes (h ++ (step.Take, reply.Text n) ∷ [])) ≡ length (outcomes h) = omega (arith, w.handed_is) in
+      let equal : taken_count h ≡ length (outcomes h) = empty_hand h s q none in
       let shown : drop (left_count h) (accepted line_of h) ≡ line ∷ rest = sym q.waiting_is ∙ front in
       let (short, tail) = drop-is (accepted line_of h) (left_count h) line rest shown in
       record {

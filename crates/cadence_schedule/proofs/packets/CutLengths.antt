@@ -6,9 +6,10 @@ use Rattle.std.proofs.lemmas.List.{length-append, length-map, take-map, drop-map
 use Rattle.std.proofs.lemmas.List.Sums.{sum_by-cons}
 use Rattle.std.proofs.lemmas.List.Elements.{All-from_recursion, Contains-get_or, Contains-append_left, Contains-append_right}
 use Rattle.std.proofs.lemmas.Bool.{ltb-true, ltb-false}
-use Rattle.cadence_schedule.specs.Plan.{groups_of, FitsPacket, HasNoRoomForNext, IsAdmissible, NoGroupHasRoom}
+use Rattle.cadence_schedule.specs.Plan.{groups_of, FitsPacket, IsAdmissible, NoGroupHasRoom}
 use Rattle.cadence_flow.specs.Frame.{Format, size_of, stream}
 use Rattle.cadence_schedule.specs.Packets.{ArePacketsOf}
+use Rattle.cadence_schedule.proofs.plans.PlanGroups.{HasNoRoomForNext}
 use Rattle.cadence_schedule.proofs.packets.ListEnds.{joined, groups_of-lengths}
 use Rattle.cadence_schedule.proofs.packets.CutSoFar.{IsCutSoFar}
 

@@ -8,10 +8,10 @@ use Rattle.std.proofs.lemmas.List.Concat.{flat_map-append}
 use Rattle.std.proofs.lemmas.List.Sums.{sum_by-append}
 use Rattle.std.proofs.lemmas.List.Elements.{Contains-push_cases, Contains-append_left, Contains-push}
 use Rattle.std.proofs.lemmas.Bool.{cases_lt, le-ltb, lt-ltb, cond-true, cond-false}
-use Rattle.cadence_schedule.specs.Plan.{FitsPacket, HasNoRoomForNext}
+use Rattle.cadence_schedule.specs.Plan.{FitsPacket}
 use Rattle.cadence_flow.specs.Frame.{Format, size_of, frame, stream, held_packet}
 use Rattle.cadence_value.proofs.lists.SplitTexts.{each_append}
-use Rattle.cadence_schedule.proofs.plans.PlanGroups.{sum-cons, not_at}
+use Rattle.cadence_schedule.proofs.plans.PlanGroups.{HasNoRoomForNext, sum-cons, not_at}
 use Rattle.cadence_schedule.proofs.packets.ListEnds.{ends, split_end, neighbours_end, joined}
 
 -- No group could have had one line more, except where it ends at a mark or a refusal.

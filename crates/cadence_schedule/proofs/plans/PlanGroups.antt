@@ -7,7 +7,7 @@ use Rattle.std.proofs.lemmas.List.Sums.{sum_by-cons, get_or-le-sum_by}
 use Rattle.std.proofs.lemmas.List.Elements.{All-cons, All-head, All-tail, All-contains, All-nil, Contains-get_or}
 use Rattle.std.proofs.lemmas.List.{length-drop, length-take-le, get_or-drop, get_or-take, length-append}
 use Rattle.std.proofs.lemmas.Bool.{cases_lt, cases_order}
-use Rattle.cadence_schedule.specs.Plan.{IsGroup, EndsLate, groups_of, FitsPacket, EndsAt, IsAdmissible, HasNoRoomForNext, IsTight}
+use Rattle.cadence_schedule.specs.Plan.{IsGroup, EndsLate, groups_of, FitsPacket, IsAdmissible, IsTight}
 
 abbrev pub Groups : ℕ → List ℕ → ℕ → List ℕ → List ℕ → Type 0
 Groups capacity marks start [] xs = length xs ≡ 0
@@ -110,6 +110,10 @@ sum_within capacity (x ∷ y ∷ group) (inr together) first = together
 pub not_at : (marks : List ℕ) (p q : ℕ) → p ≡ q → ¬ Contains marks p → ¬ Contains marks q
 not_at marks p q e none has = none (subst (λ r. Contains marks r) (sym e) has)
 
+-- The first of two neighbour groups has no room for the first size of the second, if both are within the capacity.
+abbrev pub HasNoRoomForNext : ℕ → List ℕ → List ℕ → Type 0
+HasNoRoomForNext capacity group next = sum group ≤ capacity → sum next ≤ capacity → capacity < sum group + get_or next 0 0
+
 -- No group from `start` on could have had one size more, except where it ends at a mark. (`no_later` of `IsTight` says
 -- so of the whole plan.)
 abbrev pub NoLater : ℕ → List ℕ → ℕ → List (List ℕ) → Type 0
@@ -195,7 +199,7 @@ TightGroups capacity marks start plan xs = Groups capacity marks start plan xs �
 pub admissible_in : (capacity : ℕ) (marks sizes plan : List ℕ) → IsAdmissible capacity marks sizes plan → Groups capacity marks 0 plan sizes
 admissible_in capacity marks sizes plan h =
     groups_in capacity marks 0 plan sizes h.none_empty h.whole h.fit
-    (λ p has from to. let (k, e) = All-contains (λ mark. mark ≤ length sizes → EndsAt plan mark) marks p h.marked has
+    (λ p has from to. let (k, e) = All-contains (λ mark. mark ≤ length sizes → (k : ℕ) × (sum (take k plan) ≡ mark)) marks p h.marked has
     (omega arith) in (k, omega arith))
 
 pub admissible_out : (capacity : ℕ) (marks sizes plan : List ℕ) → Groups capacity marks 0 plan sizes → IsAdmissible capacity marks sizes plan
