@@ -1,4 +1,4 @@
--- What the calls of the aggregator over the packer asked of the packer.
+-- Which lines and flushes the aggregator gives to the packer in each of its calls.
 use Rattle.std.proofs.Common.{◌≡◌, ℕ, List, [], ◌∷◌, ◌++◌, Option, Some, None, Ok, Err, Result, refl, sym, ap, ◌∙◌, subst, arith, inl, inr}
 use Rattle.std.specs.List.{AllZip}
 use Rattle.std.proofs.lemmas.List.{append-nil}

@@ -1,4 +1,4 @@
--- These lemmas say what changes if the sink of a packer is given one line.
+-- What one line from the aggregator changes in the packer: memory ran out, or the packer kept the line, or it refused it.
 use Rattle.std.proofs.Common.{◌≡◌, ℕ, List, [], ◌∷◌, ◌++◌, Some, None, Ok, Err, map, refl, sym, ap, ◌∙◌, subst}
 use Rattle.std.proofs.lemmas.List.{append-nil, map-append}
 use Rattle.cadence_aggregating.specs.Notes.{line_of_note}

@@ -1,8 +1,8 @@
--- Start with `Ended`, which proves specs/Aggregated.antt of a whole run. `Giving` says what changes if the sink of the
--- packer is given one line, and `Calling` says what the calls of the aggregator asked of the packer. `EachTurn` says that
--- what is so after some turns is so after one turn more. `Queued` is about the replies, the queue and the hand.
--- `PackedLines` is about the packets of what a packer was given, and `Refusing` is about its errors. `Filled` says that no
--- line that was handed on is empty.
+-- Start with `Ended`, which proves specs/Aggregated.antt of a whole run. `Giving` says what one line from the aggregator
+-- changes in the packer. `Calling` says which lines and flushes the aggregator gives to the packer in each of its calls.
+-- `EachTurn` says that what is so after some turns is so after one turn more. `Queued` is about the replies, the queue
+-- and the hand. `PackedLines` is about the packets of what a packer was given, and `Refusing` is about its errors.
+-- `Filled` says that no line that was handed on is empty.
 pub mod Calling
 pub mod EachTurn
 pub mod Ended
