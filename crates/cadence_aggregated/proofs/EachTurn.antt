@@ -1,5 +1,5 @@
 -- What is so after some turns is so after one turn more.
-use Rattle.std.proofs.Common.{◌≡◌, ℕ, List, [], ◌∷◌, ◌++◌, Option, length, refl, sym, ap, ◌∙◌, subst, arith}
+use Rattle.std.proofs.Common.{◌≡◌, ℕ, List, [], ◌∷◌, ◌++◌, Option, refl, sym, ap, ◌∙◌, subst}
 use Rattle.std.specs.List.{AllZip, zip}
 use Rattle.std.proofs.lemmas.List.{append-nil, append_assoc}
 use Rattle.cadence_aggregate.specs.Aggregate.{held}
@@ -12,8 +12,6 @@ use Rattle.cadence_flow.specs.Writer.{PacketHistory, WriterKind}
 use Rattle.cadence_queue.specs.declared.policy.QueuePolicy.{QueuePolicy}
 use Rattle.cadence_schedule.specs.Moves.{RunState}
 use Rattle.cadence_schedule.specs.RunHistory.{Turn}
-use Rattle.cadence_schedule.specs.declared.steps.Reply.{Reply}
-use Rattle.cadence_schedule.specs.declared.steps.Step.{Step}
 use Rattle.cadence_settings.specs.declared.call.Call.{Call}
 use Rattle.cadence_aggregated.specs.Asked.{AskAll, Asks}
 use Rattle.cadence_aggregated.specs.Leads.{sent_by}
@@ -22,14 +20,6 @@ use Rattle.cadence_aggregated.specs.Sendings.{Sending}
 use Rattle.cadence_aggregated.specs.SoFar.{SoFar}
 use Rattle.cadence_aggregated.specs.Steps.{Goes, MovesQueue, QueueMoves, SumsTurn, accepted_in_turn, hand_of, queue_state}
 use Rattle.cadence_aggregated.specs.declared.running.Running.{Running}
-
--- One step more, with its reply.
-pub zip_push : {A : Type 0} (xs : List (Step A)) (ys : List Reply) (x : Step A) (y : Reply) → length xs ≡ length ys
-    → ◌≡◌ {A = List (Turn A)} (zip (xs ++ x ∷ []) (ys ++ y ∷ [])) (zip xs ys ++ (x, y) ∷ [])
-zip_push [] [] x y e = refl
-zip_push [] (b ∷ ys) x y e = absurd (omega arith)
-zip_push (a ∷ xs) [] x y e = absurd (omega arith)
-zip_push (a ∷ xs) (b ∷ ys) x y e = ap (λ l. (a, b) ∷ l) (zip_push xs ys x y (omega arith))
 
 zip_append : (xs ys : List (List ℕ)) (firsts seconds : List Sample) → AllZip LineSays xs firsts → AllZip LineSays ys seconds
     → AllZip LineSays (xs ++ ys) (firsts ++ seconds)

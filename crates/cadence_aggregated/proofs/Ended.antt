@@ -1,29 +1,26 @@
 -- What a whole run shows.
-use Rattle.std.proofs.Common.{◌≡◌, ◌≢◌, ℕ, ◌+◌, ◌%◌, ◌^◌, ◌<◌, ◌≤◌, List, [], ◌∷◌, ◌++◌, Option, Some, None, true, length, drop, map, refl, sym, ap, ◌∙◌, subst, arith, Vec}
+use Rattle.std.proofs.Common.{◌≡◌, ◌≢◌, ℕ, ◌+◌, ◌^◌, ◌<◌, ◌≤◌, List, [], ◌++◌, Option, Some, None, true, length, map, refl, sym, ap, ◌∙◌, subst, arith, Vec}
 use Rattle.std.specs.List.{AllByRecursion, concat, zip}
 use Rattle.std.specs.Option.{option_map}
 use Rattle.std.specs.Prelude.{IfSome, string_bytes}
 use Rattle.std.proofs.lemmas.List.{append-nil, append_assoc}
-use Rattle.std.proofs.lemmas.List.Concat.{flat_map-append}
 use Rattle.std.proofs.lemmas.List.Elements.{recursion_from_All}
 use Rattle.std.proofs.lemmas.List.Folds.{concat-append}
-use Rattle.std.proofs.lemmas.List.{drop_at}
 use Rattle.cadence_aggregate.specs.Aggregate.{held}
 use Rattle.cadence_aggregating.specs.Notes.{line_of_note}
 use Rattle.cadence_aggregating.specs.Past.{Summarizes}
 use Rattle.cadence_aggregating.proofs.Records.{summarizes}
-use Rattle.cadence_flow.specs.Frame.{Format, frame, held_packet, size_of, stream, taken_stream}
+use Rattle.cadence_flow.specs.Frame.{Format, size_of, stream, taken_stream}
 use Rattle.cadence_flow.specs.Sums.{counted_kind, zero_sums}
 use Rattle.cadence_flow.specs.Writer.{PacketHistory, WriterKind}
 use Rattle.cadence_queue.specs.declared.policy.QueuePolicy.{QueuePolicy}
-use Rattle.cadence_schedule.proofs.headline.FinishedRun.{run_sums}
+use Rattle.cadence_schedule.proofs.headline.FinishedRun.{accepted_le, between_is, goes_on, joined_groups, joined_packets, none_counted, run_sums, short_mod}
 use Rattle.cadence_schedule.proofs.headline.RunOfTurns.{length-zip}
 use Rattle.cadence_schedule.proofs.history.KeptLines.{length-kept}
 use Rattle.cadence_schedule.proofs.history.KeptMetrics.{all_accepted, all_kept}
 use Rattle.cadence_schedule.proofs.history.QueueAndHand.{at_start}
 use Rattle.cadence_schedule.proofs.packets.CutLengths.{shown, shown_late}
 use Rattle.cadence_schedule.proofs.packets.CutSoFar.{no_lines}
-use Rattle.cadence_schedule.proofs.packets.ListEnds.{joined}
 use Rattle.cadence_schedule.specs.Headline.{AreSumsBetween, given_of, packets_between, HasReplies, ReportsWhole}
 use Rattle.cadence_schedule.specs.Laws.{LeastPackets}
 use Rattle.cadence_schedule.specs.RunHistory.{Turn, accepted, dropped_count, kept, taken_count}
@@ -48,31 +45,13 @@ use Rattle.cadence_flow.specs.declared.io.counting.CountingWriter.{CountingWrite
 use Rattle.cadence_aggregated.specs.declared.packing.Packing.{Packing}
 use Rattle.cadence_aggregated.specs.declared.running.Running.{Running}
 use Rattle.cadence_aggregated.proofs.Filled.{kept_filled, no_more_kept}
-use Rattle.cadence_aggregated.proofs.Queued.{Queued, accepted_le, queued_all, queued_none, short_mod}
+use Rattle.cadence_aggregated.proofs.Queued.{Queued, queued_all, queued_none}
 use Rattle.cadence_aggregated.proofs.Refusing.{causes_all, few_errors, none_refused, refused_all}
 use Rattle.cadence_aggregated.proofs.PackedLines.{CutAfter, cut_all, extends_all, text_all}
 
 -- the packer of a run
 abbrev packing_of : {P A : Type 0} → Running P A → Packing P A
 packing_of run = run.sums.sink.packing
-
--- The packets and then the held text as a packet, joined, are the packets, joined, and then the held text.
-joined_packets : (packets : List (List ℕ)) (held : List ℕ) → concat (packets ++ held_packet held) ≡ concat packets ++ held
-joined_packets [] [] = refl
-joined_packets [] (b ∷ held) = append-nil (b ∷ held)
-joined_packets (p ∷ packets) held = ap (λ t. p ++ t) (joined_packets packets held) ∙ sym (append_assoc p (concat packets) held)
-
-joined_groups : (format : Format) (groups : List (List (List ℕ))) → concat (map (stream format) groups) ≡ stream format (joined groups)
-joined_groups format [] = refl
-joined_groups format (group ∷ groups) =
-    ap (λ t. stream format group ++ t) (joined_groups format groups) ∙ sym (flat_map-append (frame format) group (joined groups))
-
-goes_on : (xs ys zs : List ℕ) → xs ++ ys ≡ xs ++ zs → ys ≡ zs
-goes_on [] ys zs e = e
-goes_on (x ∷ xs) ys zs e = goes_on xs ys zs (let tail : xs ++ ys ≡ xs ++ zs = cc in tail)
-
-between_is : (before after : PacketHistory) (more : List (List ℕ)) → after.packets ≡ before.packets ++ more → packets_between before after ≡ more
-between_is before after more e = ap (drop (length before.packets)) e ∙ drop_at before.packets more (length before.packets) refl
 
 module _ {W A : Type 0} (kind_of : W → WriterKind) (history_of : W → PacketHistory) (settings : Settings) (capacity : ℕ) (ending : List ℕ)
     (queue : Option ℕ) (policy : QueuePolicy) (steps : List (Step A)) (writer : W) where
@@ -155,11 +134,11 @@ module _ {W A : Type 0} (kind_of : W → WriterKind) (history_of : W → PacketH
       one_each = one_each;
       causes = after.replies;
       waiting = after.line.waiting_is;
-      submitted = after.line.submitted_is ∙ short_mod (length (accepted lines turns)) (length turns) (accepted_le lines format queue policy turns) short;
+      submitted = after.line.submitted_is ∙ short_mod (length (accepted lines turns)) (length turns) (accepted_le lines turns) short;
       drained = after.line.drained_is ∙ short_mod (taken_count turns) (length turns)
-          (omega (arith, after.line.within, accepted_le lines format queue policy turns)) short;
+          (omega (arith, after.line.within, accepted_le lines turns)) short;
       dropped = after.line.dropped_is ∙ short_mod (dropped_count turns) (length turns)
-          (omega (arith, after.line.within, accepted_le lines format queue policy turns)) short;
+          (omega (arith, after.line.within, accepted_le lines turns)) short;
       stopped = after.line.stopped_is;
       capacity = s.same_queue ∙ ap (λ q. q.capacity) start.queue_is;
       policy = s.same_policy ∙ ap (λ q. q.policy) start.queue_is;
@@ -208,9 +187,6 @@ module _ {W A : Type 0} (kind_of : W → WriterKind) (history_of : W → PacketH
     no_error whole none =
         none_counted now.history.refusals before.refusals (length (errors_of s.all)) (length turns) none (refused_all kind format whole s.all _ now sends)
         (few_errors turns s.all s.asked) short
-      where
-        none_counted : (new old n m : ℕ) → new ≡ old → new % 2 ^ 64 ≡ (old + n) % 2 ^ 64 → n ≤ m → m < 2 ^ 64 → n ≡ 0
-        none_counted new old n m e f g k = omega arith
 
     packed_tight : ReportsWhole (kind_of writer) → now.history.refusals ≡ before.refusals
         → IsTight capacity (marks_from 0 s.all)

@@ -1,15 +1,14 @@
 -- What a packer was given, in order, is in its packets and its held text, and their cut is as tight as it can be.
-use Rattle.std.proofs.Common.{◌≡◌, ◌≢◌, ℕ, ◌+◌, ◌^◌, ◌<◌, List, [], ◌∷◌, ◌++◌, Ok, Err, true, length, map, refl, sym, ap, ◌∙◌, subst, arith}
+use Rattle.std.proofs.Common.{◌≡◌, ◌≢◌, ℕ, ◌+◌, ◌^◌, ◌<◌, List, [], ◌∷◌, ◌++◌, Ok, Err, true, length, refl, sym, ap, ◌∙◌, subst, arith}
 use Rattle.std.specs.List.{AllByRecursion}
-use Rattle.std.proofs.lemmas.List.{append-nil, append_assoc, length-append, map-append}
+use Rattle.std.proofs.lemmas.List.{append-nil, append_assoc, length-append}
 use Rattle.cadence_flow.proofs.Histories.{Extends-trans}
 use Rattle.cadence_flow.specs.Frame.{Format, frame_of, held_packet, taken_stream}
 use Rattle.cadence_flow.specs.Packer.{whole_text}
 use Rattle.cadence_flow.specs.Writer.{Extends, WriterKind}
-use Rattle.cadence_schedule.proofs.packets.CutSoFar.{IsCutSoFar, held_last, joined-push, marks_flush}
-use Rattle.cadence_schedule.proofs.packets.ListEnds.{joined}
+use Rattle.cadence_schedule.proofs.packets.CutSoFar.{IsCutSoFar, marks_flush}
+use Rattle.cadence_schedule.proofs.packets.CutLengths.{CutSince, has_last}
 use Rattle.cadence_schedule.proofs.packets.PackerSteps.{cut_refused, cut_written, refused, written}
-use Rattle.cadence_schedule.specs.Moves.{HasLast}
 use Rattle.cadence_aggregated.specs.PackedRuns.{PackedState, AllMovePacker, packer_in_state}
 use Rattle.cadence_aggregated.specs.Sendings.{Sending, wrote, flushed, counts_of_kept, marks_from, refusals_from, texts_in}
 
@@ -41,12 +40,8 @@ module _ (kind : WriterKind) (format : Format) (reports : kind.reports ≡ true)
 
   module _ (whole : kind.takes_whole ≡ true) (start : List (List ℕ)) where
     -- The packets since the start and the held text are a cut of the lines.
-    pub record CutAfter (marks refusals : List ℕ) (lines : List (List ℕ)) (s : PackedState) : Type 0 where
-      pub packets : List (List ℕ)
-      pub groups : List (List (List ℕ))
-      pub since : s.history.packets ≡ start ++ packets
-      pub plan_is : s.cut ≡ map length groups
-      pub cut : IsCutSoFar format marks refusals lines groups packets s.held
+    abbrev pub CutAfter : List ℕ → List ℕ → List (List ℕ) → PackedState → Type 0
+    CutAfter marks refusals lines s = CutSince format start marks refusals lines s.cut s.history s.held
 
     along : (marks marks' refusals refusals' : List ℕ) (lines lines' : List (List ℕ)) (s s' : PackedState)
         → marks ≡ marks' → refusals ≡ refusals' → lines ≡ lines' → s ≡ s' → CutAfter marks refusals lines s → CutAfter marks' refusals' lines' s'
@@ -55,21 +50,6 @@ module _ (kind : WriterKind) (format : Format) (reports : kind.reports ≡ true)
         (subst (λ x. CutAfter marks' refusals' x s) l
         (subst (λ x. CutAfter marks' x lines s) r
         (subst (λ x. CutAfter x refusals lines s) m cut)))
-
-    -- If text is held, the cut ends in a packet that can count one line more.
-    has_last : (marks refusals : List ℕ) (lines : List (List ℕ)) (s : PackedState) → CutAfter marks refusals lines s → length lines + 1 < 2 ^ 64
-        → s.held ≢ [] → HasLast s.cut
-    has_last marks refusals lines s a short some =
-        let (init, group, groups_are, packets_are, held_is, within, held_length) =
-        held_last format marks refusals lines a.groups a.packets s.held a.cut some in
-        let all : length lines ≡ length (joined init) + length group = ap (λ l. length l) (sym a.cut.all ∙ ap (λ gs. joined gs) groups_are
-        ∙ joined-push init group)
-        ∙ length-append (joined init) group in (
-          map length init,
-          length group,
-          a.plan_is ∙ ap (map length) groups_are ∙ map-append length init (group ∷ []),
-          omega arith,
-        )
 
     more_lines : (lines : List (List ℕ)) (line : List ℕ) → length (lines ++ line ∷ []) ≡ length lines + 1
     more_lines lines line = length-append lines (line ∷ [])
@@ -83,7 +63,7 @@ module _ (kind : WriterKind) (format : Format) (reports : kind.reports ≡ true)
     cut_all (wrote line (Ok n) ∷ xs) marks refusals lines s s' (mid, (w, counts), rest) (some, filled) short a =
         let (packets', since', way) =
         written kind format reports whole start s.history mid.history a.packets s.held mid.held line s.cut mid.cut n
-        a.since (has_last marks refusals lines s a (omega arith)) w counts in
+        a.since (has_last format start marks refusals lines s.cut s.history s.held a (omega arith)) w counts in
         let (groups', plan', cut') =
         cut_written format marks refusals lines a.groups line s.cut mid.cut a.packets packets' s.held mid.held some a.plan_is a.cut way in
         let next : CutAfter marks refusals (lines ++ line ∷ []) mid =

@@ -1,8 +1,7 @@
 -- The replies, the queue and the hand after any turns are those that the history says, and so are the accepted lines.
-use Rattle.std.proofs.Common.{◌≡◌, ℕ, zero-le, ◌%◌, ◌^◌, ◌<◌, ◌≤◌, List, [], ◌∷◌, ◌++◌, Option, Some, None, Ok, Err, true, false, length, map, refl, sym, ap, ◌∙◌, subst, arith, inl, inr}
+use Rattle.std.proofs.Common.{◌≡◌, ℕ, List, [], ◌∷◌, ◌++◌, Option, Some, None, Ok, Err, true, false, map, refl, sym, ap, ◌∙◌, subst, arith, inl, inr}
 use Rattle.std.specs.Prelude.{slice_get}
-use Rattle.std.specs.Option.{option_to_list}
-use Rattle.std.proofs.lemmas.List.{append-nil, append_assoc, length-append, map-append}
+use Rattle.std.proofs.lemmas.List.{append-nil, append_assoc, map-append}
 use Rattle.cadence_flow.specs.Frame.{Format}
 use Rattle.cadence_queue.specs.Queue.{at_capacity, drops_for_room}
 use Rattle.cadence_queue.specs.declared.policy.QueuePolicy.{QueuePolicy}
@@ -28,23 +27,7 @@ same_queue s s' e = record {
   dropped = ap (λ x. x.dropped) e;
 }
 
-pub short_mod : (n m : ℕ) → n ≤ m → m < 2 ^ 64 → n % 2 ^ 64 ≡ n
-short_mod n m h short = omega arith
-
 module _ {A : Type 0} (line_of : Call A → Option (List ℕ)) (format : Format) (queue : Option ℕ) (policy : QueuePolicy) where
-  option_one : (o : Option (List ℕ)) → length (option_to_list o) ≤ 1
-  option_one None = zero-le
-  option_one (Some line) = omega arith
-
-  accepted_one : (t : Turn A) → length (accepted_by line_of t) ≤ 1
-  accepted_one (step.Call call, reply.Called (Ok n)) = option_one (line_of call)
-  accepted_one (step.Call call, reply.CallDropped n m) = option_one (line_of call)
-  accepted_one _ = zero-le
-
-  pub accepted_le : (h : List (Turn A)) → length (accepted line_of h) ≤ length h
-  accepted_le [] = zero-le
-  accepted_le (t ∷ h) = omega (arith, length-append (accepted_by line_of t) (accepted line_of h), accepted_one t, accepted_le h)
-
   -- The history says what the replies, the queue and the hand are, and that these lines were kept.
   pub record Queued (h : List (Turn A)) (s : RunState) (lines : List (List ℕ)) : Type 0 where
     pub replies : MayReplyAfter line_of any_writer.may_give any_writer.takes_whole format queue policy [] h

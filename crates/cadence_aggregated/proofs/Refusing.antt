@@ -1,10 +1,10 @@
 -- The errors of what a packer was given: each has a cause, and they are as many as the writer refused packets.
-use Rattle.std.proofs.Common.{◌≡◌, ℕ, zero-le, ◌+◌, ◌%◌, ◌^◌, ◌≤◌, List, [], ◌∷◌, ◌++◌, Option, Some, None, Ok, Err, true, false, length, refl, sym, ap, ◌∙◌, arith, inl, inr}
+use Rattle.std.proofs.Common.{◌≡◌, ℕ, zero-le, ◌+◌, ◌%◌, ◌^◌, ◌≤◌, List, [], ◌∷◌, ◌++◌, Option, Some, None, Ok, Err, true, length, refl, ap, arith, inl, inr}
 use Rattle.std.specs.List.{AllByRecursion}
 use Rattle.cadence_errors.specs.declared.SinkError.{SinkError}
 use Rattle.cadence_flow.specs.Frame.{Format}
-use Rattle.cadence_flow.specs.Packer.{HasCause}
-use Rattle.cadence_flow.specs.Writer.{PacketHistory, WriterKind}
+use Rattle.cadence_flow.specs.Writer.{WriterKind}
+use Rattle.cadence_schedule.proofs.headline.ReplyCauses.{may_fail, refused_once}
 use Rattle.cadence_schedule.specs.Replies.{MayFail}
 use Rattle.cadence_schedule.specs.RunHistory.{Turn}
 use Rattle.cadence_schedule.specs.declared.steps.Step.TheVariants as step
@@ -14,16 +14,6 @@ use Rattle.cadence_aggregated.specs.PackedRuns.{PackedState, AllMovePacker}
 use Rattle.cadence_aggregated.specs.Sendings.{Sending, wrote, flushed, errors_of, refusals_from}
 
 module _ (kind : WriterKind) where
-  may_fail : (old new : PacketHistory) (before offered : List ℕ) (e : SinkError) → HasCause kind old new before offered e
-      → MayFail kind.may_give kind.takes_whole e
-  may_fail old new before offered e (inl refusal) = inl refusal.may_give
-  may_fail old new before offered e (inr nothing) = inr (nothing.not_whole, nothing.error)
-
-  refused_once : (old new : PacketHistory) (before offered : List ℕ) (e : SinkError) → kind.takes_whole ≡ true
-      → HasCause kind old new before offered e → new.refusals ≡ (old.refusals + 1) % 2 ^ 64
-  refused_once old new before offered e whole (inl refusal) = refusal.once.0
-  refused_once old new before offered e whole (inr nothing) = absurd (let bad : true ≡ false = sym whole ∙ nothing.not_whole in cc)
-
   none_more : (old mid new n : ℕ) → mid ≡ old → new % 2 ^ 64 ≡ (mid + n) % 2 ^ 64 → new % 2 ^ 64 ≡ (old + n) % 2 ^ 64
   none_more old mid new n e f = omega arith
 
@@ -37,9 +27,9 @@ module _ (kind : WriterKind) where
     causes_all [] s s' same = tt
     causes_all (wrote line (Ok n) ∷ xs) s s' (mid, (w, counts), rest) = causes_all xs mid s' rest
     causes_all (wrote line (Err e) ∷ xs) s s' (mid, (w, counts), rest) =
-        (may_fail s.history mid.history _ _ e w.fails.cause, causes_all xs mid s' rest)
+        (may_fail kind s.history mid.history _ _ e w.fails.cause, causes_all xs mid s' rest)
     causes_all (flushed (Ok done) ∷ xs) s s' (mid, (f, same), rest) = causes_all xs mid s' rest
-    causes_all (flushed (Err e) ∷ xs) s s' (mid, (f, same), rest) = (may_fail s.history mid.history _ _ e f.cause, causes_all xs mid s' rest)
+    causes_all (flushed (Err e) ∷ xs) s s' (mid, (f, same), rest) = (may_fail kind s.history mid.history _ _ e f.cause, causes_all xs mid s' rest)
 
     pub refused_all : kind.takes_whole ≡ true → (xs : List Sending) (s s' : PackedState) → AllMovePacker kind format s xs s'
         → s'.history.refusals % 2 ^ 64 ≡ (s.history.refusals + length (errors_of xs)) % 2 ^ 64
@@ -48,12 +38,12 @@ module _ (kind : WriterKind) where
         none_more s.history.refusals mid.history.refusals s'.history.refusals (length (errors_of xs)) w.none_refused.0 (refused_all whole xs mid s' rest)
     refused_all whole (wrote line (Err e) ∷ xs) s s' (mid, (w, counts), rest) =
         one_more s.history.refusals mid.history.refusals s'.history.refusals (length (errors_of xs)) (length (e ∷ errors_of xs)) (omega arith)
-        (refused_once s.history mid.history _ _ e whole w.fails.cause) (refused_all whole xs mid s' rest)
+        (refused_once kind s.history mid.history _ _ e whole w.fails.cause) (refused_all whole xs mid s' rest)
     refused_all whole (flushed (Ok done) ∷ xs) s s' (mid, (f, same), rest) =
         none_more s.history.refusals mid.history.refusals s'.history.refusals (length (errors_of xs)) f.none_refused.0 (refused_all whole xs mid s' rest)
     refused_all whole (flushed (Err e) ∷ xs) s s' (mid, (f, same), rest) =
         one_more s.history.refusals mid.history.refusals s'.history.refusals (length (errors_of xs)) (length (e ∷ errors_of xs)) (omega arith)
-        (refused_once s.history mid.history _ _ e whole f.cause) (refused_all whole xs mid s' rest)
+        (refused_once kind s.history mid.history _ _ e whole f.cause) (refused_all whole xs mid s' rest)
 
 -- Without an error no line was refused.
 pub none_refused : (place : ℕ) (xs : List Sending) → length (errors_of xs) ≡ 0 → refusals_from place xs ≡ []

@@ -4,7 +4,7 @@ use Rattle.std.proofs.Common.{refl, sym, ap, ◌∙◌, arith, subst, cond, map,
 use Rattle.std.specs.Prelude.{slice_get}
 use Rattle.std.specs.List.{concat}
 use Rattle.std.specs.Option.{option_to_list}
-use Rattle.std.proofs.lemmas.List.{append-nil, append_assoc, length-append, map-append}
+use Rattle.std.proofs.lemmas.List.{append-nil, append_assoc, map-append}
 use Rattle.std.proofs.lemmas.List.Concat.{flat_map-append}
 use Rattle.cadence_errors.specs.declared.SinkError.{SinkError}
 use Rattle.cadence_flow.specs.Frame.{Format, frame_of, held_packet, taken_stream}
@@ -16,11 +16,11 @@ use Rattle.cadence_settings.specs.declared.call.Call.{Call}
 use Rattle.cadence_schedule.specs.RunHistory.{Turn, takes_text, drops_text, left_count, outcomes, outcome_by, stops, is_stopped, error_count}
 use Rattle.cadence_schedule.specs.RunHistory.{is_error, accepted, accepted_by, kept, kept_counts, marks, mark_at, refusals, refusal_at}
 use Rattle.cadence_schedule.specs.Replies.{MayReply, MayReplyAfter}
-use Rattle.cadence_schedule.specs.Moves.{RunState, Moves, HasLast, CountsLine, packer_of}
+use Rattle.cadence_schedule.specs.Moves.{RunState, Moves, CountsLine, packer_of}
 use Rattle.cadence_flow.proofs.Histories.{Extends-trans}
-use Rattle.cadence_schedule.proofs.packets.ListEnds.{joined}
+use Rattle.cadence_schedule.proofs.packets.CutLengths.{CutSince, has_last}
 use Rattle.cadence_schedule.proofs.history.OneTurnMore.{marks-push, refusals-push, replies-push, error_count-push}
-use Rattle.cadence_schedule.proofs.packets.CutSoFar.{IsCutSoFar, marks_flush, held_last, joined-push}
+use Rattle.cadence_schedule.proofs.packets.CutSoFar.{IsCutSoFar, marks_flush}
 use Rattle.cadence_schedule.proofs.history.KeptLines.{counts_same, counts_more, counts_refused, undropped_lines_filled, length-kept}
 use Rattle.cadence_schedule.proofs.history.QueueAndHand.{QueueAfter, SameQueue, quiet, queue_call, queue_drop, queue_take, queue_hand, queue_stop}
 use Rattle.cadence_schedule.proofs.history.QueueAndHand.{full_hand, slice_get-is}
@@ -37,12 +37,9 @@ module _ {A : Type 0} (line_of : Call A → Option (List ℕ)) (filled : (call :
     (kind : WriterKind) (format : Format) (queue : Option ℕ) (policy : QueuePolicy) (start : PacketHistory) where
   -- After these turns, the packets and the held text are a cut of the kept lines, and the plan has the lengths of its
   -- groups.
-  pub record CutAfter (h : List (Turn A)) (plan : List ℕ) (history : PacketHistory) (held : List ℕ) : Type 0 where
-    pub packets : List (List ℕ)
-    pub groups : List (List (List ℕ))
-    pub since : history.packets ≡ start.packets ++ packets
-    pub plan_is : plan ≡ map length groups
-    pub cut : IsCutSoFar format (marks line_of h) (refusals line_of h) (kept line_of h) groups packets held
+  abbrev pub CutAfter : List (Turn A) → List ℕ → PacketHistory → List ℕ → Type 0
+  CutAfter h plan history held =
+      CutSince format start.packets (marks line_of h) (refusals line_of h) (kept line_of h) plan history held
 
   -- After these turns, the packets, joined, and the held text are what was taken of the kept lines.
   pub record TextAfter (h : List (Turn A)) (history : PacketHistory) (held : List ℕ) : Type 0 where
@@ -141,21 +138,6 @@ module _ {A : Type 0} (line_of : Call A → Option (List ℕ)) (filled : (call :
       subst (λ q. After (h ++ t ∷ []) q) (sym same) (leaves_packer h t s s a reply
       (quiet line_of queue h t s s (same_queue s) refl x k d b z a.line) refl refl refl b m r isnt)
 
-  -- If text is held, the cut ends in a packet that can count one line more.
-  has_last : (h : List (Turn A)) (plan : List ℕ) (history : PacketHistory) (held : List ℕ) → CutAfter h plan history held
-      → length h + 1 < 2 ^ 64 → held ≢ [] → HasLast plan
-  has_last h plan history held a short some =
-      let (init, group, groups_are, packets_are, held_is, within, held_length) =
-      held_last format (marks line_of h) (refusals line_of h) (kept line_of h) a.groups a.packets held a.cut some in
-      let whole : length (kept line_of h) ≡ length (joined init) + length group = ap (λ l. length l) (sym a.cut.all
-      ∙ ap (λ gs. joined gs) groups_are ∙ joined-push init group)
-      ∙ length-append (joined init) group in (
-        map length init,
-        length group,
-        a.plan_is ∙ ap (map length) groups_are ∙ map-append length init (group ∷ []),
-        omega (arith, length-kept line_of h),
-      )
-
   text_written : (h : List (Turn A)) (line held rest : List ℕ) (n : ℕ) (old new : PacketHistory)
       → kept_counts line_of (h ++ (step.Hand, reply.Handed (Ok n)) ∷ []) ≡ kept_counts line_of h ++ (line, n) ∷ [] → kind.reports ≡ true
       → Writes kind format (packer old held) (packer new rest) line (Ok n) → TextAfter h old held
@@ -210,7 +192,8 @@ module _ {A : Type 0} (line_of : Call A → Option (List ℕ)) (filled : (call :
             let b = a.cut reports whole in
             let (packets', since', way) =
             written kind format reports whole start.packets old.history new.history b.packets old.held new.held line old.cut new.cut n
-            b.since (has_last h old.cut old.history old.held b short) w counts in
+            b.since (has_last format start.packets (marks line_of h) (refusals line_of h) (kept line_of h) old.cut old.history old.held b
+            (omega (arith, length-kept line_of h))) w counts in
             let (groups', plan', cut') =
             cut_written format (marks line_of h) (refusals line_of h) (kept line_of h) b.groups line old.cut new.cut b.packets
             packets' old.held new.held (undropped_lines_filled line_of filled line h (length (outcomes h)) text) b.plan_is b.cut way in
@@ -236,7 +219,7 @@ module _ {A : Type 0} (line_of : Call A → Option (List ℕ)) (filled : (call :
   hand_refused h old new e line a some w counts = record {
     replies = replies-push line_of kind.may_give kind.takes_whole format queue policy h (step.Hand, reply.Handed (Err e)) a.replies
         (hand_reply line_of kind format queue policy h old (Some line) (reply.Handed (Err e)) a.line some
-        (inr (e, may_fail line_of kind format queue policy old.history new.history _ _ e w.fails.cause, refl)));
+        (inr (e, may_fail kind old.history new.history _ _ e w.fails.cause, refl)));
     line =
         queue_hand line_of queue h (step.Hand, reply.Handed (Err e)) None line old
         (record old { in_hand = None; cut = new.cut; history = new.history; held = new.held })
@@ -244,7 +227,7 @@ module _ {A : Type 0} (line_of : Call A → Option (List ℕ)) (filled : (call :
     text = λ reports. text_refused h line old.held new.held e old.history new.history reports w (a.text reports);
     refusals = λ whole.
         refusals_more h (step.Hand, reply.Handed (Err e)) old.history.refusals new.history.refusals refl
-        (refused_once line_of kind format queue policy old.history new.history _ _ e whole w.fails.cause) (a.refusals whole);
+        (refused_once kind old.history new.history _ _ e whole w.fails.cause) (a.refusals whole);
     cut = λ reports whole.
         let b = a.cut reports whole in
         let (packets', since', way) =
@@ -313,14 +296,14 @@ module _ {A : Type 0} (line_of : Call A → Option (List ℕ)) (filled : (call :
       record {
         replies =
             replies-push line_of kind.may_give kind.takes_whole format queue policy h (step.Flush, reply.Flushed (Err e)) a.replies
-            (may_fail line_of kind format queue policy old.history new.history _ _ e f.cause);
+            (may_fail kind old.history new.history _ _ e f.cause);
         line =
             quiet line_of queue h (step.Flush, reply.Flushed (Err e)) old (record old { history = new.history; held = new.held })
             (record { waiting = refl; stopped = refl; submitted = refl; drained = refl; dropped = refl }) refl refl refl refl refl refl a.line;
         text = λ reports. text_flushed h (Err e) old.held new.held old.history new.history reports same f (a.text reports);
         refusals = λ whole.
             refusals_more h (step.Flush, reply.Flushed (Err e)) old.history.refusals new.history.refusals refl
-            (refused_once line_of kind format queue policy old.history new.history _ _ e whole f.cause) (a.refusals whole);
+            (refused_once kind old.history new.history _ _ e whole f.cause) (a.refusals whole);
         cut = λ reports whole.
             let b = a.cut reports whole in
             let (rest_is, packets_are) = f.unchanged whole in

@@ -27,12 +27,12 @@ use Rattle.cadence_schedule.proofs.packets.CutLengths.{shown, shown_late}
 use Rattle.cadence_schedule.proofs.headline.EachTurn.{After}
 
 -- The packets and then the held text as a packet, joined, are the packets, joined, and then the held text.
-joined_packets : (packets : List (List ℕ)) (held : List ℕ) → concat (packets ++ held_packet held) ≡ concat packets ++ held
+pub joined_packets : (packets : List (List ℕ)) (held : List ℕ) → concat (packets ++ held_packet held) ≡ concat packets ++ held
 joined_packets [] [] = refl
 joined_packets [] (b ∷ held) = append-nil (b ∷ held)
 joined_packets (p ∷ packets) held = ap (λ t. p ++ t) (joined_packets packets held) ∙ sym (append_assoc p (concat packets) held)
 
-joined_groups : (format : Format) (groups : List (List (List ℕ))) → concat (map (stream format) groups) ≡ stream format (joined groups)
+pub joined_groups : (format : Format) (groups : List (List (List ℕ))) → concat (map (stream format) groups) ≡ stream format (joined groups)
 joined_groups format [] = refl
 joined_groups format (group ∷ groups) =
     ap (λ t. stream format group ++ t) (joined_groups format groups) ∙ sym (flat_map-append (frame format) group (joined groups))
@@ -42,15 +42,19 @@ flat_map-map g f [] = refl
 flat_map-map g f (x ∷ xs) = ap (λ l. g (f x) ++ l) (flat_map-map g f xs)
 
 -- If two equal texts have the same beginning, they have the same rest.
-goes_on : (xs ys zs : List ℕ) → xs ++ ys ≡ xs ++ zs → ys ≡ zs
+pub goes_on : (xs ys zs : List ℕ) → xs ++ ys ≡ xs ++ zs → ys ≡ zs
 goes_on [] ys zs e = e
 goes_on (x ∷ xs) ys zs e = goes_on xs ys zs (let tail : xs ++ ys ≡ xs ++ zs = cc in tail)
 
-between_is : (before after : PacketHistory) (more : List (List ℕ)) → after.packets ≡ before.packets ++ more → packets_between before after ≡ more
+pub between_is : (before after : PacketHistory) (more : List (List ℕ)) → after.packets ≡ before.packets ++ more → packets_between before after ≡ more
 between_is before after more e = ap (drop (length before.packets)) e ∙ drop_at before.packets more (length before.packets) refl
 
-short_mod : (n m : ℕ) → n ≤ m → m < 2 ^ 64 → n % 2 ^ 64 ≡ n
+pub short_mod : (n m : ℕ) → n ≤ m → m < 2 ^ 64 → n % 2 ^ 64 ≡ n
 short_mod n m h short = omega arith
+
+-- If a count that stayed the same grew by n modulo 2 to the 64, and n is below that, n is 0.
+pub none_counted : (new old n m : ℕ) → new ≡ old → new % 2 ^ 64 ≡ (old + n) % 2 ^ 64 → n ≤ m → m < 2 ^ 64 → n ≡ 0
+none_counted new old n m e f g k = omega arith
 
 module _ {A : Type 0} (line_of : Call A → Option (List ℕ)) where
   none_here : (t : Turn A) (n : ℕ) → ◌≡◌ {A = ℕ} (cond (is_error t) 1 0) 0 → refusal_at line_of n t ≡ []
@@ -90,7 +94,7 @@ module _ {A : Type 0} (line_of : Call A → Option (List ℕ)) where
   accepted_one (step.Call call, reply.CallDropped n m) = option_one (line_of call)
   accepted_one _ = zero-le
 
-  accepted_le : (h : List (Turn A)) → length (accepted line_of h) ≤ length h
+  pub accepted_le : (h : List (Turn A)) → length (accepted line_of h) ≤ length h
   accepted_le [] = zero-le
   accepted_le (t ∷ h) = omega (arith, length-append (accepted_by line_of t) (accepted line_of h), accepted_one t, accepted_le h)
 
@@ -142,9 +146,6 @@ module _ {A : Type 0} (line_of : Call A → Option (List ℕ)) where
           no_later = subst (λ e. NoGroupHasRoom format.capacity e (groups_of s.cut (map (size_of format) (kept line_of h))))
               (ap (λ r. marks line_of h ++ r) (no_refusals h no_errors) ∙ append-nil (marks line_of h)) (run_late reports whole);
         }
-      where
-        none_counted : (new old n m : ℕ) → new ≡ old → new % 2 ^ 64 ≡ (old + n) % 2 ^ 64 → n ≤ m → m < 2 ^ 64 → n ≡ 0
-        none_counted new old n m e f g k = omega arith
 
     pub run_submitted : length h < 2 ^ 64 → s.submitted ≡ length (accepted line_of h)
     run_submitted short = a.line.submitted_is ∙ short_mod (length (accepted line_of h)) (length h) (accepted_le h) short

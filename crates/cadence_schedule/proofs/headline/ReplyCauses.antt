@@ -17,6 +17,17 @@ use Rattle.cadence_schedule.specs.Replies.{CallReplies, TakeReplies, HandReplies
 use Rattle.cadence_schedule.specs.Moves.{RunState}
 use Rattle.cadence_schedule.proofs.history.QueueAndHand.{QueueAfter}
 
+-- An error of the packer has a cause that its writer allows.
+pub may_fail : (kind : WriterKind) (old new : PacketHistory) (before offered : List ℕ) (e : SinkError) → HasCause kind old new before offered e
+    → MayFail kind.may_give kind.takes_whole e
+may_fail kind old new before offered e (inl refusal) = inl refusal.may_give
+may_fail kind old new before offered e (inr nothing) = inr (nothing.not_whole, nothing.error)
+
+pub refused_once : (kind : WriterKind) (old new : PacketHistory) (before offered : List ℕ) (e : SinkError) → kind.takes_whole ≡ true
+    → HasCause kind old new before offered e → new.refusals ≡ (old.refusals + 1) % 2 ^ 64
+refused_once kind old new before offered e whole (inl refusal) = refusal.once.0
+refused_once kind old new before offered e whole (inr nothing) = absurd (let bad : true ≡ false = sym whole ∙ nothing.not_whole in cc)
+
 module _ {A : Type 0} (line_of : Call A → Option (List ℕ)) (kind : WriterKind) (format : Format) (queue : Option ℕ) (policy : QueuePolicy) where
   -- The reply to a call that the state calls for is one that the history allows.
   pub call_reply : (h : List (Turn A)) (s : RunState) → QueueAfter line_of queue h s → (call : Call A) (answer : Reply)
@@ -47,14 +58,3 @@ module _ {A : Type 0} (line_of : Call A → Option (List ℕ)) (kind : WriterKin
       → HandReplies kind.may_give kind.takes_whole format hand answer
       → MayReply line_of kind.may_give kind.takes_whole format queue policy h (step.Hand, answer)
   hand_reply h s hand answer a e r = subst (λ o. HandReplies kind.may_give kind.takes_whole format o answer) (sym e ∙ a.hand_is) r
-
-  -- An error of the packer has a cause that its writer allows.
-  pub may_fail : (old new : PacketHistory) (before offered : List ℕ) (e : SinkError) → HasCause kind old new before offered e
-      → MayFail kind.may_give kind.takes_whole e
-  may_fail old new before offered e (inl refusal) = inl refusal.may_give
-  may_fail old new before offered e (inr nothing) = inr (nothing.not_whole, nothing.error)
-
-  pub refused_once : (old new : PacketHistory) (before offered : List ℕ) (e : SinkError) → kind.takes_whole ≡ true
-      → HasCause kind old new before offered e → new.refusals ≡ (old.refusals + 1) % 2 ^ 64
-  refused_once old new before offered e whole (inl refusal) = refusal.once.0
-  refused_once old new before offered e whole (inr nothing) = absurd (let bad : true ≡ false = sym whole ∙ nothing.not_whole in cc)

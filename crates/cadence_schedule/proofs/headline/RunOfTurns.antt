@@ -15,7 +15,7 @@ use Rattle.cadence_schedule.specs.RunHistory.{Turn, accepted, accepted_by}
 use Rattle.cadence_schedule.specs.Moves.{RunState, Moves, Runs}
 
 module _ {A : Type 0} where
-  zip_push : (xs : List (Step A)) (ys : List Reply) (x : Step A) (y : Reply) → length xs ≡ length ys
+  pub zip_push : (xs : List (Step A)) (ys : List Reply) (x : Step A) (y : Reply) → length xs ≡ length ys
       → ◌≡◌ {A = List (Turn A)} (zip (xs ++ x ∷ []) (ys ++ y ∷ [])) (zip xs ys ++ (x, y) ∷ [])
   zip_push [] [] x y e = refl
   zip_push [] (b ∷ ys) x y e = absurd (omega arith)

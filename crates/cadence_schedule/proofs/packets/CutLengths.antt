@@ -1,5 +1,5 @@
 -- The cut of a run by the numbers of lines in its groups, as the report has it.
-use Rattle.std.proofs.Common.{◌≡◌, ℕ, ◌<◌, List, [], ◌∷◌, ◌++◌, length, take, drop, get_or, refl, sym, ap, ◌∙◌, arith, subst, map, sum}
+use Rattle.std.proofs.Common.{◌≡◌, ℕ, ◌<◌, ◌+◌, ◌^◌, ◌≢◌, List, [], ◌∷◌, ◌++◌, length, take, drop, get_or, refl, sym, ap, ◌∙◌, arith, subst, map, sum}
 use Rattle.std.specs.Prelude.{Contains}
 use Rattle.std.specs.List.{AllByRecursion, concat}
 use Rattle.std.proofs.lemmas.List.{length-append, length-map, take-map, drop-map, map-append}
@@ -11,7 +11,9 @@ use Rattle.cadence_flow.specs.Frame.{Format, size_of, stream}
 use Rattle.cadence_schedule.specs.Packets.{ArePacketsOf}
 use Rattle.cadence_schedule.proofs.plans.PlanGroups.{HasNoRoomForNext}
 use Rattle.cadence_schedule.proofs.packets.ListEnds.{joined, groups_of-lengths}
-use Rattle.cadence_schedule.proofs.packets.CutSoFar.{IsCutSoFar}
+use Rattle.cadence_flow.specs.Writer.{PacketHistory}
+use Rattle.cadence_schedule.specs.Moves.{HasLast}
+use Rattle.cadence_schedule.proofs.packets.CutSoFar.{IsCutSoFar, held_last, joined-push}
 
 -- If a function is applied to each element of a list, the list is cut at the same places.
 groups_of-map : {X Y : Type 0} (f : X → Y) (plan : List ℕ) (xs : List X) → groups_of plan (map f xs) ≡ map (map f) (groups_of plan xs)
@@ -109,3 +111,28 @@ module _ (format : Format) (marks refusals : List ℕ) (lines : List (List ℕ))
         λ before line e within unmarked unrefused. cut.holds before line e (ltb-false format.capacity (size_of format line) within) unmarked
         unrefused;
   }
+
+-- The packets since the start and the held text are a cut of the lines, and the plan has the lengths of its groups.
+pub record CutSince (format : Format) (start : List (List ℕ)) (marks refusals : List ℕ) (lines : List (List ℕ)) (plan : List ℕ)
+    (history : PacketHistory) (held : List ℕ) : Type 0 where
+  pub packets : List (List ℕ)
+  pub groups : List (List (List ℕ))
+  pub since : history.packets ≡ start ++ packets
+  pub plan_is : plan ≡ map length groups
+  pub cut : IsCutSoFar format marks refusals lines groups packets held
+
+-- If text is held, the cut ends in a packet that can count one line more.
+pub has_last : (format : Format) (start : List (List ℕ)) (marks refusals : List ℕ) (lines : List (List ℕ)) (plan : List ℕ)
+    (history : PacketHistory) (held : List ℕ) → CutSince format start marks refusals lines plan history held
+    → length lines + 1 < 2 ^ 64 → held ≢ [] → HasLast plan
+has_last format start marks refusals lines plan history held a short some =
+    let (init, group, groups_are, packets_are, held_is, within, held_length) =
+    held_last format marks refusals lines a.groups a.packets held a.cut some in
+    let whole : length lines ≡ length (joined init) + length group = ap (λ l. length l) (sym a.cut.all
+    ∙ ap (λ gs. joined gs) groups_are ∙ joined-push init group)
+    ∙ length-append (joined init) group in (
+      map length init,
+      length group,
+      a.plan_is ∙ ap (map length) groups_are ∙ map-append length init (group ∷ []),
+      omega arith,
+    )

@@ -4,7 +4,8 @@ use Rattle.std.proofs.lemmas.List.{take_all, take_more, length-take-le, length_p
 use Rattle.cadence_schedule.specs.declared.steps.Step.{Step}
 use Rattle.cadence_settings.specs.CallData.{line_of_data}
 use Rattle.cadence_aggregated.specs.SoFar.{SoFar}
-use Rattle.cadence_aggregated.proofs.EachTurn.{so_far_more, so_far_none, zip_push}
+use Rattle.cadence_schedule.proofs.headline.RunOfTurns.{zip_push}
+use Rattle.cadence_aggregated.proofs.EachTurn.{so_far_more, so_far_none}
 use Rattle.cadence_aggregated.proofs.run.run_steps.Goals as goal
 
 pub loop-step-preserved : goal.loop-step-preserved
