@@ -2,11 +2,10 @@
 use Rattle.std.specs.Prelude.{◌≡◌, ⊤, ◌<◌, ◌^◌, ℕ, List, Option, All, IfSome, Result, Ok, Err, String, Vec, map}
 use Rattle.std.specs.Option.{option_map}
 use Rattle.std.specs.String.{string_bytes}
-use Rattle.cadence_text.specs.declared.line.MetricType.{MetricType}
 use Rattle.cadence_text.specs.declared.line.record.owned.OwnedMetric.{OwnedMetric}
-use Rattle.cadence_text.specs.Line.{kind_text, line_of, tag_text}
+use Rattle.cadence_text.specs.Line.{line_of, tag_text}
 use Rattle.cadence_text.specs.Owned.{metric_of_owned, metrics_of, tag_of_owned}
-use Rattle.cadence_value.specs.Finds.{Finds, HasNone}
+use Rattle.cadence_value.specs.Finds.{HasNone}
 use Rattle.cadence_value.specs.Number.{Number, IsDecimal, decimal_text, number_text, numbers_text}
 use Rattle.cadence_read.specs.declared.fault.ReadFault.{ReadFault}
 use Rattle.cadence_read.specs.declared.fault.ReadFault.TheVariants.{NotMetrics, OutOfMemory}
@@ -40,10 +39,6 @@ ReadsText text result = ReadsOrFails IsText (λ t. t) text string_bytes result
 -- The numbers with this text, each of which could be a `Decimal`.
 abbrev pub ReadsNumbers : {Z : Type 0} → List ℕ → Result (Vec Number Z) ReadFault → Type 0
 ReadsNumbers text result = ReadsOrFails (All IsDecimal) numbers_text text (λ numbers. numbers.items) result
-
--- The kind with this text, or none if no kind has it.
-abbrev pub ReadsKind : List ℕ → Option MetricType → Type 0
-ReadsKind text result = Finds (λ kind. kind_text kind ≡ text) result
 
 -- The rate with this text, which could be a `Decimal`, or no rate if there is no text.
 abbrev pub ReadsRate : Option (List ℕ) → Result (Option Number) ReadFault → Type 0

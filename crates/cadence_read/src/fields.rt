@@ -2,11 +2,11 @@
 ghost use Rattle.std.specs.Prelude.{All};
 ghost use Rattle.std.specs.Option.{option_copied};
 ghost use Rattle.cadence_text.specs.OneReading.{IsNoSeparator};
-ghost use Rattle.cadence_read.specs.Reads.{ReadsContainer, ReadsKind, ReadsNumbers, ReadsRate, ReadsTag, ReadsTags, ReadsText, ReadsTime};
+ghost use Rattle.cadence_read.specs.Reads.{ReadsContainer, ReadsNumbers, ReadsRate, ReadsTag, ReadsTags, ReadsText, ReadsTime};
 
 use crate::fault::ReadFault;
 use crate::splitting::split_piece;
-use cadence_text::line::{MetricType, OwnedTag, is_free};
+use cadence_text::line::{OwnedTag, is_free};
 use cadence_value::bytes::split_once;
 use cadence_value::decimal::{Decimal, read_number, read_whole};
 use std::alloc::Allocator;
@@ -54,13 +54,6 @@ pub(crate) fn read_numbers<A: Allocator>(
         left = others;
     }
     Ok(numbers)
-}
-
-// Returns the kind that has this type text, or `None` if no kind has it.
-pub(crate) fn read_kind(text: &[u8]) -> Option<MetricType>
-    ensures { ReadsKind text.now result }
-{
-    MetricType::from_text(text)
 }
 
 // Reads the sampling rate, if the line has one.

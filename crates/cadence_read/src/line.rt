@@ -5,11 +5,9 @@ ghost use Rattle.cadence_read.specs.LineTexts.{line_texts};
 ghost use Rattle.cadence_read.specs.Reads.{ReadsFields, ReadsMetric};
 
 use crate::fault::ReadFault;
-use crate::fields::{
-    read_container, read_free, read_kind, read_numbers, read_rate, read_tags, read_time,
-};
+use crate::fields::{read_container, read_free, read_numbers, read_rate, read_tags, read_time};
 use crate::splitting::{TextsOfLine, plain_texts, split_fields, split_name};
-use cadence_text::line::OwnedMetric;
+use cadence_text::line::{MetricType, OwnedMetric};
 use std::alloc::Allocator;
 
 // Reads the metric whose fields have these texts.
@@ -23,7 +21,7 @@ fn read_texts<A: Allocator + Clone>(
     requires { All IsNoSeparator texts.name.now }
     ensures { ReadsFields (line_texts texts.entry) result }
 {
-    let Some(kind) = read_kind(texts.kind) else {
+    let Some(kind) = MetricType::from_text(texts.kind) else {
         return Err(ReadFault::NotMetrics);
     };
     let rate = read_rate(texts.rate)?;
