@@ -21,8 +21,8 @@ use std::alloc::{AllocError, Global};
 use std::num::NonZeroUsize;
 
 /// Makes sums in a handle, and drops earlier ones there. At most `contexts` contexts of each kind are held, and lines
-/// of at most `longest` bytes. If `packed` is set, the values of timers, histograms and distributions are packed into
-/// one line, and otherwise each of their lines is given to the client at once.
+/// of at most `longest` bytes. If `packed` is set, one line holds several values of a timer, a histogram or a
+/// distribution. If it is not set, the client gets each line of these kinds at once.
 #[unsafe(no_mangle)]
 pub extern "C" fn cadence_open_sums(
     alloc: Global,

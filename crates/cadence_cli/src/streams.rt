@@ -13,8 +13,9 @@ pub struct BrokenInput;
 
 /// Returns all bytes that the reader returns up to its end.
 ///
-/// # Errors `Unreadable` if the reader fails or doesn't end within `u64::MAX` reads, and `OutOfMemory`. The bytes that
-/// were read before the error are lost.
+/// # Errors
+/// `Unreadable` if the reader fails or doesn't end within `u64::MAX` reads, and `OutOfMemory`. The bytes that were read
+/// before the error are lost.
 pub fn read_all<A: Allocator, I: Read>(
     alloc: A,
     input: &mut I,

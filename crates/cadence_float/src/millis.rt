@@ -16,7 +16,8 @@ const SMALLEST: f64 = 1e-7;
 /// that is nearer to 0 than 10 to the power of -7 is 0. Returns `None` as `decimal_of_float` does.
 pub fn rounded_decimal_of_float(x: f64) -> Option<Decimal>
     ensures small { IsSmall x → IfSome result (λ n. n ≡ natural 0) }
-    ensures rounds { (IsSmall x → ⊥) → IfSome result (λ n. (d : Number) × StandsForFloat d x × IsRounded d n) }
+    ensures rounds { (IsSmall x → ⊥) →
+        IfSome result (λ n. (d : Number) × StandsForFloat d x × IsRounded d n) }
     ensures none { IfNone result (IsTooLarge x) }
 {
     if x.abs() < SMALLEST {

@@ -192,7 +192,7 @@ fn policy_of(word: &str) -> Result<QueuePolicy, LineError> {
     }
 }
 
-// Returns the number of contexts that a word stands for. A word that stands for 0 is refused.
+// Reads a word as a number of contexts. The error is that the word is no number, or is 0.
 fn contexts_of(word: &str) -> Result<NonZeroUsize, LineError> {
     match NonZeroUsize::new(number(word)?) {
         Some(contexts) => Ok(contexts),

@@ -87,8 +87,8 @@ module _ {S : Type 0} (takes : S → S → List (List ℕ) → Type 0) (none : (
   pub text_without : (p : S) (text : List ℕ) → AsksFor d text None → TakesTexts d takes p p (text ∷ [])
   text_without p text given = record { lines = []; are = (None ∷ [], (given, tt), refl); took = none p }
 
-  -- Bytes waited, and more bytes arrived, of which some are left. The texts before those were taken, except for a
-  -- last one without a newline, which waits.
+  -- Before the call the bytes `before` waited, and the call gets `bytes`. So far it took the texts that end in a
+  -- newline, the bytes `waiting` wait for theirs, and the bytes `left` were not looked at.
   pub record Feeding (p q : S) (before bytes waiting left : List ℕ) : Type 0 where
     pub texts : List (List ℕ)
     pub cut : before ++ bytes ≡ with_newlines texts ++ (waiting ++ left)

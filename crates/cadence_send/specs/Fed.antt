@@ -12,8 +12,8 @@ IsOneText text = All (λ byte. byte ≢ 10) text
 abbrev pub with_newlines : List (List ℕ) → List ℕ
 with_newlines texts = flat_map (λ text. text ++ 10 ∷ []) texts
 
--- Bytes waited, and more bytes arrived. Each text that a newline then ended was taken, and the bytes after the last
--- newline wait.
+-- The bytes `before` waited, and then the bytes `bytes` arrived. All texts that end in a newline were taken, and the
+-- bytes `after`, which follow the last newline, wait.
 pub record Feeds {S Z : Type 0} (d : Defaults Z) (takes : S → S → List (List ℕ) → Type 0) (old new : S)
     (before bytes after : List ℕ) : Type 0 where
   pub texts : List (List ℕ)
@@ -22,7 +22,7 @@ pub record Feeds {S Z : Type 0} (d : Defaults Z) (takes : S → S → List (List
   pub rest : IsOneText after
   pub taken : TakesTexts d takes old new texts
 
--- Bytes waited, and more bytes arrived. Some of the texts that a newline then ended were taken: the first ones.
+-- The bytes `before` waited, and then the bytes `bytes` arrived. Only the first texts that end in a newline were taken.
 pub record FeedsSome {S Z : Type 0} (d : Defaults Z) (takes : S → S → List (List ℕ) → Type 0) (old new : S)
     (before bytes : List ℕ) : Type 0 where
   pub texts : List (List ℕ)

@@ -1,6 +1,6 @@
 //! Calls by keys, under the lock. Each call is made as an `AnsweringSink` of its own, because only `emit_by` can open
-//! the answer of a step under a lock. This sink is given an empty text, because the call has a key and a number in
-//! place of a line.
+//! the answer of a step under a lock. `emit_by` passes a text to its sink. A call by a key has no line, so it passes an
+//! empty text, which the sink doesn't read.
 ghost use Rattle.cadence_aggregating.specs.Keys.{line_of_counter, line_of_gauge};
 ghost use Rattle.cadence_aggregating.specs.Results.{IsCallOf, IsResultOf};
 ghost use Rattle.cadence_aggregating.specs.Shown.{ShowsAdded};
