@@ -9,6 +9,5 @@ pub mod Slot
 pub mod Run
 pub mod Handle
 pub mod Sums
-pub mod SumsSlot
 pub mod SumsHandle
 pub mod SumsKeys

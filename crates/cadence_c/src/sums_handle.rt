@@ -2,8 +2,8 @@
 //! only this module follows its pointer.
 ghost use Rattle.std.specs.Prelude.{◌≡◌, Option, Some, None, IsSome, is_some};
 ghost use Rattle.cadence_c.specs.declared.sums_handle.Sums.{Sums};
-ghost use Rattle.cadence_c.specs.Slot.{box_value};
-ghost use Rattle.cadence_c.specs.SumsSlot.{sums_coded, sums_pointer_owns};
+ghost use Rattle.cadence_c.specs.Slot.{box_value, option_coded, pointer_owns};
+ghost use Rattle.cadence_c.specs.contracts.sums_handle.Sums.{the_row};
 ghost use Rattle.std.specs.Option.{option_map};
 
 use crate::box_parts::BoxParts;
@@ -26,11 +26,11 @@ pub struct Sums {
 pub struct SumsPointer {
     at: *mut u8,
     alloc: Global,
-    pub ghost sums: { Option Sums } by { sums_coded },
+    pub ghost sums: { Option Sums } by { option_coded the_row },
 }
 
 impl Model for SumsPointer {
-    ghost also_owns = { λ s. sums_pointer_owns s.alloc s.at s.sums };
+    ghost also_owns = { λ s. pointer_owns the_row s.alloc s.at s.sums };
 }
 
 unsafe impl Send for SumsPointer {}
