@@ -1,7 +1,7 @@
 /* fuzz SEQUENCES [SEED]: makes random calls with a heap that fails at random. It compares what is sent with the frames of
  * the lines whose calls returned CADENCE_OK. If a call returns another status, the counts must be as they were before
- * it. Strict settings must refuse just the texts with a separator. It prints the first fault, and its exit status is
- * then 1. */
+ * it. Strict settings must refuse just the texts with a separator. Before these calls it makes keys and adds numbers by
+ * them, and the heap refuses each request in turn. It prints the first fault, and its exit status is then 1. */
 #include "cadence.h"
 #include <stdio.h>
 #include <stdlib.h>
@@ -312,8 +312,69 @@ static void run(host *h) {
     if (blocks != 0) fail("blocks are left", (uint32_t)blocks);
 }
 
+/* Lets the heap refuse the request of this number in the next call. */
+static void refuse(long at) {
+    requests = 0, refuse_at = at;
+}
+
+/* Returns whether a call ran out of memory. Any other status than CADENCE_OK is a fault. */
+static bool ran_out(uint32_t status) {
+    refuse_at = 0;
+    if (status != CADENCE_OK && status != CADENCE_NO_MEMORY) fail("a call by a key", status);
+    return status != CADENCE_OK;
+}
+
+/* Makes this key, which gets this number. The heap refuses the first request, then the second one, and so on, until the
+ * key is made. A refused call must keep no memory and write no number. */
+static void makes_key(cadence_sums *sums, const char *line, size_t number) {
+    const long kept = blocks;
+    long request = 0;
+    size_t key = SIZE_MAX;
+    do {
+        if (blocks != kept || key != SIZE_MAX) fail("a refused key stays", CADENCE_NO_MEMORY);
+        refuse(++request);
+    } while (ran_out(cadence_make_key(sums, (const uint8_t *)line, strlen(line), &key)));
+    if (request == 1) fail("a key takes no memory", CADENCE_OK);
+    if (key != number) fail("a key has another number", CADENCE_OK);
+}
+
+/* Adds 2 by the key with this number. The heap refuses the first request, then the second one, and so on, until the
+ * number is added. Returns how many calls were refused. */
+static long adds_number(cadence_sums *sums, cadence_handle *handle, size_t key) {
+    long request = 0;
+    do refuse(++request);
+    while (ran_out(cadence_add_number(sums, handle, key, 2)));
+    return request - 1;
+}
+
+/* Makes keys, adds 2 twice by each, and compares what the client gets. So a refused call has added nothing and has lost
+ * nothing. The lines of the last key are longer than 16 bytes, so they are not held. */
+static void adds_by_keys(void) {
+    static const char *const made[] = { "a:1|c", "b:1|c", "c:1|c", "d:1|c", "e:1|g", "f:1|g", "longer_than_that:1|c" };
+    static const char wanted[] = "longer_than_that:2|c\nlonger_than_that:2|c\na:4|c\nb:4|c\nc:4|c\nd:4|c\ne:2|g\nf:2|g\n";
+    enum { KEYS = sizeof made / sizeof made[0] };
+    cadence_handle handle = CADENCE_CLOSED;
+    cadence_sums sums = CADENCE_CLOSED;
+    uint8_t packet[sizeof wanted];
+    size_t length = 0;
+    long refusals = 0, request = 0;
+    if (ran_out(cadence_open(&handle, sizeof wanted, 2, CADENCE_REFUSE))) fail("no client", CADENCE_NO_MEMORY);
+    if (ran_out(cadence_open_sums(&sums, KEYS, 16, false))) fail("no sums", CADENCE_NO_MEMORY);
+    for (size_t i = 0; i < KEYS; i++) makes_key(&sums, made[i], i);
+    for (size_t i = 0; i < 2 * KEYS; i++) refusals += adds_number(&sums, &handle, i % KEYS);
+    if (refusals < KEYS) fail("numbers take no memory", CADENCE_OK);
+    do refuse(++request);
+    while (ran_out(cadence_flush_sums(&sums, &handle)));
+    if (ran_out(cadence_flush(&handle)) || ran_out(cadence_next(&handle, packet, sizeof packet, &length))) fail("no packet", CADENCE_NO_MEMORY);
+    if (length != strlen(wanted) || memcmp(packet, wanted, length) != 0) fail("other numbers were added", CADENCE_OK);
+    cadence_free_sums(&sums);
+    cadence_free(&handle);
+    if (blocks != 0) fail("blocks are left", (uint32_t)blocks);
+}
+
 int main(int count, char **words) {
     static host h;
+    adds_by_keys();
     long sequences = count > 1 ? atol(words[1]) : 1000;
     seed = count > 2 ? strtoull(words[2], NULL, 10) : 1;
     for (long i = 0; i < sequences; i++) {
