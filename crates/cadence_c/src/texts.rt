@@ -1,10 +1,10 @@
 //! The calls of C that make the texts of settings and test texts. They need no client, and threads may make them at the
 //! same time.
-ghost use Rattle.std.specs.Prelude.{◌≡◌, [], ◌∷◌, All, IfOk, IsFalse, IsTrue, length, map, take};
+ghost use Rattle.std.specs.Prelude.{◌≡◌, [], ◌∷◌, All, IfOk, IsFalse, IsTrue, map};
 ghost use Rattle.std.specs.Str.{IsUtf8};
 ghost use Rattle.cadence_text.specs.FreeTexts.{is_free_text};
 ghost use Rattle.cadence_text.specs.Line.{tags_field};
-ghost use Rattle.cadence_settings.specs.Settings.{client_prefix, without_dots};
+ghost use Rattle.cadence_settings.specs.Settings.{client_prefix};
 ghost use Rattle.cadence_c.specs.Calls.{IsUtf8Tag, c_tag};
 ghost use Rattle.cadence_c.specs.Results.{WritesText};
 ghost use Rattle.cadence_c.specs.Status.{CADENCE_NOT_UTF8, CADENCE_OK, CADENCE_SEPARATOR, IsOkOr};
@@ -12,8 +12,8 @@ ghost use Rattle.cadence_c.specs.Texts.{allows_prefix, allows_tags};
 
 use crate::call::{CTag, are_free_tags, are_tags, known_tag, text_of};
 use crate::status::{OK, StatusError, copy_out};
-use cadence_settings::text_is_free;
-use cadence_text::line::{TagsText, is_free};
+use cadence_settings::{formatted_prefix, text_is_free};
+use cadence_text::line::TagsText;
 use std::alloc::{AllocError, Global};
 
 /// Tests a text: whether it is UTF-8, and then whether it has no separator.
@@ -33,31 +33,6 @@ pub extern "C" fn cadence_test_text(_alloc: Global, text: &[u8]) -> u32
     OK
 }
 
-// Returns the text without its trailing dots.
-fn without_trailing_dots(prefix: &str) -> &str
-    ensures { result.now ≡ without_dots prefix.now }
-{
-    let mut kept = prefix;
-    while let Some(shorter) = kept.strip_suffix('.') {
-        kept = shorter;
-    }
-    kept
-}
-
-// Returns a prefix as each line begins with it. The error is that memory ran out.
-fn prefix_text(alloc: Global, prefix: &str) -> Result<Vec<u8>, AllocError>
-    ensures { IfOk result (λ text. text.items ≡ client_prefix prefix.now) }
-{
-    if prefix.is_empty() {
-        return Ok(Vec::new(alloc));
-    }
-    let kept = without_trailing_dots(prefix).as_bytes();
-    let mut text = Vec::with_capacity(alloc, kept.len().saturating_add(1))?;
-    text.extend_from_slice(kept)?;
-    text.push(b'.')?;
-    Ok(text)
-}
-
 /// Writes a prefix as each line begins with it into the first bytes of `out`, and its length into `size`.
 #[unsafe(no_mangle)]
 pub extern "C" fn cadence_prefix_text(
@@ -75,13 +50,13 @@ pub extern "C" fn cadence_prefix_text(
     let Some(prefix) = text_of(prefix) else {
         return StatusError::NotUtf8.code();
     };
-    let Ok(text) = prefix_text(alloc, prefix) else {
+    let Ok(text) = formatted_prefix(alloc, prefix) else {
         return StatusError::NoMemory.code();
     };
-    if strict && !is_free(&text) {
+    if strict && !text_is_free(text.as_str()) {
         return StatusError::Separator.code();
     }
-    copy_out(&text, out, size)
+    copy_out(text.as_str().as_bytes(), out, size)
 }
 
 // Returns the text of tags. The error is that memory ran out.

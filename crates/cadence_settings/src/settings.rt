@@ -39,8 +39,9 @@ fn without_trailing_dots(prefix: &str) -> &str
     kept
 }
 
-// Returns the prefix as each line begins with it. The only error is that memory ran out.
-fn formatted_prefix<A: Allocator>(alloc: A, prefix: &str) -> Result<String<A>, AllocError>
+/// Returns the prefix as each line begins with it: an empty one stays empty, and any other one loses its trailing dots
+/// and gets one dot. The only error is that memory ran out.
+pub fn formatted_prefix<A: Allocator>(alloc: A, prefix: &str) -> Result<String<A>, AllocError>
     ensures { IfOk result (λ s. string_bytes s ≡ client_prefix prefix.now) }
 {
     if prefix.is_empty() {
