@@ -5,5 +5,5 @@ mod display;
 mod numbers;
 mod writer;
 
-pub use numbers::{number_len, push_digits, push_number, push_value, push_wide_digits, wide_len};
-pub use writer::{DigitWriter, PieceWriter};
+pub use numbers::{number_len, push_number, push_value, wide_len};
+pub use writer::{ByteWriter, PieceWriter};

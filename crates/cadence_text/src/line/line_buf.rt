@@ -6,9 +6,7 @@
 ghost use Rattle.std.specs.Prelude.{◌≡◌, ◌≤◌, ◌+◌, ◌++◌, ◌%◌, ◌^◌, [], IfOk, IsUtf8, OnOk, drop, length, string_bytes, take};
 ghost use Rattle.std.specs.Vec.{vec_capacity};
 
-use cadence_value::text::{
-    DigitWriter, PieceWriter, number_len, push_digits, push_wide_digits, wide_len,
-};
+use cadence_value::text::{ByteWriter, PieceWriter, number_len, wide_len};
 use std::alloc::{AllocError, Allocator};
 
 /// A `PieceWriter` that only counts the bytes, modulo 2 to the 128.
@@ -37,17 +35,19 @@ impl LengthCounter {
     }
 }
 
-impl PieceWriter for LengthCounter {
+impl ByteWriter for LengthCounter {
     ghost use Rattle.cadence_text.specs.PieceWriters.{counter_ends};
 
     ghost ends_as = { counter_ends };
 
-    fn take_piece(&mut self, piece: &str) {
-        self.add(piece.len());
-    }
-
     fn take_byte(&mut self, _byte: u8) {
         self.add(1);
+    }
+}
+
+impl PieceWriter for LengthCounter {
+    fn take_piece(&mut self, piece: &str) {
+        self.add(piece.len());
     }
 
     fn take_number(&mut self, number: u64) {
@@ -183,12 +183,12 @@ impl<A: Allocator> LineBuf<A> {
     }
 }
 
-impl<A: Allocator> DigitWriter for LineBuf<A> {
+impl<A: Allocator> ByteWriter for LineBuf<A> {
     ghost use Rattle.cadence_text.specs.PieceWriters.{line_buf_ends};
 
     ghost ends_as = { line_buf_ends };
 
-    fn put_byte(&mut self, byte: u8) {
+    fn take_byte(&mut self, byte: u8) {
         if self.bytes.len() >= self.bytes.capacity() {
             return self.give_up();
         }
@@ -197,10 +197,6 @@ impl<A: Allocator> DigitWriter for LineBuf<A> {
 }
 
 impl<A: Allocator> PieceWriter for LineBuf<A> {
-    ghost use Rattle.cadence_text.specs.PieceWriters.{line_buf_ends};
-
-    ghost ends_as = { line_buf_ends };
-
     fn take_piece(&mut self, piece: &str) {
         // A piece that passes the capacity passes the end too. Because of this test the compiler leaves out the growth.
         if piece.len() > self.bytes.capacity() - self.bytes.len() {
@@ -209,17 +205,5 @@ impl<A: Allocator> PieceWriter for LineBuf<A> {
         let Ok(()) = self.bytes.extend_from_slice(piece.as_bytes()) else {
             unreachable!()
         };
-    }
-
-    fn take_byte(&mut self, byte: u8) {
-        self.put_byte(byte);
-    }
-
-    fn take_number(&mut self, number: u64) {
-        push_digits(self, number);
-    }
-
-    fn take_wide(&mut self, number: u128) {
-        push_wide_digits(self, number);
     }
 }

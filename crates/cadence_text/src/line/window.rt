@@ -1,7 +1,7 @@
 //! A window on a part of a line. The line is written to it without being stored as a whole, so it takes no memory.
 ghost use Rattle.std.specs.Prelude.{◌≡◌, ◌≤◌, []};
 
-use cadence_value::text::{DigitWriter, PieceWriter, push_digits, push_wide_digits};
+use cadence_value::text::{ByteWriter, PieceWriter};
 
 /// The most bytes that a window stores.
 pub(crate) const WINDOW: usize = 512;
@@ -67,34 +67,18 @@ impl Window {
     }
 }
 
-impl DigitWriter for Window {
+impl ByteWriter for Window {
     ghost use Rattle.cadence_text.specs.PieceWriters.{window_ends};
 
     ghost ends_as = { window_ends };
 
-    fn put_byte(&mut self, byte: u8) {
+    fn take_byte(&mut self, byte: u8) {
         self.pass(&[byte]);
     }
 }
 
 impl PieceWriter for Window {
-    ghost use Rattle.cadence_text.specs.PieceWriters.{window_ends};
-
-    ghost ends_as = { window_ends };
-
     fn take_piece(&mut self, piece: &str) {
         self.pass(piece.as_bytes());
-    }
-
-    fn take_byte(&mut self, byte: u8) {
-        self.put_byte(byte);
-    }
-
-    fn take_number(&mut self, number: u64) {
-        push_digits(self, number);
-    }
-
-    fn take_wide(&mut self, number: u128) {
-        push_wide_digits(self, number);
     }
 }

@@ -7,8 +7,8 @@ ghost use Rattle.cadence_value.specs.Number.{number_text, numbers_text};
 ghost use Rattle.cadence_value.specs.NumberBuf.{number_buf_ends};
 ghost use Rattle.cadence_value.specs.Values.{numbers_of};
 
-use super::numbers::{PushNumber, push_digits, push_wide_digits};
-use super::writer::{DigitWriter, PieceWriter};
+use super::numbers::PushNumber;
+use super::writer::{ByteWriter, PieceWriter};
 use crate::decimal::Decimal;
 use crate::value::MetricValue;
 use std::alloc::Allocator;
@@ -38,10 +38,10 @@ impl NumberBuf {
     }
 }
 
-impl DigitWriter for NumberBuf {
+impl ByteWriter for NumberBuf {
     ghost ends_as = { number_buf_ends };
 
-    fn put_byte(&mut self, byte: u8) {
+    fn take_byte(&mut self, byte: u8) {
         if self.len < MAX_NUMBER {
             self.bytes[self.len] = byte;
             self.len += 1;
@@ -52,8 +52,6 @@ impl DigitWriter for NumberBuf {
 }
 
 impl PieceWriter for NumberBuf {
-    ghost ends_as = { number_buf_ends };
-
     fn take_piece(&mut self, piece: &str) {
         if self.len > MAX_NUMBER || piece.len() > MAX_NUMBER - self.len {
             self.is_over = true;
@@ -62,18 +60,6 @@ impl PieceWriter for NumberBuf {
         let end = self.len + piece.len();
         self.bytes[self.len..end].copy_from_slice(piece.as_bytes());
         self.len = end;
-    }
-
-    fn take_byte(&mut self, byte: u8) {
-        self.put_byte(byte);
-    }
-
-    fn take_number(&mut self, number: u64) {
-        push_digits(self, number);
-    }
-
-    fn take_wide(&mut self, number: u128) {
-        push_wide_digits(self, number);
     }
 }
 

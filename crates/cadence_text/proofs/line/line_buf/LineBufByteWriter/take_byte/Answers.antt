@@ -1,6 +1,6 @@
 use Rattle.std.proofs.Common.{◌∷◌, [], rules}
 use Rattle.cadence_text.proofs.writing.WriterEnds.{utf8_byte, utf8_more}
-use Rattle.cadence_text.proofs.line.line_buf.LineBufDigitWriter.put_byte.Goals as goal
+use Rattle.cadence_text.proofs.line.line_buf.LineBufByteWriter.take_byte.Goals as goal
 
 pub invariant_of-self : goal.invariant_of-self
 invariant_of-self g c =
