@@ -1,5 +1,5 @@
 -- What contracts show of a queuing sink, of its builder, of a repeater and of a flushing sink, whose fields are private.
-use Rattle.std.specs.Prelude.{◌≡◌, ◌≢◌, ℕ, List, Option, None, Result, Err}
+use Rattle.std.specs.Prelude.{◌≡◌, ◌≢◌, ℕ, List, Option, None, Result, Err, String}
 use Rattle.std.specs.Arc.{arc_value}
 use Rattle.std.specs.Option.{option_map}
 use Rattle.std.specs.declared.time.Duration.{Duration}
@@ -15,6 +15,7 @@ use Rattle.cadence_flow.specs.Handler.{closure_of}
 use Rattle.cadence_queuing.specs.declared.flushing.FlushingMetricSink.{FlushingMetricSink}
 use Rattle.cadence_queuing.specs.declared.repeater.Repeater.{Repeater}
 use Rattle.cadence_queuing.specs.declared.queuing.sink.QueuingMetricSink.{QueuingMetricSink}
+use Rattle.cadence_queuing.specs.declared.queuing.handed.Handed.{Handed}
 use Rattle.cadence_queuing.specs.declared.queuing.builder.QueuingMetricSinkBuilder.{QueuingMetricSinkBuilder}
 
 -- A queuing or a flushing sink is not made because memory ran out, or because the thread could not be started.
@@ -52,6 +53,10 @@ queue_policy q = rule_of (arc_value q.shared).queue
 -- after which time the worker of a queuing sink flushes the wrapped sink, or none if it never does
 abbrev pub flush_period : {S R A : Type 0} → QueuingMetricSink S R A → Option Duration
 flush_period q = (arc_value q.shared).period
+
+-- the line that was handed to a sink
+abbrev pub handed_line : {S A : Type 0} {s : _} → Handed S A s → String A
+handed_line h = h.line.value
 
 module _ {A Y : Type 0} {G : Y → Type 0} {g : _} where
   -- the capacity in lines that a builder has, or none

@@ -1,7 +1,7 @@
 //! A sink that queues its lines for a worker thread, which hands them to another sink.
 
 mod builder;
-mod passing;
+mod handed;
 mod sink;
 mod worker;
 

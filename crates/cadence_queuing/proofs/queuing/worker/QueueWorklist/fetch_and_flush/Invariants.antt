@@ -1,6 +1,6 @@
 use Rattle.std.proofs.Common.{◌≡◌}
 use Rattle.cadence_queue.specs.Taker.{given_by, has_ended}
-use Rattle.cadence_queuing.proofs.queuing.passing.QueueWorklist.fetch_and_flush.Given as goal
+use Rattle.cadence_queuing.proofs.queuing.worker.QueueWorklist.fetch_and_flush.Given as goal
 
 abbrev pub invariant-loop : goal.invariant-loop
 invariant-loop g l =
