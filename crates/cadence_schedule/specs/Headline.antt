@@ -81,6 +81,10 @@ module _ {W A : Type 0} (history : W → PacketHistory) (given : Given A) (outco
   abbrev pub kept_of : List (List ℕ)
   kept_of = kept (line_by given) turns_of
 
+  -- the marks: how many lines were kept before each flush that returned Ok
+  abbrev pub marks_of : List ℕ
+  marks_of = marks (line_by given) turns_of
+
   -- Each reply has its stated cause, and the queue, its counts and the hand are left as the steps and replies say.
   pub record HasReplies : Type 0 where
     pub one_each : length outcome.replies ≡ length given.steps
@@ -107,7 +111,7 @@ module _ {W A : Type 0} (history : W → PacketHistory) (given : Given A) (outco
     -- Over such a writer: packets and held text are those of the report's cut of the kept lines, whole frames in each,
     -- none beyond the capacity but an oversize line alone, and a packet ends at each flush that returned Ok.
     pub cut : ReportsWhole given.kind
-        → ArePacketsOf given.format (marks (line_by given) turns_of) (refusals (line_by given) turns_of) kept_of outcome.cut packets_of outcome.held
+        → ArePacketsOf given.format marks_of (refusals (line_by given) turns_of) kept_of outcome.cut packets_of outcome.held
     -- Over every writer: each reply is one that the steps and replies before it allow, what waits are the accepted
     -- lines after the first ones, which were taken or dropped, the queue's counts are the numbers accepted, taken and
     -- dropped, it has the capacity and the policy that were given, and the line in hand is the one that was taken and not
@@ -121,15 +125,15 @@ module _ {W A : Type 0} (history : W → PacketHistory) (given : Given A) (outco
     -- had one line more, except one that a flush came after, and no cut of the kept lines that ends at every flush has
     -- fewer packets, the held text counted as one if it is not empty.
     pub fewest : ReportsWhole given.kind → (history outcome.writer).refusals ≡ given.before.refusals
-        → NoGroupHasRoom given.format.capacity (marks (line_by given) turns_of) (groups_of outcome.cut (map (size_of given.format) kept_of))
-        × IsFewest given.format.capacity (marks (line_by given) turns_of) (map (size_of given.format) kept_of) outcome.cut
+        → NoGroupHasRoom given.format.capacity marks_of (groups_of outcome.cut (map (size_of given.format) kept_of))
+        × IsFewest given.format.capacity marks_of (map (size_of given.format) kept_of) outcome.cut
 
   -- What is promised beside the headline, of refusals, short counts, sums, earlier packets, and what a listener reads.
   pub record IsAccounted : Type 0 where
     -- Over a writer that reports its packets and takes each whole or refuses it, refusals included: no group could have
     -- had one line more, except one that a flush or a refused line came after.
     pub late : ReportsWhole given.kind
-        → NoGroupHasRoom given.format.capacity (marks (line_by given) turns_of ++ refusals (line_by given) turns_of)
+        → NoGroupHasRoom given.format.capacity (marks_of ++ refusals (line_by given) turns_of)
         (groups_of outcome.cut (map (size_of given.format) kept_of))
     -- Over a writer that reports its packets, short counts included: the packets of the run, joined, and then the held
     -- text are the frames of the kept lines, in order; of an oversize line whose hand returned Ok(n), its first n
