@@ -57,12 +57,13 @@ pub struct Passed<S: MetricSink, A: Allocator> {
     pub handed: GhostList<Handed<S, A>>,
 }
 
-/// Receives the errors of the wrapped sink.
+// Receives the errors of the wrapped sink. It is a trait, because a type that holds a `Handed`, whose fact names the
+// bound of its sink, can't hold a handler, which has a `dyn`.
 trait Report {
     fn report(&self, fault: SinkError);
 }
 
-/// Gives an error to the handler, if there is one.
+// Gives an error to the handler, if there is one.
 impl<A: Allocator> Report for Option<Handler<A>> {
     fn report(&self, fault: SinkError) {
         if let Some(handler) = self {

@@ -6,6 +6,7 @@ ghost use Rattle.cadence_value.specs.InMemory.{IsTextInMemory};
 ghost use Rattle.cadence_value.specs.Takes.{Takes};
 
 /// Takes ASCII bytes, one after the other. Digits are written to it.
+// It is a trait of its own, because a default body of `PieceWriter` can't call a function that asks for `PieceWriter`.
 pub trait ByteWriter {
     // The text that the writer ends with if this text still comes.
     ghost ends_as: { Self → List ℕ → List ℕ };
