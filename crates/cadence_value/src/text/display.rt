@@ -7,8 +7,7 @@ ghost use Rattle.cadence_value.specs.Number.{number_text, numbers_text};
 ghost use Rattle.cadence_value.specs.NumberBuf.{number_buf_ends};
 ghost use Rattle.cadence_value.specs.Values.{numbers_of};
 
-use super::numbers::PushNumber;
-use super::writer::{ByteWriter, PieceWriter};
+use super::numbers::{ByteWriter, PieceWriter, PushNumber};
 use crate::decimal::Decimal;
 use crate::value::MetricValue;
 use std::alloc::Allocator;

@@ -1,6 +1,6 @@
 use Rattle.std.proofs.Common.{◌^◌, ◌≤◌, ◌∙◌, append_assoc, arith, rules}
 use Rattle.cadence_value.proofs.digits.Digits.{text_pair}
-use Rattle.cadence_value.proofs.text.writer.+push_wide_digits.Goals as goal
+use Rattle.cadence_value.proofs.text.numbers.+push_wide_digits.Goals as goal
 
 pub returns : goal.returns
 returns g t c = λ rest.

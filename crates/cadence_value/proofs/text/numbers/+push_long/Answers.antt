@@ -1,6 +1,6 @@
 use Rattle.std.proofs.Common.{◌∙◌, append_assoc, arith}
 use Rattle.cadence_value.proofs.digits.Digits.{text_four}
-use Rattle.cadence_value.proofs.text.writer.+push_long.Goals as goal
+use Rattle.cadence_value.proofs.text.numbers.+push_long.Goals as goal
 
 pub returns : goal.returns
 returns g t c = λ rest.

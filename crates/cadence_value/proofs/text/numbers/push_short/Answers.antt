@@ -1,6 +1,6 @@
 use Rattle.std.proofs.Common.{◌∙◌, append_assoc, arith}
 use Rattle.cadence_value.proofs.digits.Digits.{text_pair}
-use Rattle.cadence_value.proofs.text.writer.push_short.Goals as goal
+use Rattle.cadence_value.proofs.text.numbers.push_short.Goals as goal
 
 pub returns : goal.returns
 returns g c = λ rest.
