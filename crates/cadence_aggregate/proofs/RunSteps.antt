@@ -1,7 +1,7 @@
 -- What the lines of a run say, one step further.
 use Rattle.std.proofs.Common.{◌≡◌, ℕ, List, [], ◌∷◌, ◌++◌, length, refl, sym, ap, ◌∙◌, arith, append_assoc, append-nil}
 use Rattle.std.specs.Prelude.{Result, Ok, Err, OnOk, OnErr}
-use Rattle.cadence_aggregate.specs.Aggregate.{accepted, said_by}
+use Rattle.cadence_aggregate.specs.Aggregate.{accepted_samples, said_by}
 use Rattle.cadence_aggregate.specs.Lines.{samples_of}
 use Rattle.cadence_aggregate.specs.Refusals.{after_reply, after_replies}
 use Rattle.cadence_aggregate.specs.Server.{Sample, IsSummary}
@@ -16,30 +16,30 @@ use Rattle.cadence_aggregate.proofs.Within.{stay_further, stay_more, stay_same}
 abbrev Reply : Type 0
 Reply = Result (Unit {0}) Fault
 
-pub accepted_snoc : (xs : List Step) (rs : List Reply) (x : Step) (r : Reply) → length rs ≡ length xs → accepted (xs ++ x ∷ []) (rs ++ r ∷ []) ≡ accepted xs rs ++ said_by x r
+pub accepted_snoc : (xs : List Step) (rs : List Reply) (x : Step) (r : Reply) → length rs ≡ length xs → accepted_samples (xs ++ x ∷ []) (rs ++ r ∷ []) ≡ accepted_samples xs rs ++ said_by x r
 accepted_snoc [] [] x r h = append-nil (said_by x r)
 accepted_snoc [] (q ∷ rs) x r h = absurd (omega arith)
 accepted_snoc (y ∷ xs) [] x r h = absurd (omega arith)
 accepted_snoc (y ∷ xs) (q ∷ rs) x r h =
-    ap (λ t. said_by y q ++ t) (accepted_snoc xs rs x r (omega arith)) ∙ sym (append_assoc (said_by y q) (accepted xs rs) (said_by x r))
+    ap (λ t. said_by y q ++ t) (accepted_snoc xs rs x r (omega arith)) ∙ sym (append_assoc (said_by y q) (accepted_samples xs rs) (said_by x r))
 
 -- one step further
 pub step_said : (before past now : List Sample) (xs : List Step) (rs : List Reply) (x : Step) (r : Reply) → length rs ≡ length xs
-    → IsSummary (before ++ accepted xs rs) past → IsSummary (past ++ said_by x r) now → IsSummary (before ++ accepted (xs ++ x ∷ []) (rs ++ r ∷ [])) now
+    → IsSummary (before ++ accepted_samples xs rs) past → IsSummary (past ++ said_by x r) now → IsSummary (before ++ accepted_samples (xs ++ x ∷ []) (rs ++ r ∷ [])) now
 step_said before past now xs rs x r h a b =
-    same_trans _ _ _ (same_of (before ++ accepted (xs ++ x ∷ []) (rs ++ r ∷ [])) ((before ++ accepted xs rs) ++ said_by x r)
-    (ap (λ t. before ++ t) (accepted_snoc xs rs x r h) ∙ sym (append_assoc before (accepted xs rs) (said_by x r))))
-    (same_trans _ _ _ (same_more (before ++ accepted xs rs) past (said_by x r) a) b)
+    same_trans _ _ _ (same_of (before ++ accepted_samples (xs ++ x ∷ []) (rs ++ r ∷ [])) ((before ++ accepted_samples xs rs) ++ said_by x r)
+    (ap (λ t. before ++ t) (accepted_snoc xs rs x r h) ∙ sym (append_assoc before (accepted_samples xs rs) (said_by x r))))
+    (same_trans _ _ _ (same_more (before ++ accepted_samples xs rs) past (said_by x r) a) b)
 
 -- one step further, the lines of values stay within the limit
 pub step_within : (limit : ℕ) (before past now : List Sample) (xs : List Step) (rs : List Reply) (x : Step) (r : Reply) → length rs ≡ length xs
-    → StayWithin limit (before ++ accepted xs rs) past → StayWithin limit (past ++ said_by x r) now → StayWithin limit (before ++ accepted (xs ++ x ∷ []) (rs ++ r ∷ [])) now
+    → StayWithin limit (before ++ accepted_samples xs rs) past → StayWithin limit (past ++ said_by x r) now → StayWithin limit (before ++ accepted_samples (xs ++ x ∷ []) (rs ++ r ∷ [])) now
 step_within limit before past now xs rs x r h a b =
-    let whole = before ++ accepted (xs ++ x ∷ []) (rs ++ r ∷ []) in
-    let parts = (before ++ accepted xs rs) ++ said_by x r in
-    let same : parts ≡ whole = sym (ap (λ t. before ++ t) (accepted_snoc xs rs x r h) ∙ sym (append_assoc before (accepted xs rs) (said_by x r))) in
+    let whole = before ++ accepted_samples (xs ++ x ∷ []) (rs ++ r ∷ []) in
+    let parts = (before ++ accepted_samples xs rs) ++ said_by x r in
+    let same : parts ≡ whole = sym (ap (λ t. before ++ t) (accepted_snoc xs rs x r h) ∙ sym (append_assoc before (accepted_samples xs rs) (said_by x r))) in
     stay_further limit whole parts now (stay_same limit whole parts same)
-    (stay_further limit parts (past ++ said_by x r) now (stay_more limit (before ++ accepted xs rs) past (said_by x r) a) b)
+    (stay_further limit parts (past ++ said_by x r) now (stay_more limit (before ++ accepted_samples xs rs) past (said_by x r) a) b)
 
 -- the refusals after one more reply
 pub refused_more : (first : ℕ) (rs : List Reply) (r : Reply) → after_replies first (rs ++ r ∷ []) ≡ after_reply (after_replies first rs) r

@@ -3,7 +3,7 @@ use Rattle.std.specs.Prelude.{◌≡◌, ◌+◌, List, [], ◌∷◌, ◌++◌,
 use Rattle.std.specs.Map.{lookup}
 use Rattle.cadence_aggregate.specs.Held.{held_sums, held_levels, held_members, held_timings}
 use Rattle.cadence_aggregate.specs.Lines.{samples_of}
-use Rattle.cadence_aggregate.specs.Quiet.{AreDistinct, HasRoom, CanRaise, CanAppend, is_context}
+use Rattle.cadence_aggregate.specs.Quiet.{AreDistinct, HasRoomForContext, CanRaise, CanAppend, is_context}
 use Rattle.cadence_aggregate.specs.Server.{Sample, is_plain}
 use Rattle.cadence_aggregate.specs.declared.aggregator.Aggregator.{Aggregator}
 use Rattle.cadence_aggregate.specs.declared.line.Line.{Line}
@@ -27,11 +27,11 @@ pub record HasDistinct (a : Aggregator) : Type 0 where
 
 -- The aggregator can hold what the line says, without sending a line.
 abbrev pub CanHold : Aggregator → Line → Type 0
-CanHold a (Amount c by) = HasRoom a.sums × CanRaise (lookup (is_context c.now) a.sums.entries) by
-CanHold a (Level c value) = HasRoom a.levels × (is_plain value.now ≡ true)
-CanHold a (Member c) = HasRoom a.members
+CanHold a (Amount c by) = HasRoomForContext a.sums × CanRaise (lookup (is_context c.now) a.sums.entries) by
+CanHold a (Level c value) = HasRoomForContext a.levels × (is_plain value.now ≡ true)
+CanHold a (Member c) = HasRoomForContext a.members
 CanHold a (Timing c values) =
-    HasRoom a.timings
+    HasRoomForContext a.timings
     × CanAppend (lookup (is_context c.now) a.timings.entries) (length c.now + length values.now) a.most_bytes
 CanHold a (Other line) = ⊥
 
@@ -42,7 +42,7 @@ said_by (Add line) (Err fault) = []
 said_by Flush reply = []
 
 -- what the accepted lines of a run say, in order, given the replies of its steps
-abbrev pub accepted : List Step → List (Result (Unit {0}) Fault) → List Sample
-accepted [] replies = []
-accepted (step ∷ steps) [] = []
-accepted (step ∷ steps) (reply ∷ replies) = said_by step reply ++ accepted steps replies
+abbrev pub accepted_samples : List Step → List (Result (Unit {0}) Fault) → List Sample
+accepted_samples [] replies = []
+accepted_samples (step ∷ steps) [] = []
+accepted_samples (step ∷ steps) (reply ∷ replies) = said_by step reply ++ accepted_samples steps replies

@@ -25,8 +25,8 @@ module _ {Z : Type 0} where
   is_context context k = pointwise nat_eq context (string_bytes k)
 
   -- There is room for a new context.
-  abbrev pub HasRoom : {V : Type 0} → LruCache (String Z) V → Type 0
-  HasRoom table = length table.entries < table.cap
+  abbrev pub HasRoomForContext : {V : Type 0} → LruCache (String Z) V → Type 0
+  HasRoomForContext table = length table.entries < table.cap
 
 -- The entries are of different contexts.
 abbrev pub AreDistinct : {Z V : Type 0} → List (String Z × V) → Type 0

@@ -2,7 +2,7 @@
 ghost use Rattle.std.specs.Prelude.{◌≡◌, ◌++◌, ◌∷◌, ◌+◌, ◌-◌, [], true, OnOk, OnErr, length, take};
 ghost use Rattle.lru.specs.LruCache.{lru_cache};
 ghost use Rattle.cadence_aggregate.specs.Held.{held_levels};
-ghost use Rattle.cadence_aggregate.specs.Quiet.{AreDistinct, HasRoom};
+ghost use Rattle.cadence_aggregate.specs.Quiet.{AreDistinct, HasRoomForContext};
 ghost use Rattle.cadence_aggregate.specs.Refusals.{after_reply};
 ghost use Rattle.cadence_aggregate.specs.Server.{IsSummary, is_plain, level};
 ghost use Rattle.cadence_aggregate.specs.Within.{AreWithin};
@@ -82,7 +82,7 @@ fn hold_level<S: LineSink>(
     ensures leads { S.leads sink.old sink.new }
     ensures within { (most : _) →
         AreWithin most (S.sent sink.old) → AreWithin most (S.sent sink.new) }
-    ensures quiet { HasRoom levels.old → S.sent sink.new ≡ S.sent sink.old }
+    ensures quiet { HasRoomForContext levels.old → S.sent sink.new ≡ S.sent sink.old }
 {
     let fresh = String::from_str(alloc, value)?;
     if let Some(held) = levels.get_mut(context) {
@@ -137,7 +137,7 @@ pub(crate) fn set_level<S: LineSink>(
     ensures leads { S.leads sink.old sink.new }
     ensures within { (most : _) →
         AreWithin most (S.sent sink.old) → AreWithin most (S.sent sink.new) }
-    ensures quiet { HasRoom levels.old → is_plain value.now ≡ true →
+    ensures quiet { HasRoomForContext levels.old → is_plain value.now ≡ true →
         S.sent sink.new ≡ S.sent sink.old }
 {
     if begins_with_digit(value) {

@@ -2,7 +2,7 @@
 ghost use Rattle.std.specs.Prelude.{◌≡◌, ◌++◌, ◌∷◌, ◌+◌, ◌-◌, [], OnOk, OnErr, length, take};
 ghost use Rattle.lru.specs.LruCache.{lru_cache};
 ghost use Rattle.cadence_aggregate.specs.Held.{held_members};
-ghost use Rattle.cadence_aggregate.specs.Quiet.{AreDistinct, HasRoom};
+ghost use Rattle.cadence_aggregate.specs.Quiet.{AreDistinct, HasRoomForContext};
 ghost use Rattle.cadence_aggregate.specs.Refusals.{after_reply};
 ghost use Rattle.cadence_aggregate.specs.Server.{IsSummary, member};
 ghost use Rattle.cadence_aggregate.specs.Within.{AreWithin};
@@ -67,7 +67,7 @@ pub(crate) fn add_member<S: LineSink>(
     ensures leads { S.leads sink.old sink.new }
     ensures within { (most : _) →
         AreWithin most (S.sent sink.old) → AreWithin most (S.sent sink.new) }
-    ensures quiet { HasRoom members.old → S.sent sink.new ≡ S.sent sink.old }
+    ensures quiet { HasRoomForContext members.old → S.sent sink.new ≡ S.sent sink.old }
 {
     if members.contains(context) {
         return Ok(());

@@ -1,6 +1,6 @@
 //! A run of lines and flushes.
 ghost use Rattle.std.specs.Prelude.{◌≡◌, ◌+◌, ◌++◌, ◌<◌, length, vec_len, IfOk};
-ghost use Rattle.cadence_aggregate.specs.Aggregate.{held, accepted, said_by};
+ghost use Rattle.cadence_aggregate.specs.Aggregate.{held, accepted_samples, said_by};
 ghost use Rattle.cadence_aggregate.specs.Refusals.{after_replies, after_reply};
 ghost use Rattle.cadence_aggregate.specs.Server.{IsSummary};
 ghost use Rattle.cadence_aggregate.specs.Within.{StayWithin};
@@ -62,13 +62,13 @@ pub fn run<S: LineSink>(
 ) -> Result<Outcome, AllocError>
     ensures replies { IfOk result (λ o. length o.replies.items ≡ length steps.now) }
     ensures headline { IfOk result (λ o. IsSummary
-        (S.sent sink.old ++ accepted steps.now o.replies.items)
+        (S.sent sink.old ++ accepted_samples steps.now o.replies.items)
         (S.sent sink.new ++ held o.aggregator)) }
     ensures refused { IfOk result (λ o. S.refusals sink.new
         ≡ after_replies (S.refusals sink.old) o.replies.items) }
     ensures leads { S.leads sink.old sink.new }
     ensures within { IfOk result (λ o. StayWithin most_bytes
-        (S.sent sink.old ++ accepted steps.now o.replies.items)
+        (S.sent sink.old ++ accepted_samples steps.now o.replies.items)
         (S.sent sink.new ++ held o.aggregator)) }
 {
     let mut aggregator = Aggregator::new(alloc, most, most_bytes)?;

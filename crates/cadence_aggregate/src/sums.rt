@@ -2,7 +2,7 @@
 ghost use Rattle.std.specs.Prelude.{◌≡◌, ◌++◌, ◌∷◌, ◌+◌, ◌-◌, [], OnOk, OnErr, length, take};
 ghost use Rattle.lru.specs.LruCache.{lru_cache};
 ghost use Rattle.cadence_aggregate.specs.Held.{held_sums};
-ghost use Rattle.cadence_aggregate.specs.Quiet.{AreDistinct, HasRoom, CanRaise, is_context};
+ghost use Rattle.cadence_aggregate.specs.Quiet.{AreDistinct, HasRoomForContext, CanRaise, is_context};
 ghost use Rattle.std.specs.Map.{lookup};
 ghost use Rattle.cadence_aggregate.specs.Refusals.{after_reply};
 ghost use Rattle.cadence_aggregate.specs.Server.{IsSummary, amount};
@@ -69,7 +69,7 @@ pub(crate) fn add_amount<S: LineSink>(
     ensures leads { S.leads sink.old sink.new }
     ensures within { (most : _) →
         AreWithin most (S.sent sink.old) → AreWithin most (S.sent sink.new) }
-    ensures quiet { HasRoom sums.old →
+    ensures quiet { HasRoomForContext sums.old →
         CanRaise (lookup (is_context context.now) sums.old.entries) by →
         S.sent sink.new ≡ S.sent sink.old }
 {

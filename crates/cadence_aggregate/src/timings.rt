@@ -2,7 +2,7 @@
 ghost use Rattle.std.specs.Prelude.{◌≡◌, ◌++◌, ◌∷◌, ◌+◌, ◌-◌, ◌<◌, ◌≤◌, [], OnOk, OnErr, false, length, string_bytes, take, true};
 ghost use Rattle.lru.specs.LruCache.{lru_cache};
 ghost use Rattle.cadence_aggregate.specs.Held.{held_timings};
-ghost use Rattle.cadence_aggregate.specs.Quiet.{AreDistinct, HasRoom, CanAppend, is_context};
+ghost use Rattle.cadence_aggregate.specs.Quiet.{AreDistinct, HasRoomForContext, CanAppend, is_context};
 ghost use Rattle.std.specs.Map.{lookup};
 ghost use Rattle.cadence_aggregate.specs.Refusals.{after_reply};
 ghost use Rattle.cadence_aggregate.specs.Server.{IsSummary, timing};
@@ -103,7 +103,7 @@ pub(crate) fn add_timing<S: LineSink>(
     ensures within { StayWithin most ((S.sent sink.old ++ held_timings timings.old.entries)
         ++ if_ok result (timing context.now values.now ∷ []))
         (S.sent sink.new ++ held_timings timings.new.entries) }
-    ensures quiet { HasRoom timings.old →
+    ensures quiet { HasRoomForContext timings.old →
         CanAppend (lookup (is_context context.now) timings.old.entries)
         (length context.now + length values.now) most →
         S.sent sink.new ≡ S.sent sink.old }

@@ -12,7 +12,7 @@ use Rattle.cadence_schedule.proofs.history.OneTurnMore.{replies-push}
 use Rattle.cadence_schedule.proofs.history.QueueAndHand.{QueueAfter, SameQueue, at_start, full_hand, queue_call, queue_drop, queue_hand, queue_none, queue_stop, queue_take, quiet, slice_get-is}
 use Rattle.cadence_schedule.specs.Moves.{RunState}
 use Rattle.cadence_schedule.specs.Replies.{MayReply, MayReplyAfter}
-use Rattle.cadence_schedule.specs.RunHistory.{Turn, accepted, accepted_by, drops_text, is_stopped, kept, kept_counts, left_count, outcome_by, stops, takes_text}
+use Rattle.cadence_schedule.specs.RunHistory.{Turn, accepted, accepted_by_turn, drops_text, is_stopped, kept, kept_counts, left_count, outcome_by, stops, takes_text}
 use Rattle.cadence_schedule.specs.declared.steps.Step.TheVariants as step
 use Rattle.cadence_schedule.specs.declared.steps.Reply.TheVariants as reply
 use Rattle.cadence_settings.specs.declared.call.Call.{Call}
@@ -48,7 +48,7 @@ module _ {A : Type 0} (line_of : Call A → Option (List ℕ)) (format : Format)
   -- a turn that changes nothing
   only_answers : (h : List (Turn A)) (t : Turn A) (s s' : RunState) (lines : List (List ℕ)) → s' ≡ s → Queued h s lines
       → MayReply line_of any_writer.may_give any_writer.takes_whole format queue policy h t
-      → accepted_by line_of t ≡ [] → takes_text t ≡ false → drops_text t ≡ false → outcome_by t ≡ [] → stops t ≡ false
+      → accepted_by_turn line_of t ≡ [] → takes_text t ≡ false → drops_text t ≡ false → outcome_by t ≡ [] → stops t ≡ false
       → accepted_in_turn t s.in_hand ≡ [] → Queued (h ++ t ∷ []) s' (lines ++ accepted_in_turn t s.in_hand)
   only_answers h t s s' lines same a reply x k d b z none =
       leaves h t s s' lines a reply

@@ -7,7 +7,7 @@ use Rattle.cadence_aggregate.specs.Server.{Sample}
 use Rattle.cadence_aggregating.specs.Past.{Summarizes}
 use Rattle.cadence_flow.specs.Frame.{size_of, stream, taken_stream}
 use Rattle.cadence_flow.specs.Writer.{PacketHistory, Extends}
-use Rattle.cadence_schedule.specs.Headline.{Given, ReportsWhole, HasReplies, AreSumsBetween, packets_of, turns_of, kept_of}
+use Rattle.cadence_schedule.specs.Headline.{Given, ReportsWhole, HasReplies, AreSumsBetween, packets_of_run, turns_of, kept_of}
 use Rattle.cadence_schedule.specs.Packets.{ArePacketsOf}
 use Rattle.cadence_schedule.specs.Plan.{groups_of, IsTight, IsFewest, NoGroupHasRoom}
 use Rattle.cadence_schedule.specs.Replies.{MayFail}
@@ -46,10 +46,10 @@ lines_in all = texts_in (counts_of_kept all)
 module _ {W A : Type 0} (history : W → PacketHistory) (given : Given A) (outcome : Outcome W A) where
   -- What the headline says of the kept lines is so of the lines that the aggregator handed on and the packer kept.
   pub record ArePacked (all : List Sending) : Type 0 where
-    pub stream : ReportsWhole given.kind → concat (packets_of history given outcome) ++ outcome.held ≡ stream given.format (lines_in all)
+    pub stream : ReportsWhole given.kind → concat (packets_of_run history given outcome) ++ outcome.held ≡ stream given.format (lines_in all)
     pub cut : ReportsWhole given.kind
         → ArePacketsOf given.format (marks_from 0 all) (refusals_from 0 all) (lines_in all) outcome.cut
-        (packets_of history given outcome) outcome.held
+        (packets_of_run history given outcome) outcome.held
     pub late : ReportsWhole given.kind
         → NoGroupHasRoom given.format.capacity (marks_from 0 all ++ refusals_from 0 all)
         (groups_of outcome.cut (map (size_of given.format) (lines_in all)))
@@ -66,7 +66,7 @@ module _ {W A : Type 0} (history : W → PacketHistory) (given : Given A) (outco
         → (history outcome.writer).refusals % 2 ^ 64 ≡ (given.before.refusals + length (errors_of all)) % 2 ^ 64
     -- of an oversize line, its first bytes that were counted, also over a writer with short counts
     pub taken : given.kind.reports ≡ true
-        → concat (packets_of history given outcome) ++ outcome.held ≡ taken_stream given.format (counts_of_kept all)
+        → concat (packets_of_run history given outcome) ++ outcome.held ≡ taken_stream given.format (counts_of_kept all)
     pub earlier : given.kind.reports ≡ true → Extends given.before (history outcome.writer)
     pub stats : given.kind.reports ≡ true → AreSumsBetween given.before (history outcome.writer) outcome.stats
     pub within : length outcome.held ≤ given.format.capacity

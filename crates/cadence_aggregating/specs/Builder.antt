@@ -12,5 +12,5 @@ abbrev pub packs_of : AggregatingMetricSinkBuilder → Bool
 packs_of b = b.limits.packs_values
 
 -- after which time the sink is flushed by its thread, or none if it has no thread
-abbrev pub flush_period_of : AggregatingMetricSinkBuilder → Option Duration
-flush_period_of b = b.period
+abbrev pub flush_period_of_sums : AggregatingMetricSinkBuilder → Option Duration
+flush_period_of_sums b = b.period

@@ -38,13 +38,13 @@ pub struct AggregatingMetricSinkBuilder {
 
 impl AggregatingMetricSinkBuilder {
     ghost use Rattle.std.specs.Prelude.{◌≡◌, false, true, None, Some};
-    ghost use Rattle.cadence_aggregating.specs.Builder.{max_line_of, packs_of, flush_period_of};
+    ghost use Rattle.cadence_aggregating.specs.Builder.{max_line_of, packs_of, flush_period_of_sums};
 
     /// Returns a builder without any setting.
     pub fn new() -> Self
         ensures line { max_line_of result ≡ 512 }
         ensures packed { packs_of result ≡ false }
-        ensures period { flush_period_of result ≡ None }
+        ensures period { flush_period_of_sums result ≡ None }
     {
         AggregatingMetricSinkBuilder {
             limits: Limits {
@@ -61,7 +61,7 @@ impl AggregatingMetricSinkBuilder {
     pub fn with_max_contexts(mut self, contexts: usize) -> Self
         ensures line { max_line_of result ≡ max_line_of self }
         ensures packed { packs_of result ≡ packs_of self }
-        ensures period { flush_period_of result ≡ flush_period_of self }
+        ensures period { flush_period_of_sums result ≡ flush_period_of_sums self }
     {
         self.limits.most_contexts = NonZeroUsize::new(contexts).unwrap_or(NonZeroUsize::MIN);
         self
@@ -72,7 +72,7 @@ impl AggregatingMetricSinkBuilder {
     pub fn with_max_line(mut self, bytes: usize) -> Self
         ensures line { max_line_of result ≡ bytes }
         ensures packed { packs_of result ≡ packs_of self }
-        ensures period { flush_period_of result ≡ flush_period_of self }
+        ensures period { flush_period_of_sums result ≡ flush_period_of_sums self }
     {
         self.limits.most_bytes = bytes;
         self
@@ -83,7 +83,7 @@ impl AggregatingMetricSinkBuilder {
     pub fn with_packed_values(mut self) -> Self
         ensures line { max_line_of result ≡ max_line_of self }
         ensures packed { packs_of result ≡ true }
-        ensures period { flush_period_of result ≡ flush_period_of self }
+        ensures period { flush_period_of_sums result ≡ flush_period_of_sums self }
     {
         self.limits.packs_values = true;
         self
@@ -95,7 +95,7 @@ impl AggregatingMetricSinkBuilder {
     pub fn with_flush_period(mut self, period: Duration) -> Self
         ensures line { max_line_of result ≡ max_line_of self }
         ensures packed { packs_of result ≡ packs_of self }
-        ensures period { flush_period_of result ≡ Some period }
+        ensures period { flush_period_of_sums result ≡ Some period }
     {
         self.period = Some(period);
         self

@@ -25,11 +25,11 @@ use Rattle.cadence_audit.specs.declared.event.AuditReply.{AuditReply}
 use Rattle.cadence_audit.specs.declared.event.AuditReply.TheVariants as reply
 use Rattle.cadence_audit.specs.declared.event.SubmitReply.{SubmitReply}
 use Rattle.cadence_audit.specs.declared.event.SubmitReply.TheVariants as submit
-use Rattle.cadence_audit.specs.AuditHistory.{IsLegal, MayFollow, accepted_texts, taken_texts, taken_count, was_stopped, waiting_texts, event_count}
-use Rattle.cadence_audit.specs.AuditHistory.{accepted_text, given_text, is_stop, take_reply, submit_reply}
+use Rattle.cadence_audit.specs.AuditHistory.{IsLegal, MayFollow, accepted_texts, taken_texts, texts_taken_count, was_stopped, waiting_texts, event_count}
+use Rattle.cadence_audit.specs.AuditHistory.{accepted_text, returned_text, is_stop, take_reply, submit_reply}
 use Rattle.cadence_audit.specs.AuditSeats.{SeatState, AreReceiptsOf, next_event}
 use Rattle.cadence_audit.specs.AuditedCore.{AuditedCoreState, RecordsCall, DoesNothing, IsKnown, HasLegalHistory}
-use Rattle.cadence_audit.specs.AuditedCore.{IsSubmitReply, IsRefusalReply, exits}
+use Rattle.cadence_audit.specs.AuditedCore.{IsSubmitReply, IsRefusalReply, exits_of_events}
 use Rattle.cadence_audit.specs.declared.errors.AuditError.{AuditError}
 use Rattle.cadence_audit.specs.declared.errors.AuditError.TheVariants.{OutOfMemory}
 
@@ -113,7 +113,7 @@ module _ {Z : Type 0} where
       rw push (rw is (rw get_or-set_other (omega (arith, k j inside))))
 
   -- As many texts left the queue as were taken.
-  as_many : (es : List (Event Z)) → length (exits es) ≡ taken_count es
+  as_many : (es : List (Event Z)) → length (exits_of_events es) ≡ texts_taken_count es
   as_many es = length-map (taken_texts es) (λ _. by_take)
 
   -- The texts that wait in the queue are those that wait by the events.
@@ -124,9 +124,9 @@ module _ {Z : Type 0} where
   -- A call leaves a legal history whose calls lead to the queue, if the queue has the past that the call's event gives.
   pub kept_push : (capacity : Option ℕ) (es : List (Event Z)) (core after : Queue (List ℕ)) (counts : List ℕ) (e : Event Z) (n t : ℕ)
       → HasLegalHistory capacity es core counts → MayFollow capacity es e → n ≡ e.count + 1
-      → t ≡ taken_count es + length (given_text e.reply)
-      → accepted_texts es ++ accepted_text e ≡ (taken_texts es ++ given_text e.reply) ++ drop t (accepted_texts es ++ accepted_text e)
-      → IsQueueOf (accepted_texts es ++ accepted_text e) (map (λ _. by_take) (taken_texts es ++ given_text e.reply)) after
+      → t ≡ texts_taken_count es + length (returned_text e.reply)
+      → accepted_texts es ++ accepted_text e ≡ (taken_texts es ++ returned_text e.reply) ++ drop t (accepted_texts es ++ accepted_text e)
+      → IsQueueOf (accepted_texts es ++ accepted_text e) (map (λ _. by_take) (taken_texts es ++ returned_text e.reply)) after
       → after.capacity ≡ core.capacity
       → after.policy ≡ core.policy
       → after.stopped ≡ (core.stopped || is_stop e.call)
@@ -134,9 +134,9 @@ module _ {Z : Type 0} where
   kept_push capacity es core after counts e n t k m more now order past bound same stop =
       let a : accepted_texts (es ++ e ∷ []) ≡ accepted_texts es ++ accepted_text e = flat_map-append accepted_text es (e ∷ [])
       ∙ ap (λ l. accepted_texts es ++ l) (append-nil (accepted_text e)) in
-      let g : taken_texts (es ++ e ∷ []) ≡ taken_texts es ++ given_text e.reply = flat_map-append (λ (f : Event Z). given_text f.reply) es (e ∷ [])
-      ∙ ap (λ l. taken_texts es ++ l) (append-nil (given_text e.reply)) in
-      let c : length (taken_texts es ++ given_text e.reply) ≡ t = length-append (taken_texts es) (given_text e.reply) ∙ sym now in
+      let g : taken_texts (es ++ e ∷ []) ≡ taken_texts es ++ returned_text e.reply = flat_map-append (λ (f : Event Z). returned_text f.reply) es (e ∷ [])
+      ∙ ap (λ l. taken_texts es ++ l) (append-nil (returned_text e.reply)) in
+      let c : length (taken_texts es ++ returned_text e.reply) ≡ t = length-append (taken_texts es) (returned_text e.reply) ∙ sym now in
       let s : was_stopped (es ++ e ∷ []) ≡ (was_stopped es || is_stop e.call) = list_any-append (λ (f : Event Z). is_stop f.call) es (e ∷ [])
       ∙ ap (λ b. was_stopped es || b) (or-false (is_stop e.call)) in
       record {
@@ -152,10 +152,10 @@ module _ {Z : Type 0} where
   -- A call that didn't change the queue leaves a legal history whose calls lead to the queue.
   pub kept_same : (capacity : Option ℕ) (es : List (Event Z)) (core : Queue (List ℕ)) (counts : List ℕ) (e : Event Z) (n : ℕ)
       → HasLegalHistory capacity es core counts → MayFollow capacity es e → n ≡ e.count + 1
-      → accepted_text e ≡ [] → given_text e.reply ≡ [] → is_stop e.call ≡ false
+      → accepted_text e ≡ [] → returned_text e.reply ≡ [] → is_stop e.call ≡ false
       → HasLegalHistory capacity (es ++ e ∷ []) core (set counts e.seat n)
   kept_same capacity es core counts e n k may more none gave stop =
-      kept_push capacity es core core counts e n (taken_count es) k may more
+      kept_push capacity es core core counts e n (texts_taken_count es) k may more
       (rw gave (omega arith))
       (rw (none, gave, append-nil, append-nil) k.order)
       (rw (none, gave, append-nil, append-nil) k.past)
@@ -179,7 +179,7 @@ module _ {Z : Type 0} where
         drained = k.past.drained;
         dropped = k.past.dropped;
       }) in
-      rw h (kept_push capacity es core (after_stop core) counts (stop_event seat n) (n + 1) (taken_count es) k (refl, is) refl (omega arith)
+      rw h (kept_push capacity es core (after_stop core) counts (stop_event seat n) (n + 1) (texts_taken_count es) k (refl, is) refl (omega arith)
       (rw (append-nil, append-nil) k.order) past refl refl (sym (or-true core.stopped)))
 
   -- A take leaves a legal history whose calls lead to the queue.
@@ -190,10 +190,10 @@ module _ {Z : Type 0} where
       → HasLegalHistory capacity es core counts → MayFollow capacity es (take_event seat n t) → IsTaken core t after → IsNext core t after
       → HasLegalHistory capacity (es ++ take_event seat n t ∷ []) after (set counts seat (n + 1))
   kept_taken capacity es core after counts seat n (taken.Text x) k may h next =
-      kept_push capacity es core after counts (take_event seat n (taken.Text x)) (n + 1) (taken_count es + 1) k may refl refl
-      (rw append-nil (order_taken (accepted_texts es) (taken_texts es) (taken_count es) x k.order
-      (ap (slice_get (accepted_texts es)) (sym (as_many es)) ∙ (next (accepted_texts es) (exits es) k.past).0)))
-      (rw (append-nil, map-append) (next (accepted_texts es) (exits es) k.past).1)
+      kept_push capacity es core after counts (take_event seat n (taken.Text x)) (n + 1) (texts_taken_count es + 1) k may refl refl
+      (rw append-nil (order_taken (accepted_texts es) (taken_texts es) (texts_taken_count es) x k.order
+      (ap (slice_get (accepted_texts es)) (sym (as_many es)) ∙ (next (accepted_texts es) (exits_of_events es) k.past).0)))
+      (rw (append-nil, map-append) (next (accepted_texts es) (exits_of_events es) k.past).1)
       (ap (λ q. q.capacity) h.1)
       (ap (λ q. q.policy) h.1)
       (ap (λ q. q.stopped) h.1 ∙ sym (or-false core.stopped))
@@ -262,10 +262,10 @@ module _ {Z : Type 0} where
       let here : r ≡ submit.Accepted = cc in
       let may : MayFollow capacity es (submit_event seat n x submit.Accepted) = (rw (← k.stop, ok.0, full) refl, is) in
       let after_past : IsQueueOf (accepted_texts es ++ x ∷ []) (map (λ _. by_take) (taken_texts es ++ [])) after =
-      rw append-nil (past (accepted_texts es) (exits es) k.past) in
+      rw append-nil (past (accepted_texts es) (exits_of_events es) k.past) in
       rw here
-      (kept_push capacity es core after counts (submit_event seat n x submit.Accepted) (n + 1) (taken_count es) k may refl (omega arith)
-      (order_accepted (accepted_texts es) (taken_texts es) (taken_count es) x (omega (arith, k.past.front, as_many es)) k.order)
+      (kept_push capacity es core after counts (submit_event seat n x submit.Accepted) (n + 1) (texts_taken_count es) k may refl (omega arith)
+      (order_accepted (accepted_texts es) (taken_texts es) (texts_taken_count es) x (omega (arith, k.past.front, as_many es)) k.order)
       after_past
       (ap (λ q. q.capacity) ok.2)
       (ap (λ q. q.policy) ok.2)

@@ -34,9 +34,9 @@ module _ {Z : Type 0} where
   accepted_text e = text_put_by e.call e.reply
 
   -- the text that a reply gave to the caller, as a list of one text, or of none
-  abbrev pub given_text : AuditReply Z → List (List ℕ)
-  given_text (reply.Take (taken.Text text)) = text ∷ []
-  given_text _ = []
+  abbrev pub returned_text : AuditReply Z → List (List ℕ)
+  returned_text (reply.Take (taken.Text text)) = text ∷ []
+  returned_text _ = []
 
   -- whether a call is a stop
   abbrev pub is_stop : AuditCall Z → Bool
@@ -49,11 +49,11 @@ module _ {Z : Type 0} where
 
   -- the texts that were taken, in order
   abbrev pub taken_texts : List (Event Z) → List (List ℕ)
-  taken_texts events = flat_map (λ e. given_text e.reply) events
+  taken_texts events = flat_map (λ e. returned_text e.reply) events
 
   -- how many texts were taken
-  abbrev pub taken_count : List (Event Z) → ℕ
-  taken_count events = length (taken_texts events)
+  abbrev pub texts_taken_count : List (Event Z) → ℕ
+  texts_taken_count events = length (taken_texts events)
 
   -- whether there was a stop
   abbrev pub was_stopped : List (Event Z) → Bool
@@ -61,7 +61,7 @@ module _ {Z : Type 0} where
 
   -- the texts that wait: the accepted ones without the first of them, which were taken
   abbrev pub waiting_texts : List (Event Z) → List (List ℕ)
-  waiting_texts events = drop (taken_count events) (accepted_texts events)
+  waiting_texts events = drop (texts_taken_count events) (accepted_texts events)
 
   -- The accepted texts are those that were taken, followed by those that wait. So no text is lost or taken twice, and
   -- none is taken before an older one.

@@ -27,15 +27,15 @@ pub record AuditedCoreState (Z : Type 0) : Type 0 where
   pub seats : ℕ
 
 -- how each text left the queue: it was taken, because an audited queue drops none
-abbrev pub exits : {Z : Type 0} → List (Event Z) → List Exit
-exits events = map (λ _. by_take) (taken_texts events)
+abbrev pub exits_of_events : {Z : Type 0} → List (Event Z) → List Exit
+exits_of_events events = map (λ _. by_take) (taken_texts events)
 
 -- The history is legal, and its calls bring a new queue, with this capacity and the policy to refuse, to the state of
 -- this queue. The counts are the numbers of the seats' events.
 pub record HasLegalHistory {Z : Type 0} (capacity : Option ℕ) (events : List (Event Z)) (core : Queue (List ℕ)) (counts : List ℕ) : Type 0 where
   pub legal : IsLegal capacity events
   pub order : AreInOrder events
-  pub past : IsQueueOf (accepted_texts events) (exits events) core
+  pub past : IsQueueOf (accepted_texts events) (exits_of_events events) core
   pub bound : core.capacity ≡ capacity
   pub refuses : core.policy ≡ Refuse
   pub stop : core.stopped ≡ was_stopped events

@@ -13,8 +13,8 @@ abbrev pub contents : SumsHandle → Option Sums
 contents h = h.pointer.sums
 
 -- the sums of a handle, or none if it is closed
-abbrev pub sums_of : SumsHandle → Option SummedLines
-sums_of h = option_map (λ s. s.lines) (contents h)
+abbrev pub open_sums_of : SumsHandle → Option SummedLines
+open_sums_of h = option_map (λ s. s.lines) (contents h)
 
 -- the keys of a handle, or none if it is closed
 abbrev pub keys_of : SumsHandle → Option (List LineKey)
@@ -23,4 +23,4 @@ keys_of h = option_map (λ s. s.keys.items) (contents h)
 -- Sums and a client are there before and after a call, and the relation leads from the old ones to the new ones.
 abbrev pub OnBothOpen : (SummedLines → SummedLines → ClientState → ClientState → Type 0) → SumsHandle → SumsHandle → Handle → Handle → Type 0
 OnBothOpen R old new from to =
-    IsSomeAnd (sums_of old) (λ a. IsSomeAnd (sums_of new) (λ b. OnOpen (R a b) from to))
+    IsSomeAnd (open_sums_of old) (λ a. IsSomeAnd (open_sums_of new) (λ b. OnOpen (R a b) from to))

@@ -15,12 +15,12 @@ line_of_key (pos n) (Sets key) = Some (line_of_gauge key n)
 line_of_key (negsuc n) (Sets key) = None
 
 -- the line that the key with this number makes, or none if there is no such key
-abbrev pub line_by : List LineKey → ℕ → ℤ → Option (List ℕ)
-line_by keys place n = option_and_then (line_of_key n) (slice_get keys place)
+abbrev pub line_by_key : List LineKey → ℕ → ℤ → Option (List ℕ)
+line_by_key keys place n = option_and_then (line_of_key n) (slice_get keys place)
 
 -- the same for the keys of a handle
 abbrev pub line_by_handle : SumsHandle → ℕ → ℤ → Option (List ℕ)
-line_by_handle h place n = option_and_then (λ keys. line_by keys place n) (keys_of h)
+line_by_handle h place n = option_and_then (λ keys. line_by_key keys place n) (keys_of h)
 
 -- There is one key more: that of the line, and its number is how many keys there were.
 abbrev pub GetsKey : List ℕ → ℕ → List LineKey → List LineKey → Type 0

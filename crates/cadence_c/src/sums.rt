@@ -8,7 +8,7 @@ ghost use Rattle.cadence_aggregating.specs.Summed.{accepted_in, gone_in, held_in
 ghost use Rattle.cadence_c.specs.Handle.{IsOpenAnd, OnOpen, client_of};
 ghost use Rattle.cadence_c.specs.Status.{status, CADENCE_FULL, CADENCE_NOT_UTF8, CADENCE_NO_CLIENT, CADENCE_NO_MEMORY, CADENCE_OK, IsOkOr};
 ghost use Rattle.cadence_c.specs.Sums.{AddsUp, GivesAll, GivesLines, IsNewSums, HasSummary, LacksRoomForFirst};
-ghost use Rattle.cadence_c.specs.SumsHandle.{OnBothOpen, keys_of, sums_of};
+ghost use Rattle.cadence_c.specs.SumsHandle.{OnBothOpen, keys_of, open_sums_of};
 ghost use Rattle.cadence_c.specs.SumsKeys.{line_of_addend};
 
 use crate::call::text_of;
@@ -31,9 +31,9 @@ pub extern "C" fn cadence_open_sums(
     longest: usize,
     packed: bool,
 ) -> u32
-    ensures made { result ≡ CADENCE_OK → IsSomeAnd (sums_of sums.new) IsNewSums }
+    ensures made { result ≡ CADENCE_OK → IsSomeAnd (open_sums_of sums.new) IsNewSums }
     ensures keys { result ≡ CADENCE_OK → keys_of sums.new ≡ Some [] }
-    ensures refused { result ≢ CADENCE_OK → sums_of sums.new ≡ sums_of sums.old }
+    ensures refused { result ≢ CADENCE_OK → open_sums_of sums.new ≡ open_sums_of sums.old }
     ensures statuses { IsOkOr (CADENCE_NO_MEMORY ∷ []) result }
 {
     let limits = Limits {
@@ -55,7 +55,7 @@ pub extern "C" fn cadence_open_sums(
 /// Drops the sums of a handle, with all that they hold. The handle has no sums then.
 #[unsafe(no_mangle)]
 pub extern "C" fn cadence_free_sums(alloc: Global, sums: &mut SumsHandle)
-    ensures { sums_of sums.new ≡ None }
+    ensures { open_sums_of sums.new ≡ None }
 {
     *sums = SumsHandle::empty(alloc);
 }
@@ -190,16 +190,16 @@ pub extern "C" fn cadence_add_line(
     ensures refused { (result ≡ CADENCE_FULL) ⊎ (result ≡ CADENCE_NO_MEMORY) →
         OnBothOpen (AddsUp []) sums.old sums.new handle.old handle.new }
     ensures full { result ≡ CADENCE_FULL →
-        IsSomeAnd (sums_of sums.new) (λ b. IsOpenAnd handle.new (LacksRoomForFirst b)) }
+        IsSomeAnd (open_sums_of sums.new) (λ b. IsOpenAnd handle.new (LacksRoomForFirst b)) }
     ensures sums { (result ≡ CADENCE_NO_CLIENT) ⊎ (result ≡ CADENCE_NOT_UTF8) →
-        sums_of sums.new ≡ sums_of sums.old }
+        open_sums_of sums.new ≡ open_sums_of sums.old }
     ensures client { (result ≡ CADENCE_NO_CLIENT) ⊎ (result ≡ CADENCE_NOT_UTF8) →
         client_of handle.new ≡ client_of handle.old }
     ensures closed { result ≡ CADENCE_NO_CLIENT →
-        (client_of handle.old ≡ None) ⊎ (sums_of sums.old ≡ None) }
+        (client_of handle.old ≡ None) ⊎ (open_sums_of sums.old ≡ None) }
     ensures text { result ≡ CADENCE_NOT_UTF8 → IsUtf8 line.now → ⊥ }
     ensures keys { keys_of sums.new ≡ keys_of sums.old }
-    ensures summary { IfSome (sums_of sums.new) HasSummary }
+    ensures summary { IfSome (open_sums_of sums.new) HasSummary }
     ensures statuses { IsOkOr (CADENCE_NO_CLIENT ∷ CADENCE_NO_MEMORY ∷ CADENCE_FULL
         ∷ CADENCE_NOT_UTF8 ∷ []) result }
 {
@@ -227,13 +227,13 @@ pub extern "C" fn cadence_flush_sums(
     ensures refused { (result ≡ CADENCE_FULL) ⊎ (result ≡ CADENCE_NO_MEMORY) →
         OnBothOpen (AddsUp []) sums.old sums.new handle.old handle.new }
     ensures full { result ≡ CADENCE_FULL →
-        IsSomeAnd (sums_of sums.new) (λ b. IsOpenAnd handle.new (LacksRoomForFirst b)) }
-    ensures sums { result ≡ CADENCE_NO_CLIENT → sums_of sums.new ≡ sums_of sums.old }
+        IsSomeAnd (open_sums_of sums.new) (λ b. IsOpenAnd handle.new (LacksRoomForFirst b)) }
+    ensures sums { result ≡ CADENCE_NO_CLIENT → open_sums_of sums.new ≡ open_sums_of sums.old }
     ensures client { result ≡ CADENCE_NO_CLIENT → client_of handle.new ≡ client_of handle.old }
     ensures closed { result ≡ CADENCE_NO_CLIENT →
-        (client_of handle.old ≡ None) ⊎ (sums_of sums.old ≡ None) }
+        (client_of handle.old ≡ None) ⊎ (open_sums_of sums.old ≡ None) }
     ensures keys { keys_of sums.new ≡ keys_of sums.old }
-    ensures summary { IfSome (sums_of sums.new) HasSummary }
+    ensures summary { IfSome (open_sums_of sums.new) HasSummary }
     ensures statuses { IsOkOr (CADENCE_NO_CLIENT ∷ CADENCE_NO_MEMORY ∷ CADENCE_FULL ∷ []) result }
 {
     let Some(mut held) = sums.take(alloc) else {

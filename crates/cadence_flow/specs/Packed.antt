@@ -48,7 +48,7 @@ module _ {P : Type 0} where
 module _ {W A : Type 0} (kind : W → WriterKind) (history : W → PacketHistory) where
   module _ (old new : RecordedPacker W A) where
     -- The packer took this line, and returned this number.
-    pub record Takes (line : List ℕ) (n : ℕ) : Type 0 where
+    pub record TakesLine (line : List ℕ) (n : ℕ) : Type 0 where
       pub accepted : accepted_of new ≡ accepted_of old ++ (line, n) ∷ []
       pub writes : WritesLine (recorded_kind kind) (recorded_history history) (packer_of old) (packer_of new) line (Ok n)
 
@@ -65,7 +65,7 @@ module _ {W A : Type 0} (kind : W → WriterKind) (history : W → PacketHistory
     -- The answer for a line has these two states of the packer, and the step between them took or refused this line.
     pub record AnswersLine (line : List ℕ) (result : Result (Packed (RecordedPacker W A)) (Refused (RecordedPacker W A))) (e : SinkError) : Type 0 where
       pub told : IfOk result (λ p. (before_of p ≡ old) × (after_of p ≡ new) × (returned_of p ≡ bytes_of p))
-      pub takes : IfOk result (λ p. Takes line (bytes_of p))
+      pub takes : IfOk result (λ p. TakesLine line (bytes_of p))
       pub refusal : IfErr result (λ r. (refused_before r ≡ old) × (refused_after r ≡ new) × (why_of r ≡ e))
       pub refuses : IfErr result (λ r. Refuses line e)
 
@@ -77,7 +77,7 @@ module _ {W A : Type 0} (kind : W → WriterKind) (history : W → PacketHistory
 
   -- An answer for a line shows two states of a packer, of which the second comes after this line was taken or refused.
   abbrev pub ShowsLine : List ℕ → Result (Packed (RecordedPacker W A)) (Refused (RecordedPacker W A)) → SinkError → Type 0
-  ShowsLine line (Ok p) _ = Takes (before_of p) (after_of p) line (returned_of p)
+  ShowsLine line (Ok p) _ = TakesLine (before_of p) (after_of p) line (returned_of p)
   ShowsLine line (Err r) e = Refuses (refused_before r) (refused_after r) line e × (why_of r ≡ e)
 
   -- An answer for a flush shows two states of a packer, of which the second comes after the flush.

@@ -59,9 +59,9 @@ whole_text s = concat s.history.packets ++ s.held
 
 -- what a write with this result adds to that text: the line's frame, as far as it was accepted, or nothing after an
 -- error
-abbrev pub given_by : Format → List ℕ → Result ℕ SinkError → List ℕ
-given_by format line (Ok n) = frame_of format line n
-given_by format line (Err e) = []
+abbrev pub added_by : Format → List ℕ → Result ℕ SinkError → List ℕ
+added_by format line (Ok n) = frame_of format line n
+added_by format line (Err e) = []
 
 -- the part of the held text that the writer took, if this rest of it is left
 abbrev pub taken_of_held : List ℕ → List ℕ → List ℕ
@@ -165,7 +165,7 @@ pub record Writes (kind : WriterKind) (format : Format) (old new : PackerState) 
   -- after `Ok` nothing was refused
   pub none_refused : OnOk result (RefusedNothing old.history new.history)
   -- the text grows by the line's frame, as far as it was accepted, or by nothing after an error
-  pub text : Reports kind → whole_text new ≡ whole_text old ++ given_by format line result
+  pub text : Reports kind → whole_text new ≡ whole_text old ++ added_by format line result
   pub extends : Reports kind → Extends old.history new.history
 
 -- Making a packer returns one that holds nothing, or gives the writer back.

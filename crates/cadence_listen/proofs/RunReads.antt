@@ -11,7 +11,7 @@ use Rattle.cadence_text.specs.Representable.{IsRepresentable}
 use Rattle.cadence_flow.specs.Frame.{held_packet}
 use Rattle.cadence_flow.specs.Log.{LogState, log_history, log_kind, new_log, has_no_short}
 use Rattle.cadence_schedule.specs.declared.steps.Step.{Step}
-use Rattle.cadence_schedule.specs.Headline.{ReportsWhole, packets_of}
+use Rattle.cadence_schedule.specs.Headline.{ReportsWhole, packets_of_run}
 use Rattle.cadence_schedule.specs.Packets.{IsPacketOfOnly, ReadsAs}
 use Rattle.cadence_schedule.specs.Report.{Outcome}
 use Rattle.cadence_settings.specs.Settings.{Settings}
@@ -74,8 +74,8 @@ pub kept_listed : {A : Type 0} (settings : Settings) (capacity : ℕ) (queue : O
 kept_listed settings capacity queue steps log outcome (script, new, whole) run free =
     let given = given_to settings capacity queue steps log in
     let kind : ReportsWhole (log_kind log) = (refl, ap (λ l. has_no_short l.script) new ∙ whole) in
-    let packets : packets_of log_history given outcome ≡ outcome.writer.packets =
-    ap (λ (l : LogState). packets_of log_history (given_to settings capacity queue steps l) outcome) new in
+    let packets : packets_of_run log_history given outcome ≡ outcome.writer.packets =
+    ap (λ (l : LogState). packets_of_run log_history (given_to settings capacity queue steps l) outcome) new in
     let reads = run.beside.one_reading kind refl free in
     subst (λ ps. AreListed (ps ++ outcome.held ∷ []) (kept_metrics given outcome)) packets
-    (reads_listed (kept_metrics given outcome) (packets_of log_history given outcome) outcome.held run.beside.representable reads)
+    (reads_listed (kept_metrics given outcome) (packets_of_run log_history given outcome) outcome.held run.beside.representable reads)

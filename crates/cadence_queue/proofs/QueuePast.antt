@@ -10,20 +10,20 @@ use Rattle.cadence_queue.specs.QueueModel.{Exit, by_take, by_drop, IsQueueOf, Is
 use Rattle.cadence_queue.specs.declared.queue_core.Taken.{Taken}
 use Rattle.cadence_queue.specs.declared.queue_core.Taken.TheVariants.{Text, Empty, Ended}
 use Rattle.cadence_queue.proofs.QueueModel.{accepts_last}
-use Rattle.cadence_queue.specs.QueuePast.{IsPast, taken_by}
+use Rattle.cadence_queue.specs.QueuePast.{IsPast, texts_taken}
 use Rattle.cadence_queue.specs.QueueTaken.{text_if_taken}
 
 module _ {T : Type 0} where
   -- If one more text is accepted, the texts that were taken stay the same.
   taken_longer : (exits : List Exit) (texts : List T) (text : T) → length exits ≤ length texts
-      → taken_by exits (texts ++ text ∷ []) ≡ taken_by exits texts
+      → texts_taken exits (texts ++ text ∷ []) ≡ texts_taken exits texts
   taken_longer [] texts text front = refl
   taken_longer (e ∷ exits) [] text front = absurd (omega arith)
   taken_longer (by_take ∷ exits) (x ∷ texts) text front = ap (λ xs. x ∷ xs) (taken_longer exits texts text (omega arith))
   taken_longer (by_drop ∷ exits) (x ∷ texts) text front = taken_longer exits texts text (omega arith)
 
   -- If the oldest waiting text is dropped, the texts that were taken stay the same.
-  taken_dropped : (exits : List Exit) (texts : List T) → taken_by (exits ++ by_drop ∷ []) texts ≡ taken_by exits texts
+  taken_dropped : (exits : List Exit) (texts : List T) → texts_taken (exits ++ by_drop ∷ []) texts ≡ texts_taken exits texts
   taken_dropped [] [] = refl
   taken_dropped [] (x ∷ texts) = refl
   taken_dropped (e ∷ exits) [] = refl
@@ -32,7 +32,7 @@ module _ {T : Type 0} where
 
   -- If the oldest waiting text is taken, it is added to the texts that were taken.
   taken_next : (exits : List Exit) (texts : List T) (text : T) → slice_get texts (length exits) ≡ Some text
-      → taken_by (exits ++ by_take ∷ []) texts ≡ taken_by exits texts ++ text ∷ []
+      → texts_taken (exits ++ by_take ∷ []) texts ≡ texts_taken exits texts ++ text ∷ []
   taken_next [] [] text at = absurd cc
   taken_next [] (x ∷ texts) text at = let same : x ≡ text = cc in ap (λ y. y ∷ []) same
   taken_next (e ∷ exits) [] text at = absurd cc

@@ -4,7 +4,7 @@ use Rattle.cadence_errors.specs.declared.SinkError.{SinkError}
 use Rattle.cadence_queue.specs.Queue.{IsQueueRefusal, is_queue_refusal}
 use Rattle.cadence_flow.specs.Sums.{zero_sums}
 use Rattle.cadence_flow.specs.Writer.{WriterKind}
-use Rattle.cadence_queue.specs.Shown.{accepted_of, text_of}
+use Rattle.cadence_queue.specs.Shown.{shown_of, text_of}
 use Rattle.cadence_queue.specs.declared.under_lock.Queued.{Queued}
 use Rattle.cadence_queue.specs.declared.under_lock.Refusal.{Refusal}
 
@@ -18,7 +18,7 @@ IsQueueFlush answer = MatchResult answer (λ _. Unit {0}) IsQueueRefusal
 
 -- If a queue accepted a text for this line, that text has the bytes of the line.
 abbrev pub IsCopyQueued : {T A : Type 0} → (T → List ℕ) → List ℕ → Result (Queued T A) (Refusal T A) → Type 0
-IsCopyQueued bytes line answer = IfOk answer (λ q. bytes (text_of (accepted_of q)) ≡ line)
+IsCopyQueued bytes line answer = IfOk answer (λ q. bytes (text_of (shown_of q)) ≡ line)
 
 -- a queue as a writer of packets: it has the errors of a queue, takes each packet whole, and contracts don't see its
 -- packets

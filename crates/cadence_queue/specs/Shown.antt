@@ -19,24 +19,24 @@ module _ {T A : Type 0} where
   dropped_of a = a.dropped
 
   -- the state in which the text was accepted
-  abbrev pub before_of : Accepted T A → Queue T
-  before_of a = a.before.value
+  abbrev pub state_before : Accepted T A → Queue T
+  state_before a = a.before.value
 
   -- the state after that
-  abbrev pub after_of : Accepted T A → Queue T
-  after_of a = a.after.value
+  abbrev pub state_after : Accepted T A → Queue T
+  state_after a = a.after.value
 
   -- how many bytes the caller gets of a queued line
   abbrev pub queued_bytes : Queued T A → ℕ
   queued_bytes q = q.bytes
 
   -- what the queue shows of it
-  abbrev pub accepted_of : Queued T A → Accepted T A
-  accepted_of q = q.accepted
+  abbrev pub shown_of : Queued T A → Accepted T A
+  shown_of q = q.accepted
 
   -- why a queue refused a text
-  abbrev pub why_of : Refusal T A → QueueError
-  why_of r = r.why
+  abbrev pub why_refused : Refusal T A → QueueError
+  why_refused r = r.why
 
   -- the state in which it refused the text
   abbrev pub at_of : Refusal T A → Queue T

@@ -8,7 +8,7 @@ ghost use Rattle.cadence_queue.specs.declared.policy.QueuePolicy.TheVariants.{Re
 ghost use Rattle.cadence_queue.specs.declared.queue_error.QueueError.TheVariants.{Full};
 ghost use Rattle.cadence_queue.specs.RecordedQueue.{core_of};
 ghost use Rattle.cadence_queue.specs.SharedQueue.{bound_of, rule_of};
-ghost use Rattle.cadence_queue.specs.Shown.{at_of, text_of, why_of};
+ghost use Rattle.cadence_queue.specs.Shown.{at_of, text_of, why_refused};
 
 use super::recorded_queue::RecordedQueue;
 use super::under_lock::{Accepted, Left, Refusal, Stopped, UnderLock};
@@ -92,7 +92,7 @@ impl<T, A: Allocator, M> SharedQueue<T, A, M> {
     // that says that the queue is full, which no run reaches, counts as one for want of memory. That is how the contracts
     // can promise that a queue without a capacity is never full.
     pub fn why(&self, refusal: &Refusal<T, A>) -> QueueError
-        ensures reason { bound_of self.now ≢ None → result ≡ why_of refusal.now }
+        ensures reason { bound_of self.now ≢ None → result ≡ why_refused refusal.now }
         ensures refusal { IsQueueRefusal (error_of result) }
         ensures unbounded { bound_of self.now ≡ None → result ≢ Full }
     {

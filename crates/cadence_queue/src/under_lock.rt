@@ -107,7 +107,7 @@ pub struct Accepted<T, A: Allocator = Global> {
 }
 
 impl<T, A: Allocator> Accepted<T, A> {
-    ghost use Rattle.cadence_queue.specs.Shown.{accepted_of, dropped_of, queued_bytes};
+    ghost use Rattle.cadence_queue.specs.Shown.{shown_of, dropped_of, queued_bytes};
 
     /// Returns the text that a full queue dropped for the accepted one, if it dropped one.
     pub fn into_dropped(self) -> Option<T>
@@ -125,7 +125,7 @@ impl<T, A: Allocator> Accepted<T, A> {
     /// Makes an answer of a sink for this text, which has so many bytes.
     pub fn with_bytes(self, bytes: usize) -> Queued<T, A>
         ensures bytes { queued_bytes result ≡ bytes }
-        ensures accepted { accepted_of result ≡ self }
+        ensures accepted { shown_of result ≡ self }
     {
         Queued {
             bytes,
@@ -162,11 +162,11 @@ pub struct Refusal<T, A: Allocator = Global> {
 }
 
 impl<T, A: Allocator> Refusal<T, A> {
-    ghost use Rattle.cadence_queue.specs.Shown.{why_of};
+    ghost use Rattle.cadence_queue.specs.Shown.{why_refused};
 
     /// Returns the reason.
     pub fn why(&self) -> QueueError
-        ensures { result ≡ why_of self.now }
+        ensures { result ≡ why_refused self.now }
     {
         self.why
     }

@@ -74,8 +74,8 @@ module _ {W A : Type 0} (history : W → PacketHistory) (given : Given A) (outco
   turns_of = zip given.steps outcome.replies
 
   -- the packets that the writer took during the run
-  abbrev pub packets_of : List (List ℕ)
-  packets_of = packets_between given.before (history outcome.writer)
+  abbrev pub packets_of_run : List (List ℕ)
+  packets_of_run = packets_between given.before (history outcome.writer)
 
   -- the kept lines: those that were handed on with the result Ok
   abbrev pub kept_of : List (List ℕ)
@@ -107,11 +107,11 @@ module _ {W A : Type 0} (history : W → PacketHistory) (given : Given A) (outco
     -- Over a writer that reports its packets and takes each whole or refuses it: the packets of the run, joined, and
     -- then the held text are byte for byte the frames of the kept lines, in order. A kept line is that of an accepted
     -- call whose hand returned Ok. Its frame is the line and the ending, or the line alone if that passes the capacity.
-    pub stream : ReportsWhole given.kind → concat packets_of ++ outcome.held ≡ stream given.format kept_of
+    pub stream : ReportsWhole given.kind → concat packets_of_run ++ outcome.held ≡ stream given.format kept_of
     -- Over such a writer: packets and held text are those of the report's cut of the kept lines, whole frames in each,
     -- none beyond the capacity but an oversize line alone, and a packet ends at each flush that returned Ok.
     pub cut : ReportsWhole given.kind
-        → ArePacketsOf given.format marks_of (refusals (line_by given) turns_of) kept_of outcome.cut packets_of outcome.held
+        → ArePacketsOf given.format marks_of (refusals (line_by given) turns_of) kept_of outcome.cut packets_of_run outcome.held
     -- Over every writer: each reply is one that the steps and replies before it allow, what waits are the accepted
     -- lines after the first ones, which were taken or dropped, the queue's counts are the numbers accepted, taken and
     -- dropped, it has the capacity and the policy that were given, and the line in hand is the one that was taken and not
@@ -139,7 +139,7 @@ module _ {W A : Type 0} (history : W → PacketHistory) (given : Given A) (outco
     -- text are the frames of the kept lines, in order; of an oversize line whose hand returned Ok(n), its first n
     -- bytes. Over a writer that takes each packet whole, n is the length of the line, and this is `stream` of the
     -- headline.
-    pub taken : given.kind.reports ≡ true → concat packets_of ++ outcome.held ≡ taken_stream given.format (kept_counts (line_by given) turns_of)
+    pub taken : given.kind.reports ≡ true → concat packets_of_run ++ outcome.held ≡ taken_stream given.format (kept_counts (line_by given) turns_of)
     -- Over every writer, the held text is within the packer's capacity.
     pub held : length outcome.held ≤ given.format.capacity
     -- The sums of the report are those of what the writer took and refused in the run.
@@ -151,10 +151,10 @@ module _ {W A : Type 0} (history : W → PacketHistory) (given : Given A) (outco
     -- With the newline as ending, and kept metrics that are free of separators: a listener reads the kept metrics, and
     -- no others.
     pub one_reading : ReportsWhole given.kind → given.format.ending ≡ codes "\n" → All IsFreeOfSeparators (kept given.metric_of turns_of)
-        → ReadsAs (kept given.metric_of turns_of) packets_of outcome.held
+        → ReadsAs (kept given.metric_of turns_of) packets_of_run outcome.held
     -- With strict settings, the kept metrics are free of separators, whatever texts the calls have.
     pub strict_free : given.strict ≡ true → All IsFreeOfSeparators (kept given.metric_of turns_of)
     -- With the newline as ending and strict settings, a listener reads the kept metrics, and no others, whatever texts
     -- the calls have.
     pub strict_reading : ReportsWhole given.kind → given.format.ending ≡ codes "\n" → given.strict ≡ true
-        → ReadsAs (kept given.metric_of turns_of) packets_of outcome.held
+        → ReadsAs (kept given.metric_of turns_of) packets_of_run outcome.held

@@ -36,8 +36,8 @@ pub record RunState : Type 0 where
   pub held : List ℕ
 
 -- the state of the packer
-abbrev pub packer_of : RunState → PackerState
-packer_of s = record { history = s.history; held = s.held }
+abbrev pub packer_state_of : RunState → PackerState
+packer_state_of s = record { history = s.history; held = s.held }
 
 -- whether the packer holds text that has room for the line and its ending
 abbrev pub joins_held : Format → List ℕ → List ℕ → Bool
@@ -83,11 +83,11 @@ module _ {A : Type 0} (line_of : Call A → Option (List ℕ)) (kind : WriterKin
   Moves old (step.Take, reply.Empty) new = (old.in_hand ≡ None) × (old.waiting ≡ []) × (old.stopped ≡ false) × (new ≡ old)
   Moves old (step.Hand, reply.Nothing) new = (old.in_hand ≡ None) × (new ≡ old)
   Moves old (step.Hand, reply.Handed result) new =
-      (line : List ℕ) × (old.in_hand ≡ Some line) × Writes kind format (packer_of old) (packer_of new) line result
+      (line : List ℕ) × (old.in_hand ≡ Some line) × Writes kind format (packer_state_of old) (packer_state_of new) line result
       × CountsLine format old.held line result old.cut new.cut
       × (new ≡ record old { in_hand = None; cut = new.cut; history = new.history; held = new.held })
   Moves old (step.Flush, reply.Flushed result) new =
-      Flushes kind (packer_of old) (packer_of new) result × (new ≡ record old { history = new.history; held = new.held })
+      Flushes kind (packer_state_of old) (packer_state_of new) result × (new ≡ record old { history = new.history; held = new.held })
   Moves old (step.Stop, reply.Stopped) new = new ≡ record old { stopped = true }
   Moves old _ new = ⊥
 

@@ -102,15 +102,15 @@ module _ {A : Type 0} where
 -- metrics.
 module _ {A X : Type 0} (line_of : Call A → Option X) where
   -- the line that this turn accepts, if it does
-  abbrev pub accepted_by : Turn A → List X
-  accepted_by (step.Call call, reply.Called (Ok n)) = option_to_list (line_of call)
-  accepted_by (step.Call call, reply.CallDropped n m) = option_to_list (line_of call)
-  accepted_by _ = []
+  abbrev pub accepted_by_turn : Turn A → List X
+  accepted_by_turn (step.Call call, reply.Called (Ok n)) = option_to_list (line_of call)
+  accepted_by_turn (step.Call call, reply.CallDropped n m) = option_to_list (line_of call)
+  accepted_by_turn _ = []
 
   -- the accepted lines: those of the calls that returned Ok, in order, whether or not another line was dropped for
   -- them
   abbrev pub accepted : List (Turn A) → List X
-  accepted history = flat_map accepted_by history
+  accepted history = flat_map accepted_by_turn history
 
   -- the accepted lines that were not dropped. The k-th line taken is the k-th of them, and so is the k-th handed on
   abbrev pub undropped_lines : List (Turn A) → List X

@@ -39,7 +39,7 @@ impl<P: PacketWriter, A: Allocator + Clone> Running<P, A> {
     ghost use Rattle.std.specs.Prelude.{◌≡◌, ◌<◌, All, vec_len, vec_capacity};
     ghost use Rattle.cadence_text.specs.Representable.{IsRepresentable};
     ghost use Rattle.cadence_settings.specs.CallData.{line_of_data, metric_of_data};
-    ghost use Rattle.cadence_schedule.specs.RunHistory.{accepted_by};
+    ghost use Rattle.cadence_schedule.specs.RunHistory.{accepted_by_turn};
     ghost use Rattle.cadence_schedule.specs.Moves.{joins_held};
     ghost use Rattle.cadence_schedule.specs.Running.{MakesTurn};
     ghost use Rattle.cadence_schedule.specs.declared.steps.Step.TheVariants as step;
@@ -48,7 +48,7 @@ impl<P: PacketWriter, A: Allocator + Clone> Running<P, A> {
     fn call(&mut self, settings: &ClientSettings<A>, call: &Call<A>) -> Reply
         ensures turn { MakesTurn P.kind P.history (line_of_data settings.now)
             self.old (step.Call call.now, result) self.new }
-        ensures representable { All IsRepresentable (accepted_by (metric_of_data settings.now)
+        ensures representable { All IsRepresentable (accepted_by_turn (metric_of_data settings.now)
             (step.Call call.now, result)) }
     {
         let line = match settings.line_of(call) {
@@ -133,7 +133,7 @@ impl<P: PacketWriter, A: Allocator + Clone> Running<P, A> {
         ensures turn { MakesTurn P.kind P.history (line_of_data settings.now)
             self.old (step.now, result) self.new }
         ensures representable { All IsRepresentable
-            (accepted_by (metric_of_data settings.now) (step.now, result)) }
+            (accepted_by_turn (metric_of_data settings.now) (step.now, result)) }
     {
         match step {
             Step::Call(call) => self.call(settings, call),

@@ -3,7 +3,7 @@ ghost use Rattle.std.specs.Prelude.{◌≡◌, ◌≤◌, ◌⊎◌, [], IfSome,
 ghost use Rattle.cadence_send.specs.Losses.{lasting_kind, losses_of};
 ghost use Rattle.cadence_send.specs.Sent.{SendsTexts, SendsWords, TakesFirst, texts_of_input};
 ghost use Rattle.cadence_send.specs.Streams.{Accounts, AccountsFirst, fates_in, given_history};
-ghost use Rattle.cadence_send.specs.Summed.{IsAllSent, IsSummary, TakesSummed, packer_of};
+ghost use Rattle.cadence_send.specs.Summed.{IsAllSent, HoldsSummary, TakesSummed, packer_below};
 
 use crate::engine::{Sending, TextCounts};
 use crate::error::RunError;
@@ -224,9 +224,9 @@ impl<E: Write, P: Pace, A: Allocator + Clone> Sending<'_, E, P, A> {
         ensures sent { (result ≡ 0) ⊎ (result ≡ 2) → IfSome (I.remaining input.old) (λ text.
             SendsTexts self.old.defaults.now (TakesSummed (λ _. lasting_kind) given_history)
             IsAllSent lines.old lines.new (texts_of_input text)) }
-        ensures summary { IsSummary lines.new }
+        ensures summary { HoldsSummary lines.new }
         ensures none_lost { (result ≡ 0) ⊎ (result ≡ 2) →
-            (losses_of (fates_in (packer_of lines.new).writer)).packets ≡ 0 }
+            (losses_of (fates_in (packer_below lines.new).writer)).packets ≡ 0 }
     {
         let ended = self.send_input(lines, input);
         lines.keeps_the_record();

@@ -21,7 +21,7 @@ pub struct SummedPacker<T, A: Allocator = Global> {
 }
 
 impl<T: PacketWriter, A: Allocator> SummedPacker<T, A> {
-    ghost use Rattle.cadence_send.specs.Summed.{GivesLines, IsSummary, packer_of, sums_of};
+    ghost use Rattle.cadence_send.specs.Summed.{GivesToPacker, HoldsSummary, packer_below, sums_of};
 
     /// Returns sums of no line over a packer. The only error is that memory ran out.
     pub fn new(
@@ -31,7 +31,7 @@ impl<T: PacketWriter, A: Allocator> SummedPacker<T, A> {
     ) -> Result<SummedPacker<T, A>, AllocError>
         ensures accepted { IfOk result (λ p. accepted_in (sums_of p) ≡ []) }
         ensures gone { IfOk result (λ p. gone_in (sums_of p) ≡ []) }
-        ensures packer { IfOk result (λ p. packer_of p ≡ lines) }
+        ensures packer { IfOk result (λ p. packer_below p ≡ lines) }
     {
         Ok(SummedPacker {
             sums: SummedLines::new(alloc, limits)?,
@@ -42,7 +42,7 @@ impl<T: PacketWriter, A: Allocator> SummedPacker<T, A> {
 
     /// Returns the writer of the packer.
     pub fn get_ref(&self) -> &T
-        ensures { result.now ≡ (packer_of self.now).writer }
+        ensures { result.now ≡ (packer_below self.now).writer }
     {
         self.lines.get_ref()
     }
@@ -50,14 +50,14 @@ impl<T: PacketWriter, A: Allocator> SummedPacker<T, A> {
     /// States that the lines that the packer took and those that wait, with what is held, are a summary of the accepted
     /// lines: a server knows the same after both. Does nothing when it is called.
     pub fn keeps_the_record(&self)
-        ensures { IsSummary self.now }
+        ensures { HoldsSummary self.now }
     {
         self.sums.keeps_the_record();
     }
 
     // Gives the packer the lines that wait, in order, until it refuses one.
     fn give_waiting(&mut self) -> Result<(), RunError>
-        ensures gives { GivesLines T.kind T.history self.old self.new }
+        ensures gives { GivesToPacker T.kind T.history self.old self.new }
         ensures accepted { accepted_in (sums_of self.new) ≡ accepted_in (sums_of self.old) }
         ensures held { held_in (sums_of self.new) ≡ held_in (sums_of self.old) }
         ensures all { OnOk result (waiting_in (sums_of self.new) ≡ []) }

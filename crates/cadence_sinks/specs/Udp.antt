@@ -25,8 +25,8 @@ module _ {Y : Type 0} {G : Y → Type 0} {g : _} where
   period_of b = b.period
 
   -- the closure that receives the errors of lookups, if a builder has one
-  abbrev pub handler_of : UdpMetricSinkBuilder Y G g → Option (DynBox Y Global G)
-  handler_of b = option_map closure_of b.handler
+  abbrev pub lookup_handler_of : UdpMetricSinkBuilder Y G g → Option (DynBox Y Global G)
+  lookup_handler_of b = option_map closure_of b.handler
 
   -- the capacity of the buffer in bytes, if a builder has one
   abbrev pub buffered_capacity_of : BufferedUdpMetricSinkBuilder Y G g → Option ℕ

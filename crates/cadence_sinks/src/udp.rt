@@ -5,7 +5,7 @@ ghost use Rattle.cadence_resolve.specs.Refusals.{IsSocketRefusal, IsTargetRefusa
 ghost use Rattle.cadence_flow.specs.Answered.{IsAnswered, IsFlushAnswered, answered_by_holding_nothing};
 ghost use Rattle.cadence_sinks.specs.Buffers.{udp_buffer};
 ghost use Rattle.cadence_sinks.specs.Sockets.{IsBufferedAnswer, IsBufferedFlush, IsSocketAnswer, is_io};
-ghost use Rattle.cadence_sinks.specs.Udp.{SendsTo, period_of, handler_of, looks_up_again, buffered_capacity_of, lookups_of};
+ghost use Rattle.cadence_sinks.specs.Udp.{SendsTo, period_of, lookup_handler_of, looks_up_again, buffered_capacity_of, lookups_of};
 
 use crate::datagram::{CountedSocket, DatagramSocket, PackedSocket};
 use cadence_errors::{MetricResult, SinkError};
@@ -79,7 +79,7 @@ impl<R: Wait + Drop, A: Allocator> UdpMetricSink<R, A> {
     /// Returns a builder without any setting.
     pub fn builder() -> UdpMetricSinkBuilder
         ensures period { period_of result ≡ None }
-        ensures handler { handler_of result ≡ None }
+        ensures handler { lookup_handler_of result ≡ None }
     {
         UdpMetricSinkBuilder::new()
     }
@@ -118,7 +118,7 @@ impl UdpMetricSinkBuilder {
     /// Returns a builder without any setting.
     pub fn new() -> Self
         ensures period { period_of result ≡ None }
-        ensures handler { handler_of result ≡ None }
+        ensures handler { lookup_handler_of result ≡ None }
     {
         UdpMetricSinkBuilder {
             period: None,
@@ -131,7 +131,7 @@ impl UdpMetricSinkBuilder {
     /// lookup at the latest.
     pub fn with_resolver_period(mut self, period: Duration) -> Self
         ensures period { period_of result ≡ Some period }
-        ensures handler { handler_of result ≡ handler_of self }
+        ensures handler { lookup_handler_of result ≡ lookup_handler_of self }
     {
         self.period = Some(period);
         self
@@ -142,7 +142,7 @@ impl UdpMetricSinkBuilder {
     pub fn with_resolver_error_handler(mut self, handler: SinkErrorHandler) -> Self
         requires { IsAlwaysCallable handler }
         ensures period { period_of result ≡ period_of self }
-        ensures handler { handler_of result ≡ Some handler }
+        ensures handler { lookup_handler_of result ≡ Some handler }
     {
         self.handler = Some(Handler::new(handler));
         self
@@ -227,7 +227,7 @@ impl<R: Wait + Drop, A: Allocator> BufferedUdpMetricSink<R, A> {
     pub fn builder() -> BufferedUdpMetricSinkBuilder
         ensures capacity { buffered_capacity_of result ≡ None }
         ensures period { period_of (lookups_of result) ≡ None }
-        ensures handler { handler_of (lookups_of result) ≡ None }
+        ensures handler { lookup_handler_of (lookups_of result) ≡ None }
     {
         BufferedUdpMetricSinkBuilder::new()
     }
@@ -270,7 +270,7 @@ impl BufferedUdpMetricSinkBuilder {
     pub fn new() -> Self
         ensures capacity { buffered_capacity_of result ≡ None }
         ensures period { period_of (lookups_of result) ≡ None }
-        ensures handler { handler_of (lookups_of result) ≡ None }
+        ensures handler { lookup_handler_of (lookups_of result) ≡ None }
     {
         BufferedUdpMetricSinkBuilder {
             capacity: None,
@@ -292,7 +292,7 @@ impl BufferedUdpMetricSinkBuilder {
     pub fn with_resolver_period(self, period: Duration) -> Self
         ensures capacity { buffered_capacity_of result ≡ buffered_capacity_of self }
         ensures period { period_of (lookups_of result) ≡ Some period }
-        ensures handler { handler_of (lookups_of result) ≡ handler_of (lookups_of self) }
+        ensures handler { lookup_handler_of (lookups_of result) ≡ lookup_handler_of (lookups_of self) }
     {
         BufferedUdpMetricSinkBuilder {
             capacity: self.capacity,
@@ -305,7 +305,7 @@ impl BufferedUdpMetricSinkBuilder {
         requires { IsAlwaysCallable handler }
         ensures capacity { buffered_capacity_of result ≡ buffered_capacity_of self }
         ensures period { period_of (lookups_of result) ≡ period_of (lookups_of self) }
-        ensures handler { handler_of (lookups_of result) ≡ Some handler }
+        ensures handler { lookup_handler_of (lookups_of result) ≡ Some handler }
     {
         BufferedUdpMetricSinkBuilder {
             capacity: self.capacity,

@@ -5,8 +5,8 @@ ghost use Rattle.cadence_aggregating.specs.Keys.{SaysNeither};
 ghost use Rattle.cadence_c.specs.Handle.{IsOpenAnd, OnOpen, client_of};
 ghost use Rattle.cadence_c.specs.Status.{CADENCE_FULL, CADENCE_INVALID, CADENCE_NOT_UTF8, CADENCE_NO_CLIENT, CADENCE_NO_MEMORY, CADENCE_OK, IsOkOr, status};
 ghost use Rattle.cadence_c.specs.Sums.{AddsUp, HasSummary, LacksRoomForFirst};
-ghost use Rattle.cadence_c.specs.SumsHandle.{OnBothOpen, keys_of, sums_of};
-ghost use Rattle.cadence_c.specs.SumsKeys.{GetsKey, HasKeyMore, line_by, line_by_handle, line_of_addend};
+ghost use Rattle.cadence_c.specs.SumsHandle.{OnBothOpen, keys_of, open_sums_of};
+ghost use Rattle.cadence_c.specs.SumsKeys.{GetsKey, HasKeyMore, line_by_key, line_by_handle, line_of_addend};
 
 use super::{Addend, add_with};
 use crate::call::text_of;
@@ -49,8 +49,8 @@ pub extern "C" fn cadence_make_key(
 ) -> u32
     ensures made { result ≡ CADENCE_OK → HasKeyMore line.now key.new sums.old sums.new }
     ensures refused { result ≢ CADENCE_OK → keys_of sums.new ≡ keys_of sums.old }
-    ensures sums { sums_of sums.new ≡ sums_of sums.old }
-    ensures closed { result ≡ CADENCE_NO_CLIENT → sums_of sums.old ≡ None }
+    ensures sums { open_sums_of sums.new ≡ open_sums_of sums.old }
+    ensures closed { result ≡ CADENCE_NO_CLIENT → open_sums_of sums.old ≡ None }
     ensures invalid { result ≡ CADENCE_INVALID → SaysNeither line.now }
     ensures text { result ≡ CADENCE_NOT_UTF8 → IsUtf8 line.now → ⊥ }
     ensures statuses { IsOkOr (CADENCE_NO_CLIENT ∷ CADENCE_NO_MEMORY ∷ CADENCE_INVALID
@@ -73,7 +73,7 @@ pub extern "C" fn cadence_make_key(
 // Returns what a number by a key adds up. Returns `None` if there is no such key, or if it is the key of a gauge and
 // the number is negative.
 fn addend_by(keys: &[LineKey], key: usize, number: i64) -> Option<Addend<'_>>
-    ensures { option_map line_of_addend result ≡ line_by keys.now key number }
+    ensures { option_map line_of_addend result ≡ line_by_key keys.now key number }
 {
     match keys.get(key)? {
         LineKey::Raises(key) => Some(Addend::Raise(key, number)),
@@ -87,7 +87,7 @@ fn addend_by(keys: &[LineKey], key: usize, number: i64) -> Option<Addend<'_>>
 // Adds up a number by one of the keys of the sums, and returns the status.
 fn add_by(alloc: Global, sums: &mut Sums, handle: &mut Handle, key: usize, number: i64) -> u32
     ensures added { result ≡ CADENCE_OK →
-        IsSomeAnd (line_by sums.old.keys.items key number) (λ line. OnOpen
+        IsSomeAnd (line_by_key sums.old.keys.items key number) (λ line. OnOpen
         (AddsUp (line ∷ []) sums.old.lines sums.new.lines) handle.old handle.new) }
     ensures refused { (result ≡ CADENCE_FULL) ⊎ (result ≡ CADENCE_NO_MEMORY) →
         OnOpen (AddsUp [] sums.old.lines sums.new.lines) handle.old handle.new }
@@ -98,7 +98,7 @@ fn add_by(alloc: Global, sums: &mut Sums, handle: &mut Handle, key: usize, numbe
     ensures client { (result ≡ CADENCE_NO_CLIENT) ⊎ (result ≡ CADENCE_INVALID) →
         client_of handle.new ≡ client_of handle.old }
     ensures closed { result ≡ CADENCE_NO_CLIENT → client_of handle.old ≡ None }
-    ensures invalid { result ≡ CADENCE_INVALID → line_by sums.old.keys.items key number ≡ None }
+    ensures invalid { result ≡ CADENCE_INVALID → line_by_key sums.old.keys.items key number ≡ None }
     ensures keys { sums.new.keys.items ≡ sums.old.keys.items }
     ensures statuses { IsOkOr (CADENCE_NO_CLIENT ∷ CADENCE_NO_MEMORY ∷ CADENCE_FULL
         ∷ CADENCE_INVALID ∷ []) result }
@@ -124,16 +124,16 @@ pub extern "C" fn cadence_add_number(
     ensures refused { (result ≡ CADENCE_FULL) ⊎ (result ≡ CADENCE_NO_MEMORY) →
         OnBothOpen (AddsUp []) sums.old sums.new handle.old handle.new }
     ensures full { result ≡ CADENCE_FULL →
-        IsSomeAnd (sums_of sums.new) (λ b. IsOpenAnd handle.new (LacksRoomForFirst b)) }
+        IsSomeAnd (open_sums_of sums.new) (λ b. IsOpenAnd handle.new (LacksRoomForFirst b)) }
     ensures sums { (result ≡ CADENCE_NO_CLIENT) ⊎ (result ≡ CADENCE_INVALID) →
-        sums_of sums.new ≡ sums_of sums.old }
+        open_sums_of sums.new ≡ open_sums_of sums.old }
     ensures client { (result ≡ CADENCE_NO_CLIENT) ⊎ (result ≡ CADENCE_INVALID) →
         client_of handle.new ≡ client_of handle.old }
     ensures closed { result ≡ CADENCE_NO_CLIENT →
-        (client_of handle.old ≡ None) ⊎ (sums_of sums.old ≡ None) }
+        (client_of handle.old ≡ None) ⊎ (open_sums_of sums.old ≡ None) }
     ensures invalid { result ≡ CADENCE_INVALID → line_by_handle sums.old key number ≡ None }
     ensures keys { keys_of sums.new ≡ keys_of sums.old }
-    ensures summary { IfSome (sums_of sums.new) HasSummary }
+    ensures summary { IfSome (open_sums_of sums.new) HasSummary }
     ensures statuses { IsOkOr (CADENCE_NO_CLIENT ∷ CADENCE_NO_MEMORY ∷ CADENCE_FULL
         ∷ CADENCE_INVALID ∷ []) result }
 {

@@ -14,9 +14,9 @@ use Rattle.cadence_queue.specs.declared.policy.QueuePolicy.{QueuePolicy}
 use Rattle.cadence_flow.specs.Writer.{PacketHistory, WriterKind, Extends}
 use Rattle.cadence_settings.specs.declared.call.Call.{Call}
 use Rattle.cadence_schedule.specs.RunHistory.{Turn, takes_text, drops_text, left_count, outcomes, outcome_by, stops, is_stopped, error_count}
-use Rattle.cadence_schedule.specs.RunHistory.{is_error, accepted, accepted_by, kept, kept_counts, marks, mark_at, refusals, refusal_at}
+use Rattle.cadence_schedule.specs.RunHistory.{is_error, accepted, accepted_by_turn, kept, kept_counts, marks, mark_at, refusals, refusal_at}
 use Rattle.cadence_schedule.specs.Replies.{MayReply, MayReplyAfter}
-use Rattle.cadence_schedule.specs.Moves.{RunState, Moves, CountsLine, packer_of}
+use Rattle.cadence_schedule.specs.Moves.{RunState, Moves, CountsLine, packer_state_of}
 use Rattle.cadence_flow.proofs.Histories.{Extends-trans}
 use Rattle.cadence_schedule.proofs.packets.CutLengths.{CutSince, has_last}
 use Rattle.cadence_schedule.proofs.history.OneTurnMore.{marks-push, refusals-push, replies-push, error_count-push}
@@ -131,7 +131,7 @@ module _ {A : Type 0} (line_of : Call A → Option (List ℕ)) (filled : (call :
   -- What holds is kept by a turn that changes nothing.
   only_answers : (h : List (Turn A)) (t : Turn A) (s s' : RunState) → s' ≡ s → After h s
       → MayReply line_of kind.may_give kind.takes_whole format queue policy h t
-      → accepted_by line_of t ≡ [] → takes_text t ≡ false → drops_text t ≡ false → outcome_by t ≡ [] → stops t ≡ false
+      → accepted_by_turn line_of t ≡ [] → takes_text t ≡ false → drops_text t ≡ false → outcome_by t ≡ [] → stops t ≡ false
       → ((n : ℕ) → mark_at line_of n t ≡ []) → ((n : ℕ) → refusal_at line_of n t ≡ []) → is_error t ≡ false
       → After (h ++ t ∷ []) s'
   only_answers h t s s' same a reply x k d b z m r isnt =
@@ -171,7 +171,7 @@ module _ {A : Type 0} (line_of : Call A → Option (List ℕ)) (filled : (call :
 
   -- What holds is kept by a hand that returned Ok.
   hand_kept : (h : List (Turn A)) (old new : RunState) (n : ℕ) (line : List ℕ) → length h + 1 < 2 ^ 64 → After h old → old.in_hand ≡ Some line
-      → Writes kind format (packer_of old) (packer_of new) line (Ok n) → CountsLine format old.held line (Ok n) old.cut new.cut
+      → Writes kind format (packer_state_of old) (packer_state_of new) line (Ok n) → CountsLine format old.held line (Ok n) old.cut new.cut
       → After (h ++ (step.Hand, reply.Handed (Ok n)) ∷ []) (record old { in_hand = None; cut = new.cut; history = new.history; held = new.held })
   hand_kept h old new n line short a some w counts =
       let (next, text) = full_hand line_of queue h old line a.line some in
@@ -214,7 +214,7 @@ module _ {A : Type 0} (line_of : Call A → Option (List ℕ)) (filled : (call :
 
   -- What holds is kept by a hand that returned an error.
   hand_refused : (h : List (Turn A)) (old new : RunState) (e : SinkError) (line : List ℕ) → After h old → old.in_hand ≡ Some line
-      → Writes kind format (packer_of old) (packer_of new) line (Err e) → CountsLine format old.held line (Err e) old.cut new.cut
+      → Writes kind format (packer_state_of old) (packer_state_of new) line (Err e) → CountsLine format old.held line (Err e) old.cut new.cut
       → After (h ++ (step.Hand, reply.Handed (Err e)) ∷ []) (record old { in_hand = None; cut = new.cut; history = new.history; held = new.held })
   hand_refused h old new e line a some w counts = record {
     replies = replies-push line_of kind.may_give kind.takes_whole format queue policy h (step.Hand, reply.Handed (Err e)) a.replies
@@ -251,7 +251,7 @@ module _ {A : Type 0} (line_of : Call A → Option (List ℕ)) (filled : (call :
 
   -- What holds is kept by a flush that returned Ok.
   flush_done : (h : List (Turn A)) (old new : RunState) (done : Unit) → After h old
-      → Flushes {A = Unit} kind (packer_of old) (packer_of new) (Ok done)
+      → Flushes {A = Unit} kind (packer_state_of old) (packer_state_of new) (Ok done)
       → After (h ++ (step.Flush, reply.Flushed (Ok done)) ∷ []) (record old { history = new.history; held = new.held })
   flush_done h old new done a f =
       let same : kept_counts line_of (h ++ (step.Flush, reply.Flushed (Ok done)) ∷ []) ≡ kept_counts line_of h =
@@ -288,7 +288,7 @@ module _ {A : Type 0} (line_of : Call A → Option (List ℕ)) (filled : (call :
 
   -- What holds is kept by a flush that returned an error.
   flush_failed : (h : List (Turn A)) (old new : RunState) (e : SinkError) → After h old
-      → Flushes {A = Unit} kind (packer_of old) (packer_of new) (Err e)
+      → Flushes {A = Unit} kind (packer_state_of old) (packer_state_of new) (Err e)
       → After (h ++ (step.Flush, reply.Flushed (Err e)) ∷ []) (record old { history = new.history; held = new.held })
   flush_failed h old new e a f =
       let same : kept_counts line_of (h ++ (step.Flush, reply.Flushed (Err e)) ∷ []) ≡ kept_counts line_of h =

@@ -16,7 +16,7 @@ use Rattle.cadence_settings.specs.declared.call.Call.{Call}
 use Rattle.cadence_schedule.specs.declared.steps.Step.TheVariants as step
 use Rattle.cadence_schedule.specs.declared.steps.Reply.TheVariants as reply
 use Rattle.cadence_schedule.specs.Headline.{packets_between, AreSumsBetween}
-use Rattle.cadence_schedule.specs.RunHistory.{Turn, accepted, accepted_by, taken_count, dropped_count, kept, kept_counts, error_count}
+use Rattle.cadence_schedule.specs.RunHistory.{Turn, accepted, accepted_by_turn, taken_count, dropped_count, kept, kept_counts, error_count}
 use Rattle.cadence_schedule.specs.RunHistory.{is_error, marks}
 use Rattle.cadence_schedule.specs.RunHistory.{refusals, refusal_at, with_before}
 use Rattle.cadence_schedule.specs.Packets.{ArePacketsOf}
@@ -89,14 +89,14 @@ module _ {A : Type 0} (line_of : Call A → Option (List ℕ)) where
   option_one None = zero-le
   option_one (Some line) = omega arith
 
-  accepted_one : (t : Turn A) → length (accepted_by line_of t) ≤ 1
+  accepted_one : (t : Turn A) → length (accepted_by_turn line_of t) ≤ 1
   accepted_one (step.Call call, reply.Called (Ok n)) = option_one (line_of call)
   accepted_one (step.Call call, reply.CallDropped n m) = option_one (line_of call)
   accepted_one _ = zero-le
 
   pub accepted_le : (h : List (Turn A)) → length (accepted line_of h) ≤ length h
   accepted_le [] = zero-le
-  accepted_le (t ∷ h) = omega (arith, length-append (accepted_by line_of t) (accepted line_of h), accepted_one t, accepted_le h)
+  accepted_le (t ∷ h) = omega (arith, length-append (accepted_by_turn line_of t) (accepted line_of h), accepted_one t, accepted_le h)
 
   module _ (filled : (call : Call A) (line : List ℕ) → line_of call ≡ Some line → line ≢ []) (kind : WriterKind) (format : Format)
       (queue : Option ℕ) (policy : QueuePolicy) (start : PacketHistory) (h : List (Turn A)) (s : RunState)

@@ -11,7 +11,7 @@ use Rattle.cadence_queue.specs.declared.policy.QueuePolicy.{QueuePolicy}
 use Rattle.cadence_settings.specs.declared.call.Call.{Call}
 use Rattle.cadence_schedule.specs.declared.steps.Step.{Step}
 use Rattle.cadence_schedule.specs.declared.steps.Reply.{Reply}
-use Rattle.cadence_schedule.specs.RunHistory.{Turn, accepted, accepted_by}
+use Rattle.cadence_schedule.specs.RunHistory.{Turn, accepted, accepted_by_turn}
 use Rattle.cadence_schedule.specs.Moves.{RunState, Moves, Runs}
 
 module _ {A : Type 0} where
@@ -31,12 +31,12 @@ module _ {A : Type 0} where
   -- What is true of the metrics accepted so far, and of those of one step more, is true of all of them.
   pub accepted_push : {X : Type 0} (P : X → Type 0) (of : Call A → Option X) (xs xs' : List (Step A)) (ys ys' : List Reply) (x : Step A) (y : Reply)
       → length xs ≡ length ys → xs' ≡ xs ++ x ∷ [] → ys' ≡ ys ++ y ∷ []
-      → All P (accepted of (zip xs ys)) → All P (accepted_by of (x, y)) → All P (accepted of (zip xs' ys'))
+      → All P (accepted of (zip xs ys)) → All P (accepted_by_turn of (x, y)) → All P (accepted of (zip xs' ys'))
   accepted_push P of xs xs' ys ys' x y short e f before here =
       subst (λ turns. All P (accepted of turns)) (sym (zip_push xs ys x y short) ∙ (λ i. zip (sym e i) (sym f i)))
-      (subst (All P) (sym (flat_map-append (accepted_by of) (zip xs ys) ((x, y) ∷ [])
-      ∙ ap (λ l. accepted of (zip xs ys) ++ l) (append-nil (accepted_by of (x, y)))))
-      (All-append P (accepted of (zip xs ys)) (accepted_by of (x, y)) before here))
+      (subst (All P) (sym (flat_map-append (accepted_by_turn of) (zip xs ys) ((x, y) ∷ [])
+      ∙ ap (λ l. accepted of (zip xs ys) ++ l) (append-nil (accepted_by_turn of (x, y)))))
+      (All-append P (accepted of (zip xs ys)) (accepted_by_turn of (x, y)) before here))
 
   module _ (line_of : Call A → Option (List ℕ)) (kind : WriterKind) (format : Format) (queue : Option ℕ) (policy : QueuePolicy) where
     runs_more : (old mid new : RunState) (turns : List (Turn A)) (t : Turn A) → Runs line_of kind format queue policy old turns mid

@@ -11,7 +11,7 @@ use Rattle.cadence_schedule.specs.declared.steps.Step.TheVariants as step
 use Rattle.cadence_schedule.specs.declared.steps.Reply.TheVariants as reply
 use Rattle.cadence_schedule.specs.RunHistory.{Turn, with_answers, without_dropped, taken_count, left_count, exits, exit_by, outcomes}
 use Rattle.cadence_schedule.specs.RunHistory.{outcome_by}
-use Rattle.cadence_schedule.specs.RunHistory.{accepted, accepted_by, undropped_lines, kept, kept_counts}
+use Rattle.cadence_schedule.specs.RunHistory.{accepted, accepted_by_turn, undropped_lines, kept, kept_counts}
 use Rattle.cadence_schedule.proofs.history.OneTurnMore.{accepted-push, outcomes-push, with_answers-longer, with_answers-some}
 use Rattle.cadence_schedule.proofs.history.OneTurnMore.{with_answers-none, length-with_answers}
 use Rattle.cadence_value.proofs.lists.SplitTexts.{each_append}
@@ -36,7 +36,7 @@ module _ {A : Type 0} (line_of : Call A → Option (List ℕ)) where
       ∙ ap (λ l. with_answers l (outcomes h)) (sym (undropped_lines_is line_of h))
 
   -- A turn that accepts no line, and in which no line leaves the queue, does not change the undropped lines.
-  pub undropped_lines_same : (h : List (Turn A)) (t : Turn A) → accepted_by line_of t ≡ [] → exit_by t ≡ []
+  pub undropped_lines_same : (h : List (Turn A)) (t : Turn A) → accepted_by_turn line_of t ≡ [] → exit_by t ≡ []
       → undropped_lines line_of (h ++ t ∷ []) ≡ undropped_lines line_of h
   undropped_lines_same h t a e = λ i.
       without_dropped
@@ -91,14 +91,14 @@ module _ {A : Type 0} (line_of : Call A → Option (List ℕ)) where
     by_option None some = tt
     by_option (Some line) some = (some line refl, tt)
 
-    by_turn : (t : Turn A) → AllByRecursion (λ l. l ≢ []) (accepted_by line_of t)
+    by_turn : (t : Turn A) → AllByRecursion (λ l. l ≢ []) (accepted_by_turn line_of t)
     by_turn (step.Call call, reply.Called (Ok n)) = by_option (line_of call) (filled call)
     by_turn (step.Call call, reply.CallDropped n m) = by_option (line_of call) (filled call)
     by_turn _ = tt
 
     accepted_each : (h : List (Turn A)) → AllByRecursion (λ l. l ≢ []) (accepted line_of h)
     accepted_each [] = tt
-    accepted_each (t ∷ h) = each_append (λ l. l ≢ []) (accepted_by line_of t) (accepted line_of h) (by_turn t) (accepted_each h)
+    accepted_each (t ∷ h) = each_append (λ l. l ≢ []) (accepted_by_turn line_of t) (accepted line_of h) (by_turn t) (accepted_each h)
 
     -- No undropped line is empty.
     pub undropped_lines_filled : (line : List ℕ) (h : List (Turn A)) (i : ℕ) → slice_get (undropped_lines line_of h) i ≡ Some line → line ≢ []

@@ -9,7 +9,7 @@ use Rattle.cadence_queue.specs.QueueModel.{Exit, by_take, by_drop}
 use Rattle.cadence_settings.specs.declared.call.Call.{Call}
 use Rattle.cadence_schedule.specs.declared.steps.Step.TheVariants as step
 use Rattle.cadence_schedule.specs.declared.steps.Reply.TheVariants as reply
-use Rattle.cadence_schedule.specs.RunHistory.{Turn, with_answers, without_dropped, outcomes, exits, accepted, accepted_by, undropped_lines, kept}
+use Rattle.cadence_schedule.specs.RunHistory.{Turn, with_answers, without_dropped, outcomes, exits, accepted, accepted_by_turn, undropped_lines, kept}
 
 module _ {X Y : Type 0} (f : X → Y) where
   option_mapped : (o : Option X) → option_to_list (option_map f o) ≡ map f (option_to_list o)
@@ -34,14 +34,14 @@ module _ {X Y : Type 0} (f : X → Y) where
   firsts_mapped (k ∷ ks) = ap (λ l. f k.0 ∷ l) (firsts_mapped ks)
 
   module _ {A : Type 0} (of : Call A → Option X) where
-    turn_mapped : (t : Turn A) → accepted_by (λ c. option_map f (of c)) t ≡ map f (accepted_by of t)
+    turn_mapped : (t : Turn A) → accepted_by_turn (λ c. option_map f (of c)) t ≡ map f (accepted_by_turn of t)
     turn_mapped (step.Call call, reply.Called (Ok n)) = option_mapped (of call)
     turn_mapped (step.Call call, reply.CallDropped n m) = option_mapped (of call)
     turn_mapped _ = refl
 
     accepted_mapped : (h : List (Turn A)) → accepted (λ c. option_map f (of c)) h ≡ map f (accepted of h)
     accepted_mapped [] = refl
-    accepted_mapped (t ∷ h) = (λ i. turn_mapped t i ++ accepted_mapped h i) ∙ sym (map-append f (accepted_by of t) (accepted of h))
+    accepted_mapped (t ∷ h) = (λ i. turn_mapped t i ++ accepted_mapped h i) ∙ sym (map-append f (accepted_by_turn of t) (accepted of h))
 
     pub kept_mapped : (h : List (Turn A)) → kept (λ c. option_map f (of c)) h ≡ map f (kept of h)
     kept_mapped h =
@@ -76,7 +76,7 @@ module _ {X : Type 0} (P : X → Type 0) where
       (each_undropped (accepted of h) (exits h) (recursion_from_All P (accepted of h) all)))
 
   -- what holds for the metric of each call, if it has one, holds for each accepted metric
-  turn_accepts : {A : Type 0} (of : Call A → Option X) → ((c : Call A) → IfSome (of c) P) → (t : Turn A) → All P (accepted_by of t)
+  turn_accepts : {A : Type 0} (of : Call A → Option X) → ((c : Call A) → IfSome (of c) P) → (t : Turn A) → All P (accepted_by_turn of t)
   turn_accepts of each (step.Call call, reply.Called (Ok n)) = all_of_option (of call) (each call)
   turn_accepts of each (step.Call call, reply.CallDropped n m) = all_of_option (of call) (each call)
   turn_accepts of each _ = All-nil P
@@ -84,4 +84,4 @@ module _ {X : Type 0} (P : X → Type 0) where
   pub all_accepted : {A : Type 0} (of : Call A → Option X) → ((c : Call A) → IfSome (of c) P) → (h : List (Turn A)) → All P (accepted of h)
   all_accepted of each [] = All-nil P
   all_accepted of each (t ∷ h) =
-      All-append P (accepted_by of t) (accepted of h) (turn_accepts of each t) (all_accepted of each h)
+      All-append P (accepted_by_turn of t) (accepted of h) (turn_accepts of each t) (all_accepted of each h)

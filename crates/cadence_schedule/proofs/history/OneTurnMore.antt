@@ -12,7 +12,7 @@ use Rattle.cadence_queue.specs.declared.policy.QueuePolicy.{QueuePolicy}
 use Rattle.cadence_errors.specs.declared.SinkError.{SinkError}
 use Rattle.cadence_settings.specs.declared.call.Call.{Call}
 use Rattle.cadence_schedule.specs.RunHistory.{Turn, with_answers, taken_count, takes_text, dropped_count, drops_text, outcomes, outcome_by, stops}
-use Rattle.cadence_schedule.specs.RunHistory.{is_stopped, error_count, is_error, accepted, accepted_by, kept, marks, mark_at}
+use Rattle.cadence_schedule.specs.RunHistory.{is_stopped, error_count, is_error, accepted, accepted_by_turn, kept, marks, mark_at}
 use Rattle.cadence_schedule.specs.RunHistory.{refusals, refusal_at, with_before}
 use Rattle.cadence_schedule.specs.Replies.{MayReply, MayReplyAfter}
 
@@ -83,8 +83,8 @@ module _ {A : Type 0} where
   stopped-push h t = list_any-append stops h (t ∷ []) ∙ ap (λ b. is_stopped h || b) (or_no (stops t))
 
 module _ {A : Type 0} (line_of : Call A → Option (List ℕ)) where
-  pub accepted-push : (h : List (Turn A)) (t : Turn A) → accepted line_of (h ++ t ∷ []) ≡ accepted line_of h ++ accepted_by line_of t
-  accepted-push h t = flat_map-append (accepted_by line_of) h (t ∷ []) ∙ ap (λ l. accepted line_of h ++ l) (append-nil (accepted_by line_of t))
+  pub accepted-push : (h : List (Turn A)) (t : Turn A) → accepted line_of (h ++ t ∷ []) ≡ accepted line_of h ++ accepted_by_turn line_of t
+  accepted-push h t = flat_map-append (accepted_by_turn line_of) h (t ∷ []) ∙ ap (λ l. accepted line_of h ++ l) (append-nil (accepted_by_turn line_of t))
 
   pub marks-push : (h : List (Turn A)) (t : Turn A) → marks line_of (h ++ t ∷ []) ≡ marks line_of h ++ mark_at line_of (length (kept line_of h)) t
   marks-push h t =

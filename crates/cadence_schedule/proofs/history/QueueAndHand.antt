@@ -13,7 +13,7 @@ use Rattle.cadence_settings.specs.declared.call.Call.{Call}
 use Rattle.cadence_schedule.specs.declared.steps.Step.TheVariants as step
 use Rattle.cadence_schedule.specs.declared.steps.Reply.TheVariants as reply
 use Rattle.cadence_schedule.specs.RunHistory.{Turn, taken_count, takes_text, dropped_count, drops_text, left_count, outcomes, outcome_by}
-use Rattle.cadence_schedule.specs.RunHistory.{stops, is_stopped, accepted, accepted_by, undropped_lines, in_hand}
+use Rattle.cadence_schedule.specs.RunHistory.{stops, is_stopped, accepted, accepted_by_turn, undropped_lines, in_hand}
 use Rattle.cadence_schedule.specs.Moves.{RunState}
 use Rattle.cadence_flow.specs.Writer.{PacketHistory}
 use Rattle.cadence_schedule.proofs.history.OneTurnMore.{or_no, accepted-push, outcomes-push, taken_count-push, dropped_count-push, stopped-push}
@@ -112,7 +112,7 @@ module _ {A : Type 0} (line_of : Call A → Option (List ℕ)) (queue : Option �
     stopped_is : is_stopped h' ≡ (is_stopped h || stop)
 
   grows : (h : List (Turn A)) (t : Turn A) (lines : List (List ℕ)) (answers : List (Option ℕ)) (taken dropped stop : Bool)
-      → accepted_by line_of t ≡ lines → outcome_by t ≡ answers → takes_text t ≡ taken → drops_text t ≡ dropped → stops t ≡ stop
+      → accepted_by_turn line_of t ≡ lines → outcome_by t ≡ answers → takes_text t ≡ taken → drops_text t ≡ dropped → stops t ≡ stop
       → Grows h (h ++ t ∷ []) lines (length answers) (cond taken 1 0) (cond dropped 1 0) stop
   grows h t lines answers taken dropped stop a b k d z =
       let accepts : accepted line_of (h ++ t ∷ []) ≡ accepted line_of h ++ lines = accepted-push line_of h t ∙ ap (λ l. accepted line_of h ++ l) a in
@@ -190,7 +190,7 @@ module _ {A : Type 0} (line_of : Call A → Option (List ℕ)) (queue : Option �
       (cases_lt (length (outcomes h)) (taken_count h))
 
   -- The queue and the hand stay right after a turn that accepts, takes, drops, hands on and stops nothing.
-  pub quiet : (h : List (Turn A)) (t : Turn A) (s s' : RunState) → SameQueue s s' → s'.in_hand ≡ s.in_hand → accepted_by line_of t ≡ []
+  pub quiet : (h : List (Turn A)) (t : Turn A) (s s' : RunState) → SameQueue s s' → s'.in_hand ≡ s.in_hand → accepted_by_turn line_of t ≡ []
       → takes_text t ≡ false → drops_text t ≡ false → outcome_by t ≡ [] → stops t ≡ false → QueueAfter h s → QueueAfter (h ++ t ∷ []) s'
   quiet h t s s' same hand a k d b z q =
       let w : Grows h (h ++ t ∷ []) [] 0 0 0 false = grows h t [] [] false false false a b k d z in
@@ -312,7 +312,7 @@ module _ {A : Type 0} (line_of : Call A → Option (List ℕ)) (queue : Option �
 
   -- The queue and the hand stay right after a turn that hands on one line.
   pub queue_hand : (h : List (Turn A)) (t : Turn A) (o : Option ℕ) (line : List ℕ) (s s' : RunState) → SameQueue s s' → s'.in_hand ≡ None
-      → accepted_by line_of t ≡ [] → takes_text t ≡ false → drops_text t ≡ false → outcome_by t ≡ o ∷ [] → stops t ≡ false → QueueAfter h s
+      → accepted_by_turn line_of t ≡ [] → takes_text t ≡ false → drops_text t ≡ false → outcome_by t ≡ o ∷ [] → stops t ≡ false → QueueAfter h s
       → s.in_hand ≡ Some line → QueueAfter (h ++ t ∷ []) s'
   queue_hand h t o line s s' same none a k d b z q some =
       let w : Grows h (h ++ t ∷ []) [] 1 0 0 false = grows h t [] (o ∷ []) false false false a b k d z in

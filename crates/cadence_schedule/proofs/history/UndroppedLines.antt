@@ -8,7 +8,7 @@ use Rattle.cadence_settings.specs.declared.call.Call.{Call}
 use Rattle.cadence_schedule.specs.declared.steps.Step.TheVariants as step
 use Rattle.cadence_schedule.specs.declared.steps.Reply.TheVariants as reply
 use Rattle.cadence_schedule.specs.RunHistory.{Turn, without_dropped, taken_count, takes_text, drops_text, left_count, exits, exit_by}
-use Rattle.cadence_schedule.specs.RunHistory.{accepted, accepted_by, undropped_lines}
+use Rattle.cadence_schedule.specs.RunHistory.{accepted, accepted_by_turn, undropped_lines}
 use Rattle.cadence_schedule.proofs.history.OneTurnMore.{accepted-push}
 
 -- the elements that were taken
@@ -116,13 +116,13 @@ module _ {A : Type 0} (line_of : Call A → Option (List ℕ)) where
   pub undropped_lines-push : (h : List (Turn A)) (t : Turn A) → left_count h ≤ length (accepted line_of h)
       → (more : List (List ℕ)) × (undropped_lines line_of (h ++ t ∷ []) ≡ out h ++ more)
   undropped_lines-push h t within =
-      let grown : out (h ++ t ∷ []) ≡ out h ++ taken_of (drop (length (exits h)) (accepted line_of h) ++ accepted_by line_of t) (exit_by t) =
+      let grown : out (h ++ t ∷ []) ≡ out h ++ taken_of (drop (length (exits h)) (accepted line_of h) ++ accepted_by_turn line_of t) (exit_by t) =
       (λ i. taken_of (accepted-push line_of h t i) (exits-push h t i))
-      ∙ taken_of-more (accepted line_of h) (accepted_by line_of t) (exits h) (exit_by t) (omega (arith, exits_left h)) in (
-        taken_of (drop (length (exits h)) (accepted line_of h) ++ accepted_by line_of t) (exit_by t) ++ drop (left_count (h ++ t ∷ []))
+      ∙ taken_of-more (accepted line_of h) (accepted_by_turn line_of t) (exits h) (exit_by t) (omega (arith, exits_left h)) in (
+        taken_of (drop (length (exits h)) (accepted line_of h) ++ accepted_by_turn line_of t) (exit_by t) ++ drop (left_count (h ++ t ∷ []))
             (accepted line_of (h ++ t ∷ [])),
         undropped_lines_is (h ++ t ∷ [])
             ∙ ap (λ l. l ++ drop (left_count (h ++ t ∷ [])) (accepted line_of (h ++ t ∷ []))) grown
-            ∙ append_assoc (out h) (taken_of (drop (length (exits h)) (accepted line_of h) ++ accepted_by line_of t) (exit_by t))
+            ∙ append_assoc (out h) (taken_of (drop (length (exits h)) (accepted line_of h) ++ accepted_by_turn line_of t) (exit_by t))
             (drop (left_count (h ++ t ∷ [])) (accepted line_of (h ++ t ∷ []))),
       )

@@ -1,6 +1,6 @@
 use Rattle.std.proofs.Common.{◌≡◌, ◌++◌, length, take}
 use Rattle.cadence_aggregate.specs.Refusals.{after_replies}
-use Rattle.cadence_aggregate.specs.Aggregate.{held, accepted}
+use Rattle.cadence_aggregate.specs.Aggregate.{held, accepted_samples}
 use Rattle.cadence_aggregate.specs.Server.{IsSummary}
 use Rattle.cadence_aggregate.specs.Within.{StayWithin}
 use Rattle.cadence_aggregate.proofs.runs.run.Given as goal
@@ -10,9 +10,9 @@ use Rattle.cadence_aggregate.proofs.runs.run.Given as goal
 abbrev pub invariant-loop-step : goal.invariant-loop-step
 invariant-loop-step g l = record {
   replies : length l.replies.items ≡ l.step-index;
-  same : IsSummary (g.S.LineSink.sent l.fn.sink ++ accepted (take l.step-index l.steps) l.replies.items) (g.S.LineSink.sent l.sink ++ held l.aggregator);
+  same : IsSummary (g.S.LineSink.sent l.fn.sink ++ accepted_samples (take l.step-index l.steps) l.replies.items) (g.S.LineSink.sent l.sink ++ held l.aggregator);
   refused : g.S.LineSink.refusals l.sink ≡ after_replies (g.S.LineSink.refusals l.fn.sink) l.replies.items;
   leads : g.S.LineSink.leads l.fn.sink l.sink;
   limit : l.aggregator.most_bytes ≡ l.fn.most_bytes;
-  within : StayWithin l.fn.most_bytes (g.S.LineSink.sent l.fn.sink ++ accepted (take l.step-index l.steps) l.replies.items) (g.S.LineSink.sent l.sink ++ held l.aggregator);
+  within : StayWithin l.fn.most_bytes (g.S.LineSink.sent l.fn.sink ++ accepted_samples (take l.step-index l.steps) l.replies.items) (g.S.LineSink.sent l.sink ++ held l.aggregator);
 }

@@ -1,6 +1,6 @@
 use Rattle.std.proofs.Common.{◌≡◌, ◌++◌, ◌∷◌, [], rules}
 use Rattle.cadence_aggregating.specs.Summed.{accepted_in}
-use Rattle.cadence_send.specs.Summed.{packer_of, sums_of, summed_none}
+use Rattle.cadence_send.specs.Summed.{packer_below, sums_of, summed_none}
 use Rattle.cadence_send.specs.Takes.{takes_none}
 use Rattle.cadence_send.proofs.Feeding.{on_err}
 use Rattle.cadence_send.proofs.Summing.{summed_between, summed_kept, summed_sent}
@@ -23,7 +23,7 @@ returns-in_err-add-clause-kept g c =
     on_err c.from_residual-in_err-add.result
     (summed_sent kind history [] c.args.self.now q _
     (summed_kept kind history c.args.self.now q c.give_waiting.ensures.gives c.give_waiting.ensures.accepted)
-    c.in_err-add.ensures.err c.add.ensures.gone (takes_none kind history (packer_of q)))
+    c.in_err-add.ensures.err c.add.ensures.gone (takes_none kind history (packer_below q)))
 
 pub returns-clause-taken : goal.returns-clause-taken
 returns-clause-taken g c =
@@ -33,5 +33,5 @@ returns-clause-taken g c =
     let line = c.args.line.now in
     let more : accepted_in c.add.new.self ≡ accepted_in (sums_of q) ++ line ∷ [] = search rules in
     summed_between kind history (line ∷ []) c.args.self.now q _ c.give_waiting-2.new.self c.give_waiting.ensures.gives
-    c.give_waiting.ensures.accepted c.add.ensures.gone (takes_none kind history (packer_of q)) more c.give_waiting-2.ensures.gives
+    c.give_waiting.ensures.accepted c.add.ensures.gone (takes_none kind history (packer_below q)) more c.give_waiting-2.ensures.gives
     c.give_waiting-2.ensures.accepted
