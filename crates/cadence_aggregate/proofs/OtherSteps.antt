@@ -21,10 +21,6 @@ or_regroup false true e x f h = rw (f refl) refl
 or_regroup false false true x f h = refl
 or_regroup false false false x f h = h
 
-or_true : (b : Bool) → b || true ≡ true
-or_true true = refl
-or_true false = refl
-
 -- a plain value replaces the earlier ones
 plain_last : (x : List (List ℕ)) (v : List ℕ) → is_plain v ≡ true → later x (v ∷ []) ≡ v ∷ []
 plain_last x v h = rw h refl

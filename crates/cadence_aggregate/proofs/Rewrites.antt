@@ -37,10 +37,6 @@ module _ {Z : Type 0} (ours : List ℕ → Bool) where
   levels_members [] = refl
   levels_members (e ∷ es) = rw (member-append ours (held_levels es) (level (string_bytes e.0) (string_bytes e.1) ∷ []), levels_members es) refl
 
-  pub members_totals : (es : List (String Z × Unit {0})) → total ours (held_members es) ≡ pos 0
-  members_totals [] = refl
-  members_totals (e ∷ es) = rw (total-append ours (held_members es) (member (string_bytes e.0) ∷ []), members_totals es) refl
-
   pub members_levels : (es : List (String Z × Unit {0})) → gauge ours (held_members es) ≡ []
   members_levels [] = refl
   members_levels (e ∷ es) = gauge-append ours (held_members es) (member (string_bytes e.0) ∷ []) ∙ members_levels es

@@ -45,9 +45,3 @@ step_within limit before past now xs rs x r h a b =
 pub refused_more : (first : ℕ) (rs : List Reply) (r : Reply) → after_replies first (rs ++ r ∷ []) ≡ after_reply (after_replies first rs) r
 refused_more first [] r = refl
 refused_more first (q ∷ rs) r = refused_more (after_reply first q) rs r
-
--- a step says what its line says, if it was accepted
-pub line_said : (s now : List Sample) (line : Line) (r : Reply) → OnOk r (IsSummary (s ++ samples_of line) now) → OnErr r (IsSummary s now)
-    → IsSummary (s ++ said_by (Add line) r) now
-line_said s now line (Ok x) a b = a
-line_said s now line (Err e) a b = same_trans _ _ _ (same_of (s ++ []) s (append-nil s)) b

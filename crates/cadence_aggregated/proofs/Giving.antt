@@ -12,14 +12,6 @@ use Rattle.cadence_aggregated.specs.Sendings.{wrote}
 use Rattle.cadence_aggregated.specs.declared.packer_sink.PackerSink.{PackerSink}
 
 module _ {P A : Type 0} (kind : P → WriterKind) (history : P → PacketHistory) (old new : PackerSink P A) (keeps : KeepsKindAndFormat kind old.packing new.packing) where
-  -- Memory ran out, and nothing was asked.
-  pub asks_nothing : packed_state history new.packing ≡ packed_state history old.packing → new.refused ≡ old.refused
-      → new.notes.items ≡ old.notes.items → LeadsSink kind history old new
-  asks_nothing packed refused notes = record {
-    asked = [];
-    writes = subst (λ o. WritesAfter old.refused [] o) (sym refused) (after_none old.refused);
-    packs = record { lines = ap (map line_of_note) notes ∙ sym (append-nil (lines_by old)); keeps = keeps; sends = packed };
-  }
 
   -- A line was kept.
   pub line_kept : (text : List ℕ) (n : ℕ) (note : Note) → old.refused ≡ None → new.refused ≡ None

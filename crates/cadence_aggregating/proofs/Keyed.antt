@@ -125,19 +125,11 @@ module _ (s : Settings) (call : MetricCall) (line : List ℕ) (zero : IsLineOfZe
   pub sets_no_counter : call.kind ≡ Gauge → (key : CounterKey) → IsKeyOfLine line (Raises key) → ⊥
   sets_no_counter kind key (m, listed, its, (k, lines)) = cc (sym k ∙ kind_found m listed its ∙ kind)
 
--- the context of a line that raises a counter, and its key
-pub counter_context : (line c : List ℕ) (n : ℤ) → LineSays line (amount c n) → IsContextOf Counter c
-counter_context line c n (m, listed, its, (kind, time, context, numbers, fits)) = (m, listed, kind, time, context)
-
 pub counter_key : (line c t : List ℕ) (n : ℤ) → LineSays line (amount c n) → t ≡ c
     → (m : Metric) × IsListed m × (line_of m ≡ line)
     × ((m.kind ≡ Counter) × ((k : ℤ) → spliced t (number_text (whole k)) ≡ line_of (numbered m (whole k ∷ []))))
 counter_key line c t n (m, listed, its, (kind, time, context, numbers, fits)) same =
     (m, listed, its, (kind, λ k. ap₂ spliced (same ∙ context) (sym (one_number (whole k))) ∙ sym (numbered_line m listed (whole k ∷ []))))
-
--- the context of a line that sets a gauge, and its key
-pub gauge_context : (line c v : List ℕ) → LineSays line (level c v) → IsContextOf Gauge c
-gauge_context line c v (m, listed, its, (kind, time, context, values)) = (m, listed, kind, time, context)
 
 pub gauge_key : (line c v t : List ℕ) → LineSays line (level c v) → t ≡ c
     → (m : Metric) × IsListed m × (line_of m ≡ line)

@@ -14,12 +14,6 @@ use Rattle.cadence_aggregating.specs.declared.said.Addition.TheVariants.{Amount,
 use Rattle.cadence_aggregating.proofs.MetricParts.{ArePartsOf, line_parts}
 
 module _ (m : Metric) (line : List ℕ) (listed : IsListed m) (its : line_of m ≡ line) where
-  -- if the metric can't be added, the line says itself
-  pub other_said : LineReadsOneWay → ((said : Sample) → Says m said → ⊥) → LineSays line (other line)
-  other_said once none = (
-    refl,
-    λ said (n, good, same, says). none said (subst (λ x. Says x said) (once n m good.free listed.free (same ∙ sym its)) says),
-  )
 
   -- the line of a metric can be cut
   pub is_cut : ((name values rest : List ℕ) → All IsNoSeparator name → line ≡ name ++ 58 ∷ (values ++ 124 ∷ rest) → ⊥) → ⊥
@@ -39,6 +33,3 @@ module _ (m : Metric) (line : List ℕ) (listed : IsListed m) (its : line_of m �
 
     pub timing_said : IsAddition m Timing → LineSays line (timing context values)
     timing_said (kind, time, some) = (m, listed, its, (kind, time, its_context, parts.values, some))
-
-  pub member_said : IsAddition m Member → LineSays line (member line)
-  member_said (kind, time) = (m, listed, its, (kind, time, sym its))

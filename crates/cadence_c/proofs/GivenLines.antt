@@ -48,10 +48,6 @@ adds_between lines a b c d s m t first before gone more last after = record {
   gives = gives_more a b d s m t first (gives_more b c d m m t (gives_none b c m gone) last);
 }
 
--- Lines left the sums, and nothing else.
-pub adds_none : (a b : SummedLines) (s t : ClientState) → GivesLines a b s t → accepted_in b ≡ accepted_in a → AddsUp [] a b s t
-adds_none a b s t gives same = record { accepted = same ∙ sym (append-nil (accepted_in a)); gives = gives }
-
 pub on_err : {A E P : Type 0} (r : Result A E) → P → OnErr r P
 on_err (Ok a) p = tt
 on_err (Err e) p = p

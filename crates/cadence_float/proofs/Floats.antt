@@ -225,11 +225,6 @@ pub round_number : (f : Format) (s : Bool) (a b : ℕ) → is_nan (round f s a b
 unfolding round
 round_number f s a b = units_number f s _ _
 
--- Digits with a power of ten below, as `from_parts` reads them.
-pub nearest_down : (s : Bool) (d p : ℕ) → nearest_to_decimal binary64 s d (neg_ℤ (pos p)) ≡ round binary64 s (d * 10 ^ 0) (10 ^ p)
-nearest_down s d zero = refl
-nearest_down s d (suc q) = let same : d ≡ d * 10 ^ 0 = omega arith in ap (λ a. round binary64 s a (10 ^ suc q)) same
-
 -- Two floats with the same bits are one float.
 pub same_bits : (x y : Float) → T (fits binary64 x) → T (fits binary64 y) → to_bits binary64 x ≡ to_bits binary64 y → x ≡ y
 same_bits x y p q e = sym (of_bits-to_bits binary64 x p) ∙ ap (of_bits binary64) e ∙ of_bits-to_bits binary64 y q

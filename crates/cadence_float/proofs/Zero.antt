@@ -17,8 +17,3 @@ zero_is_read = parse_of_number (natural 0)
 pub reads_as_zero : (n : Number) (x : Float) → n ≡ natural 0 → eq x float_zero ≡ true → IsReadAs n x
 reads_as_zero n x zero is =
     ap (λ (k : Number). parse_float binary64 (number_text k)) zero ∙ zero_is_read ∙ sym (ap (λ (b : Bool). Some (cond b float_zero x)) is)
-
--- What the number of a float that is no zero is.
-pub stands_for : (n : Number) (x : Float) → eq x float_zero ≡ false → (parse_float binary64 (number_text n) ≡ Some x) ⊎ IsCutOf n x → StandsForFloat n x
-stands_for n x is (inl reads) = inl (reads ∙ sym (ap (λ (b : Bool). Some (cond b float_zero x)) is))
-stands_for n x is (inr cut) = inr cut

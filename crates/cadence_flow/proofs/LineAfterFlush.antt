@@ -18,32 +18,6 @@ nothing_held s none = ap (λ h. concat s.history.packets ++ h) none ∙ append-n
 module _ (kind : WriterKind) (old mid new : PackerState) (format : Format) (line : List ℕ) (u : Unit {0})
     (small : size_of format line ≤ format.capacity) (same : new.history ≡ mid.history)
     (held : new.held ≡ line ++ format.ending) (sent : mid.held ≡ []) where
-  -- The text grows by the line and its ending.
-  text_behind : whole_text mid ≡ whole_text old → whole_text new ≡ whole_text old ++ frame_of format line (length line)
-  text_behind before =
-      ap (λ h. concat new.history.packets ++ h) held ∙ ap (λ (h : PacketHistory). concat h.packets ++ (line ++ format.ending)) same
-      ∙ ap (λ (l : List ℕ). l ++ (line ++ format.ending)) (sym (nothing_held mid sent) ∙ before)
-      ∙ ap (λ (b : Bool). whole_text old ++ (if b then take (length line) line else line ++ format.ending))
-      (sym (le-ltb format.capacity (size_of format line) small))
-
-  -- Writing a line that fits a packet does what `Writes` says: the line is held.
-  pub Writes-behind : Flushes kind old mid (Ok u) → format.capacity < length old.held + size_of format line
-      → Writes kind format old new line (Ok (length line))
-  Writes-behind flushed full =
-      record {
-        count = record { within = omega arith; not_oversize = λ _. refl; takes_whole = λ _. refl };
-        fits = λ room. absurd (omega arith);
-        goes_first = λ _ _. record {
-          held = held;
-          sent = λ t. subst (λ (h : PacketHistory). Sends old.history h old.held) (sym same) (flushed.sent t);
-          one_packet = λ t w. ap (λ (h : PacketHistory). h.packets) same ∙ flushed.one_packet t w;
-        };
-        alone = λ over. absurd (false≢true (sym (le-ltb format.capacity (size_of format line) small) ∙ over));
-        fails = tt;
-        none_refused = subst (λ (h : PacketHistory). RefusedNothing old.history h) (sym same) flushed.none_refused;
-        text = λ t. text_behind (flushed.text t);
-        extends = λ t. subst (λ (h : PacketHistory). Extends old.history h) (sym same) (flushed.extends t);
-      }
 
 module _ (kind : WriterKind) (old mid new : PackerState) (format : Format) (line : List ℕ) (u : Unit {0})
     (emptied : new.held ≡ []) (sent : mid.held ≡ []) where

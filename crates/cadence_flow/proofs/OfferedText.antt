@@ -38,27 +38,3 @@ pub offered_nothing : (old mid new : Offers) (packet : List ℕ) (len sent n : �
     → sent < len → length packet ≡ len - sent → n ≡ 0 → IsOffered mid new packet (Ok n) → SendsOffers old new false
 offered_nothing None mid new packet len sent n before more is none step = tt
 offered_nothing (Some old) mid new packet len sent n before more is none step = one_short old mid new packet n (omega arith) (before.0 more) step
-
--- If text is held, a flush adds the offers that sending the held text adds.
-pub offered_held : (old new : Offers) (held : List ℕ) (ok : Bool) → 0 < length held → SendsOffers old new ok
-    → FlushesOffers old new held ok
-offered_held None new held ok some sent = tt
-offered_held (Some old) new [] ok some sent = absurd (omega arith)
-offered_held (Some old) new (b ∷ bs) ok some sent = sent
-
--- If an oversize line is taken after a flush, the flush's offers and that of the line are added.
-pub alone_offers : (old mid new : Offers) (held line : List ℕ) (r : Result ℕ SinkError)
-    → FlushesOffers old mid held true → IsOffered mid new line r
-    → IfOk r (λ n. (between : Offers) × FlushesOffers old between held true × IsOffered between new line (Ok n))
-alone_offers old mid new held line (Ok n) flushed step = (mid, flushed, step)
-alone_offers old mid new held line (Err e) flushed step = tt
-
--- If an oversize line is refused after a flush, only the flush's offers are added.
-pub refused_offers : (old mid new : Offers) (held rest line : List ℕ) (r : Result ℕ SinkError)
-    → FlushesOffers old mid held true → IsOffered mid new line r → rest ≡ []
-    → OnErr r (FlushesOffers old new held false ⊎ (FlushesOffers old new held true × (rest ≡ [])))
-refused_offers old mid new held rest line (Ok n) flushed step emptied = tt
-refused_offers None mid new held rest line (Err e) flushed step emptied = inr (tt, emptied)
-refused_offers (Some old) mid new [] rest line (Err e) flushed step emptied = inr (subst (λ m. IsOffered m new line (Err e)) flushed step, emptied)
-refused_offers (Some old) mid new (b ∷ bs) rest line (Err e) (shorts, last, all, is) step emptied =
-    inr ((shorts, last, all, subst (λ m. IsOffered m new line (Err e)) is step), emptied)

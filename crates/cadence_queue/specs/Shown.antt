@@ -18,14 +18,6 @@ module _ {T A : Type 0} where
   abbrev pub dropped_of : Accepted T A → Option T
   dropped_of a = a.dropped
 
-  -- the state in which the text was accepted
-  abbrev pub state_before : Accepted T A → Queue T
-  state_before a = a.before.value
-
-  -- the state after that
-  abbrev pub state_after : Accepted T A → Queue T
-  state_after a = a.after.value
-
   -- how many bytes the caller gets of a queued line
   abbrev pub queued_bytes : Queued T A → ℕ
   queued_bytes q = q.bytes

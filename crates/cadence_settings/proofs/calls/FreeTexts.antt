@@ -70,15 +70,6 @@ free_with_tag s t strict free allowed =
     (list_all-append is_free_tag s.tags (t ∷ []) ∙ and_from (list_all is_free_tag s.tags) (is_free_tag t && true) tags
     (and_from (is_free_tag t) true one refl)) container)
 
-pub free_with_container : (s : Settings) (c : List ℕ) → IsTrue s.strict → IsTrue (is_free_settings s) → IsTrue (allows_text s c)
-    → IsTrue (is_free_settings (with_default_container s c))
-free_with_container s c strict free allowed =
-    let (prefix, defaults) = and_parts (is_free_text s.prefix) (list_all is_free_tag s.tags && is_free_if_any s.container) free in
-    let (tags, container) = and_parts (list_all is_free_tag s.tags) (is_free_if_any s.container) defaults in
-    let one : is_free_text c ≡ true = subst (λ (b : Bool). (not b || is_free_text c) ≡ true) strict allowed in
-    and_from (is_free_text s.prefix) (list_all is_free_tag s.tags && is_free_text c) prefix
-    (and_from (list_all is_free_tag s.tags) (is_free_text c) tags one)
-
 -- the metric of each call that is kept as data is free of separators, if the settings are strict and have none
 by_allowed : (P : Metric → Type 0) (allowed : Bool) (numbers : Option (List Number)) (f : List Number → Metric)
     → (allowed ≡ true → (ns : List Number) → P (f ns)) → IfSome (option_map f (if allowed then numbers else None)) P

@@ -125,23 +125,6 @@ head_is_short prefix key ns k hp hk hn =
 pub head_is_some : (name : List ℕ) (ns : List Number) (k : MetricType) → 0 < length (head_text name ns k)
 head_is_some name ns k = omega (arith, length-append name (58 ∷ (numbers_text ns ++ (124 ∷ kind_text k))))
 
-pub draft_is_short : (d : Draft) → IsTextInMemory d.head → IfSome d.rate IsDecimal → IsTextInMemory d.tags → IfSome d.container IsTextInMemory
-    → IsTimestamp d.time → length (draft_line d) < 2 ^ 100
-draft_is_short d hh hr ht hc hi =
-    let last = container_field d.container ++ time_field d.time in
-    omega (
-      arith,
-      hh.0,
-      rate_short d.rate hr,
-      ht.0,
-      container_short d.container hc,
-      time_short d.time hi,
-      length-append d.head (rate_field d.rate ++ (d.tags ++ last)),
-      length-append (rate_field d.rate) (d.tags ++ last),
-      length-append d.tags last,
-      length-append (container_field d.container) (time_field d.time),
-    )
-
 pub line_is_short : (m : Metric) → IsMetricInMemory m → length (line_of m) < 2 ^ 126
 unfolding line_of
 line_is_short m h =
