@@ -28,5 +28,6 @@ pub fn choosing_stands_for_more()
 
 /// States that two metrics of one kind are equal if and only if their texts are equal.
 pub fn metrics_equal_by_text<K, A: Allocator>()
-    ensures { (a b : List ℕ) → IsTrue (⟦<MetricText<K, A> as PartialEq>⟧.eq a b) ↔ (a ≡ b) }
+    ensures { (a b : List ℕ) →
+        IsTrue (⟦<MetricText<K, A> as PartialEq>⟧.eq a b) ↔ (a ≡ b) }
 {}

@@ -1,14 +1,11 @@
 -- What the lines of a run say, one step further.
 use Rattle.std.proofs.Common.{◌≡◌, ℕ, List, [], ◌∷◌, ◌++◌, length, refl, sym, ap, ◌∙◌, arith, append_assoc, append-nil}
-use Rattle.std.specs.Prelude.{Result, Ok, Err, OnOk, OnErr}
+use Rattle.std.specs.Prelude.{Result}
 use Rattle.cadence_aggregate.specs.Aggregate.{accepted_samples, said_by}
-use Rattle.cadence_aggregate.specs.Lines.{samples_of}
 use Rattle.cadence_aggregate.specs.Refusals.{after_reply, after_replies}
 use Rattle.cadence_aggregate.specs.Server.{Sample, IsSummary}
 use Rattle.cadence_aggregate.specs.Within.{StayWithin}
-use Rattle.cadence_aggregate.specs.declared.line.Line.{Line}
 use Rattle.cadence_aggregate.specs.declared.runs.Step.{Step}
-use Rattle.cadence_aggregate.specs.declared.runs.Step.TheVariants.{Add}
 use Rattle.cadence_aggregate.specs.declared.sink.Fault.{Fault}
 use Rattle.cadence_aggregate.proofs.Observed.{same_of, same_trans, same_more}
 use Rattle.cadence_aggregate.proofs.Within.{stay_further, stay_more, stay_same}

@@ -4,11 +4,11 @@ use Rattle.cadence_aggregate.specs.Aggregate.{said_by}
 use Rattle.cadence_aggregate.specs.Lines.{samples_of}
 use Rattle.cadence_aggregate.specs.declared.line.Line.{Line}
 use Rattle.cadence_aggregate.specs.declared.runs.Step.TheVariants.{Add}
-use Rattle.std.proofs.Common.{◌≡◌, ℕ, ◌+◌, Bool, true, false, cond, List, [], ◌∷◌, ◌++◌, length, Option, Some, None, refl, sym, ap, subst, ◌∙◌, arith, append_assoc, append-nil}
+use Rattle.std.proofs.Common.{◌≡◌, ℕ, ◌+◌, Bool, true, false, cond, List, [], ◌∷◌, ◌++◌, length, Some, sym, subst, arith}
 use Rattle.std.specs.Map.{lookup, lookup_entry, remove_entry, set_value}
 use Rattle.lru.specs.LruCache.{promoted}
 use Rattle.cadence_aggregate.specs.Server.{Sample, amount, level, member, timing, other}
-use Rattle.cadence_aggregate.specs.Held.{held_by, held_sums, held_levels, held_members, held_timings}
+use Rattle.cadence_aggregate.specs.Held.{held_sums, held_levels, held_members, held_timings}
 use Rattle.cadence_aggregate.specs.Within.{AreWithin, StayWithin, if_ok}
 use Rattle.cadence_aggregate.proofs.Tables.{rewritten}
 

@@ -6,13 +6,11 @@ use Rattle.cadence_aggregating.specs.declared.note.Note.{Note}
 use Rattle.cadence_errors.specs.declared.SinkError.{SinkError}
 use Rattle.cadence_flow.specs.Writer.{PacketHistory, WriterKind}
 use Rattle.cadence_aggregated.specs.Leads.{LeadsSink, WritesAfter, lines_by}
-use Rattle.cadence_aggregated.specs.Led.{after_none}
 use Rattle.cadence_aggregated.specs.PackedRuns.{KeepsKindAndFormat, MovesPacker, packed_state}
 use Rattle.cadence_aggregated.specs.Sendings.{wrote}
 use Rattle.cadence_aggregated.specs.declared.packer_sink.PackerSink.{PackerSink}
 
 module _ {P A : Type 0} (kind : P → WriterKind) (history : P → PacketHistory) (old new : PackerSink P A) (keeps : KeepsKindAndFormat kind old.packing new.packing) where
-
   -- A line was kept.
   pub line_kept : (text : List ℕ) (n : ℕ) (note : Note) → old.refused ≡ None → new.refused ≡ None
       → MovesPacker (kind old.packing.packer.writer) old.packing.packer.format (packed_state history old.packing) (wrote text (Ok n)) (packed_state history new.packing)

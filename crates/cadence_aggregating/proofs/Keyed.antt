@@ -18,7 +18,7 @@ use Rattle.cadence_text.specs.Line.{line_of}
 use Rattle.cadence_text.specs.Metric.{Metric, Tag}
 use Rattle.cadence_text.specs.Representable.{IsRepresentable}
 use Rattle.cadence_value.specs.Number.{Number, natural, number_text, numbers_text, whole}
-use Rattle.cadence_aggregating.specs.Contexts.{IsContextOf, IsLineOfZero, IsUntimed, MayFailFor, zeros}
+use Rattle.cadence_aggregating.specs.Contexts.{IsLineOfZero, IsUntimed, MayFailFor, zeros}
 use Rattle.cadence_aggregating.specs.Keys.{CountsFor, IsKeyOfLine, SaysNeither, SetsFor}
 use Rattle.cadence_aggregating.specs.declared.keys.CounterKey.{CounterKey}
 use Rattle.cadence_aggregating.specs.declared.keys.GaugeKey.{GaugeKey}

@@ -1,20 +1,18 @@
 -- What the line of a metric says.
-use Rattle.std.proofs.Common.{◌≡◌, ℕ, ℤ, List, ◌∷◌, ◌++◌, refl, sym, ap₂, subst, ◌∙◌}
+use Rattle.std.proofs.Common.{◌≡◌, ℕ, ℤ, List, ◌∷◌, ◌++◌, sym, ap₂, ◌∙◌}
 use Rattle.std.specs.Prelude.{All}
-use Rattle.cadence_aggregate.specs.Server.{Sample, amount, level, member, timing, other}
+use Rattle.cadence_aggregate.specs.Server.{amount, level, timing}
 use Rattle.cadence_read.specs.Listed.{IsListed}
-use Rattle.cadence_text.specs.Laws.{LineReadsOneWay}
 use Rattle.cadence_text.specs.Line.{kind_text, rate_field, tags_field, container_field, time_field, line_of}
 use Rattle.cadence_text.specs.Metric.{Metric}
 use Rattle.cadence_text.specs.OneReading.{IsNoSeparator}
 use Rattle.cadence_value.specs.Number.{numbers_text}
 use Rattle.cadence_aggregating.specs.Additions.{IsAddition}
-use Rattle.cadence_aggregating.specs.Says.{Says, LineSays, context_of}
-use Rattle.cadence_aggregating.specs.declared.said.Addition.TheVariants.{Amount, Level, Member, Timing}
+use Rattle.cadence_aggregating.specs.Says.{LineSays, context_of}
+use Rattle.cadence_aggregating.specs.declared.said.Addition.TheVariants.{Amount, Level, Timing}
 use Rattle.cadence_aggregating.proofs.MetricParts.{ArePartsOf, line_parts}
 
 module _ (m : Metric) (line : List ℕ) (listed : IsListed m) (its : line_of m ≡ line) where
-
   -- the line of a metric can be cut
   pub is_cut : ((name values rest : List ℕ) → All IsNoSeparator name → line ≡ name ++ 58 ∷ (values ++ 124 ∷ rest) → ⊥) → ⊥
   is_cut none =

@@ -1,5 +1,5 @@
 -- The lines that sums give to a client, and the keys of a handle.
-use Rattle.std.proofs.Common.{◌≡◌, ◌<◌, ℕ, List, [], ◌∷◌, ◌++◌, refl, sym, ap, ◌∙◌, append_assoc, append-nil, subst, arith, take, drop, length, Option, Some, Result, Ok, Err}
+use Rattle.std.proofs.Common.{◌≡◌, ◌<◌, ℕ, List, [], ◌∷◌, ◌++◌, refl, sym, ap, ◌∙◌, append_assoc, append-nil, subst, arith, take, drop, length, Some, Result, Ok, Err}
 use Rattle.std.specs.Prelude.{IsSomeAnd, OnErr, OnOk, option_map}
 use Rattle.cadence_aggregating.specs.Summed.{accepted_in, gone_in, held_in, waiting_in}
 use Rattle.cadence_aggregating.specs.declared.summed.SummedLines.{SummedLines}

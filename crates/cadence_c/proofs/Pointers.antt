@@ -6,7 +6,7 @@ use mathlib.Core.List.{List, [], ◌∷◌, ◌++◌}
 use seplogic.Ra.Ura.{Ura}
 use mir.Syntax.{Sym, Ty, Fn, Callee, local, value_local, ty_ptr, ty_struct, tnil, tcons, place, field, copy, int, w64, assign, rv_opd, aggregate, seq, return}
 use mir.Val.{Val, vint, vstruct, vcons, vnil, has_ty}
-use base.Logic.{SProp, ent, emp, id⊢}
+use base.Logic.{SProp, ent, emp}
 use base.Fml.{ftrue, fsep}
 use prog.Model.{Model}
 use prog.Wp.{WpFn, Closed}
@@ -109,7 +109,7 @@ module _ (E : Bx) where
     body = seq (assign (place 0 []) (aggregate (int w64 0 ∷ copy (place 1 []) ∷ []))) return;
   }
 
-  -- `Known` is what is known of a parameter of which the function asks `Asks`.
+  -- The function asks `Asks` of its parameter, and `Known` is the fact that follows from it.
   module _ (From To : RattleType) {M : Type 1} {𝓤 : Ura M} (𝓛 : Logic 𝓤) (Asks : From.Denot → SProp 𝓤)
       (Says : From.Denot → To.Denot → Type 0) (𝓜 : Model 𝓤 𝓛.H) (𝓡 : Running 𝓤 𝓛.H 𝓜) (Known : From.Denot → Type 0)
       (knows : (d : From.Denot) → ent 𝓤 (Asks d) (fact 𝓤 (Known d)))

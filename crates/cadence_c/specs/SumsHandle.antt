@@ -1,5 +1,5 @@
 -- What a handle of sums contains, and what a call does to it and to the client that takes its lines.
-use Rattle.std.specs.Prelude.{Option, Some, None, List, IsSomeAnd, option_map}
+use Rattle.std.specs.Prelude.{Option, List, IsSomeAnd, option_map}
 use Rattle.cadence_aggregating.specs.declared.keys.LineKey.{LineKey}
 use Rattle.cadence_aggregating.specs.declared.summed.SummedLines.{SummedLines}
 use Rattle.cadence_c.specs.ClientState.{ClientState}

@@ -1,5 +1,5 @@
 -- A decimal's text is read as the float nearest to the number.
-use Rattle.std.proofs.Common.{◌≡◌, ◌≢◌, ℕ, zero, suc, ◌+◌, ◌-◌, ◌*◌, ◌/◌, ◌%◌, ◌^◌, ◌<◌, ◌≤◌, ℤ, pos, negsuc, ◌*ℤ◌, Bool, true, false, not, List, [], ◌∷◌, ◌++◌, length, get_or, refl, sym, ap, ap₂, ◌∙◌, subst, arith, Option, Some, None, Result, Ok, Err, unsigned_abs, neg_ℤ, inl, inr}
+use Rattle.std.proofs.Common.{◌≡◌, ◌≢◌, ℕ, zero, suc, ◌+◌, ◌-◌, ◌*◌, ◌/◌, ◌%◌, ◌^◌, ◌<◌, ◌≤◌, ℤ, pos, negsuc, ◌*ℤ◌, Bool, true, false, not, List, [], ◌∷◌, ◌++◌, length, get_or, refl, sym, ap, ap₂, ◌∙◌, subst, arith, Option, Some, None, Result, Ok, Err, unsigned_abs, inl, inr}
 use Rattle.std.specs.Prelude.{codes, if◌then◌else◌, IfSome, IfOk, ◌⊎◌}
 use Rattle.std.specs.Result.{result_ok}
 use Rattle.std.specs.Int.{is_negative}
@@ -17,7 +17,6 @@ use lib.Ieee.{Float, Format, binary64, round, odd, units, is_nan, nan, inf, fin,
 use lib.Ieee.Bits.{of_bits-to_bits}
 use lib.Dec.{T}
 use mathlib.Core.Bool.{cond}
-use Rattle.fast_float.specs.Rounding.{nearest_to_decimal}
 use lib.Ieee.Scale.{round_same}
 use Rattle.fast_float.proofs.Writing.{scan-text_of, parse_float-text_of}
 use Rattle.fast_float.proofs.DigitsLemmas.{digits_value-append}

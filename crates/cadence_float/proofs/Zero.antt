@@ -1,11 +1,10 @@
 -- Zero as a decimal.
-use Rattle.std.proofs.Common.{◌≡◌, ◌∙◌, Bool, Some, ap, cond, false, inl, inr, sym, true}
-use Rattle.std.specs.Prelude.{◌⊎◌}
+use Rattle.std.proofs.Common.{◌≡◌, ◌∙◌, Bool, Some, ap, cond, sym, true}
 use Rattle.std.specs.Float.{Float, binary64, float_zero}
 use Rattle.fast_float.specs.Parse.{parse_float}
 use lib.Ieee.{eq, round, units, odd, size, span, climb}
 use Rattle.cadence_value.specs.Number.{Number, natural, number_text}
-use Rattle.cadence_float.specs.Worth.{IsCutOf, IsReadAs, StandsForFloat}
+use Rattle.cadence_float.specs.Worth.{IsReadAs}
 use Rattle.cadence_float.proofs.Floats.{parse_of_number}
 
 -- The text of 0 is read as 0.

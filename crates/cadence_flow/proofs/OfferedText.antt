@@ -1,9 +1,8 @@
 -- The offers that sending a text adds, step by step.
-use Rattle.std.proofs.Common.{◌≡◌, ℕ, ◌+◌, ◌-◌, ◌<◌, Bool, true, false, [], ◌∷◌, ◌++◌, List, length, ap, ◌∙◌, subst, arith, append_assoc}
-use Rattle.std.proofs.Common.{Some, None, Result, Ok, Err, IfOk, OnErr, ◌⊎◌, inr}
+use Rattle.std.proofs.Common.{◌≡◌, ℕ, ◌+◌, ◌-◌, ◌<◌, false, [], ◌∷◌, ◌++◌, List, length, ap, ◌∙◌, subst, arith, append_assoc}
+use Rattle.std.proofs.Common.{Some, None, Ok}
 use Rattle.std.proofs.lemmas.List.Elements.{All-push}
-use Rattle.cadence_errors.specs.declared.SinkError.{SinkError}
-use Rattle.cadence_flow.specs.Offers.{Offer, Offers, IsShort, IsOffered, AddsShorts, AddsWhole, SendsOffers, FlushesOffers}
+use Rattle.cadence_flow.specs.Offers.{Offer, Offers, IsShort, IsOffered, AddsShorts, AddsWhole, SendsOffers}
 
 -- Since the offers `old`, the first `sent` bytes of a text of `len` bytes were taken.
 abbrev pub OfferedSoFar : Offers → Offers → ℕ → ℕ → Type 0

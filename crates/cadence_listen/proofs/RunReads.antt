@@ -9,7 +9,7 @@ use Rattle.cadence_text.specs.Metric.{Metric}
 use Rattle.cadence_text.specs.OneReading.{IsFreeOfSeparators}
 use Rattle.cadence_text.specs.Representable.{IsRepresentable}
 use Rattle.cadence_flow.specs.Frame.{held_packet}
-use Rattle.cadence_flow.specs.Log.{LogState, log_history, log_kind, new_log, has_no_short}
+use Rattle.cadence_flow.specs.Log.{LogState, log_history, log_kind, has_no_short}
 use Rattle.cadence_schedule.specs.declared.steps.Step.{Step}
 use Rattle.cadence_schedule.specs.Headline.{ReportsWhole, packets_of_run}
 use Rattle.cadence_schedule.specs.Packets.{IsPacketOfOnly, ReadsAs}

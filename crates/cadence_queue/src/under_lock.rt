@@ -122,7 +122,7 @@ impl<T, A: Allocator> Accepted<T, A> {
         dropped
     }
 
-    /// Makes an answer of a sink for this text, which has so many bytes.
+    /// Makes the answer of a sink to the line that is this text. `bytes` is how many bytes the line has.
     pub fn with_bytes(self, bytes: usize) -> Queued<T, A>
         ensures bytes { queued_bytes result ≡ bytes }
         ensures accepted { shown_of result ≡ self }

@@ -61,9 +61,9 @@ fn without_return(text: &[u8]) -> &[u8]
     text
 }
 
-// Gives the metric's line of a text to what takes lines, unless it is longer than a line may be. The function ignores a
-// carriage return at the end of the text. If the text has words and no line is given, the function returns the part
-// that can't be read. It writes the line into the buffer.
+// Writes the metric's line of a text into the buffer, and gives it to what takes lines, unless the line is longer than a
+// line may be. A carriage return at the end of the text is no part of it. Returns `None` if a line was given or if the text
+// has no words. Otherwise it returns the part of the text that is wrong.
 fn take_text<L: LineTaker, A: Allocator + Clone>(
     alloc: &A,
     defaults: &Defaults<A>,

@@ -1,7 +1,6 @@
 -- Laws that follow from the definitions. src/laws.rt has a function for each, whose contract is the law.
 use Rattle.std.specs.Prelude.{◌≡◌, IsTrue}
 use Rattle.cadence_text.specs.OneReading.{IsFreeOfSeparators}
-use Rattle.cadence_text.specs.Metric.{Metric}
 use Rattle.cadence_settings.specs.Call.{Choice, MetricCall, allows_call, chosen, metric_of_call, with_choice}
 use Rattle.cadence_settings.specs.Settings.{Settings, is_free_settings}
 

@@ -292,7 +292,8 @@ impl BufferedUdpMetricSinkBuilder {
     pub fn with_resolver_period(self, period: Duration) -> Self
         ensures capacity { buffered_capacity_of result ≡ buffered_capacity_of self }
         ensures period { period_of (lookups_of result) ≡ Some period }
-        ensures handler { lookup_handler_of (lookups_of result) ≡ lookup_handler_of (lookups_of self) }
+        ensures handler { lookup_handler_of (lookups_of result)
+            ≡ lookup_handler_of (lookups_of self) }
     {
         BufferedUdpMetricSinkBuilder {
             capacity: self.capacity,

@@ -1,15 +1,13 @@
 -- A text says at most one number.
-use Rattle.std.proofs.Common.{◌≡◌, ℕ, zero, suc, ◌+◌, ◌-◌, ◌*◌, ◌/◌, ◌%◌, ◌^◌, ◌<◌, true, false, not, ℤ, pos, negsuc, neg_ℤ, ◌*ℤ◌}
-use Rattle.std.proofs.Common.{unsigned_abs, Err, List, [], ◌∷◌, refl, sym, ap, ap₂, ◌∙◌, subst, eqb, lit<, arith}
-use Rattle.std.specs.Prelude.{◌||◌}
-use Rattle.std.proofs.lemmas.Bool.{ne_eqb}
+use Rattle.std.proofs.Common.{◌≡◌, ℕ, zero, suc, ◌+◌, ◌-◌, ◌*◌, ◌/◌, ◌%◌, ◌^◌, ◌<◌, ℤ, pos, negsuc, neg_ℤ, ◌*ℤ◌}
+use Rattle.std.proofs.Common.{unsigned_abs, Err, List, [], ◌∷◌, refl, sym, ap, ◌∙◌, subst, lit<, arith}
 use Rattle.std.proofs.lemmas.Int.{unsigned_abs-mul}
 use Rattle.std.proofs.lemmas.Nat.{div-mul-add, pow-add}
 use Rattle.std.proofs.Math.Nat.{le-mul_of_pos_right, mul_assoc, pow-succ'}
 use Rattle.cadence_value.proofs.digits.NumberText.{IsNumberByte, number_bytes, number_once}
 use Rattle.cadence_value.proofs.digits.PowersOfTen.{ten_to_pos}
 use Rattle.cadence_value.proofs.reading.SignedDigits.{last_place}
-use Rattle.cadence_value.specs.Number.{IsDecimal, IsLowestForm, Number, is_lowest, number, number_text}
+use Rattle.cadence_value.specs.Number.{IsDecimal, IsLowestForm, Number, number}
 use Rattle.cadence_value.specs.DenotedNumber.{ReadsDecimal, Denotes}
 use Rattle.cadence_value.specs.declared.decimal.read.ParseDecimalError.{ParseDecimalError}
 use Rattle.cadence_value.specs.declared.decimal.read.ParseDecimalError.TheVariants.{NotANumber, TooManyPlaces, TooLarge}

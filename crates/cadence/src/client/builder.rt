@@ -96,8 +96,10 @@ impl<'m, 'c, T: Metric + From<String<C::Memory>>, C: MetricBackend> MetricBuilde
     // Without this hint a call of `bench count_tags` takes 258 instructions more.
     #[inline(always)]
     fn add_tag(&mut self, key: Option<&'m str>, text: &'m str)
-        ensures pending { AppliesOption (C.settings (backend_of self.old)) true (pending_of self.old)
-            (tagged (record { key = option_copied key.entry; text = text.now })) (pending_of self.new) }
+        ensures pending { AppliesOption (C.settings (backend_of self.old)) true
+            (pending_of self.old)
+            (tagged (record { key = option_copied key.entry; text = text.now }))
+            (pending_of self.new) }
         ensures client { backend_of self.new ≡ backend_of self.old }
     {
         let Ok(draft) = &mut self.draft else {

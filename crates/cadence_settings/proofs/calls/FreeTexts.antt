@@ -16,7 +16,7 @@ use Rattle.cadence_settings.specs.declared.call.Call.{Call}
 use Rattle.cadence_settings.specs.CallData.{call_of, metric_of_data, numbers_of_value}
 use Rattle.cadence_settings.specs.Laws.{StrictCallsAreFree}
 use Rattle.cadence_text.specs.FreeTexts.{is_free_text, is_free_if_any, is_free_tag}
-use Rattle.cadence_settings.specs.Settings.{Settings, is_free_settings, allows_tag, allows_text, with_default_tag, with_default_container}
+use Rattle.cadence_settings.specs.Settings.{Settings, is_free_settings, allows_tag, with_default_tag}
 
 free_chosen_tags : FreeTextsPass → (os : List Choice) → list_all is_free_choice os ≡ true → All IsFreeTag (filter_map chosen_tag os)
 free_chosen_tags law [] h = All-nil IsFreeTag

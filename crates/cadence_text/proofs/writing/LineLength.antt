@@ -11,7 +11,7 @@ use Rattle.std.proofs.Math.Nat.{div-le_self}
 use Rattle.cadence_text.specs.declared.line.MetricType.{MetricType}
 use Rattle.cadence_text.specs.declared.line.MetricType.TheVariants.{Counter, Timer, Gauge, Meter, Histogram, Set, Distribution}
 use Rattle.cadence_value.specs.Number.{Number, decimal_text, number_text, places_text, joined_texts, numbers_text, IsDecimal}
-use Rattle.cadence_text.specs.Draft.{Draft, draft_line, head_text}
+use Rattle.cadence_text.specs.Draft.{head_text}
 use Rattle.cadence_text.specs.Metric.{Metric, Tag}
 use Rattle.cadence_text.specs.Line.{kind_text, rate_field, key_text, tag_text, tags_field, container_field, time_field, line_of}
 use Rattle.cadence_text.specs.MetricInMemory.{IsTagInMemory, IsMetricInMemory, IsTimestamp, IsTextInMemory, AreNumbersInMemory, AreTagsInMemory}
