@@ -2,7 +2,6 @@
 ghost use Rattle.std.specs.Prelude.{◌≡◌, ◌<◌, ◌≤◌, ◌^◌, [], IfErr, IfOk, List, length, vec_capacity};
 ghost use Rattle.std.specs.List.{zip};
 ghost use Rattle.cadence_aggregate.specs.Aggregate.{held};
-ghost use Rattle.cadence_queue.specs.Queue.{new_queue};
 ghost use Rattle.cadence_schedule.specs.Headline.{given_of};
 ghost use Rattle.cadence_settings.specs.CallData.{line_of_data};
 ghost use Rattle.cadence_aggregated.specs.Aggregated.{HasAggregated, held_in_report, outcome_shown};
@@ -19,30 +18,11 @@ use cadence_aggregate::Aggregator;
 use cadence_aggregating::Limits;
 use cadence_errors::MetricResult;
 use cadence_flow::io::{CountingWriter, LineBuffer, PacketWriter};
-use cadence_queue::{QueueCore, QueuePolicy};
-use cadence_schedule::{Reply, Step, tight_is_fewest};
+use cadence_queue::QueuePolicy;
+use cadence_schedule::{Reply, Step, lists_of_run, tight_is_fewest};
 use cadence_settings::ClientSettings;
 use cadence_text::laws::no_line_is_empty;
 use std::alloc::{Allocator, Global};
-
-// Makes a list with room for the replies of `steps` steps, a list with room for the cut, and the queue.
-fn own_lists<A: Allocator + Clone>(
-    alloc: &A,
-    steps: usize,
-    queue: Option<usize>,
-    policy: QueuePolicy,
-) -> MetricResult<(Vec<Reply, A>, Vec<usize, A>, QueueCore<String<A>, A>)>
-    ensures replies { IfOk result (λ lists.
-        (lists.0.items ≡ []) × (steps ≤ vec_capacity lists.0)) }
-    ensures cut { IfOk result (λ lists. lists.1.items ≡ []) }
-    ensures queue { IfOk result (λ lists. lists.2 ≡ new_queue queue policy) }
-    ensures few { IfOk result (λ lists. steps < 2 ^ 64) }
-{
-    let replies = Vec::with_capacity(alloc.clone()?, steps)?;
-    let cut = Vec::with_capacity(alloc.clone()?, steps)?;
-    let queue = QueueCore::with_policy(alloc.clone()?, queue, policy)?;
-    Ok((replies, cut, queue))
-}
 
 // Makes an aggregator that holds nothing, and an allocator for the packer.
 fn own_aggregator<A: Allocator + Clone>(
@@ -75,7 +55,7 @@ fn start<P: PacketWriter, A: Allocator + Clone>(
     ensures few { IfOk result (λ begun. steps < 2 ^ 64) }
     ensures returned { IfErr result (λ back. back ≡ writer) }
 {
-    let Ok((replies, cut, queue)) = own_lists(alloc, steps, queue, policy) else {
+    let Ok((replies, cut, queue)) = lists_of_run(alloc, steps, queue, policy) else {
         return Err(writer);
     };
     let Ok((aggregator, second)) = own_aggregator(global, alloc, limits) else {

@@ -19,5 +19,5 @@ mod steps;
 pub use laws::{packets_read_one_way, tight_is_fewest};
 pub use plan::{check_plan, plan_packets};
 pub use reports::Report;
-pub use run::{run_schedule, run_schedule_with};
+pub use run::{lists_of_run, run_schedule, run_schedule_with};
 pub use steps::{Reply, Step};

@@ -22,9 +22,9 @@ use cadence_settings::{ClientSettings, strict_calls_are_free};
 use cadence_text::laws::no_line_is_empty;
 use std::alloc::Allocator;
 
-// Makes what a run of `steps` steps needs: a list with room for the replies, a list with room for the cut, and the
-// queue.
-fn own_lists<A: Allocator + Clone>(
+/// Makes what a run of `steps` steps needs: a list with room for the replies, a list with room for the cut, and the queue.
+/// The only error is that memory ran out.
+pub fn lists_of_run<A: Allocator + Clone>(
     alloc: &A,
     steps: usize,
     queue: Option<usize>,
@@ -57,7 +57,7 @@ fn start<P: PacketWriter, A: Allocator + Clone>(
         IsAtStart capacity ending.now queue policy steps writer begun.0 begun.1) }
     ensures returned { IfErr result (λ back. back ≡ writer) }
 {
-    let Ok((replies, cut, queue)) = own_lists(alloc, steps, queue, policy) else {
+    let Ok((replies, cut, queue)) = lists_of_run(alloc, steps, queue, policy) else {
         return Err(writer);
     };
     let Ok(second) = alloc.clone() else {
