@@ -1,5 +1,5 @@
--- What writing a line does (`Writes`), if it doesn't fit beside the held text, and the flush before it succeeded.
-use Rattle.std.proofs.Common.{◌≡◌, ℕ, ◌+◌, ◌-◌, ◌<◌, ◌≤◌, true, [], ◌∷◌, ◌++◌, List}
+-- What writing an oversize line does (`Writes`), if the flush before it succeeded.
+use Rattle.std.proofs.Common.{◌≡◌, ℕ, ◌+◌, ◌-◌, ◌<◌, true, [], ◌∷◌, ◌++◌, List}
 use Rattle.std.proofs.Common.{length, take, ap, ◌∙◌, sym, arith, take_all, ◌%◌, ◌^◌, refl}
 use Rattle.std.proofs.Common.{Bool, if◌then◌else◌, Ok, Err, Result, inl}
 use Rattle.std.proofs.lemmas.Bool.{false≢true}
@@ -14,10 +14,6 @@ use Rattle.cadence_flow.proofs.Histories.{concat-push, Sends-then, Extends-trans
 -- If nothing is held, the packets are all text.
 nothing_held : (s : PackerState) → s.held ≡ [] → whole_text s ≡ concat s.history.packets
 nothing_held s none = ap (λ h. concat s.history.packets ++ h) none ∙ append-nil (concat s.history.packets)
-
-module _ (kind : WriterKind) (old mid new : PackerState) (format : Format) (line : List ℕ) (u : Unit {0})
-    (small : size_of format line ≤ format.capacity) (same : new.history ≡ mid.history)
-    (held : new.held ≡ line ++ format.ending) (sent : mid.held ≡ []) where
 
 module _ (kind : WriterKind) (old mid new : PackerState) (format : Format) (line : List ℕ) (u : Unit {0})
     (emptied : new.held ≡ []) (sent : mid.held ≡ []) where
