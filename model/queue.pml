@@ -1,4 +1,4 @@
-/* A model of the queue that threads share (shared_queue.rt and taker.rt of crates/cadence_queue/src). Callers offer
+/* A model of the queue that threads share (shared_queue.rt and taking.rt of crates/cadence_queue/src). Callers offer
    texts, and a worker takes several at once and hands them on one by one. The queue is stopped by a thread that then
    waits for the worker's end, or by the drop of its last handle. The queue uses the kit's Condvar, step by step, and a
    lock. The lock is a plain one, or, if KIT is 1, the kit's Mutex, step by step. README.md says what is checked, and
@@ -449,8 +449,8 @@ inline FLUSH() {
 }
 #endif
 
-/* `Taker::next` and `SharedQueue::take_some`, for each text until the end, and then `Part::end`. If PERIOD is 1, also
-   `Taker::fetch_within` and `SharedQueue::take_some_within`, while a flush is owed. A flush may be due before a look at
+/* `Taker::next` and `SharedQueue::wait`, for each text until the end, and then `Part::end`. If PERIOD is 1, also
+   `Taker::fetch_within` and `SharedQueue::wait_within`, while a flush is owed. A flush may be due before a look at
    the queue, but after a flush that failed the worker looks before it tries again. A `progress` label stands where the
    worker has seen, under the lock, that no text waits and the queue isn't stopped. So a run without end that passes none
    of them is one in which the worker doesn't look, or has something to do. */

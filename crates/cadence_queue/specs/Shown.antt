@@ -1,6 +1,8 @@
 -- What contracts see of the answers of a shared queue, which show the states between which it made a step.
-use Rattle.std.specs.Prelude.{◌≡◌, ℕ, ◌<◌, Option, Some, None, List, [], length}
+use Rattle.std.specs.Prelude.{◌≡◌, ℕ, ◌<◌, false, Option, Some, None, List, [], length}
+use Rattle.cadence_queue.specs.Queue.{is_idle}
 use Rattle.cadence_queue.specs.QueueState.{Queue}
+use Rattle.cadence_queue.specs.RecordedQueue.{core_of}
 use Rattle.cadence_queue.specs.declared.queue_core.Taken.{Taken}
 use Rattle.cadence_queue.specs.declared.queue_error.QueueError.{QueueError}
 use Rattle.cadence_queue.specs.declared.under_lock.Accepted.{Accepted}
@@ -8,6 +10,7 @@ use Rattle.cadence_queue.specs.declared.under_lock.Queued.{Queued}
 use Rattle.cadence_queue.specs.declared.under_lock.Refusal.{Refusal}
 use Rattle.cadence_queue.specs.declared.under_lock.Took.{Took}
 use Rattle.cadence_queue.specs.declared.under_lock.End.{End}
+use Rattle.cadence_queue.specs.declared.under_lock.UnderLock.{UnderLock}
 
 module _ {T A : Type 0} where
   -- the text that was accepted
@@ -43,3 +46,7 @@ module _ {T A : Type 0} where
   abbrev pub AreMoved : Option (End T A) → List T → Type 0
   AreMoved None texts = 0 < length texts
   AreMoved (Some _) texts = texts ≡ []
+
+-- The queue under the lock has a text or is stopped.
+abbrev pub IsReady : {T A M : Type 0} → UnderLock T A M → Type 0
+IsReady state = is_idle (core_of state.queue) ≡ false

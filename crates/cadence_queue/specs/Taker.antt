@@ -1,6 +1,6 @@
 -- What contracts say of a taker.
 use Rattle.std.specs.Prelude.{Bool, List, is_some}
-use Rattle.cadence_queue.specs.declared.taker.Taker.{Taker}
+use Rattle.cadence_queue.specs.declared.taking.Taker.{Taker}
 
 module _ {T A M : Type 0} where
   -- the texts that the taker moved out of its queue, in order

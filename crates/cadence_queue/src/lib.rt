@@ -8,8 +8,7 @@
 //! - `recorded_queue`: a queue with a record of the texts that it accepted and of those that were taken
 //! - `shared_queue`: a recorded queue under a lock
 //! - `under_lock`: what lies under that lock, and what a call shows of the step that it made there
-//! - `taking`: how texts are taken out of a shared queue
-//! - `taker`: how the worker takes them, several at a time
+//! - `taking`: how texts are taken out of a shared queue, one by one, or several at a time by a taker
 //! - `latch`: a mark that one thread sets and that others wait for
 #![tactic(auto)]
 
@@ -19,7 +18,6 @@ mod queue_core;
 mod queue_error;
 mod recorded_queue;
 mod shared_queue;
-mod taker;
 mod taking;
 mod text_ring;
 mod under_lock;
@@ -29,6 +27,6 @@ pub use policy::QueuePolicy;
 pub use queue_core::{QueueCore, Taken};
 pub use queue_error::QueueError;
 pub use shared_queue::SharedQueue;
-pub use taker::{Taker, TakerRoom};
+pub use taking::{Taker, TakerRoom};
 pub use text_ring::TextRing;
 pub use under_lock::{Accepted, End, Left, Queued, Refusal, Stopped, Took};

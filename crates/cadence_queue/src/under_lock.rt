@@ -4,7 +4,7 @@
 //! A contract can't name what lies under a lock. So the answer of such a call carries the states between which the queue
 //! made its step, and the fact that this was the step. The states exist in proofs only: they take no bytes, and a
 //! `Snapshot` can only be made of a queue that is there.
-ghost use Rattle.std.specs.Prelude.{◌≡◌, ◌≢◌, ◌<◌, [], ◌++◌, false, true};
+ghost use Rattle.std.specs.Prelude.{◌≡◌, ◌≢◌, [], false, true};
 ghost use Rattle.cadence_queue.specs.Queue.{Accepts, IsRefusal, IsTaken, after_stop, error_of, is_idle, without_handle};
 ghost use Rattle.cadence_queue.specs.declared.queue_core.Taken.TheVariants.{Empty};
 ghost use Rattle.cadence_queue.specs.RecordedQueue.{core_of};
@@ -12,7 +12,7 @@ ghost use Rattle.cadence_queue.specs.RecordedQueue.{core_of};
 use super::recorded_queue::RecordedQueue;
 use super::taking::Hand;
 use crate::{QueueCore, QueueError, Taken, TextRing};
-use cadence_flow::{Closed, GhostList, Opened, Opener};
+use cadence_flow::{Closed, Opened, Opener};
 use std::alloc::{Allocator, Global};
 use std::mem;
 use std::snapshot::Snapshot;
@@ -28,10 +28,10 @@ pub struct UnderLock<T, A: Allocator, M> {
 }
 
 impl<T, A: Allocator, M: Drop> UnderLock<T, A, M> {
-    ghost use Rattle.cadence_queue.specs.Shown.{AreMoved, taken_of};
+    ghost use Rattle.cadence_queue.specs.Shown.{taken_of};
 
-    // Exchanges the spares for the texts that a taker is done with, if those are more. It takes no memory.
-    fn take_back(&mut self, done: &mut TextRing<M, A>)
+    /// Exchanges the spares for the texts that a taker is done with, if those are more. It takes no memory.
+    pub(super) fn take_back(&mut self, done: &mut TextRing<M, A>)
         ensures { self.new.queue ≡ self.old.queue }
     {
         if let Some(spares) = &mut self.spares {
@@ -67,32 +67,6 @@ impl<T, A: Allocator, M: Drop> UnderLock<T, A, M> {
             before,
             after,
         }
-    }
-
-    /// Moves the oldest texts of a queue that isn't idle into an empty ring, and adds them to `taken` in proofs. Leaves the
-    /// texts that the taker is `done` with among the spares. Returns the end of the queue, if it has come to its end.
-    pub(super) fn take_some(
-        &mut self,
-        hand: Hand,
-        texts: &mut TextRing<T, A>,
-        taken: &mut GhostList<T>,
-        done: &mut TextRing<M, A>,
-    ) -> Option<End<T, A>>
-        requires ready { is_idle (core_of self.old.queue) ≡ false }
-        requires empty { texts.old.items ≡ [] }
-        requires room { 0 < texts.old.capacity }
-        ensures noted { taken.new.items ≡ taken.old.items ++ texts.new.items }
-        ensures moved { AreMoved result texts.new.items }
-        ensures room { texts.new.capacity ≡ texts.old.capacity }
-    {
-        self.take_back(done);
-        self.queue.take_some(hand, texts, taken);
-        if texts.len() > 0 {
-            return None;
-        }
-        Some(End {
-            at: Snapshot::of(self.queue.core()),
-        })
     }
 }
 
@@ -243,7 +217,7 @@ impl<T, A: Allocator> Drop for Left<T, A> {
 
 /// A queue has come to its end.
 pub struct End<T, A: Allocator = Global> {
-    at: Snapshot<QueueCore<T, A>>,
+    pub(super) at: Snapshot<QueueCore<T, A>>,
     /// In this state the queue was stopped, and no text waited.
     pub ghost end: { (at.value.stopped ≡ true) × (at.value.waiting ≡ []) },
 }
