@@ -1,14 +1,13 @@
 //! The tests: `client` for the client, `metrics` for the metric types, `plan` for plans, `unix` for clients over Unix
 //! sockets, `environment` for what the environment says, `flushes` for queues that flush by time, `input` for waits,
 //! `reporting` for a sink that sends its own counts, and `shared` for sinks that threads share. They have in common
-//! `moved_clock` (a clock that a test moves) and `own` (types of a caller's own).
+//! `own` (types of a caller's own).
 
 mod client;
 mod environment;
 mod flushes;
 mod input;
 mod metrics;
-mod moved_clock;
 mod own;
 mod plan;
 mod reporting;

@@ -2,13 +2,13 @@
 //! worker, `flushes` for sinks that are flushed by time, `ends` for the end of a queue and for its shortest and longest
 //! periods, `ready` for ready-made sinks over UDP, and `resolve` and `resolver_thread` for the resolvers. They share
 //! `steps` (calls of a sink that assert their result), `sockets` (sockets on this machine), `gate` (a sink at whose gate a
-//! worker waits) and `moved_clock` (a clock that a test moves).
+//! worker waits) and `noting` (a sink that notes its flushes).
 
 mod ends;
 mod flushes;
 mod gate;
-mod moved_clock;
 mod nop;
+mod noting;
 mod queuing;
 mod ready;
 mod resolve;

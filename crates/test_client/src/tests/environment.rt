@@ -1,7 +1,5 @@
-//! Tests of what the environment says: `rows` of variables with what they say, and `sending` to real sockets. `given` has
-//! an environment of the test's own.
+//! Tests of what the environment says: `rows` of variables with what they say, and `sending` to real sockets.
 
-pub mod given;
 mod refusals;
 mod rows;
 mod sending;

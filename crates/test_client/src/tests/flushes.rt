@@ -1,6 +1,5 @@
 //! Queues to an agent that flush by time. Each test moves the clock itself; a worker with a period of five milliseconds
 //! looks at it after as many milliseconds of real time.
-use super::moved_clock::{MovedClock, Runtime};
 use super::unix::sending::path_of;
 use super::unix::server::{Server, bind_server, unlink};
 use cadence::prelude::*;
@@ -13,8 +12,17 @@ use cadence_agent::{
 };
 use std::alloc::Global;
 use std::fs::Files;
+use std::net::Net;
+use std::sync::Wait;
 use std::test::Fail;
-use std::time::Duration;
+use std::thread::Threads;
+use std::time::{Clock, Duration};
+use test_tools::moved_clock::MovedClock;
+
+/// What the clients that flush by time ask of a runtime.
+pub trait Runtime: Net + Wait + Clock + Threads + Clone + Drop + Send + Sync + 'static {}
+
+impl<R: Net + Wait + Clock + Threads + Clone + Drop + Send + Sync + 'static> Runtime for R {}
 
 // The period of each queue, in milliseconds.
 const PERIOD: u64 = 5;
@@ -35,7 +43,7 @@ fn assert_sends_by_time<R: Runtime>(
     assert_stays(clock, server, 0)?;
     assert_stays(clock, server, PERIOD - 1)?;
     clock.move_to(PERIOD);
-    server.assert_comes(clock.runtime(), datagram)
+    server.assert_comes(&clock.rt, datagram)
 }
 
 // Makes the builder of a queue of nine lines with this period.
@@ -75,13 +83,13 @@ fn assert_packs<R: Runtime, S: MetricSink>(
     assert_takes(sink, "p.a:1|c")?;
     assert_takes(sink, "p.b:1|c")?;
     assert_takes(sink, "p.c:1|c")?;
-    server.assert_comes(clock.runtime(), "p.a:1|c\np.b:1|c\n")?;
+    server.assert_comes(&clock.rt, "p.a:1|c\np.b:1|c\n")?;
     assert_sends_by_time(clock, server, "p.c:1|c\n")
 }
 
 fn assert_sink_sends<R: Runtime + Files>(rt: &R, alloc: Global, path: &str) -> Result<(), Fail> {
     let server = bind_server(rt, path)?;
-    let clock = MovedClock::new(rt, alloc, String::new(alloc))?;
+    let clock = MovedClock::new(rt.clone()?, alloc, String::new(alloc))?;
     assert_packs(&clock, &server, &make_unix_queue(&clock, alloc, path)?)?;
     unlink(rt, path)
 }
@@ -115,7 +123,7 @@ fn assert_client_sends<R: Runtime>(
     assert_sends_by_time(clock, server, "p.a:1|c|#env:prod\n")?;
     client.incr("b")?;
     client.sink().stop_and_wait();
-    server.assert_comes(clock.runtime(), "p.b:1|c|#env:prod\n")
+    server.assert_comes(&clock.rt, "p.b:1|c|#env:prod\n")
 }
 
 fn assert_environment_sends<R: Runtime + Files>(
@@ -125,7 +133,7 @@ fn assert_environment_sends<R: Runtime + Files>(
 ) -> Result<(), Fail> {
     let server = bind_server(rt, path)?;
     let variables = format!(in alloc; "DD_DOGSTATSD_URL=unix://{path};DD_ENV=prod")?;
-    let clock = MovedClock::new(rt, alloc, variables)?;
+    let clock = MovedClock::new(rt.clone()?, alloc, variables)?;
     assert_client_sends(&clock, &server, &make_client(&clock, alloc)?)?;
     unlink(rt, path)
 }
@@ -150,7 +158,7 @@ fn assert_names<T: Drop>(alloc: Global, made: MetricResult<T>, name: &str) -> Re
 // Asserts that nothing is made if this variable has this text, and that the error names the variable.
 fn assert_is_named<R: Runtime>(rt: &R, alloc: Global, name: &str, text: &str) -> Result<(), Fail> {
     let variables = format!(in alloc; "{name}={text}")?;
-    let clock = MovedClock::new(rt, alloc, variables)?;
+    let clock = MovedClock::new(rt.clone()?, alloc, variables)?;
     assert_names(alloc, environment_sink(&clock, alloc), name)
 }
 

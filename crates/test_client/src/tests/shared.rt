@@ -1,5 +1,5 @@
 //! Every sink may be shared by threads, whatever the runtime.
-use super::moved_clock::Runtime;
+use super::flushes::Runtime;
 use cadence::sinks::{
     BufferedSpyMetricSink, BufferedUdpMetricSink, BufferedUnixMetricSink, FlushingMetricSink,
     NopMetricSink, QueuingMetricSink, SpyMetricSink, SpyReceiver, UdpMetricSink, UnixMetricSink,

@@ -1,6 +1,6 @@
 //! How a queue ends, and that it ends whatever the wrapped sink does: what has left once the last handle is dropped, and
 //! periods that are hardly a wait, while each flush fails.
-use super::moved_clock::make_noting_sink;
+use super::noting::make_noting_sink;
 use super::steps::{Runtime, assert_accepts, assert_messages};
 use cadence_errors::SinkError;
 use cadence_flow::MetricSink;
@@ -208,9 +208,9 @@ fn a_flushing_sink_has_a_shortest_period(rt: HostRuntime) -> Result<(), Fail> {
 #[test]
 fn a_flushing_sink_sleeps_without_a_clock(rt: HostRuntime) -> Result<(), Fail> {
     let (watch, _noting) = make_noting_sink(&rt, rt.alloc())?;
-    watch.stage.is_broken.store(true, Ordering::SeqCst);
+    watch.clock.dial.is_broken.store(true, Ordering::SeqCst);
     for (nanoseconds, milliseconds) in [(0, 1), (5_000_000, 5)] {
-        let clock = watch.moved_clock()?;
+        let clock = watch.clock.clone()?;
         assert_flushes_within(&rt, clock, rt.alloc(), (nanoseconds, milliseconds))?;
     }
     Ok(())

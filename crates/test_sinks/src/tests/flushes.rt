@@ -1,6 +1,6 @@
 //! Sinks that are flushed by time: the queue with a period, and the flushing sink. Most tests move the clock
 //! themselves; a worker with a period of five milliseconds looks at it after as many milliseconds of real time.
-use super::moved_clock::{MovedClock, NotingSink, Stage, Watch, make_noting_sink};
+use super::noting::{NotingSink, Stage, Watch, make_noting_sink};
 use super::steps::{
     Runtime, WantedError, assert_accepts, assert_counts, assert_flushes, assert_last_message,
     assert_next_message, assert_refuses_flush,
@@ -14,6 +14,7 @@ use std::sync::Arc;
 use std::sync::atomic::Ordering;
 use std::test::Fail;
 use std::time::{Clock, Duration};
+use test_tools::moved_clock::MovedClock;
 use test_tools::{RefusingAllocator, each_refused};
 
 type NotedQueue<R> = QueuingMetricSink<NotingSink<R>, MovedClock<R>>;
@@ -40,7 +41,7 @@ fn make_queue<R: Runtime + Clock>(
         .with_capacity(32)
         .with_error_handler(handler)
         .with_flush_period(Duration::from_millis(period));
-    let sink = builder.build(watch.moved_clock()?, alloc, noting)?;
+    let sink = builder.build(watch.clock.clone()?, alloc, noting)?;
     Ok((watch, sink))
 }
 
@@ -56,9 +57,9 @@ fn a_queue_is_flushed_after_the_period(rt: HostRuntime) -> Result<(), Fail> {
     let (watch, sink) = make_queue(&rt, rt.alloc(), 5)?;
     assert_passes(&watch, &sink)?;
     watch.assert_reads(6)?;
-    watch.move_to(4);
+    watch.clock.move_to(4);
     watch.assert_reads(6)?;
-    watch.move_to(5);
+    watch.clock.move_to(5);
     watch.assert_notes(&["flush"])?;
     watch.assert_rests()
 }
@@ -68,10 +69,10 @@ fn a_late_line_is_flushed_at_once(rt: HostRuntime) -> Result<(), Fail> {
     let (watch, sink) = make_queue(&rt, rt.alloc(), 5)?;
     assert_passes(&watch, &sink)?;
     watch.assert_reads(6)?;
-    watch.move_to(5);
+    watch.clock.move_to(5);
     watch.assert_notes(&["flush"])?;
     watch.assert_rests()?;
-    watch.move_to(1000);
+    watch.clock.move_to(1000);
     assert_passes(&watch, &sink)?;
     watch.assert_notes(&["flush"])?;
     assert_passes(&watch, &sink)?;
@@ -108,13 +109,13 @@ fn assert_tries_again<R: Runtime + Clock>(
     errors: u64,
 ) -> Result<(), Fail> {
     for failed in 1..3 {
-        watch.move_to(wait.wrapping_mul(failed));
+        watch.clock.move_to(wait.wrapping_mul(failed));
         watch.assert_notes(&["flush"])?;
         watch.assert_errors(errors.wrapping_add(failed))?;
         watch.assert_reads(6)?;
     }
     watch.set_refuses(false);
-    watch.move_to(wait.wrapping_mul(3));
+    watch.clock.move_to(wait.wrapping_mul(3));
     watch.assert_notes(&["flush"])?;
     watch.assert_rests()?;
     watch.assert_errors(errors.wrapping_add(2))
@@ -168,7 +169,7 @@ fn a_period_of_0_flushes_each_line(rt: HostRuntime) -> Result<(), Fail> {
 #[test]
 fn without_a_clock_each_line_is_flushed(rt: HostRuntime) -> Result<(), Fail> {
     let (watch, sink) = make_queue(&rt, rt.alloc(), 5)?;
-    watch.stage.is_broken.store(true, Ordering::SeqCst);
+    watch.clock.dial.is_broken.store(true, Ordering::SeqCst);
     assert_flushes_each(&watch, &sink)?;
     watch.set_refuses(true);
     assert_passes(&watch, &sink)?;
@@ -248,7 +249,7 @@ fn make_flushes<R: Runtime + Clock>(
     let (watch, noting) = make_noting_sink(rt, alloc)?;
     let stage = watch.stage.clone()?;
     let handler = Box::new(alloc, move |error: SinkError| count_refusal(&stage, &error))?;
-    let (clock, period) = (watch.moved_clock()?, Duration::from_millis(5));
+    let (clock, period) = (watch.clock.clone()?, Duration::from_millis(5));
     let sink = FlushingMetricSink::with_error_handler(clock, alloc, noting, period, handler)?;
     Ok((watch, sink))
 }
@@ -261,7 +262,7 @@ fn a_sink_is_flushed_after_each_period(rt: HostRuntime) -> Result<(), Fail> {
     for flushes in 1..4 {
         watch.assert_reads(6)?;
         watch.set_refuses(flushes == 2);
-        watch.move_to(5 * flushes);
+        watch.clock.move_to(5 * flushes);
         watch.assert_notes(&["flush"])?;
     }
     watch.assert_errors(1)

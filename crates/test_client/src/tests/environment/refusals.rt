@@ -1,5 +1,4 @@
 //! Each request for memory of the environment refused in turn.
-use super::given::Given;
 use cadence::prelude::*;
 use cadence::types::{ErrorKind, MetricError, MetricResult, SinkError};
 use cadence_agent::{Environment, EnvironmentError, EnvironmentExt, EnvironmentSink, sink_to};
@@ -7,6 +6,7 @@ use std::alloc::Global;
 use std::net::Net;
 use std::sync::Wait;
 use std::test::Fail;
+use test_tools::given::Given;
 use test_tools::{RefusingAllocator, each_refused};
 
 // The heap of these tests.

@@ -1,10 +1,10 @@
 //! Rows of variables, each with the destination and the tags that they say, or with the variable that can't be used.
-use super::given::{Given, value_in};
 use cadence::line::lend_tag;
 use cadence::types::MetricError;
 use cadence_agent::{Destination, Environment, EnvironmentError, Variable};
 use std::alloc::{AllocError, Global};
 use std::test::Fail;
+use test_tools::given::{Given, value_in};
 
 // Variables; and as `SAYS`, which is no variable of an environment, HOST PORT or the path that they say, and their
 // tags, each in brackets. A row is one literal, because a check takes longer with each literal that a function reads.

@@ -1,5 +1,4 @@
 //! Clients that send to where the environment says, with its tags.
-use super::given::Given;
 use crate::tests::unix::sending::path_of;
 use crate::tests::unix::server::{bind_server, unlink};
 use cadence::prelude::*;
@@ -10,6 +9,7 @@ use std::net::{Ipv4Addr, Net, SocketAddr, UdpSocket};
 use std::sync::Wait;
 use std::test::Fail;
 use std::time::Duration;
+use test_tools::given::Given;
 
 // A client to where an environment says.
 type Client<R> = StatsdClient<Global, EnvironmentSink<R>>;

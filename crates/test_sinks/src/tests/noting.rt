@@ -1,32 +1,22 @@
-//! A runtime whose clock stands still until a test moves it, and a sink that notes its lines and its flushes.
+//! A sink that notes its lines and its flushes, and whose lines may move a clock.
 use super::steps::{Runtime, make_spy};
 use cadence_errors::SinkError;
 use cadence_flow::MetricSink;
 use cadence_flow::stats::SinkStats;
 use cadence_sinks::{SpyMetricSink, SpyReceiver};
-use std::alloc::{AllocError, Global};
-use std::io;
-use std::io::ErrorKind;
+use std::alloc::Global;
 use std::sync::atomic::{AtomicBool, AtomicU64, Ordering};
 use std::sync::{Arc, Wait};
 use std::test::Fail;
-use std::thread::{self, Threads};
+use std::thread;
 use std::time::{Clock, Duration};
+use test_tools::moved_clock::{MovedClock, PATIENCE};
 
-// How many milliseconds a test waits for something that has to happen.
-const PATIENCE: u32 = 10_000;
-
-/// What a test sets and sees of a clock and of a noting sink.
+/// What a test sets and sees of a noting sink.
 #[derive(Drop)]
 pub struct Stage {
-    /// The time that the clock shows, in milliseconds.
-    pub now: AtomicU64,
-    /// How often the clock was read.
-    pub readings: AtomicU64,
-    /// How often it had been read when the sink was last flushed.
+    /// How often the clock had been read when the sink was last flushed.
     pub readings_at_flush: AtomicU64,
-    /// Whether the clock can't be read.
-    pub is_broken: AtomicBool,
     /// By how many milliseconds each line moves the clock.
     pub step: AtomicU64,
     /// Whether the sink refuses flushes.
@@ -35,47 +25,10 @@ pub struct Stage {
     pub errors: AtomicU64,
 }
 
-/// A runtime with a clock that a test moves.
-#[derive(Drop)]
-pub struct MovedClock<R: Wait + Threads + Drop> {
-    rt: R,
-    stage: Arc<Stage>,
-}
-
-impl<R: Wait + Threads + Drop> Wait for MovedClock<R> {}
-
-impl<R: Wait + Threads + Drop> Threads for MovedClock<R> {}
-
-impl<R: Wait + Threads + Clone + Drop> Clone for MovedClock<R> {
-    fn clone(&self) -> Result<MovedClock<R>, AllocError> {
-        let rt = self.rt.clone()?;
-        let stage = self.stage.clone()?;
-        Ok(MovedClock { rt, stage })
-    }
-}
-
-impl<R: Wait + Threads + Clock + Drop> Clock for MovedClock<R> {
-    fn monotonic(&self) -> io::Result<Duration> {
-        self.stage.readings.fetch_add(1, Ordering::SeqCst);
-        if self.stage.is_broken.load(Ordering::SeqCst) {
-            return Err(io::Error::from(ErrorKind::Unsupported));
-        }
-        Ok(Duration::from_millis(self.stage.now.load(Ordering::SeqCst)))
-    }
-
-    fn since_1970(&self) -> io::Result<Duration> {
-        self.monotonic()
-    }
-
-    // sleeps in real time
-    fn sleep(&self, duration: Duration) {
-        self.rt.sleep(duration)
-    }
-}
-
 /// A sink that notes each line, and each flush as `flush`, in a spy.
 #[derive(Drop)]
 pub struct NotingSink<R: Wait + Drop> {
+    clock: MovedClock<R>,
     stage: Arc<Stage>,
     notes: SpyMetricSink<R>,
 }
@@ -87,13 +40,13 @@ impl<R: Wait + Drop> MetricSink for NotingSink<R> {
 
     fn emit(&self, line: &str) -> Result<usize, SinkError> {
         let step = self.stage.step.load(Ordering::SeqCst);
-        self.stage.now.fetch_add(step, Ordering::SeqCst);
+        self.clock.dial.now.fetch_add(step, Ordering::SeqCst);
         self.notes.emit(line)
     }
 
     fn flush(&self) -> Result<(), SinkError> {
         let refuses = self.stage.refuses.load(Ordering::SeqCst);
-        let readings = self.stage.readings.load(Ordering::SeqCst);
+        let readings = self.clock.dial.readings.load(Ordering::SeqCst);
         self.stage
             .readings_at_flush
             .store(readings, Ordering::SeqCst);
@@ -120,20 +73,17 @@ impl<R: Wait + Drop> MetricSink for NotingSink<R> {
     ghost flush_may_succeed = { λ _ _. tt };
 }
 
-/// What a test sees of a noting sink, and the test's own runtime.
+/// A moved clock, and what a test sees of a noting sink.
 #[derive(Drop)]
 pub struct Watch<R: Runtime> {
-    pub rt: R,
+    pub clock: MovedClock<R>,
     pub stage: Arc<Stage>,
     pub notes: SpyReceiver<R>,
 }
 
 fn new_stage() -> Stage {
     Stage {
-        now: AtomicU64::new(0),
-        readings: AtomicU64::new(0),
         readings_at_flush: AtomicU64::new(0),
-        is_broken: AtomicBool::new(false),
         step: AtomicU64::new(0),
         refuses: AtomicBool::new(false),
         errors: AtomicU64::new(0),
@@ -147,12 +97,14 @@ pub fn make_noting_sink<R: Runtime>(
 ) -> Result<(Watch<R>, NotingSink<R>), Fail> {
     let (notes, spy) = make_spy(rt, alloc)?;
     let stage = Arc::new(alloc, new_stage())?;
+    let clock = MovedClock::new(rt.clone()?, alloc, String::new(alloc))?;
     let sink = NotingSink {
+        clock: clock.clone()?,
         stage: stage.clone()?,
         notes: spy,
     };
     let watch = Watch {
-        rt: rt.clone()?,
+        clock,
         stage,
         notes,
     };
@@ -160,26 +112,13 @@ pub fn make_noting_sink<R: Runtime>(
 }
 
 impl<R: Runtime + Clock> Watch<R> {
-    /// Returns a runtime with the clock of the stage.
-    pub fn moved_clock(&self) -> Result<MovedClock<R>, Fail> {
-        Ok(MovedClock {
-            rt: self.rt.clone()?,
-            stage: self.stage.clone()?,
-        })
-    }
-
-    /// Moves the clock to this time, in milliseconds.
-    pub fn move_to(&self, now: u64) {
-        self.stage.now.store(now, Ordering::SeqCst);
-    }
-
     /// Sets whether the sink refuses flushes.
     pub fn set_refuses(&self, refuses: bool) {
         self.stage.refuses.store(refuses, Ordering::SeqCst);
     }
 
     fn sleep(&self, milliseconds: u64) {
-        thread::sleep(&self.rt, Duration::from_millis(milliseconds));
+        thread::sleep(&self.clock.rt, Duration::from_millis(milliseconds));
     }
 
     // Waits for a note, but not for ever.
@@ -206,20 +145,9 @@ impl<R: Runtime + Clock> Watch<R> {
         Ok(())
     }
 
-    // Waits until a number is at least as large as wanted, but not for ever. Returns whether it is.
-    fn reaches(&self, number: &AtomicU64, wanted: u64) -> bool {
-        for _ in 0..PATIENCE {
-            if number.load(Ordering::SeqCst) >= wanted {
-                return true;
-            }
-            self.sleep(1);
-        }
-        false
-    }
-
     /// Waits until the handler has got this many errors, and asserts that it gets no more.
     pub fn assert_errors(&self, wanted: u64) -> Result<(), Fail> {
-        let comes = self.reaches(&self.stage.errors, wanted);
+        let comes = self.clock.reaches(&self.stage.errors, wanted);
         if !comes || self.stage.errors.load(Ordering::SeqCst) != wanted {
             return Err(Fail::new("another number of errors"));
         }
@@ -228,13 +156,9 @@ impl<R: Runtime + Clock> Watch<R> {
 
     /// Waits until the clock was read this often more, and asserts that nothing was noted.
     pub fn assert_reads(&self, more: u64) -> Result<(), Fail> {
-        let wanted = self
-            .stage
-            .readings
-            .load(Ordering::SeqCst)
-            .wrapping_add(more);
-        if !self.reaches(&self.stage.readings, wanted) || !self.notes.is_empty() {
-            return Err(Fail::new("it doesn't wait for the clock"));
+        self.clock.assert_reads(more)?;
+        if !self.notes.is_empty() {
+            return Err(Fail::new("something was noted"));
         }
         Ok(())
     }
@@ -260,11 +184,11 @@ impl<R: Runtime + Clock> Watch<R> {
             .readings_at_flush
             .load(Ordering::SeqCst)
             .wrapping_add(1);
-        if !self.reaches(&self.stage.readings, wanted) {
+        if !self.clock.reaches(&self.clock.dial.readings, wanted) {
             return Err(Fail::new("it doesn't read the clock after a flush"));
         }
         self.sleep(60);
-        if self.stage.readings.load(Ordering::SeqCst) != wanted || !self.notes.is_empty() {
+        if self.clock.dial.readings.load(Ordering::SeqCst) != wanted || !self.notes.is_empty() {
             return Err(Fail::new("it doesn't rest"));
         }
         Ok(())
