@@ -1,5 +1,6 @@
 //! Queues to an agent that flush by time. Each test moves the clock itself; a worker with a period of five milliseconds
 //! looks at it after as many milliseconds of real time.
+use super::steps::assert_takes;
 use super::unix::sending::path_of;
 use super::unix::server::{Server, bind_server, unlink};
 use cadence::prelude::*;
@@ -66,23 +67,13 @@ fn make_unix_queue<R: Runtime>(
     queue_with_period().build(clock.clone()?, alloc, inner)
 }
 
-// Asserts that a sink takes a line of seven bytes.
-fn assert_takes<S: MetricSink>(sink: &S, line: &str) -> Result<(), Fail> {
-    match sink.emit(line) {
-        Ok(7) => Ok(()),
-        _ => Err(Fail::new("another count of bytes")),
-    }
-}
-
 // Emits three lines. The third one sends the two before, and is sent itself by time.
 fn assert_packs<R: Runtime, S: MetricSink>(
     clock: &MovedClock<R>,
     server: &Server,
     sink: &S,
 ) -> Result<(), Fail> {
-    assert_takes(sink, "p.a:1|c")?;
-    assert_takes(sink, "p.b:1|c")?;
-    assert_takes(sink, "p.c:1|c")?;
+    assert_takes(sink, "p.a:1|c p.b:1|c p.c:1|c")?;
     server.assert_comes(&clock.rt, "p.a:1|c\np.b:1|c\n")?;
     assert_sends_by_time(clock, server, "p.c:1|c\n")
 }

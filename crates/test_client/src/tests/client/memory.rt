@@ -1,12 +1,13 @@
 //! Calls whose requests for memory are refused in turn, and how many requests a call makes.
 
 use super::sending::{CountingSink, make_counter};
+use crate::tests::steps::is_made;
 use cadence::client::{ClientSettings, StatsdClient};
 use cadence::decimal::Decimal;
 use cadence::prelude::*;
 use cadence::schedule::{Call, CallOption, CallValue};
 use cadence::sinks::{MetricSink, NopMetricSink};
-use cadence::types::{ErrorKind, Metric, MetricError, MetricResult, SinkError};
+use cadence::types::{ErrorKind, Metric, MetricResult};
 use std::alloc::{AllocError, Allocator, Global};
 use std::sync::Arc;
 use std::sync::atomic::{AtomicU64, Ordering};
@@ -24,15 +25,6 @@ fn make_client(heap: &RefusingAllocator<Global>, calls: Arc<AtomicU64>) -> Metri
         .with_tag_value("c")
         .with_container_id("id")
         .build()
-}
-
-// Returns whether something was made. It may only be refused because memory runs out.
-fn is_made<T: Drop>(answer: MetricResult<T>) -> Result<bool, Fail> {
-    match answer {
-        Ok(_) => Ok(true),
-        Err(MetricError::Sink(SinkError::OutOfMemory)) => Ok(false),
-        Err(_) => Err(Fail::new("another error")),
-    }
 }
 
 // Returns whether a metric was sent, which must have this line. It may only be refused because memory runs out. The

@@ -1,6 +1,7 @@
 //! Each request for memory of the environment refused in turn.
+use crate::tests::steps::is_made;
 use cadence::prelude::*;
-use cadence::types::{ErrorKind, MetricError, MetricResult, SinkError};
+use cadence::types::{ErrorKind, MetricError, MetricResult};
 use cadence_agent::{Environment, EnvironmentError, EnvironmentExt, EnvironmentSink, sink_to};
 use std::alloc::Global;
 use std::net::Net;
@@ -50,18 +51,9 @@ fn send_line<R: Net + Wait + Clone + Drop>(rt: &R, alloc: Global, heap: Heap) ->
     Ok(())
 }
 
-// Returns whether there was memory for the client and its line.
-fn is_sent<R: Net + Wait + Clone + Drop>(rt: &R, alloc: Global, heap: Heap) -> Result<bool, Fail> {
-    match send_line(rt, alloc, heap) {
-        Ok(()) => Ok(true),
-        Err(MetricError::Sink(SinkError::OutOfMemory)) => Ok(false),
-        Err(error) => Err(Fail::new(error)),
-    }
-}
-
 #[test]
 fn each_request_of_a_client_may_be_refused(rt: HostRuntime) -> Result<(), Fail> {
-    let granted = each_refused(rt.alloc(), |heap| is_sent(&rt, rt.alloc(), heap))?;
+    let granted = each_refused(rt.alloc(), |heap| is_made(send_line(&rt, rt.alloc(), heap)))?;
     assert!(rt; granted.is_some_and(|granted| granted > 10));
     Ok(())
 }

@@ -1,4 +1,5 @@
 //! Clients that send to where the environment says, with its tags.
+use crate::tests::steps::assert_receives;
 use crate::tests::unix::sending::path_of;
 use crate::tests::unix::server::{bind_server, unlink};
 use cadence::prelude::*;
@@ -47,16 +48,6 @@ fn send_tagged<R: Net + Wait + Clone + Drop>(client: &Client<R>) -> MetricResult
 fn send_plain<R: Net + Wait + Clone + Drop>(client: &Client<R>) -> MetricResult<()> {
     client.count("k", 1)?;
     client.flush()
-}
-
-// Asserts that the next datagram that the server receives is this text.
-fn assert_receives(server: &UdpSocket, text: &str) -> Result<(), Fail> {
-    let mut bytes = [0u8; 64];
-    let count = server.recv(&mut bytes)?;
-    if bytes.get(..count) != Some(text.as_bytes()) {
-        return Err(Fail::new("another datagram"));
-    }
-    Ok(())
 }
 
 #[test]

@@ -1,5 +1,6 @@
 //! A wrapped sink whose `stats` waits while another thread reports and emits over the reporting sink above it.
-use super::stage::{Runtime, assert_notes};
+use super::stage::Runtime;
+use crate::tests::steps::assert_got;
 use cadence::sinks::{MetricSink, SpyMetricSink, SpyReceiver};
 use cadence::stats::SinkStats;
 use cadence::types::SinkError;
@@ -113,5 +114,5 @@ fn report_in_a_report<R: Runtime + Threads>(rt: &R, made: &Made<R>) -> bool {
 fn counts_are_read_without_a_lock(rt: HostRuntime) -> Result<(), Fail> {
     let made = make(&rt, rt.alloc())?;
     assert!(rt; report_in_a_report(&rt, &made));
-    assert_notes(&made.notes, "me.bytes_sent:20|c\na:1|c\nme.bytes_sent:10|c")
+    assert_got(&made.notes, "me.bytes_sent:20|c\na:1|c\nme.bytes_sent:10|c")
 }

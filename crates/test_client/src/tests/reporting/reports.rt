@@ -1,8 +1,9 @@
 //! What a report has, if a test asks for it.
 use super::stage::{Reported, Reporting, Runtime, Watch, make_counted, make_reported, report_on};
+use crate::tests::steps::{assert_got, assert_takes, is_made};
 use cadence::client::BoxedSink;
 use cadence::sinks::MetricSink;
-use cadence::types::{MetricError, MetricResult, SinkError};
+use cadence::types::{MetricError, SinkError};
 use std::alloc::Global;
 use std::test::Fail;
 use test_tools::{RefusingAllocator, each_refused};
@@ -15,7 +16,7 @@ fn assert_reports<R: Runtime>(made: &Reported<R>, rows: &[Row]) -> Result<(), Fa
     for (counts, lines) in rows {
         made.watch.stage.set(*counts);
         made.sink.report()?;
-        made.watch.assert_lines(lines)?;
+        assert_got(&made.watch.notes, lines)?;
     }
     Ok(())
 }
@@ -63,18 +64,10 @@ fn assert_refuses<S: MetricSink>(sink: &S, line: &str) -> Result<(), Fail> {
     }
 }
 
-// Asserts that the sink takes a line of five bytes.
-fn assert_takes<S: MetricSink>(sink: &S, line: &str) -> Result<(), Fail> {
-    match sink.emit(line) {
-        Ok(5) => Ok(()),
-        _ => Err(Fail::new("another answer")),
-    }
-}
-
 // Makes a report, and asserts that it has these lines, beside what the sink took before it.
 fn assert_report<R: Runtime>(made: &Reported<R>, lines: &str) -> Result<(), Fail> {
     made.sink.report()?;
-    made.watch.assert_lines(lines)
+    assert_got(&made.watch.notes, lines)
 }
 
 // Emits two lines that are refused and one that is taken, and makes two reports.
@@ -130,7 +123,7 @@ fn the_drop_sends_the_last_report(rt: HostRuntime) -> Result<(), Fail> {
     let Reported { sink, watch } = make_reported(&rt, rt.alloc(), [0, 0, 0, 0, 0])?;
     watch.stage.set([0, 0, 0, 0, 4]);
     drop(sink);
-    watch.assert_lines("me.lines_dropped:4|c")
+    assert_got(&watch.notes, "me.lines_dropped:4|c")
 }
 
 // Asserts that a sink has the counts 1 to 4 and five dropped lines, and that its flush writes nothing.
@@ -161,15 +154,6 @@ fn a_box_passes_the_number_of_dropped_lines_on(rt: HostRuntime) -> Result<(), Fa
     watch.stage.set([0, 0, 0, 0, 5]);
     assert_eq!(rt; sink.dropped_lines(), 5);
     Ok(())
-}
-
-// Returns whether something was made. It may only be refused because memory runs out.
-fn is_made<T: Drop>(answer: MetricResult<T>) -> Result<bool, Fail> {
-    match answer {
-        Ok(_) => Ok(true),
-        Err(MetricError::Sink(SinkError::OutOfMemory)) => Ok(false),
-        Err(_) => Err(Fail::new("another error")),
-    }
 }
 
 // Sends two reports. If a request for memory of the first one is refused, then the second one has the counters that
@@ -207,7 +191,7 @@ fn assert_both<R: Runtime>(watch: &Watch<R>) -> Result<(), Fail> {
     if !are_both(&one, &other) && !are_both(&other, &one) {
         return Err(Fail::new("another counter"));
     }
-    watch.assert_lines("")
+    assert_got(&watch.notes, "")
 }
 
 // Returns whether these are the counters of 10 bytes and of a packet.

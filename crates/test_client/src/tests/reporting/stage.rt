@@ -112,32 +112,7 @@ pub fn make_counted<R: Wait + Clone + Drop>(
     Ok((watch, sink))
 }
 
-// Asserts that the next line of a spy is this text.
-fn assert_note<R: Wait + Drop>(notes: &SpyReceiver<R>, text: &str) -> Result<(), Fail> {
-    match notes.try_recv() {
-        None => Err(Fail::new(format_args!("no line {text}"))),
-        Some(line) if line.as_slice() == text.as_bytes() => Ok(()),
-        Some(_) => Err(Fail::new(format_args!("another line than {text}"))),
-    }
-}
-
-/// Asserts that the lines of a spy are those of this text, and no more.
-pub fn assert_notes<R: Wait + Drop>(notes: &SpyReceiver<R>, wanted: &str) -> Result<(), Fail> {
-    for text in wanted.lines() {
-        assert_note(notes, text)?;
-    }
-    match notes.try_recv() {
-        None => Ok(()),
-        Some(_) => Err(Fail::new("one line more")),
-    }
-}
-
 impl<R: Wait + Drop> Watch<R> {
-    /// Asserts that the sink took the lines of this text and no more since the last time.
-    pub fn assert_lines(&self, wanted: &str) -> Result<(), Fail> {
-        assert_notes(&self.notes, wanted)
-    }
-
     /// Sets whether the sink refuses lines.
     pub fn set_refuses(&self, refuses: bool) {
         self.stage.refuses.store(refuses, Ordering::SeqCst);

@@ -1,5 +1,6 @@
 //! The thread of a reporting sink, over a real clock and a real socket.
 use super::stage::{CountedSink, Runtime, make_counted};
+use crate::tests::steps::assert_receives;
 use cadence::ready::udp_sink;
 use cadence::sinks::{MetricSink, Target, UdpMetricSink};
 use cadence::types::{MetricResult, SinkError};
@@ -11,16 +12,6 @@ use std::sync::atomic::{AtomicU64, Ordering};
 use std::test::Fail;
 use std::thread;
 use std::time::Duration;
-
-// Asserts that the next datagram that the server receives is this text.
-fn assert_receives(server: &UdpSocket, text: &str) -> Result<(), Fail> {
-    let mut bytes = [0u8; 64];
-    let (length, _from) = server.recv_from(&mut bytes)?;
-    if bytes.get(..length) != Some(text.as_bytes()) {
-        return Err(Fail::new(format_args!("another datagram than {text}")));
-    }
-    Ok(())
-}
 
 // A sink that reports over UDP.
 type Reporting<R> = ReportingMetricSink<UdpMetricSink<R>, R>;

@@ -10,7 +10,7 @@ use std::io;
 use std::net::Net;
 use std::sync::Wait;
 use std::test::Fail;
-use test_tools::RefusingAllocator;
+use test_tools::{RefusingAllocator, each_refused};
 
 // A text of 107 bytes, which is a path, and one of 108 bytes, which is none.
 const LONGEST: &str =
@@ -150,14 +150,9 @@ fn sinks_are_made<R: Net + Wait + Clone + Drop>(
     }
 }
 
-// Each attempt has one request refused, until an attempt needs fewer requests than were granted.
 #[test]
 fn each_request_for_memory_may_be_refused(rt: HostRuntime) -> Result<(), Fail> {
-    for granted in 0..100 {
-        let heap = RefusingAllocator::after(rt.alloc(), rt.alloc(), granted)?;
-        if sinks_are_made(&rt, heap)? {
-            return Ok(());
-        }
-    }
-    Err(Fail::new("the sinks are never made"))
+    let granted = each_refused(rt.alloc(), |heap| sinks_are_made(&rt, heap))?;
+    assert!(rt; granted.is_some());
+    Ok(())
 }

@@ -1,6 +1,6 @@
 //! The aggregating sink over a spy: what leaves at a flush, after a refusal, at a drop, after a period, with two
 //! callers and below a client.
-use super::spied::assert_got;
+use crate::tests::steps::{assert_got, assert_takes};
 use cadence::prelude::*;
 use cadence::sinks::{MetricSink, SpyMetricSink};
 use cadence::{MetricResult, StatsdClient};
@@ -9,16 +9,6 @@ use std::alloc::Global;
 use std::test::Fail;
 use std::thread;
 use std::time::Duration;
-
-// Emits lines, each with a space after it, and asserts that each answer is the line's length.
-fn assert_takes<S: MetricSink>(sink: &S, lines: &str) -> Result<(), Fail> {
-    for line in lines.split(' ') {
-        if sink.emit(line)? != line.len() {
-            return Err(Fail::new("another count of bytes"));
-        }
-    }
-    Ok(())
-}
 
 #[test]
 fn flushes_and_a_drop_send_what_is_held(rt: HostRuntime) -> Result<(), Fail> {

@@ -1,6 +1,6 @@
 //! A client whose calls make no line, over a spy: what leaves at a flush, after a refusal, at a drop, after a period and
 //! with two callers.
-use super::spied::assert_got;
+use crate::tests::steps::assert_got;
 use cadence::client::ClientSettings;
 use cadence::line::Tag;
 use cadence::sinks::{MetricSink, SpyMetricSink};

@@ -1,0 +1,51 @@
+//! Steps of tests that assert their result: what a sink takes, what a spy or a socket receives, and what is made.
+use cadence::sinks::{MetricSink, SpyReceiver};
+use cadence::types::{MetricError, MetricResult, SinkError};
+use std::net::UdpSocket;
+use std::sync::Wait;
+use std::test::Fail;
+
+/// Emits these lines, which have white space between them, and asserts that each answer is the line's length.
+pub fn assert_takes<S: MetricSink>(sink: &S, lines: &str) -> Result<(), Fail> {
+    for line in lines.split_whitespace() {
+        if sink.emit(line)? != line.len() {
+            return Err(Fail::new("another count of bytes"));
+        }
+    }
+    Ok(())
+}
+
+/// Waits for the messages of a spy, and asserts that they are these lines, which have white space between them, and no
+/// more.
+pub fn assert_got<R: Wait + Drop>(receiver: &SpyReceiver<R>, lines: &str) -> Result<(), Fail> {
+    for line in lines.split_whitespace() {
+        match receiver.recv() {
+            Some(message) if message.as_slice() == line.as_bytes() => {}
+            _ => return Err(Fail::new(format_args!("another line than {line}"))),
+        }
+    }
+    if receiver.is_empty() {
+        Ok(())
+    } else {
+        Err(Fail::new("one line too many"))
+    }
+}
+
+/// Asserts that the next datagram that the server receives is this text.
+pub fn assert_receives(server: &UdpSocket, text: &str) -> Result<(), Fail> {
+    let mut bytes = [0u8; 64];
+    let (length, _from) = server.recv_from(&mut bytes)?;
+    if bytes.get(..length) != Some(text.as_bytes()) {
+        return Err(Fail::new(format_args!("another datagram than {text}")));
+    }
+    Ok(())
+}
+
+/// Returns whether something was made. It may only be refused because memory runs out.
+pub fn is_made<T: Drop>(answer: MetricResult<T>) -> Result<bool, Fail> {
+    match answer {
+        Ok(_) => Ok(true),
+        Err(MetricError::Sink(SinkError::OutOfMemory)) => Ok(false),
+        Err(_) => Err(Fail::new("another error")),
+    }
+}
