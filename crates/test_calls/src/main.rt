@@ -1,4 +1,4 @@
-//! The calls of one caller, and then those of four callers at once.
+//! The calls of one caller, the sinks that have a thread, and the calls of four callers at once.
 //!
 //! The first part makes every call of the client for every type of its value, plain and with tags, and prints the lines
 //! that the sink received. Each line must arrive once. Then it prints the texts of an audited queue's errors. The
@@ -8,7 +8,13 @@
 //! - `groups`: the calls in groups. `kinds`: the calls of each kind. `tagged`: adds a tag to a call and sends it.
 //! - `options`: the options of a call, and clients with settings.
 //!
-//! The second part has four callers in threads over one queuing sink, for each kind of queue, while handles are cloned
+//! The second part makes each sink that has a thread, and prints whether it is made. With the word `threads` the program
+//! has this part alone, and `.ci/programs` runs it so with room for no thread. A sink that can't start its thread has to
+//! return the error `Io` and drop the sink that it wraps.
+//!
+//! - `makers`: makes each sink.
+//!
+//! The third part has four callers in threads over one queuing sink, for each kind of queue, while handles are cloned
 //! and dropped. It prints only what has to be true for any order of the threads' turns: sums, and whether each accepted
 //! line that wasn't dropped reached the wrapped sink once, in the order of its caller, one at a time. First the callers
 //! emit as fast as they can. Then each one waits until no line is queued, so the worker sleeps before most lines: a lost
@@ -25,6 +31,7 @@ mod bursts;
 mod callers;
 mod groups;
 mod kinds;
+mod makers;
 mod options;
 mod queues;
 mod record;
@@ -39,6 +46,7 @@ use groups::Group;
 use options::Setting;
 use queues::QueueKind;
 use std::alloc::{AllocError, Global};
+use std::env;
 use std::sync::Wait;
 use turns::Runtime;
 
@@ -163,13 +171,25 @@ fn report_wake_ups<R: Runtime>(rt: &R, alloc: Global) -> MetricResult<String> {
     Ok(text)
 }
 
+// Returns whether the first argument is the word `threads`.
+fn wants_threads_alone(rt: &HostRuntime) -> MetricResult<bool> {
+    let mut words = env::args(rt)?;
+    let _program = words.next();
+    Ok(words.next().is_some_and(|word| word.as_str() == "threads"))
+}
+
 fn main(rt: HostRuntime) -> MetricResult<()> {
     let alloc = rt.alloc();
+    if wants_threads_alone(&rt)? {
+        print!(rt; "{}", makers::report(&rt, alloc)?)?;
+        return Ok(());
+    }
     let (lines, spy) = SpyMetricSink::new(rt.clone()?, alloc)?;
     let sink: Box<dyn MetricSink + Send + Sync> = Box::new(alloc, spy)?;
     let client = StatsdClient::from_sink(alloc, "p", sink)?;
     print!(rt; "{}", report_groups(alloc, &client, &lines)?)?;
     print!(rt; "{}", report_settings(&rt, alloc)?)?;
+    print!(rt; "{}", makers::report(&rt, alloc)?)?;
     print!(rt; "{}", report_bursts(&rt, alloc)?)?;
     print!(rt; "{}", report_wake_ups(&rt, alloc)?)?;
     Ok(())

@@ -1,22 +1,17 @@
-//! Makes each sink that has a thread.
+//! Makes each sink that has a thread, and says whether it was made.
+use crate::turns::Runtime;
 use cadence::sinks::FlushingMetricSink;
 use cadence::types::{MetricError, MetricResult, SinkError};
 use cadence::{MetricSink, QueuingMetricSink};
 use cadence_agent::ReportingMetricSink;
-use std::alloc::Global;
+use std::alloc::{AllocError, Global};
+use std::sync::Arc;
 use std::sync::atomic::{AtomicU64, Ordering};
-use std::sync::{Arc, Wait};
-use std::thread::Threads;
-use std::time::{Clock, Duration};
+use std::time::Duration;
 
-/// What the sinks ask of a runtime. Each type that meets these bounds implements this trait.
-pub trait Runtime: Clock + Wait + Threads + Clone + Drop + Send + Sync + 'static {}
-
-impl<R: Clock + Wait + Threads + Clone + Drop + Send + Sync + 'static> Runtime for R {}
-
-/// A sink that takes each line, and counts its drop.
-pub struct WrappedSink {
-    pub drops: Arc<AtomicU64>,
+// A sink that takes each line, and counts its drop.
+struct WrappedSink {
+    drops: Arc<AtomicU64>,
 }
 
 impl MetricSink for WrappedSink {
@@ -36,16 +31,16 @@ impl Drop for WrappedSink {
     }
 }
 
-/// Which sink is made.
+// Which sink is made.
 #[derive(Clone, Copy)]
-pub enum Maker {
+enum Maker {
     Queuing,
     Flushing,
     Reporting,
 }
 
-/// All of them.
-pub const MAKERS: [Maker; 3] = [Maker::Queuing, Maker::Flushing, Maker::Reporting];
+// All of them.
+const MAKERS: [Maker; 3] = [Maker::Queuing, Maker::Flushing, Maker::Reporting];
 
 // The period of each sink that has one.
 fn an_hour() -> Duration {
@@ -53,8 +48,8 @@ fn an_hour() -> Duration {
 }
 
 impl Maker {
-    /// Returns the name of the sink.
-    pub fn name(self) -> &'static str {
+    // Returns the name of the sink.
+    fn name(self) -> &'static str {
         match self {
             Maker::Queuing => "QueuingMetricSink",
             Maker::Flushing => "FlushingMetricSink",
@@ -62,8 +57,8 @@ impl Maker {
         }
     }
 
-    /// Makes the sink over another one, and drops it.
-    pub fn make<R: Runtime>(self, rt: &R, alloc: Global, sink: WrappedSink) -> MetricResult<()> {
+    // Makes the sink over another one, and drops it.
+    fn make<R: Runtime>(self, rt: &R, alloc: Global, sink: WrappedSink) -> MetricResult<()> {
         match self {
             Maker::Queuing => make_queuing(rt, alloc, sink),
             Maker::Flushing => make_flushing(rt, alloc, sink),
@@ -87,7 +82,32 @@ fn make_reporting<R: Runtime>(rt: &R, alloc: Global, sink: WrappedSink) -> Metri
     Ok(())
 }
 
-/// Returns whether the error is one of the system.
-pub fn is_io(error: &MetricError) -> bool {
+// Returns whether the error is one of the system.
+fn is_io(error: &MetricError) -> bool {
     matches!(error.sink_error(), Some(SinkError::Io(_)))
+}
+
+// Makes a sink, and returns the line that says how that ended.
+fn line_of<R: Runtime>(rt: &R, alloc: Global, maker: Maker) -> Result<String, AllocError> {
+    let name = maker.name();
+    let drops = Arc::new(alloc, AtomicU64::new(0))?;
+    let sink = WrappedSink {
+        drops: drops.clone()?,
+    };
+    match maker.make(rt, alloc, sink) {
+        Ok(()) => format!(in alloc; "{name}: made\n"),
+        Err(error) => {
+            let (is_io, drops) = (is_io(&error), drops.load(Ordering::SeqCst));
+            format!(in alloc; "{name}: Io {is_io}, {drops} dropped\n")
+        }
+    }
+}
+
+/// Returns the lines of all sinks.
+pub fn report<R: Runtime>(rt: &R, alloc: Global) -> Result<String, AllocError> {
+    let mut text = String::new(alloc);
+    for maker in MAKERS {
+        text.push_str(&line_of(rt, alloc, maker)?)?;
+    }
+    Ok(text)
 }
