@@ -39,7 +39,7 @@ pub enum Reading {
 pub enum Emitting {
     /// Lines into a buffered UDP sink.
     Udp,
-    /// Lines into a queue.
+    /// Lines of one caller into a queue.
     Queue,
     /// Lines of several callers into a queue.
     Callers,
@@ -145,10 +145,10 @@ pub fn parse(words: &mut Args) -> Option<Arguments> {
     let (mode, name) = mode_of(&word)?;
     let calls = parse_number(words.next()).unwrap_or(1);
     let (first, second) = (parse_number(words.next()), parse_number(words.next()));
-    let callers = if matches!(mode, Mode::Service) {
-        second
-    } else {
-        parse_number(words.next())
+    let callers = match mode {
+        Mode::Emit(Emitting::Queue) => Some(1),
+        Mode::Service => second,
+        _ => parse_number(words.next()),
     };
     Some(Arguments {
         mode,

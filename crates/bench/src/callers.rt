@@ -1,11 +1,9 @@
-//! Emits lines into sinks and queues, from several threads at the same time.
+//! Emits lines into queues, and into sinks from several threads at the same time.
 
 use crate::arguments::{Arguments, Emitting};
 use crate::done::{Accepted, BlackBox, Done};
 use crate::packets::make_line;
-use crate::sinks::{
-    done_by, emit_to_queue, emit_to_udp, make_buffered_sink, make_queue, wait_until_drained,
-};
+use crate::sinks::{done_by, emit_to_udp, make_buffered_sink, make_queue, wait_until_drained};
 use cadence::prelude::*;
 use cadence::{
     BufferedUdpMetricSink, MetricResult, MetricSink, NopMetricSink, QueuingMetricSink, StatsdClient,
@@ -54,8 +52,8 @@ fn take_turns<R: Clock, T: Turn>(
     })
 }
 
-// Runs the callers, each with its share of the turns, all from the same moment on. Returns how many turns succeeded,
-// and the time from when the first caller began until the last one ended.
+// Runs the callers, each with its share of the turns, all from the same moment on. A single one runs in this thread.
+// Returns how many turns succeeded, and the time from when the first caller began until the last one ended.
 fn run_together<R: Clock + Wait + Threads + Sync, T: Turn>(
     rt: &R,
     alloc: Global,
@@ -100,8 +98,8 @@ impl<S: MetricSink + Sync> Turn for EmitLine<'_, S> {
     }
 }
 
-// Emits lines of several callers into a queue over a sink that does nothing.
-fn emit_together_to_queue<R: Clock + Wait + Threads + Clone + Drop + Send + Sync + 'static>(
+// Emits lines of one caller or of several into a queue over a sink that does nothing.
+fn emit_to_queue<R: Clock + Wait + Threads + Clone + Drop + Send + Sync + 'static>(
     rt: &R,
     alloc: Global,
     arguments: &Arguments,
@@ -196,8 +194,7 @@ pub fn emit<R: Clock + Net + Wait + Threads + Clone + Drop + Send + Sync + 'stat
 ) -> MetricResult<Done> {
     match what {
         Emitting::Udp => emit_to_udp(rt, alloc, arguments),
-        Emitting::Queue => emit_to_queue(rt, alloc, arguments),
-        Emitting::Callers => emit_together_to_queue(rt, alloc, arguments),
+        Emitting::Queue | Emitting::Callers => emit_to_queue(rt, alloc, arguments),
         Emitting::UdpCallers => emit_together_to_udp(rt, alloc, arguments),
     }
 }

@@ -1,10 +1,10 @@
-//! Emits lines into sinks and queues, from one thread.
+//! Makes sinks and queues, and emits lines into a sink from one thread.
 
 use crate::arguments::Arguments;
 use crate::done::{BlackBox, Done, Note};
 use crate::packets::make_line;
 use cadence::sinks::Target;
-use cadence::{BufferedUdpMetricSink, MetricResult, MetricSink, NopMetricSink, QueuingMetricSink};
+use cadence::{BufferedUdpMetricSink, MetricResult, MetricSink, QueuingMetricSink};
 use std::alloc::Global;
 use std::net::{Ipv4Addr, Net, SocketAddr, UdpSocket};
 use std::sync::Wait;
@@ -90,33 +90,4 @@ pub fn wait_until_drained<S: MetricSink, R: Wait + Drop>(
         }
         thread::yield_now();
     }
-}
-
-/// Emits lines into a queue over a sink that does nothing. The time is that of the emits alone.
-pub fn emit_to_queue<R: Clock + Wait + Threads + Clone + Drop + Send + Sync + 'static>(
-    rt: &R,
-    alloc: Global,
-    arguments: &Arguments,
-) -> MetricResult<Done> {
-    let line = make_line(alloc, arguments.length)?;
-    let queue = make_queue(rt, alloc, NopMetricSink, arguments.capacity)?;
-    queue.emit(&line)?;
-    wait_until_drained(rt, &queue, 1);
-    let hidden = BlackBox::new();
-    let mut accepted = 0u64;
-    let start = Instant::now(rt)?;
-    for _ in 0..arguments.calls {
-        if queue.emit(hidden.text(&line)).is_ok() {
-            accepted = accepted.wrapping_add(1);
-        }
-    }
-    let time = start.elapsed(rt)?;
-    wait_until_drained(rt, &queue, accepted.wrapping_add(1));
-    let drained = start.elapsed(rt)?;
-    queue.stop_and_wait();
-    Ok(Done {
-        time,
-        check: if arguments.capacity == 0 { accepted } else { 0 },
-        note: Note::Accepted(accepted, drained),
-    })
 }
