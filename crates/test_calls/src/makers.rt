@@ -42,11 +42,6 @@ enum Maker {
 // All of them.
 const MAKERS: [Maker; 3] = [Maker::Queuing, Maker::Flushing, Maker::Reporting];
 
-// The period of each sink that has one.
-fn an_hour() -> Duration {
-    Duration::from_secs(3600)
-}
-
 impl Maker {
     // Returns the name of the sink.
     fn name(self) -> &'static str {
@@ -57,29 +52,16 @@ impl Maker {
         }
     }
 
-    // Makes the sink over another one, and drops it.
+    // Makes the sink over another one, and drops it. Its period is an hour, if it has one.
     fn make<R: Runtime>(self, rt: &R, alloc: Global, sink: WrappedSink) -> MetricResult<()> {
+        let (own, hour) = (rt.clone()?, Duration::from_secs(3600));
         match self {
-            Maker::Queuing => make_queuing(rt, alloc, sink),
-            Maker::Flushing => make_flushing(rt, alloc, sink),
-            Maker::Reporting => make_reporting(rt, alloc, sink),
+            Maker::Queuing => drop(QueuingMetricSink::from(own, alloc, sink)?),
+            Maker::Flushing => drop(FlushingMetricSink::new(own, alloc, sink, hour)?),
+            Maker::Reporting => drop(ReportingMetricSink::new(own, alloc, sink, "me", hour)?),
         }
+        Ok(())
     }
-}
-
-fn make_queuing<R: Runtime>(rt: &R, alloc: Global, sink: WrappedSink) -> MetricResult<()> {
-    let _made = QueuingMetricSink::from(rt.clone()?, alloc, sink)?;
-    Ok(())
-}
-
-fn make_flushing<R: Runtime>(rt: &R, alloc: Global, sink: WrappedSink) -> MetricResult<()> {
-    let _made = FlushingMetricSink::new(rt.clone()?, alloc, sink, an_hour())?;
-    Ok(())
-}
-
-fn make_reporting<R: Runtime>(rt: &R, alloc: Global, sink: WrappedSink) -> MetricResult<()> {
-    let _made = ReportingMetricSink::new(rt.clone()?, alloc, sink, "me", an_hour())?;
-    Ok(())
 }
 
 // Returns whether the error is one of the system.
