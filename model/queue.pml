@@ -449,7 +449,7 @@ inline FLUSH() {
 }
 #endif
 
-/* `Taker::next` and `SharedQueue::wait`, for each text until the end, and then `Part::end`. If PERIOD is 1, also
+/* `Taker::next` and `Taker::fetch`, for each text until the end, and then `Part::end`. If PERIOD is 1, also
    `Taker::fetch_within` and `SharedQueue::wait_within`, while a flush is owed. A flush may be due before a look at
    the queue, but after a flush that failed the worker looks before it tries again. A `progress` label stands where the
    worker has seen, under the lock, that no text waits and the queue isn't stopped. So a run without end that passes none
