@@ -1,27 +1,27 @@
 -- The context of a key, which is that of the lines of its calls.
-use Rattle.std.proofs.Common.{◌≡◌, inl, inr, ℤ, pos, List, [], ◌∷◌, Option, Some, None, Bool, true, false, map, refl, sym, ap, ap₂, subst, ◌∙◌, rules}
+use Rattle.std.proofs.Common.{◌≡◌, ◌⊎◌, inl, inr, ℤ, pos, List, [], ◌∷◌, Option, Some, None, Bool, true, false, map, refl, sym, ap, ap₂, subst, ◌∙◌, rules}
 use Rattle.std.specs.Prelude.{ℕ, IfSome, IsTrue, if◌then◌else◌, not, ◌||◌}
 use Rattle.std.specs.Int.RustNames.{FitsSigned}
 use Rattle.std.specs.Option.{option_map}
 use mir.Syntax.{w64}
-use Rattle.cadence_aggregate.specs.Server.{amount, level, member, timing, other}
+use Rattle.cadence_aggregate.specs.Server.{Sample, amount, level, member, timing, other}
 use Rattle.cadence_errors.specs.declared.MetricError.{MetricError}
 use Rattle.cadence_read.specs.Listed.{IsListed}
-use Rattle.cadence_settings.specs.Call.{MetricCall, allows_call, chosen_time, is_free_call, last_or, metric_of_call, tagged}
+use Rattle.cadence_settings.specs.Call.{Choice, MetricCall, allows_call, chosen_time, is_free_call, last_or, metric_of_call, tagged}
 use Rattle.cadence_settings.specs.CallData.{LineFails, call_of, line_of_data, metric_of_data, numbers_of_value}
 use Rattle.cadence_settings.specs.Laws.{StrictCallsAreFree}
 use Rattle.cadence_settings.specs.Settings.{FailsFor, Settings, is_free_settings}
 use Rattle.cadence_settings.specs.declared.call.Call.{Call}
-use Rattle.cadence_text.specs.declared.line.MetricType.TheVariants.{Counter, Gauge}
+use Rattle.cadence_text.specs.declared.line.MetricType.{MetricType}
+use Rattle.cadence_text.specs.declared.line.MetricType.TheVariants.{Counter, Gauge, Set}
 use Rattle.cadence_text.specs.Laws.{LineReadsOneWay}
 use Rattle.cadence_text.specs.Line.{line_of}
 use Rattle.cadence_text.specs.Metric.{Metric, Tag}
 use Rattle.cadence_text.specs.Representable.{IsRepresentable}
 use Rattle.cadence_value.specs.Number.{Number, natural, number_text, numbers_text, whole}
-use Rattle.cadence_aggregating.specs.Contexts.{IsLineOfZero, IsUntimed, MayFailFor, zeros}
-use Rattle.cadence_aggregating.specs.Keys.{CountsFor, IsKeyOfLine, SaysNeither, SetsFor}
-use Rattle.cadence_aggregating.specs.declared.keys.CounterKey.{CounterKey}
-use Rattle.cadence_aggregating.specs.declared.keys.GaugeKey.{GaugeKey}
+use Rattle.cadence_aggregating.specs.Contexts.{IsLineOfZero, IsUntimed, MayFailFor, tagged_call, zeros}
+use Rattle.cadence_aggregating.specs.Keys.{IsKeyFor, IsKeyOfLine, SaysNeither}
+use Rattle.cadence_aggregating.specs.declared.keys.LineKey.{LineKey}
 use Rattle.cadence_aggregating.specs.declared.keys.LineKey.TheVariants.{Raises, Sets}
 use Rattle.cadence_aggregating.specs.Printed.{spliced}
 use Rattle.cadence_aggregating.specs.Says.{LineSays, MetricSays, context_of, is_timed}
@@ -70,6 +70,13 @@ module _ {Z : Type 0} (s : Settings) (call : Call Z) (strict : IsTrue s.strict) 
       may_fail (is_free_call c) e (subst (λ b. FailsFor b e) allowed
       (fails (λ ns. metric_of_call s (call_of call ns)) line_of (allows_call s c) (numbers_of_value call.value) zeros e zero h))
 
+-- the line of zero of a call with tags
+pub zero_of_tagged : (s : Settings) (kind : MetricType) (key given : List ℕ) (tags : List Tag) (choices : List Choice) (line : List ℕ) → given ≡ key
+    → choices ≡ map tagged tags → IsLineOfZero s (record { kind = kind; key = given; numbers = []; choices = choices }) line → IsLineOfZero s (tagged_call kind key tags) line
+zero_of_tagged s kind key given tags choices line same chosen zero =
+    subst (λ k. IsLineOfZero s (record { kind = kind; key = k; numbers = []; choices = map tagged tags }) line) same
+    (subst (λ cs. IsLineOfZero s (record { kind = kind; key = given; numbers = []; choices = cs }) line) chosen zero)
+
 module _ (s : Settings) (call : MetricCall) (line : List ℕ) (zero : IsLineOfZero s call line) (once : LineReadsOneWay) where
   only : (m : Metric) → IsListed m → line_of m ≡ line → m ≡ metric_of_call s (record call { numbers = zeros })
   only m listed its = once m (metric_of_call s (record call { numbers = zeros })) listed.free zero.listed.free (its ∙ sym zero.whole)
@@ -78,52 +85,41 @@ module _ (s : Settings) (call : MetricCall) (line : List ℕ) (zero : IsLineOfZe
   unfolding metric_of_call
   kind_found m listed its = ap (λ x. x.kind) (only m listed its)
 
+  -- the key of the line is that of the call
+  pub key_for : (key : LineKey) → IsKeyOfLine line key → IsKeyFor s call key
+  unfolding metric_of_call
+  key_for (Raises key) (m, listed, its, (kind, lines)) =
+      (sym (kind_found m listed its) ∙ kind, λ n. lines n ∙ ap (λ x. line_of (numbered x (whole n ∷ []))) (only m listed its))
+  key_for (Sets key) (m, listed, its, (kind, lines)) =
+      (sym (kind_found m listed its) ∙ kind, λ n. lines n ∙ ap (λ x. line_of (numbered x (natural n ∷ []))) (only m listed its))
+
   -- the line says what it is made to say
-  zero_amount : call.kind ≡ Counter → IsUntimed call → MetricSays line (amount (context_of (metric_of_call s (record call { numbers = zeros }))) (pos 0))
+  zero_says : (call.kind ≡ Counter) ⊎ (call.kind ≡ Gauge) → IsUntimed call → (said : Sample) × MetricSays line said
   unfolding metric_of_call
-  zero_amount kind untimed =
+  zero_says (inl kind) untimed =
+      let m = metric_of_call s (record call { numbers = zeros }) in
       let fits : FitsSigned w64 (pos 0) = search rules in
-      (metric_of_call s (record call { numbers = zeros }), zero.listed, zero.whole, (kind, untimed, refl, refl, fits))
+      (amount (context_of m) (pos 0), (m, zero.listed, zero.whole, (kind, untimed, refl, refl, fits)))
+  zero_says (inr kind) untimed =
+      let m = metric_of_call s (record call { numbers = zeros }) in
+      (level (context_of m) (numbers_text zeros), (m, zero.listed, zero.whole, (kind, untimed, refl, refl)))
 
-  zero_level : call.kind ≡ Gauge → IsUntimed call → MetricSays line (level (context_of (metric_of_call s (record call { numbers = zeros }))) (numbers_text zeros))
-  unfolding metric_of_call
-  zero_level kind untimed = (metric_of_call s (record call { numbers = zeros }), zero.listed, zero.whole, (kind, untimed, refl, refl))
+  no_member : (call.kind ≡ Counter) ⊎ (call.kind ≡ Gauge) → call.kind ≡ Set → ⊥
+  no_member (inl kind) is_set = cc (sym kind ∙ is_set)
+  no_member (inr kind) is_set = cc (sym kind ∙ is_set)
 
-  -- the key of the line counts for the call
-  pub counts_for : (key : CounterKey) → IsKeyOfLine line (Raises key) → CountsFor s call key
-  unfolding metric_of_call
-  counts_for key (m, listed, its, (kind, lines)) n = lines n ∙ ap (λ x. line_of (numbered x (whole n ∷ []))) (only m listed its)
+  no_timing : (call.kind ≡ Counter) ⊎ (call.kind ≡ Gauge) → is_timed call.kind ≡ true → ⊥
+  no_timing (inl kind) timed = cc (sym timed ∙ ap is_timed kind)
+  no_timing (inr kind) timed = cc (sym timed ∙ ap is_timed kind)
 
-  -- the key of the line sets a gauge for the call
-  pub sets_for : (key : GaugeKey) → IsKeyOfLine line (Sets key) → SetsFor s call key
-  unfolding metric_of_call
-  sets_for key (m, listed, its, (kind, lines)) n = lines n ∙ ap (λ x. line_of (numbered x (natural n ∷ []))) (only m listed its)
-
-  -- the line of a call that counts raises a counter
-  pub raises : call.kind ≡ Counter → IsUntimed call → SaysNeither line → ⊥
-  raises kind untimed (amount c n, says, h) = absurd h
-  raises kind untimed (level c v, says, h) = absurd h
-  raises kind untimed (member l, (m, listed, its, (k, time, same)), h) = cc (sym k ∙ kind_found m listed its ∙ kind)
-  raises kind untimed (timing c t, (m, listed, its, (timed, time, context, values, some)), h) =
-      cc (sym timed ∙ ap is_timed (kind_found m listed its ∙ kind))
-  raises kind untimed (other l, (same, nothing), h) =
-      nothing (amount (context_of (metric_of_call s (record call { numbers = zeros }))) (pos 0)) (zero_amount kind untimed)
-
-  pub raises_no_gauge : call.kind ≡ Counter → (key : GaugeKey) → IsKeyOfLine line (Sets key) → ⊥
-  raises_no_gauge kind key (m, listed, its, (k, lines)) = cc (sym k ∙ kind_found m listed its ∙ kind)
-
-  -- the line of a call that sets a gauge sets one
-  pub sets : call.kind ≡ Gauge → IsUntimed call → SaysNeither line → ⊥
-  sets kind untimed (amount c n, says, h) = absurd h
-  sets kind untimed (level c v, says, h) = absurd h
-  sets kind untimed (member l, (m, listed, its, (k, time, same)), h) = cc (sym k ∙ kind_found m listed its ∙ kind)
-  sets kind untimed (timing c t, (m, listed, its, (timed, time, context, values, some)), h) =
-      cc (sym timed ∙ ap is_timed (kind_found m listed its ∙ kind))
-  sets kind untimed (other l, (same, nothing), h) =
-      nothing (level (context_of (metric_of_call s (record call { numbers = zeros }))) (numbers_text zeros)) (zero_level kind untimed)
-
-  pub sets_no_counter : call.kind ≡ Gauge → (key : CounterKey) → IsKeyOfLine line (Raises key) → ⊥
-  sets_no_counter kind key (m, listed, its, (k, lines)) = cc (sym k ∙ kind_found m listed its ∙ kind)
+  -- the line of a call that counts raises a counter, and that of a call that sets a gauge sets one
+  pub does_either : (call.kind ≡ Counter) ⊎ (call.kind ≡ Gauge) → IsUntimed call → SaysNeither line → ⊥
+  does_either kinds untimed (amount c n, says, h) = absurd h
+  does_either kinds untimed (level c v, says, h) = absurd h
+  does_either kinds untimed (member l, (m, listed, its, (k, time, same)), h) = no_member kinds (sym (kind_found m listed its) ∙ k)
+  does_either kinds untimed (timing c t, (m, listed, its, (timed, time, context, values, some)), h) =
+      no_timing kinds (ap is_timed (sym (kind_found m listed its)) ∙ timed)
+  does_either kinds untimed (other l, (same, nothing), h) = let (said, says) = zero_says kinds untimed in nothing said says
 
 pub counter_key : (line c t : List ℕ) (n : ℤ) → LineSays line (amount c n) → t ≡ c
     → (m : Metric) × IsListed m × (line_of m ≡ line)

@@ -39,6 +39,11 @@ CountsFor settings call key = (n : ℤ) → line_of_counter key n ≡ line_of (m
 abbrev pub SetsFor : Settings → MetricCall → GaugeKey → Type 0
 SetsFor settings call key = (n : ℕ) → line_of_gauge key n ≡ line_of (metric_of_call settings (record call { numbers = natural n ∷ [] }))
 
+-- Each line of the key is the line that these settings make of this call with one other number.
+abbrev pub IsKeyFor : Settings → MetricCall → LineKey → Type 0
+IsKeyFor settings call (Raises key) = (call.kind ≡ Counter) × CountsFor settings call key
+IsKeyFor settings call (Sets key) = (call.kind ≡ Gauge) × SetsFor settings call key
+
 -- Each line of the key is the line of this metric with one other number.
 abbrev pub IsKeyOf : Metric → LineKey → Type 0
 IsKeyOf m (Raises key) = (m.kind ≡ Counter) × ((n : ℤ) → line_of_counter key n ≡ line_of (record m { numbers = whole n ∷ [] }))

@@ -5,7 +5,7 @@ ghost use Rattle.cadence_settings.specs.Call.{is_free_call, tagged};
 ghost use Rattle.cadence_settings.specs.CallData.{call_of, choice_of, kind_of_value, numbers_of_value};
 ghost use Rattle.cadence_text.specs.Record.{tag_of};
 ghost use Rattle.cadence_text.specs.declared.line.MetricType.TheVariants.{Counter, Gauge};
-ghost use Rattle.cadence_aggregating.specs.Contexts.{IsContextOf, IsLineOfZero, IsUntimed, MayFailFor, tagged_call, zeros};
+ghost use Rattle.cadence_aggregating.specs.Contexts.{IsContextOf, IsLineOfZero, MayFailFor, tagged_call, zeros};
 
 use crate::said::read_said;
 use cadence_aggregate::Line;
@@ -106,25 +106,41 @@ impl LineKey {
     }
 }
 
-impl CounterKey {
-    ghost use Rattle.cadence_aggregating.specs.Keys.{CountsFor};
+impl StrictSettings {
+    ghost use Rattle.std.specs.Prelude.{◌⊎◌};
+    ghost use Rattle.cadence_aggregating.specs.Keys.{IsKeyFor};
 
-    // Makes the key of a call that counts.
-    fn of_call(alloc: Global, settings: &StrictSettings, call: &Call) -> MetricResult<CounterKey>
-        requires kind { kind_of_value (call.now).value ≡ Counter }
-        requires zero { numbers_of_value (call.now).value ≡ Some zeros }
-        requires untimed { IsUntimed (call_of call.now []) }
-        ensures lines { IfOk result (CountsFor settings.now.settings (call_of call.now [])) }
-        ensures refused { IfErr result (MayFailFor (is_free_call (call_of call.now []))) }
+    // Makes the key of a call that counts or sets a gauge. Its line has the number 0, and is dropped.
+    fn key_of(
+        &self,
+        alloc: Global,
+        key: &str,
+        value: CallValue,
+        tags: &[Tag<'_>],
+    ) -> MetricResult<LineKey>
+        requires kind { (kind_of_value value ≡ Counter) ⊎ (kind_of_value value ≡ Gauge) }
+        requires zero { numbers_of_value value ≡ Some zeros }
+        ensures key { IfOk result (IsKeyFor self.now.settings
+            (tagged_call (kind_of_value value) key.now (map tag_of tags.now))) }
+        ensures refused { IfErr result (MayFailFor (is_free_call
+            (tagged_call (kind_of_value value) key.now (map tag_of tags.now)))) }
     {
         line_reads_one_way();
-        let line = settings.line_of_zero(call)?;
+        let call = Call {
+            key: String::from_str(alloc, key)?,
+            value,
+            options: options_of(alloc, tags)?,
+        };
+        let line = self.line_of_zero(&call)?;
         match LineKey::of_line(alloc, &line)? {
-            Some(LineKey::Raises(key)) => Ok(key),
-            Some(LineKey::Sets(_)) => Err(not_added()),
+            Some(key) => Ok(key),
             None => Err(not_added()),
         }
     }
+}
+
+impl CounterKey {
+    ghost use Rattle.cadence_aggregating.specs.Keys.{CountsFor};
 
     /// Makes the key of a counter with tags.
     ///
@@ -141,34 +157,15 @@ impl CounterKey {
         ensures refused { IfErr result (MayFailFor
             (is_free_call (tagged_call Counter key.now (map tag_of tags.now)))) }
     {
-        let call = Call {
-            key: String::from_str(alloc, key)?,
-            value: CallValue::CountI64(0),
-            options: options_of(alloc, tags)?,
-        };
-        CounterKey::of_call(alloc, settings, &call)
+        match settings.key_of(alloc, key, CallValue::CountI64(0), tags)? {
+            LineKey::Raises(key) => Ok(key),
+            LineKey::Sets(_) => Err(not_added()),
+        }
     }
 }
 
 impl GaugeKey {
     ghost use Rattle.cadence_aggregating.specs.Keys.{SetsFor};
-
-    // Makes the key of a call that sets a gauge.
-    fn of_call(alloc: Global, settings: &StrictSettings, call: &Call) -> MetricResult<GaugeKey>
-        requires kind { kind_of_value (call.now).value ≡ Gauge }
-        requires zero { numbers_of_value (call.now).value ≡ Some zeros }
-        requires untimed { IsUntimed (call_of call.now []) }
-        ensures lines { IfOk result (SetsFor settings.now.settings (call_of call.now [])) }
-        ensures refused { IfErr result (MayFailFor (is_free_call (call_of call.now []))) }
-    {
-        line_reads_one_way();
-        let line = settings.line_of_zero(call)?;
-        match LineKey::of_line(alloc, &line)? {
-            Some(LineKey::Sets(key)) => Ok(key),
-            Some(LineKey::Raises(_)) => Err(not_added()),
-            None => Err(not_added()),
-        }
-    }
 
     /// Makes the key of a gauge with tags.
     ///
@@ -185,12 +182,10 @@ impl GaugeKey {
         ensures refused { IfErr result (MayFailFor
             (is_free_call (tagged_call Gauge key.now (map tag_of tags.now)))) }
     {
-        let call = Call {
-            key: String::from_str(alloc, key)?,
-            value: CallValue::GaugeU64(0),
-            options: options_of(alloc, tags)?,
-        };
-        GaugeKey::of_call(alloc, settings, &call)
+        match settings.key_of(alloc, key, CallValue::GaugeU64(0), tags)? {
+            LineKey::Sets(key) => Ok(key),
+            LineKey::Raises(_) => Err(not_added()),
+        }
     }
 }
 
