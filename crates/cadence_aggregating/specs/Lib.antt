@@ -2,6 +2,7 @@ pub mod Accepted
 pub mod Additions
 pub mod Answers
 pub mod Builder
+pub mod Calls
 pub mod Causes
 pub mod Clients
 pub mod Contexts

@@ -1,5 +1,6 @@
 //! A client whose calls make no line.
 use crate::builder::AggregatingMetricSinkBuilder;
+use crate::call::KeyedCall;
 use crate::keys::{CounterKey, GaugeKey, StrictSettings};
 use crate::shared::SharedAggregator;
 use cadence_errors::MetricResult;
@@ -140,7 +141,7 @@ impl<S: MetricSink, R: Wait + Drop> AggregatedClient<S, R> {
     pub fn count(&self, key: &CounterKey, by: i64) -> MetricResult<()>
         ensures { IsCallOf (line_of_counter key.now by) result }
     {
-        self.lines.locked().count(key, by)
+        self.lines.locked().call(KeyedCall::Raise(key, by))
     }
 
     /// Raises a counter by 1. The errors are those of `count`.
@@ -161,7 +162,7 @@ impl<S: MetricSink, R: Wait + Drop> AggregatedClient<S, R> {
     pub fn gauge(&self, key: &GaugeKey, value: u64) -> MetricResult<()>
         ensures { IsCallOf (line_of_gauge key.now value) result }
     {
-        self.lines.locked().gauge(key, value)
+        self.lines.locked().call(KeyedCall::Set(key, value))
     }
 
     /// Sends one line for each counter and gauge that was called, and flushes the wrapped sink. The error is that of the

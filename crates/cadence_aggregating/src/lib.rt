@@ -15,12 +15,14 @@
 //! - `builder`: its settings.
 //! - `accepted`: a record of a line that was accepted, for proofs.
 //! - `keys`: the keys of calls that make no line.
+//! - `call`: a call by a key, and what its line would say.
 //! - `shared`: an aggregator that a client shares with a thread.
 //! - `client`: a client whose calls make no line.
 #![tactic(auto)]
 
 mod accepted;
 mod builder;
+mod call;
 mod client;
 mod keys;
 mod limits;

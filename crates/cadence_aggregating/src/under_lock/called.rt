@@ -2,12 +2,12 @@
 ghost use Rattle.std.specs.Prelude.{ℕ, List, Result};
 ghost use Rattle.cadence_errors.specs.declared.SinkError.{SinkError};
 ghost use Rattle.cadence_flow.specs.Opened.{opened};
-ghost use Rattle.cadence_aggregating.specs.Keys.{line_of_counter, line_of_gauge};
+ghost use Rattle.cadence_aggregating.specs.Calls.{line_of_keyed};
 ghost use Rattle.cadence_aggregating.specs.Results.{IsResultOf};
 ghost use Rattle.cadence_aggregating.specs.Shown.{AnswersAdded, added_bytes, recorded_of};
 
 use super::{Added, Failed, UnderLock};
-use crate::keys::{CounterKey, GaugeKey};
+use crate::call::KeyedCall;
 use cadence_errors::SinkError;
 use cadence_flow::MetricSink;
 use std::snapshot::Snapshot;
@@ -19,52 +19,20 @@ fn steps()
 {}
 
 impl<S: MetricSink> UnderLock<S> {
-    /// Raises a counter, as `RecordedAggregator::count` does. The error is in `fault`.
-    pub(crate) fn count(
+    /// Makes a call by a key, as `RecordedAggregator::call` does. The error is in `fault`.
+    pub(crate) fn call(
         &mut self,
-        key: &CounterKey,
-        by: i64,
+        call: KeyedCall<'_>,
         fault: &mut SinkError,
     ) -> Result<Added<S>, Failed<S>>
-        ensures answer { IsResultOf (line_of_counter key.now by)
+        ensures answer { IsResultOf (line_of_keyed call.entry)
             (opened added_bytes result fault.new) }
         ensures step { AnswersAdded (recorded_of self.old) (recorded_of self.new)
-            (line_of_counter key.now by) result fault.new }
+            (line_of_keyed call.entry) result fault.new }
     {
         steps();
         let before = Snapshot::of(&self.aggregator);
-        match self.aggregator.count(key, by) {
-            Ok(()) => Ok(Added {
-                bytes: 0,
-                before,
-                after: Snapshot::of(&self.aggregator),
-            }),
-            Err(error) => {
-                *fault = error;
-                Err(Failed {
-                    why: Snapshot::of(fault),
-                    before,
-                    after: Snapshot::of(&self.aggregator),
-                })
-            }
-        }
-    }
-
-    /// Sets a gauge, as `RecordedAggregator::gauge` does. The error is in `fault`.
-    pub(crate) fn gauge(
-        &mut self,
-        key: &GaugeKey,
-        value: u64,
-        fault: &mut SinkError,
-    ) -> Result<Added<S>, Failed<S>>
-        ensures answer { IsResultOf (line_of_gauge key.now value)
-            (opened added_bytes result fault.new) }
-        ensures step { AnswersAdded (recorded_of self.old) (recorded_of self.new)
-            (line_of_gauge key.now value) result fault.new }
-    {
-        steps();
-        let before = Snapshot::of(&self.aggregator);
-        match self.aggregator.gauge(key, value) {
+        match self.aggregator.call(call) {
             Ok(()) => Ok(Added {
                 bytes: 0,
                 before,
