@@ -32,8 +32,8 @@ outcome_shown report = record {
 abbrev pub held_in_report : {W A : Type 0} → AggregatedReport W A → List Sample
 held_in_report report = held report.aggregator
 
--- What a run is given, with an aggregator in place of the writer. An aggregator takes each line whole, or refuses it with
--- any error.
+-- What a run is given, if its hand gives lines to an aggregator and not to a packer. An aggregator takes a whole line, or
+-- refuses it, and a refusal may have any error.
 abbrev pub with_aggregator : {A : Type 0} → Given A → Given A
 with_aggregator given = record given {
   kind = record given.kind { may_give = λ e. true; takes_whole = true };

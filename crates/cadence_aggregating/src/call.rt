@@ -10,7 +10,7 @@ use crate::printed::rewrite;
 use cadence_aggregate::Line;
 use std::alloc::AllocError;
 
-/// A call by a key. It stands for the line that it doesn't make.
+/// A call by a key. It makes no line, but counts as the line with the key's context and this number.
 #[derive(Clone, Copy)]
 pub(crate) enum KeyedCall<'a> {
     /// The call raises this counter by a number.
@@ -19,7 +19,7 @@ pub(crate) enum KeyedCall<'a> {
     Set(&'a GaugeKey, u64),
 }
 
-/// Returns the context of a call's line, which is no longer than the line.
+/// Returns the context of the line that a call counts as. The context is no longer than the line.
 pub(crate) fn context_of<'a>(call: KeyedCall<'a>) -> &'a str
     ensures { length result.now ≤ length (line_of_keyed call.entry) }
 {
@@ -29,8 +29,8 @@ pub(crate) fn context_of<'a>(call: KeyedCall<'a>) -> &'a str
     }
 }
 
-/// Returns what the line of a call says. The number of a gauge is written into `text`, in place of what that had. The
-/// only error is that memory ran out.
+/// Returns what the line says that a call counts as. The number of a gauge is written into `text`, in place of what that
+/// had. The only error is that memory ran out.
 pub(crate) fn said_by<'a>(call: KeyedCall<'a>, text: &'a mut String) -> Result<Line<'a>, AllocError>
     ensures line { IfOk result (λ said. line_saying (sample_of said) ≡ line_of_keyed call.entry) }
     ensures says { IfOk result (λ said. ∥ LineSays (line_of_keyed call.entry) (sample_of said) ∥₁) }

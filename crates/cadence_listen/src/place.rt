@@ -17,7 +17,19 @@ pub enum Reading<A: Allocator> {
 
 // Texts that make a line of each beginning of a line, if one of them is put behind it.
 const ENDS: [&[u8]; 13] = [
-    b"", b"|c", b"1|c", b":1|c", b".1|c", b"c", b"s", b"1", b".1", b"T1", b":", b"0", b"#",
+    b"",
+    b"|c",
+    b"1|c",
+    b":1|c",
+    b".1|c",
+    b"c",
+    b"s",
+    b"1",
+    b".1",
+    &[b'T', b'1'],
+    b":",
+    b"0",
+    b"#",
 ];
 
 // Returns whether the text and the end are the line of a metric. The line is written into the buffer.

@@ -328,8 +328,8 @@ impl<T, A: Allocator, M: Drop> Taker<'_, T, A, M> {
         }
     }
 
-    /// Ends the taker, after `next` returned `None`. In proofs it returns the texts that it moved, all of which `next`
-    /// returned.
+    /// Ends the taker, after `next` returned `None`. It returns, for proofs alone, the texts that it took from the queue.
+    /// `next` returned each of them.
     pub fn finish(self) -> GhostList<T>
         requires { has_ended self ≡ true }
         ensures taken { result.items ≡ taken_by self.entry }

@@ -1,4 +1,4 @@
-//! A runtime with a clock that stands still until a test moves it, and with variables of the test's own.
+//! A runtime with a clock that stands still until a test moves it, and with environment variables that the test gives.
 use crate::given::fill_from;
 use std::alloc::{AllocError, Global};
 use std::env::{Env, FillError};

@@ -15,11 +15,11 @@ pub fn assert_takes<S: MetricSink>(sink: &S, lines: &str) -> Result<(), Fail> {
     Ok(())
 }
 
-/// Waits for the messages of a spy, and asserts that they are these lines, which have white space between them, and no
-/// more.
+/// Asserts that the messages of a spy are these lines, which have white space between them, and no more. It doesn't wait
+/// for a message.
 pub fn assert_got<R: Wait + Drop>(receiver: &SpyReceiver<R>, lines: &str) -> Result<(), Fail> {
     for line in lines.split_whitespace() {
-        match receiver.recv() {
+        match receiver.try_recv() {
             Some(message) if message.as_slice() == line.as_bytes() => {}
             _ => return Err(Fail::new(format_args!("another line than {line}"))),
         }
@@ -28,6 +28,14 @@ pub fn assert_got<R: Wait + Drop>(receiver: &SpyReceiver<R>, lines: &str) -> Res
         Ok(())
     } else {
         Err(Fail::new("one line too many"))
+    }
+}
+
+/// Waits for a message of a spy, and asserts that it is this line, and that no other message waits behind it.
+pub fn assert_gets<R: Wait + Drop>(receiver: &SpyReceiver<R>, line: &str) -> Result<(), Fail> {
+    match receiver.recv() {
+        Some(message) if message.as_slice() == line.as_bytes() => assert_got(receiver, ""),
+        _ => Err(Fail::new(format_args!("another line than {line}"))),
     }
 }
 

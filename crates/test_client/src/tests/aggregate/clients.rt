@@ -1,6 +1,6 @@
 //! A client whose calls make no line, over a spy: what leaves at a flush, after a refusal, at a drop, after a period and
 //! with two callers.
-use crate::tests::steps::assert_got;
+use crate::tests::steps::{assert_gets, assert_got};
 use cadence::client::ClientSettings;
 use cadence::line::Tag;
 use cadence::sinks::{MetricSink, SpyMetricSink};
@@ -91,7 +91,7 @@ fn a_period_sends_the_sums_of_a_client(rt: HostRuntime) -> Result<(), Fail> {
         .build_client(rt.clone()?, rt.alloc(), settings, spy)?;
     let key = client.counter_key("a", &[])?;
     client.count(&key, 3)?;
-    assert_got(&receiver, "p.a:3|c")
+    assert_gets(&receiver, "p.a:3|c")
 }
 
 // Raises a counter by 1 again and again.

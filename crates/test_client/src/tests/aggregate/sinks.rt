@@ -1,6 +1,6 @@
 //! The aggregating sink over a spy: what leaves at a flush, after a refusal, at a drop, after a period, with two
 //! callers and below a client.
-use crate::tests::steps::{assert_got, assert_takes};
+use crate::tests::steps::{assert_gets, assert_got, assert_takes};
 use cadence::prelude::*;
 use cadence::sinks::{MetricSink, SpyMetricSink};
 use cadence::{MetricResult, StatsdClient};
@@ -36,7 +36,7 @@ fn a_period_sends_what_is_held(rt: HostRuntime) -> Result<(), Fail> {
         .with_flush_period(Duration::from_millis(20))
         .build(rt.clone()?, rt.alloc(), spy)?;
     assert_takes(&sink, "t:5|ms")?;
-    assert_got(&receiver, "t:5|ms")
+    assert_gets(&receiver, "t:5|ms")
 }
 
 // Emits a counter's line again and again.
