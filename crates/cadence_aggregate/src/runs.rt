@@ -1,5 +1,5 @@
 //! A run of lines and flushes.
-ghost use Rattle.std.specs.Prelude.{◌≡◌, ◌+◌, ◌++◌, ◌<◌, length, vec_len, IfOk};
+ghost use Rattle.std.specs.Prelude.{◌≡◌, ◌+◌, ◌++◌, ◌<◌, length, IfOk};
 ghost use Rattle.cadence_aggregate.specs.Aggregate.{held, accepted_samples, said_by};
 ghost use Rattle.cadence_aggregate.specs.Refusals.{after_replies, after_reply};
 ghost use Rattle.cadence_aggregate.specs.Server.{IsSummary};

@@ -1,5 +1,5 @@
 //! The packer of a run, with the numbers of lines in its packets.
-ghost use Rattle.std.specs.Prelude.{◌≡◌, ◌+◌, ◌<◌, ◌≤◌, IfOk, IsTrue, OnErr, vec_len, vec_capacity};
+ghost use Rattle.std.specs.Prelude.{◌≡◌, ◌<◌, IfOk, IsTrue, OnErr, vec_len, vec_capacity};
 ghost use Rattle.cadence_schedule.specs.Moves.{Counted, HasLast};
 
 use cadence_errors::SinkError;

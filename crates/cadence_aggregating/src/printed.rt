@@ -1,5 +1,5 @@
 //! Writes the line that says something, and notes what it says.
-ghost use Rattle.std.specs.Prelude.{◌≡◌, ◌++◌, ◌∷◌, [], IfOk, OnOk, length, string_bytes};
+ghost use Rattle.std.specs.Prelude.{◌≡◌, ◌++◌, [], IfOk, OnOk, length, string_bytes};
 ghost use Rattle.std.specs.Option.{option_copied};
 ghost use Rattle.cadence_aggregate.specs.Lines.{sample_of};
 ghost use Rattle.cadence_value.specs.Number.{natural, number_text, whole};

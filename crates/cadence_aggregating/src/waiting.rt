@@ -1,5 +1,5 @@
 //! Lines that wait until their owner has sent them.
-ghost use Rattle.std.specs.Prelude.{◌≡◌, ◌∷◌, [], IfNone, IfSome, drop, map, string_bytes, take};
+ghost use Rattle.std.specs.Prelude.{◌≡◌, ◌∷◌, [], IfNone, IfSome, map, string_bytes, take};
 ghost use Rattle.cadence_aggregating.specs.Notes.{line_of_note};
 
 use crate::note::Note;

@@ -1,5 +1,5 @@
 //! What lies under the lock of an audited queue: the queue and its history.
-ghost use Rattle.std.specs.Prelude.{◌≡◌, ◌↔◌, ◌+◌, ◌<◌, [], length, vec_len, vec_capacity, IfOk, IfErr, OnOk, IsTrue};
+ghost use Rattle.std.specs.Prelude.{◌≡◌, ◌↔◌, ◌+◌, ◌<◌, length, vec_len, vec_capacity, IfOk, IfErr, OnOk, IsTrue};
 ghost use Rattle.cadence_errors.specs.Errors.{Makes};
 ghost use Rattle.cadence_audit.specs.AuditHistory.{take_reply, IsLegal, AreInOrder};
 ghost use Rattle.cadence_audit.specs.AuditedCore.{RecordsCall, DoesNothing, IsKnown, IsSubmitReply, new_core};

@@ -1,5 +1,5 @@
 //! Where the variables say to send.
-ghost use Rattle.std.specs.Prelude.{◌≡◌, ◌≢◌, ◌↔◌, All, IfErr, IfOk, IfSome, IsTrue, OnErr};
+ghost use Rattle.std.specs.Prelude.{◌≡◌, ◌↔◌, IfErr, IfOk, IfSome, IsTrue, OnErr};
 ghost use Rattle.cadence_value.specs.Finds.{Finds, HasNone};
 ghost use Rattle.cadence_environment.specs.Destinations.{EndsWithPort, IsAuthority, IsHost, IsHostByte, IsPort, NamesHost};
 ghost use Rattle.cadence_environment.specs.Destinations.{SaysHost, SaysHostAndPort, SaysPath, SaysPlace, SaysPort, SaysUrl};

@@ -1,6 +1,6 @@
 //! The decimal of the shortest text of a float, which `ryu` prints.
-ghost use Rattle.std.specs.Prelude.{[], false, if◌then◌else◌, codes, slice_index, ◌≡◌, ◌≢◌, ◌++◌, ◌+◌, ◌*◌, ◌^◌, ◌≤◌, ◌<◌, ◌⊎◌, Some, IfNone, IfSome, length, IsTrue};
-ghost use Rattle.std.specs.Float.{binary64, float_is_finite};
+ghost use Rattle.std.specs.Prelude.{[], false, if◌then◌else◌, codes, slice_index, ◌≡◌, ◌≢◌, ◌++◌, ◌+◌, ◌*◌, ◌^◌, ◌≤◌, ◌<◌, ◌⊎◌, Some, IfNone, IfSome, length};
+ghost use Rattle.std.specs.Float.{binary64};
 ghost use Rattle.std.specs.Str.Parse.{AllDigits, digits_value};
 ghost use Rattle.cadence_float.specs.Worth.{IsCutOf, IsTooLarge};
 ghost use Rattle.fast_float.specs.Parse.{parse_float};

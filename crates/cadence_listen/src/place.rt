@@ -1,5 +1,5 @@
 //! Reads a line, or finds the place from which it can't be read.
-ghost use Rattle.std.specs.Prelude.{IfOk, OnErr, IsTrue};
+ghost use Rattle.std.specs.Prelude.{IfOk, IsTrue};
 ghost use Rattle.cadence_listen.specs.Places.{CanBegin, IsPlace, ReadsLine};
 
 use cadence_read::{ReadFault, read_line};

@@ -1,5 +1,5 @@
 //! Lines that are added up before a packer takes them.
-ghost use Rattle.std.specs.Prelude.{◌≡◌, ◌∷◌, ◌++◌, [], IfOk, OnErr, OnOk};
+ghost use Rattle.std.specs.Prelude.{◌≡◌, [], IfOk, OnOk};
 ghost use Rattle.cadence_aggregating.specs.Summed.{accepted_in, gone_in, held_in, waiting_in};
 
 use crate::error::RunError;

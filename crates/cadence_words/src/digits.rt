@@ -1,6 +1,6 @@
 //! The digits of a number, and the number that they and an exponent make.
-ghost use Rattle.std.specs.Prelude.{◌≡◌, ◌≢◌, ◌⊎◌, ◌+◌, ◌-◌, ◌*◌, ◌%◌, ◌^◌, ◌<◌, ◌≤◌, ◌++◌, SomeIff, FitsSigned, length, replicate};
-ghost use Rattle.std.specs.Str.Parse.{AllDigits, digits_value, digits_value_after};
+ghost use Rattle.std.specs.Prelude.{◌≡◌, ◌+◌, ◌-◌, ◌*◌, ◌%◌, ◌^◌, ◌<◌, ◌++◌, SomeIff};
+ghost use Rattle.std.specs.Str.Parse.{AllDigits, digits_value_after};
 ghost use Rattle.cadence_words.specs.Printed.{IsDecimalOfDigits};
 ghost use Rattle.cadence_words.specs.Trimmed.{IsTrimmed};
 ghost use Rattle.cadence_value.specs.Digits.{signed_integer};

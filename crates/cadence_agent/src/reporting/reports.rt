@@ -1,5 +1,5 @@
 //! What a reporting sink shares with its thread, and one report.
-ghost use Rattle.std.specs.Prelude.{◌≡◌, IfErr, IfOk, OnOk, string_bytes};
+ghost use Rattle.std.specs.Prelude.{◌≡◌, IfErr, IfOk, string_bytes};
 ghost use Rattle.cadence_queuing.specs.Queuing.{IsQueuingRefusal};
 ghost use Rattle.cadence_settings.specs.Settings.{settings_of};
 ghost use Rattle.cadence_agent.specs.Reports.{line_of_growth};

@@ -1,7 +1,7 @@
 //! Strict settings: the tests of texts for separators, and the error of a text that has one.
 ghost use Rattle.std.specs.Prelude.{◌≡◌, IfErr, IsFalse, IsTrue, OnOk, OnErr, map, option_copied};
 ghost use Rattle.std.specs.List.{list_all};
-ghost use Rattle.cadence_errors.specs.Errors.{IsInvalid, out_of_memory};
+ghost use Rattle.cadence_errors.specs.Errors.{IsInvalid};
 ghost use Rattle.cadence_text.specs.Owned.{tag_of_owned};
 ghost use Rattle.cadence_settings.specs.DraftErrors.{IsSameError};
 ghost use Rattle.cadence_text.specs.FreeTexts.{is_free_if_any, is_free_tag, is_free_text};
