@@ -1,6 +1,6 @@
 //! A sink with a gate. The worker of a queue waits there until the test opens it, so that a test knows which lines are
 //! in the queue.
-use super::steps::{Runtime, assert_accepts, assert_messages, make_spy};
+use super::steps::{COUNTS, Runtime, assert_accepts, assert_messages, make_spy};
 use cadence_errors::SinkError;
 use cadence_flow::MetricSink;
 use cadence_flow::stats::SinkStats;
@@ -33,8 +33,8 @@ pub struct Gate {
     pub flushed: AtomicBool,
 }
 
-/// A sink that sends each line to one spy when it comes, and to another spy once the gate is open. Its four counts are
-/// 1, 2, 3 and 4, and it says that 7 lines were dropped.
+/// A sink that sends each line to one spy when it comes, and to another spy once the gate is open. It has the counts
+/// `COUNTS`, and says that 7 lines were dropped.
 #[derive(Drop)]
 pub struct GatedSink<R: Wait + Drop> {
     gate: Arc<Gate>,
@@ -61,12 +61,7 @@ impl<R: Wait + Drop> MetricSink for GatedSink<R> {
     }
 
     fn stats(&self) -> SinkStats {
-        SinkStats {
-            bytes_sent: 1,
-            packets_sent: 2,
-            bytes_dropped: 3,
-            packets_dropped: 4,
-        }
+        COUNTS
     }
 
     fn dropped_lines(&self) -> u64 {

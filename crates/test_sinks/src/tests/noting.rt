@@ -1,5 +1,5 @@
 //! A sink that notes its lines and its flushes, and whose lines may move a clock.
-use super::steps::{Runtime, make_spy};
+use super::steps::{COUNTS, Runtime, make_spy};
 use cadence_errors::SinkError;
 use cadence_flow::MetricSink;
 use cadence_flow::stats::SinkStats;
@@ -25,7 +25,8 @@ pub struct Stage {
     pub errors: AtomicU64,
 }
 
-/// A sink that notes each line, and each flush as `flush`, in a spy.
+/// A sink that notes each line, and each flush as `flush`, in a spy. It has the counts `COUNTS`, and says that 5 lines
+/// were dropped.
 #[derive(Drop)]
 pub struct NotingSink<R: Wait + Drop> {
     clock: MovedClock<R>,
@@ -58,12 +59,7 @@ impl<R: Wait + Drop> MetricSink for NotingSink<R> {
     }
 
     fn stats(&self) -> SinkStats {
-        SinkStats {
-            bytes_sent: 1,
-            packets_sent: 2,
-            bytes_dropped: 3,
-            packets_dropped: 4,
-        }
+        COUNTS
     }
 
     fn dropped_lines(&self) -> u64 {

@@ -14,6 +14,14 @@ pub trait Runtime: Wait + Clock + Threads + Clone + Drop + Send + Sync + 'static
 
 impl<R: Wait + Clock + Threads + Clone + Drop + Send + Sync + 'static> Runtime for R {}
 
+/// Four counts, each unlike the others, of a sink that counts nothing.
+pub const COUNTS: SinkStats = SinkStats {
+    bytes_sent: 1,
+    packets_sent: 2,
+    bytes_dropped: 3,
+    packets_dropped: 4,
+};
+
 /// Makes a spy, and the receiver of its messages.
 pub fn make_spy<R: Wait + Clone + Drop>(
     rt: &R,
