@@ -230,7 +230,7 @@ pub struct Taker<'a, T, A: Allocator = Global, M = T> {
 }
 
 impl<T, A: Allocator, M: Drop> Taker<'_, T, A, M> {
-    ghost use Rattle.std.specs.Prelude.{◌∷◌, IfSome, IfNone, false};
+    ghost use Rattle.std.specs.Prelude.{◌∷◌, ◌↔◌, IfSome, IfNone, IsTrue, false};
     ghost use Rattle.cadence_queue.specs.Shown.{AreMoved, IsReady};
     ghost use Rattle.cadence_queue.specs.Taker.{given_by, has_ended, taken_by};
 
@@ -273,7 +273,7 @@ impl<T, A: Allocator, M: Drop> Taker<'_, T, A, M> {
 
     /// Returns whether the taker has no text, so that `next` has to look at the queue.
     pub fn is_empty(&self) -> bool
-        ensures { result ≡ true → taken_by self.now ≡ given_by self.now }
+        ensures { IsTrue result ↔ taken_by self.now ≡ given_by self.now }
     {
         self.texts.len() == 0
     }
