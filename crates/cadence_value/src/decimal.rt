@@ -8,7 +8,7 @@ use std::marker::Model;
 
 mod read;
 
-pub use read::{ParseDecimalError, read_number, read_whole, signed_number};
+pub use read::{ParseDecimalError, read_digits, read_number, read_whole, signed_number};
 
 /// The most digits that a `Decimal` can have after the dot.
 pub const MAX_PLACES: u8 = 30;

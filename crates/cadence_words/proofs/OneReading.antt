@@ -20,7 +20,7 @@ use Rattle.cadence_value.specs.Digits.{signed_integer}
 use Rattle.cadence_value.specs.Finds.{Finds}
 use Rattle.cadence_value.specs.Number.{IsDecimal, Number}
 use Rattle.cadence_words.specs.Printed.{IsDotted, IsMark, IsOfDigits, IsRaised, SaysNumber, SaysUnsigned, lowered_by, raised_by}
-use Rattle.cadence_words.proofs.DigitRuns.{digits_split}
+use Rattle.cadence_value.proofs.reading.DigitRuns.{digits_split}
 use Rattle.cadence_words.proofs.Lowest.{lowest_once}
 
 -- Digits with a sign before them are in UTF-8.

@@ -1,36 +1,17 @@
 -- The text that a number prints as says the number.
 use Rattle.std.proofs.Common.{◌≡◌, ℕ, zero, suc, ◌+◌, ◌-◌, ◌*◌, ◌/◌, ◌%◌, ◌^◌, Bool, true, false, cond, ℤ, pos, negsuc, neg_ℤ, ◌*ℤ◌, unsigned_abs}
 use Rattle.std.proofs.Common.{List, [], ◌∷◌, ◌++◌, length, drop, refl, sym, ap, ap₂, ◌∙◌, subst, inl, inr, eqb, arith}
-use Rattle.std.specs.Char.{digit_value}
-use Rattle.std.specs.Str.Parse.{AllDigits, IsNumeral, digits_value, digits_value_after, starts_with_minus, without_leading_sign}
+use Rattle.std.specs.Str.Parse.{AllDigits, IsNumeral, digits_value, starts_with_minus, without_leading_sign}
 use Rattle.std.proofs.lemmas.Bool.{ne_eqb}
 use Rattle.std.proofs.lemmas.List.{append-nil, length-append}
 use Rattle.std.proofs.lemmas.Nat.{div-add-mod'}
 use Rattle.std.proofs.lemmas.Str.Parse.{digit_from_value}
-use Rattle.std.proofs.Math.Nat.{add-mul, mul_assoc, pow-succ'}
 use Rattle.cadence_value.proofs.digits.Digits.{text_numeral}
+use Rattle.cadence_value.proofs.reading.DigitRuns.{after_append, after_value, digits_join}
 use Rattle.cadence_value.proofs.digits.NumberText.{digits_zeros, length-places_of, numeral, places_of, places_text-suc, places_value, sign-pos, unsigned_text}
 use Rattle.cadence_value.specs.Digits.{signed_integer}
 use Rattle.cadence_value.specs.Number.{IsDecimal, Number, decimal_text, number, number_text, places_text}
 use Rattle.cadence_words.specs.Printed.{IsDotted, SaysNumber, SaysUnsigned}
-use Rattle.cadence_words.proofs.DigitRuns.{after_append, digits_join}
-
--- The digits that come before others are worth a power of ten.
-after_value : (n : ℕ) (ds : List ℕ) → digits_value_after 10 n ds ≡ n * 10 ^ length ds + digits_value 10 ds
-after_value n [] = omega arith
-after_value n (d ∷ ds) =
-    let v = digit_value d in
-    let q = 10 ^ length ds in
-    let alone : 0 * 10 + v ≡ v = omega arith in
-    omega (
-      arith,
-      after_value (n * 10 + v) ds,
-      after_value (0 * 10 + v) ds,
-      add-mul (n * 10) v q,
-      mul_assoc n 10 q,
-      ap (λ k. n * k) (pow-succ' 10 (length ds)),
-      ap (λ k. k * q) alone,
-    )
 
 -- the digits after the dot of a number of this size and these places
 fraction : ℕ → ℕ → List ℕ

@@ -9,25 +9,14 @@ use Rattle.std.proofs.lemmas.Nat.{pow-add}
 use Rattle.std.proofs.lemmas.Str.{digit_value_digit}
 use Rattle.std.proofs.lemmas.Str.Parse.{digit_at}
 use Rattle.std.proofs.Math.Nat.{mul_assoc, pow-succ'}
+use Rattle.cadence_value.proofs.reading.DigitRuns.{after_append, before_le, digits_join, digits_split, zeros_digits, zeros_value}
 use Rattle.cadence_value.proofs.digits.PowersOfTen.{ten_to_pos}
 use Rattle.cadence_value.specs.Digits.{EndsPlain, signed_integer}
 use Rattle.cadence_value.specs.Finds.{Finds}
 use Rattle.cadence_value.specs.Number.{IsDecimal, IsLowestForm, Number}
 use Rattle.cadence_words.specs.Printed.{IsOfDigits, lowered_by, raised_by}
 use Rattle.cadence_words.specs.Trimmed.{IsTrimmed}
-use Rattle.cadence_words.proofs.DigitRuns.{after_append, before_le, digits_join, digits_split}
 use Rattle.cadence_words.proofs.Scaling.{size_fits}
-
-zeros_value : (n z : ℕ) → digits_value_after 10 n (replicate z 48) ≡ n * 10 ^ z
-zeros_value n zero = let alone : n ≡ n * 1 = omega arith in alone
-zeros_value n (suc z) =
-    let shift : n * 10 + 0 ≡ n * 10 = omega arith in
-    ap (λ k. digits_value_after 10 k (replicate z 48)) shift ∙ zeros_value (n * 10) z ∙ mul_assoc n 10 (10 ^ z)
-    ∙ ap (λ k. n * k) (sym (pow-succ' 10 z))
-
-zeros_digits : (z : ℕ) → AllDigits 10 (replicate z 48)
-zeros_digits zero = tt
-zeros_digits (suc z) = (lit< tt, zeros_digits z)
 
 zeros_join : (j k : ℕ) → replicate {A = ℕ} (j + k) 48 ≡ replicate j 48 ++ replicate k 48
 zeros_join zero k = let none : 0 + k ≡ k = omega arith in ap (λ i. replicate {A = ℕ} i 48) none

@@ -1,6 +1,5 @@
 //! The digits of a number, and the number that they and an exponent make.
-ghost use Rattle.std.specs.Prelude.{◌≡◌, ◌+◌, ◌-◌, ◌*◌, ◌%◌, ◌^◌, ◌<◌, ◌++◌, SomeIff};
-ghost use Rattle.std.specs.Str.Parse.{AllDigits, digits_value_after};
+ghost use Rattle.std.specs.Prelude.{◌≡◌, ◌+◌, ◌-◌, ◌*◌, ◌%◌, ◌^◌, ◌++◌};
 ghost use Rattle.cadence_words.specs.Printed.{IsDecimalOfDigits};
 ghost use Rattle.cadence_words.specs.Trimmed.{IsTrimmed};
 ghost use Rattle.cadence_value.specs.Digits.{signed_integer};
@@ -9,30 +8,12 @@ ghost use Rattle.cadence_value.specs.Number.{IsDecimal, IsLowestForm};
 
 use crate::parts::shifts_of;
 use cadence_value::bytes::trim_end_zeros;
-use cadence_value::decimal::{Decimal, signed_number};
+use cadence_value::decimal::{Decimal, read_digits, signed_number};
 
 // The most zeros that a number of 128 bits can end in, and the most decimal places of a `Decimal`.
 const MOST_ZEROS: u128 = 38;
 
 const MOST_PLACES: u128 = 30;
-
-// Returns the number that digits say if they come after those of `start`.
-fn read_digits(start: u128, digits: &[u8]) -> Option<u128>
-    ensures { SomeIff result (AllDigits 10 digits.now
-        × (digits_value_after 10 start digits.now < 2 ^ 128))
-        (digits_value_after 10 start digits.now) }
-{
-    let mut value = start;
-    for byte in digits {
-        if !byte.is_ascii_digit() {
-            return None;
-        }
-        value = value
-            .checked_mul(10)?
-            .checked_add(u128::from(*byte - b'0'))?;
-    }
-    Some(value)
-}
 
 // The digits of a number without the zeros at their end.
 #[derive(Clone, Copy)]

@@ -12,7 +12,6 @@ use Rattle.std.proofs.lemmas.List.{append-nil, append_assoc}
 use Rattle.std.proofs.lemmas.Nat.{div-mul-add, mod-mul-add}
 use Rattle.std.proofs.lemmas.Str.{digit_value_digit, IsUtf8-from_ascii}
 use Rattle.std.proofs.lemmas.Str.Parse.{digit_at, digit_from_value}
-use Rattle.std.proofs.Math.Nat.{pow-le-pow_right}
 use Rattle.cadence_value.specs.Number.{decimal_text, padded_digits}
 use Rattle.cadence_value.proofs.digits.Digits.{text_digit, text_step, text_by_steps, text_numeral, length-decimal_text-le}
 use Rattle.cadence_value.specs.PrintedNumber.{ReadsNatural}
@@ -97,18 +96,22 @@ pub numeral_utf8 : (text : List ℕ) → IsNumeral 10 text → IsUtf8 text
 numeral_utf8 text (some, digits) = IsUtf8-from_ascii text (IsAscii-from_digits text digits)
 
 -- Digits without a needless zero in front are the digits of exactly one whole number.
-pub whole_read : (text : List ℕ) (o : Option ℕ) → (1 < length text → get_or text 0 0 ≢ 48)
-    → SomeIff o (IsNumeral 10 text × (digits_value 10 text < 2 ^ 128)) (digits_value 10 text) → ReadsNatural text o
-whole_read [] (Some x) plain (((some, digits), fits), same) = absurd (omega arith)
-whole_read (d ∷ ds) (Some x) plain (((some, digits), fits), same) =
+pub whole_read : (text : List ℕ) (o : Option ℕ) → (length text ≡ 0 → ⊥) → (1 < length text → get_or text 0 0 ≢ 48)
+    → SomeIff o (AllDigits 10 text × (digits_value 10 text < 2 ^ 128)) (digits_value 10 text) → ReadsNatural text o
+whole_read [] (Some x) some plain read = absurd (some refl)
+whole_read (d ∷ ds) (Some x) some plain ((digits, fits), same) =
     (omega arith, ap decimal_text same ∙ text_of_digits d ds digits (λ e. no_more ds (λ more. plain (omega arith) e)))
   where
     no_more : (ds : List ℕ) → (0 < length ds → ⊥) → length ds ≡ 0
     no_more [] h = refl
     no_more (e ∷ es) h = absurd (h (omega arith))
-whole_read text None plain none = λ n is.
+whole_read text None some plain none = λ n is.
     let (numeral, value) = text_numeral n in
-    none (subst (IsNumeral 10) is.1 numeral, omega (arith, is.0, value, ap (digits_value 10) (sym is.1)))
+    none ((subst (IsNumeral 10) is.1 numeral).1, omega (arith, is.0, value, ap (digits_value 10) (sym is.1)))
+
+-- An empty text is the text of no whole number.
+pub empty_refused : (text : List ℕ) → length text ≡ 0 → ReadsNatural text None
+empty_refused text none n (small, same) = absurd (omega (arith, none, ap (λ t. length t) same, (text_numeral n).0.0))
 
 -- A text with a needless zero in front is the text of no whole number.
 pub zero_refused : (text : List ℕ) → 1 < length text → get_or text 0 0 ≡ 48
@@ -119,8 +122,3 @@ zero_refused text long zero_first n (small, same) =
 -- A text with a byte that is no digit is not made of digits.
 pub not_digit : (text : List ℕ) (k : ℕ) → k < length text → IsNotAsciiDigit (get_or text k 0) → AllDigits 10 text → ⊥
 not_digit text k within other digits = absurd (grind (arith, digit_at text k digits within, other))
-
--- The value of up to 17 digits and one more digit fits 64 bits.
-pub short_fits : (ds : List ℕ) → AllDigits 10 ds → length ds ≤ 17 → digits_value 10 ds * 10 + 9 < 2 ^ 64
-short_fits ds digits few =
-    omega (arith, digits_value-lt 10 ds digits, pow-le-pow_right {n = 10} (lit< tt) {i = length ds} {j = 17} few)

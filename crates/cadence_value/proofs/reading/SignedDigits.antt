@@ -9,8 +9,8 @@ use Rattle.std.specs.Int.{is_negative}
 use Rattle.std.specs.Char.{digit_value}
 use Rattle.std.specs.Str.Parse.{digits_value, AllDigits, IsNumeral}
 use Rattle.std.proofs.lemmas.Bool.{ne_eqb}
-use Rattle.std.proofs.lemmas.Int.Digits.{digits_value_push, digits_value_more}
-use Rattle.std.proofs.lemmas.List.{append-nil, append_assoc, length-append, length-replicate, replicate_more, take_all}
+use Rattle.std.proofs.lemmas.Int.Digits.{digits_value_more}
+use Rattle.std.proofs.lemmas.List.{append-nil, length-append, length-replicate, take_all}
 use Rattle.std.proofs.lemmas.List.Elements.{recursion_from_All}
 use Rattle.std.proofs.lemmas.Nat.{mod-mul-add, pow-add}
 use Rattle.std.proofs.lemmas.Str.{digit_value_digit}
@@ -26,6 +26,7 @@ use Rattle.cadence_value.specs.PrintedNumber.{ReadsNatural, ReadsNumber}
 use Rattle.cadence_value.proofs.lists.SplitTexts.{Lacks, lacks_no}
 use Rattle.cadence_value.proofs.digits.Digits.{text_numeral}
 use Rattle.cadence_value.proofs.digits.NumberText.{numeral, number_once, places_of, places_text-suc, unsigned_text}
+use Rattle.cadence_value.proofs.reading.DigitRuns.{after_append, digits_join, digits_split, zeros_digits, zeros_value}
 use Rattle.cadence_value.proofs.reading.DigitsRead.{text_of_digits, text_plain}
 use Rattle.cadence_value.proofs.reading.NumberRead.{plain_text, has_dot, dot_sum, dotted_text, has_sign, not_below}
 use Rattle.cadence_value.proofs.digits.PowersOfTen.{neg_product}
@@ -141,37 +142,12 @@ whole_le w f = omega (arith, le_scaled (digits_value 10 w) (length f))
     le_scaled a zero = omega arith
     le_scaled a (suc k) = omega (arith, le_scaled a k, ap (λ x. a * x) (pow-succ' 10 k), mul_left_comm a 10 (10 ^ k))
 
--- Zeros at the end of the places are digits.
-zeros_digits : (k : ℕ) → AllDigits 10 (replicate k 48)
-zeros_digits zero = tt
-zeros_digits (suc k) = (lit< tt, zeros_digits k)
-
-digits_append : (g h : List ℕ) → AllDigits 10 g → AllDigits 10 h → AllDigits 10 (g ++ h)
-digits_append [] h dg dh = dh
-digits_append (d ∷ g) h (dd, dg) dh = (dd, digits_append g h dg dh)
-
-digits_front : (g h : List ℕ) → AllDigits 10 (g ++ h) → AllDigits 10 g
-digits_front [] h all = tt
-digits_front (d ∷ g) h (dd, all) = (dd, digits_front g h all)
-
-zeros_value : (g : List ℕ) (k : ℕ) → digits_value 10 (g ++ replicate k 48) ≡ digits_value 10 g * 10 ^ k
-zeros_value g zero = let same : digits_value 10 (g ++ []) ≡ digits_value 10 g = ap (digits_value 10) (append-nil g) in omega arith
-zeros_value g (suc k) =
-    let v = digits_value 10 g in
-    let next : suc k ≡ k + 1 = omega arith in
-    let more : ◌≡◌ {A = List ℕ} (replicate (suc k) 48) (replicate k 48 ++ 48 ∷ []) = ap (λ j. replicate {A = ℕ} j 48) next
-    ∙ sym (replicate_more {X = ℕ} k 48) in
-    let split : g ++ replicate {A = ℕ} (suc k) 48 ≡ (g ++ replicate k 48) ++ 48 ∷ [] = ap (λ t. g ++ t) more
-    ∙ sym (append_assoc g (replicate k 48) (48 ∷ [])) in
-    ap (digits_value 10) split ∙ digits_value_push 10 (g ++ replicate k 48) 48
-    ∙ omega (arith, zeros_value g k, ap (λ x. v * x) (pow-succ' 10 k), mul_left_comm v 10 (10 ^ k))
-
 size_zeros : (w g : List ℕ) (k : ℕ) → joined_digits w (g ++ replicate k 48) ≡ joined_digits w g * 10 ^ k
 size_zeros w g k =
     let a = digits_value 10 w in
     let count : length (g ++ replicate k 48) ≡ length g + k = length-append g (replicate k 48) ∙ ap (λ j. length g + j) (length-replicate k 48) in
     let power : 10 ^ length (g ++ replicate k 48) ≡ 10 ^ length g * 10 ^ k = ap (λ j. 10 ^ j) count ∙ pow-add 10 (length g) k in
-    ap₂ (λ x y. a * x + y) power (zeros_value g k) ∙ ap (λ x. x + digits_value 10 g * 10 ^ k) (sym (mul_assoc a (10 ^ length g) (10 ^ k)))
+    ap₂ (λ x y. a * x + y) power (after_append 0 g (replicate k 48) ∙ zeros_value (digits_value 10 g) k) ∙ ap (λ x. x + digits_value 10 g * 10 ^ k) (sym (mul_assoc a (10 ^ length g) (10 ^ k)))
     ∙ sym (add-mul (a * 10 ^ length g) (digits_value 10 g) (10 ^ k))
 
 some_factor : (n y : ℕ) → 0 < n * y → 0 < n
@@ -185,13 +161,13 @@ some_product n (suc k) h =
 
 signed_zeros : (below : Bool) (w g : List ℕ) (k : ℕ) → AreSigned below w g → AreSigned below w (g ++ replicate k 48)
 signed_zeros below w g k h = record {
-  plain = record { whole = h.plain.whole; first = h.plain.first; fraction = digits_append g (replicate k 48) h.plain.fraction (zeros_digits k) };
+  plain = record { whole = h.plain.whole; first = h.plain.first; fraction = digits_join g (replicate k 48) h.plain.fraction (zeros_digits k) };
   nonzero = λ is. omega (arith, size_zeros w g k, some_product (joined_digits w g) k (h.nonzero is));
 }
 
 signed_cut : (below : Bool) (w g : List ℕ) (k : ℕ) → AreSigned below w (g ++ replicate k 48) → AreSigned below w g
 signed_cut below w g k h = record {
-  plain = record { whole = h.plain.whole; first = h.plain.first; fraction = digits_front g (replicate k 48) h.plain.fraction };
+  plain = record { whole = h.plain.whole; first = h.plain.first; fraction = (digits_split g (replicate k 48) h.plain.fraction).0 };
   nonzero = λ is. some_factor (joined_digits w g) (10 ^ k) (omega (arith, size_zeros w g k, h.nonzero is));
 }
 

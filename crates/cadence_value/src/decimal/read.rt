@@ -1,15 +1,15 @@
 //! Reads decimals from texts. `read_number` reads only the text that a decimal prints. `FromStr` also reads zeros at
 //! the end of the places: it cuts them off. Both then read the digits in one way, by `number_of`.
-ghost use Rattle.std.specs.Prelude.{Bool, true, false, if◌then◌else◌, codes, [], slice_index, ◌≡◌, ◌≢◌, ◌++◌, ◌<◌, ◌≤◌, ◌^◌, ◌↔◌, Err, IfNone, IfSome, IsTrue, SomeIff, length, FitsSigned};
+ghost use Rattle.std.specs.Prelude.{Bool, true, false, if◌then◌else◌, codes, [], slice_index, ◌≡◌, ◌≢◌, ◌++◌, ◌+◌, ◌*◌, ◌<◌, ◌^◌, ◌↔◌, Err, IfNone, IfSome, IsTrue, SomeIff, length, FitsSigned};
 ghost use mir.Syntax.{w128};
-ghost use Rattle.std.specs.Str.Parse.{AllDigits, IsNumeral, digits_value};
+ghost use Rattle.std.specs.Str.Parse.{AllDigits, digits_value_after};
 ghost use Rattle.cadence_errors.specs.Errors.{IsInvalid};
 ghost use Rattle.cadence_value.specs.Digits.{ArePlain, EndsPlain, HasParts, HaveSize, ReadsDigits, joined_digits, signed_integer};
 ghost use Rattle.cadence_value.specs.Number.{Number, number_text};
 ghost use Rattle.cadence_value.specs.PrintedNumber.{ReadsNatural, ReadsNumber};
 ghost use Rattle.cadence_value.specs.DenotedNumber.{ReadsDecimal};
 
-use super::{Decimal, MAX_PLACES, power_of_ten};
+use super::{Decimal, MAX_PLACES};
 use crate::bytes::{split_once, trim_end_zeros};
 use cadence_errors::{ErrorKind, MetricError};
 use std::error::Error;
@@ -55,51 +55,37 @@ impl From<ParseDecimalError> for MetricError {
     }
 }
 
-// Returns the number that digits denote, also with zeros in front. `None` if the text is not digits or the number does
-// not fit 128 bits.
-#[tactic(auto, using(crate::proofs::reading::DigitsRead::numeral_utf8))]
-fn read_long(text: &[u8]) -> Option<u128>
-    ensures { SomeIff result (IsNumeral 10 text.now × (digits_value 10 text.now < 2 ^ 128))
-        (digits_value 10 text.now) }
+// A number below this, 10 to the power of 18, still fits 64 bits with one more digit at its end.
+const SHORT: u128 = 1_000_000_000_000_000_000;
+
+// Returns the number with one more digit at its end, if it fits 128 bits. Numbers that fit 64 bits, which are the most
+// frequent, take less time.
+fn with_digit(value: u128, digit: u8) -> Option<u128>
+    requires { digit < 10 }
+    ensures { SomeIff result (value * 10 + digit < 2 ^ 128) (value * 10 + digit) }
 {
-    if text.first() == Some(&b'+') {
-        return None;
+    if value < SHORT {
+        return Some(u128::from(value as u64 * 10 + u64::from(digit)));
     }
-    let digits = str::from_utf8(text).ok()?;
-    digits.parse().ok()
+    value.checked_mul(10)?.checked_add(u128::from(digit))
 }
 
-// The most digits that are read in 64 bits: 18 digits always fit.
-const SHORT: usize = 18;
-
-// Returns the number that up to 18 digits denote.
-fn read_short(text: &[u8]) -> Option<u64>
-    requires { length text.now ≤ 18 }
-    ensures { SomeIff result (AllDigits 10 text.now) (digits_value 10 text.now) }
+/// Returns the number that digits say if they come after those of `start`. Takes no memory.
+///
+/// Returns `None` if a byte is not a digit, or if the number does not fit 128 bits.
+pub fn read_digits(start: u128, digits: &[u8]) -> Option<u128>
+    ensures { SomeIff result (AllDigits 10 digits.now
+        × (digits_value_after 10 start digits.now < 2 ^ 128))
+        (digits_value_after 10 start digits.now) }
 {
-    let mut value = 0u64;
-    for byte in text {
+    let mut value = start;
+    for byte in digits {
         if !byte.is_ascii_digit() {
             return None;
         }
-        value = value * 10 + u64::from(*byte - b'0');
+        value = with_digit(value, *byte - b'0')?;
     }
     Some(value)
-}
-
-// Returns what `read_long` returns, but reads short texts, which are the most frequent, faster.
-fn read_digits(text: &[u8]) -> Option<u128>
-    ensures { SomeIff result (IsNumeral 10 text.now × (digits_value 10 text.now < 2 ^ 128))
-        (digits_value 10 text.now) }
-{
-    if text.len() > SHORT {
-        return read_long(text);
-    }
-    if text.is_empty() {
-        return None;
-    }
-    let value = read_short(text)?;
-    Some(u128::from(value))
 }
 
 /// Returns the whole number that prints as this text: digits without a sign, and without a zero before other digits.
@@ -107,10 +93,13 @@ fn read_digits(text: &[u8]) -> Option<u128>
 pub fn read_whole(text: &[u8]) -> Option<u128>
     ensures { ReadsNatural text.now result }
 {
+    if text.is_empty() {
+        return None;
+    }
     if text.len() > 1 && text[0] == b'0' {
         return None;
     }
-    read_digits(text)
+    read_digits(0, text)
 }
 
 /// Returns the signed number of this magnitude, if it fits 128 bits.
@@ -182,13 +171,7 @@ fn size_of(whole: &[u8], fraction: &[u8]) -> Option<u128>
     if fraction.len() > usize::from(MAX_PLACES) {
         return None;
     }
-    let size = read_whole(whole)?;
-    if fraction.is_empty() {
-        return Some(size);
-    }
-    let rest = read_digits(fraction)?;
-    size.checked_mul(power_of_ten(fraction.len() as u8))?
-        .checked_add(rest)
+    read_digits(read_whole(whole)?, fraction)
 }
 
 // Returns why digits have no size.

@@ -7,7 +7,7 @@ use Rattle.cadence_value.specs.Digits.{signed_integer}
 use Rattle.cadence_value.specs.Finds.{Finds}
 use Rattle.cadence_value.specs.Number.{IsDecimal, IsLowestForm, Number}
 use Rattle.cadence_words.specs.Printed.{lowered_by, raised_by}
-use Rattle.cadence_words.proofs.DigitRuns.{after_append, digits_join}
+use Rattle.cadence_value.proofs.reading.DigitRuns.{after_append, digits_join}
 use Rattle.cadence_words.proofs.Trimming.{ends_plain, fits, found_of, front_fits, later_fits}
 use Rattle.cadence_words.proofs.digits.number_of.Goals as goal
 
