@@ -1,6 +1,6 @@
 //! Reads decimals from texts. `read_number` reads only the text that a decimal prints. `FromStr` also reads zeros at
 //! the end of the places: it cuts them off. Both then read the digits in one way, by `number_of`.
-ghost use Rattle.std.specs.Prelude.{Bool, true, false, if◌then◌else◌, codes, [], slice_index, ◌≡◌, ◌≢◌, ◌++◌, ◌+◌, ◌*◌, ◌<◌, ◌^◌, ◌↔◌, Err, IfNone, IfSome, IsTrue, SomeIff, length, FitsSigned};
+ghost use Rattle.std.specs.Prelude.{Bool, true, false, if◌then◌else◌, codes, [], slice_index, ◌≡◌, ◌≢◌, ◌++◌, ◌+◌, ◌*◌, ◌<◌, ◌^◌, ◌↔◌, Err, IfNone, IfSome, IsTrue, SomeIff, FitsSigned};
 ghost use mir.Syntax.{w128};
 ghost use Rattle.std.specs.Str.Parse.{AllDigits, digits_value_after};
 ghost use Rattle.cadence_errors.specs.Errors.{IsInvalid};
