@@ -130,7 +130,7 @@ pub fn read_said<'a>(
 {
     match read_line(&alloc, line.as_bytes()) {
         Ok(metric) => line_of_metric(line, &metric, context),
-        Err(ReadFault::NotMetrics) => Ok(Line::Other(line)),
+        Err(ReadFault::Unusable(_)) => Ok(Line::Other(line)),
         Err(ReadFault::OutOfMemory) => Err(AllocError),
     }
 }

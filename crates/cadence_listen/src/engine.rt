@@ -14,7 +14,7 @@ use std::io::{Read, Write};
 // Turns an error of reading into an error of the program.
 fn report_error(fault: ReadFault) -> ReportError<ReadFault> {
     match fault {
-        ReadFault::NotMetrics => ReportError::Unusable(fault),
+        ReadFault::Unusable(_) => ReportError::Unusable(fault),
         ReadFault::OutOfMemory => ReportError::OutOfMemory,
     }
 }

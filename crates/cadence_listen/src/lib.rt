@@ -11,7 +11,7 @@ mod place;
 mod run;
 mod watch;
 
-pub use cadence_read::{ReadFault, read_line, read_packet, read_run};
+pub use cadence_read::{NotMetrics, ReadFault, read_line, read_packet, read_run};
 pub use engine::run_listen;
 pub use place::{Reading, read_or_find};
 pub use run::run_and_read;

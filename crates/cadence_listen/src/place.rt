@@ -46,7 +46,7 @@ fn is_line<A: Allocator + Clone>(
     buffer.extend_from_slice(end)?;
     match read_line(alloc, buffer) {
         Ok(_) => Ok(true),
-        Err(ReadFault::NotMetrics) => Ok(false),
+        Err(ReadFault::Unusable(_)) => Ok(false),
         Err(ReadFault::OutOfMemory) => Err(AllocError),
     }
 }
@@ -95,7 +95,7 @@ pub fn read_or_find<A: Allocator + Clone>(alloc: &A, line: &[u8]) -> Result<Read
 {
     match read_line(alloc, line) {
         Ok(metric) => Ok(Reading::Read(metric)),
-        Err(ReadFault::NotMetrics) => {
+        Err(ReadFault::Unusable(_)) => {
             let at = find_place(alloc, line)?;
             Ok(Reading::Unread(at))
         }

@@ -4,7 +4,7 @@ ghost use Rattle.cadence_text.specs.OneReading.{IsFreeOfSeparators};
 ghost use Rattle.cadence_text.specs.Owned.{metrics_of};
 ghost use Rattle.cadence_schedule.specs.Report.{outcome_of};
 ghost use Rattle.cadence_read.specs.Listed.{AreListed};
-ghost use Rattle.cadence_read.specs.declared.fault.ReadFault.TheVariants.{NotMetrics};
+ghost use Rattle.cadence_read.specs.Faults.{not_metrics};
 ghost use Rattle.cadence_listen.specs.RunRead.{IsNewWhole, IsRun, given_to, kept_metrics, IsUnreadable, texts_of_run};
 
 use cadence_flow::io::PacketLog;
@@ -22,7 +22,7 @@ use std::alloc::Allocator;
 /// order.
 ///
 /// # Errors
-/// `NotMetrics` if a packet or the held text is not the packet of any metrics, and `OutOfMemory`.
+/// `Unusable(NotMetrics)` if a packet or the held text is not the packet of any metrics, and `OutOfMemory`.
 pub fn run_and_read<A: Allocator + Clone>(
     alloc: A,
     settings: &ClientSettings<A>,
@@ -39,7 +39,7 @@ pub fn run_and_read<A: Allocator + Clone>(
         IsNewWhole log → IfOk result (λ both.
         All IsFreeOfSeparators (kept_metrics given (outcome_of both.0)) →
         metrics_of both.1 ≡ kept_metrics given (outcome_of both.0)) }
-    ensures refused { result ≡ Err NotMetrics →
+    ensures refused { result ≡ Err not_metrics →
         IsUnreadable log (given_to settings.now capacity queue steps.now log) }
 {
     let Ok(report) = run_schedule(alloc.clone()?, settings, capacity, "\n", queue, steps, log)

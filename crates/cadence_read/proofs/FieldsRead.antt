@@ -13,8 +13,8 @@ use Rattle.cadence_value.specs.Finds.{HasNone}
 use Rattle.cadence_value.proofs.lists.SplitTexts.{Lacks, lacks_no, cut_at, each_image, each_mapped}
 use Rattle.cadence_value.proofs.digits.Digits.{decimal_text_once}
 use Rattle.cadence_text.proofs.grammar.LineText.{joined_texts-joined, keyed_text, key_text-keyed, plain_lacks_colon, number_lacks, tag_lacks}
-use Rattle.cadence_read.specs.declared.fault.ReadFault.{ReadFault}
-use Rattle.cadence_read.specs.declared.fault.ReadFault.TheVariants.{NotMetrics, OutOfMemory}
+use Rattle.cadence_errors.specs.declared.input_error.InputError.TheVariants.{Unusable, OutOfMemory}
+use Rattle.cadence_read.specs.Faults.{Fault}
 use Rattle.cadence_read.specs.LineTexts.{pieces_left, tags_text}
 use Rattle.cadence_read.specs.Listed.{IsListedTag, IsText}
 use Rattle.cadence_read.specs.Reads.{FailsAs, PrintsAs, ReadsOrFails}
@@ -22,13 +22,13 @@ use Rattle.cadence_read.proofs.LineParts.{key_listed, text_listed}
 use Rattle.cadence_read.proofs.Pieces.{pieces, pieces-joined, refused_at}
 
 -- If each good whole has a good part, and the part can't be read, then the whole can't be read.
-pub fails_on : {Y Z S T : Type 0} (e : ReadFault) (Good : Y → Type 0) (shown : Y → S) (s : S) (Whole : Z → Type 0) (seen : Z → T) (t : T)
+pub fails_on : {Y Z S T : Type 0} (e : Fault) (Good : Y → Type 0) (shown : Y → S) (s : S) (Whole : Z → Type 0) (seen : Z → T) (t : T)
     → ((z : Z) → Whole z → seen z ≡ t → (y : Y) × Good y × (shown y ≡ s)) → FailsAs Good shown s e → FailsAs Whole seen t e
-fails_on NotMetrics Good shown s Whole seen t part none = λ z is. let h = part z is.0 is.1 in none h.0 (h.1, h.2)
+fails_on (Unusable why) Good shown s Whole seen t part none = λ z is. let h = part z is.0 is.1 in none h.0 (h.1, h.2)
 fails_on OutOfMemory Good shown s Whole seen t part none = tt
 
 -- A reading that returns an error that `FailsAs` allows is right.
-pub hands_on : {X Z T : Type 0} (Whole : Z → Type 0) (seen : Z → T) (t : T) (view : X → Z) (r : Result X ReadFault) (e : ReadFault)
+pub hands_on : {X Z T : Type 0} (Whole : Z → Type 0) (seen : Z → T) (t : T) (view : X → Z) (r : Result X Fault) (e : Fault)
     → r ≡ Err e → FailsAs Whole seen t e → ReadsOrFails Whole seen t view r
 hands_on Whole seen t view r e is none = rw is none
 
@@ -83,17 +83,17 @@ tags_found (tag ∷ tags) (Some text) e = ap Some (joined_texts-joined 44 tag_te
     ∙ join_with_byte-slice_split 44 text)
 
 -- If one of the pieces can't be read, then the list can't be read.
-pub fails_at : {Y T : Type 0} (e : ReadFault) (Good : Y → Type 0) (shown : Y → List ℕ) (before left later all : List (List ℕ))
+pub fails_at : {Y T : Type 0} (e : Fault) (Good : Y → Type 0) (shown : Y → List ℕ) (before left later all : List (List ℕ))
     (piece : List ℕ) (seen : List Y → T) (t : T)
     → before ++ left ≡ all → left ≡ piece ∷ later → ((ys : List Y) → All Good ys → seen ys ≡ t → map shown ys ≡ all)
     → FailsAs Good shown piece e → FailsAs (All Good) seen t e
-fails_at NotMetrics Good shown before left later all piece seen t so_far next cut none =
+fails_at (Unusable why) Good shown before left later all piece seen t so_far next cut none =
     λ ys is. refused_at Good shown ys before left later all piece so_far next none is.0 (cut ys is.0 is.1)
 fails_at OutOfMemory Good shown before left later all piece seen t so_far next cut none = tt
 
 -- If good values print as one text exactly if they print as another, then a reading of the one is a reading of the
 -- other.
-pub reads_through : {X Y S T : Type 0} (Good : Y → Type 0) (shown : Y → S) (s : S) (seen : Y → T) (t : T) (view : X → Y) (r : Result X ReadFault)
+pub reads_through : {X Y S T : Type 0} (Good : Y → Type 0) (shown : Y → S) (s : S) (seen : Y → T) (t : T) (view : X → Y) (r : Result X Fault)
     → ((y : Y) → Good y → shown y ≡ s → seen y ≡ t) → ((y : Y) → Good y → seen y ≡ t → shown y ≡ s) → ReadsOrFails Good shown s view r
     → ReadsOrFails Good seen t view r
 reads_through Good shown s seen t view (Ok x) there back h = (h.0, there (view x) h.0 h.1)

@@ -17,8 +17,8 @@ use Rattle.cadence_text.specs.Owned.{metric_of_owned, metrics_of}
 use Rattle.cadence_text.specs.declared.line.record.owned.OwnedMetric.{OwnedMetric}
 use Rattle.cadence_value.proofs.lists.SplitTexts.{Lacks, lacks_no, each_mapped}
 use Rattle.cadence_text.proofs.grammar.LineText.{line_lacks, packet_once}
-use Rattle.cadence_read.specs.declared.fault.ReadFault.{ReadFault}
-use Rattle.cadence_read.specs.declared.fault.ReadFault.TheVariants.{NotMetrics, OutOfMemory}
+use Rattle.cadence_errors.specs.declared.input_error.InputError.TheVariants.{Unusable, OutOfMemory}
+use Rattle.cadence_read.specs.Faults.{Fault}
 use Rattle.cadence_read.specs.Listed.{IsListed, IsListOf, ReadsPacket}
 use Rattle.cadence_read.specs.Reads.{FailsAs, ReadsOrFails}
 use Rattle.cadence_read.proofs.Pieces.{pieces, pieces-joined}
@@ -87,24 +87,24 @@ suffix_none packet mark h lines e =
     let bad : true ≡ false = sym yes ∙ h in absurd cc
 
 -- If the lines of a packet that ends in a newline are read, then the packet is read.
-pub packet_through : {Z : Type 0} (packet lines : List ℕ) (r : Result (Vec (OwnedMetric Z) Z) ReadFault) → packet ≡ lines ++ 10 ∷ []
+pub packet_through : {Z : Type 0} (packet lines : List ℕ) (r : Result (Vec (OwnedMetric Z) Z) Fault) → packet ≡ lines ++ 10 ∷ []
     → ReadsOrFails (All IsListed) (map line_of) (pieces 10 lines) metrics_of r → ReadsPacket packet r
 packet_through packet lines (Ok v) whole h = record { listed = h.0; whole = packet_found (metrics_of v) lines packet whole h.1 }
-packet_through packet lines (Err NotMetrics) whole h = λ ms list. h ms (list.listed, packet_lines ms lines packet list.listed whole list.whole)
+packet_through packet lines (Err (Unusable why)) whole h = λ ms list. h ms (list.listed, packet_lines ms lines packet list.listed whole list.whole)
 packet_through packet lines (Err OutOfMemory) whole h = tt
 
 -- If a packet doesn't end in a newline, and its line can't be read, then the packet can't be read.
-pub alone_fails : {Z : Type 0} (packet : List ℕ) (r : Result (Vec (OwnedMetric Z) Z) ReadFault) (e : ReadFault) → r ≡ Err e
+pub alone_fails : {Z : Type 0} (packet : List ℕ) (r : Result (Vec (OwnedMetric Z) Z) Fault) (e : Fault) → r ≡ Err e
     → 0 < length packet → ((lines : List ℕ) → packet ≡ lines ++ 10 ∷ [] → ⊥) → FailsAs IsListed line_of packet e → ReadsPacket packet r
-alone_fails packet r NotMetrics is some open_end none = rw is (λ ms list.
+alone_fails packet r (Unusable why) is some open_end none = rw is (λ ms list.
     let (m, only, e) = packet_alone ms packet some open_end list.whole in
     none m (All-head IsListed m [] (subst (λ l. All IsListed l) only list.listed), sym e))
 alone_fails packet r OutOfMemory is some open_end none = rw is tt
 
-pub only_list : {Z : Type 0} (packet : List ℕ) (r : Result (Vec (OwnedMetric Z) Z) ReadFault) → ReadsPacket packet r
+pub only_list : {Z : Type 0} (packet : List ℕ) (r : Result (Vec (OwnedMetric Z) Z) Fault) → ReadsPacket packet r
     → IfOk r (λ v. (others : List Metric) → IsListOf packet others → others ≡ metrics_of v)
 only_list packet (Ok v) h = λ others list. list_once packet others (metrics_of v) list h
-only_list packet (Err NotMetrics) h = tt
+only_list packet (Err (Unusable why)) h = tt
 only_list packet (Err OutOfMemory) h = tt
 
 -- The empty packet has no metrics.

@@ -4,8 +4,8 @@ use Rattle.std.specs.List.{AllZip, flat_map}
 use Rattle.std.proofs.lemmas.List.{append-nil, take_more, take_all, get_or-map, length-map}
 use Rattle.std.proofs.lemmas.List.Concat.{flat_map-append}
 use Rattle.cadence_text.specs.Metric.{Metric}
-use Rattle.cadence_read.specs.declared.fault.ReadFault.{ReadFault}
-use Rattle.cadence_read.specs.declared.fault.ReadFault.TheVariants.{NotMetrics, OutOfMemory}
+use Rattle.cadence_errors.specs.declared.input_error.InputError.TheVariants.{Unusable, OutOfMemory}
+use Rattle.cadence_read.specs.Faults.{Fault, not_metrics}
 use Rattle.cadence_read.specs.Listed.{IsListOf, AreListed, FailsPacket}
 use Rattle.cadence_read.proofs.PacketRead.{list_once}
 
@@ -33,9 +33,9 @@ listed_more packets metrics more packet h list = (
 )
 
 -- If one of the packets is not the packet of any list of metrics, then no metrics have these packets.
-pub run_fails : (packets : List (List ℕ)) (e : ReadFault) (packet : List ℕ) (k : ℕ) (d : List ℕ) → k < length packets
-    → get_or packets k d ≡ packet → FailsPacket packet e → e ≡ NotMetrics → (metrics : List Metric) → AreListed packets metrics → ⊥
-run_fails packets NotMetrics packet k d within here none is metrics h =
+pub run_fails : (packets : List (List ℕ)) (e : Fault) (packet : List ℕ) (k : ℕ) (d : List ℕ) → k < length packets
+    → get_or packets k d ≡ packet → FailsPacket packet e → e ≡ not_metrics → (metrics : List Metric) → AreListed packets metrics → ⊥
+run_fails packets (Unusable why) packet k d within here none is metrics h =
     let (list, one) = zip_at IsListOf packets h.0 k d h.1 within in
     none list (subst (λ p. IsListOf p list) here one)
 run_fails packets OutOfMemory packet k d within here none is metrics h = absurd cc

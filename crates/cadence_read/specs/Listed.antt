@@ -8,8 +8,8 @@ use Rattle.cadence_text.specs.Metric.{Metric, Tag}
 use Rattle.cadence_text.specs.OneReading.{IsFreeOfSeparators, IsFreeTag, IsFreeText, IsPacketOf}
 use Rattle.cadence_text.specs.Owned.{metrics_of}
 use Rattle.cadence_text.specs.Representable.{IsRepresentable, IsRepresentableTag}
-use Rattle.cadence_read.specs.declared.fault.ReadFault.{ReadFault}
-use Rattle.cadence_read.specs.declared.fault.ReadFault.TheVariants.{NotMetrics, OutOfMemory}
+use Rattle.cadence_errors.specs.declared.input_error.InputError.TheVariants.{Unusable, OutOfMemory}
+use Rattle.cadence_read.specs.Faults.{Fault}
 
 -- The text is in UTF-8 and has no separators.
 abbrev pub IsText : List ℕ → Type 0
@@ -34,14 +34,14 @@ pub record IsListOf (packet : List ℕ) (metrics : List Metric) : Type 0 where
   pub listed : All IsListed metrics
   pub whole : IsPacketOf metrics packet
 
--- If the error is `NotMetrics`, no list of metrics has this packet. If memory ran out, nothing is known about the
+-- If the text is unusable, no list of metrics has this packet. If memory ran out, nothing is known about the
 -- packet.
-abbrev pub FailsPacket : List ℕ → ReadFault → Type 0
-FailsPacket packet NotMetrics = (metrics : List Metric) → IsListOf packet metrics → ⊥
+abbrev pub FailsPacket : List ℕ → Fault → Type 0
+FailsPacket packet (Unusable why) = (metrics : List Metric) → IsListOf packet metrics → ⊥
 FailsPacket packet OutOfMemory = ⊤
 
 -- If metrics were read, this is their packet. If there is an error instead, it is one that `FailsPacket` allows.
-abbrev pub ReadsPacket : {Z : Type 0} → List ℕ → Result (Vec (OwnedMetric Z) Z) ReadFault → Type 0
+abbrev pub ReadsPacket : {Z : Type 0} → List ℕ → Result (Vec (OwnedMetric Z) Z) Fault → Type 0
 ReadsPacket packet (Ok metrics) = IsListOf packet (metrics_of metrics)
 ReadsPacket packet (Err e) = FailsPacket packet e
 

@@ -1,33 +1,11 @@
 //! Why no metrics were read.
-ghost use Rattle.std.specs.Prelude.{◌≡◌};
-ghost use Rattle.cadence_read.specs.declared.fault.ReadFault.TheVariants.{OutOfMemory};
-
-use std::alloc::{AllocError, AllocFailed};
+use cadence_errors::InputError;
 use thiserror::Error;
 
-/// Why no metrics were read.
+/// No metrics have this text as their packet or line.
 #[derive(Clone, Copy, Debug, PartialEq, Eq, Error)]
-pub enum ReadFault {
-    /// No metrics have this text as their packet or line.
-    #[error("not a packet of metrics")]
-    NotMetrics,
-    /// Memory ran out.
-    #[error("out of memory")]
-    OutOfMemory,
-}
+#[error("not a packet of metrics")]
+pub struct NotMetrics;
 
-impl From<AllocError> for ReadFault {
-    ghost from_gives = { λ _ e. e ≡ OutOfMemory };
-
-    fn from(_error: AllocError) -> ReadFault {
-        ReadFault::OutOfMemory
-    }
-}
-
-impl<T: Drop> From<AllocFailed<T>> for ReadFault {
-    ghost from_gives = { λ _ e. e ≡ OutOfMemory };
-
-    fn from(_error: AllocFailed<T>) -> ReadFault {
-        ReadFault::OutOfMemory
-    }
-}
+/// Why no metrics were read: `Unusable(NotMetrics)` or `OutOfMemory`.
+pub type ReadFault = InputError<NotMetrics>;

@@ -4,7 +4,7 @@ ghost use Rattle.std.specs.Option.{option_copied};
 ghost use Rattle.cadence_text.specs.OneReading.{IsNoSeparator};
 ghost use Rattle.cadence_read.specs.Reads.{ReadsContainer, ReadsNumbers, ReadsRate, ReadsTag, ReadsTags, ReadsText, ReadsTime};
 
-use crate::fault::ReadFault;
+use crate::fault::{NotMetrics, ReadFault};
 use crate::splitting::split_piece;
 use cadence_text::line::{OwnedTag, is_free};
 use cadence_value::bytes::split_once;
@@ -17,7 +17,7 @@ pub(crate) fn read_free<A: Allocator>(alloc: A, text: &[u8]) -> Result<String<A>
     ensures { ReadsText text.now result }
 {
     let Ok(text) = str::from_utf8(text) else {
-        return Err(ReadFault::NotMetrics);
+        return Err(ReadFault::Unusable(NotMetrics));
     };
     Ok(String::from_str(alloc, text)?)
 }
@@ -27,7 +27,7 @@ fn read_text<A: Allocator>(alloc: A, text: &[u8]) -> Result<String<A>, ReadFault
     ensures { ReadsText text.now result }
 {
     if !is_free(text) {
-        return Err(ReadFault::NotMetrics);
+        return Err(ReadFault::Unusable(NotMetrics));
     }
     read_free(alloc, text)
 }
@@ -48,7 +48,7 @@ pub(crate) fn read_numbers<A: Allocator>(
     while let Some(text) = left {
         let (piece, others) = split_piece(text, b':');
         let Some(number) = read_number(piece) else {
-            return Err(ReadFault::NotMetrics);
+            return Err(ReadFault::Unusable(NotMetrics));
         };
         numbers.push(number)?;
         left = others;
@@ -65,7 +65,7 @@ pub(crate) fn read_rate(text: Option<&[u8]>) -> Result<Option<Decimal>, ReadFaul
     };
     match read_number(text) {
         Some(rate) => Ok(Some(rate)),
-        None => Err(ReadFault::NotMetrics),
+        None => Err(ReadFault::Unusable(NotMetrics)),
     }
 }
 
@@ -126,10 +126,10 @@ pub(crate) fn read_time(text: Option<&[u8]>) -> Result<Option<u64>, ReadFault>
         return Ok(None);
     };
     let Some(time) = read_whole(text) else {
-        return Err(ReadFault::NotMetrics);
+        return Err(ReadFault::Unusable(NotMetrics));
     };
     match u64::try_from(time) {
         Ok(time) => Ok(Some(time)),
-        Err(_) => Err(ReadFault::NotMetrics),
+        Err(_) => Err(ReadFault::Unusable(NotMetrics)),
     }
 }

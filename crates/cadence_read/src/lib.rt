@@ -13,6 +13,6 @@ mod line;
 mod packet;
 mod splitting;
 
-pub use fault::ReadFault;
+pub use fault::{NotMetrics, ReadFault};
 pub use line::read_line;
 pub use packet::{read_packet, read_run};

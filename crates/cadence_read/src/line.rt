@@ -4,7 +4,7 @@ ghost use Rattle.cadence_text.specs.OneReading.{IsNoSeparator};
 ghost use Rattle.cadence_read.specs.LineTexts.{line_texts};
 ghost use Rattle.cadence_read.specs.Reads.{ReadsFields, ReadsMetric};
 
-use crate::fault::ReadFault;
+use crate::fault::{NotMetrics, ReadFault};
 use crate::fields::{read_container, read_free, read_numbers, read_rate, read_tags, read_time};
 use crate::splitting::{TextsOfLine, plain_texts, split_fields, split_name};
 use cadence_text::line::{MetricType, OwnedMetric};
@@ -22,7 +22,7 @@ fn read_texts<A: Allocator + Clone>(
     ensures { ReadsFields (line_texts texts.entry) result }
 {
     let Some(kind) = MetricType::from_text(texts.kind) else {
-        return Err(ReadFault::NotMetrics);
+        return Err(ReadFault::Unusable(NotMetrics));
     };
     let rate = read_rate(texts.rate)?;
     let time = read_time(texts.time)?;
@@ -54,7 +54,7 @@ pub(crate) fn read_named<A: Allocator + Clone>(
     ensures { ReadsMetric (name.now ++ 58 ∷ rest.now) result }
 {
     let Some(texts) = split_fields(name, rest) else {
-        return Err(ReadFault::NotMetrics);
+        return Err(ReadFault::Unusable(NotMetrics));
     };
     if texts.is_plain() {
         return read_texts(alloc, plain_texts(texts.name, texts.numbers, texts.kind));
@@ -65,12 +65,12 @@ pub(crate) fn read_named<A: Allocator + Clone>(
 /// Reads the metric of a line. There is at most one metric with this line.
 ///
 /// # Errors
-/// `NotMetrics` if no metric has this line, and `OutOfMemory`.
+/// `Unusable(NotMetrics)` if no metric has this line, and `OutOfMemory`.
 pub fn read_line<A: Allocator + Clone>(alloc: &A, line: &[u8]) -> Result<OwnedMetric<A>, ReadFault>
     ensures { ReadsMetric line.now result }
 {
     let Some((name, rest)) = split_name(line) else {
-        return Err(ReadFault::NotMetrics);
+        return Err(ReadFault::Unusable(NotMetrics));
     };
     read_named(alloc, name, rest)
 }

@@ -5,9 +5,9 @@ ghost use Rattle.cadence_text.specs.Metric.{Metric};
 ghost use Rattle.cadence_text.specs.Owned.{metrics_of};
 ghost use Rattle.cadence_read.specs.Listed.{AreListed, IsListOf, ReadsPacket};
 ghost use Rattle.cadence_read.specs.Reads.{ReadsMetrics};
-ghost use Rattle.cadence_read.specs.declared.fault.ReadFault.TheVariants.{NotMetrics};
+ghost use Rattle.cadence_read.specs.Faults.{not_metrics};
 
-use crate::fault::ReadFault;
+use crate::fault::{NotMetrics, ReadFault};
 use crate::line::{read_line, read_named};
 use crate::splitting::{split_name, split_piece};
 use cadence_text::line::OwnedMetric;
@@ -36,7 +36,7 @@ fn read_lines<A: Allocator + Clone>(
     let mut left = Some(lines);
     while let Some(text) = left {
         let Some((name, rest)) = split_name(text) else {
-            return Err(ReadFault::NotMetrics);
+            return Err(ReadFault::Unusable(NotMetrics));
         };
         let (fields, others) = split_piece(rest, b'\n');
         let metric = read_named(alloc, name, fields)?;
@@ -76,7 +76,7 @@ fn read_list<A: Allocator + Clone>(
 /// packet, reading takes no memory from the heap once the arena has room.
 ///
 /// # Errors
-/// `NotMetrics` if no list of metrics has this packet, and `OutOfMemory`.
+/// `Unusable(NotMetrics)` if no list of metrics has this packet, and `OutOfMemory`.
 pub fn read_packet<A: Allocator + Clone>(
     alloc: A,
     packet: &[u8],
@@ -84,7 +84,7 @@ pub fn read_packet<A: Allocator + Clone>(
     ensures found { IfOk result (λ metrics. IsListOf packet.now (metrics_of metrics)) }
     ensures only { IfOk result (λ metrics. (others : List Metric) →
         IsListOf packet.now others → others ≡ metrics_of metrics) }
-    ensures refused { result ≡ Err NotMetrics →
+    ensures refused { result ≡ Err not_metrics →
         (metrics : List Metric) → IsListOf packet.now metrics → ⊥ }
 {
     read_list(&alloc, packet)
@@ -93,7 +93,7 @@ pub fn read_packet<A: Allocator + Clone>(
 /// Reads the metrics of the packets of a run, and then the metrics of the held text, into one list.
 ///
 /// # Errors
-/// `NotMetrics` if no list of metrics has one of the packets, or the held text, as its packet, and `OutOfMemory`.
+/// `Unusable(NotMetrics)` if no list of metrics has one of the packets, or the held text, as its packet, and `OutOfMemory`.
 pub fn read_run<A: Allocator + Clone>(
     alloc: A,
     packets: &[Vec<u8, A>],
@@ -105,7 +105,7 @@ pub fn read_run<A: Allocator + Clone>(
     ensures only { IfOk result (λ metrics. (others : List Metric) →
         AreListed (map (λ packet. packet.items) packets.now ++ held.now ∷ []) others →
         others ≡ metrics_of metrics) }
-    ensures refused { result ≡ Err NotMetrics → (metrics : List Metric) →
+    ensures refused { result ≡ Err not_metrics → (metrics : List Metric) →
         AreListed (map (λ packet. packet.items) packets.now ++ held.now ∷ []) metrics → ⊥ }
 {
     let mut metrics = Vec::new(alloc.clone()?);

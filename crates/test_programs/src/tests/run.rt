@@ -43,7 +43,7 @@ fn a_line_is_read(rt: HostRuntime) -> Result<(), Fail> {
 }
 
 // Reads a run with this packet and this held text. Returns whether its metrics have these lines. If `lines` is `None`,
-// returns whether the reading fails with `NotMetrics`.
+// returns whether the reading fails because the text is not that of metrics.
 fn reads_as(
     alloc: Global,
     packet: &[u8],
@@ -53,7 +53,7 @@ fn reads_as(
     let packets = [Vec::from_slice(alloc, packet)?];
     match (read_run(alloc, &packets, held), lines) {
         (Ok(metrics), Some(lines)) => have_lines(alloc, &metrics, lines),
-        (Err(ReadFault::NotMetrics), None) => Ok(true),
+        (Err(ReadFault::Unusable(_)), None) => Ok(true),
         _ => Ok(false),
     }
 }
@@ -117,7 +117,7 @@ fn reads_run_of_key(
     Ok(match run_and_read(heap, &settings, 4, None, &steps, log) {
         Ok((_report, metrics)) => Some(metrics.len() == 1),
         Err(ReadFault::OutOfMemory) => Some(false),
-        Err(ReadFault::NotMetrics) => None,
+        Err(ReadFault::Unusable(_)) => None,
     })
 }
 

@@ -3,7 +3,7 @@ use Rattle.cadence_text.specs.Metric.{Metric}
 use Rattle.cadence_text.specs.Owned.{metrics_of}
 use Rattle.cadence_flow.specs.Log.{LogState}
 use Rattle.cadence_schedule.specs.Report.{outcome_of}
-use Rattle.cadence_read.specs.declared.fault.ReadFault.TheVariants.{NotMetrics}
+use Rattle.cadence_read.specs.Faults.{not_metrics}
 use Rattle.cadence_read.specs.Listed.{AreListed}
 use Rattle.cadence_listen.specs.RunRead.{IsRun, given_to, kept_metrics, texts_of_run}
 use Rattle.cadence_listen.proofs.RunReads.{kept_listed}
@@ -19,7 +19,7 @@ returns-in_err-metrics-clause-refused g c e =
     ∙ ap (λ (l : LogState). l.packets) c.writer.ensures) c.held.ensures in
     let run : IsRun given (outcome_of c.in-Ok.report) = record { headline = c.in-Ok.ensures.headline.0; beside = c.in-Ok.ensures.headline.1 } in
     let is : c.from_residual-in_err-metrics.result ≡ Err c.in_err-metrics.field-0.0 = search rules in
-    let fault : c.in_err-metrics.field-0.0 ≡ NotMetrics = cc (e, is) in
+    let fault : c.in_err-metrics.field-0.0 ≡ not_metrics = cc (e, is) in
     let none =
     λ (metrics : List Metric) (h : AreListed (texts_of_run (outcome_of c.in-Ok.report)) metrics). c.in_err-metrics.ensures.refused
     (ap Err fault) metrics (subst (λ ts. AreListed ts metrics) (sym texts) h) in (

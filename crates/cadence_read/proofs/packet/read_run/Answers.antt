@@ -2,7 +2,7 @@ use Rattle.std.proofs.Common.{rules, arith, ◌≡◌, ◌∙◌, ◌+◌, ◌<�
 use Rattle.std.proofs.lemmas.List.{map-append, length-append, length-map, get_or_append_left}
 use Rattle.std.proofs.Math.Seq.{get_or-append_seam}
 use Rattle.cadence_text.specs.Owned.{metrics_of, metric_of_owned}
-use Rattle.cadence_read.specs.declared.fault.ReadFault.TheVariants.{NotMetrics}
+use Rattle.cadence_read.specs.Faults.{not_metrics}
 use Rattle.cadence_read.proofs.RunRead.{listed_more, listed_same, packet_at, run_fails, run_once, taken_more, taken_all}
 use Rattle.cadence_read.proofs.packet.read_run.Goals as goal
 
@@ -16,7 +16,7 @@ returns-in_err-list-clause-refused g c e metrics =
     packet_at items packets k c.packet-item.result [] c.loop-packet-test.true c.packet-item.is
     ∙ sym c.deref.ensures.value in
     let is : c.from_residual-in_err-list.result ≡ Err c.in_err-list.field-0.0 = search rules in
-    let fault : c.in_err-list.field-0.0 ≡ NotMetrics = cc (e, is) in
+    let fault : c.in_err-list.field-0.0 ≡ not_metrics = cc (e, is) in
     let inside : k < length (map items packets) = omega (arith, c.loop-packet-test.true, length-map packets items) in
     let before : k < length (map items packets ++ held ∷ []) = omega (arith, inside, length-append (map items packets) (held ∷ [])) in
     run_fails (map items packets ++ held ∷ []) c.in_err-list.field-0.0 c.deref.result.now k [] before
@@ -42,7 +42,7 @@ returns-in_err-last-clause-refused g c e metrics =
     let packets = map items c.args.packets.now in
     let held = c.args.held.now in
     let is : c.from_residual-in_err-last.result ≡ Err c.in_err-last.field-0.0 = search rules in
-    let fault : c.in_err-last.field-0.0 ≡ NotMetrics = cc (e, is) in
+    let fault : c.in_err-last.field-0.0 ≡ not_metrics = cc (e, is) in
     let before : length packets < length (packets ++ held ∷ []) = omega (arith, length-append packets (held ∷ [])) in
     run_fails (packets ++ held ∷ []) c.in_err-last.field-0.0 held (length packets) [] before (get_or-append_seam packets held [] [])
     c.in_err-last.ensures fault metrics

@@ -1,0 +1,12 @@
+-- Why no metrics were read.
+use Rattle.cadence_errors.specs.declared.input_error.InputError.{InputError}
+use Rattle.cadence_errors.specs.declared.input_error.InputError.TheVariants.{Unusable}
+use Rattle.cadence_read.specs.declared.fault.NotMetrics.{NotMetrics}
+
+-- The text is not that of any metrics, or memory ran out: Rust's `ReadFault`.
+abbrev pub Fault : Type 0
+Fault = InputError NotMetrics
+
+-- No metrics have the text.
+abbrev pub not_metrics : Fault
+not_metrics = Unusable (record {})
