@@ -11,7 +11,7 @@ mod traits;
 
 pub use backend::MetricBackend;
 pub use builder::MetricBuilder;
-pub use cadence_settings::{ClientSettings, DraftError};
+pub use cadence_settings::{ClientSettings, DraftError, Separator};
 pub use client_builder::StatsdClientBuilder;
 pub use handler::{BoxedErrorHandler, BoxedHandler, ErrorHandler, NopErrorHandler};
 pub use metric_client::MetricClient;

@@ -12,4 +12,6 @@ mod settings;
 
 pub use call::{Call, CallOption, CallValue};
 pub use laws::{an_option_is_chosen, strict_calls_are_free};
-pub use settings::{ClientSettings, DraftError, formatted_prefix, tag_is_free, text_is_free};
+pub use settings::{
+    ClientSettings, DraftError, Separator, formatted_prefix, tag_is_free, text_is_free,
+};

@@ -23,7 +23,7 @@ use cadence_text::line::{DraftLine, Head, MetricType, OwnedTag, TagsText, lend_t
 use cadence_value::value::MetricValue;
 use std::alloc::{AllocError, Allocator, Global};
 use std::marker::Model;
-pub use strict::{DraftError, tag_is_free, text_is_free};
+pub use strict::{DraftError, Separator, tag_is_free, text_is_free};
 
 // How many bytes a draft reserves for the tags and other options of the call itself.
 const OWN_BYTES: usize = 96;
@@ -132,7 +132,7 @@ impl<A: Allocator + Clone> ClientSettings<A> {
         ensures kept { OnErr result (self.new ≡ self.old) }
     {
         if !self.allows_tag(key, text) {
-            return Err(MetricError::from(DraftError::Separator));
+            return Err(MetricError::from(DraftError::Unusable(Separator)));
         }
         let alloc = self.tags.allocator();
         let key = match key {
@@ -159,7 +159,7 @@ impl<A: Allocator + Clone> ClientSettings<A> {
         ensures kept { OnErr result (self.new ≡ self.old) }
     {
         if !self.allows_text(container) {
-            return Err(MetricError::from(DraftError::Separator));
+            return Err(MetricError::from(DraftError::Unusable(Separator)));
         }
         let alloc = self.tags.allocator().clone()?;
         self.container = Some(String::from_str(alloc, container)?);
@@ -177,8 +177,8 @@ impl<A: Allocator + Clone> ClientSettings<A> {
     /// tags and the default container, and room for some tags of the call itself. Its buffer is allocated at once.
     ///
     /// # Errors
-    /// `DraftError::Separator` if and only if the settings are strict and the key has a separator. Otherwise
-    /// `DraftError::OutOfMemory`.
+    /// `Unusable(Separator)` if and only if the settings are strict and the key has a separator. Otherwise
+    /// `OutOfMemory`.
     pub fn draft<'a>(
         &'a self,
         key: &str,
@@ -194,7 +194,7 @@ impl<A: Allocator + Clone> ClientSettings<A> {
         ensures refused { IfErr result (DraftFails (allows_text self.now key.now)) }
     {
         if !self.allows_text(key) {
-            return Err(DraftError::Separator);
+            return Err(DraftError::Unusable(Separator));
         }
         Ok(self.draft_with(key, kind, value, OWN_BYTES)?)
     }
@@ -242,7 +242,7 @@ impl<A: Allocator + Clone> ClientSettings<A> {
         ensures refused { IfErr result (DraftFails (allows_text self.now key.now)) }
     {
         if !self.allows_text(key) {
-            return Err(DraftError::Separator);
+            return Err(DraftError::Unusable(Separator));
         }
         let head = Head {
             prefix: &self.prefix,
@@ -274,7 +274,7 @@ impl<A: Allocator + Clone> ClientSettings<A> {
         ensures refused { IfErr result (DraftFails (allows_text self.now key.now)) }
     {
         if !self.allows_text(key) {
-            return Err(DraftError::Separator);
+            return Err(DraftError::Unusable(Separator));
         }
         let room = match &self.container {
             Some(id) => id.len().saturating_add(3),

@@ -1,7 +1,7 @@
 //! A metric that is being built.
 ghost use Rattle.std.specs.Option.{option_copied};
 ghost use Rattle.std.specs.Prelude.{◌≡◌, false, true, IfErr, IsErr};
-ghost use Rattle.cadence_settings.specs.DraftErrors.{IsSameError};
+ghost use Rattle.cadence_errors.specs.InputErrors.{IsSame};
 ghost use Rattle.cadence_text.specs.Draft.{draft_line};
 ghost use Rattle.cadence_settings.specs.Call.{tagged, contained, timed, rated};
 ghost use Rattle.cadence_text.specs.Metric.{keyed, unkeyed};
@@ -13,7 +13,7 @@ use crate::client::statsd_client::StatsdClient;
 use crate::laws::choosing_stands_for_more;
 use crate::types::Metric;
 use cadence_errors::{MetricError, MetricResult};
-use cadence_settings::{DraftError, tag_is_free, text_is_free};
+use cadence_settings::{DraftError, Separator, tag_is_free, text_is_free};
 use cadence_text::line::{DraftLine, Tag};
 use cadence_value::decimal::Decimal;
 use std::marker::PhantomData;
@@ -85,7 +85,7 @@ impl<'m, 'c, T: Metric + From<String<C::Memory>>, C: MetricBackend> MetricBuilde
     // Stores an error in place of the draft. It is cold, so that a tag that is added passes no code of errors.
     #[cold]
     fn fail(&mut self, error: DraftError)
-        ensures pending { IfErr (pending_of self.new) (IsSameError error) }
+        ensures pending { IfErr (pending_of self.new) (IsSame error) }
         ensures failed { IsErr (pending_of self.new) }
         ensures client { backend_of self.new ≡ backend_of self.old }
     {
@@ -106,7 +106,7 @@ impl<'m, 'c, T: Metric + From<String<C::Memory>>, C: MetricBackend> MetricBuilde
             return;
         };
         if self.client.is_strict() && !tag_is_free(key, text) {
-            return self.fail(DraftError::Separator);
+            return self.fail(DraftError::Unusable(Separator));
         }
         if draft.add_tag(Tag { key, text }).is_err() {
             self.fail(DraftError::OutOfMemory);
@@ -124,7 +124,7 @@ impl<'m, 'c, T: Metric + From<String<C::Memory>>, C: MetricBackend> MetricBuilde
             if allowed {
                 draft.set_container(container_id);
             } else {
-                self.fail(DraftError::Separator);
+                self.fail(DraftError::Unusable(Separator));
             }
         }
     }

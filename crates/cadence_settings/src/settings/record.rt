@@ -4,7 +4,7 @@ ghost use Rattle.std.specs.List.{fold};
 ghost use Rattle.cadence_settings.specs.Call.{chosen};
 ghost use Rattle.cadence_settings.specs.CallData.{choice_of};
 
-use super::{ClientSettings, DraftError};
+use super::{ClientSettings, DraftError, Separator};
 use crate::call::{Call, CallOption};
 use cadence_errors::{MetricError, MetricResult};
 use cadence_text::line::{MetricType, Record, Tag, lend_tags};
@@ -36,7 +36,7 @@ impl<A: Allocator + Clone> ClientSettings<A> {
             IsErrAnd result IsInvalid }
     {
         if !self.allows_text(key) {
-            return Err(MetricError::from(DraftError::Separator));
+            return Err(MetricError::from(DraftError::Unusable(Separator)));
         }
         self.record_with(key, kind, value)
     }

@@ -3,49 +3,28 @@ ghost use Rattle.std.specs.Prelude.{◌≡◌, IfErr, IsFalse, IsTrue, OnOk, OnE
 ghost use Rattle.std.specs.List.{list_all};
 ghost use Rattle.cadence_errors.specs.Errors.{IsInvalid};
 ghost use Rattle.cadence_text.specs.Owned.{tag_of_owned};
-ghost use Rattle.cadence_settings.specs.DraftErrors.{IsSameError};
 ghost use Rattle.cadence_text.specs.FreeTexts.{is_free_if_any, is_free_tag, is_free_text};
-ghost use Rattle.cadence_settings.specs.declared.settings.strict.DraftError.TheVariants.{OutOfMemory};
 
 use super::ClientSettings;
 use crate::call::Call;
-use cadence_errors::{ErrorKind, MetricError, MetricResult};
+use cadence_errors::{ErrorKind, InputError, MetricError, MetricResult, Reason};
 use cadence_text::line::{OwnedTag, is_free, lend_tag};
 use cadence_value::value::MetricValue;
-use std::alloc::{AllocError, Allocator};
+use std::alloc::Allocator;
 
-/// Why the draft or the line of a call was not made.
+/// The settings are strict, and a text has a colon, a comma, a bar or a newline.
 #[derive(Clone, Copy, Debug, PartialEq, Eq)]
-pub enum DraftError {
-    /// The settings are strict, and a text has a colon, a comma, a bar or a newline.
-    Separator,
-    /// The allocator refused memory, or the length of the line passes `usize::MAX`.
-    OutOfMemory,
-}
+pub struct Separator;
 
-/// A refused allocation is `DraftError::OutOfMemory`.
-impl From<AllocError> for DraftError {
-    ghost from_gives = { λ _ e. e ≡ OutOfMemory };
-
-    fn from(_error: AllocError) -> DraftError {
-        DraftError::OutOfMemory
+impl Reason for Separator {
+    fn message(self) -> &'static str {
+        "separator in a text"
     }
 }
 
-/// `DraftError::Separator` is an error of kind `InvalidInput` (`separator in a text`), and `DraftError::OutOfMemory` is
-/// `SinkError::OutOfMemory`.
-impl From<DraftError> for MetricError {
-    ghost from_gives = { IsSameError };
-
-    fn from(error: DraftError) -> MetricError {
-        match error {
-            DraftError::Separator => {
-                MetricError::from((ErrorKind::InvalidInput, "separator in a text"))
-            }
-            DraftError::OutOfMemory => MetricError::from(AllocError),
-        }
-    }
-}
+/// Why the draft or the line of a call was not made: `Unusable(Separator)` or `OutOfMemory`. It is `OutOfMemory` also if
+/// the length of the line passes `usize::MAX`.
+pub type DraftError = InputError<Separator>;
 
 /// Returns whether a text has no colon, comma, bar or newline.
 pub fn text_is_free(text: &str) -> bool
@@ -94,7 +73,7 @@ fn unfree_error<V: Drop>(value: MetricResult<V>) -> MetricError
         Err(MetricError::Described(ErrorKind::InvalidInput, text)) => {
             MetricError::Described(ErrorKind::InvalidInput, text)
         }
-        _ => MetricError::from(DraftError::Separator),
+        _ => MetricError::from(DraftError::Unusable(Separator)),
     }
 }
 
@@ -117,7 +96,7 @@ impl<A: Allocator + Clone> ClientSettings<A> {
         ensures kept { OnErr result (self.new ≡ self.old) }
     {
         if !self.is_free() {
-            return Err(MetricError::from(DraftError::Separator));
+            return Err(MetricError::from(DraftError::Unusable(Separator)));
         }
         self.strict = true;
         Ok(())
