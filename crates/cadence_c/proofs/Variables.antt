@@ -5,8 +5,9 @@ use Rattle.std.specs.List.{flat_map}
 use Rattle.std.specs.Str.{bytes_eq}
 use Rattle.cadence_environment.specs.EnvironmentFaults.{IsRefusedVariable}
 use Rattle.cadence_environment.specs.TagTexts.{has_bytes, is_overridden, listed_tags, own_tag, pieces_of, tag_of_text, tags_said, trimmed}
-use Rattle.cadence_environment.specs.declared.error.EnvironmentError.{EnvironmentError}
-use Rattle.cadence_environment.specs.declared.error.EnvironmentError.TheVariants.{Malformed, OutOfMemory}
+use Rattle.cadence_errors.specs.declared.input_error.InputError.{InputError}
+use Rattle.cadence_errors.specs.declared.input_error.InputError.TheVariants.{Unusable, OutOfMemory}
+use Rattle.cadence_environment.specs.declared.variables.Variable.{Variable}
 use Rattle.cadence_environment.specs.declared.variables.Variables.{Variables}
 use Rattle.cadence_c.specs.Environment.{IsNamed, Names}
 
@@ -33,6 +34,6 @@ same_tags v w e s n t d = λ i.
     ++ (flat_map (λ piece. same_listed v w e s n (trimmed piece) i) (pieces_of (t i)) ++ own_tag (codes "dd.internal.entity_id") (d i))))
 
 -- The number of a variable that an error names is that of a variable that is set and that no other one overrides.
-pub is_named : (e : EnvironmentError) (v : Variables) (n : ℕ) → Names e n → IsRefusedVariable v e → IsNamed v n
-is_named (Malformed variable) v n names read = (variable, names, read)
+pub is_named : (e : InputError Variable) (v : Variables) (n : ℕ) → Names e n → IsRefusedVariable v e → IsNamed v n
+is_named (Unusable variable) v n names read = (variable, names, read)
 is_named OutOfMemory v n names read = absurd names

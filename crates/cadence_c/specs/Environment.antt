@@ -6,8 +6,8 @@ use Rattle.cadence_environment.specs.EnvironmentFaults.{IsRead}
 use Rattle.cadence_environment.specs.TagTexts.{has_bytes}
 use Rattle.cadence_environment.specs.declared.destination.Destination.{Destination}
 use Rattle.cadence_environment.specs.declared.destination.Destination.TheVariants.{Udp, Unix}
-use Rattle.cadence_environment.specs.declared.error.EnvironmentError.{EnvironmentError}
-use Rattle.cadence_environment.specs.declared.error.EnvironmentError.TheVariants.{Malformed, OutOfMemory}
+use Rattle.cadence_errors.specs.declared.input_error.InputError.{InputError}
+use Rattle.cadence_errors.specs.declared.input_error.InputError.TheVariants.{Unusable, OutOfMemory}
 use Rattle.cadence_environment.specs.declared.variables.Variable.{Variable}
 use Rattle.cadence_environment.specs.declared.variables.Variable.TheVariants.{Url, AgentHost, AgentPort, StatsdHost, StatsdPort}
 use Rattle.cadence_environment.specs.declared.variables.Variable.TheVariants.{Env, Service, Version, Tags, EntityId}
@@ -79,8 +79,8 @@ variable_named n =
     else if n == 8 then Some Tags else if n == 9 then Some EntityId else None
 
 -- The error names the variable of this number, or says that memory ran out.
-abbrev pub Names : EnvironmentError → ℕ → Type 0
-Names (Malformed variable) n = variable_named n ≡ Some variable
+abbrev pub Names : InputError Variable → ℕ → Type 0
+Names (Unusable variable) n = variable_named n ≡ Some variable
 Names OutOfMemory n = ⊥
 
 -- The variable of this number is set, and no other one overrides it.

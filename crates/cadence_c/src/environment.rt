@@ -7,7 +7,7 @@ ghost use Rattle.cadence_environment.specs.Destinations.{SaysPlace};
 ghost use Rattle.cadence_environment.specs.EnvironmentFaults.{IsRefusedVariable};
 ghost use Rattle.cadence_environment.specs.Shown.{destination_of, tags_of};
 ghost use Rattle.cadence_environment.specs.TagTexts.{tags_said};
-ghost use Rattle.cadence_environment.specs.declared.error.EnvironmentError.TheVariants.{Malformed};
+ghost use Rattle.cadence_errors.specs.declared.input_error.InputError.TheVariants.{Unusable};
 ghost use Rattle.cadence_environment.specs.declared.variables.Variables.{Variables as TheVariables};
 ghost use Rattle.cadence_c.specs.Environment.{ArePlacesRead, AreTagsRead, HasTexts, IsNamed, Names, SaysTarget, variable_named};
 ghost use Rattle.cadence_c.specs.Results.{WritesOut};
@@ -75,7 +75,7 @@ fn variable_of(number: u32) -> Option<Variable>
 // Returns the text of a variable, or the empty text if it is not wanted, because another variable overrides it.
 fn read_variable(text: &[u8], variable: Variable, is_wanted: bool) -> Result<&str, EnvironmentError>
     ensures read { IfOk result (λ t. t.now ≡ (if is_wanted then text.now else [])) }
-    ensures refused { IfErr result (λ e. e ≡ Malformed variable) }
+    ensures refused { IfErr result (λ e. e ≡ Unusable variable) }
     ensures wanted { IfErr result (λ _. is_wanted ≡ true) }
     ensures set { IfErr result (λ _. text.now ≢ []) }
 {
@@ -84,7 +84,7 @@ fn read_variable(text: &[u8], variable: Variable, is_wanted: bool) -> Result<&st
     }
     match text_of(text) {
         Some(text) => Ok(text),
-        None => Err(EnvironmentError::Malformed(variable)),
+        None => Err(EnvironmentError::Unusable(variable)),
     }
 }
 
@@ -159,7 +159,7 @@ fn refusal(error: EnvironmentError, variable: &mut u32) -> u32
     ensures statuses { (result ≡ CADENCE_VARIABLE) ⊎ (result ≡ CADENCE_NO_MEMORY) }
 {
     match error {
-        EnvironmentError::Malformed(which) => {
+        EnvironmentError::Unusable(which) => {
             *variable = number_of(which);
             StatusError::Variable.code()
         }
@@ -220,7 +220,7 @@ pub extern "C" fn cadence_variable_text(
     let Some(variable) = variable_of(variable) else {
         return StatusError::Invalid.code();
     };
-    let Ok(text) = format!(in alloc; "{}", EnvironmentError::Malformed(variable)) else {
+    let Ok(text) = format!(in alloc; "{variable}") else {
         return StatusError::NoMemory.code();
     };
     copy_out(text.as_bytes(), out, size)

@@ -1,18 +1,15 @@
 -- Why nothing is read from the environment.
 use Rattle.std.specs.Prelude.{◌≡◌, ◌≢◌, ◌⊎◌, ⊤, ℕ, List, []}
-use Rattle.cadence_errors.specs.declared.ErrorKind.TheVariants.{InvalidInput}
-use Rattle.cadence_errors.specs.declared.MetricError.{MetricError}
-use Rattle.cadence_errors.specs.Errors.{IsDescribed, out_of_memory}
-use Rattle.cadence_environment.specs.declared.error.EnvironmentError.{EnvironmentError}
-use Rattle.cadence_environment.specs.declared.error.EnvironmentError.TheVariants.{Malformed, OutOfMemory}
+use Rattle.cadence_errors.specs.declared.input_error.InputError.{InputError}
+use Rattle.cadence_errors.specs.declared.input_error.InputError.TheVariants.{Unusable, OutOfMemory}
 use Rattle.cadence_environment.specs.declared.variables.Variable.{Variable}
 use Rattle.cadence_environment.specs.declared.variables.Variable.TheVariants.{Url, AgentHost, AgentPort, StatsdHost, StatsdPort}
 use Rattle.cadence_environment.specs.declared.variables.Variable.TheVariants.{Env, Service, Version, Tags, EntityId}
 use Rattle.cadence_environment.specs.declared.variables.Variables.{Variables}
 
 -- The error names this variable, or says that memory ran out.
-abbrev pub IsFaultOf : Variable → EnvironmentError → Type 0
-IsFaultOf variable (Malformed other) = other ≡ variable
+abbrev pub IsFaultOf : Variable → InputError Variable → Type 0
+IsFaultOf variable (Unusable other) = other ≡ variable
 IsFaultOf variable OutOfMemory = ⊤
 
 -- The variable is set, and no other one overrides it.
@@ -29,20 +26,15 @@ IsRead v Tags = v.tags.now ≢ []
 IsRead v EntityId = v.entity_id.now ≢ []
 
 -- The error names a variable that is set and that no other one overrides, or says that memory ran out.
-abbrev pub IsRefusedVariable : Variables → EnvironmentError → Type 0
-IsRefusedVariable v (Malformed variable) = IsRead v variable
+abbrev pub IsRefusedVariable : Variables → InputError Variable → Type 0
+IsRefusedVariable v (Unusable variable) = IsRead v variable
 IsRefusedVariable v OutOfMemory = ⊤
 
 -- The error names this variable, which is set, or says that memory ran out.
-abbrev pub IsSetFault : Variable → List ℕ → EnvironmentError → Type 0
-IsSetFault variable text (Malformed other) = (other ≡ variable) × (text ≢ [])
+abbrev pub IsSetFault : Variable → List ℕ → InputError Variable → Type 0
+IsSetFault variable text (Unusable other) = (other ≡ variable) × (text ≢ [])
 IsSetFault variable text OutOfMemory = ⊤
 
 -- The error names one of two variables, which is set, or says that memory ran out.
-abbrev pub IsPairFault : Variable → List ℕ → Variable → List ℕ → EnvironmentError → Type 0
+abbrev pub IsPairFault : Variable → List ℕ → Variable → List ℕ → InputError Variable → Type 0
 IsPairFault host host_text port port_text e = IsSetFault host host_text e ⊎ IsSetFault port port_text e
-
--- The error of a client or a sink says what that of the environment says.
-abbrev pub IsSameFault : EnvironmentError → MetricError → Type 0
-IsSameFault (Malformed variable) e = IsDescribed InvalidInput e
-IsSameFault OutOfMemory e = e ≡ out_of_memory

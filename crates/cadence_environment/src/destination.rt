@@ -127,7 +127,7 @@ fn read_path<A: Allocator>(alloc: A, path: &str) -> Result<Destination<A>, Envir
     ensures refused { IfErr result (IsFaultOf variable.Url) }
 {
     if !path.starts_with('/') || check_path(path).is_err() {
-        return Err(EnvironmentError::Malformed(Variable::Url));
+        return Err(EnvironmentError::Unusable(Variable::Url));
     }
     let path = String::from_str(alloc, path)?;
     Ok(Destination::Unix { path })
@@ -142,10 +142,10 @@ fn read_url<A: Allocator>(alloc: A, url: &str) -> Result<Destination<A>, Environ
         return read_path(alloc, path);
     }
     let Some(authority) = url.strip_prefix("udp://") else {
-        return Err(EnvironmentError::Malformed(Variable::Url));
+        return Err(EnvironmentError::Unusable(Variable::Url));
     };
     let Some((host, port)) = read_authority(authority) else {
-        return Err(EnvironmentError::Malformed(Variable::Url));
+        return Err(EnvironmentError::Unusable(Variable::Url));
     };
     let host = String::from_str(alloc, host)?;
     Ok(Destination::Udp { host, port })
@@ -161,7 +161,7 @@ fn host_or_default(variable: Variable, text: &str) -> Result<&str, EnvironmentEr
     }
     match read_host(text) {
         Some(host) => Ok(host),
-        None => Err(EnvironmentError::Malformed(variable)),
+        None => Err(EnvironmentError::Unusable(variable)),
     }
 }
 
@@ -176,7 +176,7 @@ fn port_or_default(variable: Variable, text: &str) -> Result<u16, EnvironmentErr
     }
     match read_port(text) {
         Some(port) => Ok(port),
-        None => Err(EnvironmentError::Malformed(variable)),
+        None => Err(EnvironmentError::Unusable(variable)),
     }
 }
 

@@ -45,7 +45,7 @@ impl<A: Allocator + Clone> Environment<A> {
     /// Returns what these texts of the variables say.
     ///
     /// # Errors
-    /// `Malformed` with a variable that can't be used as it is set, and `OutOfMemory`. A variable that another one
+    /// `Unusable` with a variable that can't be used as it is set, and `OutOfMemory`. A variable that another one
     /// overrides is never the reason.
     pub fn from_variables(
         alloc: A,
@@ -64,7 +64,7 @@ impl<A: Allocator + Clone> Environment<A> {
     /// overrides is not read.
     ///
     /// # Errors
-    /// `Malformed` with a variable that can't be used as it is set, also because it is not UTF-8, and `OutOfMemory`.
+    /// `Unusable` with a variable that can't be used as it is set, also because it is not UTF-8, and `OutOfMemory`.
     pub fn read<R: Env + Alloc<A = A>>(rt: &R) -> Result<Environment<A>, EnvironmentError> {
         let (places, tags) = (PlaceTexts::read(rt)?, TagTexts::read(rt)?);
         Environment::from_variables(rt.alloc(), &tags.lend(places.lend(Variables::none())))
@@ -106,7 +106,7 @@ fn read_text<R: Env + Alloc>(
     match env::var(rt, variable.name()) {
         Ok(text) => Ok(text),
         Err(VarError::NotPresent) => Ok(String::new(rt.alloc())),
-        Err(VarError::NotUnicode) => Err(EnvironmentError::Malformed(variable)),
+        Err(VarError::NotUnicode) => Err(EnvironmentError::Unusable(variable)),
         Err(VarError::OutOfMemory) => Err(EnvironmentError::OutOfMemory),
     }
 }

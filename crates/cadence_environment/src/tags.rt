@@ -54,7 +54,7 @@ fn push_own<A: Allocator + Clone>(
         return Ok(());
     }
     if has_mark(text) {
-        return Err(EnvironmentError::Malformed(variable));
+        return Err(EnvironmentError::Unusable(variable));
     }
     push_tag(
         tags,
@@ -106,7 +106,7 @@ fn push_piece<A: Allocator + Clone>(
         return Ok(());
     }
     if text.starts_with(':') {
-        return Err(EnvironmentError::Malformed(Variable::Tags));
+        return Err(EnvironmentError::Unusable(Variable::Tags));
     }
     let tag = tag_from(text);
     if !has_own_variable(variables, tag.key) {
@@ -171,7 +171,7 @@ fn push_listed<A: Allocator + Clone>(
         return Ok(());
     }
     if text.contains('|') || text.contains('\n') {
-        return Err(EnvironmentError::Malformed(Variable::Tags));
+        return Err(EnvironmentError::Unusable(Variable::Tags));
     }
     let pieces = split_pieces(tags.allocator().clone()?, text)?;
     push_pieces(tags, variables, &pieces)

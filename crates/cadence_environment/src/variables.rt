@@ -1,6 +1,9 @@
 //! The variables of the environment, and the texts that they have.
 
-/// A variable of the environment.
+use cadence_errors::Reason;
+use std::fmt;
+
+/// A variable of the environment. It prints what it wants.
 #[derive(Clone, Copy, Debug, PartialEq, Eq)]
 pub enum Variable {
     /// `DD_DOGSTATSD_URL`: the agent, as a URL.
@@ -41,9 +44,12 @@ impl Variable {
             Variable::EntityId => "DD_ENTITY_ID",
         }
     }
+}
 
-    // Returns what the variable wants. A description of an error holds each of these texts whole.
-    pub(crate) fn message(self) -> &'static str {
+/// Its message says what the variable wants.
+impl Reason for Variable {
+    // A description of an error holds each of these texts whole.
+    fn message(self) -> &'static str {
         match self {
             Variable::Url => "DD_DOGSTATSD_URL wants udp://HOST, udp://HOST:PORT or unix:///PATH",
             Variable::AgentHost => "DD_AGENT_HOST wants a host, as in DD_AGENT_HOST=127.0.0.1",
@@ -60,6 +66,12 @@ impl Variable {
             Variable::EntityId =>
                 "DD_ENTITY_ID wants no commas, bars or newlines, as in DD_ENTITY_ID=9f2c",
         }
+    }
+}
+
+impl fmt::Display for Variable {
+    fn fmt<W: fmt::Write>(&self, f: &mut fmt::Formatter<W>) -> fmt::Result {
+        f.write_str(self.message())
     }
 }
 

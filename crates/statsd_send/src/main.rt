@@ -97,7 +97,7 @@ fn exit_with_error<T: fmt::Display + Drop>(rt: &HostRuntime, status: u8, why: T)
 // Prints to the standard error why the environment can't be used, and returns the exit status.
 fn exit_without_environment(rt: &HostRuntime, error: EnvironmentError) -> ExitCode {
     let status = match error {
-        EnvironmentError::Malformed(_) => 2,
+        EnvironmentError::Unusable(_) => 2,
         EnvironmentError::OutOfMemory => 3,
     };
     exit_with_error(rt, status, error)

@@ -194,7 +194,7 @@ fn assert_names(
     variable: Variable,
     message: &str,
 ) -> Result<(), Fail> {
-    let is_named = error == EnvironmentError::Malformed(variable);
+    let is_named = error == EnvironmentError::Unusable(variable);
     let says = format!(in alloc; "{error}\n{}", MetricError::from(error))?;
     if !is_named || says.as_str().split_once('\n') != Some((message, message)) {
         return Err(Fail::new(format_args!("{message}, not {says}")));
