@@ -1,17 +1,14 @@
 //! What the programs of this repository share.
 //!
 //! - `escapes`: prints bytes as printable ASCII.
-//! - `read_error`: why something was not read.
 //! - `report`: prints a program's report, or why there is none, and returns the exit status.
 //! - `streams`: reads a reader to its end, and writes a whole text.
 #![tactic(auto)]
 
 mod escapes;
-mod read_error;
 mod report;
 mod streams;
 
 pub use escapes::{push_bytes, push_text};
-pub use read_error::ReadError;
 pub use report::{ReportError, print_report};
 pub use streams::{BrokenInput, print_all, read_all};

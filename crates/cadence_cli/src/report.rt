@@ -2,8 +2,8 @@
 ghost use Rattle.std.specs.Prelude.{◌≡◌, ◌≤◌, IsOkAnd, string_bytes};
 ghost use Rattle.std.specs.Io.KnownBytes.{Appends};
 
-use crate::read_error::ReadError;
 use crate::streams::{BrokenInput, print_all};
+use cadence_errors::InputError;
 use std::alloc::{AllocError, Allocator};
 use std::fmt;
 use std::io::Write;
@@ -25,11 +25,11 @@ impl<E: Drop> From<AllocError> for ReportError<E> {
     }
 }
 
-impl<E: Drop> From<ReadError<BrokenInput>> for ReportError<E> {
-    fn from(error: ReadError<BrokenInput>) -> ReportError<E> {
+impl<E: Drop> From<InputError<BrokenInput>> for ReportError<E> {
+    fn from(error: InputError<BrokenInput>) -> ReportError<E> {
         match error {
-            ReadError::Unreadable(BrokenInput) => ReportError::Input,
-            ReadError::OutOfMemory => ReportError::OutOfMemory,
+            InputError::Unusable(BrokenInput) => ReportError::Input,
+            InputError::OutOfMemory => ReportError::OutOfMemory,
         }
     }
 }

@@ -2,7 +2,7 @@
 ghost use Rattle.std.specs.Prelude.{◌≡◌, IfOk, IfSome, OnOk};
 ghost use Rattle.std.specs.Io.KnownBytes.{Appends, IsAtEnd};
 
-use crate::read_error::ReadError;
+use cadence_errors::InputError;
 use std::alloc::Allocator;
 use std::io;
 use std::io::{Read, Write};
@@ -14,12 +14,12 @@ pub struct BrokenInput;
 /// Returns all bytes that the reader returns up to its end.
 ///
 /// # Errors
-/// `Unreadable` if the reader fails or doesn't end within `u64::MAX` reads, and `OutOfMemory`. The bytes that were read
+/// `Unusable` if the reader fails or doesn't end within `u64::MAX` reads, and `OutOfMemory`. The bytes that were read
 /// before the error are lost.
 pub fn read_all<A: Allocator, I: Read>(
     alloc: A,
     input: &mut I,
-) -> Result<Vec<u8, A>, ReadError<BrokenInput>>
+) -> Result<Vec<u8, A>, InputError<BrokenInput>>
     ensures bytes { IfOk result (λ got. IfSome (I.remaining input.old) (λ left. got.items ≡ left)) }
     ensures end { OnOk result (IsAtEnd (I.remaining input.new)) }
 {
@@ -29,10 +29,10 @@ pub fn read_all<A: Allocator, I: Read>(
         match input.read(&mut buffer) {
             Ok(0) => return Ok(bytes),
             Ok(count) => bytes.extend_from_slice(&buffer[..count])?,
-            Err(_) => return Err(ReadError::Unreadable(BrokenInput)),
+            Err(_) => return Err(InputError::Unusable(BrokenInput)),
         }
     }
-    Err(ReadError::Unreadable(BrokenInput))
+    Err(InputError::Unusable(BrokenInput))
 }
 
 /// Writes the whole text and flushes the writer.

@@ -24,11 +24,11 @@ impl Item for u64 {
 impl Item for Decimal {
     fn read(item: &str) -> Result<Decimal, LineError> {
         let Some((mantissa, places)) = item.split_once('/') else {
-            return Err(LineError::Unreadable(BadLine));
+            return Err(LineError::Unusable(BadLine));
         };
         match Decimal::new(signed_number(mantissa)?, number(places)?) {
             Ok(decimal) => Ok(decimal),
-            Err(_) => Err(LineError::Unreadable(BadLine)),
+            Err(_) => Err(LineError::Unusable(BadLine)),
         }
     }
 }
@@ -37,12 +37,12 @@ impl Item for Decimal {
 impl Item for Duration {
     fn read(item: &str) -> Result<Duration, LineError> {
         let Some((seconds, nanoseconds)) = item.split_once('/') else {
-            return Err(LineError::Unreadable(BadLine));
+            return Err(LineError::Unusable(BadLine));
         };
         let seconds: u64 = number(seconds)?;
         let nanoseconds: u32 = number(nanoseconds)?;
         if nanoseconds > 999_999_999 {
-            return Err(LineError::Unreadable(BadLine));
+            return Err(LineError::Unusable(BadLine));
         }
         Ok(Duration::new(seconds, nanoseconds))
     }
@@ -74,7 +74,7 @@ enum Form<A: Allocator> {
 
 fn form_of<A: Allocator>(alloc: A, word: &str) -> Result<Form<A>, LineError> {
     let Some((letter, items)) = word.split_once(':') else {
-        return Err(LineError::Unreadable(BadLine));
+        return Err(LineError::Unusable(BadLine));
     };
     match letter {
         "i" => Ok(Form::Signed(signed_number(items)?)),
@@ -84,14 +84,14 @@ fn form_of<A: Allocator>(alloc: A, word: &str) -> Result<Form<A>, LineError> {
         "X" => Ok(Form::DecimalList(list_of(alloc, items)?)),
         "t" => Ok(Form::Duration(Item::read(items)?)),
         "T" => Ok(Form::DurationList(list_of(alloc, items)?)),
-        _ => Err(LineError::Unreadable(BadLine)),
+        _ => Err(LineError::Unusable(BadLine)),
     }
 }
 
 fn kind_of(word: &str) -> Result<MetricType, LineError> {
     match MetricType::from_text(word.as_bytes()) {
         Some(kind) => Ok(kind),
-        None => Err(LineError::Unreadable(BadLine)),
+        None => Err(LineError::Unusable(BadLine)),
     }
 }
 
@@ -99,7 +99,7 @@ fn count_of<A: Allocator>(form: Form<A>) -> Result<CallValue<A>, LineError> {
     match form {
         Form::Signed(n) => Ok(CallValue::CountI64(n)),
         Form::Unsigned(n) => Ok(CallValue::CountU64(n)),
-        _ => Err(LineError::Unreadable(BadLine)),
+        _ => Err(LineError::Unusable(BadLine)),
     }
 }
 
@@ -109,7 +109,7 @@ fn time_of<A: Allocator>(form: Form<A>) -> Result<CallValue<A>, LineError> {
         Form::UnsignedList(ns) => Ok(CallValue::TimeVecU64(ns)),
         Form::Duration(d) => Ok(CallValue::TimeDuration(d)),
         Form::DurationList(ds) => Ok(CallValue::TimeVecDuration(ds)),
-        _ => Err(LineError::Unreadable(BadLine)),
+        _ => Err(LineError::Unusable(BadLine)),
     }
 }
 
@@ -117,14 +117,14 @@ fn gauge_of<A: Allocator>(form: Form<A>) -> Result<CallValue<A>, LineError> {
     match form {
         Form::Unsigned(n) => Ok(CallValue::GaugeU64(n)),
         Form::Decimal(d) => Ok(CallValue::GaugeDecimal(d)),
-        _ => Err(LineError::Unreadable(BadLine)),
+        _ => Err(LineError::Unusable(BadLine)),
     }
 }
 
 fn meter_of<A: Allocator>(form: Form<A>) -> Result<CallValue<A>, LineError> {
     match form {
         Form::Unsigned(n) => Ok(CallValue::MeterU64(n)),
-        _ => Err(LineError::Unreadable(BadLine)),
+        _ => Err(LineError::Unusable(BadLine)),
     }
 }
 
@@ -136,14 +136,14 @@ fn histogram_of<A: Allocator>(form: Form<A>) -> Result<CallValue<A>, LineError> 
         Form::DecimalList(ds) => Ok(CallValue::HistogramVecDecimal(ds)),
         Form::Duration(d) => Ok(CallValue::HistogramDuration(d)),
         Form::DurationList(ds) => Ok(CallValue::HistogramVecDuration(ds)),
-        Form::Signed(_) => Err(LineError::Unreadable(BadLine)),
+        Form::Signed(_) => Err(LineError::Unusable(BadLine)),
     }
 }
 
 fn set_of<A: Allocator>(form: Form<A>) -> Result<CallValue<A>, LineError> {
     match form {
         Form::Signed(n) => Ok(CallValue::SetI64(n)),
-        _ => Err(LineError::Unreadable(BadLine)),
+        _ => Err(LineError::Unusable(BadLine)),
     }
 }
 
@@ -153,11 +153,11 @@ fn distribution_of<A: Allocator>(form: Form<A>) -> Result<CallValue<A>, LineErro
         Form::UnsignedList(ns) => Ok(CallValue::DistributionVecU64(ns)),
         Form::Decimal(d) => Ok(CallValue::DistributionDecimal(d)),
         Form::DecimalList(ds) => Ok(CallValue::DistributionVecDecimal(ds)),
-        _ => Err(LineError::Unreadable(BadLine)),
+        _ => Err(LineError::Unusable(BadLine)),
     }
 }
 
-// Returns the call's value. The error is `Unreadable` if the kind doesn't accept values of this form.
+// Returns the call's value. The error is `Unusable` if the kind doesn't accept values of this form.
 fn value_of<A: Allocator>(kind: MetricType, form: Form<A>) -> Result<CallValue<A>, LineError> {
     match kind {
         MetricType::Counter => count_of(form),
@@ -196,14 +196,14 @@ fn option_of<A: Allocator + Clone>(
         "container" => Ok(CallOption::Container(text_of(alloc.clone()?, words.word()?)?)),
         "time" => Ok(CallOption::Time(number(words.word()?)?)),
         "rate" => Ok(CallOption::Rate(Item::read(words.word()?)?)),
-        _ => Err(LineError::Unreadable(BadLine)),
+        _ => Err(LineError::Unusable(BadLine)),
     }
 }
 
 /// Reads a call from its words: the kind, the key, the value and any options.
 ///
 /// # Errors
-/// `Unreadable` if the words don't make a call, and `OutOfMemory`.
+/// `Unusable` if the words don't make a call, and `OutOfMemory`.
 pub fn call_of<A: Allocator + Clone>(
     alloc: &A,
     words: &mut Words<'_>,

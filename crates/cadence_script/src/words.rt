@@ -2,7 +2,7 @@
 ghost use Rattle.std.specs.Prelude.{◌<◌, ◌≤◌, IfOk, IsSome};
 ghost use Rattle.cadence_script.specs.Words.{bytes_left};
 
-use cadence_cli::ReadError;
+use cadence_errors::InputError;
 use std::alloc::Allocator;
 use std::str::FromStr;
 
@@ -11,7 +11,7 @@ use std::str::FromStr;
 pub struct BadLine;
 
 /// Why a line is not read.
-pub type LineError = ReadError<BadLine>;
+pub type LineError = InputError<BadLine>;
 
 /// The words of a line that were not read yet. One space separates two words.
 #[derive(Clone, Copy)]
@@ -28,7 +28,7 @@ impl<'a> Words<'a> {
     /// Returns the next word, or `None` after the last one.
     ///
     /// # Errors
-    /// `Unreadable` if the next word is empty.
+    /// `Unusable` if the next word is empty.
     pub fn next(&mut self) -> Result<Option<&'a str>, LineError>
         ensures fewer { IfOk result (λ word.
             IsSome word → bytes_left self.new < bytes_left self.old) }
@@ -48,7 +48,7 @@ impl<'a> Words<'a> {
             }
         };
         if word.is_empty() {
-            return Err(LineError::Unreadable(BadLine));
+            return Err(LineError::Unusable(BadLine));
         }
         Ok(Some(word))
     }
@@ -56,23 +56,23 @@ impl<'a> Words<'a> {
     /// Returns the next word.
     ///
     /// # Errors
-    /// `Unreadable` if there is no word left, or if the next word is empty.
+    /// `Unusable` if there is no word left, or if the next word is empty.
     pub fn word(&mut self) -> Result<&'a str, LineError>
         ensures { bytes_left self.new ≤ bytes_left self.old }
     {
         match self.next()? {
             Some(word) => Ok(word),
-            None => Err(LineError::Unreadable(BadLine)),
+            None => Err(LineError::Unusable(BadLine)),
         }
     }
 
     /// Checks that no word is left.
     ///
     /// # Errors
-    /// `Unreadable` if a word is left.
+    /// `Unusable` if a word is left.
     pub fn end(&mut self) -> Result<(), LineError> {
         match self.next()? {
-            Some(_) => Err(LineError::Unreadable(BadLine)),
+            Some(_) => Err(LineError::Unusable(BadLine)),
             None => Ok(()),
         }
     }
@@ -82,7 +82,7 @@ impl<'a> Words<'a> {
 /// for no text at all.
 ///
 /// # Errors
-/// `Unreadable` if another character follows a backslash, or if nothing follows it, and `OutOfMemory`.
+/// `Unusable` if another character follows a backslash, or if nothing follows it, and `OutOfMemory`.
 pub fn text_of<A: Allocator>(alloc: A, word: &str) -> Result<String<A>, LineError> {
     let mut text = String::with_capacity(alloc, word.len())?;
     let mut is_escaped = false;
@@ -92,14 +92,14 @@ pub fn text_of<A: Allocator>(alloc: A, word: &str) -> Result<String<A>, LineErro
             (true, 'n') => text.push('\n')?,
             (true, 's') => text.push(' ')?,
             (true, 'e') => {}
-            (true, _) => return Err(LineError::Unreadable(BadLine)),
+            (true, _) => return Err(LineError::Unusable(BadLine)),
             (false, '\\') => {}
             (false, _) => text.push(c)?,
         }
         is_escaped = !is_escaped && c == '\\';
     }
     if is_escaped {
-        return Err(LineError::Unreadable(BadLine));
+        return Err(LineError::Unusable(BadLine));
     }
     Ok(text)
 }
@@ -117,31 +117,31 @@ fn is_number(word: &str) -> bool {
 /// Returns the whole number that a word stands for. The word has no sign and no needless zeros.
 ///
 /// # Errors
-/// `Unreadable` if the word is not such a number, or if the number doesn't fit the type `N`.
+/// `Unusable` if the word is not such a number, or if the number doesn't fit the type `N`.
 pub fn number<N: FromStr<Err: Drop>>(word: &str) -> Result<N, LineError> {
     if !is_number(word) {
-        return Err(LineError::Unreadable(BadLine));
+        return Err(LineError::Unusable(BadLine));
     }
     match word.parse() {
         Ok(n) => Ok(n),
-        Err(_) => Err(LineError::Unreadable(BadLine)),
+        Err(_) => Err(LineError::Unusable(BadLine)),
     }
 }
 
 /// Returns the whole number that a word stands for. A minus may come before a number that is not 0.
 ///
 /// # Errors
-/// `Unreadable` if the word is not such a number, or if the number doesn't fit the type `N`.
+/// `Unusable` if the word is not such a number, or if the number doesn't fit the type `N`.
 pub fn signed_number<N: FromStr<Err: Drop>>(word: &str) -> Result<N, LineError> {
     let is_signed = match word.strip_prefix('-') {
         Some(digits) => is_number(digits) && digits != "0",
         None => is_number(word),
     };
     if !is_signed {
-        return Err(LineError::Unreadable(BadLine));
+        return Err(LineError::Unusable(BadLine));
     }
     match word.parse() {
         Ok(n) => Ok(n),
-        Err(_) => Err(LineError::Unreadable(BadLine)),
+        Err(_) => Err(LineError::Unusable(BadLine)),
     }
 }

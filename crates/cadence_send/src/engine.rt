@@ -84,7 +84,7 @@ fn take_text<L: LineTaker, A: Allocator + Clone>(
             lines.take(buffer)?;
             Ok(None)
         }
-        Err(WordError::Unreadable(part)) => Ok(if is_blank(text) { None } else { Some(part) }),
+        Err(WordError::Unusable(part)) => Ok(if is_blank(text) { None } else { Some(part) }),
         Err(WordError::OutOfMemory) => Err(RunError::OutOfMemory),
     }
 }

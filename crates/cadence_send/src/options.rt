@@ -2,9 +2,8 @@
 ghost use Rattle.std.specs.Prelude.{◌≡◌, IfSome, None, OnOk};
 ghost use Rattle.cadence_send.specs.Target.{IsTarget, SaysDestination, SaysWhere};
 
-use cadence_cli::ReadError;
 use cadence_environment::read_port;
-use cadence_errors::MetricError;
+use cadence_errors::{InputError, MetricError};
 use cadence_flow::io::DEFAULT_CAPACITY;
 use cadence_settings::ClientSettings;
 use cadence_text::line::{OwnedTag, Tag, lend_tag};
@@ -213,15 +212,15 @@ impl<'a, A: Allocator> Options<'a, A> {
     /// Sets an option to its value. A tag is added to those before it.
     ///
     /// # Errors
-    /// `Unreadable` if the option can't have this value, and `OutOfMemory`.
+    /// `Unusable` if the option can't have this value, and `OutOfMemory`.
     pub fn set(
         &mut self,
         setting: Setting,
         value: &'a str,
-    ) -> Result<(), ReadError<OptionError<'a>>>
+    ) -> Result<(), InputError<OptionError<'a>>>
         ensures { SaysWhere self.old → OnOk result (SaysWhere self.new) }
     {
-        let refused = ReadError::Unreadable(OptionError { setting, value });
+        let refused = InputError::Unusable(OptionError { setting, value });
         match setting {
             Setting::To => match read_destination(value) {
                 Some(place) => self.to = Some(place),

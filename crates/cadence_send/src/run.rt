@@ -41,7 +41,7 @@ pub fn send_words<T: PacketWriter, A: Allocator + Clone>(
             lines.send()?;
             Ok(None)
         }
-        Err(WordError::Unreadable(part)) => Ok(Some(part)),
+        Err(WordError::Unusable(part)) => Ok(Some(part)),
         Err(WordError::OutOfMemory) => Err(RunError::OutOfMemory),
     }
 }

@@ -13,9 +13,9 @@ use Rattle.cadence_words.specs.Asked.{AddsTags, AreHead, IsNumberWord, IsPlainWo
 use Rattle.cadence_words.specs.Duration.{IsDurationWord}
 use Rattle.cadence_value.specs.Finds.{Finds}
 use Rattle.cadence_words.specs.Finds.{FailsAsWord, FindsOrFails}
-use Rattle.cadence_cli.specs.declared.read_error.ReadError.{ReadError}
+use Rattle.cadence_errors.specs.declared.input_error.InputError.{InputError}
 use Rattle.cadence_words.specs.declared.word_error.Part.{Part}
-use Rattle.cadence_cli.specs.declared.read_error.ReadError.TheVariants.{Unreadable, OutOfMemory}
+use Rattle.cadence_errors.specs.declared.input_error.InputError.TheVariants.{Unusable, OutOfMemory}
 use Rattle.cadence_words.specs.Lines.{IsLineOfText, IsLineOfWords, asked_metric, with_rate_and_time}
 use Rattle.cadence_text.specs.Draft.{Draft, draft_of}
 use Rattle.cadence_text.specs.Line.{line_of}
@@ -69,9 +69,9 @@ three_words (w1 ∷ w2 ∷ []) k n v long = absurd (omega (arith, long))
 three_words (w1 ∷ w2 ∷ w3 ∷ ws) k n v long = ap (λ others. w1.now ∷ w2.now ∷ w3.now ∷ texts others) (sym (rest_is (w1 ∷ w2 ∷ w3 ∷ ws)))
 
 -- If each value with the property has a part, and there is no such part, then no value has the property.
-pub hands_on : {C X Y W : Type 0} (Has : X → Type 0) (view : C → X) (HasPart : Y → Type 0) (r : Result C (ReadError W)) (error : ReadError W)
+pub hands_on : {C X Y W : Type 0} (Has : X → Type 0) (view : C → X) (HasPart : Y → Type 0) (r : Result C (InputError W)) (error : InputError W)
     → r ≡ Err error → ((x : X) → Has x → (y : Y) × HasPart y) → FailsAsWord HasPart error → FindsOrFails Has view r
-hands_on Has view HasPart r (Unreadable why) is from none = rw is (λ x h. let p = from x h in none p.0 p.1)
+hands_on Has view HasPart r (Unusable why) is from none = rw is (λ x h. let p = from x h in none p.0 p.1)
 hands_on Has view HasPart r OutOfMemory is from none = rw is tt
 
 -- A word without a comma is one item.
@@ -152,10 +152,10 @@ tag_of_word (w ∷ front) rest word [] h = absurd h
 tag_of_word (w ∷ front) rest word (t ∷ tags) h = tag_of_word front rest word tags h.1
 
 -- If one of the words is no tag, then the words are not all tags.
-pub tags_fail : (words : List (List ℕ)) (word : List ℕ) (old new : Draft) (r : Result (Unit {0}) (ReadError Part)) (fault : ReadError Part)
+pub tags_fail : (words : List (List ℕ)) (word : List ℕ) (old new : Draft) (r : Result (Unit {0}) (InputError Part)) (fault : InputError Part)
     → r ≡ Err fault → ((tags : List Tag) → AllZip IsTagWord words tags → (tag : Tag) × IsTagWord word tag) → FailsAsWord (IsTagWord word) fault
     → AddsTags words old new r
-tags_fail words word old new r (Unreadable part) is from none = rw is (λ tags h. let p = from tags h in none p.0 p.1)
+tags_fail words word old new r (Unusable part) is from none = rw is (λ tags h. let p = from tags h in none p.0 p.1)
 tags_fail words word old new r OutOfMemory is from none = rw is tt
 
 -- The draft of a metric became the draft of the metric with these tags after its own.
@@ -202,8 +202,8 @@ pub no_word : {Z : Type 0} (d : Defaults Z) (words : List (List ℕ)) → words 
 no_word d words are line h = (subst (λ ws. IsLineOfWords d ws line) are h).1
 
 -- A text in UTF-8 asks for the metric for which its words ask.
-pub text_read : {Z C : Type 0} (d : Defaults Z) (view : C → List ℕ) (text : List ℕ) (r : Result C (ReadError Part)) → IsUtf8 text
+pub text_read : {Z C : Type 0} (d : Defaults Z) (view : C → List ℕ) (text : List ℕ) (r : Result C (InputError Part)) → IsUtf8 text
     → FindsOrFails (IsLineOfWords d (words_of text)) view r → FindsOrFails (IsLineOfText d text) view r
 text_read d view text (Ok c) utf8 h = (utf8, h)
-text_read d view text (Err (Unreadable part)) utf8 h = λ line l. h line l.1
+text_read d view text (Err (Unusable part)) utf8 h = λ line l. h line l.1
 text_read d view text (Err OutOfMemory) utf8 h = tt

@@ -10,7 +10,7 @@ use Rattle.cadence_text.specs.Line.{kind_text, tag_text}
 use Rattle.cadence_text.specs.Metric.{Metric, Tag, with_tag}
 use Rattle.cadence_text.specs.OneReading.{IsFreeTag, IsFreeText}
 use Rattle.cadence_words.specs.Finds.{FailsAsWord}
-use Rattle.cadence_cli.specs.declared.read_error.ReadError.{ReadError}
+use Rattle.cadence_errors.specs.declared.input_error.InputError.{InputError}
 use Rattle.cadence_words.specs.declared.word_error.Part.{Part}
 use Rattle.cadence_words.specs.Duration.{IsDurationWord}
 use Rattle.cadence_words.specs.Printed.{SaysNumber}
@@ -121,13 +121,13 @@ AskFor (kind ∷ name ∷ value ∷ tags) asked =
 
 -- If the result is Ok, the draft of a metric became the draft of the metric with the word's tag. If it is an error, it
 -- is one that `FailsAsWord` allows.
-abbrev pub AddsTag : List ℕ → Draft → Draft → Result (Unit {0}) (ReadError Part) → Type 0
+abbrev pub AddsTag : List ℕ → Draft → Draft → Result (Unit {0}) (InputError Part) → Type 0
 AddsTag word old new (Ok done) = (tag : Tag) × IsTagWord word tag × ((m : Metric) → old ≡ draft_of m → new ≡ draft_of (with_tag m tag))
 AddsTag word old new (Err fault) = FailsAsWord (IsTagWord word) fault
 
 -- If the result is Ok, the draft of a metric became the draft of the metric with the words' tags. If it is an error, it
 -- is one that `FailsAsWord` allows.
-abbrev pub AddsTags : List (List ℕ) → Draft → Draft → Result (Unit {0}) (ReadError Part) → Type 0
+abbrev pub AddsTags : List (List ℕ) → Draft → Draft → Result (Unit {0}) (InputError Part) → Type 0
 AddsTags words old new (Ok done) =
     (tags : List Tag) × AllZip IsTagWord words tags × ((m : Metric) → old ≡ draft_of m → new ≡ draft_of (record m { tags = m.tags ++ tags }))
 AddsTags words old new (Err fault) = FailsAsWord (AllZip IsTagWord words) fault

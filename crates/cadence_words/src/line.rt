@@ -30,10 +30,10 @@ fn read_head<A: Allocator + Clone>(
         AreHead kind.now name.now value.now h.0 h.1) head_of result }
 {
     let Some(kind) = read_kind(kind) else {
-        return Err(WordError::Unreadable(Part::Kind));
+        return Err(WordError::Unusable(Part::Kind));
     };
     if !is_word(name) {
-        return Err(WordError::Unreadable(Part::Name));
+        return Err(WordError::Unusable(Part::Name));
     }
     let value = read_value(alloc, kind, value)?;
     Ok((kind, value))
@@ -44,7 +44,7 @@ fn add_tag<A: Allocator>(draft: &mut DraftLine<'_, A>, word: &str) -> Result<(),
     ensures { AddsTag word.now draft.old draft.new result }
 {
     let Some(tag) = read_tag(word) else {
-        return Err(WordError::Unreadable(Part::Tag));
+        return Err(WordError::Unusable(Part::Tag));
     };
     draft.add_tag(tag)?;
     Ok(())
@@ -155,7 +155,7 @@ fn write_line<A: Allocator + Clone>(
 /// command line adds its defaults. The caller can use one buffer for many lines, and so save memory requests.
 ///
 /// # Errors
-/// `Unreadable` if the words ask for no metric, and `OutOfMemory`. If a tag is unreadable or memory runs out, the
+/// `Unusable` if the words ask for no metric, and `OutOfMemory`. If a tag is unreadable or memory runs out, the
 /// buffer is empty afterwards, and its memory is freed.
 pub fn write_line_of_words<A: Allocator + Clone>(
     alloc: &A,
@@ -167,7 +167,7 @@ pub fn write_line_of_words<A: Allocator + Clone>(
         (λ _. buffer.new.items) result }
 {
     let [kind, name, value, tags @ ..] = words else {
-        return Err(WordError::Unreadable(Part::Words));
+        return Err(WordError::Unusable(Part::Words));
     };
     write_line(
         alloc,
@@ -191,13 +191,13 @@ fn write_line_of_str<A: Allocator + Clone>(
         (λ _. buffer.new.items) result }
 {
     let Some((kind, after_kind)) = split_word(text) else {
-        return Err(WordError::Unreadable(Part::Words));
+        return Err(WordError::Unusable(Part::Words));
     };
     let Some((name, after_name)) = split_word(after_kind) else {
-        return Err(WordError::Unreadable(Part::Words));
+        return Err(WordError::Unusable(Part::Words));
     };
     let Some((value, tags)) = split_word(after_name) else {
-        return Err(WordError::Unreadable(Part::Words));
+        return Err(WordError::Unusable(Part::Words));
     };
     write_line(alloc, defaults, buffer, kind, name, value, Tags::Text(tags))
 }
@@ -206,7 +206,7 @@ fn write_line_of_str<A: Allocator + Clone>(
 /// separated by spaces, and the command line adds its defaults.
 ///
 /// # Errors
-/// `Unreadable` if the text asks for no metric, and `OutOfMemory`. If a tag is unreadable or memory runs out, the
+/// `Unusable` if the text asks for no metric, and `OutOfMemory`. If a tag is unreadable or memory runs out, the
 /// buffer is empty afterwards, and its memory is freed.
 pub fn write_line_of_text<A: Allocator + Clone>(
     alloc: &A,
@@ -217,7 +217,7 @@ pub fn write_line_of_text<A: Allocator + Clone>(
     ensures { FindsOrFails (IsLineOfText defaults.now text.now) (λ _. buffer.new.items) result }
 {
     let Some(text) = utf8_text(text) else {
-        return Err(WordError::Unreadable(Part::Text));
+        return Err(WordError::Unusable(Part::Text));
     };
     write_line_of_str(alloc, defaults, buffer, text)
 }

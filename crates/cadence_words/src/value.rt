@@ -72,7 +72,7 @@ fn read_items<A: Allocator>(
     let mut numbers = Vec::with_capacity(alloc, words.len())?;
     for word in words {
         let Some(number) = read_item(kind, word) else {
-            return Err(WordError::Unreadable(Part::Value(kind)));
+            return Err(WordError::Unusable(Part::Value(kind)));
         };
         numbers.push(number)?;
     }
@@ -110,12 +110,12 @@ pub(crate) fn read_value<A: Allocator + Clone>(
     if is_single(word) {
         return match read_item(kind, word) {
             Some(number) => Ok(single_value(number)),
-            None => Err(WordError::Unreadable(Part::Value(kind))),
+            None => Err(WordError::Unusable(Part::Value(kind))),
         };
     }
     let items = split_items(alloc.clone()?, word)?;
     if items.len() != 1 && !allows_several(kind) {
-        return Err(WordError::Unreadable(Part::Value(kind)));
+        return Err(WordError::Unusable(Part::Value(kind)));
     }
     let numbers = read_items(alloc.clone()?, kind, &items)?;
     Ok(MetricValue::PackedDecimal(numbers))

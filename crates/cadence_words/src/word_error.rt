@@ -1,5 +1,5 @@
 //! Why words can't be read.
-use cadence_cli::ReadError;
+use cadence_errors::InputError;
 use cadence_text::line::MetricType;
 use std::fmt;
 
@@ -56,4 +56,4 @@ impl fmt::Display for Part {
 }
 
 /// Why words are not read: a part of them is unreadable, or memory ran out.
-pub type WordError = ReadError<Part>;
+pub type WordError = InputError<Part>;

@@ -1,5 +1,5 @@
 //! The words of the command line: the options, which may stand before and after the other words.
-use cadence_cli::ReadError;
+use cadence_errors::InputError;
 use cadence_send::{OptionError, Options, Setting};
 use clap::{Arg, ArgAction, ArgMatches, Command, Error};
 use std::alloc::{AllocError, AllocFailed, Global};
@@ -163,11 +163,11 @@ impl<T: Drop> From<AllocFailed<T>> for ArgumentError<'_> {
     }
 }
 
-impl<'a> From<ReadError<OptionError<'a>>> for ArgumentError<'a> {
-    fn from(error: ReadError<OptionError<'a>>) -> Self {
+impl<'a> From<InputError<OptionError<'a>>> for ArgumentError<'a> {
+    fn from(error: InputError<OptionError<'a>>) -> Self {
         match error {
-            ReadError::Unreadable(why) => ArgumentError::Value(why),
-            ReadError::OutOfMemory => ArgumentError::OutOfMemory,
+            InputError::Unusable(why) => ArgumentError::Value(why),
+            InputError::OutOfMemory => ArgumentError::OutOfMemory,
         }
     }
 }
@@ -195,7 +195,7 @@ fn unguarded(word: &str) -> &str {
 fn set_options<'a>(
     options: &mut Options<'a, Global>,
     matches: &ArgMatches<'a>,
-) -> Result<(), ReadError<OptionError<'a>>> {
+) -> Result<(), InputError<OptionError<'a>>> {
     for setting in Setting::ALL {
         let Some(values) = matches.get_strs(setting.name()) else {
             continue;

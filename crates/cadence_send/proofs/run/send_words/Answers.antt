@@ -24,5 +24,5 @@ returns-in-Ok g c =
       c.in_ok-send-in-Ok.ensures.sent,
     )
 
-pub returns-in-Err-Unreadable : goal.returns-in-Err-Unreadable
-returns-in-Err-Unreadable g c = (inl (search rules), refl)
+pub returns-in-Err-Unusable : goal.returns-in-Err-Unusable
+returns-in-Err-Unusable g c = (inl (search rules), refl)
