@@ -1,6 +1,6 @@
 -- The zeros at the end of digits are a factor of the number that they say.
 use Rattle.std.proofs.Common.{◌≡◌, ◌≢◌, ℕ, zero, suc, ◌+◌, ◌-◌, ◌*◌, ◌%◌, ◌^◌, ◌<◌, ◌≤◌, Bool, ℤ, List, [], ◌∷◌, ◌++◌, length, replicate, take}
-use Rattle.std.proofs.Common.{get_or, refl, sym, ap, ap₂, ◌∙◌, subst, lit<, arith, Option, Some, None}
+use Rattle.std.proofs.Common.{get_or, refl, sym, ap, ap₂, ◌∙◌, subst, arith, Option, Some, None}
 use Rattle.std.specs.Char.{digit_value}
 use Rattle.std.specs.Str.Parse.{AllDigits, digits_value, digits_value_after}
 use Rattle.std.proofs.lemmas.Int.Digits.{digits_value_more}
@@ -8,7 +8,7 @@ use Rattle.std.proofs.lemmas.List.{append-nil, append_assoc, take_all}
 use Rattle.std.proofs.lemmas.Nat.{pow-add}
 use Rattle.std.proofs.lemmas.Str.{digit_value_digit}
 use Rattle.std.proofs.lemmas.Str.Parse.{digit_at}
-use Rattle.std.proofs.Math.Nat.{mul_assoc, pow-succ'}
+use Rattle.std.proofs.Math.Nat.{mul_assoc}
 use Rattle.cadence_value.proofs.reading.DigitRuns.{after_append, before_le, digits_join, digits_split, zeros_digits, zeros_value}
 use Rattle.cadence_value.proofs.digits.PowersOfTen.{ten_to_pos}
 use Rattle.cadence_value.specs.Digits.{EndsPlain, signed_integer}

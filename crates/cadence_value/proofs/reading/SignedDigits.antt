@@ -1,6 +1,6 @@
 -- A sign and digits denote one number, and zeros at the end of the places do not change it.
 use Rattle.std.proofs.Common.{◌≡◌, ◌≢◌, ℕ, zero, suc, ◌+◌, ◌-◌, ◌*◌, ◌/◌, ◌%◌, ◌^◌, ◌<◌, ◌≤◌, ℤ, pos, negsuc, ◌*ℤ◌, List, [], ◌∷◌, ◌++◌}
-use Rattle.std.proofs.Common.{length, replicate, take, refl, sym, ap, ◌∙◌, ap₂, subst, arith, get_or, unsigned_abs, lit<, Bool, true, false}
+use Rattle.std.proofs.Common.{length, replicate, take, refl, sym, ap, ◌∙◌, ap₂, subst, arith, get_or, unsigned_abs, Bool, true, false}
 use Rattle.std.proofs.Common.{not, ◌||◌, eqb, Result, Ok, Err, ◌⊎◌, inl, inr}
 use Rattle.std.specs.Prelude.{All, FitsSigned, None, codes, if◌then◌else◌}
 use Rattle.std.specs.Result.{result_ok}
