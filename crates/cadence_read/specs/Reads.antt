@@ -30,7 +30,8 @@ abbrev pub ReadsOrFails : {C X Y : Type 0} → (X → Type 0) → (X → Y) → 
 ReadsOrFails Good shown y view (Ok c) = PrintsAs Good shown y (view c)
 ReadsOrFails Good shown y view (Err e) = FailsAs Good shown y e
 
--- The readers. Each returns what its comment says, or that the text is unusable if there is no such value, or that memory ran out.
+-- The readers. Each returns what its comment says. If there is no such value, it returns that the text is unusable, and
+-- if memory ran out, it says so.
 
 -- A text that is in UTF-8 and has no separators: the text itself.
 abbrev pub ReadsText : {Z : Type 0} → List ℕ → Result (String Z) Fault → Type 0

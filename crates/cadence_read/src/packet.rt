@@ -93,7 +93,8 @@ pub fn read_packet<A: Allocator + Clone>(
 /// Reads the metrics of the packets of a run, and then the metrics of the held text, into one list.
 ///
 /// # Errors
-/// `Unusable(NotMetrics)` if no list of metrics has one of the packets, or the held text, as its packet, and `OutOfMemory`.
+/// `Unusable(NotMetrics)` if no list of metrics has one of the packets, or the held text, as its packet, and
+/// `OutOfMemory`.
 pub fn read_run<A: Allocator + Clone>(
     alloc: A,
     packets: &[Vec<u8, A>],
