@@ -153,7 +153,7 @@ impl<A: Allocator + Clone> Script<A> {
             "policy" => self.policy = policy_of(words.word()?)?,
             "aggregate" => self.aggregate = Some(contexts_of(words.word()?)?),
             "writer" => self.read_answers(words)?,
-            _ => return Err(LineError::Unreadable(BadLine)),
+            _ => return Err(LineError::Unusable(BadLine)),
         }
         Ok(())
     }
@@ -177,7 +177,7 @@ impl<A: Allocator + Clone> Script<A> {
         match self.step_of(name, &mut words)? {
             Some(step) => self.steps.push(step)?,
             None if self.steps.is_empty() => self.read_setting(name, &mut words)?,
-            None => return Err(LineError::Unreadable(BadLine)),
+            None => return Err(LineError::Unusable(BadLine)),
         }
         words.end()
     }
@@ -188,7 +188,7 @@ fn policy_of(word: &str) -> Result<QueuePolicy, LineError> {
     match word {
         "refuse" => Ok(QueuePolicy::Refuse),
         "drop" => Ok(QueuePolicy::DropOldest),
-        _ => Err(LineError::Unreadable(BadLine)),
+        _ => Err(LineError::Unusable(BadLine)),
     }
 }
 
@@ -196,7 +196,7 @@ fn policy_of(word: &str) -> Result<QueuePolicy, LineError> {
 fn contexts_of(word: &str) -> Result<NonZeroUsize, LineError> {
     match NonZeroUsize::new(number(word)?) {
         Some(contexts) => Ok(contexts),
-        None => Err(LineError::Unreadable(BadLine)),
+        None => Err(LineError::Unusable(BadLine)),
     }
 }
 
@@ -207,7 +207,7 @@ fn answer_of(word: &str) -> Result<Answer, LineError> {
         "refuse" => Ok(Answer::Refuse),
         _ => match word.strip_prefix("short:") {
             Some(count) => Ok(Answer::Short(number(count)?)),
-            None => Err(LineError::Unreadable(BadLine)),
+            None => Err(LineError::Unusable(BadLine)),
         },
     }
 }
@@ -227,7 +227,7 @@ pub fn read_script<A: Allocator + Clone>(
         }
         match script.read_line(line) {
             Ok(()) => {}
-            Err(LineError::Unreadable(BadLine)) => {
+            Err(LineError::Unusable(BadLine)) => {
                 let number = index.saturating_add(1);
                 return Err(ReportError::Unusable(ScriptError::Line(number)));
             }
