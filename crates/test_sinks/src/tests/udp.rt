@@ -84,14 +84,6 @@ fn make_counter(alloc: Global) -> Result<Arc<AtomicU64>, AllocError> {
     Ok(zero)
 }
 
-// Makes a handler that counts its calls.
-fn counting_handler(alloc: Global, calls: Arc<AtomicU64>) -> Result<SinkErrorHandler, AllocError> {
-    let handler: SinkErrorHandler = Box::new(alloc, move |_| {
-        calls.fetch_add(1, Ordering::SeqCst);
-    })?;
-    Ok(handler)
-}
-
 // Builds a sink that looks its server up every millisecond, with memory from `heap`. Its handler counts its calls.
 fn build_unbuffered<R: ResolverRuntime>(
     rt: &R,
@@ -101,9 +93,12 @@ fn build_unbuffered<R: ResolverRuntime>(
     calls: Arc<AtomicU64>,
 ) -> MetricResult<UdpMetricSink<R, RefusingAllocator<Global>>> {
     let (mine, socket) = (rt.clone()?, bind_to_loopback(rt)?);
+    let handler: SinkErrorHandler = Box::new(alloc, move |_| {
+        calls.fetch_add(1, Ordering::SeqCst);
+    })?;
     let builder = UdpMetricSinkBuilder::new()
         .with_resolver_period(Duration::from_millis(1))
-        .with_resolver_error_handler(counting_handler(alloc, calls)?);
+        .with_resolver_error_handler(handler);
     builder.build(mine, heap, Target::Addr(server), socket)
 }
 
@@ -117,10 +112,13 @@ fn build_buffered<R: ResolverRuntime>(
     calls: Arc<AtomicU64>,
 ) -> MetricResult<BufferedUdpMetricSink<R, RefusingAllocator<Global>>> {
     let (mine, socket) = (rt.clone()?, bind_to_loopback(rt)?);
+    let handler: SinkErrorHandler = Box::new(alloc, move |_| {
+        calls.fetch_add(1, Ordering::SeqCst);
+    })?;
     let builder = BufferedUdpMetricSinkBuilder::new()
         .with_capacity(16)
         .with_resolver_period(Duration::from_millis(1))
-        .with_resolver_error_handler(counting_handler(alloc, calls)?);
+        .with_resolver_error_handler(handler);
     builder.build(mine, heap, Target::Addr(server), socket)
 }
 
