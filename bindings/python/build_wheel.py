@@ -71,9 +71,8 @@ def tag_of(module):
 def licences():
     """Yields the name and the bytes of each text of a licence, which are in the archive."""
     archive = HERE.parent.parent
-    for path in [archive / "LICENSE", archive / "LICENSE-APACHE", *sorted((archive / "licenses").glob("*/*"))]:
-        if path.exists():
-            yield str(path.relative_to(archive)), path.read_bytes()
+    for path in [*sorted(archive.glob("LICENSE*")), *sorted((archive / "licenses").glob("*/*"))]:
+        yield str(path.relative_to(archive)), path.read_bytes()
 
 
 def files(module, tag):
