@@ -10,7 +10,7 @@ pub struct Coin {
     /// in cents, as https://mint.example/values says
     pub value: u32,
     pub ghost past: {List},
-    pub (crate) weight: u32,
+    pub(crate) weight: u32,
     hidden: u8,
 }
 
@@ -110,7 +110,7 @@ impl<T: Into<Vec<u8>>> Price<T> {
 PAGE = '''
 ## `shop`
 
-- **`Coin`**: A coin. Has `value`, `weight`, `new`, `melt`.
+- **`Coin`**: A coin. Has `value`, `new`, `melt`.
 - **`Face`**: A side of a coin, as `Coin` has two. Has `Head`, `Tail`.
 - **`MOST`**: How many coins a purse has at most.
 - **`Price`**: What a thing costs. Has `amount`, `of`.

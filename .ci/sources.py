@@ -106,11 +106,8 @@ def blocks(text):
 def subject(head):
     """Returns the type of an `impl` that is of no trait, or the name of a trait."""
     head = head.removeprefix('pub trait ').removeprefix('impl').strip()
-    depth = 0
-    for at, sign in enumerate(head):
-        depth += (sign == '<') - (sign == '>' and head[at - 1] != '-')
-        if head.startswith(' for ', at) and not depth:
-            return None
+    if ' for ' in head:
+        return None
     while head.startswith('<'):
         depth = 0
         for at, sign in enumerate(head):
@@ -151,5 +148,5 @@ def parts_of(item):
     """Returns the public fields of a struct, or the variants of an enum."""
     kind = item[0]
     lines = without_comments('\n'.join(body_of(item)[1])).splitlines()
-    pattern = {'struct': r'    pub (?!ghost )(?:\(\w+\) )?(\w+):', 'enum': r'    ([A-Z]\w*)'}.get(kind, r'(?!)')
+    pattern = {'struct': r'    pub (\w+):', 'enum': r'    ([A-Z]\w*)'}.get(kind, r'(?!)')
     return [match[1] for match in (re.match(pattern, line) for line in lines) if match]
