@@ -54,6 +54,8 @@ def send_until_full(command, server, wanted):
     status, output, errors = result_of([*command, '--capacity', '1', '--drop'], b'c a 1\n' * 10000)
     lost = re.search(rb'statsd_send: (\d+) of 10000 packets were lost, with (\d+) lines\n\Z', errors)
     yield 'a server that does not read', (status, output, errors.count(b'\n'), bool(lost)), (1, b'', 2, True)
+    if not lost:
+        return
     yield 'one metric to it', result_of([*command, *ONE], b''), (1, b'', wanted)
     server.settimeout(0)
     waiting = list(iter(lambda: next_datagram(server), b'no datagram'))
