@@ -1,5 +1,5 @@
 """The crates of this repository as crates.txt lists them, and which test crates test each of them."""
-import os
+import glob, os
 
 HOME = os.path.dirname(os.path.dirname(os.path.abspath(__file__)))
 TESTS = ('test_', 'example_')  # the name of a test crate begins so
@@ -45,3 +45,20 @@ def tests_above(name):
     while more := set(users_of(more)) - above:
         above |= more
     return [crate for crate in uses() if crate in above and is_test(crate)]
+
+
+def has_tests(crate):
+    for path in glob.glob(f'{HOME}/crates/{crate}/src/**/*.rt', recursive=True):
+        with open(path, 'rb') as file:
+            if b'#[test]' in file.read():
+                return True
+    return False
+
+
+def has_program(crate):
+    return os.path.exists(f'{HOME}/crates/{crate}/src/main.rt')
+
+
+def is_tested(name):
+    """Returns whether a test or a program in Rattle runs a crate. The tests of the bindings run others."""
+    return has_tests(name) or has_program(name) or bool(tests_of(name)[0])
