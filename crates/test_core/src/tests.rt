@@ -4,15 +4,14 @@
 //! - `decimal`, `value`: numbers and values, and their texts.
 //! - `line`: records of metrics. `draft`: lines that are made in a buffer.
 //! - `io`: packers of lines and their writers.
-//! - `queue`: the core of a queue, the shared queue, and the end mark of its worker.
-//! - `give_way`: how long a worker waits for the lock beside a caller.
+//! - `queue`: the shared queue, and the end mark of its worker.
+//! - `give_way`: that a caller gives way to the worker at a full queue.
 //! - `taker`: the taker of a shared queue. `taker_memory`: the memory of texts that it gives back.
 //! - `stats`: counts that clones share.
 //! - `record_sizes`: the records that only proofs read take no memory.
-//! - `audited`: the audited queue. `audited_callers`: callers of one in threads.
+//! - `audited`: the audited queue.
 
 mod audited;
-mod audited_callers;
 mod decimal;
 mod draft;
 mod error;

@@ -1,90 +1,46 @@
-//! The audited queue: its history, what it does with seats of other queues, each request for memory refused in turn,
-//! and callers in threads. A contract says what a history agrees with. The tests show that it is the history of these
-//! calls.
-use super::audited_callers::runs_callers_in_threads;
-use cadence_audit::{AuditError, AuditedQueue, EndFault, Event, History, Seat, SubmitReply};
+//! The audited queue: its history, a seat of another queue, each request for memory refused in turn, and callers in
+//! threads. A contract says what a history agrees with. The tests show that it is the history of these calls.
+use cadence_audit::{AuditError, AuditedQueue, Event, Seat, SubmitReply};
 use cadence_queue::Taken;
 use std::alloc::{AllocError, Global};
 use std::sync::Wait;
 use std::sync::atomic::{AtomicU64, Ordering};
 use std::test::Fail;
+use std::thread::{self, Threads};
 use test_tools::{RefusingAllocator, each_refused};
 
 fn new_text(alloc: Global, characters: &str) -> Result<String, Fail> {
     Ok(String::from_str(alloc, characters)?)
 }
 
-// Submits a text, and asserts that the queue replies with `wanted`.
-fn assert_submit<R: Wait>(
+// Submits a text, and returns whether the queue replies with `wanted`.
+fn replies<R: Wait>(
     rt: &R,
     queue: &AuditedQueue,
     seat: &mut Seat,
     text: String,
     wanted: SubmitReply,
-) -> Result<(), Fail> {
-    match queue.submit(rt, seat, text) {
-        Ok(reply) if reply == wanted => Ok(()),
-        _ => Err(Fail::new("another reply")),
-    }
+) -> bool {
+    matches!(queue.submit(rt, seat, text), Ok(reply) if reply == wanted)
 }
 
-// Takes a text, and asserts that it is `wanted`.
-fn assert_take<R: Wait>(
+// Makes each kind of call of a queue with room for one text. Returns whether submits get each of their replies, and a
+// take gets the text.
+fn makes_each_call<R: Wait>(
     rt: &R,
     queue: &AuditedQueue,
-    seat: &mut Seat,
-    wanted: &str,
-) -> Result<(), Fail> {
-    match queue.take(rt, seat) {
-        Ok(Taken::Text(text)) if text.as_str() == wanted => Ok(()),
-        _ => Err(Fail::new("another text")),
-    }
-}
-
-// Makes each kind of call, and asserts that submits get each of their replies.
-fn make_each_call<R: Wait>(
-    rt: &R,
-    alloc: Global,
-    queue: &AuditedQueue,
-    zero: &mut Seat,
-    one: &mut Seat,
-) -> Result<(), Fail> {
-    assert_submit(
-        rt,
-        queue,
-        zero,
-        new_text(alloc, "a")?,
-        SubmitReply::Accepted,
-    )?;
-    assert_submit(rt, queue, one, new_text(alloc, "b")?, SubmitReply::Full)?;
-    assert_take(rt, queue, one, "a")?;
-    if queue.stop(rt, zero).is_err() {
-        return Err(Fail::new("not stopped"));
-    }
-    assert_submit(rt, queue, one, new_text(alloc, "c")?, SubmitReply::Stopped)
-}
-
-// A queue of capacity 1 and its two seats, after `make_each_call`.
-#[derive(Drop)]
-struct Used {
-    queue: AuditedQueue,
-    zero: Seat,
-    one: Seat,
-}
-
-fn make_used_queue<R: Wait>(rt: &R, alloc: Global) -> Result<Used, Fail> {
-    let (queue, mut seats) = AuditedQueue::new(alloc, Some(1), 2)?;
-    let mut one = seats.pop().ok_or("no seat")?;
-    let mut zero = seats.pop().ok_or("no seat")?;
-    make_each_call(rt, alloc, &queue, &mut zero, &mut one)?;
-    Ok(Used { queue, zero, one })
-}
-
-// Returns the history of a used queue.
-fn history_of<R: Wait>(rt: &R, alloc: Global) -> Result<History, Fail> {
-    let Used { queue, zero, one } = make_used_queue(rt, alloc)?;
-    let history = queue.end(vec![in alloc; zero, one]?);
-    Ok(history.ok().ok_or("differs")?)
+    (zero, one): (&mut Seat, &mut Seat),
+    [a, b, c]: [String; 3],
+) -> bool {
+    let is_accepted = replies(rt, queue, zero, a, SubmitReply::Accepted);
+    let is_full = replies(rt, queue, one, b, SubmitReply::Full);
+    let is_taken = matches!(queue.take(rt, one), Ok(Taken::Text(text)) if text.as_str() == "a");
+    let is_stopped = queue.stop(rt, zero).is_ok();
+    is_accepted
+        && is_full
+        && is_taken
+        && is_stopped
+        && replies(rt, queue, one, c, SubmitReply::Stopped)
 }
 
 // Returns whether the event has this seat and this count, and is equal to its copy.
@@ -92,245 +48,194 @@ fn is_event_of(event: &Event, place: (usize, usize)) -> Result<bool, AllocError>
     Ok((event.seat, event.count) == place && event.clone()? == *event)
 }
 
+// The seats in the order of the calls, each with how many calls it made before.
+const PLACES: [(usize, usize); 5] = [(0, 0), (1, 0), (1, 1), (0, 1), (1, 2)];
+
 #[test]
 fn events_are_in_the_order_of_the_calls(rt: HostRuntime) -> Result<(), Fail> {
-    let history = history_of(&rt, rt.alloc())?;
-    // the seats in the order of the calls, each with how many calls it made before
-    let wanted = [(0, 0), (1, 0), (1, 1), (0, 1), (1, 2)];
-    assert!(rt; history.events().len() == wanted.len());
-    for (event, place) in history.events().iter().zip(wanted) {
+    let (queue, mut seats) = AuditedQueue::new(rt.alloc(), Some(1), 2)?;
+    let (mut one, mut zero) = (seats.pop().ok_or("no seat")?, seats.pop().ok_or("no seat")?);
+    let texts = [
+        new_text(rt.alloc(), "a")?,
+        new_text(rt.alloc(), "b")?,
+        new_text(rt.alloc(), "c")?,
+    ];
+    assert!(rt; makes_each_call(&rt, &queue, (&mut zero, &mut one), texts));
+    let history = queue
+        .end(vec![in rt.alloc(); zero, one]?)
+        .ok()
+        .ok_or("differs")?;
+    assert!(rt; history.events().len() == PLACES.len() && !history.agrees(&[]));
+    for (event, place) in history.events().iter().zip(PLACES) {
         assert!(rt; is_event_of(event, place)?);
     }
-    assert!(rt; !history.agrees(&[]));
     Ok(())
-}
-
-#[test]
-fn a_seat_left_out_is_missed(rt: HostRuntime) -> Result<(), Fail> {
-    let Used { queue, zero, one } = make_used_queue(&rt, rt.alloc())?;
-    assert!(rt; one.number() == 1 && one.receipts().len() == 3);
-    let seats = vec![in rt.alloc(); zero]?;
-    assert!(rt; matches!(queue.end(seats), Err(EndFault::SeatsMissing)));
-    Ok(())
-}
-
-// Returns the last seat of another queue, which has this many seats.
-fn seat_of_another(alloc: Global, seats: usize) -> Result<Seat, Fail> {
-    let (_other, mut seats) = AuditedQueue::new(alloc, None, seats)?;
-    Ok(seats.pop().ok_or("no seat")?)
-}
-
-// Returns whether the queue refuses a text of this seat, because it knows no such seat, and gives the text back.
-fn refuses_stranger<R: Wait>(
-    rt: &R,
-    alloc: Global,
-    queue: &AuditedQueue,
-    mut seat: Seat,
-) -> Result<bool, Fail> {
-    match queue.submit(rt, &mut seat, new_text(alloc, "x")?) {
-        Err((AuditError::Stranger, back)) => Ok(back.as_str() == "x"),
-        _ => Err(Fail::from("accepted")),
-    }
 }
 
 #[test]
 fn a_seat_past_the_last_is_a_stranger(rt: HostRuntime) -> Result<(), Fail> {
-    let two = seat_of_another(rt.alloc(), 3)?;
+    let (_other, mut seats) = AuditedQueue::new(rt.alloc(), None, 3)?;
     let (queue, _mine) = AuditedQueue::new(rt.alloc(), None, 2)?;
-    assert!(rt; refuses_stranger(&rt, rt.alloc(), &queue, two)?);
+    let (mut two, text) = (seats.pop().ok_or("no seat")?, new_text(rt.alloc(), "x")?);
+    assert!(rt;
+        matches!(
+            queue.submit(&rt, &mut two, text),
+            Err((AuditError::Stranger, _))
+        )
+    );
     Ok(())
 }
 
-// Returns whether the queue accepts a text of this seat.
-fn accepts<R: Wait>(
+type Heap = RefusingAllocator<Global>;
+
+type RefusingQueue = AuditedQueue<Heap>;
+
+// A queue with one seat, and a text.
+type Parts = (RefusingQueue, Vec<Seat<Heap>, Heap>, String<Heap>);
+
+// Makes a queue with one seat, and a text. Returns `None` if there is no memory.
+fn make_queue(heap: Heap) -> Option<Parts> {
+    let (queue, seats) = AuditedQueue::new(heap.clone().ok()?, None, 1).ok()?;
+    let text = String::from_str(heap, "a").ok()?;
+    Some((queue, seats, text))
+}
+
+// Submits a text, and once more if memory runs out. Returns whether it ran out.
+fn is_submit_refused<R: Wait>(
+    rt: &R,
+    queue: &RefusingQueue,
+    seat: &mut Seat<Heap>,
+    text: String<Heap>,
+) -> Result<bool, Fail> {
+    let text = match queue.submit(rt, seat, text) {
+        Ok(_) => return Ok(false),
+        Err((AuditError::OutOfMemory, text)) => text,
+        Err(_) => return Err(Fail::new("another error")),
+    };
+    match queue.submit(rt, seat, text) {
+        Ok(_) => Ok(true),
+        Err(_) => Err(Fail::new("refused again")),
+    }
+}
+
+// Takes the text `a`, and once more if memory runs out. Returns whether it ran out.
+fn is_take_refused<R: Wait>(
+    rt: &R,
+    queue: &RefusingQueue,
+    seat: &mut Seat<Heap>,
+) -> Result<bool, Fail> {
+    for is_refused in [false, true] {
+        match queue.take(rt, seat) {
+            Ok(Taken::Text(text)) if text.as_str() == "a" => return Ok(is_refused),
+            Err(AuditError::OutOfMemory) => {}
+            _ => return Err(Fail::new("another text or error")),
+        }
+    }
+    Err(Fail::new("refused again"))
+}
+
+// Stops the queue, and once more if memory runs out. Returns whether it ran out.
+fn is_stop_refused<R: Wait>(
+    rt: &R,
+    queue: &RefusingQueue,
+    seat: &mut Seat<Heap>,
+) -> Result<bool, Fail> {
+    match queue.stop(rt, seat) {
+        Ok(()) => Ok(false),
+        Err(AuditError::OutOfMemory) if queue.stop(rt, seat).is_ok() => Ok(true),
+        Err(_) => Err(Fail::new("another error, or refused again")),
+    }
+}
+
+// Returns whether the heap had all the memory for a stop, or else for a submit and a take. A call that is refused is
+// counted. At the end the history has to agree with the receipts.
+fn has_all_memory<R: Wait>(
+    rt: &R,
+    heap: Heap,
+    refusals: &AtomicU64,
+    is_stop: bool,
+) -> Result<bool, Fail> {
+    let Some((queue, mut seats, text)) = make_queue(heap) else {
+        return Ok(false);
+    };
+    let seat = seats.get_mut(0).ok_or("no seat")?;
+    let is_refused = if is_stop {
+        is_stop_refused(rt, &queue, seat)?
+    } else {
+        let is_submit_refused = is_submit_refused(rt, &queue, seat, text)?;
+        is_take_refused(rt, &queue, seat)? || is_submit_refused
+    };
+    if queue.end(seats).is_err() {
+        return Err(Fail::new("another history"));
+    }
+    refusals.fetch_add(u64::from(is_refused), Ordering::SeqCst);
+    Ok(!is_refused)
+}
+
+#[test]
+fn each_request_of_a_call_may_be_refused(rt: HostRuntime) -> Result<(), Fail> {
+    // A submit makes two copies of the text, and makes room in the queue, in the history and among the receipts. A take
+    // makes a copy at least, and a stop makes room in the history and among the receipts.
+    for (is_stop, least) in [(false, 5 + 1), (true, 2)] {
+        let refusals = AtomicU64::new(0);
+        let granted: Result<Option<u64>, Fail> = each_refused(
+            rt.alloc(),
+            |heap| has_all_memory(&rt, heap, &refusals, is_stop),
+        );
+        assert!(rt; granted?.is_some() && refusals.load(Ordering::SeqCst) >= least);
+    }
+    Ok(())
+}
+
+// How many callers submit texts, and how many each of them. One more caller takes, more often than there are texts.
+const SUBMITTERS: usize = 3;
+
+const TEXTS: u32 = 50;
+
+const TAKES: u32 = 300;
+
+// Makes the calls of the caller with this seat, and returns the seat.
+fn call_all<R: Wait>(
     rt: &R,
     alloc: Global,
     queue: &AuditedQueue,
     mut seat: Seat,
-) -> Result<bool, Fail> {
-    Ok(queue.submit(rt, &mut seat, new_text(alloc, "x")?).is_ok())
+) -> Result<Seat, &'static str> {
+    let is_taker = seat.number() == SUBMITTERS;
+    for number in 0..if is_taker { TAKES } else { TEXTS } {
+        let is_made = if is_taker {
+            queue.take(rt, &mut seat).is_ok()
+        } else {
+            let text = format!(in alloc; "{number}").map_err(|_| "memory")?;
+            queue.submit(rt, &mut seat, text).is_ok()
+        };
+        if !is_made {
+            return Err("refused");
+        }
+    }
+    Ok(seat)
 }
 
-#[test]
-fn a_seat_of_another_queue_shows_at_the_end(rt: HostRuntime) -> Result<(), Fail> {
-    let zero = seat_of_another(rt.alloc(), 1)?;
-    let (queue, mine) = AuditedQueue::new(rt.alloc(), None, 1)?;
-    assert!(rt; accepts(&rt, rt.alloc(), &queue, zero)?);
-    assert!(rt; matches!(queue.end(mine), Err(EndFault::Mismatch)));
-    Ok(())
-}
-
-#[test]
-fn a_queue_without_seats_has_no_events(rt: HostRuntime) -> Result<(), Fail> {
-    let (queue, seats) = AuditedQueue::new(rt.alloc(), Some(0), 0)?;
+// Runs the callers, each in a thread. Returns how many events the history has, if it agrees with the receipts.
+fn events_of_callers<R: Wait + Threads + Sync>(
+    rt: &R,
+    alloc: Global,
+    capacity: Option<usize>,
+) -> Result<usize, Fail> {
+    let (queue, seats) = AuditedQueue::new(alloc, capacity, SUBMITTERS + 1)?;
+    let all = thread::map_vec(rt, seats, &|seat| call_all(rt, alloc, &queue, seat))?;
+    let mut seats = Vec::new(alloc);
+    for seat in all {
+        seats.push(seat?)?;
+    }
     let history = queue.end(seats).ok().ok_or("differs")?;
-    assert!(rt; history.events().is_empty());
-    Ok(())
-}
-
-type RefusingQueue = AuditedQueue<RefusingAllocator<Global>>;
-
-type RefusingSeat = Seat<RefusingAllocator<Global>>;
-
-// Makes a queue with one seat, and a text, over a heap that refuses one request. Returns `None` if it was one of
-// theirs.
-fn make_queue(
-    heap: RefusingAllocator<Global>,
-) -> Option<
-    (
-        RefusingQueue,
-        RefusingSeat,
-        String<RefusingAllocator<Global>>,
-    ),
-> {
-    let (queue, mut seats) = AuditedQueue::new(heap.clone().ok()?, None, 1).ok()?;
-    let seat = seats.pop()?;
-    let text = String::from_str(heap, "a").ok()?;
-    Some((queue, seat, text))
-}
-
-// Returns whether the heap had all the memory for a submit. A refused submit is counted. It has to return the text and
-// to leave no receipt, and the next submit has to succeed.
-fn has_memory_for_a_submit<R: Wait>(
-    rt: &R,
-    heap: RefusingAllocator<Global>,
-    refusals: &AtomicU64,
-) -> Result<bool, Fail> {
-    let Some((queue, mut seat, text)) = make_queue(heap) else {
-        return Ok(false);
-    };
-    let Err((error, text)) = queue.submit(rt, &mut seat, text) else {
-        return Ok(true);
-    };
-    refusals.fetch_add(1, Ordering::SeqCst);
-    if error != AuditError::OutOfMemory || text.as_str() != "a" || !seat.receipts().is_empty() {
-        return Err(Fail::new("another refusal"));
-    }
-    if queue.submit(rt, &mut seat, text).is_err() {
-        return Err(Fail::new("refused again"));
-    }
-    Ok(false)
-}
-
-// Returns whether a take succeeds. One that is refused because memory runs out must leave no receipt.
-fn take_succeeds<R: Wait>(
-    rt: &R,
-    queue: &RefusingQueue,
-    seat: &mut RefusingSeat,
-) -> Result<bool, Fail> {
-    let receipts = seat.receipts().len();
-    match queue.take(rt, seat) {
-        Ok(_) => Ok(true),
-        Err(AuditError::OutOfMemory) if seat.receipts().len() == receipts => Ok(false),
-        Err(_) => Err(Fail::new("another refusal")),
-    }
-}
-
-// Returns whether the heap had all the memory for a submit and a take. A take that is refused is counted, and the next
-// take has to return the text.
-fn has_memory_for_a_take<R: Wait>(
-    rt: &R,
-    heap: RefusingAllocator<Global>,
-    refusals: &AtomicU64,
-) -> Result<bool, Fail> {
-    let Some((queue, mut seat, text)) = make_queue(heap) else {
-        return Ok(false);
-    };
-    if queue.submit(rt, &mut seat, text).is_err() {
-        return Ok(false);
-    }
-    if take_succeeds(rt, &queue, &mut seat)? {
-        return Ok(true);
-    }
-    refusals.fetch_add(1, Ordering::SeqCst);
-    match queue.take(rt, &mut seat) {
-        Ok(Taken::Text(_)) => Ok(false),
-        _ => Err(Fail::new("no text")),
-    }
-}
-
-// Returns whether a stop succeeds. One that is refused because memory runs out must leave no receipt.
-fn stop_succeeds<R: Wait>(
-    rt: &R,
-    queue: &RefusingQueue,
-    seat: &mut RefusingSeat,
-) -> Result<bool, Fail> {
-    match queue.stop(rt, seat) {
-        Ok(_) => Ok(true),
-        Err(AuditError::OutOfMemory) if seat.receipts().is_empty() => Ok(false),
-        Err(_) => Err(Fail::new("another refusal")),
-    }
-}
-
-// Returns whether the heap had all the memory for a stop. A stop that is refused is counted. The queue has to accept a
-// text after it, and the next stop has to succeed.
-fn has_memory_for_a_stop<R: Wait>(
-    rt: &R,
-    heap: RefusingAllocator<Global>,
-    refusals: &AtomicU64,
-) -> Result<bool, Fail> {
-    let Some((queue, mut seat, text)) = make_queue(heap) else {
-        return Ok(false);
-    };
-    if stop_succeeds(rt, &queue, &mut seat)? {
-        return Ok(true);
-    }
-    refusals.fetch_add(1, Ordering::SeqCst);
-    match queue.submit(rt, &mut seat, text) {
-        Ok(SubmitReply::Accepted) if queue.stop(rt, &mut seat).is_ok() => Ok(false),
-        _ => Err(Fail::new("not in order")),
-    }
-}
-
-// A call of an audited queue.
-#[derive(Clone, Copy)]
-enum Call {
-    Submit,
-    Take,
-    Stop,
-}
-
-// Returns whether the heap had all the memory for this call.
-fn has_memory_for<R: Wait>(
-    rt: &R,
-    heap: RefusingAllocator<Global>,
-    refusals: &AtomicU64,
-    call: Call,
-) -> Result<bool, Fail> {
-    match call {
-        Call::Submit => has_memory_for_a_submit(rt, heap, refusals),
-        Call::Take => has_memory_for_a_take(rt, heap, refusals),
-        Call::Stop => has_memory_for_a_stop(rt, heap, refusals),
-    }
-}
-
-// Each call, with the least and the greatest number of its requests that are refused. A stop makes one for the history,
-// and one for the receipt.
-const REFUSALS: &[(Call, u64, u64)] = &[
-    (Call::Submit, 5, 5),
-    (Call::Take, 1, u64::MAX),
-    (Call::Stop, 2, 2),
-];
-
-#[test]
-fn each_request_of_a_call_may_be_refused(rt: HostRuntime) -> Result<(), Fail> {
-    for (call, least, most) in REFUSALS {
-        let refusals = AtomicU64::new(0);
-        let granted: Result<Option<u64>, Fail> = each_refused(
-            rt.alloc(),
-            |heap| has_memory_for(&rt, heap, &refusals, *call),
-        );
-        assert!(rt; granted?.is_some());
-        let count = refusals.load(Ordering::SeqCst);
-        assert!(rt; *least <= count && count <= *most);
-    }
-    Ok(())
+    Ok(history.events().len())
 }
 
 #[test]
 fn threads_share_a_queue(rt: HostRuntime) -> Result<(), Fail> {
     for capacity in [None, Some(8)] {
-        assert!(rt; runs_callers_in_threads(&rt, rt.alloc(), capacity)?);
+        assert_eq!(rt; events_of_callers(&rt, rt.alloc(), capacity)?, 3 * 50 + 300);
     }
     Ok(())
 }

@@ -21,29 +21,15 @@ type Row = (&'static str, &'static [Choice], &'static str);
 
 const ROWS: &[Row] = &[
     ("", &[], "p.k:54|c"),
-    ("|#a:b", &[], "p.k:54|c|#a:b"),
-    ("", &[Choice::Rate], "p.k:54|c|@0.5"),
-    ("", &[Choice::Tag("x"), Choice::Rate], "p.k:54|c|@0.5|#x"),
     (
         "|#a:b",
         &[Choice::Rate, Choice::Tag("x"), Choice::Tag("y")],
         "p.k:54|c|@0.5|#a:b,x,y",
     ),
-    ("|#a:b", &[Choice::Time(7)], "p.k:54|c|#a:b|T7"),
     (
         "",
         &[Choice::Time(10), Choice::Tag("x"), Choice::Container("id")],
         "p.k:54|c|#x|c:id|T10",
-    ),
-    (
-        "|#a",
-        &[
-            Choice::Container("no"),
-            Choice::Rate,
-            Choice::Container("id"),
-            Choice::Time(0),
-        ],
-        "p.k:54|c|@0.5|#a|c:id|T0",
     ),
 ];
 
@@ -89,14 +75,6 @@ fn line_in<A: Allocator>(buffer: Vec<u8, A>, row: &Row) -> Result<Vec<u8, A>, Al
     let mut draft = DraftLine::in_buffer(buffer, &head(), row.0, None, 0)?;
     set_all(&mut draft, row.1)?;
     draft.into_bytes()
-}
-
-#[test]
-fn options_come_in_the_order_of_the_grammar(rt: HostRuntime) -> Result<(), Fail> {
-    for row in ROWS {
-        assert!(rt; text_of(rt.alloc(), row)?.as_str() == row.2, "{}", row.2);
-    }
-    Ok(())
 }
 
 // Returns whether the row's line is made. It may only be refused because memory runs out.

@@ -1,71 +1,39 @@
-//! How long a worker waits for the lock of a full queue beside a caller that never stops asking, counted in calls of
-//! this caller.
-
+//! A caller that finds a queue full gives way to the worker for a moment: it releases the lock, spins, and takes it
+//! again. So a refusal by a full queue takes longer than one by a queue that is stopped, which is the same call without
+//! that.
 use cadence_queue::SharedQueue;
-use std::alloc::{AllocError, Global};
+use std::io;
 use std::sync::Wait;
-use std::sync::atomic::{AtomicBool, AtomicU64, Ordering};
 use std::test::Fail;
-use std::thread;
+use std::time::{Clock, Duration, Instant};
 
-// How often the worker takes the lock, and how many calls the caller may make meanwhile in the middle case. In some
-// cases the system runs neither of the two or the caller alone, so the longest case shows nothing.
-const TAKES: u64 = 401;
+// The fastest of so many rounds was most likely disturbed by nothing else that the machine does.
+const ROUNDS: u32 = 50;
 
-const MOST_CALLS: u64 = 64;
+const CALLS: u32 = 200;
 
-// Submits to a full queue again and again, until it is told to stop, and counts the calls.
-fn ask_again<R: Wait>(rt: &R, queue: &SharedQueue<char>, calls: &AtomicU64, is_over: &AtomicBool) {
-    for _ in 0..u64::MAX {
-        if is_over.load(Ordering::SeqCst) {
-            return;
-        }
+// Returns how long a round of calls takes that the queue refuses.
+fn time_of_round<R: Wait + Clock>(rt: &R, queue: &SharedQueue<char>) -> io::Result<Duration> {
+    let begun = Instant::now(rt)?;
+    for _ in 0..CALLS {
         let _ = queue.submit(rt, 'a');
-        calls.fetch_add(1, Ordering::SeqCst);
     }
-}
-
-// Waits until the caller runs, and then takes texts. Returns how many calls the caller made during each of these takes.
-fn calls_during_takes<R: Wait>(
-    rt: &R,
-    alloc: Global,
-    queue: &SharedQueue<char>,
-    calls: &AtomicU64,
-) -> Result<Vec<u64>, AllocError> {
-    let mut during = Vec::new(alloc);
-    for _ in 0..u64::MAX {
-        if calls.load(Ordering::SeqCst) > 0 {
-            break;
-        }
-        thread::yield_now();
-    }
-    for _ in 0..TAKES {
-        let before = calls.load(Ordering::SeqCst);
-        let _ = queue.try_take(rt);
-        during.push(calls.load(Ordering::SeqCst).wrapping_sub(before))?;
-    }
-    Ok(during)
+    begun.elapsed(rt)
 }
 
 #[test]
-fn a_worker_gets_the_lock_beside_a_caller_that_never_stops(rt: HostRuntime) -> Result<(), Fail> {
-    let queue = SharedQueue::new(rt.alloc(), Some(1))?;
-    let (calls, is_over) = (AtomicU64::new(0), AtomicBool::new(false));
-    let (_, during) = thread::join(
-        &rt,
-        || ask_again(&rt, &queue, &calls, &is_over),
-        || {
-            let during = calls_during_takes(&rt, rt.alloc(), &queue, &calls);
-            is_over.store(true, Ordering::SeqCst);
-            during
-        },
-    );
-    let mut during = during?;
-    during.sort()?;
-    assert!(rt;
-        during
-            .get(TAKES as usize / 2)
-            .is_some_and(|middle| *middle <= MOST_CALLS)
-    );
+fn a_caller_gives_way_at_a_full_queue(rt: HostRuntime) -> Result<(), Fail> {
+    let full = SharedQueue::new(rt.alloc(), Some(0))?;
+    let stopped = SharedQueue::new(rt.alloc(), Some(0))?;
+    stopped.stop(&rt);
+    let (mut at_full, mut at_stopped) = (Duration::MAX, Duration::MAX);
+    for _ in 0..ROUNDS {
+        at_full = at_full.min(time_of_round(&rt, &full)?);
+        at_stopped = at_stopped.min(time_of_round(&rt, &stopped)?);
+    }
+    let (at_full, at_stopped) = (at_full.as_nanos(), at_stopped.as_nanos());
+    // a quarter more at least
+    let is_longer = at_full.wrapping_mul(4) > at_stopped.wrapping_mul(5);
+    assert!(rt; is_longer, "{at_full} and {at_stopped} nanoseconds");
     Ok(())
 }

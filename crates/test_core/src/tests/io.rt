@@ -1,27 +1,10 @@
-//! Packers of lines, `LineBuffer` and `MultiLineWriter`: writers that are replaced, lent and given back, the flush of a
-//! drop, each request for memory refused, and calls that a client doesn't make. The program `test_scripts` shows how a
-//! packer packs the lines and flushes of a client.
+//! Packers of lines: a writer that is replaced, lent and given back, the flush of a drop, and each request for memory
+//! refused. The contracts say what a packer does with each line and flush.
 use cadence_errors::SinkError;
-use cadence_flow::io::{Answer, LineBuffer, MultiLineWriter, PacketLog, PacketWriter};
+use cadence_flow::io::{MultiLineWriter, PacketLog, PacketWriter};
 use std::alloc::Global;
 use std::test::Fail;
 use test_tools::{RefusingAllocator, each_refused};
-
-// Makes a packer over a log with these answers.
-fn make_packer(
-    alloc: Global,
-    capacity: usize,
-    ending: &str,
-    answers: &[Answer],
-) -> Result<MultiLineWriter<PacketLog>, Fail> {
-    let Ok(answers) = answers.to_vec(alloc) else {
-        return Err(Fail::new("no memory"));
-    };
-    match MultiLineWriter::with_ending(alloc, PacketLog::new(alloc, answers), capacity, ending) {
-        Ok(packer) => Ok(packer),
-        Err(_log) => Err(Fail::new("no memory")),
-    }
-}
 
 // Returns whether the log took exactly these packets.
 fn has_packets(log: &PacketLog, packets: &[&str]) -> bool {
@@ -37,74 +20,12 @@ fn has_packets(log: &PacketLog, packets: &[&str]) -> bool {
     true
 }
 
-// Returns whether the packer's log took exactly these packets, and this is the held text.
-fn has_packets_and_text(packer: &MultiLineWriter<PacketLog>, packets: &[&str], held: &str) -> bool {
-    has_packets(packer.get_ref(), packets) && packer.held() == held.as_bytes()
-}
-
 // Returns whether the answer is this number of bytes.
 fn is_count(answer: Result<usize, SinkError>, count: usize) -> bool {
     match answer {
         Ok(taken) => taken == count,
         Err(_) => false,
     }
-}
-
-// Writes a line and flushes. Returns whether the write takes this number of bytes and the flush succeeds.
-fn writes_and_flushes(packer: &mut MultiLineWriter<PacketLog>, line: &[u8], count: usize) -> bool {
-    is_count(packer.write(line), count) && packer.flush().is_ok()
-}
-
-#[test]
-fn a_flush_goes_on_after_a_short_count(rt: HostRuntime) -> Result<(), Fail> {
-    let mut p = make_packer(rt.alloc(), 32, "\n", &[Answer::Short(3)])?;
-    assert!(rt; is_count(p.write(b"xyz"), 3) && writes_and_flushes(&mut p, b"abc", 3));
-    assert!(rt; has_packets_and_text(&p, &["xyz", "\nabc\n"], ""));
-    Ok(())
-}
-
-// Puts a new log in place of the old one. Returns whether the old one comes back with these packets, and this held
-// text.
-fn gives_back_old_writer(
-    packer: &mut MultiLineWriter<PacketLog>,
-    alloc: Global,
-    packets: &[&str],
-    held: &str,
-) -> bool {
-    match packer.replace_writer(alloc, PacketLog::new(alloc, Vec::new(alloc))) {
-        Ok((old, text)) => has_packets(&old, packets) && text.as_slice() == held.as_bytes(),
-        Err(_back) => false,
-    }
-}
-
-// Writes a line that is held, and replaces the log. Returns whether the old log and the line come back, and the packer
-// holds nothing then.
-fn replaces_writer(packer: &mut MultiLineWriter<PacketLog>, alloc: Global) -> bool {
-    is_count(packer.write(b"second data"), 11)
-        && gives_back_old_writer(packer, alloc, &["first data\n"], "second data\n")
-        && has_packets_and_text(packer, &[], "")
-}
-
-// Returns whether the packer gives back its log, with a packet that was written to the log directly, and the line that
-// it holds.
-fn gives_back_packet_and_line(packer: MultiLineWriter<PacketLog>) -> bool {
-    let (log, text) = packer.into_parts();
-    has_packets(&log, &["third data\n", "direct"]) && text.as_slice() == b"a:1|c\n".as_slice()
-}
-
-#[test]
-fn replaced_writer_comes_back(rt: HostRuntime) -> Result<(), Fail> {
-    let mut p = make_packer(rt.alloc(), 32, "\n", &[])?;
-    assert!(rt;
-        writes_and_flushes(&mut p, b"first data", 10) && replaces_writer(&mut p, rt.alloc())
-    );
-    assert!(rt;
-        writes_and_flushes(&mut p, b"third data", 10)
-            && has_packets_and_text(&p, &["third data\n"], "")
-    );
-    assert!(rt; is_count(p.write(b"a:1|c"), 5) && is_count(p.get_mut().write_packet(b"direct"), 6));
-    assert!(rt; gives_back_packet_and_line(p));
-    Ok(())
 }
 
 // A writer with a lifetime. No contract speaks of its packets.
@@ -142,6 +63,8 @@ fn drop_flushes(rt: HostRuntime) -> Result<(), Fail> {
     Ok(())
 }
 
+type Heap = RefusingAllocator<Global>;
+
 // Returns a log that took one packet, so that it differs from a new one.
 fn used_log(alloc: Global) -> PacketLog {
     let mut log = PacketLog::new(alloc, Vec::new(alloc));
@@ -149,217 +72,79 @@ fn used_log(alloc: Global) -> PacketLog {
     log
 }
 
-// Returns whether there is memory for a packer over a used log. If there isn't, the log has to come back.
-fn makes_packer(alloc: Global, heap: RefusingAllocator<Global>) -> Result<bool, Fail> {
-    let (is_made, is_same) = match MultiLineWriter::new(heap, used_log(alloc), 16) {
-        Ok(mut p) => (
-            true,
-            is_count(p.write(b"foo:54|c"), 8) && has_packets(p.get_ref(), &["before"]),
-        ),
-        Err(back) => (false, has_packets(&back, &["before"])),
-    };
-    if !is_same {
-        return Err(Fail::new("another log"));
-    }
-    Ok(is_made)
-}
-
-#[test]
-fn each_request_of_a_new_packer_may_be_refused(rt: HostRuntime) -> Result<(), Fail> {
-    let granted = each_refused(rt.alloc(), |heap| makes_packer(rt.alloc(), heap))?;
-    assert!(rt; granted == Some(2));
-    Ok(())
-}
-
-type RefusingPacker = MultiLineWriter<PacketLog, RefusingAllocator<Global>>;
-
-// Returns whether a new log comes back unused, because there is no memory for the replacement.
-fn refuses_replacement(packer: &mut RefusingPacker, alloc: Global) -> Result<bool, Fail> {
-    let heap = RefusingAllocator::after(alloc, alloc, 0)?;
-    match packer.replace_writer(heap, PacketLog::new(alloc, Vec::new(alloc))) {
-        Ok((_old, _text)) => Ok(false),
-        Err(back) => Ok(has_packets(&back, &[])),
-    }
-}
-
-#[test]
-fn refused_replacement_changes_nothing(rt: HostRuntime) -> Result<(), Fail> {
-    let heap = RefusingAllocator::after(rt.alloc(), rt.alloc(), 9)?;
-    let Ok(mut p) = MultiLineWriter::with_ending(heap, used_log(rt.alloc()), 16, "\n") else {
-        return Err(Fail::new("no memory"));
-    };
-    assert!(rt; is_count(p.write(b"foo:54|c"), 8));
-    assert!(rt; refuses_replacement(&mut p, rt.alloc())?);
-    assert!(rt; has_packets(p.get_ref(), &["before"]) && p.held() == b"foo:54|c\n".as_slice());
-    Ok(())
-}
-
-// Writes a packet to a log that refuses the request for memory after `granted` others, and then writes it again.
-// Returns whether the first write used up the answer of the log, so that the second one takes the packet whole.
-fn uses_up_its_answer(alloc: Global, granted: u64) -> Result<bool, Fail> {
-    let heap = RefusingAllocator::after(alloc, alloc, granted)?;
-    let mut answers = Vec::new(heap.clone()?);
-    answers.push(Answer::Short(1))?;
-    let mut log = PacketLog::new(heap, answers);
-    let refused = log.write_packet(b"abc");
-    let is_refused = matches!(refused, Err(SinkError::OutOfMemory)) && log.packets().len() == 0;
-    Ok(is_refused && is_count(log.write_packet(b"abc"), 3) && log.packets().len() == 1)
-}
-
-#[test]
-fn refused_packet_uses_up_its_answer(rt: HostRuntime) -> Result<(), Fail> {
-    assert!(rt; uses_up_its_answer(rt.alloc(), 1)?);
-    assert!(rt; uses_up_its_answer(rt.alloc(), 2)?);
-    Ok(())
-}
-
-// Makes a packer that stores its errors in a variable of the caller, over a log with these answers.
-fn make_line_buffer(
+// Makes a packer of 16 bytes. If there is no memory, the log has to come back.
+fn make_packer(
     alloc: Global,
-    capacity: usize,
-    answers: &[Answer],
-) -> Result<LineBuffer<PacketLog>, Fail> {
-    let Ok(answers) = answers.to_vec(alloc) else {
-        return Err(Fail::new("no memory"));
-    };
-    match LineBuffer::new(alloc, PacketLog::new(alloc, answers), capacity) {
-        Ok(lines) => Ok(lines),
-        Err(_log) => Err(Fail::new("no memory")),
+    heap: Heap,
+) -> Result<Option<MultiLineWriter<PacketLog, Heap>>, Fail> {
+    match MultiLineWriter::with_ending(heap, used_log(alloc), 16, "\n") {
+        Ok(packer) => Ok(Some(packer)),
+        Err(back) if has_packets(&back, &["before"]) => Ok(None),
+        Err(_) => Err(Fail::new("another log")),
     }
 }
 
-// A call of a packer, and its result if it succeeds.
-#[derive(Clone, Copy)]
-enum Call {
-    // The line fits behind the held text.
-    Fits(&'static str),
-    // The line is held.
-    Hold(&'static str),
-    // The line is taken whole.
-    Write(&'static str),
-    Flush,
-    // The writer refuses the packet of this write.
-    WriteRefused(&'static str),
-    // The writer takes 0 bytes of this flush.
-    FlushOfNothing,
-}
-
-// Makes a call, and returns whether it succeeds, or fails with the error that its name says.
-fn runs_call(lines: &mut LineBuffer<PacketLog>, call: Call) -> bool {
-    let mut error = SinkError::OutOfMemory;
-    match call {
-        Call::Fits(line) => lines.fits(line.as_bytes()),
-        Call::Hold(line) => lines.hold(line.as_bytes()),
-        Call::Write(line) => lines.write(line.as_bytes(), &mut error) == Some(line.len()),
-        Call::Flush => lines.flush(&mut error).is_some(),
-        Call::WriteRefused(line) => {
-            let taken = lines.write(line.as_bytes(), &mut error);
-            taken.is_none() && matches!(error, SinkError::PacketRefused)
-        }
-        Call::FlushOfNothing => {
-            let flushed = lines.flush(&mut error);
-            flushed.is_none() && matches!(error, SinkError::NothingWritten)
-        }
-    }
-}
-
-// A call, what `runs_call` returns for it, how many of the run's packets are taken then, and the held text.
-type Row = (Call, bool, usize, &'static str);
-
-// A packer's capacity, the answers of its writer, the packets that the writer takes, and the calls.
-type Run = (
-    usize,
-    &'static [Answer],
-    &'static [&'static str],
-    &'static [Row],
-);
-
-// A line fits if with the held text and its ending it has at most as many bytes as the capacity.
-const FITTING: &[Row] = &[
-    (Call::Fits("12345"), true, 0, ""),
-    (Call::Fits("123456"), false, 0, ""),
-    (Call::Hold("12"), true, 0, "12\n"),
-    (Call::Fits("45"), true, 0, "12\n"),
-    (Call::Fits("456"), false, 0, "12\n"),
-];
-
-// A line joins what a short write left of the held text, if there is room for both.
-const JOINING: &[Row] = &[
-    (Call::Write("abc"), true, 0, "abc\n"),
-    (Call::Write("def"), true, 0, "abc\ndef\n"),
-    (Call::Flush, false, 1, "\ndef\n"),
-    (Call::Hold("gh"), true, 1, "\ndef\ngh\n"),
-    (Call::Hold(""), false, 1, "\ndef\ngh\n"),
-    (Call::Flush, false, 2, "ef\ngh\n"),
-    (Call::Write("k"), true, 2, "ef\ngh\nk\n"),
-    (Call::Flush, true, 3, ""),
-    (Call::Hold("1234567"), true, 3, "1234567\n"),
-    (Call::Write("x"), true, 4, "x\n"),
-];
-
-// The rest of the held text that a short write leaves is returned with the writer.
-const LEAVING: &[Row] = &[
-    (Call::Write("abc"), true, 0, "abc\n"),
-    (Call::Flush, false, 1, "bc\n"),
-];
-
-// A call that fails stores its error in the variable that was passed to it.
-const FAILING: &[Row] = &[
-    (Call::Write("abc"), true, 0, "abc\n"),
-    (Call::WriteRefused("123456789"), true, 0, "abc\n"),
-    (Call::FlushOfNothing, true, 1, "abc\n"),
-    (Call::Write("123456789"), true, 3, ""),
-];
-
-const RUNS: [Run; 4] = [
-    (6, &[], &[], FITTING),
-    (
-        8,
-        &[
-            Answer::Short(3),
-            Answer::Refuse,
-            Answer::Short(2),
-            Answer::Refuse,
-        ],
-        &["abc", "\nd", "ef\ngh\nk\n", "1234567\n"],
-        JOINING,
-    ),
-    (8, &[Answer::Short(1), Answer::Refuse], &["a"], LEAVING),
-    (
-        8,
-        &[Answer::Refuse, Answer::Short(0)],
-        &["", "abc\n", "123456789"],
-        FAILING,
-    ),
-];
-
-// Makes the call of a row, and returns whether its result, the packets and the held text are those of the row.
-fn runs_row(lines: &mut LineBuffer<PacketLog>, packets: &[&str], row: &Row) -> bool {
-    let (call, well, count, held) = *row;
-    let is_same = runs_call(lines, call) == well;
-    let taken = packets
-        .get(..count)
-        .is_some_and(|packets| has_packets(lines.get_ref(), packets));
-    is_same && taken && lines.held() == held.as_bytes()
-}
-
-// Returns whether the packer gives back its writer, and the held text of the last row.
-fn gives_back_writer(lines: LineBuffer<PacketLog>, packets: &[&str], rows: &[Row]) -> bool {
-    let (log, rest) = lines.into_parts();
-    let Some((_call, _well, _count, held)) = rows.last() else {
-        return false;
+// Writes a line, and puts a new log in place of the old one. Returns whether the old log comes back with the held line,
+// or the new one because there is no memory; nothing has changed then.
+fn replaces_log(
+    packer: &mut MultiLineWriter<PacketLog, Heap>,
+    alloc: Global,
+    heap: Heap,
+) -> Result<bool, Fail> {
+    let is_held = is_count(packer.write(b"foo:54|c"), 8);
+    let (is_replaced, is_right) = match packer.replace_writer(
+        heap,
+        PacketLog::new(alloc, Vec::new(alloc)),
+    ) {
+        Ok((old, text)) => (
+            true,
+            has_packets(&old, &["before"]) && text.as_slice() == b"foo:54|c\n".as_slice(),
+        ),
+        Err(back) => (
+            false,
+            has_packets(&back, &[]) && packer.held() == b"foo:54|c\n".as_slice(),
+        ),
     };
-    has_packets(&log, packets) && rest.as_slice() == held.as_bytes()
+    if !is_held || !is_right {
+        return Err(Fail::new("another line or log"));
+    }
+    Ok(is_replaced)
 }
+
+// Writes a line to a packer with a new log, flushes it, and writes a packet to the log directly. Returns whether the
+// packer then gives back the log with both, and the line that it holds.
+fn gives_back_log(mut packer: MultiLineWriter<PacketLog, Heap>) -> bool {
+    let is_sent = is_count(packer.write(b"third data"), 10) && packer.flush().is_ok();
+    let is_direct = is_count(packer.get_mut().write_packet(b"direct"), 6);
+    let is_held = is_count(packer.write(b"a:1|c"), 5);
+    let (log, text) = packer.into_parts();
+    is_sent
+        && is_direct
+        && is_held
+        && has_packets(&log, &["third data\n", "direct"])
+        && text.as_slice() == b"a:1|c\n".as_slice()
+}
+
+// Returns whether there is memory for a packer and for a new log in place of its own.
+fn has_all_memory(alloc: Global, heap: Heap) -> Result<bool, Fail> {
+    let Some(mut packer) = make_packer(alloc, heap.clone()?)? else {
+        return Ok(false);
+    };
+    if !replaces_log(&mut packer, alloc, heap)? {
+        return Ok(false);
+    }
+    if !gives_back_log(packer) {
+        return Err(Fail::new("another packet or line"));
+    }
+    Ok(true)
+}
+
+// The requests of a new packer (2), and of a replacement for its log (1).
+const REQUESTS: u64 = 2 + 1;
 
 #[test]
-fn each_call_of_a_packer_has_its_result(rt: HostRuntime) -> Result<(), Fail> {
-    for (capacity, answers, packets, rows) in RUNS {
-        let mut lines = make_line_buffer(rt.alloc(), capacity, answers)?;
-        for row in rows {
-            assert!(rt; runs_row(&mut lines, packets, row));
-        }
-        assert!(rt; gives_back_writer(lines, packets, rows));
-    }
+fn each_request_of_a_packer_may_be_refused(rt: HostRuntime) -> Result<(), Fail> {
+    let granted = each_refused(rt.alloc(), |heap| has_all_memory(rt.alloc(), heap))?;
+    assert_eq!(rt; granted, Some(REQUESTS));
     Ok(())
 }

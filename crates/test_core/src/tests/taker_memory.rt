@@ -10,15 +10,11 @@ type Line = String<RefusingAllocator<Global>>;
 
 type Lines = SharedQueue<Line, RefusingAllocator<Global>>;
 
-// Puts a line into the queue, in the memory of a line that was handed on if there is one. Returns how often it asked
-// for memory, or `None` if it was refused.
-fn requests_of<R: Wait>(
-    rt: &R,
-    heap: &RefusingAllocator<Global>,
-    queue: &Lines,
-    line: &str,
-) -> Option<u64> {
-    let left = heap.left();
+type LinesTaker<'a> = Taker<'a, Line, RefusingAllocator<Global>>;
+
+// Puts a line into the queue, in the memory of a line that was handed on if there is one. Returns whether there was
+// memory for it.
+fn accepts<R: Wait>(rt: &R, heap: &RefusingAllocator<Global>, queue: &Lines, line: &str) -> bool {
     let answer = queue.offer(rt, |older| match older {
         Some(mut text) => {
             text.clear();
@@ -30,18 +26,14 @@ fn requests_of<R: Wait>(
     match answer {
         Ok(accepted) => {
             let _ = accepted.into_dropped();
-            Some(left.wrapping_sub(heap.left()))
+            true
         }
-        Err(_) => None,
+        Err(_) => false,
     }
 }
 
 // Takes the next line, and gives its memory back. Returns whether it is this line.
-fn gives_back_next<R: Wait>(
-    rt: &R,
-    taker: &mut Taker<'_, Line, RefusingAllocator<Global>>,
-    line: &str,
-) -> bool {
+fn gives_back_next<R: Wait>(rt: &R, taker: &mut LinesTaker<'_>, line: &str) -> bool {
     match taker.next(rt) {
         Some(text) if text.as_str() == line => {
             taker.give_back(text);
@@ -51,82 +43,64 @@ fn gives_back_next<R: Wait>(
     }
 }
 
-// Lines, each with how often it asks for memory. A line uses the memory of the second line before it, and asks for
-// memory only if there is none, or if it is longer than that line.
-const GIVEN_BACK: &[(&str, u64)] = &[
-    ("a:1|c", 1),
-    ("b:2|c", 1),
-    ("c:3|c", 0),
-    ("longer:4444|c", 1),
-    ("e:5|c", 0),
-    ("longer:6666|c", 0),
+// Lines. One uses the memory of the second line before it, and asks for memory only if there is none, or if it is
+// longer than that line: the first, the second and the fourth line do.
+const LINES: &[&str] = &[
+    "a:1|c",
+    "b:2|c",
+    "c:3|c",
+    "longer:4444|c",
+    "e:5|c",
+    "longer:6666|c",
 ];
 
-// How lines went through a queue. `Well`: each line asked for memory as often as it has to. `RefusedOnce`: one line was
-// refused once, and was accepted and taken at the next try. `Wrong`: anything else.
-#[derive(Clone, Copy, PartialEq, Eq)]
-enum Passage {
-    Well,
-    RefusedOnce,
-    Wrong,
-}
-
-// Puts a line into the queue and takes it. `wanted` is how often the line has to ask for memory.
-fn send_through<R: Wait>(
+// Puts each line into a queue of two, and takes it. Returns how many were refused once for want of memory and accepted
+// at the next try, or `None` if another line came, or a line was refused twice.
+fn refused_once<R: Wait>(
     rt: &R,
     heap: &RefusingAllocator<Global>,
     queue: &Lines,
-    taker: &mut Taker<'_, Line, RefusingAllocator<Global>>,
-    (line, wanted): (&str, u64),
-) -> Passage {
-    let mut passage = match requests_of(rt, heap, queue, line) {
-        Some(requests) if requests == wanted => Passage::Well,
-        Some(_) => Passage::Wrong,
-        None => Passage::RefusedOnce,
-    };
-    if passage == Passage::RefusedOnce && requests_of(rt, heap, queue, line).is_none() {
-        passage = Passage::Wrong;
+    taker: &mut LinesTaker<'_>,
+) -> Option<u64> {
+    let mut refused = 0u64;
+    for line in LINES {
+        if !accepts(rt, heap, queue, line) {
+            refused = refused.wrapping_add(1);
+            if !accepts(rt, heap, queue, line) {
+                return None;
+            }
+        }
+        if !gives_back_next(rt, taker, line) {
+            return None;
+        }
     }
-    match gives_back_next(rt, taker, line) {
-        true => passage,
-        false => Passage::Wrong,
-    }
+    Some(refused)
 }
 
-// Finishes a taker of a queue that is stopped and has no text.
-fn finish<R: Wait>(rt: &R, mut taker: Taker<'_, Line, RefusingAllocator<Global>>) -> bool {
+// Finishes a taker of a queue that is stopped, and returns whether no line was left.
+fn finish<R: Wait>(rt: &R, mut taker: LinesTaker<'_>) -> bool {
+    let mut is_empty = true;
     for _ in rt.forever() {
         if taker.next(rt).is_none() {
             let _ = taker.finish();
-            return true;
+            return is_empty;
         }
+        is_empty = false;
     }
     unreachable!()
 }
 
-// Puts each line of `GIVEN_BACK` into a queue of two, and takes it, until one doesn't end in `Well`.
-fn send_each_through<R: Wait>(rt: &R, heap: RefusingAllocator<Global>) -> MetricResult<Passage> {
+// Makes a queue of two and its taker, and returns what `refused_once` returns of them.
+fn refused_in_a_queue<R: Wait>(
+    rt: &R,
+    heap: RefusingAllocator<Global>,
+) -> MetricResult<Option<u64>> {
     let queue = SharedQueue::new(heap.clone()?, Some(2))?;
     let room = queue.room_of_taker(heap.clone()?)?;
     let mut taker = queue.taker(rt, room);
-    let mut passage = Passage::Well;
-    for row in GIVEN_BACK {
-        passage = send_through(rt, &heap, &queue, &mut taker, *row);
-        if passage != Passage::Well {
-            break;
-        }
-    }
+    let refused = refused_once(rt, &heap, &queue, &mut taker);
     queue.stop(rt);
-    let _ = finish(rt, taker);
-    Ok(passage)
-}
-
-#[test]
-fn texts_handed_on_are_used_again(rt: HostRuntime) -> Result<(), Fail> {
-    let heap = RefusingAllocator::after(rt.alloc(), rt.alloc(), 1000)?;
-    let passage = send_each_through(&rt, heap)?;
-    assert!(&rt; passage == Passage::Well);
-    Ok(())
+    Ok(if finish(rt, taker) { refused } else { None })
 }
 
 // The requests of the queue's ring (1), of the taker (3), and of the lines that ask for memory (3).
@@ -134,15 +108,15 @@ const REQUESTS: u64 = 1 + 3 + 3;
 
 // Returns whether the heap had memory for the queue, the taker and all lines.
 fn has_all_memory<R: Wait>(rt: &R, heap: RefusingAllocator<Global>) -> Result<bool, Fail> {
-    match send_each_through(rt, heap) {
-        Ok(Passage::Well) => Ok(true),
-        Ok(Passage::Wrong) => Err(Fail::new("another line, or another number of requests")),
-        _ => Ok(false),
+    match refused_in_a_queue(rt, heap) {
+        Ok(Some(refused)) => Ok(refused == 0),
+        Ok(None) => Err(Fail::new("another line, or a line that is refused twice")),
+        Err(_) => Ok(false),
     }
 }
 
 #[test]
-fn line_without_memory_leaves_the_queue_in_order(rt: HostRuntime) -> Result<(), Fail> {
+fn a_line_is_made_in_the_memory_of_another(rt: HostRuntime) -> Result<(), Fail> {
     let granted = each_refused(rt.alloc(), |heap| has_all_memory(&rt, heap))?;
     assert_eq!(rt; granted, Some(REQUESTS));
     Ok(())

@@ -1,20 +1,16 @@
-//! How a queue ends, and that it ends whatever the wrapped sink does: what has left once the last handle is dropped, and
-//! periods that are hardly a wait, while each flush fails.
-use super::noting::make_noting_sink;
-use super::steps::{Runtime, assert_accepts, assert_messages};
+//! How a queue ends, and that it ends whatever the wrapped sink does: what has left once the last handle is dropped,
+//! and periods that are hardly a wait, while each flush fails.
+use super::noting::{make_noting_sink, make_refusing_sink};
+use super::steps::{Runtime, assert_accepts, assert_messages, assert_reaches};
 use cadence_errors::SinkError;
-use cadence_flow::MetricSink;
-use cadence_queuing::{FlushingMetricSink, QueuingMetricSink, QueuingMetricSinkBuilder};
+use cadence_queuing::{FlushingMetricSink, QueuingMetricSinkBuilder};
 use cadence_sinks::BufferedSpyMetricSink;
 use std::alloc::Global;
 use std::sync::Arc;
-use std::sync::atomic::{AtomicBool, AtomicU64, Ordering};
+use std::sync::atomic::{AtomicBool, Ordering};
 use std::test::Fail;
 use std::thread;
 use std::time::{Clock, Duration, Instant};
-
-// How many milliseconds a test waits for something that has to happen.
-const PATIENCE: u32 = 10_000;
 
 // Sets its flag when it is dropped.
 struct DropFlag {
@@ -64,66 +60,6 @@ fn a_stop_and_the_last_drop_leave_nothing(rt: HostRuntime) -> Result<(), Fail> {
     Ok(())
 }
 
-// What a test sees of a sink whose flushes may fail.
-#[derive(Drop)]
-struct Tries {
-    lines: AtomicU64,
-    flushes: AtomicU64,
-    refuses: AtomicBool,
-}
-
-// A sink that counts its lines and flushes, and refuses each flush while `refuses` is set.
-#[derive(Drop)]
-struct TryingSink {
-    tries: Arc<Tries>,
-}
-
-impl MetricSink for TryingSink {
-    ghost may_answer = { λ _ _ _. Unit {0} };
-
-    ghost may_flush = { λ _ _. Unit {0} };
-
-    fn emit(&self, line: &str) -> Result<usize, SinkError> {
-        self.tries.lines.fetch_add(1, Ordering::SeqCst);
-        Ok(line.len())
-    }
-
-    fn flush(&self) -> Result<(), SinkError> {
-        self.tries.flushes.fetch_add(1, Ordering::SeqCst);
-        if self.tries.refuses.load(Ordering::SeqCst) {
-            return Err(SinkError::PacketRefused);
-        }
-        Ok(())
-    }
-
-    ghost flush_may_succeed = { λ _ _. tt };
-}
-
-// Makes a sink whose flushes fail, and what a test sees of it.
-fn make_trying_sink(alloc: Global) -> Result<(Arc<Tries>, TryingSink), Fail> {
-    let tries = Tries {
-        lines: AtomicU64::new(0),
-        flushes: AtomicU64::new(0),
-        refuses: AtomicBool::new(true),
-    };
-    let tries = Arc::new(alloc, tries)?;
-    let sink = TryingSink {
-        tries: tries.clone()?,
-    };
-    Ok((tries, sink))
-}
-
-// Waits until a number is at least as large as wanted, but not for ever.
-fn assert_reaches<R: Runtime + Clock>(rt: &R, number: &AtomicU64, wanted: u64) -> Result<(), Fail> {
-    for _ in 0..PATIENCE {
-        if number.load(Ordering::SeqCst) >= wanted {
-            return Ok(());
-        }
-        thread::sleep(rt, Duration::from_millis(1));
-    }
-    Err(Fail::new(format_args!("a number doesn't reach {wanted}")))
-}
-
 // Asserts that a queue with this period, whose flushes all fail, tries a flush again though no line comes, at most once
 // a millisecond; that it still hands lines on; and that a stop ends its worker.
 fn assert_outlives_failures<R: Runtime + Clock>(
@@ -132,16 +68,16 @@ fn assert_outlives_failures<R: Runtime + Clock>(
     period: Duration,
 ) -> Result<(), Fail> {
     let begun = Instant::now(rt)?;
-    let (tries, sink) = make_trying_sink(alloc)?;
+    let (stage, sink) = make_refusing_sink(rt, alloc)?;
     let builder = QueuingMetricSinkBuilder::new().with_flush_period(period);
     let sink = builder.build(rt.clone()?, alloc, sink)?;
     assert_accepts(&sink, &[("a:1|c", 5)])?;
-    assert_reaches(rt, &tries.flushes, 5)?;
+    assert_reaches(rt, &stage.flushes, 5)?;
     for _ in 0..10 {
         assert_accepts(&sink, &[("b:1|c", 5)])?;
     }
-    assert_reaches(rt, &tries.lines, 11)?;
-    let flushes = tries.flushes.load(Ordering::SeqCst) as u128;
+    assert_reaches(rt, &stage.lines, 11)?;
+    let flushes = stage.flushes.load(Ordering::SeqCst) as u128;
     // a flush for each of the 11 lines, one for each millisecond, and one that begins
     if flushes > begun.elapsed(rt)?.as_millis().saturating_add(12) {
         return Err(Fail::new(format_args!("{flushes} flushes")));
@@ -160,17 +96,17 @@ fn a_queue_outlives_failing_flushes(rt: HostRuntime) -> Result<(), Fail> {
 
 #[test]
 fn a_queue_may_wait_for_ever(rt: HostRuntime) -> Result<(), Fail> {
-    let (tries, sink) = make_trying_sink(rt.alloc())?;
+    let (stage, sink) = make_refusing_sink(&rt, rt.alloc())?;
     let builder = QueuingMetricSinkBuilder::new().with_flush_period(Duration::MAX);
     let sink = builder.build(rt.clone()?, rt.alloc(), sink)?;
     for lines in 1..4 {
         assert_accepts(&sink, &[("a:1|c", 5)])?;
-        assert_reaches(&rt, &tries.lines, lines)?;
+        assert_reaches(&rt, &stage.lines, lines)?;
     }
     thread::sleep(&rt, Duration::from_millis(20));
-    assert_eq!(rt; tries.flushes.load(Ordering::SeqCst), 0);
+    assert_eq!(rt; stage.flushes.load(Ordering::SeqCst), 0);
     sink.stop_and_wait();
-    assert_eq!(rt; tries.flushes.load(Ordering::SeqCst), 1);
+    assert_eq!(rt; stage.flushes.load(Ordering::SeqCst), 1);
     Ok(())
 }
 
@@ -183,12 +119,12 @@ fn assert_flushes_within<R: Runtime + Clock, C: Runtime + Clock>(
     (nanoseconds, milliseconds): (u64, u128),
 ) -> Result<(), Fail> {
     let begun = Instant::now(rt)?;
-    let (tries, sink) = make_trying_sink(alloc)?;
+    let (stage, sink) = make_refusing_sink(rt, alloc)?;
     let period = Duration::from_nanos(nanoseconds);
     let sink = FlushingMetricSink::new(clock, alloc, sink, period)?;
-    assert_reaches(rt, &tries.flushes, 5)?;
+    assert_reaches(rt, &stage.flushes, 5)?;
     drop(sink);
-    let flushes = tries.flushes.load(Ordering::SeqCst) as u128;
+    let flushes = stage.flushes.load(Ordering::SeqCst) as u128;
     // one for each wait, and that of the drop
     let least = flushes.saturating_sub(1).wrapping_mul(milliseconds);
     if least > begun.elapsed(rt)?.as_millis() {
@@ -213,16 +149,5 @@ fn a_flushing_sink_sleeps_without_a_clock(rt: HostRuntime) -> Result<(), Fail> {
         let clock = watch.clock.clone()?;
         assert_flushes_within(&rt, clock, rt.alloc(), (nanoseconds, milliseconds))?;
     }
-    Ok(())
-}
-
-#[test]
-fn a_flushing_sink_may_wait_for_ever(rt: HostRuntime) -> Result<(), Fail> {
-    let (tries, sink) = make_trying_sink(rt.alloc())?;
-    let sink = FlushingMetricSink::new(rt.clone()?, rt.alloc(), sink, Duration::MAX)?;
-    thread::sleep(&rt, Duration::from_millis(20));
-    assert_eq!(rt; tries.flushes.load(Ordering::SeqCst), 0);
-    drop(sink);
-    assert_eq!(rt; tries.flushes.load(Ordering::SeqCst), 1);
     Ok(())
 }

@@ -3,19 +3,19 @@
 use super::noting::{NotingSink, Stage, Watch, make_noting_sink};
 use super::steps::{
     Runtime, WantedError, assert_accepts, assert_counts, assert_flushes, assert_last_message,
-    assert_next_message, assert_refuses_flush,
+    assert_refuses_flush,
 };
-use cadence_errors::{MetricError, MetricResult, SinkError};
-use cadence_flow::{MetricSink, NopMetricSink};
+use cadence_errors::SinkError;
+use cadence_flow::MetricSink;
 use cadence_queuing::{FlushingMetricSink, QueuingMetricSink, QueuingMetricSinkBuilder};
-use cadence_sinks::{BufferedSpyMetricSink, SpyReceiver};
+use cadence_sinks::BufferedSpyMetricSink;
 use std::alloc::Global;
 use std::sync::Arc;
 use std::sync::atomic::Ordering;
 use std::test::Fail;
+use std::thread;
 use std::time::{Clock, Duration};
 use test_tools::moved_clock::MovedClock;
-use test_tools::{RefusingAllocator, each_refused};
 
 type NotedQueue<R> = QueuingMetricSink<NotingSink<R>, MovedClock<R>>;
 
@@ -101,14 +101,18 @@ fn a_busy_worker_flushes_between_lines(rt: HostRuntime) -> Result<(), Fail> {
     watch.assert_reads(6)
 }
 
-// Asserts that a flush which fails twice is tried again after each `wait` milliseconds, though no line comes. `errors` is
-// how often it failed before.
+// Asserts that a flush which fails twice is tried again after each `wait` milliseconds and no sooner, though no line
+// comes. `errors` is how often it failed before.
 fn assert_tries_again<R: Runtime + Clock>(
     watch: &Watch<R>,
     wait: u64,
     errors: u64,
 ) -> Result<(), Fail> {
     for failed in 1..3 {
+        watch
+            .clock
+            .move_to(wait.wrapping_mul(failed).wrapping_sub(1));
+        watch.assert_reads(6)?;
         watch.clock.move_to(wait.wrapping_mul(failed));
         watch.assert_notes(&["flush"])?;
         watch.assert_errors(errors.wrapping_add(failed))?;
@@ -128,18 +132,6 @@ fn a_failed_flush_is_tried_again(rt: HostRuntime) -> Result<(), Fail> {
     assert_passes(&watch, &sink)?;
     watch.assert_reads(6)?;
     assert_tries_again(&watch, 5, 0)
-}
-
-#[test]
-fn the_end_of_a_worker_is_a_flush(rt: HostRuntime) -> Result<(), Fail> {
-    let (receiver, spy) = BufferedSpyMetricSink::new(rt.clone()?, rt.alloc())?;
-    let sink = QueuingMetricSinkBuilder::new()
-        .with_flush_period(Duration::from_secs(3600))
-        .build(rt.clone()?, rt.alloc(), spy)?;
-    assert_accepts(&sink, &[("a:1|c", 5), ("b:1|c", 5)])?;
-    sink.stop_and_wait();
-    assert!(rt; !receiver.is_empty());
-    assert_next_message(&receiver, "a:1|c\nb:1|c\n")
 }
 
 // Asserts that each line is flushed when the worker has no more.
@@ -177,68 +169,6 @@ fn without_a_clock_each_line_is_flushed(rt: HostRuntime) -> Result<(), Fail> {
     watch.set_refuses(false);
     watch.assert_last_flushes()?;
     watch.assert_rests()
-}
-
-const LINES: &[&str] = &["a:1|c", "b:2|c", "c:3|c"];
-
-// Emits lines, and asserts that each one is flushed before the next one is emitted.
-fn assert_flushes_lines<S: MetricSink, R: Runtime>(
-    alloc: Global,
-    sink: &S,
-    receiver: &SpyReceiver<R>,
-) -> Result<(), Fail> {
-    for line in LINES {
-        assert_accepts(sink, &[(*line, 5)])?;
-        assert_next_message(receiver, format!(in alloc; "{line}\n")?.as_str())?;
-    }
-    Ok(())
-}
-
-#[test]
-fn a_queue_is_flushed_by_the_real_clock(rt: HostRuntime) -> Result<(), Fail> {
-    let (receiver, spy) = BufferedSpyMetricSink::new(rt.clone()?, rt.alloc())?;
-    let sink = QueuingMetricSinkBuilder::new()
-        .with_flush_period(Duration::from_millis(2))
-        .build(rt.clone()?, rt.alloc(), spy)?;
-    assert_flushes_lines(rt.alloc(), &sink, &receiver)
-}
-
-// Returns whether a sink was made. If it wasn't, the error has to be `OutOfMemory`.
-fn is_made<S: MetricSink>(made: MetricResult<S>) -> Result<bool, Fail> {
-    match made {
-        Ok(sink) => Ok(sink.emit("a:1|c").is_ok()),
-        Err(MetricError::Sink(SinkError::OutOfMemory)) => Ok(false),
-        Err(_) => Err(Fail::new("another error")),
-    }
-}
-
-// Makes a queue with a period, with memory from this heap.
-fn build_queue<R: Runtime + Clock>(rt: &R, heap: RefusingAllocator<Global>) -> Result<bool, Fail> {
-    let builder = QueuingMetricSinkBuilder::new()
-        .with_capacity(32)
-        .with_flush_period(Duration::from_secs(1));
-    is_made(builder.build(rt.clone()?, heap, NopMetricSink))
-}
-
-// Makes a flushing sink, with memory from this heap.
-fn make_flushing_sink<R: Runtime + Clock>(
-    rt: &R,
-    heap: RefusingAllocator<Global>,
-) -> Result<bool, Fail> {
-    let second = Duration::from_secs(1);
-    is_made(FlushingMetricSink::new(rt.clone()?, heap, NopMetricSink, second))
-}
-
-#[test]
-fn each_request_is_refused_in_turn(rt: HostRuntime) -> Result<(), Fail> {
-    let queue: Result<Option<u64>, Fail> = each_refused(rt.alloc(), |heap| build_queue(&rt, heap));
-    assert!(rt; queue? > Some(2));
-    let sink: Result<Option<u64>, Fail> = each_refused(
-        rt.alloc(),
-        |heap| make_flushing_sink(&rt, heap),
-    );
-    assert!(rt; sink? > Some(0));
-    Ok(())
 }
 
 // Makes a flushing sink over a noting one, with a period of five milliseconds of the moved clock.
@@ -282,17 +212,11 @@ fn a_flushing_sink_passes_calls_on(rt: HostRuntime) -> Result<(), Fail> {
 #[test]
 fn the_drop_of_a_flushing_sink_flushes_and_ends_its_thread(rt: HostRuntime) -> Result<(), Fail> {
     let (receiver, spy) = BufferedSpyMetricSink::new(rt.clone()?, rt.alloc())?;
-    let hour = Duration::from_secs(3600);
-    let sink = FlushingMetricSink::new(rt.clone()?, rt.alloc(), spy, hour)?;
+    let sink = FlushingMetricSink::new(rt.clone()?, rt.alloc(), spy, Duration::MAX)?;
     assert_accepts(&sink, &[("a:1|c", 5), ("b:1|c", 5)])?;
+    thread::sleep(&rt, Duration::from_millis(20));
+    assert!(rt; receiver.is_empty());
     drop(sink);
     assert!(rt; !receiver.is_empty());
     assert_last_message(&receiver, "a:1|c\nb:1|c\n")
-}
-
-#[test]
-fn a_sink_is_flushed_by_the_real_clock(rt: HostRuntime) -> Result<(), Fail> {
-    let (receiver, spy) = BufferedSpyMetricSink::new(rt.clone()?, rt.alloc())?;
-    let sink = FlushingMetricSink::new(rt.clone()?, rt.alloc(), spy, Duration::from_millis(2))?;
-    assert_flushes_lines(rt.alloc(), &sink, &receiver)
 }

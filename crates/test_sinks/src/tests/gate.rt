@@ -79,19 +79,13 @@ pub struct GateWatch<R: Wait + Drop> {
     pub passed: SpyReceiver<R>,
 }
 
-fn make_closed_gate() -> Gate {
-    Gate {
-        open: AtomicBool::new(false),
-        flushed: AtomicBool::new(false),
-    }
-}
-
 /// Makes a sink whose gate is closed.
 pub fn make_gated_sink<R: Wait + Clone + Drop>(
     rt: &R,
     alloc: Global,
 ) -> Result<(GateWatch<R>, GatedSink<R>), Fail> {
-    let gate = Arc::new(alloc, make_closed_gate())?;
+    let (open, flushed) = (AtomicBool::new(false), AtomicBool::new(false));
+    let gate = Arc::new(alloc, Gate { open, flushed })?;
     let theirs = gate.clone()?;
     let (coming, comes) = make_spy(rt, alloc)?;
     let (passed, passes) = make_spy(rt, alloc)?;

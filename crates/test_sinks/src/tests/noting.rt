@@ -1,4 +1,4 @@
-//! A sink that notes its lines and its flushes, and whose lines may move a clock.
+//! A sink that notes and counts its lines and its flushes, and whose lines may move a clock.
 use super::steps::{COUNTS, Runtime, make_spy};
 use cadence_errors::SinkError;
 use cadence_flow::MetricSink;
@@ -23,6 +23,10 @@ pub struct Stage {
     pub refuses: AtomicBool,
     /// How many errors the handler got.
     pub errors: AtomicU64,
+    /// How many lines the sink got.
+    pub lines: AtomicU64,
+    /// How often the sink was flushed.
+    pub flushes: AtomicU64,
 }
 
 /// A sink that notes each line, and each flush as `flush`, in a spy. It has the counts `COUNTS`, and says that 5 lines
@@ -42,7 +46,9 @@ impl<R: Wait + Drop> MetricSink for NotingSink<R> {
     fn emit(&self, line: &str) -> Result<usize, SinkError> {
         let step = self.stage.step.load(Ordering::SeqCst);
         self.clock.dial.now.fetch_add(step, Ordering::SeqCst);
-        self.notes.emit(line)
+        self.stage.lines.fetch_add(1, Ordering::SeqCst);
+        let _ = self.notes.emit(line);
+        Ok(line.len())
     }
 
     fn flush(&self) -> Result<(), SinkError> {
@@ -51,6 +57,7 @@ impl<R: Wait + Drop> MetricSink for NotingSink<R> {
         self.stage
             .readings_at_flush
             .store(readings, Ordering::SeqCst);
+        self.stage.flushes.fetch_add(1, Ordering::SeqCst);
         let _ = self.notes.emit("flush");
         if refuses {
             return Err(SinkError::PacketRefused);
@@ -83,6 +90,8 @@ fn new_stage() -> Stage {
         step: AtomicU64::new(0),
         refuses: AtomicBool::new(false),
         errors: AtomicU64::new(0),
+        lines: AtomicU64::new(0),
+        flushes: AtomicU64::new(0),
     }
 }
 
@@ -105,6 +114,16 @@ pub fn make_noting_sink<R: Runtime>(
         notes,
     };
     Ok((watch, sink))
+}
+
+/// Makes a sink that refuses each flush, and what a test sets and sees of it. Nobody receives its notes.
+pub fn make_refusing_sink<R: Runtime>(
+    rt: &R,
+    alloc: Global,
+) -> Result<(Arc<Stage>, NotingSink<R>), Fail> {
+    let (watch, sink) = make_noting_sink(rt, alloc)?;
+    watch.stage.refuses.store(true, Ordering::SeqCst);
+    Ok((watch.stage.clone()?, sink))
 }
 
 impl<R: Runtime + Clock> Watch<R> {

@@ -6,7 +6,7 @@ use super::steps::{
     assert_next_message, assert_refuses, make_spy,
 };
 use cadence_errors::SinkError;
-use cadence_flow::{MetricSink, NopMetricSink};
+use cadence_flow::MetricSink;
 use cadence_queue::QueuePolicy;
 use cadence_queuing::{QueuingMetricSink, QueuingMetricSinkBuilder};
 use cadence_sinks::{BufferedSpyMetricSink, SpyMetricSink, SpyReceiver};
@@ -42,6 +42,7 @@ fn three_texts_in_order(rt: HostRuntime) -> Result<(), Fail> {
         ],
     )?;
     sink.stop_and_wait();
+    assert!(rt; sink.panics() == 0);
     assert_messages(
         &receiver,
         &["foo.counter:1|c", "bar.counter:2|c", "baz.counter:3|c"],
@@ -70,24 +71,6 @@ fn a_line_in_the_memory_of_another_is_its_own(rt: HostRuntime) -> Result<(), Fai
         assert_lines_in_turn(&sink, &receiver)?;
     }
     Ok(())
-}
-
-#[test]
-fn stopped_sink_is_disconnected(rt: HostRuntime) -> Result<(), Fail> {
-    let sink = QueuingMetricSink::from(rt.clone()?, rt.alloc(), NopMetricSink)?;
-    assert_accepts(&sink, &[("a:1|c", 5), ("b:1|c", 5)])?;
-    sink.stop_and_wait();
-    assert_refuses(&sink, "d:1|c", WantedError::ChannelDisconnected)?;
-    assert!(rt; counts_of(&sink) == [2, 0, 2, 0] && sink.panics() == 0);
-    Ok(())
-}
-
-#[test]
-fn caller_does_not_wait_for_the_sink(rt: HostRuntime) -> Result<(), Fail> {
-    let queue = make_gated_queue(&rt, rt.alloc())?;
-    queue.bring_one_and_queue_one()?;
-    assert!(rt; queue.sink.queued() == 1);
-    queue.assert_passes(&["first:1|c", "second:1|c"])
 }
 
 #[test]
@@ -127,17 +110,23 @@ fn make_counted_queue<R: Runtime>(
     Ok(GatedQueue { sink, watch })
 }
 
-// Emits these lines, and returns how many the queue accepts and how many it refuses as full.
-fn accepted_and_refused<S: MetricSink>(sink: &S, lines: &[&str]) -> (u64, u64) {
+// Emits 500 lines, and returns how many the queue accepts and how many it refuses as full.
+fn emit_500<S: MetricSink>(sink: &S) -> [u64; 2] {
     let (mut taken, mut refused) = (0u64, 0u64);
-    for line in lines {
-        match sink.emit(line) {
-            Ok(length) if length == line.len() => taken = taken.wrapping_add(1),
+    for _ in 0..500 {
+        match sink.emit("a:1|c") {
+            Ok(5) => taken = taken.wrapping_add(1),
             Err(SinkError::ChannelFull) => refused = refused.wrapping_add(1),
             _ => {}
         }
     }
-    (taken, refused)
+    [taken, refused]
+}
+
+// Emits 500 lines from each of two threads, and returns how many the queue accepts and how many it refuses as full.
+fn emit_from_two_threads<R: Threads + Sync, S: MetricSink + Sync>(rt: &R, sink: &S) -> [u64; 2] {
+    let (one, other) = thread::join(rt, || emit_500(sink), || emit_500(sink));
+    [one[0].wrapping_add(other[0]), one[1].wrapping_add(other[1])]
 }
 
 // Returns how many lines the queue has accepted, dropped and drained, and how many wait.
@@ -148,146 +137,65 @@ fn counts_of<S: MetricSink, R: Wait + Drop, A: Allocator>(
     [counts.0, counts.1, counts.2, sink.queued()]
 }
 
-// Emits a second and a third line while the first one is at the gate. Returns whether as many as wanted are accepted
-// and refused, and whether a queue with a bound asks for memory once for each line that it accepts, and not for one
-// that it refuses. A queue without a bound may also ask for memory to grow.
-fn accepts_at_the_gate<R: Runtime>(
-    queue: &CountedQueue<R>,
-    heap: &RefusingAllocator<Global>,
-    wanted: (u64, u64),
-    has_bound: bool,
-) -> bool {
-    let left = heap.left();
-    let found = accepted_and_refused(&queue.sink, &["second:1|c", "third:1|c"]);
-    let requests = left.wrapping_sub(heap.left());
-    found == wanted && (requests == wanted.0 || !has_bound)
-}
-
-// What a queue does with a second and a third line while the first one is at the gate: how many it accepts and refuses;
-// how many it has accepted, dropped and drained, and how many wait; and the lines that pass the gate in the end.
-const AT_THE_GATE: &[(Bound, (u64, u64), [u64; 4], &[&str])] = &[
-    (
-        (None, QueuePolicy::Refuse),
-        (2, 0),
-        [3, 0, 1, 2],
-        &["first:1|c", "second:1|c", "third:1|c"],
-    ),
-    (
-        (Some(2), QueuePolicy::Refuse),
-        (2, 0),
-        [3, 0, 1, 2],
-        &["first:1|c", "second:1|c", "third:1|c"],
-    ),
-    (
-        (Some(1), QueuePolicy::Refuse),
-        (1, 1),
-        [2, 0, 1, 1],
-        &["first:1|c", "second:1|c"],
-    ),
-    (
-        (Some(1), QueuePolicy::DropOldest),
-        (2, 0),
-        [3, 1, 1, 1],
-        &["first:1|c", "third:1|c"],
-    ),
-];
-
-// Opens the gate, and asserts that these lines pass it until the worker's end. Returns whether each accepted line was
-// dropped or drained, no line waits, and a line that is refused then asks for no memory.
-fn has_right_end<R: Runtime>(
-    queue: &CountedQueue<R>,
-    heap: &RefusingAllocator<Global>,
-    passed: &[&str],
-) -> Result<bool, Fail> {
-    queue.assert_passes(passed)?;
-    let left = heap.left();
-    assert_refuses(&queue.sink, "fourth:1|c", WantedError::ChannelDisconnected)?;
-    let [submitted, dropped, drained, queued] = counts_of(&queue.sink);
-    let all = dropped.wrapping_add(drained) == submitted && drained == passed.len() as u64;
-    // the gated sink adds 7
-    let adds_up = queue.sink.dropped_lines() == dropped.wrapping_add(7);
-    Ok(all && adds_up && queued == 0 && heap.left() == left)
-}
-
-// Returns whether the queue of a row does what the row says, and its handler is never called.
-fn is_as_row_says<R: Runtime>(
-    rt: &R,
-    alloc: Global,
-    (bound, taken, counts, passed): (Bound, (u64, u64), [u64; 4], &[&str]),
-) -> Result<bool, Fail> {
-    let errors = Arc::new(alloc, AtomicU64::new(0))?;
-    let heap = RefusingAllocator::after(alloc, alloc, 9_999)?;
-    let queue = make_counted_queue(rt, alloc, (&heap, errors.clone()?), bound)?;
-    queue.bring_one_to_the_gate()?;
-    let is_right_at_the_gate = accepts_at_the_gate(&queue, &heap, taken, bound.0.is_some())
-        && counts_of(&queue.sink) == counts;
-    let is_right_at_the_end = has_right_end(&queue, &heap, passed)?;
-    Ok(is_right_at_the_gate && is_right_at_the_end && errors.load(Ordering::SeqCst) == 0)
-}
-
-#[test]
-fn a_full_queue_refuses_or_drops(rt: HostRuntime) -> Result<(), Fail> {
-    for row in AT_THE_GATE {
-        assert!(rt; is_as_row_says(&rt, rt.alloc(), *row)?);
-    }
-    Ok(())
-}
-
-// Emits 500 lines, and returns how many the queue accepts and how many it refuses as full.
-fn emit_500<S: MetricSink>(sink: &S) -> (u64, u64) {
-    let (mut taken, mut refused) = (0u64, 0u64);
-    for _ in 0..500 {
-        let one = accepted_and_refused(sink, &["a:1|c"]);
-        taken = taken.wrapping_add(one.0);
-        refused = refused.wrapping_add(one.1);
-    }
-    (taken, refused)
-}
-
-// Emits 500 lines from each of two threads, and returns how many the queue accepts and how many it refuses as full.
-fn emit_from_two_threads<R: Threads + Sync, S: MetricSink + Sync>(rt: &R, sink: &S) -> (u64, u64) {
-    let (one, other) = thread::join(rt, || emit_500(sink), || emit_500(sink));
-    (one.0.wrapping_add(other.0), one.1.wrapping_add(other.1))
-}
-
 // What a queue does with a thousand lines of two threads while another line is at the gate: how many it accepts and
 // refuses; how many it has accepted, dropped and drained, and how many wait.
-const OF_TWO_THREADS: &[(Bound, (u64, u64), [u64; 4])] = &[
-    ((None, QueuePolicy::Refuse), (1000, 0), [1001, 0, 1, 1000]),
+const OF_TWO_THREADS: &[(Bound, [u64; 2], [u64; 4])] = &[
+    ((None, QueuePolicy::Refuse), [1000, 0], [1001, 0, 1, 1000]),
     (
         (Some(300), QueuePolicy::Refuse),
-        (300, 700),
+        [300, 700],
         [301, 0, 1, 300],
     ),
     (
         (Some(300), QueuePolicy::DropOldest),
-        (1000, 0),
+        [1000, 0],
         [1001, 700, 1, 300],
     ),
 ];
 
-// Returns whether the queue of a row does what the row says, and each accepted line has been dropped or drained at the
-// worker's end.
-fn is_as_row_of_two_says<R: Runtime>(
+// Emits lines from two threads while another one is at the gate. Returns whether the queue does with them what the row
+// says, and whether one with a bound asks for memory once for each line that it accepts, and not for one that it
+// refuses. A queue without a bound also asks for memory to grow.
+fn is_right_at_the_gate<R: Runtime>(
     rt: &R,
-    alloc: Global,
-    (bound, taken, counts): (Bound, (u64, u64), [u64; 4]),
+    queue: &CountedQueue<R>,
+    heap: &RefusingAllocator<Global>,
+    (bound, taken, counts): (Bound, [u64; 2], [u64; 4]),
+) -> bool {
+    let left = heap.left();
+    let found = emit_from_two_threads(rt, &queue.sink);
+    let requests = left.wrapping_sub(heap.left());
+    found == taken
+        && counts_of(&queue.sink) == counts
+        && (requests == taken[0] || bound.0.is_none())
+}
+
+// Opens the gate, and waits for the worker's end. Returns whether each accepted line was dropped or drained, no line
+// waits, and a line that is refused then asks for no memory.
+fn has_right_end<R: Runtime>(
+    queue: &CountedQueue<R>,
+    heap: &RefusingAllocator<Global>,
 ) -> Result<bool, Fail> {
-    let errors = Arc::new(alloc, AtomicU64::new(0))?;
-    let heap = RefusingAllocator::after(alloc, alloc, 9_999)?;
-    let queue = make_counted_queue(rt, alloc, (&heap, errors), bound)?;
-    queue.bring_one_to_the_gate()?;
-    let is_right_at_the_gate = emit_from_two_threads(rt, &queue.sink) == taken
-        && counts_of(&queue.sink) == counts;
     queue.open_and_end();
-    let [submitted, dropped, drained, _] = counts_of(&queue.sink);
-    Ok(is_right_at_the_gate && dropped.wrapping_add(drained) == submitted)
+    let left = heap.left();
+    assert_refuses(&queue.sink, "late:1|c", WantedError::ChannelDisconnected)?;
+    let [submitted, dropped, drained, queued] = counts_of(&queue.sink);
+    // the gated sink adds 7
+    let adds_up = queue.sink.dropped_lines() == dropped.wrapping_add(7);
+    let all = dropped.wrapping_add(drained) == submitted && queued == 0;
+    Ok(all && adds_up && heap.left() == left)
 }
 
 #[test]
 fn two_threads_fill_a_queue_to_its_bound(rt: HostRuntime) -> Result<(), Fail> {
     for row in OF_TWO_THREADS {
-        assert!(rt; is_as_row_of_two_says(&rt, rt.alloc(), *row)?);
+        let errors = Arc::new(rt.alloc(), AtomicU64::new(0))?;
+        let heap = RefusingAllocator::after(rt.alloc(), rt.alloc(), 9_999)?;
+        let queue = make_counted_queue(&rt, rt.alloc(), (&heap, errors.clone()?), row.0)?;
+        queue.bring_one_to_the_gate()?;
+        assert!(rt; is_right_at_the_gate(&rt, &queue, &heap, *row));
+        assert!(rt; has_right_end(&queue, &heap)?);
+        assert_eq!(rt; errors.load(Ordering::SeqCst), 0);
     }
     Ok(())
 }
@@ -311,48 +219,15 @@ fn last_drop_hands_on_and_flushes(rt: HostRuntime) -> Result<(), Fail> {
     assert_last_message(&receiver, "a:1|c\nb:1|c\n")
 }
 
-// Makes a spy without a receiver, which refuses each line as disconnected.
-fn make_spy_without_receiver<R: Runtime>(rt: &R, alloc: Global) -> Result<SpyMetricSink<R>, Fail> {
-    let (_receiver, spy) = make_spy(rt, alloc)?;
-    Ok(spy)
-}
-
-// Builds a queue over a spy without a receiver.
+// Builds a queue over a spy without a receiver, which refuses each line as disconnected.
 fn build_over_lonely_spy<R: Runtime>(
     rt: &R,
     alloc: Global,
     builder: QueuingMetricSinkBuilder,
 ) -> Result<SpiedSink<R>, Fail> {
     let mine = rt.clone()?;
-    Ok(builder.build(mine, alloc, make_spy_without_receiver(rt, alloc)?)?)
-}
-
-// Makes a queue of ten lines over a spy without a receiver. Its handler counts the errors `ChannelDisconnected`.
-fn make_queue_over_lonely_spy<R: Runtime>(
-    rt: &R,
-    alloc: Global,
-    errors: &Arc<AtomicU64>,
-) -> Result<SpiedSink<R>, Fail> {
-    let counted = errors.clone()?;
-    let handler = Box::new(alloc, move |error| {
-        if matches!(error, SinkError::ChannelDisconnected) {
-            counted.fetch_add(1, Ordering::SeqCst);
-        }
-    })?;
-    let builder = QueuingMetricSinkBuilder::new()
-        .with_capacity(10)
-        .with_error_handler(handler);
-    build_over_lonely_spy(rt, alloc, builder)
-}
-
-#[test]
-fn handler_gets_each_fault_once(rt: HostRuntime) -> Result<(), Fail> {
-    let errors = Arc::new(rt.alloc(), AtomicU64::new(0))?;
-    let sink = make_queue_over_lonely_spy(&rt, rt.alloc(), &errors)?;
-    assert_accepts(&sink, &[("a:1|c", 5), ("b:1|c", 5)])?;
-    sink.stop_and_wait();
-    assert_eq!(rt; errors.load(Ordering::SeqCst), 2);
-    Ok(())
+    let (_receiver, spy) = make_spy(rt, alloc)?;
+    Ok(builder.build(mine, alloc, spy)?)
 }
 
 // Emits a line through the handle in the slot, and sends to a spy whether it was queued.
@@ -380,14 +255,16 @@ fn assert_handler_emits<R: Runtime>(
     Ok(())
 }
 
+// The handler gets the error of each of the two lines once.
 #[test]
 fn handler_may_emit(rt: HostRuntime) -> Result<(), Fail> {
     let (noted, notes) = make_spy(&rt, rt.alloc())?;
     let calls = Arc::new(rt.alloc(), AtomicU64::new(0))?;
     let slot: Arc<OnceLock<SpiedSink<HostRuntime>>> = Arc::new(rt.alloc(), OnceLock::new())?;
     let (counted, handle) = (calls.clone()?, slot.clone()?);
-    let handler = Box::new(rt.alloc(), move |_error| {
-        if counted.fetch_add(1, Ordering::SeqCst) == 0 {
+    let handler = Box::new(rt.alloc(), move |error| {
+        let is_its = matches!(error, SinkError::ChannelDisconnected);
+        if is_its && counted.fetch_add(1, Ordering::SeqCst) == 0 {
             emit_and_note(&handle, &notes);
         }
     })?;

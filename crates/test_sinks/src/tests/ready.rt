@@ -17,14 +17,9 @@ use std::sync::{Arc, Wait};
 use std::test::Fail;
 use std::{fs, io};
 
-// The addresses of a host, each with how it is reached. The ports are those of the lookup.
-const FIRST_V6: [u16; 8] = [0, 0, 0, 0, 0, 0, 0, 1];
-
-const SECOND_V6: [u16; 8] = [0x2001, 0xdb8, 0, 0, 0, 0, 0, 1];
-
-fn v6(segments: [u16; 8], port: u16) -> SocketAddr {
-    let [a, b, c, d, e, f, g, h] = segments;
-    SocketAddr::from((Ipv6Addr::new(a, b, c, d, e, f, g, h), port))
+// The addresses of a host. The ports are those of the lookup.
+fn v6(last: u16, port: u16) -> SocketAddr {
+    SocketAddr::from((Ipv6Addr::new(0x2001, 0xdb8, 0, 0, 0, 0, 0, last), port))
 }
 
 fn v4(last: u8, port: u16) -> SocketAddr {
@@ -42,7 +37,7 @@ enum Found {
 
 // Returns how many addresses a lookup gives, and up to four of them.
 fn addresses_of(found: Found, port: u16) -> (usize, [SocketAddr; 4]) {
-    let (first, second) = (v6(FIRST_V6, port), v6(SECOND_V6, port));
+    let (first, second) = (v6(1, port), v6(2, port));
     match found {
         Found::Nothing => (0, [first; 4]),
         Found::OnlyV6 => (2, [first, second, first, second]),
@@ -119,7 +114,7 @@ fn make_listed<R: Net + Wait + Clone + Drop>(
 fn an_address_of_ipv4_comes_first(rt: HostRuntime) -> Result<(), Fail> {
     let rows = [
         (Found::Nothing, None),
-        (Found::OnlyV6, Some(v6(FIRST_V6, 7))),
+        (Found::OnlyV6, Some(v6(1, 7))),
         (Found::V6First, Some(v4(1, 7))),
         (Found::V4First, Some(v4(1, 7))),
     ];

@@ -13,26 +13,6 @@ pub fn bind_to_loopback(net: &impl Net) -> io::Result<UdpSocket> {
     Ok(socket)
 }
 
-/// A server, its address, and a socket that sends to it.
-#[derive(Drop)]
-pub struct Ends {
-    pub server: UdpSocket,
-    pub address: SocketAddr,
-    pub socket: UdpSocket,
-}
-
-/// Makes a server, and a socket to send to it.
-pub fn make_ends(net: &impl Net) -> io::Result<Ends> {
-    let server = bind_to_loopback(net)?;
-    let address = server.local_addr()?;
-    let socket = bind_to_loopback(net)?;
-    Ok(Ends {
-        server,
-        address,
-        socket,
-    })
-}
-
 /// Binds a socket at the address of the host `localhost`, with a port of its own. It waits for a datagram five seconds
 /// at most.
 pub fn bind_to_localhost(net: &impl Net) -> io::Result<UdpSocket> {

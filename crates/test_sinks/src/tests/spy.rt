@@ -1,11 +1,9 @@
-//! Spies and their receivers. The program `test_sinks_match_run` gives lists of lines to buffered spies, and the
-//! program `test_scripts` refuses their requests for memory.
+//! Spies and their receivers. The program `test_scripts` refuses their requests for memory.
 use super::steps::{
     WantedError, assert_accepts, assert_flushes, assert_last_message, assert_messages,
-    assert_refuses, assert_refuses_flush, make_spy,
+    assert_refuses, make_spy,
 };
-use cadence_sinks::{BufferedSpyMetricSink, SpyMetricSink, SpyReceiver};
-use std::sync::Wait;
+use cadence_sinks::{BufferedSpyMetricSink, SpyMetricSink};
 use std::test::Fail;
 
 #[test]
@@ -33,32 +31,19 @@ const TWO_LINES: [(&str, usize); 2] = [("foo:54|c", 8), ("foo:67|c", 8)];
 
 const BOTH_LINES: &str = "foo:54|c\nfoo:67|c\n";
 
-// Emits two lines, and returns whether the sink holds both, so that no message waits yet.
-fn holds_two_lines<R: Wait + Drop>(
-    sink: &BufferedSpyMetricSink<R>,
-    receiver: &SpyReceiver<R>,
-) -> Result<bool, Fail> {
-    assert_accepts(sink, &TWO_LINES)?;
-    Ok(receiver.is_empty())
-}
-
+// The buffer has room for two lines, and the queue for one message.
 #[test]
-fn a_flush_and_a_drop_make_one_message(rt: HostRuntime) -> Result<(), Fail> {
-    let made = BufferedSpyMetricSink::with_capacity(rt.clone()?, rt.alloc(), None, Some(64));
+fn a_buffered_spy_keeps_both_bounds(rt: HostRuntime) -> Result<(), Fail> {
+    let made = BufferedSpyMetricSink::with_capacity(rt.clone()?, rt.alloc(), Some(1), Some(18));
     let (receiver, sink) = made?;
-    assert!(rt; holds_two_lines(&sink, &receiver)?);
+    assert_accepts(&sink, &TWO_LINES)?;
+    assert!(rt; receiver.is_empty());
     assert_flushes(&sink)?;
+    assert_accepts(&sink, &TWO_LINES)?;
+    assert_refuses(&sink, "foo:89|c", WantedError::ChannelFull)?;
     assert_messages(&receiver, &[BOTH_LINES])?;
-    assert!(rt; holds_two_lines(&sink, &receiver)?);
+    assert_accepts(&sink, &[("foo:89|c", 8)])?;
+    assert_messages(&receiver, &[BOTH_LINES])?;
     drop(sink);
-    assert_last_message(&receiver, BOTH_LINES)
-}
-
-#[test]
-fn held_text_stays_without_a_receiver(rt: HostRuntime) -> Result<(), Fail> {
-    let (receiver, sink) = BufferedSpyMetricSink::new(rt.clone()?, rt.alloc())?;
-    assert_accepts(&sink, &[("foo:54|c", 8)])?;
-    drop(receiver);
-    assert_refuses_flush(&sink, WantedError::ChannelDisconnected)?;
-    assert_refuses_flush(&sink, WantedError::ChannelDisconnected)
+    assert_last_message(&receiver, "foo:89|c\n")
 }

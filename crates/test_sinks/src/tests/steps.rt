@@ -1,13 +1,15 @@
-//! Calls of a sink and of a spy's receiver that assert their result.
+//! Calls of a sink and of a spy's receiver that assert their result, and a wait for a number.
 use cadence_errors::SinkError;
 use cadence_flow::MetricSink;
 use cadence_flow::stats::SinkStats;
 use cadence_sinks::{SpyMetricSink, SpyReceiver};
 use std::alloc::{Allocator, Global};
 use std::sync::Wait;
+use std::sync::atomic::{AtomicU64, Ordering};
 use std::test::Fail;
-use std::thread::Threads;
-use std::time::Clock;
+use std::thread::{self, Threads};
+use std::time::{Clock, Duration};
+use test_tools::moved_clock::PATIENCE;
 
 /// A runtime under which a queue can have a worker. Each type that meets these bounds implements this trait.
 pub trait Runtime: Wait + Clock + Threads + Clone + Drop + Send + Sync + 'static {}
@@ -86,19 +88,15 @@ pub fn assert_refuses_flush<S: MetricSink>(sink: &S, wanted: WantedError) -> Res
     }
 }
 
-// Returns the bytes and packets sent, and the bytes and packets dropped.
-fn counts_of(stats: SinkStats) -> [u64; 4] {
-    [
-        stats.bytes_sent,
-        stats.packets_sent,
-        stats.bytes_dropped,
-        stats.packets_dropped,
-    ]
-}
-
 /// Asserts the counts of a sink: the bytes and packets sent, and the bytes and packets dropped.
 pub fn assert_counts<S: MetricSink>(sink: &S, wanted: [u64; 4]) -> Result<(), Fail> {
-    let found = counts_of(sink.stats());
+    let SinkStats {
+        bytes_sent,
+        packets_sent,
+        bytes_dropped,
+        packets_dropped,
+    } = sink.stats();
+    let found = [bytes_sent, packets_sent, bytes_dropped, packets_dropped];
     if found != wanted {
         return Err(Fail::new(format_args!("the counts are {found:?}")));
     }
@@ -144,4 +142,15 @@ pub fn assert_last_message<R: Wait + Drop>(
         return Err(Fail::new("a message more"));
     }
     Ok(())
+}
+
+/// Waits until a number is at least as large as wanted, but not for ever.
+pub fn assert_reaches<R: Clock>(rt: &R, number: &AtomicU64, wanted: u64) -> Result<(), Fail> {
+    for _ in 0..PATIENCE {
+        if number.load(Ordering::SeqCst) >= wanted {
+            return Ok(());
+        }
+        thread::sleep(rt, Duration::from_millis(1));
+    }
+    Err(Fail::new(format_args!("a number doesn't reach {wanted}")))
 }

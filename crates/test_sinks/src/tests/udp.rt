@@ -1,41 +1,27 @@
-//! Sinks over UDP, to a server on this machine. The program `test_sinks_match_run` packs lines over buffered ones.
-use super::sockets::{
-    Ends, assert_datagrams, assert_sends, bind_to_localhost, bind_to_loopback, make_ends,
+//! Sinks over UDP, to a server on this machine.
+use super::sockets::{assert_datagrams, assert_sends, bind_to_localhost, bind_to_loopback};
+use super::steps::{
+    WantedError, assert_accepts, assert_counts, assert_flushes, assert_reaches, assert_refuses,
 };
-use super::steps::{WantedError, assert_accepts, assert_counts, assert_flushes, assert_refuses};
 use cadence_errors::{MetricError, MetricResult, SinkError};
 use cadence_flow::{MetricSink, SinkErrorHandler};
 use cadence_resolve::{ResolverRuntime, Target};
 use cadence_sinks::{
     BufferedUdpMetricSink, BufferedUdpMetricSinkBuilder, UdpMetricSink, UdpMetricSinkBuilder,
 };
-use std::alloc::{AllocError, Global};
-use std::net::{Ipv4Addr, Net, SocketAddr, UdpSocket};
+use std::alloc::Global;
+use std::net::{Ipv4Addr, SocketAddr, UdpSocket};
+use std::sync::Arc;
 use std::sync::atomic::{AtomicU64, Ordering};
-use std::sync::{Arc, Wait};
 use std::test::Fail;
-use std::thread;
 use std::time::{Clock, Duration};
 use test_tools::{RefusingAllocator, each_refused};
 
-// Makes a server, and a sink that sends each line to it.
-fn make_sink<R: Net + Wait + Clone + Drop>(
-    rt: &R,
-    alloc: Global,
-) -> Result<(UdpSocket, UdpMetricSink<R>), Fail> {
-    let mine = rt.clone()?;
-    let Ends {
-        server,
-        address,
-        socket,
-    } = make_ends(rt)?;
-    let sink = UdpMetricSink::from(mine, alloc, Target::Addr(address), socket)?;
-    Ok((server, sink))
-}
-
 #[test]
 fn each_line_is_a_datagram(rt: HostRuntime) -> Result<(), Fail> {
-    let (server, sink) = make_sink(&rt, rt.alloc())?;
+    let (server, mine) = (bind_to_loopback(&rt)?, bind_to_loopback(&rt)?);
+    let target = Target::Addr(server.local_addr()?);
+    let sink = UdpMetricSink::from(rt.clone()?, rt.alloc(), target, mine)?;
     assert_accepts(&sink, &[("buz:1|m", 7), ("", 0)])?;
     assert_datagrams(&server, &["buz:1|m", ""])?;
     assert_flushes(&sink)?;
@@ -50,17 +36,14 @@ fn a_refused_datagram_is_counted(rt: HostRuntime) -> Result<(), Fail> {
     assert_counts(&sink, [0, 0, 7, 1])
 }
 
-// Returns the server's port at the host `localhost`.
-fn target_by_name(server: &UdpSocket, alloc: Global) -> Result<Target, Fail> {
-    let port = server.local_addr()?.port();
-    let host = String::from_str(alloc, "localhost")?;
-    Ok(Target::Name { host, port })
-}
-
 #[test]
 fn a_host_is_looked_up(rt: HostRuntime) -> Result<(), Fail> {
     let server = bind_to_localhost(&rt)?;
-    let target = target_by_name(&server, rt.alloc())?;
+    let (host, port) = (
+        String::from_str(rt.alloc(), "localhost")?,
+        server.local_addr()?.port(),
+    );
+    let target = Target::Name { host, port };
     let sink = UdpMetricSink::from(rt.clone()?, rt.alloc(), target, bind_to_localhost(&rt)?)?;
     assert_sends(&sink, &server, "buz:1|m")
 }
@@ -76,61 +59,6 @@ fn a_lost_host_is_refused(rt: HostRuntime) -> Result<(), Fail> {
     let made = BufferedUdpMetricSink::from(rt.clone()?, rt.alloc(), target, bind_to_loopback(&rt)?);
     assert!(rt; matches!(made, Err(MetricError::Sink(SinkError::Io(_)))));
     Ok(())
-}
-
-// Makes a counter that is 0.
-fn make_counter(alloc: Global) -> Result<Arc<AtomicU64>, AllocError> {
-    let zero = Arc::new(alloc, AtomicU64::new(0))?;
-    Ok(zero)
-}
-
-// Builds a sink that looks its server up every millisecond, with memory from `heap`. Its handler counts its calls.
-fn build_unbuffered<R: ResolverRuntime>(
-    rt: &R,
-    alloc: Global,
-    heap: RefusingAllocator<Global>,
-    server: SocketAddr,
-    calls: Arc<AtomicU64>,
-) -> MetricResult<UdpMetricSink<R, RefusingAllocator<Global>>> {
-    let (mine, socket) = (rt.clone()?, bind_to_loopback(rt)?);
-    let handler: SinkErrorHandler = Box::new(alloc, move |_| {
-        calls.fetch_add(1, Ordering::SeqCst);
-    })?;
-    let builder = UdpMetricSinkBuilder::new()
-        .with_resolver_period(Duration::from_millis(1))
-        .with_resolver_error_handler(handler);
-    builder.build(mine, heap, Target::Addr(server), socket)
-}
-
-// Builds a sink with a buffer of 16 bytes that looks its server up every millisecond, with memory from `heap`. Its
-// handler counts its calls.
-fn build_buffered<R: ResolverRuntime>(
-    rt: &R,
-    alloc: Global,
-    heap: RefusingAllocator<Global>,
-    server: SocketAddr,
-    calls: Arc<AtomicU64>,
-) -> MetricResult<BufferedUdpMetricSink<R, RefusingAllocator<Global>>> {
-    let (mine, socket) = (rt.clone()?, bind_to_loopback(rt)?);
-    let handler: SinkErrorHandler = Box::new(alloc, move |_| {
-        calls.fetch_add(1, Ordering::SeqCst);
-    })?;
-    let builder = BufferedUdpMetricSinkBuilder::new()
-        .with_capacity(16)
-        .with_resolver_period(Duration::from_millis(1))
-        .with_resolver_error_handler(handler);
-    builder.build(mine, heap, Target::Addr(server), socket)
-}
-
-// Waits until a handler has been called, five seconds at most.
-fn wait_for_a_call<R: Clock>(rt: &R, calls: &AtomicU64) -> Result<(), Fail> {
-    for _ in 0..5000u64 {
-        if calls.load(Ordering::SeqCst) > 0 {
-            return Ok(());
-        }
-        thread::sleep(rt, Duration::from_millis(1));
-    }
-    Err(Fail::new("no call"))
 }
 
 // Asserts that the sink sends a line: if it holds lines with the flush, and otherwise at once.
@@ -157,53 +85,52 @@ fn calls_handler_and_sends<R: Clock, S: MetricSink>(
         Err(MetricError::Sink(SinkError::OutOfMemory)) => return Ok(false),
         Err(_) => return Err(Fail::new("another error")),
     };
-    wait_for_a_call(rt, calls)?;
+    assert_reaches(rt, calls, 1)?;
     assert_sends_on(&sink, server, holds)?;
     Ok(true)
 }
 
-// Returns whether the heap had memory to make a sink, which then calls its handler and still sends.
-fn makes_unbuffered<R: ResolverRuntime>(
+// Returns whether the heap had memory to make a sink, with a buffer or without, that looks its server up every
+// millisecond. Asserts that it then calls its handler and still sends.
+fn makes<R: ResolverRuntime>(
     rt: &R,
-    alloc: Global,
-    heap: RefusingAllocator<Global>,
+    (alloc, heap): (Global, RefusingAllocator<Global>),
     server: &UdpSocket,
+    holds: bool,
 ) -> Result<bool, Fail> {
-    let calls = make_counter(alloc)?;
-    let made = build_unbuffered(rt, alloc, heap, server.local_addr()?, calls.clone()?);
-    calls_handler_and_sends(rt, made, &calls, (server, false))
-}
-
-// Returns whether the heap had memory to make a sink with a buffer, which then calls its handler and still sends.
-fn makes_buffered<R: ResolverRuntime>(
-    rt: &R,
-    alloc: Global,
-    heap: RefusingAllocator<Global>,
-    server: &UdpSocket,
-) -> Result<bool, Fail> {
-    let calls = make_counter(alloc)?;
-    let made = build_buffered(rt, alloc, heap, server.local_addr()?, calls.clone()?);
-    calls_handler_and_sends(rt, made, &calls, (server, true))
+    let calls = Arc::new(alloc, AtomicU64::new(0))?;
+    let theirs = calls.clone()?;
+    let (mine, to, socket) = (rt.clone()?, server.local_addr()?, bind_to_loopback(rt)?);
+    let (to, period) = (Target::Addr(to), Duration::from_millis(1));
+    let handler: SinkErrorHandler = Box::new(alloc, move |_| {
+        theirs.fetch_add(1, Ordering::SeqCst);
+    })?;
+    if holds {
+        let builder = BufferedUdpMetricSinkBuilder::new()
+            .with_capacity(16)
+            .with_resolver_period(period)
+            .with_resolver_error_handler(handler);
+        let made = builder.build(mine, heap, to, socket);
+        return calls_handler_and_sends(rt, made, &calls, (server, holds));
+    }
+    let builder = UdpMetricSinkBuilder::new()
+        .with_resolver_period(period)
+        .with_resolver_error_handler(handler);
+    let made = builder.build(mine, heap, to, socket);
+    calls_handler_and_sends(rt, made, &calls, (server, holds))
 }
 
 #[test]
 fn a_sink_that_looks_up_tells_its_handler(rt: HostRuntime) -> Result<(), Fail> {
     let alloc = rt.alloc();
-    let granted: Result<Option<u64>, Fail> = each_refused(alloc, |heap| {
-        let server = bind_to_loopback(&rt)?;
-        makes_unbuffered(&rt, alloc, heap, &server)
-    });
-    assert!(rt; granted?.is_some());
-    Ok(())
-}
-
-#[test]
-fn a_buffered_sink_that_looks_up_tells_its_handler(rt: HostRuntime) -> Result<(), Fail> {
-    let alloc = rt.alloc();
-    let granted: Result<Option<u64>, Fail> = each_refused(alloc, |heap| {
-        let server = bind_to_loopback(&rt)?;
-        makes_buffered(&rt, alloc, heap, &server)
-    });
-    assert!(rt; granted?.is_some());
+    for holds in [false, true] {
+        // Without the server the check refuses the closure: "a type names a struct or an enum that its function's
+        // table lacks".
+        let granted: Result<Option<u64>, Fail> = each_refused(alloc, |heap| {
+            let server = bind_to_loopback(&rt)?;
+            makes(&rt, (alloc, heap), &server, holds)
+        });
+        assert!(rt; granted?.is_some());
+    }
     Ok(())
 }
