@@ -32,8 +32,8 @@ fn a_caller_gives_way_at_a_full_queue(rt: HostRuntime) -> Result<(), Fail> {
         at_stopped = at_stopped.min(time_of_round(&rt, &stopped)?);
     }
     let (at_full, at_stopped) = (at_full.as_nanos(), at_stopped.as_nanos());
-    // a quarter more at least
-    let is_longer = at_full.wrapping_mul(4) > at_stopped.wrapping_mul(5);
+    // a sixth more at least
+    let is_longer = at_full.wrapping_mul(6) > at_stopped.wrapping_mul(7);
     assert!(rt; is_longer, "{at_full} and {at_stopped} nanoseconds");
     Ok(())
 }
