@@ -7,7 +7,7 @@ use std::sync::Wait;
 use std::test::Fail;
 use std::time::{Clock, Duration, Instant};
 
-// The fastest of so many rounds was most likely disturbed by nothing else that the machine does.
+// Other work of the machine can slow down some rounds, but hardly all of them, so the fastest one counts.
 const ROUNDS: u32 = 50;
 
 const CALLS: u32 = 200;

@@ -54,8 +54,8 @@ const LINES: &[&str] = &[
     "longer:6666|c",
 ];
 
-// Puts each line into a queue of two, and takes it. Returns how many were refused once for want of memory and accepted
-// at the next try, or `None` if another line came, or a line was refused twice.
+// Puts each line into a queue of two, and takes it. Returns how many lines were refused at first because memory ran out,
+// and accepted at the next try. Returns `None` if another line came, or if a line was refused twice.
 fn refused_once<R: Wait>(
     rt: &R,
     heap: &RefusingAllocator<Global>,
