@@ -1,7 +1,6 @@
-"""Made-up crates for the self-test of .ci/public-calls, and the page that it has to make of them."""
+"""Made-up crates for the self-test of .ci/public-calls, and the page that it has to make of them, but for its head."""
 
 ORDER = ('shop', 'shop::prices')
-PROGRAMS = ('till',)
 FOR_PROOFS = {'shop': {'Ledger'}}
 
 COIN = '''/// A coin. Its value stays.
@@ -57,14 +56,23 @@ where
 pub fn spin(coin: &Coin) -> Side {
     Side::Head
 }
+
+/// Turns coins.
+pub fn spin_each<F: Fn(&Coin) -> Side>(
+    coins: &[Coin],
+    times: usize, // of each coin
+) -> Result<Side, Vec<Side>>
+    ensures { times ≤ 7 }
+{
+}
 '''
 
 FILES = {
-    'crates.txt': '# the lowest crate: of coins\ncoins:\nshop may_wait=1: coins\ntill_engine: shop\ntill: till_engine\n',
+    'crates.txt': '# the lowest crate: of coins\ncoins:\nshop may_wait=1: coins\n',
     'crates/coins/src/lib.rt': '''mod coin;
 pub mod kinds;
 
-pub use coin::{Coin, Purse, Side, spin};
+pub use coin::{Coin, Purse, Side, spin, spin_each};
 
 /// How many coins a purse has
 /// at most. See [Purse](coin::Purse).
@@ -84,7 +92,7 @@ mod roll;
 pub use coins::kinds;
 pub use coins::{
     Coin, MOST,
-    Purse, Side as Face,
+    Purse, Side as Face, spin_each,
 };
 pub use crate::roll::Ledger;
 // pub use coins::spin;
@@ -99,22 +107,31 @@ pub struct Price<T> {
 }
 
 impl<T: Into<Vec<u8>>> Price<T> {
-    pub fn of(amount: T) -> Price<T> {}
+    pub fn of(mut amount: T, ghost past: List, more: impl Fn(T) -> T) -> Price<T>
+    where
+        T: Copy,
+    {
+    }
 }
 ''',
     'crates/shop/src/roll.rt': '/// A roll of paper.\npub struct Roll;\n\n/// What was sold.\npub struct Ledger;\n',
-    'crates/till_engine/src/lib.rt': 'pub fn run() {}\n\nfn own() {}\n',
-    'crates/till/src/main.rt': 'fn main() {}\n',
 }
 
 PAGE = '''
 ## `shop`
 
-- **`Coin`**: A coin. Has `value`, `new`, `melt`.
-- **`Face`**: A side of a coin, as `Coin` has two. Has `Head`, `Tail`.
+- **`Coin`**: A coin. Has `value: u32`.
+  - `new(value: u32) -> Coin`
+  - `melt(self)`
+- **`Face`**: A side of a coin, as `Coin` has two. Has `Head`, `Tail(u8)`.
 - **`MOST`**: How many coins a purse has at most.
-- **`Price`**: What a thing costs. Has `amount`, `of`.
-- **`Purse`**: What holds coins. Has `put`, `count`.
+- **`Price`**: What a thing costs. Has `amount: T`.
+  - `of(amount: T, more: impl Fn(T) -> T) -> Price<T>`
+- **`Purse`**: What holds coins.
+  - `put(&mut self, coin: Coin)`
+  - `count(&self) -> usize`
+- **`spin_each`**: Turns coins.
+  - `spin_each(coins: &[Coin], times: usize) -> Result<Side, Vec<Side>>`
 
 ## `shop::prices`
 
@@ -124,18 +141,6 @@ Also here: `Coin`, `Price`
 
 ## `shop::kinds`
 
-- **`Coin`**: The kind of a coin. Has `name`.
-
-## Exported for proofs and for crates of the library
-
-A service has no use for these names.
-
-- `shop`: `Ledger`
-- `coins`: `spin`
-
-## Exported for the programs
-
-The programs and their tests use these names. A service has no use for them.
-
-- `till_engine`: `run`
+- **`Coin`**: The kind of a coin.
+  - `name(&self) -> &str`
 '''

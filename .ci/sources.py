@@ -109,17 +109,12 @@ def subject(head):
     if ' for ' in head:
         return None
     while head.startswith('<'):
-        depth = 0
-        for at, sign in enumerate(head):
-            depth += (sign == '<') - (sign == '>' and head[at - 1] != '-')
-            if not depth:
-                head = head[at + 1:].strip()
-                break
+        head = head[length_of_brackets(head, '<', '>'):].strip()
     return re.match(r'\w+', head)[0]
 
 
 def calls_in(crate):
-    """Returns the calls of each type and trait of a crate, by its name and by whether it is in a module of kinds."""
+    """Returns the signatures of the calls of each type and trait of a crate, by its name and its file."""
     calls = {}
     for path in sorted(glob.glob(f'crates/{crate}/src/**/*.rt', recursive=True)):
         if '/tests' not in path:
@@ -127,9 +122,33 @@ def calls_in(crate):
                 pattern = r'    fn (\w+)' if head.startswith('pub trait') else r'    pub (?:const |unsafe )*fn (\w+)'
                 name = subject(head)
                 if name:
-                    found = [match[1] for match in (re.match(pattern, line) for line in lines) if match]
+                    found = [signature(lines[at:]) for at, line in enumerate(lines) if re.match(pattern, line)]
                     calls.setdefault((name, path), []).extend(found)
     return calls
+
+
+def signature(lines):
+    """Returns the name, the parameters and the result of the function that begins in the first of these lines, without its type
+    parameters, its contract and what proofs alone read."""
+    text = ' '.join(' '.join(lines).split())
+    name = re.search(r'\bfn (\w+)', text)
+    rest = text[name.end():]
+    if rest.startswith('<'):
+        rest = rest[length_of_brackets(rest, '<', '>'):]
+    length = length_of_brackets(rest, '(', ')')
+    given = [part for part in re.split(r', (?=(?:mut )?(?:ghost )?\w+: )', rest[1:length - 1].strip(' ,')) if part and not part.startswith('ghost ')]
+    result = re.match(r' -> (.*?)(?: \{|;| where\b| ensures\b| requires\b|$)', rest[length:])
+    return f'{name[1]}({", ".join(part.removeprefix("mut ") for part in given)})' + (f' -> {result[1]}' if result else '')
+
+
+def length_of_brackets(text, opening, closing):
+    """Returns how long the part in brackets is with which a text begins. The bracket of an arrow counts as none."""
+    depth = 0
+    for at, sign in enumerate(text):
+        depth += (sign == opening) - (sign == closing and text[at - 1] != '-')
+        if not depth:
+            return at + 1
+    stop(f'{text} has no end of {opening}')
 
 
 def body_of(item):
@@ -145,8 +164,10 @@ def body_of(item):
 
 
 def parts_of(item):
-    """Returns the public fields of a struct, or the variants of an enum."""
+    """Returns the public fields of a struct, the variants of an enum, or the signature of a function."""
     kind = item[0]
     lines = without_comments('\n'.join(body_of(item)[1])).splitlines()
-    pattern = {'struct': r'    pub (\w+):', 'enum': r'    ([A-Z]\w*)'}.get(kind, r'(?!)')
+    if kind == 'fn':
+        return [signature(lines)]
+    pattern = {'struct': r'    pub (\w+: .*),$', 'enum': r'    ([A-Z][^{=]*?)(?: [{=].*)?,?\s*$'}.get(kind, r'(?!)')
     return [match[1] for match in (re.match(pattern, line) for line in lines) if match]

@@ -1,6 +1,7 @@
+/* SPDX-License-Identifier: Apache-2.0 OR MIT */
 /* The proved Statsd formatter and packer, for C and C++.
  *
- *     const cadence_settings settings = cadence_settings_of("my.service.");
+ *     const cadence_settings settings = cadence_settings_of("my.service");
  *     cadence_handle client = CADENCE_CLOSED;
  *     cadence_open(&client, 1432, 8, CADENCE_DROP_OLDEST);
  *     cadence_count(&client, &settings, "visits", 1, NULL);
@@ -279,11 +280,12 @@ void cadence_free_sums(cadence_sums *sums);
 
 /* Adds a line up, so that what it says is held and the client keeps no line of it. A line that can't be held, as one
  * with a time, a decimal counter, a meter or a line that is too long, is kept by the client like that of cadence_line.
- * Some calls give the client a line of what is held, which is then no longer held: of the context that was called least
- * recently, if there is no room for a new one; of a sum that would pass 64 bits; and of values that would pass the
- * length of a line. All gauges that are held come before a gauge whose value has a sign. A line for which the client
- * has no room waits in the sums, and comes before all others. Returns CADENCE_OK; CADENCE_NO_CLIENT if the handle or
- * the sums are closed; CADENCE_NOT_UTF8; CADENCE_FULL if a line waits and the client has no room for it; or
+ * Some calls give the client a line of what is held, which is then no longer held: of the oldest context, if
+ * there is no room for a new one; of a sum that would pass 64 bits; and of values that would pass the
+ * length of a line. All gauges that are held come before a line that can't be held and has `|g` in it, as a gauge with
+ * a sign or a time, or a text that isn't read, because a server may set a gauge by it. A line for which the client has
+ * no room waits in the sums, and comes before all others. Returns CADENCE_OK; CADENCE_NO_CLIENT if the handle or the
+ * sums are closed; CADENCE_NOT_UTF8; CADENCE_FULL if a line waits and the client has no room for it; or
  * CADENCE_NO_MEMORY. If it is not CADENCE_OK, the line is not added, and nothing that was added before is lost. */
 uint32_t cadence_add_line(cadence_sums *sums, cadence_handle *handle, const uint8_t *line, size_t line_len);
 
@@ -301,9 +303,9 @@ uint32_t cadence_make_key(cadence_sums *sums, const uint8_t *line, size_t line_l
 uint32_t cadence_add_number(cadence_sums *sums, cadence_handle *handle, size_t key, int64_t number);
 
 /* Gives the client a line for each context that is held, so that nothing is held any more. Call cadence_flush after it.
- * Returns CADENCE_OK, CADENCE_NO_CLIENT, CADENCE_NO_MEMORY or CADENCE_FULL. After the last two, what the client did not
- * get is still there: send the packets that wait, and call again. With CADENCE_DROP_OLDEST the client drops packets of
- * a large flush, if it makes more packets than may wait. */
+ * Returns CADENCE_OK, CADENCE_NO_CLIENT, CADENCE_NO_MEMORY or CADENCE_FULL. Nothing else tells the host of the last two.
+ * After them, what the client did not get is still there: send the packets that wait, and call again. With
+ * CADENCE_DROP_OLDEST the client drops packets of a large flush, if it makes more packets than may wait. */
 uint32_t cadence_flush_sums(cadence_sums *sums, cadence_handle *handle);
 
 /* These five calls write one line into `out`, without a newline, and set *length to its length in bytes. They need no
@@ -468,37 +470,49 @@ static inline cadence_options cadence_options_of(const cadence_tag *tags, size_t
     return options;
 }
 
-/* Returns settings that begin each line with a text, and add nothing else: a prefix with its dot, as "my.service.".
- * They point to the text, so keep it alive. */
-static inline cadence_settings cadence_settings_of(const char *prefix) {
+/* Returns settings of a text that ends with one dot more than a prefix, as cadence_settings_of makes it. */
+static inline cadence_settings cadence_settings_of_dotted(const char *text, size_t len) {
     cadence_settings settings = CADENCE_NO_SETTINGS;
-    settings.prefix = CADENCE_BYTES(prefix);
-    settings.prefix_len = cadence_length_of(prefix);
+    while (len > 1 && text[len - 2] == '.') len--;
+    settings.prefix = CADENCE_BYTES(text);
+    settings.prefix_len = text[1] != '\0' ? len : 0;
     return settings;
 }
 
-/* Makes settings of a prefix, default tags, a default container, which may be null, and whether they are strict. Their
- * texts are in `room`, and the settings point there and to the container, so keep both alive. Returns CADENCE_OK, or
- * the status of the call that refuses a text; CADENCE_TOO_SMALL says that the room is too small. */
+/* Returns settings that begin each name with a prefix and a dot, and add nothing else. The prefix is a literal, with a dot
+ * at its end or without one, as "my.service". Another text does not compile: cadence_settings_make takes it. */
+#define cadence_settings_of(prefix) cadence_settings_of_dotted(prefix ".", sizeof(prefix))
+
+/* Makes settings of a prefix, default tags, a default container, which may be null, and whether they are strict. The
+ * prefix gets a dot at its end if it has none. The texts are in `room`, and the settings point there and to the
+ * container, so keep both alive. Sets *needed to how many bytes of room the texts need. Returns CADENCE_OK; the status of
+ * the call that refuses a text, with *needed 0; or CADENCE_TOO_SMALL. */
 static inline uint32_t cadence_settings_make(cadence_settings *settings, const char *prefix, const cadence_tag *tags,
                                              size_t tags_len, const char *container, bool strict, uint8_t *room,
-                                             size_t room_len) {
+                                             size_t room_len, size_t *needed) {
     cadence_settings made = CADENCE_NO_SETTINGS;
     uint32_t status =
         cadence_prefix_text(CADENCE_BYTES(prefix), cadence_length_of(prefix), strict, room, room_len, &made.prefix_len);
-    if (status != CADENCE_OK) return status;
+    const bool fits = status == CADENCE_OK;
+    *needed = 0;
+    if (!fits && status != CADENCE_TOO_SMALL) return status;
     made.prefix = room;
-    made.tags = room + made.prefix_len;
-    status =
-        cadence_tags_text(tags, tags_len, strict, room + made.prefix_len, room_len - made.prefix_len, &made.tags_len);
-    if (status != CADENCE_OK) return status;
+    if (fits && made.prefix_len != 0) room += made.prefix_len;
+    made.tags = room;
+    status = cadence_tags_text(tags, tags_len, strict, room, fits ? room_len - made.prefix_len : 0, &made.tags_len);
+    if (status != CADENCE_OK && status != CADENCE_TOO_SMALL) return status;
     made.container = CADENCE_BYTES(container);
     made.container_len = cadence_length_of(container);
     made.contained = container != CADENCE_NULL;
     made.strict = strict;
-    if (strict && made.contained) status = cadence_test_text(made.container, made.container_len);
-    if (status == CADENCE_OK) *settings = made;
-    return status;
+    if (strict && made.contained) {
+        const uint32_t tested = cadence_test_text(made.container, made.container_len);
+        if (tested != CADENCE_OK) return tested;
+    }
+    *needed = made.prefix_len + made.tags_len;
+    if (!fits || status != CADENCE_OK) return CADENCE_TOO_SMALL;
+    *settings = made;
+    return CADENCE_OK;
 }
 
 /* Keeps a metric of one whole number, like cadence_signed. */
@@ -508,6 +522,15 @@ static inline uint32_t cadence_whole(cadence_handle *handle, const cadence_setti
     const cadence_settings nothing = CADENCE_NO_SETTINGS;
     return cadence_signed(handle, settings != CADENCE_NULL ? settings : &nothing, kind, CADENCE_BYTES(key),
                           cadence_length_of(key), &value, 1, options != CADENCE_NULL ? options : &none);
+}
+
+/* Keeps a metric of one whole number that isn't negative, like cadence_unsigned. */
+static inline uint32_t cadence_natural(cadence_handle *handle, const cadence_settings *settings, uint32_t kind,
+                                       const char *key, uint64_t value, const cadence_options *options) {
+    const cadence_options none = CADENCE_NO_OPTIONS;
+    const cadence_settings nothing = CADENCE_NO_SETTINGS;
+    return cadence_unsigned(handle, settings != CADENCE_NULL ? settings : &nothing, kind, CADENCE_BYTES(key),
+                            cadence_length_of(key), &value, 1, options != CADENCE_NULL ? options : &none);
 }
 
 /* Keeps a metric of one decimal number, like cadence_decimal: mantissa divided by 10 to the power of places. */
@@ -601,18 +624,32 @@ static inline uint32_t cadence_add_raw(cadence_sums *sums, cadence_handle *handl
 #ifdef __cplusplus
 }
 
-/* Keeps a metric of one number: of a double or a float by cadence_double, and of an integer by cadence_whole. */
+/* Keeps a metric of one number: of a double or a float by cadence_double, of an unsigned integer of 64 bits by
+ * cadence_natural, and of another integer by cadence_whole. */
+template <typename T, bool is_floating, bool is_natural> struct cadence_number_of {
+    static inline uint32_t keep(cadence_handle *handle, const cadence_settings *settings, uint32_t kind, const char *key,
+                                T value, const cadence_options *options) {
+        return cadence_whole(handle, settings, kind, key, static_cast<int64_t>(value), options);
+    }
+};
+template <typename T> struct cadence_number_of<T, true, false> {
+    static inline uint32_t keep(cadence_handle *handle, const cadence_settings *settings, uint32_t kind, const char *key,
+                                T value, const cadence_options *options) {
+        return cadence_double(handle, settings, kind, key, static_cast<double>(value), options);
+    }
+};
+template <typename T> struct cadence_number_of<T, false, true> {
+    static inline uint32_t keep(cadence_handle *handle, const cadence_settings *settings, uint32_t kind, const char *key,
+                                T value, const cadence_options *options) {
+        return cadence_natural(handle, settings, kind, key, static_cast<uint64_t>(value), options);
+    }
+};
 template <typename T>
-inline typename std::enable_if<std::is_floating_point<T>::value, uint32_t>::type
-cadence_number(cadence_handle *handle, const cadence_settings *settings, uint32_t kind, const char *key, T value,
-               const cadence_options *options) {
-    return cadence_double(handle, settings, kind, key, static_cast<double>(value), options);
-}
-template <typename T>
-inline typename std::enable_if<!std::is_floating_point<T>::value, uint32_t>::type
-cadence_number(cadence_handle *handle, const cadence_settings *settings, uint32_t kind, const char *key, T value,
-               const cadence_options *options) {
-    return cadence_whole(handle, settings, kind, key, static_cast<int64_t>(value), options);
+inline uint32_t cadence_number(cadence_handle *handle, const cadence_settings *settings, uint32_t kind, const char *key,
+                               T value, const cadence_options *options) {
+    return cadence_number_of<T, std::is_floating_point<T>::value,
+                             std::is_unsigned<T>::value && sizeof(T) >= sizeof(uint64_t)>::keep(handle, settings, kind,
+                                                                                               key, value, options);
 }
 #define CADENCE_KEEPS(name, kind)                                                                                      \
     template <typename T>                                                                                              \
@@ -621,21 +658,30 @@ cadence_number(cadence_handle *handle, const cadence_settings *settings, uint32_
         return cadence_number(handle, settings, kind, key, value, options);                                            \
     }
 #elif defined(__STDC_VERSION__) && __STDC_VERSION__ >= 201112L
-/* Keeps a metric of one number: of a double or a float by cadence_double, and of an integer by cadence_whole. */
+/* Keeps a metric of one number: of a double or a float by cadence_double, of an unsigned integer of 64 bits by
+ * cadence_natural, and of another integer by cadence_whole. */
 #define CADENCE_NUMBER(value)                                                                                          \
     _Generic((value), float: cadence_double, double: cadence_double, long double: cadence_double,                      \
-             default: cadence_whole)
+             unsigned long: cadence_natural, unsigned long long: cadence_natural, default: cadence_whole)
 #define cadence_number(handle, settings, kind, key, value, options) \
     CADENCE_NUMBER(value)(handle, settings, kind, key, value, options)
 #else
+/* Keeps a metric of one integer, whose bits these are, by cadence_natural if its type is unsigned and otherwise by
+ * cadence_whole. */
+static inline uint32_t cadence_integer(cadence_handle *handle, const cadence_settings *settings, uint32_t kind,
+                                       const char *key, uint64_t bits, bool is_unsigned,
+                                       const cadence_options *options) {
+    return is_unsigned ? cadence_natural(handle, settings, kind, key, bits, options)
+                       : cadence_whole(handle, settings, kind, key, (int64_t)bits, options);
+}
 /* C99 can't choose a call by the type of a value. A double does not compile here, because of the |: write
  * cadence_double. */
 #define cadence_number(handle, settings, kind, key, value, options)                                                    \
-    cadence_whole(handle, settings, kind, key, 0 | (value), options)
+    cadence_integer(handle, settings, kind, key, (uint64_t)(0 | (value)), (__typeof__(0 | (value)))-1 > 0, options)
 #endif
 
-/* These keep a metric of one number, an integer or (from C11 and in C++) a double. Each returns what cadence_floating
- * returns. Adds to a counter; sets a gauge; keeps a time in milliseconds, with up to six places of a double; adds a
+/* These keep a metric of one number, an integer of up to 64 bits or (from C11 and in C++) a double. Each returns what
+ * cadence_floating returns. Adds to a counter; sets a gauge; keeps a time in milliseconds, with up to six places of a double; adds a
  * value to a distribution. Many servers read a gauge below 0 as a change of the gauge. */
 #ifdef __cplusplus
 CADENCE_KEEPS(cadence_count, CADENCE_COUNTER)

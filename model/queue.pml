@@ -61,16 +61,17 @@
 #define STOPPED 3
 #define OUT_OF_MEMORY 4
 
-/* Where each thread sleeps: for one of the two locks, which are the queue's and the end mark's, or on the Condvar of
-   one of them. The first thread starts the others, the second is the worker, then come the callers, and the last
-   threads stop the queue. */
+/* Where each thread sleeps: for one of the locks, which are the queue's, the end mark's and that of a repeater's share,
+   or on the Condvar of one of the first two. The first thread starts the others, the second is the worker, then come the
+   callers, and the last threads stop the queue. */
 #define THREADS (2 + CALLERS + STOPPERS)
 #define WORKER 1
 #define NOWHERE 0
 #define QUEUE 1
 #define END 2
-#define CHANGED 3
-#define MARKED 4
+#define SHARE 3
+#define CHANGED 4
+#define MARKED 5
 byte sleeps_at[THREADS];
 
 /* The fields of the queue, which only the holder of its lock uses. */
@@ -86,7 +87,7 @@ bool ended;
 /* Whether the worker still has its share of the wrapped sink and of the error handler. */
 bool has_share = true;
 
-/* If PERIOD is 1: whether a text was handed on since the last flush that succeeded; and how many flushes may still fail. */
+/* If PERIOD is 1: whether the worker has noted that it owes a flush; and how many flushes may still fail. */
 bool owes;
 #if FAILURES < 0
 #define MAY_FAIL true
@@ -100,10 +101,12 @@ byte failures = FAILURES;
 #endif
 
 /* What only the checks read: the accepted texts that were neither handed on nor dropped, in the order in which they were
-   accepted; how many offers answered that they were accepted; how many texts were handed on; and how many calls have
-   changed the queue and not returned yet. */
+   accepted; how many offers answered that they were accepted; how many texts were handed on; how many calls have
+   changed the queue and not returned yet; and, if PERIOD is 1, whether a text was handed on since the last flush that
+   succeeded. */
 chan owed = [TEXTS] of { byte };
 byte accepted, handed, under_way;
+bool is_unflushed;
 
 #define IS_IDLE (!stopped && len(ring) == 0)
 
@@ -125,8 +128,8 @@ byte accepted, handed, under_way;
 /* The kit's Mutex; each of its steps on its word is a step here. The word is 1 if the lock is free, and 4 if it is free
    only for a thread that has slept. It is 0 if a thread has the lock, 2 if a thread has it and another may sleep for
    it, and 3 if a thread that has slept twice asks that the word become 4. */
-byte word[3] = 1;
-byte holders[3];
+byte word[4] = 1;
+byte holders[4];
 
 #define LOCALS bool got, missed; byte seen, slept, wanted, noted
 
@@ -211,11 +214,11 @@ inline UNLOCK(lock) {
   got = false
 }
 
-#define ARE_FREE (holders[QUEUE] + holders[END] == 0 && word[QUEUE] == 1 && word[END] == 1)
+#define ARE_FREE (holders[QUEUE] + holders[END] + holders[SHARE] == 0 && word[QUEUE] == 1 && word[END] == 1 && word[SHARE] == 1)
 
 #else
 
-bool held[3];
+bool held[4];
 
 #define LOCALS bool got; byte noted
 
@@ -233,7 +236,7 @@ inline UNLOCK(lock) {
   held[lock] = false
 }
 
-#define ARE_FREE (!held[QUEUE] && !held[END])
+#define ARE_FREE (!held[QUEUE] && !held[END] && !held[SHARE])
 
 #endif
 
@@ -348,11 +351,16 @@ inline OFFER(text) {
   was_full = IS_FULL;
 #endif
   LOCK(QUEUE);
+#if FAULT == 20
+  idle = IS_IDLE;
+#endif
   if
   :: IS_FULL && !stopped -> RELEASE(true); LOCK(QUEUE)
   :: else
   fi;
+#if FAULT != 20
   idle = IS_IDLE;
+#endif
   if
   :: stopped -> answer = STOPPED
   :: !stopped && LACKS_ROOM -> answer = FULL
@@ -363,7 +371,7 @@ inline OFFER(text) {
 #if DROP_OLDEST
      if
      :: IS_FULL ->
-        atomic { ring ? oldest; dropped++; assert(owed ?? [eval(oldest)]); owed ?? eval(oldest); oldest = 0 }
+        atomic { ring ? oldest; dropped = dropped + (FAULT != 23); assert(owed ?? [eval(oldest)]); owed ?? eval(oldest); oldest = 0 }
      :: else
      fi;
 #endif
@@ -442,11 +450,18 @@ inline MOVE() {
 inline FLUSH() {
   atomic {
     if
-    :: owes = false
+    :: owes = false; is_unflushed = false
     :: MAY_FAIL -> COUNT_FAILURE
     fi
   }
 }
+#endif
+
+#if FAULT == 21
+/* a wait with a time doesn't end at a stop */
+#define MISSES_STOP (timed && stopped && len(ring) == 0)
+#else
+#define MISSES_STOP false
 #endif
 
 /* `Taker::next` and `Taker::fetch`, for each text until the end, and then `Part::end`. If PERIOD is 1, also
@@ -481,7 +496,7 @@ look:
   :: else -> got = false
   fi;
   if
-  :: IS_IDLE -> RELEASE(true); goto look
+  :: IS_IDLE || MISSES_STOP -> RELEASE(true); goto look
   :: else -> looks = 0
   fi;
   MOVE();
@@ -507,7 +522,10 @@ sleep:
   fi;
 #endif
   do
-  :: !IS_IDLE -> break
+  :: !IS_IDLE && !MISSES_STOP -> break
+#if FAULT == 21
+  :: MISSES_STOP -> RELEASE(true); goto flush
+#endif
 #if PERIOD && FAULT != 10
   :: IS_IDLE && timed ->
 progress_idle:
@@ -530,7 +548,16 @@ moved:
   fi;
 give:
   /* the wrapped sink works here, and the worker holds no lock */
-  atomic { lent ? text; assert(owed ? [eval(text)]); owed ? eval(text); handed++; text = 0; owes = PERIOD };
+  atomic {
+    lent ? text;
+    assert(owed ? [eval(text)]); owed ? eval(text);
+    handed++;
+    is_unflushed = PERIOD;
+#if FAULT != 19
+    owes = PERIOD;
+#endif
+    text = 0
+  };
   goto next;
 #if PERIOD
 flush:
@@ -554,10 +581,13 @@ finish:
 #if FAULT != 17
   has_share = false;
 #endif
+#if FAULT == 22
+  NOTIFY_ALL(MARKED);
+#endif
   LOCK(END);
   ended = true;
   UNLOCK(END);
-#if FAULT != 8
+#if FAULT != 8 && FAULT != 22
   NOTIFY_ALL(MARKED);
 #endif
   has_share = false
@@ -569,8 +599,13 @@ finish:
 byte late;
 bool is_long;
 
-/* `SharedWork::run`: `Latch::wait_within`, and then the work, unless the mark is set. If the clock can't be read, the
-   time is over at once. */
+/* How many shares of the work there are. One is the owner's. Another lies under the lock SHARE until the owner takes it
+   out, and the thread has a copy of that while it is in a turn. The last share takes the work with it. */
+byte shares = 2;
+bool is_shared = true, in_turn;
+
+/* `SharedWork::run`: `Latch::wait_within`, and then a turn (`SharedWork::take_turn`), unless the mark is set. If the
+   clock can't be read, the time is over at once. */
 proctype SharedWork() {
   LOCALS; bool is_over;
 again:
@@ -591,20 +626,49 @@ progress_sleep:
   is_over = is_over && is_long;
 #endif
   if
-  :: is_over
-  :: else -> atomic { late = late + ended; assert(late <= 1) }; goto again
-  fi
+  :: is_over -> goto finish
+  :: else
+  fi;
+  LOCK(SHARE);
+  atomic {
+    if
+    :: is_shared -> shares = shares + (FAULT != 24); in_turn = true; late = late + ended; assert(late <= 1)
+    :: else
+    fi
+  };
+  UNLOCK(SHARE);
+  /* the work is done here, and the thread holds no lock */
+  atomic {
+    if
+    :: in_turn -> assert(shares > 0); shares = shares - (FAULT != 24); in_turn = false
+    :: else
+    fi
+  };
+  goto again;
+finish:
+#if FAULT == 18
+  shares--;
+#endif
+  skip
 }
 
-/* The drop of a `Repeater`: `Latch::mark`, and the work once more. */
+/* The drop of a `Repeater`: `Latch::mark`, the work once more, and then both shares are let go. When it returns, the work
+   is gone, unless the thread is in a turn. */
 proctype Owner() {
   LOCALS;
   LOCK(END);
   ended = true;
   UNLOCK(END);
 #if FAULT != 15
-  NOTIFY_ALL(MARKED)
+  NOTIFY_ALL(MARKED);
 #endif
+#if FAULT != 18
+  LOCK(SHARE);
+  is_shared = false;
+  UNLOCK(SHARE);
+  shares--;
+#endif
+  atomic { shares--; assert(shares == 0 || in_turn) }
 }
 
 init {
@@ -615,6 +679,7 @@ init {
   };
   /* wait until each thread has ended */
   _nr_pr == 1;
+  assert(shares == 0);
   assert(ended && ARE_FREE)
 }
 
@@ -633,12 +698,12 @@ init {
   /* wait until no thread can go on: then the worker sleeps */
   timeout;
   assert(!stopped && !ended && sleeps_at[WORKER] == CHANGED);
-  assert(!owes);
+  assert(!is_unflushed);
 #else
   /* wait until each thread has ended */
   _nr_pr == 1;
   assert(stopped && ended);
-  assert(!owes || HAS_FAILED);
+  assert(!is_unflushed || HAS_FAILED);
 #endif
   assert(len(ring) == 0 && len(lent) == 0 && len(owed) == 0);
   assert(accepted == submitted && handed == drained && accepted == handed + dropped);

@@ -1,9 +1,11 @@
-"""A model of `statsd_schedule`: the report of a script, worked out from docs/SCRIPT.md. It has the aggregator, and shares
-no code with the program. Texts are strings, and packets are bytes. A writer's answers are `whole` and `refuse` only."""
+"""A model of `statsd_schedule`: what it prints for a script that it can read, worked out from docs/statsd_schedule.md. It shares no
+code with the program. Texts are strings, and packets are bytes."""
 import re
 from collections import OrderedDict
 
 MOST_BYTES = 512  # of a line that an aggregator holds
+STEPS = ('call', 'take', 'hand', 'flush', 'stop')
+UNUSABLE = 2, b'', b'statsd_schedule: settings: separator in a text\n'
 NUMBER = r'(?:0|-?[1-9]\d*|-?(?:0|[1-9]\d*)\.\d*[1-9])'
 PLAIN = r'[^:,|\n]*'
 TAG = rf'{PLAIN}(?::{PLAIN})?'
@@ -13,40 +15,48 @@ LINE = re.compile(rf'(?P<name>{PLAIN}):(?P<values>(?:{NUMBER}(?::{NUMBER})*)?)'
 
 
 class Refused(Exception):
-    """The writer refused a packet."""
+    """A call or a packet was refused. The text of the error says why."""
 
 
 class Packer:
-    """A packer over a log of packets."""
+    """A packer over a log of packets. With a fault one of its rules is wrong."""
 
-    def __init__(self, capacity, ending, answers):
-        self.capacity, self.ending, self.answers = capacity, ending, list(answers)
-        self.packets, self.held, self.cut, self.refused = [], b'', [], []
+    def __init__(self, capacity, ending, answers, fault=None):
+        self.capacity, self.ending, self.answers, self.fault = capacity, ending, list(answers), fault
+        self.packets, self.held, self.cut, self.refused, self.offers = [], b'', [], [], 0
 
     def offer(self, packet):
-        if self.answers and self.answers.pop(0) == 'refuse':
+        """Offers a packet to the log, and returns how many of its bytes the log takes."""
+        self.offers += 1
+        answer, _, count = (self.answers.pop(0) if self.answers else 'whole').partition(':')
+        if answer == 'refuse':
             self.refused.append(packet)
-            raise Refused
-        self.packets.append(packet)
+            raise Refused('packet refused')
+        taken = packet[:int(count)] if answer == 'short' and self.fault != 'a short count is ignored' else packet
+        self.packets.append(taken)
+        return len(taken)
 
     def flush(self):
-        if self.held:
-            self.offer(self.held)
-            self.held = b''
+        while self.held:
+            count = self.offer(self.held)
+            if count == 0:
+                raise Refused('nothing written')
+            self.held = self.held[count:] if self.fault != 'what a short count leaves is lost' else b''
 
     def write(self, line):
+        """Packs a line, and returns how many of its bytes were taken."""
         frame = line.encode() + self.ending
         if self.held and len(self.held + frame) <= self.capacity:
             self.held += frame
             self.cut[-1] += 1
-            return
+            return len(line.encode())
+        self.flush()
         if len(frame) > self.capacity:
-            self.flush()
-            self.offer(line.encode())
+            count = self.offer(line.encode())
         else:
-            self.flush()
-            self.held = frame
+            self.held, count = frame, len(line.encode())
         self.cut.append(1)
+        return count
 
 
 class Aggregator:
@@ -55,11 +65,12 @@ class Aggregator:
     def __init__(self, most, packer, fault=None):
         self.most, self.packer, self.fault = most, packer, fault
         self.counters, self.gauges, self.members = OrderedDict(), OrderedDict(), OrderedDict()
+        self.due = [0, 0, 0]  # how many of each table the last flush left
         self.seen = set()  # which of its rules were used
 
     def send_oldest(self, table):
-        """Hands on the line that was called least recently, and then forgets it."""
-        key = next(reversed(table) if self.fault == 'the context that was called last is handed on' else iter(table))
+        """Hands on the oldest line, and then forgets it."""
+        key = next(reversed(table) if self.fault == 'the newest context is handed on' else iter(table))
         if self.fault == 'a refused line is forgotten':
             self.packer.write(table.pop(key)[1])
             return
@@ -67,12 +78,14 @@ class Aggregator:
         del table[key]
 
     def hold(self, table, key, value, line):
-        """Holds a value and the line that says it, as the one that was called last."""
+        """Holds a value and the line that says it, in the place of an earlier one. A gauge becomes the newest one."""
         if key not in table and len(table) == self.most and self.fault != 'a full table grows':
             self.seen.add('full')
             self.send_oldest(table)
         table[key] = value, line
-        if self.fault != 'a call of a held context does not make it recent':
+        if table is self.gauges and self.fault != 'a gauge that is set again keeps its place':
+            table.move_to_end(key)
+        if table is self.counters and self.fault == 'a counter that is raised again loses its place':
             table.move_to_end(key)
 
     def send_gauges(self):
@@ -82,7 +95,6 @@ class Aggregator:
     def add_counter(self, name, by, rest):
         key, total = (name, rest), by
         if key in self.counters:
-            self.counters.move_to_end(key)
             total += self.counters[key][0]
             if not -2 ** 63 <= total < 2 ** 63:
                 self.seen.add('overflow')
@@ -94,6 +106,9 @@ class Aggregator:
         said = LINE.fullmatch(line)
         if said is None or not is_read(said) or said['time'] or said['kind'] in ('ms', 'm', 'h', 'd'):
             self.seen.add('other')
+            if '|g' in line and self.gauges and self.fault != 'a line that may set a gauge overtakes those that are held':
+                self.seen.add('unclear')
+                self.send_gauges()
             self.packer.write(line)
             return
         is_long = len(line.encode()) > MOST_BYTES
@@ -116,19 +131,35 @@ class Aggregator:
     def tables(self):
         return [self.members, self.gauges, self.counters] if self.fault == 'members go first' else [self.counters, self.gauges, self.members]
 
+    def send_due(self):
+        for at, table in enumerate(self.tables()):
+            while self.due[at]:
+                if table:
+                    self.send_oldest(table)
+                self.due[at] -= 1
+
     def flush(self):
-        for table in self.tables():
-            while table:
-                self.send_oldest(table)
+        if any(self.due):
+            self.seen.add('due')
+        if self.fault != 'what a refused flush left has no turn':
+            self.send_due()
+        self.due = [len(table) for table in self.tables()]
+        self.send_due()
 
     def lines(self):
-        return [line for table in self.tables() for _, line in table.values()]
+        held = [[line for _, line in table.values()] for table in self.tables()]
+        first = [line for lines, due in zip(held, self.due) for line in lines[:due]]
+        return first + [line for lines, due in zip(held, self.due) for line in lines[due:]]
 
 
 FAULTS = (
-    'the context that was called last is handed on', 'a refused line is forgotten', 'a full table grows',
-    'a call of a held context does not make it recent', 'the first value of a gauge is kept',
-    'a gauge with a sign overtakes those that are held', 'members go first',
+    'the newest context is handed on', 'a refused line is forgotten', 'a full table grows',
+    'a gauge that is set again keeps its place', 'a counter that is raised again loses its place',
+    'the first value of a gauge is kept', 'a gauge with a sign overtakes those that are held',
+    'a line that may set a gauge overtakes those that are held', 'what a refused flush left has no turn',
+    'members go first', 'a short count is ignored', 'what a short count leaves is lost', 'a default tag is left out',
+    'a default tag stands last', 'the default container counts', 'a duration is rounded', 'a duration past 64 bits wraps',
+    'a strict script takes a colon', 'a separator is refused before a value', 'a strict script has any settings',
 )
 
 
@@ -154,29 +185,84 @@ def decimal(word):
     return '-' * (mantissa < 0) + whole + ('.' + fraction if fraction else '')
 
 
-def value_of(word):
+def duration(kind, word, fault):
+    """Returns the text of a duration that a script writes as S/N: the milliseconds of a timer, else the nanoseconds."""
+    seconds, nanoseconds = map(int, word.split('/'))
+    unit = 10 ** 6 if kind == 'ms' else 1
+    count = (seconds * 10 ** 9 + nanoseconds + (unit // 2 if fault == 'a duration is rounded' else 0)) // unit
+    if count >= 2 ** 64 and fault != 'a duration past 64 bits wraps':
+        raise Refused('u64 overflow')
+    return str(count % 2 ** 64)
+
+
+def values_of(kind, word, fault):
+    """Returns the text of the values of a call."""
     form, items = word.split(':')
-    parts = items.split(',') if items else []
-    return ':'.join(decimal(part) if form in 'xX' else part for part in parts)
+    text_of_item = {'x': decimal, 't': lambda item: duration(kind, item, fault)}.get(form.lower(), str)
+    return ':'.join(map(text_of_item, items.split(',') if items else []))
 
 
-def line_of(prefix, words):
-    """Returns the line of a call."""
-    kind, key, value, *options = words
-    tags, rate, container, time = [], '', '', ''
-    while options:
-        name, text = options.pop(0), options.pop(0)
-        if name == 'tag':
-            tags.append(text_of(text) + ':' + text_of(options.pop(0)))
-        elif name == 'tagvalue':
-            tags.append(text_of(text))
-        elif name == 'rate':
-            rate = '|@' + decimal(text)
-        elif name == 'container':
-            container = '|c:' + text_of(text)
-        else:
-            time = '|T' + text
-    return f"{prefix}{text_of(key)}:{value_of(value)}|{kind}{rate}{'|#' if tags else ''}{','.join(tags)}{container}{time}"
+def has_separator(texts, fault=None):
+    """Returns whether one of the texts has a character that separates the parts of a line or of a packet."""
+    separators = ',|\n' if fault == 'a strict script takes a colon' else ':,|\n'
+    return any(separator in text for text in texts for separator in separators)
+
+
+class Client:
+    """What the settings of a script give each call. With a fault one of its rules is wrong."""
+
+    def __init__(self, lines, fault):
+        self.prefix, self.tags, self.container, self.is_strict, self.fault = '', [], None, False, fault
+        for name, *words in lines:
+            texts = [text_of(word) for word in words]
+            if name == 'prefix':
+                self.prefix = texts[0]
+            elif name in ('tag', 'tagvalue'):
+                self.tags.append(texts)
+            elif name == 'container':
+                self.container = texts[0]
+            elif name == 'strict':
+                self.is_strict = True
+
+    def is_usable(self):
+        """Returns whether no setting has a separator, if the script is strict."""
+        texts = [self.prefix, *sum(self.tags, []), self.container or '']
+        return not self.is_strict or not has_separator(texts) or self.fault == 'a strict script has any settings'
+
+    def line_of(self, words):
+        """Returns the line of a call. A value that doesn't fit is refused before a separator."""
+        kind, key, value, *options = words
+        tags, container, rate, time, texts = [], None, '', '', [text_of(key)]
+        while options:
+            name, text = options.pop(0), options.pop(0)
+            if name in ('tag', 'tagvalue'):
+                tags.append([text_of(text), text_of(options.pop(0))] if name == 'tag' else [text_of(text)])
+                texts += tags[-1]
+            elif name == 'container':
+                container = text_of(text)
+                texts.append(container)
+            elif name == 'rate':
+                rate = '|@' + decimal(text)
+            else:
+                time = '|T' + text
+        if self.fault == 'a separator is refused before a value':
+            self.refuse_separators(texts)
+        values = values_of(kind, value, self.fault)
+        self.refuse_separators(texts)
+        tags, container = self.with_defaults(tags, container)
+        return ''.join([self.prefix.rstrip('.') + '.' if self.prefix else '', texts[0], ':', values, '|', kind, rate,
+                        '|#' + ','.join(map(':'.join, tags)) if tags else '', '' if container is None else '|c:' + container, time])
+
+    def refuse_separators(self, texts):
+        if self.is_strict and has_separator(texts, self.fault):
+            raise Refused('separator in a text')
+
+    def with_defaults(self, tags, container):
+        """Returns the default tags and those of a call, and the container of the call, or else the default one."""
+        own = self.tags[1:] if self.fault == 'a default tag is left out' else self.tags
+        if container is None or self.container is not None and self.fault == 'the default container counts':
+            container = self.container
+        return tags + own if self.fault == 'a default tag stands last' else own + tags, container
 
 
 def shown(label, text):
@@ -190,17 +276,13 @@ class Run:
     """A run of a script, which can be read."""
 
     def __init__(self, script, fault=None):
-        self.settings, self.steps = {}, []
-        for line in script.split('\n'):
-            name, *words = line.split(' ')
-            if name in ('call', 'take', 'hand', 'flush', 'stop'):
-                self.steps.append((name, words))
-            elif name:
-                self.settings[name] = words
+        lines = [line.split(' ') for line in script.split('\n') if line]
+        self.steps = [(name, words) for name, *words in lines if name in STEPS]
+        self.settings = {name: words for name, *words in lines if name not in STEPS}
+        self.client = Client([line for line in lines if line[0] not in STEPS], fault)
         of = lambda name, default: self.settings.get(name, [default])[0]
-        prefix = text_of(of('prefix', '\\e')).rstrip('.')
-        self.prefix = prefix + '.' if prefix else ''
-        self.packer = Packer(int(of('capacity', '512')), text_of(of('ending', '\\n')).encode(), self.settings.get('writer', []))
+        answers = self.settings.get('writer', [])
+        self.packer = Packer(int(of('capacity', '512')), text_of(of('ending', '\\n')).encode(), answers, fault)
         most = of('aggregate', None)
         self.aggregator = most and Aggregator(int(most), self.packer, fault)
         limit = of('queue', None)
@@ -208,7 +290,10 @@ class Run:
         self.waiting, self.in_hand, self.is_stopped = [], None, False
 
     def call(self, words):
-        line = line_of(self.prefix, words)
+        try:
+            line = self.client.line_of(words)
+        except Refused as why:
+            return f'call err {why}'
         if self.is_stopped:
             return 'call err channel disconnected'
         size = len(line.encode())
@@ -233,19 +318,23 @@ class Run:
         if self.in_hand is None:
             return 'hand nothing'
         line, self.in_hand = self.in_hand, None
+        count = len(line.encode())
         try:
-            self.aggregator.add(line) if self.aggregator else self.packer.write(line)
-        except Refused:
-            return 'hand err packet refused'
-        return f'hand ok {len(line.encode())}'
+            if self.aggregator:
+                self.aggregator.add(line)
+            else:
+                count = self.packer.write(line)
+        except Refused as why:
+            return f'hand err {why}'
+        return f'hand ok {count}'
 
     def flush(self, _words):
         try:
             if self.aggregator:
                 self.aggregator.flush()
             self.packer.flush()
-        except Refused:
-            return 'flush err packet refused'
+        except Refused as why:
+            return f'flush err {why}'
         return 'flush ok'
 
     def stop(self, _words):
@@ -261,7 +350,12 @@ class Run:
         lines += [shown('aggregated', line.encode()) for line in (self.aggregator.lines() if self.aggregator else [])]
         lines += [shown('waiting', line.encode()) for line in self.waiting]
         lines += [shown('inhand', self.in_hand.encode())] if self.in_hand is not None else []
-        lines.append(' '.join(['cut', *map(str, packer.cut)]))
+        has_short = any(answer.startswith('short') for answer in self.settings.get('writer', []))
+        lines.append(' '.join(['cut', *(['unknown'] if has_short else map(str, packer.cut))]))
         sums = sum(map(len, packer.packets)), len(packer.packets), sum(map(len, packer.refused)), len(packer.refused)
         lines.append(' '.join(['stats', *map(str, sums)]))
         return '\n'.join(lines) + '\n'
+
+    def outcome(self):
+        """Makes all steps, and returns the exit status of the program, its output and its errors."""
+        return (0, self.report().encode(), b'') if self.client.is_usable() else UNUSABLE

@@ -1,3 +1,4 @@
+# SPDX-License-Identifier: Apache-2.0 OR MIT
 """What the library and the programs of an archive are built from, and under which licences.
 
 The crates of this repository are in crates.txt. The crates of the kit, with the texts of their licences, are on the
@@ -8,8 +9,8 @@ import re
 import subprocess
 
 TOP = pathlib.Path(__file__).resolve().parent.parent
-LIBRARY = ("cadence_c",)
-PROGRAMS = ("cadence_run", "statsd_listen", "statsd_send", "statsd_watch")
+# each program, and the crate that it is built from
+PROGRAMS = {"statsd_schedule": "cadence_run", "statsd_listen": "statsd_listen", "statsd_send": "statsd_send", "statsd_watch": "statsd_watch"}
 # what a text of a licence has and the texts of the others lack, with the identifier of SPDX
 KNOWN = (
     ("Permission is hereby granted, free of charge", "MIT"),
@@ -27,6 +28,17 @@ UNKNOWN = "NOASSERTION"
 def kit():
     """Returns the folder of the kit."""
     return pathlib.Path(subprocess.run(["rt", "doc"], stdout=subprocess.PIPE, text=True, check=True).stdout.strip()).parent
+
+
+@functools.cache
+def kit_version():
+    """Returns the name of the kit with its version."""
+    return subprocess.run(["rt", "version"], stdout=subprocess.PIPE, text=True, check=True).stdout.split()[0]
+
+
+def code(name):
+    """Returns the path of the compiled code of a crate of the kit."""
+    return kit() / "rlibs" / f"{name}.rlib" / "toolchain" / "mir.json"
 
 
 @functools.cache
@@ -76,5 +88,5 @@ def origin(name):
     """Returns the version of the Rust crate that a crate of the kit is a port of, if its page names one."""
     page = kit() / "rattle" / name / "README.md"
     text = page.read_text(errors="replace") if page.exists() else ""
-    found = re.search(rf"`{name.replace('_', '[-_]')}` (\d+(?:\.\d+)+)", text)
+    found = re.search(rf"`{name.replace('_', '[-_]')}2?` (\d+(?:\.\d+)+)", text)
     return found[1] if found else None

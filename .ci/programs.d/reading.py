@@ -16,8 +16,16 @@ def row_cases():
 
 def read_cases(program, name, cases, good, bad):
     """Yields runs over inputs and over streams that fail: a name, what the run gave, and what it has to give. The programs
-    ignore their arguments, so --help changes nothing."""
-    command, source, full = [program, '--help'], os.open(FOLDER, os.O_RDONLY), os.open(FULL, os.O_WRONLY)
+    ignore their arguments, but for those that ask for help."""
+    command, source, full = [program, '--nothing'], os.open(FOLDER, os.O_RDONLY), os.open(FULL, os.O_WRONLY)
+    unended, kept = os.pipe()
+    for asking in (['--help'], ['x', '-h']):
+        status, text, errors = result_of([program, *asking], source=unended)
+        shown = text.startswith(f'Usage: {name} '.encode()) and b'\nStatus: 0 ' in text and text.endswith(f'| {name}\n'.encode())
+        yield f'{asking}, without an end of the input', (status, shown, errors), (0, True, b'')
+    yield 'help that fails', result_of([program, '--help'], b'', output=full), (1, b'', b'')
+    os.close(unended)
+    os.close(kept)
     for case, given, *wanted in cases:
         yield case, result_of(command, given), tuple(wanted)
     unread = f'{name}: input: cannot read\n'.encode()

@@ -11,6 +11,7 @@ from shell_page import page_cases
 
 SAMPLED = 10000  # lines
 PERIOD = 2  # seconds
+PERIOD_OF_SUMS = 10  # seconds
 FEW = 16 << 20  # bytes of memory, too few for a long command line
 
 
@@ -42,6 +43,7 @@ def send_packets(program):
         to, url = ['--to', '127.0.0.1:' + port], 'udp://127.0.0.1:' + port
         for case, words, environment in [
             ('to', [*to, *ONE], OVERRIDDEN),
+            ('to a URL', ['--to', url, *ONE], OVERRIDDEN),
             ('the URL', ONE, {**OVERRIDDEN, 'DD_DOGSTATSD_URL': url}),
             ("the agent's host and port", ONE, {
                 'DD_DOGSTATSD_URL': '', 'DD_AGENT_HOST': '127.0.0.1', 'DD_DOGSTATSD_PORT': port, 'STATSD_PORT': 'http'}),
@@ -105,6 +107,14 @@ def send_added(command, server):
         run.stdin.write(b'c a 6\ng a 7\ng a 8\n')
         run.stdin.close()
         yield 'the end of lines that are added up', (status_of(run), next_datagram(server)), (0, b'a:6|c\na:8|g\n')
+    with subprocess.Popen([*command, '--aggregate'], stdin=subprocess.PIPE, bufsize=0) as run:
+        began = time.monotonic()
+        run.stdin.write(b'c a 1\n')
+        run.stdin.write(b'c a 2\n')
+        yield 'lines that are added up without a period', next_datagram(server), b'a:3|c\n'
+        yield 'their period', time.monotonic() - began >= PERIOD_OF_SUMS - 1, True
+        run.stdin.close()
+        yield 'the end without a period', status_of(run), 0
 
 
 def switches(number):

@@ -60,6 +60,7 @@ def send_followed(program):
     minute, and after a refusal, at most once in a second."""
     text = b'c a 0\nc a 1\nc a 2\nc a 3\n'
     lost = (rb'statsd_send: cannot send to host:\d+ \(--to\): .+ \(os error \d+\): packets are dropped\n'
+            rb'statsd_send: sending works again: so far 2 of 4 packets were lost, with 2 lines\n'
             rb'statsd_send: 2 of 4 packets were lost, with 2 lines\n')
     for case, step, places, status, errors, wanted in [
         ('each minute', 30000, ['127.0.0.1', '127.0.0.2', '127.0.0.3'], 0, b'', [[b'a:0|c'], [b'a:1|c', b'a:2|c'], [b'a:3|c']]),

@@ -33,12 +33,14 @@ def send_to_path(program):
             long = result_of(command, b'c %s 1\n' % (b'a' * longest))
             yield 'a line past the socket', long, (2, b'', error_lines(b'line 1: ' + WANTS_LENGTH, b'1 of 1 lines: cannot read'))
             yield from send_until_full(command, server, refused(path, errno.EAGAIN))
+            yield from send_while_full(command, path, server)
             yield from send_slowly(command, server)
         yield 'a closed server', result_of([*command, *ONE], b''), (1, b'', refused(path, errno.ECONNREFUSED))
         os.unlink(path)
         yield 'no server', result_of([*command, *ONE], b''), (1, b'', refused(path, errno.ENOENT))
         yield 'no server for added lines', result_of([*command, '--aggregate'], b'c a 1\nc b 2\nc a 3'), (
-            1, b'', refused(path, errno.ENOENT, ': packets are dropped') + error_lines(b'1 of 1 packets were lost, with 2 lines'))
+            1, b'', refused(path, errno.ENOENT, ': packets are dropped') + error_lines(
+                b'1 of 1 packets were lost, with 2 lines, the sums of at most 3 lines of the input'))
         yield from send_past_restart(command, path)
         yield from send_past_absence(command, path)
         yield from send_past_closings(command, path)
@@ -80,10 +82,38 @@ def send_slowly(command, server):
         yield 'a server that reads slowly', (status_of(run), count), (0, 100000)
 
 
+def send_while_full(command, path, server):
+    """Yields runs whose server reads nothing, with a wait that is bounded; and one whose server reads after two seconds."""
+    waiting = error_lines(f'cannot send to unix:{path} (--to): no room for a second: waiting'.encode())
+    dropping = refused(path, errno.EAGAIN, ': packets are dropped')
+    command, text = [*command, '--capacity', '6'], b'c a 1\n' * 1000
+    for millis, told in ((300, b''), (1500, waiting)):
+        before = time.monotonic()
+        status, output, errors = result_of([*command, '--wait', str(millis)], text)
+        longer = time.monotonic() - before >= millis / 1000
+        lost = re.search(rb'statsd_send: (\d+) of 1000 packets were lost, with \1 lines\n\Z', errors)
+        arrived = drain(server)
+        got = status, longer, errors.startswith(told + dropping), arrived + int(lost[1] if lost else 0)
+        yield f'a server that does not read for {millis} ms, {arrived} lines arrived', got, (1, True, True, 1000)
+    with subprocess.Popen(command, stdin=subprocess.PIPE, stderr=subprocess.PIPE) as run:
+        writer = threading.Thread(target=lambda: (run.stdin.write(text), run.stdin.close()))
+        writer.start()
+        told, arrived = run.stderr.readline(), 0
+        while run.poll() is None:
+            arrived += drain(server)
+        writer.join(LONGEST)
+        got = told, run.returncode, run.stderr.read().replace(waiting, b''), arrived + drain(server)
+        yield 'a server that reads late', got, (waiting, 0, b'', 1000)
+
+
+def drain(server):
+    """Returns how many lines wait at a server."""
+    server.settimeout(0.1)
+    return sum(datagram.count(b'\n') for datagram in iter(lambda: next_datagram(server), b'no datagram'))
+
+
 def send_past_closings(command, path):
     """Yields how many of a million lines arrived or were counted as lost, while the server was closed and opened again."""
-    def drain(server):
-        return sum(datagram.count(b'\n') for datagram in iter(lambda: next_datagram(server), b'no datagram'))
     pipe, count, parts, arrived = subprocess.PIPE, 1000000, 4 * CLOSINGS, 0
     with subprocess.Popen(command, stdin=pipe, stderr=pipe) as run:
         def write():
@@ -129,7 +159,9 @@ def send_past_absence(command, path):
                 yield 'the server is there', next_datagram(server), b'a:%d|c\n' % number
             os.unlink(path)
         run.stdin.close()
-        yield 'the end of it', (run.stderr.read(), status_of(run)), (error_lines(b'1 of 3 packets were lost, with 1 lines'), 1)
+        lost = b'1 of 3 packets were lost, with 1 lines'
+        wanted = error_lines(b'sending works again: so far ' + lost, lost), 1
+        yield 'the end of it', (run.stderr.read(), status_of(run)), wanted
 
 
 def send_past_restart(command, path):

@@ -16,7 +16,7 @@ ONE = ['c', 'visits', '1', 'page:home']
 ONE_SENT = b'visits:1|c|#page:home\n'
 NO_HOST = 'a' * 64
 EACH = '--prefix p --tag k:v --tag w --container id --time +.7e1 --rate 5e-1'.split()
-OPTIONS = b'--to --prefix --tag --container --time --rate --sample --capacity --flush-every --aggregate --drop --strict --print --help --version'.split()
+OPTIONS = b'--to --prefix --tag --container --time --rate --sample --capacity --flush-every --aggregate --wait --drop --strict --print --help --version'.split()
 WANTS_WORDS = b'wants KIND NAME VALUE [TAG ..], as in `c visits 1 page:home`'
 WANTS_KIND = b'KIND is c, ms, g, m, h, s, d or the name of one, as in `count visits 1`'
 WANTS_NAME = b'NAME has no colon, comma, bar or newline, as in `c site.visits 1`'
@@ -58,7 +58,8 @@ WANTS_TARGET = b' wants HOST:PORT or unix:PATH, as in --to 127.0.0.1:8125'
 # Words of the command line that can't be read, each with its message.
 UNUSABLE = [
     *[(['--to', to], b'--to %s:' % to.encode() + WANTS_TARGET)
-      for to in ['nowhere', 'host:', ':1', 'host:x', 'host:0', 'host:+80', 'host:65536', '[::1]', '1', 'unix', 'unix:']],
+      for to in ['nowhere', 'host:', ':1', 'host:x', 'host:0', 'host:+80', 'host:65536', '[::1]', '1', 'unix', 'unix:', 'udp://host',
+                 'udp://:1']],
     *[([*before, '--to', f'unix:{LONGEST_PATH}a', *ONE],
        f'--to unix:{LONGEST_PATH}a: the path of a Unix socket has more than 107 bytes'.encode()) for before in ([], ['--print'])],
     (['--prefix', 'a|b'], b'--prefix a|b: wants a name without colons, commas and bars, as in --prefix my.service'),
@@ -71,6 +72,7 @@ UNUSABLE = [
     (['--time', 'x'], b'--time x: wants seconds since 1970, as in --time 1700000000'),
     (['--capacity', 'x'], b'--capacity x: wants a number of bytes, as in --capacity 512'),
     (['--flush-every', 'x'], b'--flush-every x: wants a number of milliseconds, as in --flush-every 1000'),
+    (['--wait', '-1'], b'--wait -1: wants a number of milliseconds, as in --wait 1000'),
     (['c', 'visits'], WANTS_WORDS),
     (['x', 'visits', '1'], WANTS_KIND),
     (['c', 'a:b', '1'], WANTS_NAME),

@@ -1,12 +1,16 @@
-# What find_package(cadence_c CONFIG) finds in lib/cmake/cadence_c: the static library is the target cadence_c::static, and
-# the shared one cadence_c::shared.
-get_filename_component(cadence_c_root "${CMAKE_CURRENT_LIST_DIR}/../../.." ABSOLUTE)
+# What find_package(cadence_c CONFIG) finds in cmake/cadence_c of the folder of the libraries: the static library is the
+# target cadence_c::static, and the shared one cadence_c::shared. The folder may be lib, or that of a processor in lib.
+get_filename_component(cadence_c_libraries "${CMAKE_CURRENT_LIST_DIR}/../.." ABSOLUTE)
+get_filename_component(cadence_c_include "${cadence_c_libraries}/../include" ABSOLUTE)
+if(NOT EXISTS "${cadence_c_include}/cadence.h")
+    get_filename_component(cadence_c_include "${cadence_c_libraries}/../../include" ABSOLUTE)
+endif()
 foreach(kind static shared)
     if(NOT TARGET cadence_c::${kind})
         string(TOUPPER ${kind} cadence_c_kind)
         add_library(cadence_c::${kind} ${cadence_c_kind} IMPORTED)
-        set_target_properties(cadence_c::${kind} PROPERTIES INTERFACE_INCLUDE_DIRECTORIES "${cadence_c_root}/include")
+        set_target_properties(cadence_c::${kind} PROPERTIES INTERFACE_INCLUDE_DIRECTORIES "${cadence_c_include}")
     endif()
 endforeach()
-set_target_properties(cadence_c::static PROPERTIES IMPORTED_LOCATION "${cadence_c_root}/lib/libcadence_c.a")
-set_target_properties(cadence_c::shared PROPERTIES IMPORTED_LOCATION "${cadence_c_root}/lib/libcadence_c.so")
+set_target_properties(cadence_c::static PROPERTIES IMPORTED_LOCATION "${cadence_c_libraries}/libcadence_c.a")
+set_target_properties(cadence_c::shared PROPERTIES IMPORTED_LOCATION "${cadence_c_libraries}/libcadence_c.so")

@@ -1,8 +1,8 @@
+/* SPDX-License-Identifier: Apache-2.0 OR MIT */
 /* What cadence_udp.h declares. */
 #define _GNU_SOURCE
 #include <cadence_udp.h>
 #include <errno.h>
-#include <fcntl.h>
 #include <netdb.h>
 #include <stdio.h>
 #include <stdlib.h>
@@ -11,116 +11,229 @@
 #include <time.h>
 #include <unistd.h>
 
-enum { LONGEST = 65536, PACKETS = 64 };
+enum { PACKETS = 64, FIRST_ROOM = 65536 };
+
+static const uint64_t SECOND = 1000000000;
+
+/* Where a client sends, and what it has in memory. */
+struct cadence_udp_socket {
+    int fd; /* -1 if there is none yet */
+    struct sockaddr_storage address;
+    socklen_t address_len;
+    bool is_name, is_refused; /* whether a name is looked up, and whether a packet was refused since */
+    uint64_t looked_up, took; /* when the name was last looked up, and how long that took */
+    uint8_t *packet, *texts; /* the packet that is sent, and the texts of the settings */
+    size_t room;
+    char port[8];
+    char host[];
+};
 
 static uint64_t now(void) {
     struct timespec time;
     clock_gettime(CLOCK_MONOTONIC, &time);
-    return (uint64_t)time.tv_sec * 1000000000u + (uint64_t)time.tv_nsec;
+    return (uint64_t)time.tv_sec * SECOND + (uint64_t)time.tv_nsec;
 }
 
-/* Stores words, closes the socket, and returns the words. */
+/* Closes everything, and sends nothing. */
+static void release(cadence_udp *to) {
+    struct cadence_udp_socket *const it = to->socket;
+    const cadence_settings none = CADENCE_NO_SETTINGS;
+    cadence_free(&to->client);
+    to->settings = none;
+    to->socket = NULL;
+    if (it == NULL) return;
+    if (it->fd >= 0) close(it->fd);
+    free(it->packet);
+    free(it->texts);
+    free(it);
+}
+
+/* Stores words, closes everything, and returns the words. */
 static const char *fault(cadence_udp *to, const char *what, const char *why) {
     snprintf(to->fault, sizeof to->fault, "%s: %s", what, why);
-    if (to->fd >= 0) close(to->fd);
-    to->fd = -1;
+    release(to);
     return to->fault;
 }
 
-/* Makes the client of an open socket. */
-static const char *begin(cadence_udp *to, size_t capacity, uint32_t period_millis) {
+/* The same for a status of a call that reads the variables. */
+static const char *bad_environment(cadence_udp *to, uint32_t status, uint32_t variable) {
+    size_t len;
+    if (status == CADENCE_VARIABLE
+        && cadence_variable_text(variable, (uint8_t *)to->fault, sizeof to->fault - 1, &len) == CADENCE_OK) {
+        to->fault[len] = '\0';
+        release(to);
+        return to->fault;
+    }
+    return fault(to, "the environment", status == CADENCE_TOO_SMALL ? strerror(ENAMETOOLONG) : cadence_status_text(status));
+}
+
+/* Makes a client that doesn't know yet where to send. */
+static const char *begin(cadence_udp *to, const char *host, size_t capacity, uint32_t period_millis) {
+    cadence_udp_close(to);
+    struct cadence_udp_socket *const it = calloc(1, sizeof *it + strlen(host) + 1);
+    to->socket = it;
+    if (it == NULL) return fault(to, host, strerror(ENOMEM));
+    it->fd = -1;
+    strcpy(it->host, host);
+    it->room = capacity < FIRST_ROOM ? capacity : FIRST_ROOM;
+    it->packet = malloc(it->room);
+    if (it->packet == NULL && it->room != 0) return fault(to, host, strerror(ENOMEM));
     const uint32_t status = cadence_open(&to->client, capacity, PACKETS, CADENCE_DROP_OLDEST);
     if (status != CADENCE_OK) return fault(to, "cadence_open", cadence_status_text(status));
-    to->period = (uint64_t)period_millis * 1000000u;
-    to->due = to->refused = to->too_long = 0;
+    to->period = (uint64_t)period_millis * 1000000;
+    to->since = now();
+    to->refused = to->too_long = 0;
     return NULL;
 }
 
-/* Opens a socket that sends to an address. */
-static bool open_socket(cadence_udp *to, const struct sockaddr *address, socklen_t len) {
-    to->fd = socket(address->sa_family, SOCK_DGRAM | SOCK_CLOEXEC | SOCK_NONBLOCK, 0);
-    return to->fd >= 0 && connect(to->fd, address, len) == 0;
+/* Sends from now on to this address, from a socket of its family. Returns false, and goes on as before, if the system
+ * gives no such socket. */
+static bool move_to(struct cadence_udp_socket *it, const struct sockaddr *address, socklen_t len) {
+    if (it->fd < 0 || it->address.ss_family != address->sa_family) {
+        const int fd = socket(address->sa_family, SOCK_DGRAM | SOCK_CLOEXEC | SOCK_NONBLOCK, 0);
+        if (fd < 0) return false;
+        if (it->fd >= 0) close(it->fd);
+        it->fd = fd;
+    }
+    memcpy(&it->address, address, len);
+    it->address_len = len;
+    return true;
+}
+
+/* Looks the host up, and sends from now on to its first address of IPv4, or if it has none to its first address. Returns
+ * 0, or the error of getaddrinfo. */
+static int look_up(struct cadence_udp_socket *it, int flags) {
+    const struct addrinfo wanted = { .ai_socktype = SOCK_DGRAM, .ai_flags = flags };
+    struct addrinfo *found = NULL, *at;
+    const uint64_t start = now();
+    int error = getaddrinfo(it->host, it->port, &wanted, &found);
+    it->looked_up = now();
+    it->took = it->looked_up - start;
+    it->is_refused = false;
+    if (error != 0) return error;
+    for (at = found; at != NULL && at->ai_family != AF_INET;) at = at->ai_next;
+    if (at == NULL) at = found;
+    if (!move_to(it, at->ai_addr, at->ai_addrlen)) error = EAI_SYSTEM;
+    const int why = errno;
+    freeaddrinfo(found);
+    errno = why;
+    return error;
+}
+
+/* Looks the host up again if it is time, as cadence_udp.h says. */
+static void follow_host(struct cadence_udp_socket *it) {
+    const uint64_t shortest = it->is_refused ? SECOND : 60 * SECOND;
+    const uint64_t pause = 9 * it->took > shortest ? 9 * it->took : shortest;
+    if (it->is_name && now() - it->looked_up >= pause) look_up(it, 0);
 }
 
 const char *cadence_udp_connect(cadence_udp *to, const char *host, uint16_t port, size_t capacity, uint32_t period_millis) {
-    const struct addrinfo wanted = { .ai_socktype = SOCK_DGRAM };
-    struct addrinfo *found = NULL;
-    char text[8];
-    cadence_udp_close(to);
-    snprintf(text, sizeof text, "%u", port);
-    const int error = getaddrinfo(host, text, &wanted, &found);
-    if (error != 0) return fault(to, host, error == EAI_SYSTEM ? strerror(errno) : gai_strerror(error));
-    const bool open = open_socket(to, found->ai_addr, found->ai_addrlen);
-    const int why = errno;
-    freeaddrinfo(found);
-    return open ? begin(to, capacity, period_millis) : fault(to, host, strerror(why));
+    const char *words = begin(to, host, capacity, period_millis);
+    if (words != NULL) return words;
+    if (port == 0) return fault(to, host, "the port is 0");
+    snprintf(to->socket->port, sizeof to->socket->port, "%u", port);
+    int error = look_up(to->socket, AI_NUMERICHOST);
+    to->socket->is_name = error == EAI_NONAME;
+    if (to->socket->is_name) error = look_up(to->socket, 0);
+    return error == 0 ? NULL : fault(to, host, error == EAI_SYSTEM ? strerror(errno) : gai_strerror(error));
 }
 
 const char *cadence_udp_connect_path(cadence_udp *to, const char *path, size_t capacity, uint32_t period_millis) {
     struct sockaddr_un address = { .sun_family = AF_UNIX };
-    cadence_udp_close(to);
-    if (strlen(path) >= sizeof address.sun_path) return fault(to, path, strerror(ENAMETOOLONG));
-    memcpy(address.sun_path, path, strlen(path));
-    if (!open_socket(to, (const struct sockaddr *)&address, sizeof address)) return fault(to, path, strerror(errno));
-    return begin(to, capacity, period_millis);
+    const char *words = begin(to, path, capacity, period_millis);
+    if (words != NULL) return words;
+    if (path[0] == '\0' || strlen(path) >= sizeof address.sun_path)
+        return fault(to, path, strerror(path[0] == '\0' ? ENOENT : ENAMETOOLONG));
+    strcpy(address.sun_path, path);
+    return move_to(to->socket, (const struct sockaddr *)&address, sizeof address) ? NULL : fault(to, path, strerror(errno));
 }
 
-const char *cadence_udp_connect_environment(cadence_udp *to, size_t capacity, uint32_t period_millis) {
+/* Makes the settings of a prefix and of the tags of the variables. */
+static uint32_t make_settings(cadence_udp *to, const char *prefix, const cadence_variables *variables, uint32_t *variable) {
+    cadence_settings made = CADENCE_NO_SETTINGS;
+    const size_t room = cadence_length_of(prefix) + 1;
+    uint32_t status = cadence_environment_tags(variables, NULL, 0, &made.tags_len, variable);
+    if (status != CADENCE_OK && status != CADENCE_TOO_SMALL) return status;
+    uint8_t *const texts = to->socket->texts = malloc(room + made.tags_len);
+    if (texts == NULL) return CADENCE_NO_MEMORY;
+    made.prefix = texts;
+    made.tags = texts + room;
+    status = cadence_prefix_text(CADENCE_BYTES(prefix), room - 1, false, texts, room, &made.prefix_len);
+    if (status == CADENCE_OK)
+        status = cadence_environment_tags(variables, texts + room, made.tags_len, &made.tags_len, variable);
+    if (status == CADENCE_OK) to->settings = made;
+    return status;
+}
+
+const char *cadence_udp_connect_environment(cadence_udp *to, const char *prefix, size_t capacity, uint32_t period_millis) {
     const cadence_variables variables = cadence_variables_of(getenv);
-    uint8_t place[LONGEST];
+    char place[1024];
     size_t len;
     uint16_t port;
-    uint32_t variable;
+    uint32_t variable = 0;
     cadence_udp_close(to);
-    const uint32_t status = cadence_destination(&variables, place, sizeof place - 1, &len, &port, &variable);
-    if (status == CADENCE_VARIABLE) {
-        if (cadence_variable_text(variable, (uint8_t *)to->fault, sizeof to->fault - 1, &len) == CADENCE_OK) to->fault[len] = '\0';
-        return to->fault;
-    }
-    if (status != CADENCE_OK) return fault(to, "the environment", cadence_status_text(status));
+    uint32_t status = cadence_destination(&variables, (uint8_t *)place, sizeof place - 1, &len, &port, &variable);
+    if (status != CADENCE_OK) return bad_environment(to, status, variable);
     place[len] = '\0';
-    return port != 0 ? cadence_udp_connect(to, (const char *)place, port, capacity, period_millis)
-                     : cadence_udp_connect_path(to, (const char *)place, capacity, period_millis);
+    const char *words = port != 0 ? cadence_udp_connect(to, place, port, capacity, period_millis)
+                                  : cadence_udp_connect_path(to, place, capacity, period_millis);
+    if (words != NULL) return words;
+    status = make_settings(to, prefix, &variables, &variable);
+    return status == CADENCE_OK ? NULL : bad_environment(to, status, variable);
+}
+
+/* Copies the oldest packet that waits into the memory of the client, which grows for a longer one. */
+static uint32_t next_packet(cadence_udp *to, size_t *len) {
+    struct cadence_udp_socket *const it = to->socket;
+    const uint32_t status = cadence_next(&to->client, it->packet, it->room, len);
+    if (status != CADENCE_TOO_SMALL) return status;
+    uint8_t *const packet = realloc(it->packet, *len);
+    if (packet == NULL) return CADENCE_NO_MEMORY;
+    it->packet = packet;
+    it->room = *len;
+    return cadence_next(&to->client, packet, it->room, len);
 }
 
 /* Sends the packets that wait, and returns how many still wait. */
 static size_t send_waiting(cadence_udp *to) {
-    static _Thread_local uint8_t packet[LONGEST];
+    struct cadence_udp_socket *const it = to->socket;
     cadence_counts_of counts = { 0, 0, 0, 0, 0 };
     size_t len;
-    uint32_t status;
-    while ((status = cadence_next(&to->client, packet, sizeof packet, &len)) == CADENCE_OK || status == CADENCE_TOO_SMALL) {
-        const bool sent = status == CADENCE_OK && send(to->fd, packet, len, MSG_NOSIGNAL) >= 0;
-        if (!sent && status == CADENCE_OK && errno != EMSGSIZE) {
-            to->refused++;
+    uint32_t status = CADENCE_NO_CLIENT;
+    while (it != NULL && (status = next_packet(to, &len)) == CADENCE_OK) {
+        follow_host(it);
+        const ssize_t sent =
+            sendto(it->fd, it->packet, len, MSG_NOSIGNAL, (const struct sockaddr *)&it->address, it->address_len);
+        if (sent < 0 && errno != EMSGSIZE) {
+            it->is_refused = true;
             break;
         }
-        to->too_long += !sent;
+        to->too_long += sent < 0;
         cadence_sent(&to->client);
     }
+    to->refused += status == CADENCE_OK || status == CADENCE_NO_MEMORY;
     cadence_counts(&to->client, &counts);
     return counts.waiting;
 }
 
 size_t cadence_udp_send(cadence_udp *to) {
     cadence_counts_of counts = { 0, 0, 0, 0, 0 };
+    const uint64_t time = now();
     cadence_counts(&to->client, &counts);
-    if (counts.held == 0) to->due = 0;
-    else if (to->due == 0) to->due = now() + to->period;
-    else if (now() >= to->due) return cadence_udp_flush(to);
+    if (counts.held == 0) to->since = time;
+    else if (time - to->since >= to->period) return cadence_udp_flush(to);
     return send_waiting(to);
 }
 
 size_t cadence_udp_flush(cadence_udp *to) {
-    to->due = 0;
+    to->since = now();
     cadence_flush(&to->client);
     return send_waiting(to);
 }
 
 void cadence_udp_close(cadence_udp *to) {
-    if (to->fd < 0) return;
+    if (to->socket == NULL) return;
+    to->socket->is_name = false; /* nothing is looked up any more */
     cadence_udp_flush(to);
-    cadence_free(&to->client);
-    close(to->fd);
-    to->fd = -1;
+    release(to);
 }

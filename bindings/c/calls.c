@@ -1,3 +1,4 @@
+/* SPDX-License-Identifier: Apache-2.0 OR MIT */
 /* Tests what include/cadence.h says besides the types of the calls: which status a call returns if several apply, which
  * arguments are neither read nor tested, what stays after an error, the functions of the header itself, and calls in the
  * room that the heap lends. It prints each check that fails, and its exit status is then 1. It is valid C and C++. */
@@ -57,13 +58,14 @@ static void texts(void) {
 static void helpers(void) {
     cadence_handle handle = opened(256, CADENCE_REFUSE);
     uint8_t room[64];
+    size_t needed = 9;
     cadence_settings settings;
     const cadence_tag tags[] = { cadence_tag_of("k", "v"), cadence_tag_of(NULL, "w"), cadence_tag_of("", NULL) };
     const cadence_tag defaults[] = { cadence_tag_of("env", "prod"), cadence_tag_of(NULL, "beta") };
     const cadence_options tagged = cadence_options_of(tags, 3);
     const cadence_settings prefix = cadence_settings_of("p.");
     CHECK(cadence_count(&handle, &prefix, "c", -7, &tagged) == CADENCE_OK && sends(&handle, "p.c:-7|c|#k:v,w,:\n"));
-    CHECK(cadence_settings_make(&settings, "p", defaults, 2, "id", false, room, sizeof room) == CADENCE_OK);
+    CHECK(cadence_settings_make(&settings, "p", defaults, 2, "id", false, room, sizeof room, &needed) == CADENCE_OK && needed == 17);
     CHECK(cadence_gauge(&handle, &settings, "g", 5, NULL) == CADENCE_OK && sends(&handle, "p.g:5|g|#env:prod,beta|c:id\n"));
     CHECK(cadence_count(&handle, &settings, "c", 5, &tagged) == CADENCE_OK);
     CHECK(sends(&handle, "p.c:5|c|#env:prod,beta,k:v,w,:|c:id\n"));
@@ -146,8 +148,45 @@ static void texts_of_settings(void) {
     CHECK(cadence_tags_text(tags, 2, false, out, 9, &length) == CADENCE_OK && memcmp(out, "|#a:b,c:d", 9) == 0);
     CHECK(cadence_tags_text(NULL, 0, true, NULL, 0, &length) == CADENCE_OK && length == 0);
     CHECK(cadence_test_text(BAD) == CADENCE_NOT_UTF8 && cadence_test_text(BYTES("a b")) == CADENCE_OK);
-    CHECK(cadence_settings_make(&settings, "p", tags, 1, "id", true, out, 6) == CADENCE_TOO_SMALL && !settings.strict);
-    CHECK(cadence_settings_make(&settings, "p", tags, 1, "id", true, out, 7) == CADENCE_OK && settings.strict);
+    for (size_t room = 0; room < 7; room++) {
+        length = 9;
+        CHECK(cadence_settings_make(&settings, "p", tags, 1, "id", true, room != 0 ? out : NULL, room, &length) == CADENCE_TOO_SMALL);
+        CHECK(length == 7 && !settings.strict);
+    }
+    CHECK(cadence_settings_make(&settings, "p|", tags, 1, "id", true, out, 16, &length) == CADENCE_SEPARATOR && length == 0);
+    CHECK(cadence_settings_make(&settings, "p", tags, 2, "id", true, out, 1, &length) == CADENCE_SEPARATOR && length == 0);
+    CHECK(cadence_settings_make(&settings, "p", tags, 1, "i:d", true, out, 1, &length) == CADENCE_SEPARATOR && length == 0);
+    CHECK(cadence_settings_make(&settings, "p", tags, 1, "id", true, out, 7, &length) == CADENCE_OK && length == 7 && settings.strict);
+}
+
+/* Returns whether settings begin each name with this text, and add nothing else. */
+static bool begins(cadence_settings settings, const char *text) {
+    return settings.prefix_len == strlen(text) && memcmp(settings.prefix, text, strlen(text)) == 0 && settings.tags_len == 0
+        && !settings.contained && !settings.strict;
+}
+
+static void prefixes_have_one_dot(void) {
+    CHECK(begins(cadence_settings_of("my.service"), "my.service.") && begins(cadence_settings_of("my.service."), "my.service."));
+    CHECK(begins(cadence_settings_of(""), "") && begins(cadence_settings_of("a"), "a.") && begins(cadence_settings_of("a.b.."), "a.b."));
+    CHECK(begins(cadence_settings_of("..."), "."));
+}
+
+/* A number of each type of integers is the one that is sent. */
+static void integers(void) {
+    cadence_handle handle = opened(256, CADENCE_REFUSE);
+    const unsigned long long longest = UINT64_MAX;
+    const int16_t less = -2;
+    int once = 7;
+    CHECK(cadence_count(&handle, NULL, "c", (uint64_t)-2, NULL) == CADENCE_OK && sends(&handle, "c:18446744073709551614|c\n"));
+    CHECK(cadence_gauge(&handle, NULL, "g", (size_t)-1, NULL) == CADENCE_OK && sends(&handle, "g:18446744073709551615|g\n"));
+    CHECK(cadence_time_millis(&handle, NULL, "t", longest, NULL) == CADENCE_OK && sends(&handle, "t:18446744073709551615|ms\n"));
+    CHECK(cadence_distribute(&handle, NULL, "d", UINT64_C(1) << 63, NULL) == CADENCE_OK && sends(&handle, "d:9223372036854775808|d\n"));
+    CHECK(cadence_gauge(&handle, NULL, "g", UINT32_MAX, NULL) == CADENCE_OK && sends(&handle, "g:4294967295|g\n"));
+    CHECK(cadence_gauge(&handle, NULL, "g", -2L, NULL) == CADENCE_OK && sends(&handle, "g:-2|g\n"));
+    CHECK(cadence_gauge(&handle, NULL, "g", less, NULL) == CADENCE_OK && sends(&handle, "g:-2|g\n"));
+    CHECK(cadence_gauge(&handle, NULL, "g", true, NULL) == CADENCE_OK && sends(&handle, "g:1|g\n"));
+    CHECK(cadence_gauge(&handle, NULL, "g", once++, NULL) == CADENCE_OK && sends(&handle, "g:7|g\n") && once == 8);
+    cadence_free(&handle);
 }
 
 static void order_of_a_client(void) {
@@ -211,7 +250,7 @@ static bool refuses(const char *text) {
     const cadence_tag tags[] = { cadence_tag_of("k", "v"), cadence_tag_of(text, "v"), cadence_tag_of("k", text),
                                  cadence_tag_of(NULL, text) };
     size_t length;
-    bool all = cadence_settings_make(&strict, "p", NULL, 0, NULL, true, room, sizeof room) == CADENCE_OK;
+    bool all = cadence_settings_make(&strict, "p", NULL, 0, NULL, true, room, sizeof room, &length) == CADENCE_OK;
     for (int known = 0; known <= 1; known++) {
         cadence_options options = CADENCE_NO_OPTIONS;
         options.known = known;
@@ -230,10 +269,10 @@ static bool refuses(const char *text) {
             == CADENCE_SEPARATOR && length == 0;
     }
     for (int i = 1; i <= 3; i++)
-        all = all && cadence_settings_make(&strict, "p", &tags[i], 1, NULL, true, room, sizeof room) == CADENCE_SEPARATOR;
-    all = all && cadence_settings_make(&strict, text, NULL, 0, NULL, true, room, sizeof room) == CADENCE_SEPARATOR;
-    all = all && cadence_settings_make(&strict, "p", NULL, 0, text, true, room, sizeof room) == CADENCE_SEPARATOR;
-    all = all && cadence_settings_make(&strict, "p", NULL, 0, NULL, true, room, sizeof room) == CADENCE_OK;
+        all = all && cadence_settings_make(&strict, "p", &tags[i], 1, NULL, true, room, sizeof room, &length) == CADENCE_SEPARATOR;
+    all = all && cadence_settings_make(&strict, text, NULL, 0, NULL, true, room, sizeof room, &length) == CADENCE_SEPARATOR;
+    all = all && cadence_settings_make(&strict, "p", NULL, 0, text, true, room, sizeof room, &length) == CADENCE_SEPARATOR;
+    all = all && cadence_settings_make(&strict, "p", NULL, 0, NULL, true, room, sizeof room, &length) == CADENCE_OK;
     all = all && cadence_flush(&handle) == CADENCE_OK;
     all = all && cadence_next(&handle, packet, sizeof packet, &length) == CADENCE_NO_PACKET;
     all = all && cadence_count(&handle, &strict, "c", 1, NULL) == CADENCE_OK && sends(&handle, "p.c:1|c\n");
@@ -242,6 +281,7 @@ static bool refuses(const char *text) {
 }
 
 static void strict(void) {
+    size_t needed;
     static uint8_t room[64];
     cadence_handle handle = opened(64, CADENCE_REFUSE);
     cadence_settings settings;
@@ -252,7 +292,7 @@ static void strict(void) {
     const cadence_tag both[] = { unfree, bad };
     CHECK(refuses(":") && refuses(",") && refuses("|") && refuses("\n"));
     CHECK(refuses("a:1|c") && refuses(",x") && refuses("x\n") && refuses("\xc3\xa9|"));
-    CHECK(cadence_settings_make(&settings, "p", &env, 1, "id", true, room, sizeof room) == CADENCE_OK);
+    CHECK(cadence_settings_make(&settings, "p", &env, 1, "id", true, room, sizeof room, &needed) == CADENCE_OK);
     options.container = (const uint8_t *)"|", options.container_len = 1; /* it is not read, since it is not set */
     CHECK(cadence_count(&handle, &settings, "c", 1, &options) == CADENCE_OK);
     CHECK(sends(&handle, "p.c:1|c|#env:prod,k e:\xc3\xa9#@,,w|c:id\n"));
@@ -275,7 +315,7 @@ static void strict(void) {
     /* settings that are not strict */
     handle = opened(64, CADENCE_REFUSE);
     const cadence_tag odd = cadence_tag_of(",", "\n");
-    CHECK(cadence_settings_make(&settings, "|", &odd, 1, ":", false, room, sizeof room) == CADENCE_OK);
+    CHECK(cadence_settings_make(&settings, "|", &odd, 1, ":", false, room, sizeof room, &needed) == CADENCE_OK);
     CHECK(cadence_count(&handle, &settings, "a:1", 1, NULL) == CADENCE_OK && sends(&handle, "|.a:1:1|c|#,:\n|c::\n"));
     cadence_free(&handle);
 }
@@ -344,6 +384,8 @@ int main(void) {
     helpers();
     doubles();
     texts_of_settings();
+    prefixes_have_one_dot();
+    integers();
     order_of_a_client();
     order_of_a_call();
     order_of_a_line();

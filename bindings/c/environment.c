@@ -1,4 +1,5 @@
-/* environment FILE: tests what the variables of the environment say by the rows of a file, bindings/environment.rows. It
+/* SPDX-License-Identifier: Apache-2.0 OR MIT */
+/* environment FILE: tests what the variables of the environment say by the rows of a file, environment.rows. It
  * prints each row of which the library says something else, and its exit status is then 1. */
 #include <cadence.h>
 #include <stdio.h>

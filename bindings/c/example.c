@@ -1,3 +1,4 @@
+/* SPDX-License-Identifier: Apache-2.0 OR MIT */
 /* Sends metrics to a socket of its own on the loopback address. It prints the status of each call that keeps no line,
  * and then the datagrams that arrive. For some of the calls the socket refuses each packet, and one packet is longer
  * than any datagram. */
@@ -97,10 +98,11 @@ static void long_line(cadence_handle *handle) {
 
 int main(void) {
     static uint8_t room[64];
+    size_t needed;
     const cadence_tag env = cadence_tag_of("env", "prod");
     cadence_handle handle = CADENCE_CLOSED;
     if (open_sockets()) return 1;
-    if (cadence_settings_make(&settings, "my.service", &env, 1, NULL, false, room, sizeof room) != CADENCE_OK) return 2;
+    if (cadence_settings_make(&settings, "my.service", &env, 1, NULL, false, room, sizeof room, &needed) != CADENCE_OK) return 2;
     count(&handle, "closed", 1, NULL);
     if (cadence_open(&handle, 64, 2, CADENCE_REFUSE) != CADENCE_OK) return 3;
     counters(&handle);

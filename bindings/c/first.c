@@ -1,3 +1,4 @@
+/* SPDX-License-Identifier: Apache-2.0 OR MIT */
 /* gcc first.c $(pkg-config --cflags --libs cadence_c) */
 #include <arpa/inet.h>
 #include <cadence.h>

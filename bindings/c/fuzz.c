@@ -1,8 +1,11 @@
+/* SPDX-License-Identifier: Apache-2.0 OR MIT */
 /* fuzz SEQUENCES [SEED]: makes random calls with a heap that fails at random. It compares what is sent with the frames of
  * the lines whose calls returned CADENCE_OK. If a call returns another status, the counts must be as they were before
  * it. Strict settings must refuse just the texts with a separator. Before these calls it makes keys and adds numbers by
- * them, and the heap refuses each request in turn. It prints the first fault, and its exit status is then 1. */
+ * them, and the heap refuses each request in turn. It prints the first fault, and its exit status is then 1. At the end it
+ * prints a checksum of all statuses, lines and packets, which is the same on each processor for the same words. */
 #include "cadence.h"
+#include <inttypes.h>
 #include <stdio.h>
 #include <stdlib.h>
 #include <string.h>
@@ -14,6 +17,13 @@ typedef struct {
 
 static uint64_t seed, nowhere;
 static long blocks, refuse_at, requests, lines, packets_sent;
+
+/* The checksum (FNV-1a) of what the calls wrote and returned. */
+static uint64_t sum = 14695981039346656037u;
+
+static void add_to_sum(const void *at, size_t length) {
+    for (size_t i = 0; i < length; i++) sum = (sum ^ ((const uint8_t *)at)[i]) * 1099511628211u;
+}
 
 static uint32_t below(uint32_t n) {
     seed = seed * 6364136223846793005u + 1442695040888963407u;
@@ -143,6 +153,7 @@ static void fetch(host *h) {
     if (status == CADENCE_TOO_SMALL && length <= most) fail("a packet that fits is too long", status);
     if ((status == CADENCE_NO_PACKET || status == CADENCE_NO_CLIENT) && length != 0) fail("a length of no packet", status);
     if (status != CADENCE_OK) return;
+    add_to_sum(packet, length);
     if (!h->drops && (h->fetched + length > h->kept || memcmp(packet, h->stream + h->fetched, length) != 0))
         fail("a packet has other bytes", status);
     if (below(3) == 0) return;
@@ -163,6 +174,7 @@ static void fetch_held(host *h) {
     status = cadence_drop_held(&h->handle);
     if ((status == CADENCE_FULL) != (counts.waiting != 0)) fail("the held text is dropped before a packet", status);
     if (status != CADENCE_OK) return;
+    add_to_sum(text_held, length);
     if (!h->drops && (h->fetched + length > h->kept || memcmp(text_held, h->stream + h->fetched, length) != 0))
         fail("the held text has other bytes", status);
     h->fetched += length;
@@ -242,6 +254,7 @@ static uint32_t keeps_line(host *h) {
     strictly(settings.strict, is_free_call(key, &options), status);
     if (status == CADENCE_TOO_SMALL ? length <= most : status != CADENCE_OK && length != 0) fail("a length of no line", status);
     if (status != CADENCE_OK) return status;
+    add_to_sum(line, length);
     status = cadence_line(&h->handle, line, length);
     if (status == CADENCE_OK) keeps(h, line, length);
     return status;
@@ -287,6 +300,7 @@ static void step(host *h) {
     requests = 0, refuse_at = below(3) == 0 ? 1 + below(5) : 0;
     status = acts(h);
     refuse_at = 0;
+    add_to_sum(&status, sizeof status);
     cadence_counts(&h->handle, &after);
     if (closed != CADENCE_OK && status == CADENCE_OK) fail("a closed handle kept a line", status);
     lines += status == CADENCE_OK;
@@ -381,6 +395,6 @@ int main(int count, char **words) {
         h.handle = (cadence_handle)CADENCE_CLOSED;
         run(&h);
     }
-    printf("%ld sequences, %ld calls answered 0, %ld packets\n", sequences, lines, packets_sent);
+    printf("%ld sequences, %ld calls answered 0, %ld packets, sum %016" PRIx64 "\n", sequences, lines, packets_sent, sum);
     return 0;
 }

@@ -1,3 +1,4 @@
+/* SPDX-License-Identifier: Apache-2.0 OR MIT */
 /* The heap of libcadence_c.a, which calls that of the host. An empty block takes as many bytes as its alignment. If
  * memory runs out, `given` of the returned block is 0, and nobody follows its pointer.
  *

@@ -1,3 +1,4 @@
+/* SPDX-License-Identifier: Apache-2.0 OR MIT */
 // Prints the size of each struct that crosses between C and the library, the offsets of its fields, and a line that the
 // library made.
 #include <cadence.h>

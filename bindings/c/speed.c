@@ -1,3 +1,4 @@
+/* SPDX-License-Identifier: Apache-2.0 OR MIT */
 /* speed count|tags CALLS [THREADS [known|key]]: makes CALLS calls in each thread and prints how many nanoseconds a call
  * takes. With `known` the texts are not tested for UTF-8. With `key` the calls are added up by a key. Each thread has a
  * handle and a socket of its own. Packets of 1432 bytes are sent to the loopback address as soon as two wait. */

@@ -1,3 +1,4 @@
+/* SPDX-License-Identifier: Apache-2.0 OR MIT */
 /* Tests what include/cadence.h says of sums: what is held, what the client gets of it and when, which status a call
  * returns, and the functions of the header itself. It prints each check that fails, and its exit status is then 1. It is
  * valid C and C++. */
@@ -59,9 +60,25 @@ static void lines(void) {
     CHECK(cadence_flush_sums(&sums, &handle) == CADENCE_OK && cadence_flush(&handle) == CADENCE_OK);
     CHECK(gives(&handle, "a:3|c|#k:v\ng:7.5|g\nu:3|s\n"));
     CHECK(cadence_flush_sums(&sums, &handle) == CADENCE_OK && has_nothing(&handle));
-    add(&sums, &handle, "g:1|g");
-    add(&sums, &handle, "g:-1|g");
-    CHECK(cadence_flush(&handle) == CADENCE_OK && gives(&handle, "g:1|g\ng:-1|g\n"));
+    cadence_free_sums(&sums);
+    cadence_free(&handle);
+}
+
+/* A line that may set a gauge comes after the gauges that are held, and leaves the counters held. */
+static void gauges(void) {
+    cadence_handle handle = opened(256);
+    cadence_sums sums = summing(8, 64, false);
+    static const char *const later[] = { "g:-1|g", "g:+1|g", "g:8.50|g", "g:2|g|T7", "g:x|g" };
+    add(&sums, &handle, "a:1|c");
+    for (size_t i = 0; i < sizeof later / sizeof later[0]; i++) {
+        char expected[64];
+        add(&sums, &handle, "g:1|g");
+        add(&sums, &handle, later[i]);
+        snprintf(expected, sizeof expected, "g:1|g\n%s\n", later[i]);
+        CHECK(cadence_flush(&handle) == CADENCE_OK && gives(&handle, expected));
+    }
+    CHECK(cadence_flush_sums(&sums, &handle) == CADENCE_OK && cadence_flush(&handle) == CADENCE_OK);
+    CHECK(gives(&handle, "a:1|c\n"));
     cadence_free_sums(&sums);
     cadence_free(&handle);
 }
@@ -99,7 +116,7 @@ static void full(void) {
     cadence_free(&handle);
 }
 
-/* A full table gives the context that was called least recently. Values are packed if they may be. */
+/* A full table gives its oldest context. Values are packed if they may be. */
 static void limits(void) {
     cadence_handle handle = opened(0);
     cadence_sums sums = summing(0, 11, true);
@@ -180,6 +197,7 @@ static void keys(void) {
 int main(void) {
     keys();
     lines();
+    gauges();
     closed();
     full();
     limits();

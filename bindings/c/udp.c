@@ -1,14 +1,21 @@
-/* Tests cadence_udp.c with sockets of its own. It prints each check that fails, and its exit status is then 1. */
+/* SPDX-License-Identifier: Apache-2.0 OR MIT */
+/* udp FOLDER ROWS: tests cadence_udp.c with sockets of its own, and with Unix sockets in a folder. ROWS is
+ * bindings/addresses.rows. It prints each check that fails, and its exit status is then 1. */
 #define _GNU_SOURCE
-#include <arpa/inet.h>
+#include "names.h"
 #include <cadence_udp.h>
+#include <fcntl.h>
+#include <limits.h>
+#include <pthread.h>
 #include <stdio.h>
-#include <stdlib.h>
-#include <sys/socket.h>
 #include <sys/un.h>
 #include <unistd.h>
 
 #define CHECK(holds) ((holds) ? (void)0 : fail(#holds, __LINE__))
+
+enum { HOUR = 3600000 };
+
+static const int64_t SECOND = 1000000000;
 
 static int failures;
 
@@ -31,38 +38,63 @@ static bool gets_nothing(int server) {
     return recv(server, got, sizeof got, MSG_DONTWAIT) < 0;
 }
 
-static int server_at(uint16_t *port) {
-    struct sockaddr_in to = { .sin_family = AF_INET, .sin_addr = { htonl(INADDR_LOOPBACK) } };
-    socklen_t size = sizeof to;
-    const int server = socket(AF_INET, SOCK_DGRAM, 0);
-    if (bind(server, (struct sockaddr *)&to, sizeof to) || getsockname(server, (struct sockaddr *)&to, &size)) exit(2);
-    *port = ntohs(to.sin_port);
-    return server;
+/* Returns a socket at an address and a port, or at a port of the system's choice if that is 0, or -1. */
+static int server_at(const char *address, uint16_t *port) {
+    char text[8];
+    snprintf(text, sizeof text, "%u", *port);
+    struct addrinfo *const at = entry_of(address, text);
+    const int server = socket(at->ai_family, SOCK_DGRAM, 0);
+    const bool bound = bind(server, at->ai_addr, at->ai_addrlen) == 0 && getsockname(server, at->ai_addr, &at->ai_addrlen) == 0;
+    *port = ntohs(((struct sockaddr_in *)at->ai_addr)->sin_port);
+    freeaddrinfo(at);
+    return bound ? server : (close(server), -1);
+}
+
+static bool keeps(cadence_udp *out, const char *key, int value) {
+    return cadence_count(&out->client, NULL, key, value, NULL) == CADENCE_OK;
+}
+
+/* Keeps a line, and returns how many packets wait after it was flushed. */
+static size_t flushed(cadence_udp *out, const char *key, int value) {
+    CHECK(keeps(out, key, value));
+    return cadence_udp_flush(out);
 }
 
 static void by_host(void) {
     static char key[70000];
-    uint16_t port;
-    const int server = server_at(&port);
-    const cadence_settings settings = cadence_settings_of("p.");
+    uint16_t port = 0;
+    const int server = server_at("127.0.0.1", &port);
     cadence_udp out = CADENCE_UDP_CLOSED;
-    CHECK(cadence_udp_connect(&out, "localhost.invalid", port, 16, 1000) != NULL && out.fd == -1);
-    CHECK(strncmp(out.fault, "localhost.invalid: ", 19) == 0);
-    CHECK(cadence_udp_connect(&out, "127.0.0.1", port, 16, 0) == NULL);
-    CHECK(cadence_count(&out.client, &settings, "a", 1, NULL) == CADENCE_OK && cadence_udp_send(&out) == 0 && gets_nothing(server));
-    CHECK(cadence_udp_send(&out) == 0 && gets(server, "p.a:1|c\n"));
-    CHECK(cadence_udp_connect(&out, "127.0.0.1", port, 16, 3600000) == NULL);
-    for (int i = 1; i <= 3; i++) {
-        CHECK(cadence_count(&out.client, &settings, "b", i, NULL) == CADENCE_OK);
-        CHECK(cadence_udp_send(&out) == 0);
-    }
+    CHECK(cadence_udp_connect(&out, "no.such.host", port, 16, 1000) != NULL && out.socket == NULL && !out.client.open);
+    CHECK(strncmp(out.fault, "no.such.host: ", 14) == 0);
+    CHECK(cadence_udp_connect(&out, "127.0.0.1", 0, 16, 1000) != NULL && strcmp(out.fault, "127.0.0.1: the port is 0") == 0);
+    CHECK(cadence_udp_connect(&out, "127.0.0.1", port, SIZE_MAX, 1000) != NULL && out.socket == NULL);
+    CHECK(cadence_udp_connect(&out, "127.0.0.1", port, 16, HOUR) == NULL);
+    for (int i = 1; i <= 3; i++) CHECK(keeps(&out, "p.b", i) && cadence_udp_send(&out) == 0);
     CHECK(gets(server, "p.b:1|c\np.b:2|c\n") && gets_nothing(server));
     memset(key, 'x', sizeof key - 1);
-    CHECK(cadence_count(&out.client, &settings, key, 1, NULL) == CADENCE_OK && cadence_udp_send(&out) == 0);
+    CHECK(keeps(&out, key, 1) && cadence_udp_send(&out) == 0);
     CHECK(gets(server, "p.b:3|c\n") && gets_nothing(server) && out.too_long == 1);
-    CHECK(cadence_count(&out.client, &settings, "c", 1, NULL) == CADENCE_OK);
+    CHECK(keeps(&out, "c", 1));
     cadence_udp_close(&out);
-    CHECK(gets(server, "p.c:1|c\n") && out.fd == -1 && !out.client.open);
+    CHECK(gets(server, "c:1|c\n") && out.socket == NULL && !out.client.open);
+    cadence_udp_close(&out);
+    close(server);
+}
+
+/* The held text is sent as soon as it may be older than the period. */
+static void by_time(void) {
+    uint16_t port = 0;
+    const int server = server_at("127.0.0.1", &port);
+    cadence_udp out = CADENCE_UDP_CLOSED;
+    CHECK(cadence_udp_connect(&out, "127.0.0.1", port, 512, 0) == NULL);
+    CHECK(keeps(&out, "now", 1) && cadence_udp_send(&out) == 0 && gets(server, "now:1|c\n"));
+    CHECK(cadence_udp_connect(&out, "127.0.0.1", port, 512, HOUR) == NULL && keeps(&out, "a", 1));
+    later += HOUR / 2 * (SECOND / 1000);
+    CHECK(cadence_udp_send(&out) == 0 && gets_nothing(server) && keeps(&out, "b", 1));
+    later += HOUR / 2 * (SECOND / 1000);
+    CHECK(cadence_udp_send(&out) == 0 && gets(server, "a:1|c\nb:1|c\n"));
+    CHECK(keeps(&out, "c", 1) && cadence_udp_send(&out) == 0 && gets_nothing(server));
     cadence_udp_close(&out);
     close(server);
 }
@@ -77,50 +109,199 @@ static int five_lines(void) {
     return 0;
 }
 
-static void by_path(const char *path) {
+/* A client of zeros is closed, and doesn't close a file that it hasn't opened. */
+static void of_zeros(void) {
+    cadence_udp out = { 0 };
+    uint16_t port = 0;
+    const int server = server_at("127.0.0.1", &port), input = dup(0), kept = open("/dev/null", O_RDONLY);
+    dup2(kept, 0);
+    CHECK(cadence_udp_send(&out) == 0 && cadence_udp_flush(&out) == 0);
+    CHECK(cadence_udp_connect(&out, "127.0.0.1", port, 512, 1000) == NULL && fcntl(0, F_GETFD) >= 0);
+    CHECK(flushed(&out, "a", 1) == 0 && gets(server, "a:1|c\n"));
+    cadence_udp_close(&out);
+    CHECK(fcntl(0, F_GETFD) >= 0);
+    dup2(input, 0);
+    close(input), close(kept), close(server);
+}
+
+#ifdef __SANITIZE_ADDRESS__ /* its threads need more */
+static void small_stacks(void) {}
+#else
+static void *sends_a_line(void *port) {
+    cadence_udp out = CADENCE_UDP_CLOSED;
+    CHECK(cadence_udp_connect(&out, "127.0.0.1", *(uint16_t *)port, 512, HOUR) == NULL && keeps(&out, "small", 1));
+    cadence_udp_close(&out);
+    return NULL;
+}
+
+/* The library takes little of each thread's memory, so that a thread may have a small stack. */
+static void small_stacks(void) {
+    uint16_t port = 0;
+    const int server = server_at("127.0.0.1", &port);
+    pthread_attr_t small;
+    pthread_t thread;
+    const size_t least = PTHREAD_STACK_MIN, stack = least > 32 << 10 ? least : 32 << 10;
+    CHECK(pthread_attr_init(&small) == 0 && pthread_attr_setstacksize(&small, stack) == 0);
+    const int error = pthread_create(&thread, &small, sends_a_line, &port);
+    CHECK(error == 0 && pthread_join(thread, NULL) == 0 && gets(server, "small:1|c\n"));
+    pthread_attr_destroy(&small);
+    close(server);
+}
+#endif
+
+/* Makes a Unix socket anew. */
+static int server_at_path(const char *path) {
     struct sockaddr_un at = { .sun_family = AF_UNIX };
     const int server = socket(AF_UNIX, SOCK_DGRAM, 0);
-    cadence_udp out = CADENCE_UDP_CLOSED;
     snprintf(at.sun_path, sizeof at.sun_path, "%s", path);
-    CHECK(cadence_udp_connect_path(&out, path, 16, 1000) != NULL && strncmp(out.fault, path, strlen(path)) == 0);
-    if (bind(server, (struct sockaddr *)&at, sizeof at)) exit(2);
-    CHECK(cadence_udp_connect_path(&out, path, 16, 1000) == NULL);
-    CHECK(cadence_count(&out.client, NULL, "a", 1, NULL) == CADENCE_OK && cadence_udp_flush(&out) == 0 && gets(server, "a:1|c\n"));
+    unlink(path);
+    return bind(server, (struct sockaddr *)&at, sizeof at) == 0 ? server : -1;
+}
 
-    /* nobody receives, so the queue of the socket becomes full, and then packets wait */
+/* An agent that isn't there yet, one that doesn't receive, and one that starts again. */
+static void by_path(const char *path) {
+    static char key[1 << 17];
+    char long_path[200] = "";
+    cadence_udp out = CADENCE_UDP_CLOSED;
+    memset(long_path, '/', sizeof long_path - 1);
+    CHECK(cadence_udp_connect_path(&out, "", 16, HOUR) != NULL && cadence_udp_connect_path(&out, long_path, 16, HOUR) != NULL);
+    unlink(path);
+    CHECK(cadence_udp_connect_path(&out, path, 16, HOUR) == NULL);
+    CHECK(flushed(&out, "early", 1) == 1 && out.refused == 1);
+    int server = server_at_path(path);
+    CHECK(cadence_udp_send(&out) == 0 && gets(server, "early:1|c\n"));
     size_t waits = 0;
-    for (int i = 0; i < 100000 && waits == 0; i++) {
-        cadence_count(&out.client, NULL, "a", 1, NULL);
-        waits = cadence_udp_flush(&out);
-    }
-    CHECK(waits == 1 && out.refused == 1);
-    while (recv(server, &waits, sizeof waits, MSG_DONTWAIT) >= 0) {}
+    for (int i = 0; i < 100000 && waits == 0; i++) waits = flushed(&out, "a", 1);
+    CHECK(waits == 1 && out.refused == 2);
+    while (!gets_nothing(server)) {}
     CHECK(cadence_udp_send(&out) == 0 && gets(server, "a:1|c\n"));
+    close(server);
+    for (int i = 1; i <= 70; i++) CHECK(flushed(&out, "away", i) == (size_t)(i < 64 ? i : 64));
+    server = server_at_path(path);
+    CHECK(flushed(&out, "back", 1) > 0 && gets(server, "away:8|c\n"));
+    while (cadence_udp_send(&out) != 0) while (!gets_nothing(server)) {}
+    while (!gets_nothing(server)) {}
+    CHECK(flushed(&out, "on", 1) == 0 && gets(server, "on:1|c\n"));
+    memset(key, 'x', sizeof key - 1);
+    CHECK(flushed(&out, key, 1) == 0 && recv(server, key, sizeof key, MSG_TRUNC) == sizeof key + 3);
     cadence_udp_close(&out);
     close(server);
     unlink(path);
 }
 
-static void by_environment(void) {
-    uint16_t port;
-    char text[64];
-    const int server = server_at(&port);
+/* A name is looked up again after a minute, and a second after a refusal, and a lookup that fails keeps the address. */
+static void by_name(void) {
+    uint16_t port = 0;
+    const int first = server_at("127.0.0.1", &port), second = server_at("127.0.0.2", &port);
+    cadence_udp out = CADENCE_UDP_CLOSED;
+    lookups = 0;
+    CHECK(cadence_udp_connect(&out, "127.0.0.1", port, 512, HOUR) == NULL && flushed(&out, "a", 0) == 0 && gets(first, "a:0|c\n"));
+    later += 61 * SECOND;
+    CHECK(flushed(&out, "a", 1) == 0 && gets(first, "a:1|c\n") && lookups == 0);
+    addresses = "127.0.0.1";
+    CHECK(cadence_udp_connect(&out, "agent.test", port, 512, HOUR) == NULL && lookups == 1);
+    addresses = "127.0.0.2";
+    later += 60 * SECOND - 1;
+    CHECK(flushed(&out, "a", 2) == 0 && gets(first, "a:2|c\n") && lookups == 1);
+    later += 1;
+    CHECK(flushed(&out, "a", 3) == 0 && gets(second, "a:3|c\n") && lookups == 2);
+    addresses = "";
+    later += 60 * SECOND;
+    CHECK(flushed(&out, "a", 4) == 0 && gets(second, "a:4|c\n") && lookups == 3);
+    addresses = "255.255.255.255"; /* the system refuses to send there */
+    later += 60 * SECOND;
+    CHECK(flushed(&out, "a", 5) == 1 && out.refused == 1 && lookups == 4);
+    addresses = "127.0.0.1";
+    later += SECOND - 1;
+    CHECK(flushed(&out, "a", 6) == 2 && out.refused == 2 && lookups == 4);
+    later += 1;
+    CHECK(cadence_udp_send(&out) == 0 && gets(first, "a:5|c\n") && gets(first, "a:6|c\n") && lookups == 5);
+    lookup_takes = 10 * SECOND;
+    later += 60 * SECOND;
+    CHECK(flushed(&out, "a", 7) == 0 && lookups == 6);
+    lookup_takes = 0;
+    later += 90 * SECOND - 1;
+    CHECK(flushed(&out, "a", 8) == 0 && lookups == 6);
+    later += 1;
+    CHECK(flushed(&out, "a", 9) == 0 && lookups == 7 && keeps(&out, "a", 10));
+    later += 61 * SECOND;
+    cadence_udp_close(&out);
+    CHECK(lookups == 7);
+    close(first), close(second);
+}
+
+/* Of the addresses of a name, the one of the row is sent to, also if the name gets them later. */
+static void by_rows(const char *path) {
+    char row[256];
+    FILE *const file = fopen(path, "r");
+    int rows = 0;
+    while (file != NULL && fgets(row, sizeof row, file) != NULL) {
+        char *arrow = strstr(row, " -> ");
+        if (row[0] == '#' || arrow == NULL) continue;
+        *arrow = arrow[strcspn(arrow, "\n")] = '\0';
+        uint16_t port = 0;
+        const int server = server_at(arrow + 4, &port);
+        rows++;
+        if (server < 0) continue; /* there is no IPv6 here */
+        cadence_udp out = CADENCE_UDP_CLOSED;
+        for (int again = 0; again < 2; again++) {
+            addresses = again ? "127.0.0.9" : row;
+            CHECK(cadence_udp_connect(&out, "agent.test", port, 512, HOUR) == NULL);
+            addresses = row;
+            later += 60 * SECOND;
+            CHECK(flushed(&out, "row", rows) == 0 && !gets_nothing(server));
+        }
+        cadence_udp_close(&out);
+        close(server);
+    }
+    CHECK(rows >= 5);
+    if (file != NULL) fclose(file);
+}
+
+static void by_environment(const char *path) {
+    uint16_t port = 0;
+    char text[256];
+    int server = server_at("127.0.0.1", &port);
     cadence_udp out = CADENCE_UDP_CLOSED;
     snprintf(text, sizeof text, "udp://127.0.0.1:%u", port);
     setenv("DD_DOGSTATSD_URL", text, 1);
-    CHECK(cadence_udp_connect_environment(&out, 16, 1000) == NULL);
-    CHECK(cadence_count(&out.client, NULL, "e", 1, NULL) == CADENCE_OK && cadence_udp_flush(&out) == 0 && gets(server, "e:1|c\n"));
+    setenv("DD_ENV", "prod", 1);
+    setenv("DD_TAGS", "beta,k:v", 1);
+    for (int dot = 0; dot < 2; dot++) {
+        CHECK(cadence_udp_connect_environment(&out, dot ? "my.service." : "my.service", 64, HOUR) == NULL);
+        CHECK(cadence_count(&out.client, &out.settings, "e", 1, NULL) == CADENCE_OK && cadence_udp_flush(&out) == 0);
+        CHECK(gets(server, "my.service.e:1|c|#env:prod,beta,k:v\n"));
+    }
+    setenv("DD_TAGS", ":v", 1);
+    const char *words = cadence_udp_connect_environment(&out, "p", 16, HOUR);
+    CHECK(words != NULL && strncmp(words, "DD_TAGS wants ", 14) == 0 && out.socket == NULL && out.settings.tags == NULL);
+    CHECK(unsetenv("DD_TAGS") == 0 && cadence_udp_connect_environment(&out, "\xff", 16, HOUR) != NULL);
     setenv("DD_DOGSTATSD_URL", "udp:", 1);
-    const char *fault = cadence_udp_connect_environment(&out, 16, 1000);
-    CHECK(fault != NULL && strncmp(fault, "DD_DOGSTATSD_URL wants ", 23) == 0 && out.fd == -1);
+    words = cadence_udp_connect_environment(&out, "p", 16, HOUR);
+    CHECK(words != NULL && strncmp(words, "DD_DOGSTATSD_URL wants ", 23) == 0 && out.socket == NULL);
     close(server);
+    snprintf(text, sizeof text, "unix://%s", path);
+    setenv("DD_DOGSTATSD_URL", text, 1);
+    CHECK(unsetenv("DD_ENV") == 0 && cadence_udp_connect_environment(&out, NULL, 16, HOUR) == NULL);
+    server = server_at_path(path);
+    CHECK(cadence_count(&out.client, &out.settings, "e", 2, NULL) == CADENCE_OK && cadence_udp_flush(&out) == 0);
+    CHECK(gets(server, "e:2|c\n"));
+    cadence_udp_close(&out);
+    close(server);
+    unlink(path);
 }
 
 int main(int argc, char **argv) {
-    if (argc != 2) return 2;
+    char path[108];
+    if (argc != 3 || (size_t)snprintf(path, sizeof path, "%s/udp.sock", argv[1]) >= sizeof path) return 2;
     by_host();
+    by_time();
     CHECK(five_lines() == 0);
-    by_path(argv[1]);
-    by_environment();
+    of_zeros();
+    small_stacks();
+    by_path(path);
+    by_name();
+    by_rows(argv[2]);
+    by_environment(path);
     return failures != 0;
 }

@@ -1,3 +1,4 @@
+# SPDX-License-Identifier: Apache-2.0 OR MIT
 """Sends metrics to a socket of its own on the loopback address, and prints the datagrams that arrive, the errors that
 are reported, and the counts."""
 import datetime

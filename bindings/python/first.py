@@ -1,3 +1,4 @@
+# SPDX-License-Identifier: Apache-2.0 OR MIT
 from statsd_proved import StatsClient
 
 with StatsClient("127.0.0.1", 8125, prefix="my.service", tags={"env": "prod"}) as client:

@@ -1,3 +1,4 @@
+# SPDX-License-Identifier: Apache-2.0 OR MIT
 """speed CALLS: prints how many nanoseconds of processor time a call takes, for this client, for one that adds lines up
 and, if python3-statsd is installed, for statsd.StatsClient and its pipeline. The figures are medians of 11 turns, with
 the least and the greatest. The clients send to a UDP socket on the loopback address."""

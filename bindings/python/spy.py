@@ -1,3 +1,4 @@
+# SPDX-License-Identifier: Apache-2.0 OR MIT
 from statsd_proved import SpyStatsClient
 
 client = SpyStatsClient(prefix="my.service")

@@ -1,5 +1,6 @@
+// SPDX-License-Identifier: MIT OR Apache-2.0
 //! Links libcadence_c.a: from the folder that `CADENCE_LIB` names, and otherwise from `lib/` of the archive, if this crate
-//! is in one.
+//! is in one. If the folder has a folder of the processor, such as `aarch64-linux-gnu/`, the library there is taken.
 use std::path::{Path, PathBuf};
 use std::{env, fs};
 
@@ -13,32 +14,53 @@ pub const VERSION: &str = "0.7.0";
 const CURE: &str = "Set CADENCE_LIB to the absolute path of the folder that has libcadence_c.a, which is lib/ in the \
 archive that ./package makes; in that archive bindings/rust finds it without the variable.";
 
-/// Returns an error if there is no library for this target.
+/// The processors for which there is a library, by their names in Rust, with the number of each in the head of an object
+/// file (ELF).
+const PROCESSORS: [(&str, u8); 2] = [("x86_64", 62), ("aarch64", 183)];
+
+/// Returns an error if there is no library for this target. The library needs nothing of glibc that musl lacks.
 pub fn check_target(arch: &str, os: &str, env: &str) -> Result<(), String> {
-    if (arch, os, env) == ("x86_64", "linux", "gnu") {
+    if PROCESSORS.iter().any(|(known, _)| *known == arch) && os == "linux" && (env == "gnu" || env == "musl") {
         return Ok(());
     }
     Err(format!(
-        "The crate cadence over the proved library builds only for Linux with glibc on x86-64, and the target is {arch}, {os}, \
-         {}: build for it with the crate of crates.io, without the patch in Cargo.toml.",
-        if env.is_empty() { "no glibc" } else { env }
+        "The crate cadence over the proved library builds only for Linux on x86-64 and ARM64, with glibc or musl, and the \
+         target is {arch}, {os}, {}: build for it with the crate of crates.io, without the patch in Cargo.toml.",
+        if env.is_empty() { "no C library of Linux" } else { env }
     ))
 }
 
-/// Returns the folder that has the library: the one that the variable names, or otherwise the one beside the crate in an
-/// archive.
+/// Returns the processor of an object file that begins at the first head in these bytes, if there is one.
+fn processor_of(bytes: &[u8]) -> Option<u8> {
+    let at = bytes.windows(4).position(|window| window == b"\x7fELF")?;
+    bytes.get(at + 18).copied()
+}
+
+/// Returns the folder that has the library for a processor: the one that the variable names, or otherwise the one beside
+/// the crate in an archive, or the folder of the processor in it.
 ///
 /// The call fails if the variable is relative or names a folder without the library, even if there is one beside the
-/// crate, because whoever set the variable meant that folder. It also fails if there is neither, or if the library has
-/// another version than this crate.
-pub fn folder(crate_folder: &Path, variable: Option<&str>) -> Result<PathBuf, String> {
-    let folder = variable.map_or_else(|| Ok(crate_folder.join("../../lib")), named_folder)?;
+/// crate, because whoever set the variable meant that folder. It also fails if there is neither, or if the library is one
+/// for another processor, or has another version than this crate.
+pub fn folder(crate_folder: &Path, variable: Option<&str>, arch: &str) -> Result<PathBuf, String> {
+    let named = variable.map_or_else(|| Ok(crate_folder.join("../../lib")), named_folder)?;
+    let own = named.join(format!("{arch}-linux-gnu"));
+    let folder = if own.join(LIBRARY).is_file() { own } else { named };
     let library = folder.join(LIBRARY);
     if !library.is_file() {
         let set = variable.map_or("CADENCE_LIB is not set".to_string(), |variable| format!("CADENCE_LIB is \"{variable}\""));
         return Err(format!("{set}, and there is no {LIBRARY} in {}. {CURE}", folder.display()));
     }
-    let bytes = fs::read(&library).map_err(|error| format!("{} can't be read: {error}", library.display()))?;
+    check_library(&library, arch)?;
+    Ok(folder)
+}
+
+/// Returns an error if a library is one for another processor, or has another version than this crate.
+fn check_library(library: &Path, arch: &str) -> Result<(), String> {
+    let bytes = fs::read(library).map_err(|error| format!("{} can't be read: {error}", library.display()))?;
+    if !PROCESSORS.contains(&(arch, processor_of(&bytes).unwrap_or(0))) {
+        return Err(format!("{} is not a library for the processor {arch}. {CURE}", library.display()));
+    }
     let mark = format!("cadence_c {VERSION}\0");
     if !bytes.windows(mark.len()).any(|at| at == mark.as_bytes()) {
         return Err(format!(
@@ -46,7 +68,7 @@ pub fn folder(crate_folder: &Path, variable: Option<&str>) -> Result<PathBuf, St
             library.display()
         ));
     }
-    Ok(folder)
+    Ok(())
 }
 
 /// Returns the folder that the variable names, if it is absolute.
@@ -67,9 +89,10 @@ fn of_cargo(name: &str) -> String {
 
 /// Returns the folder of the library, if there is one for the target.
 fn found() -> Result<PathBuf, String> {
-    check_target(&of_cargo("CARGO_CFG_TARGET_ARCH"), &of_cargo("CARGO_CFG_TARGET_OS"), &of_cargo("CARGO_CFG_TARGET_ENV"))?;
+    let arch = of_cargo("CARGO_CFG_TARGET_ARCH");
+    check_target(&arch, &of_cargo("CARGO_CFG_TARGET_OS"), &of_cargo("CARGO_CFG_TARGET_ENV"))?;
     let variable = env::var_os("CADENCE_LIB").map(|value| value.to_string_lossy().into_owned());
-    folder(Path::new(&of_cargo("CARGO_MANIFEST_DIR")), variable.as_deref())
+    folder(Path::new(&of_cargo("CARGO_MANIFEST_DIR")), variable.as_deref(), &arch)
 }
 
 /// Tells cargo where the library is, or says what is wrong and ends with 1.

@@ -1,5 +1,5 @@
 #!/usr/bin/env python3
-"""Measures the work of the program bench and prints the tables of docs/SPEED.md. With --rust it also measures a program
+"""Measures the work of the program bench and prints the tables of docs/speed.md. With --rust it also measures a program
 that does the same work over the Rust crate. Both programs take MODE N [SIZES] and print `check=..` and `ns_per=..`, and
 for a queue also `accepted=..` and `drained_ns_per=..`. If a check differs between the programs, that is printed and the
 status is 1."""

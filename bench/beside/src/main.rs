@@ -1,6 +1,6 @@
 //! `beside calls N [SEED]`: makes N random calls over the binding for Rust and over the Rust crate cadence, and
 //! compares what each call returns, the line that its sink gets, and what its error handler gets. It prints how many
-//! differ. The differences that docs/PORTING.md names are counted apart, and each other one is printed; then the status
+//! differ. The differences that docs/rust.md names are counted apart, and each other one is printed; then the status
 //! is 1.
 //!
 //! `beside WORK ours|theirs N`: does one work N times over one of the two, for callgrind. It prints a check, which is

@@ -1,4 +1,4 @@
-//! The differences that docs/PORTING.md names. All of them are about floats: which are refused, and which text one has.
+//! The differences that docs/rust.md names. All of them are about floats: which are refused, and which text one has.
 use crate::call::{Call, Form};
 use crate::side::Answer;
 

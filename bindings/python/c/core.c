@@ -1,3 +1,4 @@
+/* SPDX-License-Identifier: Apache-2.0 OR MIT */
 /* The type Packer of statsd_proved._core: the calls of cadence.h.
  *
  * Each method first reads its arguments, which may run other Python code. Then it calls the library while it holds the
@@ -19,20 +20,10 @@ typedef struct {
     PyObject *kept; /* a list that keeps the text of the default container alive */
     PyObject *parts; /* the function of statsd_proved.decimals */
     size_t capacity, packets;
+    uint64_t process; /* the number of the process whose lines it has */
     uint8_t *line; /* the text of the lines that this file puts together itself */
     size_t line_len, line_room;
 } packer;
-
-/* The arguments of a call that makes a metric. */
-typedef struct {
-    values_of_call values;
-    tags_of_call tags;
-    cadence_options options;
-    const uint8_t *key, *text;
-    size_t key_len, text_len;
-    uint32_t kind;
-    long form;
-} call;
 
 PyObject *object_of(const char *module, const char *name) {
     PyObject *from = PyImport_ImportModule(module);
@@ -66,6 +57,7 @@ static PyObject *answer(packer *self, uint32_t status) {
     return PyBool_FromLong(self->counts.made != made);
 }
 
+/* Makes the client, which is empty. */
 static uint32_t renew(packer *self) {
     memset(&self->counts, 0, sizeof self->counts);
     return sums_open(&self->sums, &self->handle, self->capacity, self->packets);
@@ -118,6 +110,7 @@ static int packer_init(packer *self, PyObject *args, PyObject *named) {
     self->packets = (size_t)packets;
     self->settings.strict = strict;
     self->sums.used = adds_up;
+    self->process = process_number();
     tags_of_call defaults = { .len = 0 };
     const bool made = tags_begin(&defaults, tags) && begin(self, prefix, container, &defaults);
     tags_end(&defaults);
@@ -135,62 +128,6 @@ static void packer_dealloc(packer *self) {
     freefunc release = (freefunc)PyType_GetSlot(type, Py_tp_free);
     release(self);
     Py_DECREF(type);
-}
-
-/* Reads the options of a call: its rate if that isn't 1, its container, and its time. Returns false if it has set an
- * exception. */
-static bool read_options(call *c, PyObject *parts, PyObject *rate, PyObject *container, PyObject *time) {
-    c->options.known = true; /* what text_of gives is UTF-8 */
-    c->options.rated = !(PyLong_Check(rate) && PyLong_AsLong(rate) == 1);
-    if (PyErr_Occurred() || (c->options.rated && !decimal_of(rate, parts, false, &c->options.rate))) return false;
-    c->options.contained = container != Py_None;
-    if (c->options.contained && !text_of(container, &c->tags.texts, &c->options.container, &c->options.container_len))
-        return false;
-    c->options.timed = time != Py_None;
-    if (c->options.timed) c->options.time = PyLong_AsUnsignedLongLong(time);
-    return !c->options.timed || !PyErr_Occurred();
-}
-
-/* Reads the arguments kind, form, stat, value, rate, tags, container, timestamp. Returns false if it has set an
- * exception. call_end has to be called in any case. */
-static bool call_begin(packer *self, call *c, PyObject *const *args, Py_ssize_t count) {
-    const cadence_options none = CADENCE_NO_OPTIONS;
-    c->options = none;
-    c->text = NULL;
-    c->values.at = c->values.small;
-    c->values.small[0] = (cadence_decimal_number){ .mantissa = 0 }; /* put_line prints it if the value is a text */
-    c->values.len = 0;
-    c->values.is_large = c->values.is_double = false;
-    c->tags.at = c->tags.small;
-    c->tags.len = 0;
-    c->tags.items = c->tags.texts = NULL;
-    if (self->texts == NULL) return refused(CADENCE_NO_CLIENT) != NULL;
-    if (count != 8) {
-        PyErr_SetString(PyExc_TypeError, "keep takes 8 arguments");
-        return false;
-    }
-    c->kind = (uint32_t)PyLong_AsUnsignedLong(args[0]);
-    c->form = PyLong_AsLong(args[1]);
-    if (PyErr_Occurred()) return false;
-    if (!PyUnicode_Check(args[2])) {
-        PyErr_Format(PyExc_TypeError, "the name %R is no str", args[2]);
-        return false;
-    }
-    if (!text_of(args[2], NULL, &c->key, &c->key_len)) return false;
-    if (c->kind == CADENCE_SET && PyUnicode_Check(args[3])) {
-        if (!text_of(args[3], NULL, &c->text, &c->text_len)) return false;
-        c->values.len = 1;
-    } else if (!values_begin(&c->values, args[3], self->parts, c->kind == CADENCE_TIMER)) return false;
-    if (!read_options(c, self->parts, args[4], args[6], args[7])) return false;
-    if (!tags_begin(&c->tags, args[5])) return false;
-    c->options.tags = c->tags.at;
-    c->options.tags_len = c->tags.len;
-    return true;
-}
-
-static void call_end(call *c) {
-    values_end(&c->values);
-    tags_end(&c->tags);
 }
 
 static bool has_room(packer *self, size_t room) {
@@ -260,7 +197,6 @@ static uint32_t keep(packer *self, call *c) {
     const size_t at = self->settings.prefix_len + c->key_len + 1; /* where the value is */
     uint32_t status = CADENCE_OK;
     self->line_len = 0;
-    if (plus) status = sums_give(&self->sums, &self->handle);
     if (c->form == LEVEL && minus) status = put_zero(self, c);
     if (status == CADENCE_OK) status = put_line(self, c);
     if (status == CADENCE_OK && c->text != NULL && self->settings.strict) status = cadence_test_text(c->text, c->text_len);
@@ -269,7 +205,37 @@ static uint32_t keep(packer *self, call *c) {
     return status != CADENCE_OK ? status : sums_line(&self->sums, &self->handle, self->line, self->line_len);
 }
 
+static PyObject *packer_renew(packer *self, PyObject *unused) {
+    (void)unused;
+    self->process = process_number();
+    if (!self->handle.open) Py_RETURN_NONE;
+    const uint32_t status = renew(self);
+    return status == CADENCE_OK ? Py_NewRef(Py_None) : refused(status);
+}
+
+static PyObject *packer_is_forked(packer *self, PyObject *unused) {
+    (void)unused;
+    return PyBool_FromLong(self->process != process_number());
+}
+
+/* If this is the child of a fork of which Python wasn't told, all clients start empty, as they do if it is told. Returns
+ * false if it has set an exception. */
+static bool follow_fork(packer *self) {
+    if (self->process == process_number()) return true;
+    PyObject *all = object_of("statsd_proved.process", "renew_all");
+    PyObject *done = all != NULL ? PyObject_CallNoArgs(all) : NULL;
+    Py_XDECREF(all);
+    if (done == NULL) return false;
+    Py_DECREF(done);
+    if (self->process == process_number()) return true;
+    done = packer_renew(self, NULL); /* it is no client's */
+    Py_XDECREF(done);
+    return done != NULL;
+}
+
 static PyObject *packer_keep(packer *self, PyObject *const *args, Py_ssize_t count) {
+    if (self->texts == NULL) return refused(CADENCE_NO_CLIENT);
+    if (!follow_fork(self)) return NULL;
     call c;
     PyObject *made = NULL;
     long long number;
@@ -277,7 +243,7 @@ static PyObject *packer_keep(packer *self, PyObject *const *args, Py_ssize_t cou
     const uint32_t status = name != NULL ? sums_number(&self->sums, &self->handle, name, number) : CADENCE_INVALID;
     if (status != CADENCE_INVALID) made = answer(self, status);
     else {
-        if (call_begin(self, &c, args, count)) made = answer(self, keep(self, &c));
+        if (call_begin(&c, self->parts, args, count)) made = answer(self, keep(self, &c));
         if (made != NULL && name != NULL) sums_key(&self->sums, name, self->line, self->line_len);
         call_end(&c);
     }
@@ -289,7 +255,7 @@ static PyObject *packer_line(packer *self, PyObject *line) {
     const uint8_t *at;
     size_t len;
     if (!PyUnicode_Check(line)) return PyErr_Format(PyExc_TypeError, "the line %R is no str", line);
-    if (!text_of(line, NULL, &at, &len)) return NULL;
+    if (!follow_fork(self) || !text_of(line, NULL, &at, &len)) return NULL;
     return answer(self, sums_line(&self->sums, &self->handle, at, len));
 }
 
@@ -337,13 +303,6 @@ static PyObject *packer_close(packer *self, PyObject *unused) {
     return packets;
 }
 
-static PyObject *packer_renew(packer *self, PyObject *unused) {
-    (void)unused;
-    if (!self->handle.open) Py_RETURN_NONE;
-    const uint32_t status = renew(self);
-    return status == CADENCE_OK ? Py_NewRef(Py_None) : refused(status);
-}
-
 static PyObject *packer_counts(packer *self, PyObject *unused) {
     (void)unused;
     cadence_counts(&self->handle, &self->counts);
@@ -360,6 +319,7 @@ static PyMethodDef methods[] = {
     { "take", (PyCFunction)packer_take, METH_NOARGS, "Removes and returns the oldest packet, or returns None." },
     { "close", (PyCFunction)packer_close, METH_NOARGS, "Closes the Packer, and returns the packets that are left." },
     { "renew", (PyCFunction)packer_renew, METH_NOARGS, "Drops the held text and the packets that wait, unless the Packer is closed." },
+    { "is_forked", (PyCFunction)packer_is_forked, METH_NOARGS, "Whether what it holds is the parent's, of which this process is a fork." },
     { "counts", (PyCFunction)packer_counts, METH_NOARGS, "Returns held, waiting, made, sent, dropped." },
     { NULL, NULL, 0, NULL },
 };
@@ -375,6 +335,7 @@ static PyType_Slot slots[] = {
 static PyType_Spec spec = { "statsd_proved._core.Packer", sizeof(packer), 0, Py_TPFLAGS_DEFAULT, slots };
 
 static int fill(PyObject *module) {
+    process_begin();
     if (strcmp(cadence_version(), CADENCE_VERSION) != 0) {
         PyErr_Format(PyExc_ImportError, "statsd_proved is built for version %s of libcadence_c.a, and the one in it has version %s",
                      CADENCE_VERSION, cadence_version());
@@ -386,8 +347,8 @@ static int fill(PyObject *module) {
     return put < 0 ? put : PyModule_AddStringConstant(module, "VERSION", CADENCE_VERSION);
 }
 
-/* From Python 3.12 on, the second slot says that an interpreter may have a lock of its own. This file has no variable that
- * interpreters share. */
+/* From Python 3.12 on, the second slot says that an interpreter may have a lock of its own. Interpreters share no variables
+ * but those of process.c. */
 static PyModuleDef_Slot parts[] = { { Py_mod_exec, fill }, { 0, NULL }, { 0, NULL } };
 
 static PyMethodDef functions[] = {

@@ -1,3 +1,4 @@
+/* SPDX-License-Identifier: Apache-2.0 OR MIT */
 /* What the files of the extension module share. */
 #ifndef CORE_H
 #define CORE_H
@@ -32,6 +33,22 @@ bool text_of(PyObject *value, PyObject **texts, const uint8_t **at, size_t *len)
 bool tags_begin(tags_of_call *tags, PyObject *given);
 void tags_end(tags_of_call *tags);
 
+/* The arguments of a call that makes a metric. */
+typedef struct {
+    values_of_call values;
+    tags_of_call tags;
+    cadence_options options;
+    const uint8_t *key, *text;
+    size_t key_len, text_len;
+    uint32_t kind;
+    long form;
+} call;
+
+/* Reads the arguments kind, form, stat, value, rate, tags, container, timestamp. Returns false if it has set an exception.
+ * `parts` is the function of statsd_proved.decimals. call_end has to be called in any case. */
+bool call_begin(call *c, PyObject *parts, PyObject *const *args, Py_ssize_t count);
+void call_end(call *c);
+
 /* Returns what a module of the package has under this name. Each interpreter of the process has objects of its own. */
 PyObject *object_of(const char *module, const char *name);
 
@@ -41,6 +58,11 @@ PyObject *refused_by(const char *module, const char *name, PyObject *arguments);
 /* The functions of the module that read variables of the environment. */
 PyObject *destination(PyObject *module, PyObject *values);
 PyObject *environment_tags(PyObject *module, PyObject *values);
+
+/* process.c: the number of this process, which differs from that of each process of which it is a fork, and what has to be
+ * called once before. */
+void process_begin(void);
+uint64_t process_number(void);
 
 /* The forms of a call: a value, a change of a gauge, the value of a gauge. */
 enum { PLAIN, CHANGE, LEVEL };
@@ -58,7 +80,6 @@ PyObject *sums_name(sums_of_packer *self, PyObject *const *args, long long *numb
 uint32_t sums_number(sums_of_packer *self, cadence_handle *handle, PyObject *name, long long number);
 void sums_key(sums_of_packer *self, PyObject *name, const uint8_t *line, size_t len);
 void sums_free(sums_of_packer *self);
-uint32_t sums_give(sums_of_packer *self, cadence_handle *handle);
 uint32_t sums_flush(sums_of_packer *self, cadence_handle *handle);
 
 #endif

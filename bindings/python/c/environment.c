@@ -1,3 +1,4 @@
+/* SPDX-License-Identifier: Apache-2.0 OR MIT */
 /* What the variables of the environment say, as functions of statsd_proved._core. */
 #include "core.h"
 

@@ -1,3 +1,4 @@
+/* SPDX-License-Identifier: Apache-2.0 OR MIT */
 /* The sums of a Packer, which add lines up before its client keeps them, if they are used. */
 #include "core.h"
 
@@ -78,12 +79,7 @@ void sums_free(sums_of_packer *self) {
     Py_CLEAR(self->keys);
 }
 
-/* Gives the client what the sums hold, for a line that has to come after it, although the sums can't read it. */
-uint32_t sums_give(sums_of_packer *self, cadence_handle *handle) {
-    return self->used ? cadence_flush_sums(&self->sums, handle) : CADENCE_OK;
-}
-
 uint32_t sums_flush(sums_of_packer *self, cadence_handle *handle) {
-    const uint32_t status = sums_give(self, handle);
+    const uint32_t status = self->used ? cadence_flush_sums(&self->sums, handle) : CADENCE_OK;
     return status == CADENCE_OK ? cadence_flush(handle) : status;
 }

@@ -1,13 +1,20 @@
+/* SPDX-License-Identifier: Apache-2.0 OR MIT */
 /* Converts texts and tags of Python to those of the library. */
 #include "core.h"
 
-/* Reads a str, or the text of a number. The list `texts`, which is made if there is none, gets the text of a number and
- * keeps it alive. */
+/* Returns whether the text of an object isn't what a caller means: that of bytes, or of an object that has others in it. */
+static bool has_no_text(PyObject *value) {
+    return PyBytes_Check(value) || PyByteArray_Check(value) || PyTuple_Check(value) || PyList_Check(value) || PyDict_Check(value)
+        || PyAnySet_Check(value);
+}
+
+/* Reads a str, or the text that Python prints of another object. The list `texts`, which is made if there is none, gets
+ * that text and keeps it alive. */
 bool text_of(PyObject *value, PyObject **texts, const uint8_t **at, size_t *len) {
     Py_ssize_t size;
     if (!PyUnicode_Check(value)) {
-        if (!PyNumber_Check(value)) {
-            PyErr_Format(PyExc_TypeError, "%R is neither a str nor a number", value);
+        if (has_no_text(value)) {
+            PyErr_Format(PyExc_TypeError, "%R is no text", value);
             return false;
         }
         if (*texts == NULL) *texts = PyList_New(0);

@@ -1,3 +1,4 @@
+/* SPDX-License-Identifier: Apache-2.0 OR MIT */
 /* Converts numbers of Python to those of the library. */
 #include "core.h"
 #include <math.h>
@@ -33,15 +34,20 @@ static bool decimal_of_text(PyObject *text, PyObject *value, PyObject *parts, ca
     return fits || (PyErr_ExceptionMatches(PyExc_ArithmeticError) && does_not_fit(value));
 }
 
-/* Reads a number of another type: by its __index__ if it has one, by its text if that is a number, as a Decimal's is, and
+/* Reads a number of another type: by its __index__ if it has one that works, by its text if that is a number, as a Decimal's is, and
  * otherwise by its __float__. */
 static bool decimal_of_other(PyObject *value, PyObject *parts, bool in_millis, cadence_decimal_number *to) {
     if (!PyNumber_Check(value)) {
         PyErr_Format(PyExc_TypeError, "%R is no number", value);
         return false;
     }
-    const bool whole = PyIndex_Check(value);
-    PyObject *made = whole ? PyNumber_Index(value) : PyObject_Str(value);
+    PyObject *made = PyIndex_Check(value) ? PyNumber_Index(value) : NULL;
+    const bool whole = made != NULL;
+    if (!whole && PyErr_Occurred()) {
+        if (!PyErr_ExceptionMatches(PyExc_TypeError)) return false;
+        PyErr_Clear(); /* an array of one float has an __index__ that fails */
+    }
+    if (!whole) made = PyObject_Str(value);
     Py_ssize_t len = 0;
     const char *text = whole || made == NULL ? "" : PyUnicode_AsUTF8AndSize(made, &len);
     bool fits = false;
@@ -62,17 +68,37 @@ bool decimal_of(PyObject *value, PyObject *parts, bool in_millis, cadence_decima
     return decimal_of_other(value, parts, in_millis, to);
 }
 
-/* Reads one value. If it is a whole number, it may have up to 64 bits. A float past 63 bits is left to the library. */
+/* Returns a whole number as an int, or null with an exception. */
+static PyObject *whole_of(PyObject *value, PyObject *parts) {
+    if (PyIndex_Check(value)) return PyNumber_Index(value);
+    PyObject *text = PyObject_Str(value), *whole = NULL;
+    PyObject *made = text != NULL ? PyObject_CallFunctionObjArgs(parts, text, NULL) : NULL;
+    int places = 0;
+    if (made != NULL && PyArg_ParseTuple(made, "Oi", &whole, &places) && places != 0) whole = (does_not_fit(value), NULL);
+    Py_XINCREF(whole);
+    Py_XDECREF(made);
+    Py_XDECREF(text);
+    return whole;
+}
+
+/* Reads one value. A whole number may have up to 64 bits. A float past 63 bits is left to the library. */
 static bool one_value(values_of_call *values, PyObject *value, PyObject *parts, bool in_millis) {
     values->len = 1;
     if (decimal_of(value, parts, in_millis, values->at)) return true;
-    if (PyFloat_Check(value) && (values->is_double = isfinite(values->number = PyFloat_AsDouble(value)))) PyErr_Clear();
-    if (!PyLong_Check(value)) return values->is_double;
+    if (!PyErr_ExceptionMatches(PyExc_ValueError)) return false;
+    if (PyFloat_Check(value)) {
+        values->is_double = isfinite(values->number = PyFloat_AsDouble(value));
+        if (values->is_double) PyErr_Clear();
+        return values->is_double;
+    }
     PyErr_Clear();
-    values->large = PyLong_AsUnsignedLongLong(value);
-    values->is_large = values->large != (uint64_t)-1 || !PyErr_Occurred();
+    PyObject *whole = whole_of(value, parts);
+    if (whole != NULL) values->large = PyLong_AsUnsignedLongLong(whole);
+    Py_XDECREF(whole);
+    values->is_large = !PyErr_Occurred();
     if (values->is_large) return true;
     PyErr_Clear();
+    if (!PyLong_Check(value)) return does_not_fit(value);
     PyErr_Format(PyExc_OverflowError, "%R is below -2**63 or above 2**64 - 1", value);
     return false;
 }
@@ -96,10 +122,18 @@ static bool each_value(values_of_call *values, PyObject *tuple, PyObject *parts,
     return true;
 }
 
+/* Returns whether an object has several values: a sequence that is neither a text nor bytes nor a number, as an array
+ * without a dimension is one. */
+static bool is_several(PyObject *value) {
+    if (PyLong_Check(value) || PyFloat_Check(value) || PyUnicode_Check(value) || PyBytes_Check(value)) return false;
+    if (!PySequence_Check(value) || PyByteArray_Check(value)) return false;
+    if (!PyIndex_Check(value) || PySequence_Size(value) >= 0) return true;
+    PyErr_Clear();
+    return false;
+}
+
 bool values_begin(values_of_call *values, PyObject *value, PyObject *parts, bool in_millis) {
-    const bool is_number = PyLong_Check(value) || PyFloat_Check(value);
-    if (is_number || !PySequence_Check(value) || PyUnicode_Check(value) || PyBytes_Check(value))
-        return one_value(values, value, parts, in_millis);
+    if (!is_several(value)) return one_value(values, value, parts, in_millis);
     PyObject *tuple = PySequence_Tuple(value);
     if (tuple == NULL) return false;
     const bool all = each_value(values, tuple, parts, in_millis);

@@ -1,3 +1,4 @@
+# SPDX-License-Identifier: Apache-2.0 OR MIT
 """A receiver of datagrams, and tests with a client that sends to it."""
 import socket
 import subprocess

@@ -1,8 +1,22 @@
+# SPDX-License-Identifier: Apache-2.0 OR MIT
 """Clients that add lines up: what is sent at a flush and at once, and what happens if the socket refuses packets."""
 import unittest
 
 from receiver import ClientTest, Recorder
-from statsd_proved import SpyStatsClient
+from statsd_proved import SpyStatsClient, StatsClient
+
+
+class Narrow(Recorder):
+    """Refuses each third packet."""
+
+    def __init__(self):
+        super().__init__()
+        self.calls = 0
+
+    def sendto(self, packet, address):
+        self.calls += 1
+        self.fault = OSError("refused") if self.calls % 3 == 0 else None
+        super().sendto(packet, address)
 
 
 class Sums(ClientTest):
@@ -21,14 +35,23 @@ class Sums(ClientTest):
         client.flush()
         self.assertEqual(self.receiver.packets(), [])
 
-    def test_a_gauge_with_a_sign_comes_after_the_gauges_that_are_held(self):
+    def test_a_line_that_may_set_a_gauge_comes_after_the_gauges_that_are_held(self):
         client = self.client(aggregate=True)
+        client.incr("hits")
         client.gauge("g", 5)
         client.gauge("g", -2)
         client.gauge("h", 1)
         client.gauge("h", 3, delta=True)
+        client.gauge("h", -4, delta=True)
+        client.gauge("g", 1)
+        client.gauge("h", 2)
+        client.gauge("h", 7, timestamp=8)
+        for text in ("8.50", "x"):
+            client.gauge("h", 9)
+            client.raw(f"h:{text}|g")
         client.flush()
-        self.assertEqual(self.receiver.lines(), ["g:0|g", "g:-2|g", "h:1|g", "h:+3|g"])
+        expected = ["g:0|g", "g:-2|g", "h:1|g", "h:+3|g", "h:-4|g", "g:1|g", "h:2|g", "h:7|g|T8", "h:9|g", "h:8.50|g", "h:9|g", "h:x|g"]
+        self.assertEqual(self.receiver.lines(), [*expected, "hits:1|c"])
 
     def test_a_float_and_a_number_past_63_bits(self):
         client = self.client(aggregate=True)
@@ -60,8 +83,8 @@ class Sums(ClientTest):
         client.gauge("n", 9)
         client.gauge("n", -1)
         client.flush()
-        expected = ["n:2|c|#a:b,c:d", "n:35|c|#a:b", "n:2|c|#k:1", "n:2|c|#k:True", "n:2|c|#k:1.0", "n:3|c|c:x", "n:7|g", "n:+8|g"]
-        expected += ["n:9223372036854775807|c", "n:0|g", "n:-1|g", "n:1|c"]
+        expected = ["n:7|g", "n:+8|g", "n:9223372036854775807|c", "n:0|g", "n:-1|g"]
+        expected += ["n:35|c|#a:b", "n:2|c|#a:b,c:d", "n:2|c|#k:1", "n:2|c|#k:True", "n:2|c|#k:1.0", "n:3|c|c:x", "n:1|c"]
         self.assertEqual(self.receiver.lines(), expected)
 
     def test_more_names_than_there_is_room_for(self):
@@ -109,7 +132,19 @@ class Sums(ClientTest):
         with self.client(aggregate=True, maxudpsize=8, packets=2) as client:
             for number in range(9):
                 client.incr(f"a{number % 4}", number)
-        self.assertEqual(self.receiver.lines(), ["a1:6|c", "a2:8|c", "a3:10|c", "a0:12|c"])
+        self.assertEqual(self.receiver.lines(), ["a0:12|c", "a1:6|c", "a2:8|c", "a3:10|c"])
+
+    def test_an_end_tries_again_as_long_as_it_sends_something(self):
+        for end in (StatsClient.close, StatsClient._end):
+            client = self.client(aggregate=True, maxudpsize=8, packets=2, flush_every=None)
+            client._socket.close()
+            client._socket = Narrow()
+            for number in range(20):
+                client.incr(f"a{number}")
+            end(client)
+            self.assertEqual(client._socket.lines(), [f"a{number}:1|c" for number in range(20)])
+            counts = client.counts()
+            self.assertEqual((counts["sent"], counts["dropped"], counts["refused"]), (20, 0, 9))
 
     def test_a_bad_call_adds_nothing(self):
         client = SpyStatsClient(aggregate=True, strict=True, on_error=self.faults.append)

@@ -1,9 +1,11 @@
+# SPDX-License-Identifier: Apache-2.0 OR MIT
 """What the build says if the library is not found."""
 import os
 import pathlib
 import shutil
 import subprocess
 import sys
+import tarfile
 import tempfile
 import unittest
 
@@ -26,7 +28,7 @@ class Build(unittest.TestCase):
         return run.stdout.strip(), run.stderr
 
     def put(self, folder):
-        (self.top / folder).mkdir()
+        (self.top / folder).mkdir(parents=True)
         (self.top / folder / "libcadence_c.a").touch()
         return str((self.top / folder / "libcadence_c.a").resolve())
 
@@ -39,6 +41,30 @@ class Build(unittest.TestCase):
         other = self.put("other")
         for folder in (str(self.top / "other"), "../../other"):
             self.assertEqual(self.library(CADENCE_LIB=folder), (other, ""))
+
+    def test_the_folder_of_the_processor_first(self):
+        self.put("lib")
+        own = self.put("lib/unknown-linux-gnu")
+        (self.top / "compiler").write_text("#!/bin/sh\necho unknown-linux-gnu\n")
+        (self.top / "compiler").chmod(0o755)
+        self.assertEqual(self.library(CC=str(self.top / "compiler")), (own, ""))
+
+    def test_the_source_distribution_has_all_but_the_library(self):
+        for name in ("pyproject.toml", "README.md"):
+            shutil.copy(HERE / name, self.place)
+        for name in ("c", "src"):
+            shutil.copytree(HERE / name, self.place / name, ignore=shutil.ignore_patterns("__pycache__"))
+        (self.top / "include").mkdir()
+        shutil.copy(HEADER, self.top / "include")
+        self.put("lib")
+        run = "import build_wheel; print(build_wheel.build_sdist('.'))"
+        name = subprocess.run([sys.executable, "-c", run], cwd=self.place, check=True, stdout=subprocess.PIPE, text=True).stdout.strip()
+        with tarfile.open(self.place / name) as tar:
+            inside = {member.name.partition("/")[2] for member in tar}
+        wanted = {str(path.relative_to(HERE)) for folder in ("c", "src") for path in (HERE / folder).rglob("*.[cph]*") if path.is_file()}
+        wanted = {path for path in wanted if "__pycache__" not in path} | {"PKG-INFO", "pyproject.toml", "README.md", "build_wheel.py"}
+        self.assertEqual(wanted - inside, set())
+        self.assertFalse([path for path in inside if path.endswith((".a", ".so", ".pyc"))])
 
     def test_nowhere(self):
         for environment, told in (({}, "CADENCE_LIB is not set"), ({"CADENCE_LIB": "/no"}, "CADENCE_LIB is /no")):

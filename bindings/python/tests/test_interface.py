@@ -1,3 +1,4 @@
+# SPDX-License-Identifier: Apache-2.0 OR MIT
 """The docstrings and the type hints of the package."""
 import inspect
 import unittest

@@ -1,3 +1,4 @@
+# SPDX-License-Identifier: Apache-2.0 OR MIT
 """Several interpreters in one process, as servers make them."""
 import subprocess
 import sys

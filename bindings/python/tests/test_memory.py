@@ -1,3 +1,4 @@
+# SPDX-License-Identifier: Apache-2.0 OR MIT
 """Whether calls free the memory that they allocate."""
 import gc
 import tracemalloc
@@ -18,7 +19,7 @@ class Memory(ClientTest):
         client.histogram("a", list(range(20)))
         client.raw("x" * 600)
         client.incr("a", 2 ** 65)
-        client.incr("a", tags={**TAGS, "k": None})
+        client.incr("a", tags={**TAGS, "k": b""})
         client.incr("a", tags=[("k", 1.5, 2)])
         client.histogram("a", [1.5] * 20 + [None])
         client.incr("a", container=b"")

@@ -1,9 +1,12 @@
+# SPDX-License-Identifier: Apache-2.0 OR MIT
 """Threads, forks, and the end of a process."""
 import collections
+import ctypes
 import multiprocessing
 import multiprocessing.util
 import os
 import pickle
+import platform
 import select
 import signal
 import subprocess
@@ -177,6 +180,115 @@ class Processes(ClientTest):
             pipe.send()
             client.flush()
             self.assertEqual(self.receiver.lines(), ["parent:1|c", "pipe:1|c"])
+
+    def silently_forked(self, fork, work):
+        """The same, but Python isn't told of the fork, as by uWSGI. `fork` is a call of the C library. If a thread has asked for
+        the interpreter's lock, the child waits for ever for that thread to take it. So none asks in the meantime."""
+        interval = sys.getswitchinterval()
+        sys.setswitchinterval(60)
+        time.sleep(4 * interval)  # until those that have asked had the lock
+        child = fork()
+        sys.setswitchinterval(interval)
+        if child == 0:
+            signal.alarm(30)
+            try:
+                work()
+            finally:
+                os._exit(0)
+        self.assertEqual(os.waitpid(child, 0)[1], 0)
+
+    def test_nothing_is_sent_twice_after_a_fork_that_python_is_not_told_of(self):
+        library = ctypes.PyDLL(None)  # its calls keep the interpreter's lock
+        # the second one calls no handlers of the C library either: it is `fork` of the system, which ARM64 has as `clone`
+        words = (220, signal.SIGCHLD, 0, 0, 0, 0) if platform.machine() == "aarch64" else (57,)
+        forks = [library.fork, lambda: library.syscall(*words)]
+        for fork in forks:
+            for every, aggregate in ((None, False), (60, False), (60, True), (0, False)):
+                client = self.client(flush_every=every, aggregate=aggregate)
+                pipe = client.pipeline()
+                client.incr("parent")
+                pipe.incr("pipe")
+                early = self.receiver.lines()
+                for work in (client.flush, pipe.send, client.close, client._end, lambda: client.raw("child:1|c") or client.flush(),
+                             lambda: pipe.incr("child") or pipe.send(), lambda: client.incr("child") or client.close()):
+                    with self.subTest(every=every, aggregate=aggregate):
+                        self.silently_forked(fork, work)
+                        self.assertLessEqual(set(self.receiver.lines()), {"child:1|c"})
+                pipe.send()
+                client.flush()
+                self.assertEqual(early + self.receiver.lines(), ["parent:1|c", "pipe:1|c"])
+
+    def test_a_client_of_the_child_keeps_its_lines_when_the_fork_is_noticed(self):
+        library = ctypes.PyDLL(None)
+        client = self.client()
+        client.incr("parent")
+
+        def work():
+            own = self.client()
+            own.incr("own")
+            client.incr("child")
+            self.assertEqual((client.counts()["made"], own.counts()["held"]), (0, len("own:1|c\n")))
+            own.close()
+            self.silently_forked(library.fork, lambda: client.incr("grandchild") or client.flush())
+            client.close()
+        self.silently_forked(library.fork, work)
+        client.flush()
+        self.assertEqual(self.receiver.lines(), ["own:1|c", "grandchild:1|c", "child:1|c", "parent:1|c"])
+
+    def test_the_child_of_a_fork_that_python_is_not_told_of_flushes_by_time(self):
+        client = self.client(flush_every=1)  # its thread sleeps when the fork happens, because it has just flushed
+        client.incr("parent")
+        self.assertEqual(self.receiver.lines(30), ["parent:1|c"])
+        library = ctypes.PyDLL(None)
+        self.silently_forked(library.fork, lambda: (client.incr("child"), select.select([self.receiver.socket], [], [], 30)))
+        self.assertEqual(self.receiver.lines(), ["child:1|c"])
+
+    def test_a_silent_fork_while_another_thread_sends(self):
+        library = ctypes.PyDLL(None)
+        client = self.client()
+        with client._sending:
+            thread = threading.Thread(target=lambda: self.silently_forked(library.fork, lambda: (client.flush(), client.incr("a"), client.flush())))
+            thread.start()
+            self.assertEqual(self.receiver.lines(30), ["a:1|c"])
+        thread.join()
+
+    def test_each_call_flushes_where_no_thread_runs(self):
+        for options, lines in (({b"threads": b"4"}, []), ({"enable-threads": True}, []), ({"master": True}, ["a:1|c"])):
+            with mock.patch.dict(sys.modules, {"uwsgi": mock.Mock(opt=options)}):
+                with self.client(flush_every=60) as client:
+                    client.incr("a")
+                    self.assertEqual(self.receiver.lines(), lines)
+            self.receiver.lines()
+
+    def test_each_call_flushes_in_a_worker_of_celery(self):
+        for parent, lines in ((None, []), (7, ["a:1|c"])):
+            module = mock.Mock()
+            module.current_process()._parent_pid = parent
+            with mock.patch.dict(sys.modules, {"billiard.process": module}), self.client(flush_every=60) as client:
+                client.incr("a")
+                self.assertEqual(self.receiver.lines(), lines)
+            self.receiver.lines()
+
+    def test_a_flush_by_time_beside_a_close_is_no_error(self):
+        for _ in range(200):
+            client = self.client()
+            close = threading.Thread(target=client.close)
+            with client._sending:
+                flush = threading.Thread(target=lambda: client._tell(client._flush_unless_ended(), may_raise=False))
+                end = threading.Thread(target=client._end)
+                client._stop()
+                for thread in (flush, end, close):
+                    thread.start()
+                client._packer.close()
+            for thread in (flush, end, close):
+                thread.join()
+        self.assertEqual(self.faults, [])
+
+    def test_a_process_that_ends_starts_no_thread_and_sends_at_once(self):
+        client = self.client(flush_every=60, raises=True)
+        with mock.patch.object(threading.Thread, "start", side_effect=RuntimeError("can't create new thread at interpreter shutdown")):
+            client.incr("a")
+        self.assertEqual((self.receiver.lines(), self.faults), (["a:1|c"], []))
 
     def test_packets_that_wait_are_the_parents(self):
         client = self.client(maxudpsize=8)

@@ -1,3 +1,4 @@
+# SPDX-License-Identifier: Apache-2.0 OR MIT
 """Timers and pipelines."""
 import asyncio
 import functools
@@ -67,6 +68,22 @@ class Timers(ClientTest):
             self.assertTrue(inspect.iscoroutinefunction(pause))
             self.assertEqual(asyncio.run(pause()), 7)
         self.check_pause(calls)
+
+    def test_object_whose_call_is_a_coroutine(self):
+        class Pause:
+            async def __call__(self):
+                await asyncio.sleep(PAUSE)
+                return 7
+
+        def calls(client):
+            self.assertEqual(asyncio.run(client.timer("t")(Pause())()), 7)
+        self.check_pause(calls)
+
+    def test_a_misspelt_field_is_told_before_the_work(self):
+        with self.client() as client:
+            for wrong in ({"tagz": {"a": "b"}}, {"tag": ["a"]}, {"containers": "id"}):
+                self.assertRaises(TypeError, lambda: client.timer("t", **wrong))
+                self.assertRaises(TypeError, lambda: client.pipeline().timer("t", **wrong))
 
     def test_recursive_function_times_each_call(self):
         def calls(client):

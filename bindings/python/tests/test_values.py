@@ -1,5 +1,8 @@
+# SPDX-License-Identifier: Apache-2.0 OR MIT
 """Values, texts and tags of which no line can be made."""
+import datetime
 import decimal
+import enum
 import fractions
 import math
 import pathlib
@@ -102,12 +105,46 @@ class Values(ClientTest):
         self.refuses(TypeError, lambda c: c.incr("x", 1j))
         self.refuses(ValueError, *(lambda c, text=text: c.incr("x", Odd(text)) for text in ("1E", "1E+", "1.2.3", "--1", "1-", "E1")),
                      *(lambda c, text=text: c.incr("x", decimal.Decimal(text)) for text in (
-                         "123456789012345678.123", "9223372036854775808", "1e200000", "1e9999999")),
+                         "123456789012345678.123", "9223372036854775808.5", "18446744073709551616", "1e200000", "1e9999999")),
                      lambda c: c.incr("x", fractions.Fraction(10 ** 40)))
+
+    def test_whole_numbers_of_other_types_have_64_bits(self):
+        class Index:
+            """As numpy.uint64, and as an array without a dimension, which has no length."""
+            def __index__(self): return 2 ** 64 - 1
+            def __getitem__(self, place): raise IndexError
+            def __len__(self): raise TypeError("unsized")
+
+        class Array(Index):
+            """As an array of one float."""
+            def __index__(self): raise TypeError("no index")
+            def __str__(self): return "5.5"
+            def __float__(self): return 5.5
+        most = decimal.Decimal(2 ** 64 - 1)
+        self.assertEqual(self.sent_by(lambda c: [c.gauge("x", value) for value in (Index(), most, decimal.Decimal(2 ** 63), Array())]),
+                         [f"x:{2 ** 64 - 1}|g", f"x:{2 ** 64 - 1}|g", f"x:{2 ** 63}|g", "x:5.5|g"])
+        self.refuses(TypeError, lambda c: c.histogram("x", bytearray(b"12")), lambda c: c.incr("x", bytearray(b"12")))
+
+    def test_whole_seconds_of_a_time_are_sent(self):
+        class Index:
+            def __index__(self): return 8
+        self.assertEqual(self.sent_by(lambda c: [c.incr("x", timestamp=time) for time in (7, 7.9, True, Index())]),
+                         ["x:1|c|T7", "x:1|c|T7", "x:1|c|T1", "x:1|c|T8"])
+        self.refuses(OverflowError, lambda c: c.incr("x", timestamp=-1), lambda c: c.incr("x", timestamp=2 ** 64),
+                     lambda c: c.incr("x", timestamp=-1.5), lambda c: c.incr("x", timestamp=math.inf))
+        self.refuses(ValueError, lambda c: c.incr("x", timestamp=math.nan))
+
+    def test_objects_are_printed_in_tags(self):
+        class Color(enum.Enum):
+            RED = 1
+        day = datetime.date(2026, 11, 29)
+        self.assertEqual(self.sent_by(lambda c: c.incr("x", tags={"a": None, "b": Color.RED, "c": pathlib.Path("/d"), "e": day})),
+                         ["x:1|c|#a:None,b:Color.RED,c:/d,e:2026-11-29"])
 
     def test_tags_that_are_none(self):
         self.refuses(TypeError, *(lambda c, tags=tags: c.incr("x", tags=tags)
-                                  for tags in ("a:b", b"a", 7, {"a": None}, [("a", "b", "c")])),
+                                  for tags in ("a:b", b"a", 7, {"a": b"b"}, {"a": bytearray(b"b")}, {"a": ["b"]}, 
+                                               {"a": {1}}, {"a": {"b": 1}}, [("a", "b", "c")], [b"a"])),
                      lambda c: c.incr("x", container=b"id"))
 
     def test_texts_that_are_not_unicode(self):

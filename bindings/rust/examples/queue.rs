@@ -1,3 +1,4 @@
+// SPDX-License-Identifier: MIT OR Apache-2.0
 //! A service that does not wait for a socket until it ends, and a test of it. It sends to port 8125.
 use cadence::prelude::*;
 use cadence::{BufferedUdpMetricSink, QueuingMetricSink, SpyMetricSink, StatsdClient, DEFAULT_PORT};

@@ -1,3 +1,4 @@
+// SPDX-License-Identifier: MIT OR Apache-2.0
 //! A small service over the crate cadence: it prints the datagrams that arrive at a socket of its own. It compiles
 //! against the crate as well, and the datagrams are the same.
 use cadence::prelude::*;

@@ -1,3 +1,4 @@
+// SPDX-License-Identifier: MIT OR Apache-2.0
 // Counts 10 names with three tags a million times, with and without sums, and prints how many packets and bytes that makes.
 use cadence::prelude::*;
 use cadence::{AggregatingMetricSink, BufferedSpyMetricSink, MetricSink, StatsdClient};

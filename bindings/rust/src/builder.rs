@@ -1,3 +1,4 @@
+// SPDX-License-Identifier: MIT OR Apache-2.0
 //! A metric before it is sent.
 use crate::client::{MetricBackend, StatsdClient};
 use crate::layout::Tag;

@@ -1,8 +1,9 @@
+// SPDX-License-Identifier: MIT OR Apache-2.0
 //! The client, its builder and the traits of its calls.
 use crate::builder::MetricBuilder;
-use crate::layout::{Kind, Tag};
+use crate::layout::{Kind, Options, Tag};
 use crate::line::Record;
-use crate::raw::{call_refusal, OwnedSettings, OK};
+use crate::raw::{call_refusal, Numbers, OwnedSettings, Parts, OK};
 use crate::sealed::Sealed;
 use crate::sinks::MetricSink;
 use crate::types::{Counter, Distribution, Gauge, Histogram, Meter, Metric, MetricError, MetricResult, Set, Timer};
@@ -165,9 +166,34 @@ impl StatsdClient {
     }
 
     /// Makes the line of a record, sends it, and returns its metric.
+    #[inline(never)]
     pub(crate) fn send_record<T: Metric + From<String>>(&self, record: &Record<'_>) -> MetricResult<T> {
-        let mut line = String::new();
-        record.write(&mut line)?;
+        self.send_line(record.line())
+    }
+
+    /// Makes the line of a call without options, sends it, and returns its metric.
+    #[inline(always)]
+    fn send_plain<T: Metric + From<String>>(&self, kind: Kind, key: &str, value: MetricValue) -> MetricResult<T> {
+        match value {
+            MetricValue::Signed(number) => self.send_numbers(kind, key, Numbers::signed(&[number])),
+            MetricValue::PackedSigned(numbers) => self.send_numbers(kind, key, Numbers::signed(&numbers)),
+            MetricValue::Unsigned(number) => self.send_numbers(kind, key, Numbers::unsigned(&[number])),
+            MetricValue::PackedUnsigned(numbers) => self.send_numbers(kind, key, Numbers::unsigned(&numbers)),
+            MetricValue::Float(number) => self.send_numbers(kind, key, Numbers::floating(&[number])),
+            MetricValue::PackedFloat(numbers) => self.send_numbers(kind, key, Numbers::floating(&numbers)),
+        }
+    }
+
+    fn send_numbers<T: Metric + From<String>>(&self, kind: Kind, key: &str, numbers: Numbers<'_>) -> MetricResult<T> {
+        static NONE: Options<'static> = Options::new();
+        let settings = self.settings.lend();
+        let parts = Parts { settings, kind, key, numbers, options: &NONE };
+        self.send_line(parts.line(settings.size() + key.len()))
+    }
+
+    #[inline]
+    fn send_line<T: Metric + From<String>>(&self, line: MetricResult<String>) -> MetricResult<T> {
+        let line = line?;
         self.check()?;
         let metric = T::from(line);
         self.send_metric(&metric)?;
@@ -254,6 +280,11 @@ macro_rules! calls {
         where
             T: $value,
         {
+            #[inline]
+            fn $plain(&self, key: &str, value: T) -> MetricResult<$metric> {
+                self.send_plain(Kind::$metric, key, value.try_to_value()?)
+            }
+
             #[inline]
             fn $tagged<'a>(&'a self, key: &'a str, value: T) -> MetricBuilder<'a, 'a, $metric> {
                 self.start(Kind::$metric, key, value.try_to_value())

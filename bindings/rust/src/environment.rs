@@ -1,11 +1,12 @@
+// SPDX-License-Identifier: MIT OR Apache-2.0
 //! What the variables of the environment say about a client.
 use crate::client::{StatsdClient, StatsdClientBuilder};
 use crate::layout::{Variables, VARIABLES};
 use crate::raw::{destination, environment_tags, variable_text};
-use crate::sinks::{BufferedUdpMetricSink, BufferedUnixMetricSink};
+use crate::sinks::{Buffer, BufferedUnixMetricSink, HostSink, Periods, DEFAULT_CAPACITY};
 use crate::types::MetricResult;
 use std::ffi::OsString;
-use std::net::{SocketAddr, ToSocketAddrs, UdpSocket};
+use std::net::IpAddr;
 use std::os::unix::net::UnixDatagram;
 use std::{env, error, fmt};
 
@@ -124,8 +125,11 @@ impl Environment {
     /// target from a socket of its own, which never blocks, and packs lines into packets of at most 512 bytes over UDP,
     /// and 8192 bytes over a Unix socket. The prefix is that of [`StatsdClient::from_sink`].
     ///
-    /// It fails with `IoError` if the host can't be looked up, if no socket can be made, or if memory runs out, and with
-    /// `InvalidInput` if the host has no address.
+    /// Of a name the first address of IPv4 is sent to, or if it has none the first one. A thread looks the name up again
+    /// after a minute, and after a refused packet, but then at most once in a second. If that fails, the address stays.
+    ///
+    /// It fails with `IoError` if the host can't be looked up, if no socket can be made, if no thread can be started, or if
+    /// memory runs out, and with `InvalidInput` if the host has no address.
     pub fn builder(&self, prefix: &str) -> MetricResult<StatsdClientBuilder> {
         let builder = match &self.target {
             Target::Udp(host, port) => StatsdClient::builder(prefix, udp_sink(host, *port)?),
@@ -153,13 +157,11 @@ impl Environment {
     }
 }
 
-/// Makes a sink over UDP, with a socket of the family of the host's first address.
-fn udp_sink(host: &str, port: u16) -> MetricResult<BufferedUdpMetricSink> {
-    let addresses: Vec<SocketAddr> = (host, port).to_socket_addrs()?.collect();
-    let any = if addresses.first().is_some_and(SocketAddr::is_ipv6) { "[::]:0" } else { "0.0.0.0:0" };
-    let socket = UdpSocket::bind(any)?;
-    socket.set_nonblocking(true)?;
-    BufferedUdpMetricSink::from(&addresses[..], socket)
+/// Makes a sink over UDP. The name of a host is looked up again and again.
+fn udp_sink(host: &str, port: u16) -> MetricResult<Buffer<HostSink>> {
+    let periods = if host.parse::<IpAddr>().is_ok() { None } else { Some(Periods::USUAL) };
+    let sink = HostSink::new((host.to_string(), port), periods)?;
+    Ok(Buffer::new(sink, DEFAULT_CAPACITY)?)
 }
 
 /// Returns the builder of a client over a Unix socket.

@@ -1,3 +1,4 @@
+// SPDX-License-Identifier: MIT OR Apache-2.0
 //! What you need for types of your own: values, metrics and sinks.
 pub use crate::client::MetricBackend;
 pub use crate::io::MultiLineWriter;

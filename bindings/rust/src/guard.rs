@@ -1,3 +1,4 @@
+// SPDX-License-Identifier: MIT OR Apache-2.0
 //! A timer that sends how long a scope took.
 use crate::client::{StatsdClient, Timed};
 use crate::layout::Tag;

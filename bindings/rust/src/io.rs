@@ -1,3 +1,4 @@
+// SPDX-License-Identifier: MIT OR Apache-2.0
 //! A buffer of lines over any writer.
 use std::io::{self, BufWriter, Write, WriterPanicked};
 

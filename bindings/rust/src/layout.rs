@@ -1,3 +1,4 @@
+// SPDX-License-Identifier: MIT OR Apache-2.0
 //! The structs that are passed to the library, in the layout of `cadence.h`.
 use crate::raw::Slice;
 use std::{fmt, ptr};
@@ -144,7 +145,7 @@ pub(crate) struct Options<'a> {
 impl<'a> Options<'a> {
     /// Returns options that add nothing.
     #[inline]
-    pub(crate) fn new() -> Self {
+    pub(crate) const fn new() -> Self {
         Options {
             tags: Slice::new(&[]),
             container: Slice::new(&[]),
@@ -183,17 +184,6 @@ impl<'a> Options<'a> {
     pub(crate) fn size(&self) -> usize {
         self.container.len
     }
-}
-
-/// The counts of a packer.
-#[repr(C)]
-#[derive(Default)]
-pub(crate) struct Counts {
-    pub(crate) held: usize,
-    waiting: usize,
-    made: u64,
-    sent: u64,
-    dropped: u64,
 }
 
 #[cfg(test)]

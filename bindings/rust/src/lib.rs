@@ -1,3 +1,4 @@
+// SPDX-License-Identifier: MIT OR Apache-2.0
 //! A Statsd client with the interface of the crate `cadence`. A proved library formats its lines and packs them.
 //!
 //! It takes the place of `cadence = "1"` by a path or a `[patch.crates-io]` entry in Cargo.toml. Your code stays as it
@@ -64,9 +65,8 @@ pub use self::environment::{Environment, EnvironmentError, Target};
 pub use self::guard::TimingGuard;
 pub use self::sinks::{
     AggregatingMetricSink, AggregatingMetricSinkBuilder, BufferedSpyMetricSink, BufferedUdpMetricSink,
-    BufferedUdpMetricSinkBuilder, BufferedUnixMetricSink, LineKey, MetricSink, NopMetricSink, QueuePolicy,
-    QueuingMetricSink, QueuingMetricSinkBuilder, SinkStats, SpyMetricSink, UdpMetricSink, UdpMetricSinkBuilder,
-    UnixMetricSink,
+    BufferedUdpMetricSinkBuilder, BufferedUnixMetricSink, LineKey, MetricSink, NopMetricSink, QueuePolicy, QueuingMetricSink,
+    QueuingMetricSinkBuilder, SinkStats, SpyMetricSink, UdpMetricSink, UdpMetricSinkBuilder, UnixMetricSink,
 };
 pub use self::types::{
     Counter, Distribution, ErrorKind, Gauge, Histogram, Meter, Metric, MetricError, MetricResult, Set, Timer,

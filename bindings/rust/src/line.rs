@@ -1,6 +1,7 @@
+// SPDX-License-Identifier: MIT OR Apache-2.0
 //! The line of a metric.
 use crate::layout::{Kind, Options, Settings, Tag};
-use crate::raw::{decimal_of, write_line, Numbers, Tags};
+use crate::raw::{decimal_of, Numbers, Parts, Tags};
 use crate::types::MetricResult;
 use crate::value::MetricValue;
 use std::fmt;
@@ -25,18 +26,17 @@ impl<'a> Record<'a> {
         Record { settings, kind, key, value, tags: Tags::new(), tags_size: 0, options: Options::new(), rate: None }
     }
 
-    /// Writes the line in place of a text. It fails with `InvalidInput` if a number is NaN, infinite or too large, or if the
-    /// settings are strict and a text has a separator.
-    // Inlined, because the call would save and load all registers.
+    /// Returns the line. It fails with `InvalidInput` if a number is NaN, infinite or too large, or if the settings are
+    /// strict and a text has a separator.
     #[inline(always)]
-    pub(crate) fn write(&self, line: &mut String) -> MetricResult<()> {
-        let numbers = Numbers::new(&self.value);
+    pub(crate) fn line(&self) -> MetricResult<String> {
         let mut options = self.options.with_tags(self.tags.as_slice());
         if let Some(rate) = self.rate {
             options.set_rate(decimal_of(rate)?);
         }
-        let texts = self.settings.size() + self.key.len() + self.tags_size + options.size();
-        write_line(line, texts, self.settings, self.kind, self.key, numbers, &options)
+        let Record { settings, kind, key, .. } = *self;
+        let parts = Parts { settings, kind, key, numbers: Numbers::new(&self.value), options: &options };
+        parts.line(settings.size() + key.len() + self.tags_size + options.size())
     }
 
     #[inline]

@@ -1,7 +1,8 @@
+// SPDX-License-Identifier: MIT OR Apache-2.0
 //! The packer of the library, which needs one call at a time.
 //!
 //! Its `unsafe` code is safe for the reasons of `raw.rs`, and because each call that uses a handle takes `&mut self`.
-use crate::layout::{Counts, Handle};
+use crate::layout::Handle;
 use crate::raw::{checked, OK, TOO_SMALL};
 use std::{fmt, io};
 
@@ -16,12 +17,13 @@ unsafe extern "C" {
     fn cadence_drop_held(handle: *mut Handle) -> u32;
     fn cadence_next(handle: *mut Handle, buf: *mut u8, room: usize, size: *mut usize) -> u32;
     fn cadence_sent(handle: *mut Handle) -> u32;
-    fn cadence_counts(handle: *mut Handle, counts: *mut Counts) -> u32;
 }
 
 /// The packer, with the text that it has buffered and the packets that wait.
 pub(crate) struct Packer {
     handle: Handle,
+    /// How many bytes of the lines of `keep` are held, with their newlines.
+    held: usize,
     packet: Vec<u8>,
 }
 
@@ -34,7 +36,7 @@ impl Packer {
         let mut handle = Handle::CLOSED;
         // SAFETY: the handle is closed.
         checked(unsafe { cadence_open(&mut handle, capacity, packets, REFUSE) })?;
-        Ok(Packer { handle, packet: Vec::new() })
+        Ok(Packer { handle, held: 0, packet: Vec::new() })
     }
 
     /// Returns the handle, which is open and stays so.
@@ -42,25 +44,25 @@ impl Packer {
         &mut self.handle
     }
 
-    /// Returns how many bytes are held for the next packet.
+    /// Returns how many bytes of the lines of `keep` are held for the next packet, with their newlines.
     #[inline]
-    pub(crate) fn held_len(&mut self) -> usize {
-        let mut counts = Counts::default();
-        // SAFETY: the handle is open, and because of `&mut self` only one call at a time uses it.
-        unsafe { cadence_counts(&mut self.handle, &mut counts) };
-        counts.held
+    pub(crate) fn held_len(&self) -> usize {
+        self.held
     }
 
-    /// Adds a line to the held text, or makes a packet of it. After an error the packer is as it was.
+    /// Adds a line to the held text, beside which it fits with its newline. After an error the packer is as it was.
     #[inline]
     pub(crate) fn keep(&mut self, line: &str) -> io::Result<()> {
-        // SAFETY: as in `held_len`; the pointer has the length of its slice.
-        checked(unsafe { cadence_line(&mut self.handle, line.as_ptr(), line.len()) })
+        // SAFETY: the handle is open, because of `&mut self` only one call at a time uses it, and the pointer has the length
+        // of its slice.
+        checked(unsafe { cadence_line(&mut self.handle, line.as_ptr(), line.len()) })?;
+        self.held += line.len() + 1;
+        Ok(())
     }
 
     /// Returns the held text, which stays held.
     pub(crate) fn held(&mut self) -> &str {
-        // SAFETY: as in `held_len`; the pointer has the length of its slice.
+        // SAFETY: as in `keep`.
         let held = self.copied(|handle, at, room, size| unsafe { cadence_held(handle, at, room, size) });
         // SAFETY: it consists of lines, each of which was a `&str`, and newlines.
         unsafe { std::str::from_utf8_unchecked(held.unwrap_or_default()) }
@@ -68,13 +70,15 @@ impl Packer {
 
     /// Drops the held text, after it was sent. After an error it is still held.
     pub(crate) fn drop_held(&mut self) -> io::Result<()> {
-        // SAFETY: as in `held_len`.
-        checked(unsafe { cadence_drop_held(&mut self.handle) })
+        // SAFETY: as in `keep`.
+        checked(unsafe { cadence_drop_held(&mut self.handle) })?;
+        self.held = 0;
+        Ok(())
     }
 
     /// Returns the packet that waits, if one does. The packet still waits afterwards.
     pub(crate) fn next(&mut self) -> Option<&[u8]> {
-        // SAFETY: as in `held`.
+        // SAFETY: as in `keep`.
         self.copied(|handle, at, room, size| unsafe { cadence_next(handle, at, room, size) })
     }
 
@@ -92,7 +96,7 @@ impl Packer {
 
     /// Drops the packet that waits, if there is one.
     pub(crate) fn drop_oldest(&mut self) {
-        // SAFETY: as in `held_len`.
+        // SAFETY: as in `keep`.
         unsafe { cadence_sent(&mut self.handle) };
     }
 }
@@ -105,7 +109,7 @@ impl fmt::Debug for Packer {
 
 impl Drop for Packer {
     fn drop(&mut self) {
-        // SAFETY: as in `held_len`; no call uses the handle after this one.
+        // SAFETY: as in `keep`; no call uses the handle after this one.
         unsafe { cadence_free(&mut self.handle) }
     }
 }

@@ -1,3 +1,4 @@
+// SPDX-License-Identifier: MIT OR Apache-2.0
 //! The library, called as C, and safe calls of it. The only `unsafe` code of the crate is here, in `packer.rs` and in `sums.rs`.
 //!
 //! Each block is safe if the declarations fit `cadence.h` (a test compares the layouts), and if each pointer
@@ -9,7 +10,7 @@ use std::alloc::{handle_alloc_error, Layout};
 use std::ffi::c_void;
 use std::marker::PhantomData;
 use std::mem::{self, MaybeUninit};
-use std::{io, ptr, slice};
+use std::{io, slice};
 
 /// A slice as C has it: a pointer, and how many values it points to.
 #[repr(C)]
@@ -27,7 +28,7 @@ unsafe impl<T: Sync> Sync for Slice<'_, T> {}
 
 impl<'a, T> Slice<'a, T> {
     #[inline]
-    pub(crate) fn new(values: &'a [T]) -> Self {
+    pub(crate) const fn new(values: &'a [T]) -> Self {
         Slice { at: values.as_ptr(), len: values.len(), of: PhantomData }
     }
 
@@ -169,26 +170,31 @@ pub(crate) fn call_refusal(status: u32) -> MetricError {
     }
 }
 
-/// Adds the text that a call of the library writes to a text. `call` gets the spare room of the text, and how many bytes
-/// that has; it returns a status, and sets the length of its text. A status that is neither `OK` nor `TOO_SMALL` is the
-/// error.
+/// Returns the text that a call of the library writes. `call` gets a room of at least so many bytes, and how many it has; it
+/// returns a status, and sets the length of its text. If the status is `TOO_SMALL`, it gets a room of this length. Of any
+/// other status but `OK`, `refuse` makes the error.
 ///
 /// # Safety
 /// If `call` returns `OK`, it has written that many bytes to the room, and they are UTF-8.
-#[inline]
-unsafe fn append(text: &mut String, mut call: impl FnMut(*mut u8, usize, &mut usize) -> u32) -> Result<(), u32> {
-    // SAFETY: the bytes that are added below are UTF-8.
-    let bytes = unsafe { text.as_mut_vec() };
+// Inlined, because the call for a line would save and load all registers.
+#[inline(always)]
+unsafe fn text_in<E>(
+    mut least: usize,
+    refuse: impl Fn(u32) -> E,
+    mut call: impl FnMut(*mut u8, usize, &mut usize) -> u32,
+) -> Result<String, E> {
     loop {
-        let (start, room, mut size) = (bytes.len(), bytes.spare_capacity_mut(), 0);
-        match call(room.as_mut_ptr().cast::<u8>(), room.len(), &mut size) {
+        let (mut bytes, mut size) = (Vec::<u8>::with_capacity(least), 0);
+        match call(bytes.as_mut_ptr(), bytes.capacity(), &mut size) {
             OK => {
-                // SAFETY: the call has written the first `size` bytes of the room.
-                unsafe { bytes.set_len(start + size) };
-                return Ok(());
+                // SAFETY: the call has written the first `size` bytes of the room, and they are UTF-8.
+                return Ok(unsafe {
+                    bytes.set_len(size);
+                    String::from_utf8_unchecked(bytes)
+                });
             }
-            TOO_SMALL => bytes.reserve_exact(size),
-            status => return Err(status),
+            TOO_SMALL => least = size,
+            status => return Err(refuse(status)),
         }
     }
 }
@@ -196,11 +202,10 @@ unsafe fn append(text: &mut String, mut call: impl FnMut(*mut u8, usize, &mut us
 /// Returns the text that a call writes, or its status.
 ///
 /// # Safety
-/// As for `append`.
+/// As for `text_in`.
 unsafe fn text_of(call: impl FnMut(*mut u8, usize, &mut usize) -> u32) -> Result<String, u32> {
-    let mut text = String::new();
     // SAFETY: as the caller promises.
-    unsafe { append(&mut text, call) }.map(|()| text)
+    unsafe { text_in(0, |status| status, call) }
 }
 
 /// Returns the decimal of a rate. It fails with `InvalidInput` if the rate is NaN or infinite, or if its decimal needs more
@@ -219,7 +224,7 @@ pub(crate) fn decimal_of(rate: f64) -> MetricResult<Decimal> {
 /// sets. If memory has run out, the process ends, as it does for a `Vec`.
 ///
 /// # Safety
-/// As for `append`.
+/// As for `text_in`.
 unsafe fn said(mut call: impl FnMut(*mut u8, usize, &mut usize, &mut u32) -> u32) -> Result<String, u32> {
     let mut variable = 0;
     // SAFETY: as the caller promises.
@@ -314,15 +319,29 @@ pub(crate) struct Numbers<'a> {
 impl<'a> Numbers<'a> {
     #[inline]
     pub(crate) fn new(value: &'a MetricValue) -> Self {
-        let (format, at, len): (Format, *const c_void, usize) = match value {
-            MetricValue::Signed(value) => (cadence_format_signed, ptr::from_ref(value).cast(), 1),
-            MetricValue::PackedSigned(values) => (cadence_format_signed, values.as_ptr().cast(), values.len()),
-            MetricValue::Unsigned(value) => (cadence_format_unsigned, ptr::from_ref(value).cast(), 1),
-            MetricValue::PackedUnsigned(values) => (cadence_format_unsigned, values.as_ptr().cast(), values.len()),
-            MetricValue::Float(value) => (cadence_format_floating, ptr::from_ref(value).cast(), 1),
-            MetricValue::PackedFloat(values) => (cadence_format_floating, values.as_ptr().cast(), values.len()),
-        };
-        Numbers { format, at, len, of: PhantomData }
+        match value {
+            MetricValue::Signed(number) => Self::signed(slice::from_ref(number)),
+            MetricValue::PackedSigned(numbers) => Self::signed(numbers),
+            MetricValue::Unsigned(number) => Self::unsigned(slice::from_ref(number)),
+            MetricValue::PackedUnsigned(numbers) => Self::unsigned(numbers),
+            MetricValue::Float(number) => Self::floating(slice::from_ref(number)),
+            MetricValue::PackedFloat(numbers) => Self::floating(numbers),
+        }
+    }
+
+    #[inline]
+    pub(crate) fn signed(numbers: &'a [i64]) -> Self {
+        Numbers { format: cadence_format_signed, at: numbers.as_ptr().cast(), len: numbers.len(), of: PhantomData }
+    }
+
+    #[inline]
+    pub(crate) fn unsigned(numbers: &'a [u64]) -> Self {
+        Numbers { format: cadence_format_unsigned, at: numbers.as_ptr().cast(), len: numbers.len(), of: PhantomData }
+    }
+
+    #[inline]
+    pub(crate) fn floating(numbers: &'a [f64]) -> Self {
+        Numbers { format: cadence_format_floating, at: numbers.as_ptr().cast(), len: numbers.len(), of: PhantomData }
     }
 }
 
@@ -333,31 +352,31 @@ const NUMBER: usize = 33;
 /// between the parts.
 const REST: usize = 2 * NUMBER + 16;
 
-/// Writes the line of a metric, whose texts have at most so many bytes, in place of a text. It fails with `InvalidInput` if
-/// the settings are strict and a text of the call has a separator, or if a float is NaN, infinite or too large.
-#[inline(always)]
-pub(crate) fn write_line(
-    line: &mut String,
-    texts: usize,
-    settings: &Settings<'_>,
-    kind: Kind,
-    key: &str,
-    numbers: Numbers<'_>,
-    options: &Options<'_>,
-) -> MetricResult<()> {
-    let Numbers { format, at, len, .. } = numbers;
-    let (key_at, key_len) = (key.as_ptr(), key.len());
-    *line = String::with_capacity(texts + len * (NUMBER + 1) + REST);
-    // SAFETY: each pointer comes with the length of its slice, `format` is the call for the type of the numbers, the call
-    // only writes to the room, and it keeps no pointer. A line consists of texts in UTF-8 and of ASCII characters. While the
-    // room of `heap.c` is lent, the call gets its memory from there; it frees that before it returns.
-    let made = unsafe {
-        append(line, |out, room, size| {
-            cadence_c_lend(true);
-            let status = format(settings, kind as u32, key_at, key_len, at, len, options, out, room, size);
-            cadence_c_lend(false);
-            status
-        })
-    };
-    made.map_err(call_refusal)
+/// What a line is made of, as the library reads it.
+pub(crate) struct Parts<'a> {
+    pub(crate) settings: &'a Settings<'a>,
+    pub(crate) kind: Kind,
+    pub(crate) key: &'a str,
+    pub(crate) numbers: Numbers<'a>,
+    pub(crate) options: &'a Options<'a>,
+}
+
+impl Parts<'_> {
+    /// Returns the line, whose texts have at most so many bytes. It fails with `InvalidInput` if the settings are strict and
+    /// a text of the call has a separator, or if a float is NaN, infinite or too large.
+    #[inline(always)]
+    pub(crate) fn line(self, texts: usize) -> MetricResult<String> {
+        let Parts { settings, kind, key, numbers: Numbers { format, at, len, .. }, options } = self;
+        // SAFETY: each pointer comes with the length of its slice, `format` is the call for the type of the numbers, the call
+        // only writes to the room, and it keeps no pointer. A line consists of texts in UTF-8 and of ASCII characters. While
+        // the room of `heap.c` is lent, the call gets its memory from there; it frees that before it returns.
+        unsafe {
+            text_in(texts + len * (NUMBER + 1) + REST, call_refusal, |out, room, size| {
+                cadence_c_lend(true);
+                let status = format(settings, kind as u32, key.as_ptr(), key.len(), at, len, options, out, room, size);
+                cadence_c_lend(false);
+                status
+            })
+        }
+    }
 }

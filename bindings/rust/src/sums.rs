@@ -1,3 +1,4 @@
+// SPDX-License-Identifier: MIT OR Apache-2.0
 //! The sums of the library, and the lines that they give back.
 //!
 //! Its `unsafe` code is safe for the reasons of `packer.rs`.

@@ -1,3 +1,4 @@
+// SPDX-License-Identifier: MIT OR Apache-2.0
 //! Threads that go on after a panic.
 use std::io;
 use std::panic::{catch_unwind, AssertUnwindSafe};

@@ -1,3 +1,4 @@
+// SPDX-License-Identifier: MIT OR Apache-2.0
 //! The metric types, and the errors of calls.
 use crate::layout::{Kind, Settings};
 use crate::line::Record;
@@ -13,10 +14,10 @@ pub trait Metric {
 
 /// Returns the line of a metric's constructor. If memory runs out, the process ends, as it does for a `Vec`.
 fn line_of(prefix: &str, kind: Kind, key: &str, value: MetricValue) -> String {
-    let (mut line, settings) = (String::new(), Settings::new(prefix, "", None, false));
+    let settings = Settings::new(prefix, "", None, false);
     let record = Record::new(&settings, kind, key, value);
-    match record.write(&mut line).map_err(|error| error.kind()) {
-        Ok(()) => line,
+    match record.line().map_err(|error| error.kind()) {
+        Ok(line) => line,
         Err(ErrorKind::InvalidInput) => format!("{prefix}{key}:{}|{}", record.value, kind.text()),
         Err(ErrorKind::IoError) => handle_alloc_error(Layout::new::<String>()),
     }

@@ -1,3 +1,4 @@
+// SPDX-License-Identifier: MIT OR Apache-2.0
 //! The values of metrics, and the traits of the types that convert to one.
 use crate::types::{ErrorKind, MetricError, MetricResult};
 use std::fmt::{self, Write};

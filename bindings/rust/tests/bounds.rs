@@ -1,3 +1,4 @@
+// SPDX-License-Identifier: MIT OR Apache-2.0
 //! Which bounds the types meet. The tests compile only if the types meet them.
 use cadence::ext::*;
 use cadence::prelude::*;
@@ -64,13 +65,14 @@ impl MetricSink for Odd {
 #[test]
 fn sinks_and_handlers_need_not_be_unwind_safe() {
     let odd = || Odd(PhantomData);
-    let (client, queue, plain, packed) = (odd(), odd(), odd(), odd());
+    let (client, queue, sums, plain, packed) = (odd(), odd(), odd(), odd(), odd());
     StatsdClient::from_sink("p", odd()).incr("k").unwrap();
     let built = StatsdClient::builder("p", odd()).with_error_handler(move |_| drop(client.emit("lost"))).build();
     built.incr("k").unwrap();
     QueuingMetricSink::from(odd()).emit("k").unwrap();
     QueuingMetricSink::with_capacity(odd(), 1).emit("k").unwrap();
     QueuingMetricSink::builder().with_error_handler(move |_| drop(queue.emit("lost"))).build(odd()).emit("k").unwrap();
+    let _ = AggregatingMetricSinkBuilder::new().with_error_handler(move |_| drop(sums.emit("lost")));
     let _ = UdpMetricSink::builder().with_resolver_error_handler(move |_| drop(plain.emit("lost")));
     let _ = BufferedUdpMetricSink::builder().with_resolver_error_handler(move |_| drop(packed.emit("lost")));
 }
@@ -96,6 +98,7 @@ fn metrics_have_their_derives() {
     fn cloned<T: Clone + Debug>() {}
     cloned::<NopMetricSink>();
     cloned::<QueuingMetricSink>();
+    cloned::<AggregatingMetricSinkBuilder>();
     cloned::<SpyReceiver<Vec<u8>>>();
     fn defaults<T: Default>() {}
     defaults::<UdpMetricSinkBuilder>();

@@ -1,13 +1,15 @@
+// SPDX-License-Identifier: MIT OR Apache-2.0
 //! How sinks with a thread end: with their process, in a forked child, and under a handler that calls back.
 use cadence::prelude::*;
 use cadence::{
-    AggregatingMetricSinkBuilder, BufferedUdpMetricSink, MetricSink, QueuePolicy, QueuingMetricSink, QueuingMetricSinkBuilder,
-    SpyMetricSink, StatsdClient,
+    AggregatingMetricSink, AggregatingMetricSinkBuilder, BufferedUdpMetricSink, MetricSink, QueuePolicy, QueuingMetricSink,
+    QueuingMetricSinkBuilder, SpyMetricSink, StatsdClient,
 };
 use std::io;
 use std::net::UdpSocket;
 use std::panic::AssertUnwindSafe;
 use std::process::{exit, Command};
+use std::sync::atomic::{AtomicBool, Ordering};
 use std::sync::{Arc, OnceLock};
 use std::thread;
 use std::time::{Duration, Instant};
@@ -85,6 +87,36 @@ fn a_forked_child_drops_sums_without_sending_them() {
     assert!(emit("visits:2|c"));
     drop(sink.lock().unwrap().take());
     assert_eq!(b"visits:3|c".to_vec(), receiver.recv_timeout(LONG).unwrap());
+}
+
+/// A sink that takes slow lines until a test ends.
+struct Slow;
+
+static IS_BUSY: AtomicBool = AtomicBool::new(false);
+static IS_DONE: AtomicBool = AtomicBool::new(false);
+
+impl MetricSink for Slow {
+    fn emit(&self, metric: &str) -> io::Result<usize> {
+        while metric.starts_with("slow") && !IS_DONE.load(Ordering::Relaxed) {
+            IS_BUSY.store(true, Ordering::Relaxed);
+            thread::yield_now();
+        }
+        Ok(metric.len())
+    }
+}
+
+#[test]
+fn a_forked_child_does_not_wait_for_a_thread_that_passes_lines_on() {
+    let sink = AggregatingMetricSink::from(Slow).unwrap();
+    thread::scope(|scope| {
+        scope.spawn(|| sink.emit("slow:1|ms"));
+        while !IS_BUSY.load(Ordering::Relaxed) {
+            thread::yield_now();
+        }
+        let status = in_child(|| u8::from(sink.emit("fast:1|ms").is_ok() && sink.flush().is_ok()));
+        IS_DONE.store(true, Ordering::Relaxed);
+        assert_eq!(1, status);
+    });
 }
 
 /// A sink that refuses each line and each flush.

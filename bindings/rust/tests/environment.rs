@@ -1,4 +1,5 @@
-//! What the variables of the environment say, by the rows of `bindings/environment.rows`, and clients that are made of it.
+// SPDX-License-Identifier: MIT OR Apache-2.0
+//! What the variables of the environment say, by the rows of `environment.rows`, and clients that are made of it.
 use cadence::prelude::*;
 use cadence::{Environment, ErrorKind, Target};
 use std::collections::HashMap;
@@ -45,9 +46,18 @@ fn shown(environment: &Environment) -> Vec<u8> {
     text.into_bytes()
 }
 
+/// Returns the rows. An archive has their file beside this crate, the repository where its own test reads it.
+fn rows() -> String {
+    let folder = env!("CARGO_MANIFEST_DIR");
+    ["../environment.rows", "../../crates/test_calls/data/environment.rows"]
+        .iter()
+        .find_map(|place| std::fs::read_to_string(format!("{folder}/{place}")).ok())
+        .unwrap()
+}
+
 #[test]
 fn each_row_is_read() {
-    let rows = include_str!("../../environment.rows");
+    let rows = rows();
     let mut seen = 0;
     for row in rows.lines().filter(|row| !row.is_empty() && !row.starts_with('#')) {
         let (wanted, variables) = row.split_once(" <- ").unwrap_or((row, ""));

@@ -1,3 +1,4 @@
+// SPDX-License-Identifier: MIT OR Apache-2.0
 //! Floats in lines: each is printed as Rust prints it, rounded to 30 places, with 0 for a zero of either sign. What is NaN,
 //! infinite or too large is refused.
 use cadence::prelude::*;
@@ -5,8 +6,7 @@ use cadence::{ErrorKind, Gauge, Metric, NopMetricSink, StatsdClient};
 
 /// Returns the text of a float in a line, or nothing if a client refuses the float.
 fn text_of(x: f64) -> Option<String> {
-    // NaN is refused too
-    if !(x.abs() <= 2_f64.powi(127)) {
+    if x.is_nan() || x.abs() > 2_f64.powi(127) {
         return None;
     }
     let text = (x + 0.0).to_string();

@@ -1,3 +1,4 @@
+// SPDX-License-Identifier: MIT OR Apache-2.0
 //! The heap of the library, and the room of each thread that it lends to a call.
 use cadence::prelude::*;
 use cadence::{Metric, NopMetricSink, StatsdClient};

@@ -1,3 +1,4 @@
+// SPDX-License-Identifier: MIT OR Apache-2.0
 //! The line of each call.
 use cadence::ext::MetricValue;
 use cadence::prelude::*;

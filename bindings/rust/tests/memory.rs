@@ -1,3 +1,4 @@
+// SPDX-License-Identifier: MIT OR Apache-2.0
 //! How often a call asks for memory.
 use cadence::prelude::*;
 use cadence::{BufferedSpyMetricSink, NopMetricSink, QueuingMetricSink, StatsdClient};

@@ -1,3 +1,4 @@
+// SPDX-License-Identifier: MIT OR Apache-2.0
 //! The buffer of lines over any writer.
 use cadence::ext::MultiLineWriter;
 use std::io::{self, Write};

@@ -1,3 +1,4 @@
+// SPDX-License-Identifier: MIT OR Apache-2.0
 //! Values, metrics and sinks of a caller's own, and the error handler.
 use cadence::ext::{MetricBackend, MetricValue, SocketStats, ToCounterValue, ToGaugeValue};
 use cadence::prelude::*;

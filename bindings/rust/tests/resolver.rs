@@ -1,3 +1,4 @@
+// SPDX-License-Identifier: MIT OR Apache-2.0
 //! Lookups again and again.
 use cadence::{BufferedUdpMetricSink, ErrorKind, MetricSink, UdpMetricSink};
 use std::io;
@@ -52,6 +53,25 @@ fn received(server: &UdpSocket) -> Vec<u8> {
     let mut packet = [0; 64];
     let size = server.recv(&mut packet).unwrap();
     packet[..size].to_vec()
+}
+
+#[test]
+fn an_address_of_the_sockets_family_comes_first() {
+    let (server, address) = server();
+    let other: SocketAddr = ("::1".parse::<std::net::IpAddr>().unwrap(), address.port()).into();
+    for period in [None, Some(Duration::from_millis(2))] {
+        let (host, _) = host(vec![Ok(vec![other, address]), Ok(vec![other, other, address])]);
+        let builder = UdpMetricSink::builder();
+        let builder = period.into_iter().fold(builder, |builder, period| builder.with_resolver_period(period));
+        let sink = builder.build(host, socket()).unwrap();
+        for _ in 0..10 {
+            sink.emit("a").unwrap();
+            assert_eq!(b"a".to_vec(), received(&server));
+            std::thread::sleep(Duration::from_millis(1));
+        }
+    }
+    // A name that has only the other family is not refused here; its packets are.
+    assert!(UdpMetricSink::from(other, socket()).unwrap().emit("a").is_err());
 }
 
 #[test]

@@ -1,3 +1,4 @@
+// SPDX-License-Identifier: MIT OR Apache-2.0
 //! The spies and their receiver.
 use cadence::{BufferedSpyMetricSink, MetricSink, SpyMetricSink};
 use std::sync::atomic::{AtomicU64, Ordering};

@@ -1,3 +1,4 @@
+// SPDX-License-Identifier: MIT OR Apache-2.0
 //! Clients with strict texts.
 use cadence::ext::MetricBackend;
 use cadence::prelude::*;

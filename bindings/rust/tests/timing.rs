@@ -1,3 +1,4 @@
+// SPDX-License-Identifier: MIT OR Apache-2.0
 //! The timer of a scope.
 use cadence::{SpyMetricSink, StatsdClient};
 use std::io;

@@ -1,3 +1,4 @@
+// SPDX-License-Identifier: MIT OR Apache-2.0
 //! The sinks over UDP.
 use cadence::prelude::*;
 use cadence::{BufferedUdpMetricSink, ErrorKind, MetricSink, StatsdClient, UdpMetricSink};

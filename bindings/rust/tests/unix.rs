@@ -1,3 +1,4 @@
+// SPDX-License-Identifier: MIT OR Apache-2.0
 //! The sinks over Unix datagram sockets.
 #![cfg(unix)]
 use cadence::prelude::*;
@@ -158,4 +159,24 @@ fn a_sink_is_dropped_though_nobody_is_there() {
     let sink = BufferedUnixMetricSink::from(folder.path(), socket());
     sink.emit("a").unwrap();
     drop(sink);
+}
+
+#[test]
+fn an_agent_may_start_again() {
+    let folder = Folder::new();
+    let socket = UnixDatagram::unbound().unwrap();
+    let sink = BufferedUnixMetricSink::from(folder.path(), socket);
+    for number in 0..3 {
+        let server = server(&folder.path());
+        sink.emit(&format!("a{number}:1|c")).unwrap();
+        sink.flush().unwrap();
+        let mut packet = [0; 64];
+        let size = server.recv(&mut packet).unwrap();
+        let missed = if number == 0 { String::new() } else { format!("b{}:1|c\n", number - 1) };
+        assert_eq!(format!("{missed}a{number}:1|c\n").as_bytes(), &packet[..size]);
+        drop(server);
+        sink.emit(&format!("b{number}:1|c")).unwrap();
+        assert_eq!(io::ErrorKind::ConnectionRefused, sink.flush().unwrap_err().kind());
+        fs::remove_file(folder.path()).unwrap();
+    }
 }

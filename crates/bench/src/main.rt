@@ -1,6 +1,6 @@
 //! `bench MODE N [SIZES]`: does the work of one mode N times, and prints how long a call takes.
 //!
-//! docs/SPEED.md has the tables that `run.py` makes of it, beside a program that does the same work over the Rust
+//! docs/speed.md has the tables that `run.py` makes of it, beside a program that does the same work over the Rust
 //! crate. Standard output has the number `check`, which is the same for every implementation that did the same work;
 //! standard error has the time. The run that the gate makes shows only that the program works: 1000 counters whose
 //! lines have together 29,890 bytes (10 lines of 28 bytes, 90 of 29 and 900 of 30).

@@ -22,7 +22,7 @@ pub mod stats;
 pub mod types;
 
 pub use cadence_flow::io;
-pub use cadence_resolve::DEFAULT_PORT;
+pub use cadence_resolve::{DEFAULT_PORT, Runtime};
 pub use cadence_text::line;
 pub use cadence_value::value;
 pub use client::{BoxedHandler, ErrorHandler, MetricBuilder, StatsdClient, StatsdClientBuilder};

@@ -10,9 +10,9 @@ use Rattle.std.proofs.lemmas.Map.Made.{length-le_from_is_member}
 use Rattle.cadence_aggregate.specs.Fewest.{unpacked}
 use Rattle.cadence_aggregate.specs.Held.{held_sums, held_levels, held_members, held_timings}
 use Rattle.cadence_aggregate.specs.Quiet.{AreDistinct}
-use Rattle.cadence_aggregate.specs.Server.{Sample, amount, level, member, timing, other, gauge, has_member, has_amount, later, is_plain, IsSummary}
-use Rattle.cadence_aggregate.proofs.Observed.{gauge-append, member-append, amount-append, later_none}
-use Rattle.cadence_aggregate.proofs.Rewrites.{sums_levels, sums_members, levels_members, levels_amounts, members_levels, timings_levels, timings_members, timings_amounts}
+use Rattle.cadence_aggregate.specs.Server.{Sample, amount, level, member, timing, unclear, other, gauge, has_member, has_amount, others, Setting, set_to, later, is_plain, IsSummary}
+use Rattle.cadence_aggregate.proofs.Observed.{gauge-append, member-append, amount-append, others-append, later_none}
+use Rattle.cadence_aggregate.proofs.Rewrites.{sums_levels, sums_members, levels_members, levels_amounts, members_levels, timings_levels, timings_members, timings_amounts, sums_others, levels_others, members_others, timings_others}
 
 -- the contexts of the counters, the gauges and the members of sets
 abbrev counters_of : List Sample → List (List ℕ)
@@ -21,6 +21,7 @@ counters_of (amount c n ∷ xs) = c ∷ counters_of xs
 counters_of (level c v ∷ xs) = counters_of xs
 counters_of (member c ∷ xs) = counters_of xs
 counters_of (timing c t ∷ xs) = counters_of xs
+counters_of (unclear l ∷ xs) = counters_of xs
 counters_of (other l ∷ xs) = counters_of xs
 
 abbrev gauges_of : List Sample → List (List ℕ)
@@ -29,6 +30,7 @@ gauges_of (amount c n ∷ xs) = gauges_of xs
 gauges_of (level c v ∷ xs) = c ∷ gauges_of xs
 gauges_of (member c ∷ xs) = gauges_of xs
 gauges_of (timing c t ∷ xs) = gauges_of xs
+gauges_of (unclear l ∷ xs) = gauges_of xs
 gauges_of (other l ∷ xs) = gauges_of xs
 
 abbrev members_of : List Sample → List (List ℕ)
@@ -37,6 +39,7 @@ members_of (amount c n ∷ xs) = members_of xs
 members_of (level c v ∷ xs) = members_of xs
 members_of (member c ∷ xs) = c ∷ members_of xs
 members_of (timing c t ∷ xs) = members_of xs
+members_of (unclear l ∷ xs) = members_of xs
 members_of (other l ∷ xs) = members_of xs
 
 lines_of_kinds : (xs : List Sample) → length (counters_of xs) + (length (gauges_of xs) + length (members_of xs)) ≤ length xs
@@ -45,6 +48,7 @@ lines_of_kinds (amount c n ∷ xs) = let h = lines_of_kinds xs in omega arith
 lines_of_kinds (level c v ∷ xs) = let h = lines_of_kinds xs in omega arith
 lines_of_kinds (member c ∷ xs) = let h = lines_of_kinds xs in omega arith
 lines_of_kinds (timing c t ∷ xs) = let h = lines_of_kinds xs in omega arith
+lines_of_kinds (unclear l ∷ xs) = let h = lines_of_kinds xs in omega arith
 lines_of_kinds (other l ∷ xs) = let h = lines_of_kinds xs in omega arith
 
 either_way : (o l h : Bool) → (o || l) ≡ true → (l ≡ true → h ≡ true) → h || (o || false) ≡ true
@@ -59,6 +63,7 @@ module _ (ours : List ℕ → Bool) where
   counted (level c v ∷ xs) = counted xs
   counted (member c ∷ xs) = counted xs
   counted (timing c t ∷ xs) = counted xs
+  counted (unclear l ∷ xs) = counted xs
   counted (other l ∷ xs) = counted xs
 
   listed : (xs : List Sample) → has_member ours xs ≡ list_any ours (members_of xs)
@@ -67,24 +72,26 @@ module _ (ours : List ℕ → Bool) where
   listed (level c v ∷ xs) = listed xs
   listed (member c ∷ xs) = ap (λ b. ours c || b) (listed xs)
   listed (timing c t ∷ xs) = listed xs
+  listed (unclear l ∷ xs) = listed xs
   listed (other l ∷ xs) = listed xs
 
-  -- a gauge has no value if no line sets it
-  unset : (xs : List Sample) → list_any ours (gauges_of xs) ≡ false → gauge ours xs ≡ []
-  unset [] h = refl
-  unset (amount c n ∷ xs) h = unset xs h
-  unset (level c v ∷ xs) h = (elim (ours c) as (λ b. (b || list_any ours (gauges_of xs)) ≡ false → later (cond b (v ∷ []) []) (gauge ours xs) ≡ []) [
+  -- nothing sets a gauge if no line sets it, and none may
+  unset : (xs : List Sample) → others xs ≡ [] → list_any ours (gauges_of xs) ≡ false → gauge ours xs ≡ []
+  unset [] none h = refl
+  unset (amount c n ∷ xs) none h = unset xs none h
+  unset (level c v ∷ xs) none h = (elim (ours c) as (λ b. (b || list_any ours (gauges_of xs)) ≡ false → later (cond b (set_to v ∷ []) []) (gauge ours xs) ≡ []) [
     | true ↦ λ t. cc
-    | false ↦ λ t. rw (unset xs t) refl
+    | false ↦ λ t. rw (unset xs none t) refl
   ]) h
-  unset (member c ∷ xs) h = unset xs h
-  unset (timing c t ∷ xs) h = unset xs h
-  unset (other l ∷ xs) h = unset xs h
+  unset (member c ∷ xs) none h = unset xs none h
+  unset (timing c t ∷ xs) none h = unset xs none h
+  unset (unclear l ∷ xs) none h = cc
+  unset (other l ∷ xs) none h = cc
 
-  later_some : (x : List (List ℕ)) (v : List ℕ) → later x (v ∷ []) ≡ [] → ⊥
-  later_some x v = elim (is_plain v) as (λ p. cond p (v ∷ []) (x ++ v ∷ []) ≡ [] → ⊥) [
+  later_some : (x : List Setting) (v : List ℕ) → later x (set_to v ∷ []) ≡ [] → ⊥
+  later_some x v = elim (is_plain v) as (λ p. cond p (set_to v ∷ []) (x ++ set_to v ∷ []) ≡ [] → ⊥) [
     | true ↦ λ e. cc
-    | false ↦ λ e. let n = length-append x (v ∷ []) in absurd (omega (arith, ap length e))
+    | false ↦ λ e. let n = length-append x (set_to v ∷ []) in absurd (omega (arith, ap length e))
   ]
 
   -- what is held of a context shows that it was called
@@ -102,9 +109,9 @@ module _ (ours : List ℕ → Bool) where
     levels_shown : (es : List (String Z × String Z)) → list_any ours (map string_bytes (keys_of es)) ≡ true → gauge ours (held_levels es) ≡ [] → ⊥
     levels_shown [] h g = cc
     levels_shown (e ∷ es) h g =
-        let one : later (gauge ours (held_levels es)) (cond (ours (string_bytes e.0)) ((string_bytes e.1) ∷ []) []) ≡ [] =
+        let one : later (gauge ours (held_levels es)) (cond (ours (string_bytes e.0)) (set_to (string_bytes e.1) ∷ []) []) ≡ [] =
         sym (gauge-append ours (held_levels es) (level (string_bytes e.0) (string_bytes e.1) ∷ [])) ∙ g in
-        (elim (ours (string_bytes e.0)) as (λ b. (b || list_any ours (map string_bytes (keys_of es))) ≡ true → later (gauge ours (held_levels es)) (cond b ((string_bytes e.1) ∷ []) []) ≡ [] → ⊥) [
+        (elim (ours (string_bytes e.0)) as (λ b. (b || list_any ours (map string_bytes (keys_of es))) ≡ true → later (gauge ours (held_levels es)) (cond b (set_to (string_bytes e.1) ∷ []) []) ≡ [] → ⊥) [
           | true ↦ λ s t. later_some (gauge ours (held_levels es)) (string_bytes e.1) t
           | false ↦ λ s t. levels_shown es s t
         ]) h one
@@ -130,9 +137,10 @@ unpacked-append (amount c n ∷ xs) ys = ap (λ t. amount c n ∷ t) (unpacked-a
 unpacked-append (level c v ∷ xs) ys = ap (λ t. level c v ∷ t) (unpacked-append xs ys)
 unpacked-append (member c ∷ xs) ys = ap (λ t. member c ∷ t) (unpacked-append xs ys)
 unpacked-append (timing c t ∷ xs) ys = unpacked-append xs ys
+unpacked-append (unclear l ∷ xs) ys = ap (λ t. unclear l ∷ t) (unpacked-append xs ys)
 unpacked-append (other l ∷ xs) ys = ap (λ t. other l ∷ t) (unpacked-append xs ys)
 
-lines_more : (xs ys : List Sample) → length (unpacked (xs ++ ys)) ≡ length (unpacked xs) + length (unpacked ys)
+pub lines_more : (xs ys : List Sample) → length (unpacked (xs ++ ys)) ≡ length (unpacked xs) + length (unpacked ys)
 lines_more xs ys = ap length (unpacked-append xs ys) ∙ length-append (unpacked xs) (unpacked ys)
 
 module _ {Z : Type 0} where
@@ -206,11 +214,22 @@ module _ {Z : Type 0} (ss : List (String Z × ℤ)) (ls : List (String Z × Stri
       timings_members ours ts,
     ) (or_false (has_member ours (held_members ms)))
 
+  all_others : others all ≡ []
+  all_others = rw (
+    others-append (held_sums ss) (held_levels ls ++ (held_members ms ++ held_timings ts)),
+    others-append (held_levels ls) (held_members ms ++ held_timings ts),
+    others-append (held_members ms) (held_timings ts),
+    sums_others ss,
+    levels_others ls,
+    members_others ms,
+    timings_others ts,
+  ) refl
+
   -- each context that is held needs a line
   module _ (ys : List Sample) (same : IsSummary all ys) where
     found : (ours : List ℕ → Bool) → list_any ours (map string_bytes (keys_of ls)) ≡ true → (b : Bool) → list_any ours (gauges_of ys) ≡ b → list_any ours (gauges_of ys) ≡ true
     found ours m true e = e
-    found ours m false e = absurd (levels_shown ours ls m (sym (all_gauges ours) ∙ same.gauges ours ∙ unset ours ys e))
+    found ours m false e = absurd (levels_shown ours ls m (sym (all_gauges ours) ∙ same.gauges ours ∙ unset ours ys (sym same.rest ∙ all_others) e))
 
     pub fewest : AreDistinct ss → AreDistinct ls → AreDistinct ms → length (unpacked all) ≤ length ys
     fewest ds dl dm =

@@ -2,7 +2,7 @@
 use Rattle.std.proofs.Common.{◌≡◌, ℕ, Bool, true, false, cond, List, [], ◌∷◌, ◌++◌, refl, sym, ap, subst, ◌∙◌, arith, ◌+◌, append_assoc, length-append, zero-add}
 use Rattle.std.specs.Prelude.{◌+ℤ◌, ◌||◌}
 use Rattle.std.proofs.lemmas.Int.{ints}
-use Rattle.cadence_aggregate.specs.Server.{Sample, amount, level, member, timing, other, total, gauge, has_member, has_amount, has_level, times, others, later, is_plain, IsSummary}
+use Rattle.cadence_aggregate.specs.Server.{Sample, amount, level, member, timing, unclear, other, total, gauge, has_member, has_amount, has_level, times, others, Setting, set_to, set_by, replaces, later, IsSummary}
 
 module _ (ours : List ℕ → Bool) where
   pub total-append : (xs ys : List Sample) → total ours (xs ++ ys) ≡ total ours xs +ℤ total ours ys
@@ -11,44 +11,48 @@ module _ (ours : List ℕ → Bool) where
   total-append (level c v ∷ xs) ys = total-append xs ys
   total-append (member c ∷ xs) ys = total-append xs ys
   total-append (timing c t ∷ xs) ys = total-append xs ys
+  total-append (unclear l ∷ xs) ys = total-append xs ys
   total-append (other l ∷ xs) ys = total-append xs ys
 
-  later_twice : (a : List (List ℕ)) (v : List ℕ) (vs : List (List ℕ)) (p : Bool)
-      → is_plain v ≡ p → later (later a []) (v ∷ vs) ≡ later a (later [] (v ∷ vs))
+  later_twice : (a : List Setting) (v : Setting) (vs : List Setting) (p : Bool)
+      → replaces v ≡ p → later (later a []) (v ∷ vs) ≡ later a (later [] (v ∷ vs))
   later_twice a v vs true h = rw h (rw h refl)
   later_twice a v vs false h = rw h (rw h refl)
 
-  later_more : (a : List (List ℕ)) (u : List ℕ) (us : List (List ℕ)) (v : List ℕ) (vs : List (List ℕ)) (q : Bool)
-      → is_plain u ≡ q → later a (u ∷ us) ++ v ∷ vs ≡ later a (u ∷ (us ++ v ∷ vs))
+  later_more : (a : List Setting) (u : Setting) (us : List Setting) (v : Setting) (vs : List Setting) (q : Bool)
+      → replaces u ≡ q → later a (u ∷ us) ++ v ∷ vs ≡ later a (u ∷ (us ++ v ∷ vs))
   later_more a u us v vs true h = rw h refl
   later_more a u us v vs false h = rw h (append_assoc a (u ∷ us) (v ∷ vs))
 
-  later_cons : (a : List (List ℕ)) (u : List ℕ) (us : List (List ℕ)) (v : List ℕ) (vs : List (List ℕ)) (p : Bool)
-      → is_plain v ≡ p → later (later a (u ∷ us)) (v ∷ vs) ≡ later a (later (u ∷ us) (v ∷ vs))
+  later_cons : (a : List Setting) (u : Setting) (us : List Setting) (v : Setting) (vs : List Setting) (p : Bool)
+      → replaces v ≡ p → later (later a (u ∷ us)) (v ∷ vs) ≡ later a (later (u ∷ us) (v ∷ vs))
   later_cons a u us v vs true h = rw h (rw h refl)
-  later_cons a u us v vs false h = rw h (later_more a u us v vs (is_plain u) refl)
+  later_cons a u us v vs false h = rw h (later_more a u us v vs (replaces u) refl)
 
-  pub later_assoc : (a b c : List (List ℕ)) → later (later a b) c ≡ later a (later b c)
+  pub later_assoc : (a b c : List Setting) → later (later a b) c ≡ later a (later b c)
   later_assoc a b [] = refl
-  later_assoc a [] (v ∷ vs) = later_twice a v vs (is_plain v) refl
-  later_assoc a (u ∷ us) (v ∷ vs) = later_cons a u us v vs (is_plain v) refl
+  later_assoc a [] (v ∷ vs) = later_twice a v vs (replaces v) refl
+  later_assoc a (u ∷ us) (v ∷ vs) = later_cons a u us v vs (replaces v) refl
 
-  none_before : (v : List ℕ) (vs : List (List ℕ)) (p : Bool) → is_plain v ≡ p → later [] (v ∷ vs) ≡ v ∷ vs
+  none_before : (v : Setting) (vs : List Setting) (p : Bool) → replaces v ≡ p → later [] (v ∷ vs) ≡ v ∷ vs
   none_before v vs true h = rw h refl
   none_before v vs false h = rw h refl
 
-  pub later_none : (a : List (List ℕ)) → later [] a ≡ a
+  pub later_none : (a : List Setting) → later [] a ≡ a
   later_none [] = refl
-  later_none (v ∷ vs) = none_before v vs (is_plain v) refl
+  later_none (v ∷ vs) = none_before v vs (replaces v) refl
 
   pub gauge-append : (xs ys : List Sample) → gauge ours (xs ++ ys) ≡ later (gauge ours xs) (gauge ours ys)
   gauge-append [] ys = sym (later_none (gauge ours ys))
   gauge-append (amount c n ∷ xs) ys = gauge-append xs ys
   gauge-append (level c v ∷ xs) ys =
-      let first = cond (ours c) (v ∷ []) [] in
+      let first = cond (ours c) (set_to v ∷ []) [] in
       ap (later first) (gauge-append xs ys) ∙ sym (later_assoc first (gauge ours xs) (gauge ours ys))
   gauge-append (member c ∷ xs) ys = gauge-append xs ys
   gauge-append (timing c t ∷ xs) ys = gauge-append xs ys
+  gauge-append (unclear l ∷ xs) ys =
+      let first = set_by l ∷ [] in
+      ap (later first) (gauge-append xs ys) ∙ sym (later_assoc first (gauge ours xs) (gauge ours ys))
   gauge-append (other l ∷ xs) ys = gauge-append xs ys
 
   pub or_assoc : (a b c : Bool) → (a || b) || c ≡ a || (b || c)
@@ -61,6 +65,7 @@ module _ (ours : List ℕ → Bool) where
   member-append (level c v ∷ xs) ys = member-append xs ys
   member-append (member c ∷ xs) ys = ap (λ b. ours c || b) (member-append xs ys) ∙ sym (or_assoc (ours c) (has_member ours xs) (has_member ours ys))
   member-append (timing c t ∷ xs) ys = member-append xs ys
+  member-append (unclear l ∷ xs) ys = member-append xs ys
   member-append (other l ∷ xs) ys = member-append xs ys
 
   pub amount-append : (xs ys : List Sample) → has_amount ours (xs ++ ys) ≡ has_amount ours xs || has_amount ours ys
@@ -69,6 +74,7 @@ module _ (ours : List ℕ → Bool) where
   amount-append (level c v ∷ xs) ys = amount-append xs ys
   amount-append (member c ∷ xs) ys = amount-append xs ys
   amount-append (timing c t ∷ xs) ys = amount-append xs ys
+  amount-append (unclear l ∷ xs) ys = amount-append xs ys
   amount-append (other l ∷ xs) ys = amount-append xs ys
 
   pub times-append : (x : List ℕ) (xs ys : List Sample) → times ours x (xs ++ ys) ≡ times ours x xs + times ours x ys
@@ -77,6 +83,7 @@ module _ (ours : List ℕ → Bool) where
   times-append x (level c v ∷ xs) ys = times-append x xs ys
   times-append x (member c ∷ xs) ys = times-append x xs ys
   times-append x (timing c t ∷ xs) ys = let h = times-append x xs ys in omega arith
+  times-append x (unclear l ∷ xs) ys = times-append x xs ys
   times-append x (other l ∷ xs) ys = times-append x xs ys
 
 either_first : (a b c : Bool) → (a || b) || c ≡ a || (b || c)
@@ -89,7 +96,8 @@ others-append (amount c n ∷ xs) ys = others-append xs ys
 others-append (level c v ∷ xs) ys = others-append xs ys
 others-append (member c ∷ xs) ys = others-append xs ys
 others-append (timing c t ∷ xs) ys = others-append xs ys
-others-append (other l ∷ xs) ys = ap (λ t. l ∷ t) (others-append xs ys)
+others-append (unclear l ∷ xs) ys = ap (λ t. unclear l ∷ t) (others-append xs ys)
+others-append (other l ∷ xs) ys = ap (λ t. other l ∷ t) (others-append xs ys)
 
 pub level-append : (passes : List ℕ → List ℕ → Bool) (xs ys : List Sample) → has_level passes (xs ++ ys) ≡ has_level passes xs || has_level passes ys
 level-append passes [] ys = refl
@@ -97,6 +105,7 @@ level-append passes (amount c n ∷ xs) ys = level-append passes xs ys
 level-append passes (level c v ∷ xs) ys = ap (λ b. passes c v || b) (level-append passes xs ys) ∙ sym (either_first (passes c v) (has_level passes xs) (has_level passes ys))
 level-append passes (member c ∷ xs) ys = level-append passes xs ys
 level-append passes (timing c t ∷ xs) ys = level-append passes xs ys
+level-append passes (unclear l ∷ xs) ys = level-append passes xs ys
 level-append passes (other l ∷ xs) ys = level-append passes xs ys
 
 or_before : (z a b : Bool) → (b ≡ true → a ≡ true) → z || b ≡ true → z || a ≡ true

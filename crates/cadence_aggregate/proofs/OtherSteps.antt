@@ -5,7 +5,7 @@ use Rattle.std.specs.Prelude.{◌||◌}
 use Rattle.std.specs.Map.{lookup, remove_entry, set_value}
 use Rattle.std.proofs.lemmas.Int.{ints}
 use Rattle.lru.specs.LruCache.{promoted}
-use Rattle.cadence_aggregate.specs.Server.{Sample, level, member, gauge, has_member, has_amount, has_level, others, later, is_plain, IsSummary}
+use Rattle.cadence_aggregate.specs.Server.{Sample, level, member, gauge, has_member, has_amount, has_level, others, Setting, set_to, later, is_plain, IsSummary}
 use Rattle.cadence_aggregate.specs.Held.{held_levels, held_members}
 use Rattle.cadence_aggregate.proofs.Observed.{total-append, gauge-append, member-append, times-append, amount-append, others-append, level-append, still_said, later_assoc, or_assoc, same_of}
 use Rattle.cadence_aggregate.proofs.Tables.{rewritten, found_entry, after_length}
@@ -22,7 +22,7 @@ or_regroup false false true x f h = refl
 or_regroup false false false x f h = h
 
 -- a plain value replaces the earlier ones
-plain_last : (x : List (List ℕ)) (v : List ℕ) → is_plain v ≡ true → later x (v ∷ []) ≡ v ∷ []
+plain_last : (x : List Setting) (v : List ℕ) → is_plain v ≡ true → later x (set_to v ∷ []) ≡ set_to v ∷ []
 plain_last x v h = rw h refl
 
 module _ {Z : Type 0} (test : String Z → Bool) (c : List ℕ) (key : (k : String Z) → test k ≡ true → (string_bytes k) ≡ c) where
@@ -38,7 +38,7 @@ module _ {Z : Type 0} (test : String Z → Bool) (c : List ℕ) (key : (k : Stri
       let rest = held_levels (remove_entry test es) in
       let now : gauge ours (after es w) ≡ later (gauge ours rest) (gauge ours (level c (string_bytes w) ∷ [])) =
       ap (λ t. gauge ours (held_levels t)) r.1.0 ∙ gauge-append ours rest (level (string_bytes r.0) (string_bytes w) ∷ []) ∙ ap (λ t. later (gauge ours rest) (gauge ours (level t (string_bytes w) ∷ []))) same in
-      now ∙ (elim (ours c) as (λ b. ours c ≡ b → later (gauge ours rest) (cond b ((string_bytes w) ∷ []) []) ≡ later (gauge ours (held_levels es)) (cond b ((string_bytes w) ∷ []) [])) [
+      now ∙ (elim (ours c) as (λ b. ours c ≡ b → later (gauge ours rest) (cond b (set_to (string_bytes w) ∷ []) []) ≡ later (gauge ours (held_levels es)) (cond b (set_to (string_bytes w) ∷ []) [])) [
         | true ↦ λ t. plain_last (gauge ours rest) (string_bytes w) plain ∙ sym (plain_last (gauge ours (held_levels es)) (string_bytes w) plain)
         | false ↦ λ t. untaken ours test es r.0 v r.1.1 (ap ours same ∙ t)
       ]) refl

@@ -106,17 +106,17 @@ nil_same xs = same_of xs (xs ++ []) (sym (append-nil xs))
 same_nil : (xs : List Sample) → IsSummary (xs ++ []) xs
 same_nil xs = same_of (xs ++ []) xs (append-nil xs)
 
-both_none : (xs ys : List Sample) → HasNoOrder xs → HasNoOrder ys → HasNoOrder (xs ++ ys)
+pub both_none : (xs ys : List Sample) → HasNoOrder xs → HasNoOrder ys → HasNoOrder (xs ++ ys)
 both_none xs ys a b = ((λ ours. rw (gauge-append ours xs ys, a.0 ours, b.0 ours) refl), others-append xs ys ∙ rw (a.1, b.1) refl)
 
 module _ {Z : Type 0} where
-  loose_sums : (es : List (String Z × ℤ)) → HasNoOrder (held_sums es)
+  pub loose_sums : (es : List (String Z × ℤ)) → HasNoOrder (held_sums es)
   loose_sums es = ((λ ours. sums_levels ours es), sums_others es)
 
-  loose_members : (es : List (String Z × Unit {0})) → HasNoOrder (held_members es)
+  pub loose_members : (es : List (String Z × Unit {0})) → HasNoOrder (held_members es)
   loose_members es = ((λ ours. members_levels ours es), members_others es)
 
-  loose_timings : (es : List (String Z × String Z)) → HasNoOrder (held_timings es)
+  pub loose_timings : (es : List (String Z × String Z)) → HasNoOrder (held_timings es)
   loose_timings es = ((λ ours. timings_levels ours es), timings_others es)
 
 module _ {Z : Type 0} (s s' : List Sample) (ss : List (String Z × ℤ)) (ls : List (String Z × String Z)) (ms : List (String Z × Unit {0})) (ts : List (String Z × String Z)) where

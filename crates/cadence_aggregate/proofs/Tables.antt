@@ -1,11 +1,11 @@
 -- What a table holds, after its oldest entry is taken out, and after one goes first.
 use Rattle.std.specs.Prelude.{String, string_bytes}
-use Rattle.std.proofs.Common.{◌≡◌, ℕ, zero, suc, ◌-◌, Bool, true, false, cond, List, [], ◌∷◌, ◌++◌, length, take, Option, Some, None, refl, sym, ap, subst, ◌∙◌, arith, append_assoc, length-append}
+use Rattle.std.proofs.Common.{◌≡◌, ℕ, zero, suc, ◌-◌, Bool, true, false, cond, List, [], ◌∷◌, ◌++◌, length, take, drop, Option, Some, None, refl, sym, ap, subst, ◌∙◌, arith, append_assoc, append-nil, length-append}
 use Rattle.std.specs.Prelude.{◌<◌, ◌≤◌, nat_eq, Result, Ok, Err, OnOk, OnErr}
 use Rattle.std.specs.List.{slice_get}
 use Rattle.std.specs.Option.{is_some}
 use Rattle.std.specs.Cmp.Lexicographic.{pointwise, bytes_decides}
-use Rattle.std.proofs.lemmas.List.{take_all, length-take}
+use Rattle.std.proofs.lemmas.List.{take_all, drop_all, length-take}
 use Rattle.std.specs.Map.{lookup, lookup_entry, remove_entry, set_value}
 use Rattle.lru.specs.LruCache.{LruCache, last_entry, promoted, put_entries, lru_cache}
 use Rattle.cadence_aggregate.specs.Server.{Sample}
@@ -140,3 +140,37 @@ after_length say test es v w h =
     let d = taken_length test es (r.0, v) r.1.1 in
     let e : length (set_value test (promoted test es) w) ≡ suc (length (remove_entry test es)) = ap length r.1.0 in
     omega arith
+
+take_none : {X : Type 0} (n : ℕ) → take {A = X} n [] ≡ []
+take_none zero = refl
+take_none (suc n) = refl
+
+drop_none : {X : Type 0} (n : ℕ) → drop {A = X} n [] ≡ []
+drop_none zero = refl
+drop_none (suc n) = refl
+
+-- one line less is due, once the first one was sent
+pub due_step : (s h : List Sample) (n : ℕ) → ((s ++ take 1 h) ++ take n (drop 1 h) ≡ s ++ take (suc n) h) × (drop n (drop 1 h) ≡ drop (suc n) h)
+due_step s [] n = (ap (λ t. (s ++ []) ++ t) (take_none n) ∙ append_assoc s [] [], drop_none n)
+due_step s (x ∷ h) n = (append_assoc s (x ∷ []) (take n h), refl)
+
+-- all lines are due, so that no others are left
+pub all_due : {E : Type 0} (say : E → Sample) (es : List E) (n : ℕ) → n ≡ length es → (take n (held_by say es) ≡ held_by say es) × (drop n (held_by say es) ≡ [])
+all_due say es n e =
+    let long : length (held_by say es) ≤ n = omega (arith, held_length say es, e) in
+    (take_all n (held_by say es) long, drop_all n (held_by say es) long)
+
+entry_at : {X : Type 0} (i : ℕ) (es : List X) → i < length es → slice_get es i ≡ None → ⊥
+entry_at i [] lt h = absurd (omega arith)
+entry_at zero (x ∷ es) lt h = cc
+entry_at (suc i) (x ∷ es) lt h = entry_at i es (omega arith) h
+
+-- a table without an oldest entry is empty
+pub none_left : {K V : Type 0} (es : List (K × V)) → last_entry es ≡ None → es ≡ []
+none_left [] h = refl
+none_left (e ∷ es) h = absurd (entry_at (length (e ∷ es) - 1) (e ∷ es) (omega arith) h)
+
+-- nothing is sent of a table without entries
+pub none_sent : {K V : Type 0} (say : K × V → Sample) (es : List (K × V)) (said : List Sample) → last_entry es ≡ None
+    → (said ≡ said ++ take 1 (held_by say es)) × (held_by say es ≡ drop 1 (held_by say es))
+none_sent say es said h = rw (none_left es h) (sym (append-nil said), refl)

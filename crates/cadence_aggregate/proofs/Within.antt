@@ -7,7 +7,7 @@ use Rattle.cadence_aggregate.specs.declared.runs.Step.TheVariants.{Add}
 use Rattle.std.proofs.Common.{◌≡◌, ℕ, ◌+◌, Bool, true, false, cond, List, [], ◌∷◌, ◌++◌, length, Some, sym, subst, arith}
 use Rattle.std.specs.Map.{lookup, lookup_entry, remove_entry, set_value}
 use Rattle.lru.specs.LruCache.{promoted}
-use Rattle.cadence_aggregate.specs.Server.{Sample, amount, level, member, timing, other}
+use Rattle.cadence_aggregate.specs.Server.{Sample, amount, level, member, timing, unclear, other}
 use Rattle.cadence_aggregate.specs.Held.{held_sums, held_levels, held_members, held_timings}
 use Rattle.cadence_aggregate.specs.Within.{AreWithin, StayWithin, if_ok}
 use Rattle.cadence_aggregate.proofs.Tables.{rewritten}
@@ -19,6 +19,7 @@ module _ (most : ℕ) where
   within_both (level c v ∷ xs) ys a b = within_both xs ys a b
   within_both (member c ∷ xs) ys a b = within_both xs ys a b
   within_both (timing c t ∷ xs) ys a b = (a.0, within_both xs ys a.1 b)
+  within_both (unclear l ∷ xs) ys a b = within_both xs ys a b
   within_both (other l ∷ xs) ys a b = within_both xs ys a b
 
   pub within_parts : (xs ys : List Sample) → AreWithin most (xs ++ ys) → AreWithin most xs × AreWithin most ys
@@ -27,6 +28,7 @@ module _ (most : ℕ) where
   within_parts (level c v ∷ xs) ys a = within_parts xs ys a
   within_parts (member c ∷ xs) ys a = within_parts xs ys a
   within_parts (timing c t ∷ xs) ys a = let h = within_parts xs ys a.1 in ((a.0, h.0), h.1)
+  within_parts (unclear l ∷ xs) ys a = within_parts xs ys a
   within_parts (other l ∷ xs) ys a = within_parts xs ys a
 
   module _ {Z : Type 0} where

@@ -1,22 +1,32 @@
 -- What an aggregator holds, and what a run of lines and flushes says.
-use Rattle.std.specs.Prelude.{◌≡◌, ◌+◌, List, [], ◌∷◌, ◌++◌, Result, Ok, Err, length, true}
+use Rattle.std.specs.Prelude.{ℕ, ◌≡◌, ◌+◌, List, [], ◌∷◌, ◌++◌, Result, Ok, Err, length, true}
 use Rattle.std.specs.Map.{lookup}
-use Rattle.cadence_aggregate.specs.Held.{held_sums, held_levels, held_members, held_timings}
+use Rattle.cadence_aggregate.specs.Held.{firsts, held_sums, held_levels, held_members, held_timings, rests}
 use Rattle.cadence_aggregate.specs.Lines.{samples_of}
 use Rattle.cadence_aggregate.specs.Quiet.{AreDistinct, HasRoomForContext, CanRaise, CanAppend, is_context}
 use Rattle.cadence_aggregate.specs.Server.{Sample, is_plain}
 use Rattle.cadence_aggregate.specs.declared.aggregator.Aggregator.{Aggregator}
 use Rattle.cadence_aggregate.specs.declared.line.Line.{Line}
-use Rattle.cadence_aggregate.specs.declared.line.Line.TheVariants.{Amount, Level, Member, Timing, Other}
+use Rattle.cadence_aggregate.specs.declared.line.Line.TheVariants.{Amount, Level, Member, Timing, Unclear, Other}
 use Rattle.cadence_aggregate.specs.declared.runs.Step.{Step}
 use Rattle.cadence_aggregate.specs.declared.runs.Step.TheVariants.{Add, Flush}
 use Rattle.cadence_aggregate.specs.declared.sink.Fault.{Fault}
 
--- what the lines of the next flush say
+-- what the lines say that the next flush sends first, because the last one left them
+abbrev pub held_first : Aggregator → List Sample
+held_first a =
+    firsts a.due (held_sums a.sums.entries) (held_levels a.levels.entries) (held_members a.members.entries)
+    (held_timings a.timings.entries)
+
+-- what its other lines say
+abbrev pub held_after : Aggregator → List Sample
+held_after a =
+    rests a.due (held_sums a.sums.entries) (held_levels a.levels.entries) (held_members a.members.entries)
+    (held_timings a.timings.entries)
+
+-- what the lines of the next flush say, in order
 abbrev pub held : Aggregator → List Sample
-held a =
-    held_sums a.sums.entries ++ (held_levels a.levels.entries
-    ++ (held_members a.members.entries ++ held_timings a.timings.entries))
+held a = held_first a ++ held_after a
 
 -- In each table the contexts differ, so that a flush sends one line for each.
 pub record HasDistinct (a : Aggregator) : Type 0 where
@@ -24,6 +34,13 @@ pub record HasDistinct (a : Aggregator) : Type 0 where
   pub levels : AreDistinct a.levels.entries
   pub members : AreDistinct a.members.entries
   pub timings : AreDistinct a.timings.entries
+
+-- Each table has room for this many contexts.
+pub record HasRoomForEach (most : ℕ) (a : Aggregator) : Type 0 where
+  pub sums : a.sums.cap ≡ most
+  pub levels : a.levels.cap ≡ most
+  pub members : a.members.cap ≡ most
+  pub timings : a.timings.cap ≡ most
 
 -- The aggregator can hold what the line says, without sending a line.
 abbrev pub CanHold : Aggregator → Line → Type 0
@@ -33,6 +50,7 @@ CanHold a (Member c) = HasRoomForContext a.members
 CanHold a (Timing c values) =
     HasRoomForContext a.timings
     × CanAppend (lookup (is_context c.now) a.timings.entries) (length c.now + length values.now) a.most_bytes
+CanHold a (Unclear line) = ⊥
 CanHold a (Other line) = ⊥
 
 -- what a step says: what its line says, if it was accepted

@@ -1,6 +1,6 @@
 -- Which lines can't be fewer.
 use Rattle.std.specs.Prelude.{◌≤◌, length, List, [], ◌∷◌}
-use Rattle.cadence_aggregate.specs.Server.{Sample, amount, level, member, timing, other, IsSummary}
+use Rattle.cadence_aggregate.specs.Server.{Sample, amount, level, member, timing, unclear, other, IsSummary}
 
 -- the lines that are not of timers, histograms and distributions: the values of those may be packed in several ways
 abbrev pub unpacked : List Sample → List Sample
@@ -9,6 +9,7 @@ unpacked (amount c n ∷ xs) = amount c n ∷ unpacked xs
 unpacked (level c v ∷ xs) = level c v ∷ unpacked xs
 unpacked (member c ∷ xs) = member c ∷ unpacked xs
 unpacked (timing c t ∷ xs) = unpacked xs
+unpacked (unclear l ∷ xs) = unclear l ∷ unpacked xs
 unpacked (other l ∷ xs) = other l ∷ unpacked xs
 
 -- No lines from which a server knows the same are fewer, packed values apart.

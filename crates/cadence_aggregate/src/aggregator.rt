@@ -1,23 +1,26 @@
 //! Adds up what lines say, and sends it at each flush.
-ghost use Rattle.std.specs.Prelude.{◌≡◌, ◌+◌, ◌++◌, [], OnOk, OnErr, IfOk};
-ghost use Rattle.cadence_aggregate.specs.Aggregate.{CanHold, HasDistinct, held};
+ghost use Rattle.std.specs.NonZero.{non_zero_usize_get};
+ghost use Rattle.std.specs.Prelude.{◌≡◌, ◌+◌, ◌++◌, [], OnOk, OnErr, IfOk, length};
+ghost use Rattle.cadence_aggregate.specs.Aggregate.{CanHold, HasDistinct, HasRoomForEach, held, held_after, held_first};
 ghost use Rattle.cadence_aggregate.specs.Fewest.{AreFewest};
+ghost use Rattle.cadence_aggregate.specs.Held.{none_due};
 ghost use Rattle.cadence_aggregate.specs.Lines.{samples_of};
 ghost use Rattle.cadence_aggregate.specs.Refusals.{after_reply};
 ghost use Rattle.cadence_aggregate.specs.Server.{IsSummary};
 ghost use Rattle.cadence_aggregate.specs.Within.{StayWithin, if_ok};
 
-use crate::levels::{flush_levels, pass_level, set_level};
+use crate::due::Due;
+use crate::levels::{send_after, send_due_levels, set_level};
 use crate::line::Line;
-use crate::members::{add_member, flush_members};
+use crate::members::{add_member, send_due_members};
 use crate::sink::{Fault, LineSink};
-use crate::sums::{add_amount, flush_sums};
-use crate::timings::{add_timing, flush_timings};
+use crate::sums::{add_amount, send_due_sums};
+use crate::timings::{add_timing, send_due_timings};
 use lru::LruCache;
 use std::alloc::{AllocError, Global};
 use std::num::NonZeroUsize;
 
-/// Holds for each context what lines said of it since the last flush.
+/// Holds for each context what lines said of it since it was last sent.
 #[derive(Drop)]
 pub struct Aggregator {
     alloc: Global,
@@ -26,6 +29,7 @@ pub struct Aggregator {
     members: LruCache<String, ()>,
     timings: LruCache<String, String>,
     most_bytes: usize,
+    due: Due,
 }
 
 impl Aggregator {
@@ -38,6 +42,7 @@ impl Aggregator {
     ) -> Result<Aggregator, AllocError>
         ensures none { IfOk result (λ a. held a ≡ []) }
         ensures limit { IfOk result (λ a. a.most_bytes ≡ most_bytes) }
+        ensures caps { IfOk result (HasRoomForEach (non_zero_usize_get most)) }
     {
         Ok(Aggregator {
             alloc,
@@ -46,11 +51,12 @@ impl Aggregator {
             members: LruCache::sparse(alloc, most)?,
             timings: LruCache::sparse(alloc, most)?,
             most_bytes,
+            due: Due::none(),
         })
     }
 
     /// Adds what a line says. A line that can't be added is sent at once, and so are the values of gauges before a
-    /// value of a gauge that isn't plain. Nothing else is sent, unless the kind has no room for one more context, a sum
+    /// value of a gauge that isn't plain, and before a line that may set a gauge. Nothing else is sent, unless the kind has no room for one more context, a sum
     /// would overflow or the values would pass the length of a line: then one line is.
     ///
     /// # Errors
@@ -90,12 +96,12 @@ impl Aggregator {
                     self.most_bytes,
                 )
             }
-            Line::Other(text) => sink.send(Line::Other(text)),
+            Line::Unclear(_) | Line::Other(_) => self.pass(sink, line),
         }
     }
 
-    /// Hands a line on at once, although it may be one that can be added. A line of a gauge comes after the values of
-    /// gauges that are held.
+    /// Hands a line on at once, although it may be one that can be added. A line that sets a gauge, or may set one, comes
+    /// after the values of gauges that are held.
     ///
     /// # Errors
     /// The error of the sink, if it did not take a line. Then this line is not added, and what was held is sent or
@@ -115,14 +121,67 @@ impl Aggregator {
     {
         match line {
             Line::Amount(context, by) => sink.send(Line::Amount(context, by)),
-            Line::Level(context, value) => pass_level(&mut self.levels, sink, context, value),
+            Line::Level(context, value) => {
+                send_after(&mut self.levels, sink, Line::Level(context, value))
+            }
             Line::Member(context) => sink.send(Line::Member(context)),
             Line::Timing(context, values) => sink.send(Line::Timing(context, values)),
+            Line::Unclear(text) => send_after(&mut self.levels, sink, Line::Unclear(text)),
             Line::Other(other) => sink.send(Line::Other(other)),
         }
     }
 
-    /// Sends one line for each context, and forgets it.
+    // States that in each table the contexts differ. Returns how many contexts of each kind are held.
+    fn lengths(&self) -> Due
+        ensures sums { result.sums ≡ length self.now.sums.entries }
+        ensures levels { result.levels ≡ length self.now.levels.entries }
+        ensures members { result.members ≡ length self.now.members.entries }
+        ensures timings { result.timings ≡ length self.now.timings.entries }
+        ensures distinct { HasDistinct self.now }
+    {
+        Due {
+            sums: self.sums.len(),
+            levels: self.levels.len(),
+            members: self.members.len(),
+            timings: self.timings.len(),
+        }
+    }
+
+    /// Returns how many contexts are held.
+    pub fn count_held(&self) -> u128
+        ensures { result ≡ length (held self.now) }
+    {
+        let all = self.lengths();
+        all.sums as u128 + all.levels as u128 + all.members as u128 + all.timings as u128
+    }
+
+    // Makes all contexts due.
+    fn make_all_due(&mut self)
+        requires { self.old.due ≡ none_due }
+        ensures first { held_first self.new ≡ held_after self.old }
+        ensures after { held_after self.new ≡ [] }
+        ensures limit { self.new.most_bytes ≡ self.old.most_bytes }
+    {
+        self.due = self.lengths();
+    }
+
+    // Sends the contexts that are due, and forgets them.
+    fn send_due<S: LineSink>(&mut self, sink: &mut S) -> Result<(), Fault>
+        ensures same { S.sent sink.new ++ held_first self.new
+            ≡ S.sent sink.old ++ held_first self.old }
+        ensures rest { held_after self.new ≡ held_after self.old }
+        ensures ok { OnOk result (self.new.due ≡ none_due) }
+        ensures refused { S.refusals sink.new ≡ after_reply (S.refusals sink.old) result }
+        ensures leads { S.leads sink.old sink.new }
+        ensures limit { self.new.most_bytes ≡ self.old.most_bytes }
+    {
+        send_due_sums(&mut self.sums, &mut self.due.sums, sink)?;
+        send_due_levels(&mut self.levels, &mut self.due.levels, sink)?;
+        send_due_members(&mut self.members, &mut self.due.members, sink)?;
+        send_due_timings(&mut self.timings, &mut self.due.timings, sink)
+    }
+
+    /// Sends one line for each context, and forgets it. The contexts that the last flush left come before all others.
     ///
     /// # Errors
     /// The error of the sink, if it did not take a line. The flush ends there, and what was not sent is still held.
@@ -135,9 +194,9 @@ impl Aggregator {
         ensures leads { S.leads sink.old sink.new }
         ensures limit { self.new.most_bytes ≡ self.old.most_bytes }
     {
-        flush_sums(&mut self.sums, sink)?;
-        flush_levels(&mut self.levels, sink)?;
-        flush_members(&mut self.members, sink)?;
-        flush_timings(&mut self.timings, sink)
+        self.lengths();
+        self.send_due(sink)?;
+        self.make_all_due();
+        self.send_due(sink)
     }
 }

@@ -1,7 +1,8 @@
 //! The last levels of gauges.
-ghost use Rattle.std.specs.Prelude.{◌≡◌, ◌++◌, ◌∷◌, ◌+◌, ◌-◌, [], true, OnOk, OnErr, length, take};
+ghost use Rattle.std.specs.Prelude.{◌≡◌, ◌++◌, ◌∷◌, ◌+◌, ◌-◌, [], true, OnOk, OnErr, drop, length, take};
 ghost use Rattle.lru.specs.LruCache.{lru_cache};
 ghost use Rattle.cadence_aggregate.specs.Held.{held_levels};
+ghost use Rattle.cadence_aggregate.specs.Lines.{samples_of};
 ghost use Rattle.cadence_aggregate.specs.Quiet.{AreDistinct, HasRoomForContext};
 ghost use Rattle.cadence_aggregate.specs.Refusals.{after_reply};
 ghost use Rattle.cadence_aggregate.specs.Server.{IsSummary, is_plain, level};
@@ -22,6 +23,11 @@ fn send_oldest<S: LineSink>(
     ensures ok { OnOk result (levels.new ≡
         lru_cache (take (length levels.old.entries - 1) levels.old.entries) levels.old.cap) }
     ensures err { OnErr result (levels.new ≡ levels.old) }
+    ensures first { OnOk result (S.sent sink.new
+        ≡ S.sent sink.old ++ take 1 (held_levels levels.old.entries)) }
+    ensures left { OnOk result (held_levels levels.new.entries
+        ≡ drop 1 (held_levels levels.old.entries)) }
+    ensures kept { OnErr result (S.sent sink.new ≡ S.sent sink.old) }
     ensures refused { S.refusals sink.new ≡ after_reply (S.refusals sink.old) result }
     ensures leads { S.leads sink.old sink.new }
     ensures within { (most : _) →
@@ -49,6 +55,28 @@ pub(crate) fn flush_levels<S: LineSink>(
 {
     for _ in 0..levels.len() {
         send_oldest(levels, sink)?;
+    }
+    Ok(())
+}
+
+// Sends the values that are due, the oldest first, and forgets them. If the sink refuses one, that one and the later ones
+// stay, and are still due.
+pub(crate) fn send_due_levels<S: LineSink>(
+    levels: &mut LruCache<String, String>,
+    due: &mut usize,
+    sink: &mut S,
+) -> Result<(), Fault>
+    ensures same { S.sent sink.new ++ take due.new (held_levels levels.new.entries)
+        ≡ S.sent sink.old ++ take due.old (held_levels levels.old.entries) }
+    ensures rest { drop due.new (held_levels levels.new.entries)
+        ≡ drop due.old (held_levels levels.old.entries) }
+    ensures ok { OnOk result (due.new ≡ 0) }
+    ensures refused { S.refusals sink.new ≡ after_reply (S.refusals sink.old) result }
+    ensures leads { S.leads sink.old sink.new }
+{
+    for _ in 0..*due {
+        send_oldest(levels, sink)?;
+        *due -= 1;
     }
     Ok(())
 }
@@ -97,26 +125,25 @@ fn hold_level<S: LineSink>(
     Ok(())
 }
 
-// Sends the values that are held, and then this one.
-pub(crate) fn pass_level<S: LineSink>(
+// Sends the values that are held, and then this line.
+pub(crate) fn send_after<S: LineSink>(
     levels: &mut LruCache<String, String>,
     sink: &mut S,
-    context: &str,
-    value: &str,
+    line: Line<'_>,
 ) -> Result<(), Fault>
     ensures ok { OnOk result (IsSummary
-        ((S.sent sink.old ++ held_levels levels.old.entries) ++ level context.now value.now ∷ [])
+        ((S.sent sink.old ++ held_levels levels.old.entries) ++ samples_of line.entry)
         (S.sent sink.new ++ held_levels levels.new.entries)) }
     ensures err { OnErr result (IsSummary
         (S.sent sink.old ++ held_levels levels.old.entries)
         (S.sent sink.new ++ held_levels levels.new.entries)) }
     ensures refused { S.refusals sink.new ≡ after_reply (S.refusals sink.old) result }
     ensures leads { S.leads sink.old sink.new }
-    ensures within { (most : _) →
+    ensures within { (most : _) → AreWithin most (samples_of line.entry) →
         AreWithin most (S.sent sink.old) → AreWithin most (S.sent sink.new) }
 {
     flush_levels(levels, sink)?;
-    sink.send(Line::Level(context, value))
+    sink.send(line)
 }
 
 // Sets a gauge. If the value isn't plain, the values that are held are sent, and then this one.
@@ -143,5 +170,5 @@ pub(crate) fn set_level<S: LineSink>(
     if begins_with_digit(value) {
         return hold_level(alloc, levels, sink, context, value);
     }
-    pass_level(levels, sink, context, value)
+    send_after(levels, sink, Line::Level(context, value))
 }

@@ -10,11 +10,13 @@
 //! - `levels`: the last values of gauges.
 //! - `members`: the members of sets.
 //! - `timings`: the values of timers, histograms and distributions.
+//! - `due`: how many contexts are to be sent before all others.
 //! - `aggregator`: all of them.
 //! - `runs`: a run of lines and flushes.
 #![tactic(auto)]
 
 mod aggregator;
+mod due;
 mod levels;
 mod line;
 mod members;
@@ -24,6 +26,7 @@ mod sums;
 mod timings;
 
 pub use aggregator::Aggregator;
+pub use due::Due;
 pub use line::Line;
 pub use runs::{Outcome, Step, run};
 pub use sink::{Fault, LineSink};

@@ -12,6 +12,8 @@ pub enum Line<'a> {
     Member(&'a str),
     /// The timer, the histogram or the distribution of this context has these values, with a colon between each two.
     Timing(&'a str, &'a str),
-    /// This is any other line. It can't be added to another one.
+    /// This line may set a gauge, though nothing says which one, or to what. It can't be added to another one.
+    Unclear(&'a str),
+    /// This is any other line. It can't be added to another one, and sets no gauge.
     Other(&'a str),
 }

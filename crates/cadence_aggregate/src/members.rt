@@ -1,8 +1,8 @@
 //! The members of sets.
-ghost use Rattle.std.specs.Prelude.{◌≡◌, ◌++◌, ◌∷◌, ◌+◌, ◌-◌, [], OnOk, OnErr, length, take};
+ghost use Rattle.std.specs.Prelude.{◌≡◌, ◌++◌, ◌∷◌, ◌+◌, ◌-◌, [], OnOk, OnErr, drop, length, take};
 ghost use Rattle.lru.specs.LruCache.{lru_cache};
 ghost use Rattle.cadence_aggregate.specs.Held.{held_members};
-ghost use Rattle.cadence_aggregate.specs.Quiet.{AreDistinct, HasRoomForContext};
+ghost use Rattle.cadence_aggregate.specs.Quiet.{HasRoomForContext};
 ghost use Rattle.cadence_aggregate.specs.Refusals.{after_reply};
 ghost use Rattle.cadence_aggregate.specs.Server.{IsSummary, member};
 ghost use Rattle.cadence_aggregate.specs.Within.{AreWithin};
@@ -19,6 +19,11 @@ fn send_oldest<S: LineSink>(members: &mut LruCache<String, ()>, sink: &mut S) ->
     ensures ok { OnOk result (members.new ≡
         lru_cache (take (length members.old.entries - 1) members.old.entries) members.old.cap) }
     ensures err { OnErr result (members.new ≡ members.old) }
+    ensures first { OnOk result (S.sent sink.new
+        ≡ S.sent sink.old ++ take 1 (held_members members.old.entries)) }
+    ensures left { OnOk result (held_members members.new.entries
+        ≡ drop 1 (held_members members.old.entries)) }
+    ensures kept { OnErr result (S.sent sink.new ≡ S.sent sink.old) }
     ensures refused { S.refusals sink.new ≡ after_reply (S.refusals sink.old) result }
     ensures leads { S.leads sink.old sink.new }
     ensures within { (most : _) →
@@ -32,20 +37,24 @@ fn send_oldest<S: LineSink>(members: &mut LruCache<String, ()>, sink: &mut S) ->
     Ok(())
 }
 
-// Sends the members, the oldest first, and forgets them. If the sink refuses one, that one and the later ones stay.
-pub(crate) fn flush_members<S: LineSink>(
+// Sends the members that are due, the oldest first, and forgets them. If the sink refuses one, that one and the later ones
+// stay, and are still due.
+pub(crate) fn send_due_members<S: LineSink>(
     members: &mut LruCache<String, ()>,
+    due: &mut usize,
     sink: &mut S,
 ) -> Result<(), Fault>
-    ensures same { S.sent sink.new ++ held_members members.new.entries
-        ≡ S.sent sink.old ++ held_members members.old.entries }
-    ensures ok { OnOk result (members.new.entries ≡ []) }
-    ensures distinct { AreDistinct members.old.entries }
+    ensures same { S.sent sink.new ++ take due.new (held_members members.new.entries)
+        ≡ S.sent sink.old ++ take due.old (held_members members.old.entries) }
+    ensures rest { drop due.new (held_members members.new.entries)
+        ≡ drop due.old (held_members members.old.entries) }
+    ensures ok { OnOk result (due.new ≡ 0) }
     ensures refused { S.refusals sink.new ≡ after_reply (S.refusals sink.old) result }
     ensures leads { S.leads sink.old sink.new }
 {
-    for _ in 0..members.len() {
+    for _ in 0..*due {
         send_oldest(members, sink)?;
+        *due -= 1;
     }
     Ok(())
 }

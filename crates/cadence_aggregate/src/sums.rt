@@ -1,8 +1,8 @@
 //! The sums of counters.
-ghost use Rattle.std.specs.Prelude.{◌≡◌, ◌++◌, ◌∷◌, ◌+◌, ◌-◌, [], OnOk, OnErr, length, take};
+ghost use Rattle.std.specs.Prelude.{◌≡◌, ◌++◌, ◌∷◌, ◌+◌, ◌-◌, [], OnOk, OnErr, drop, length, take};
 ghost use Rattle.lru.specs.LruCache.{lru_cache};
 ghost use Rattle.cadence_aggregate.specs.Held.{held_sums};
-ghost use Rattle.cadence_aggregate.specs.Quiet.{AreDistinct, HasRoomForContext, CanRaise, is_context};
+ghost use Rattle.cadence_aggregate.specs.Quiet.{HasRoomForContext, CanRaise, is_context};
 ghost use Rattle.std.specs.Map.{lookup};
 ghost use Rattle.cadence_aggregate.specs.Refusals.{after_reply};
 ghost use Rattle.cadence_aggregate.specs.Server.{IsSummary, amount};
@@ -13,13 +13,18 @@ use crate::sink::{Fault, LineSink};
 use lru::LruCache;
 use std::alloc::Global;
 
-// Sends the sum whose last call is the least recent, and forgets it. If the sink refuses it, it stays.
+// Sends the sum whose first call is the least recent, and forgets it. If the sink refuses it, it stays.
 fn send_oldest<S: LineSink>(sums: &mut LruCache<String, i64>, sink: &mut S) -> Result<(), Fault>
     ensures same { S.sent sink.new ++ held_sums sums.new.entries
         ≡ S.sent sink.old ++ held_sums sums.old.entries }
     ensures ok { OnOk result (sums.new ≡
         lru_cache (take (length sums.old.entries - 1) sums.old.entries) sums.old.cap) }
     ensures err { OnErr result (sums.new ≡ sums.old) }
+    ensures first { OnOk result (S.sent sink.new
+        ≡ S.sent sink.old ++ take 1 (held_sums sums.old.entries)) }
+    ensures left { OnOk result (held_sums sums.new.entries
+        ≡ drop 1 (held_sums sums.old.entries)) }
+    ensures kept { OnErr result (S.sent sink.new ≡ S.sent sink.old) }
     ensures refused { S.refusals sink.new ≡ after_reply (S.refusals sink.old) result }
     ensures leads { S.leads sink.old sink.new }
     ensures within { (most : _) →
@@ -33,20 +38,24 @@ fn send_oldest<S: LineSink>(sums: &mut LruCache<String, i64>, sink: &mut S) -> R
     Ok(())
 }
 
-// Sends the sums, the oldest first, and forgets them. If the sink refuses one, that one and the later ones stay.
-pub(crate) fn flush_sums<S: LineSink>(
+// Sends the sums that are due, the oldest first, and forgets them. If the sink refuses one, that one and the later ones
+// stay, and are still due.
+pub(crate) fn send_due_sums<S: LineSink>(
     sums: &mut LruCache<String, i64>,
+    due: &mut usize,
     sink: &mut S,
 ) -> Result<(), Fault>
-    ensures same { S.sent sink.new ++ held_sums sums.new.entries
-        ≡ S.sent sink.old ++ held_sums sums.old.entries }
-    ensures ok { OnOk result (sums.new.entries ≡ []) }
-    ensures distinct { AreDistinct sums.old.entries }
+    ensures same { S.sent sink.new ++ take due.new (held_sums sums.new.entries)
+        ≡ S.sent sink.old ++ take due.old (held_sums sums.old.entries) }
+    ensures rest { drop due.new (held_sums sums.new.entries)
+        ≡ drop due.old (held_sums sums.old.entries) }
+    ensures ok { OnOk result (due.new ≡ 0) }
     ensures refused { S.refusals sink.new ≡ after_reply (S.refusals sink.old) result }
     ensures leads { S.leads sink.old sink.new }
 {
-    for _ in 0..sums.len() {
+    for _ in 0..*due {
         send_oldest(sums, sink)?;
+        *due -= 1;
     }
     Ok(())
 }
@@ -73,7 +82,7 @@ pub(crate) fn add_amount<S: LineSink>(
         CanRaise (lookup (is_context context.now) sums.old.entries) by →
         S.sent sink.new ≡ S.sent sink.old }
 {
-    if let Some(sum) = sums.get_mut(context) {
+    if let Some(sum) = sums.peek_mut(context) {
         match sum.checked_add(by) {
             Some(more) => *sum = more,
             None => {

@@ -1,8 +1,8 @@
 //! The values of timers, histograms and distributions.
-ghost use Rattle.std.specs.Prelude.{◌≡◌, ◌++◌, ◌∷◌, ◌+◌, ◌-◌, ◌<◌, ◌≤◌, [], OnOk, OnErr, false, length, string_bytes, take, true};
+ghost use Rattle.std.specs.Prelude.{◌≡◌, ◌++◌, ◌∷◌, ◌+◌, ◌-◌, ◌<◌, ◌≤◌, [], OnOk, OnErr, drop, false, length, string_bytes, take, true};
 ghost use Rattle.lru.specs.LruCache.{lru_cache};
 ghost use Rattle.cadence_aggregate.specs.Held.{held_timings};
-ghost use Rattle.cadence_aggregate.specs.Quiet.{AreDistinct, HasRoomForContext, CanAppend, is_context};
+ghost use Rattle.cadence_aggregate.specs.Quiet.{HasRoomForContext, CanAppend, is_context};
 ghost use Rattle.std.specs.Map.{lookup};
 ghost use Rattle.cadence_aggregate.specs.Refusals.{after_reply};
 ghost use Rattle.cadence_aggregate.specs.Server.{IsSummary, timing};
@@ -13,7 +13,7 @@ use crate::sink::{Fault, LineSink};
 use lru::LruCache;
 use std::alloc::{AllocError, Global};
 
-// Sends the values whose last call is the least recent, and forgets it. If the sink refuses it, it stays.
+// Sends the values whose first call is the least recent, and forgets it. If the sink refuses it, it stays.
 fn send_oldest<S: LineSink>(
     timings: &mut LruCache<String, String>,
     sink: &mut S,
@@ -23,6 +23,11 @@ fn send_oldest<S: LineSink>(
     ensures ok { OnOk result (timings.new ≡
         lru_cache (take (length timings.old.entries - 1) timings.old.entries) timings.old.cap) }
     ensures err { OnErr result (timings.new ≡ timings.old) }
+    ensures first { OnOk result (S.sent sink.new
+        ≡ S.sent sink.old ++ take 1 (held_timings timings.old.entries)) }
+    ensures left { OnOk result (held_timings timings.new.entries
+        ≡ drop 1 (held_timings timings.old.entries)) }
+    ensures kept { OnErr result (S.sent sink.new ≡ S.sent sink.old) }
     ensures refused { S.refusals sink.new ≡ after_reply (S.refusals sink.old) result }
     ensures leads { S.leads sink.old sink.new }
 {
@@ -34,20 +39,24 @@ fn send_oldest<S: LineSink>(
     Ok(())
 }
 
-// Sends the timings, the oldest first, and forgets them. If the sink refuses one, that one and the later ones stay.
-pub(crate) fn flush_timings<S: LineSink>(
+// Sends the values that are due, the oldest first, and forgets them. If the sink refuses one, that one and the later ones
+// stay, and are still due.
+pub(crate) fn send_due_timings<S: LineSink>(
     timings: &mut LruCache<String, String>,
+    due: &mut usize,
     sink: &mut S,
 ) -> Result<(), Fault>
-    ensures same { S.sent sink.new ++ held_timings timings.new.entries
-        ≡ S.sent sink.old ++ held_timings timings.old.entries }
-    ensures ok { OnOk result (timings.new.entries ≡ []) }
-    ensures distinct { AreDistinct timings.old.entries }
+    ensures same { S.sent sink.new ++ take due.new (held_timings timings.new.entries)
+        ≡ S.sent sink.old ++ take due.old (held_timings timings.old.entries) }
+    ensures rest { drop due.new (held_timings timings.new.entries)
+        ≡ drop due.old (held_timings timings.old.entries) }
+    ensures ok { OnOk result (due.new ≡ 0) }
     ensures refused { S.refusals sink.new ≡ after_reply (S.refusals sink.old) result }
     ensures leads { S.leads sink.old sink.new }
 {
-    for _ in 0..timings.len() {
+    for _ in 0..*due {
         send_oldest(timings, sink)?;
+        *due -= 1;
     }
     Ok(())
 }
@@ -108,7 +117,7 @@ pub(crate) fn add_timing<S: LineSink>(
         (length context.now + length values.now) most →
         S.sent sink.new ≡ S.sent sink.old }
 {
-    if let Some(text) = timings.get_mut(context) {
+    if let Some(text) = timings.peek_mut(context) {
         if fits(context, text.as_str(), values, most) {
             append_values(text, values)?;
         } else {

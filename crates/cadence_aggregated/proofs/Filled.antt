@@ -1,11 +1,12 @@
 -- No line that was handed on is empty, and they are no more than the accepted lines.
-use Rattle.std.proofs.Common.{◌≡◌, ◌≢◌, ℕ, ◌<◌, ◌≤◌, List, [], ◌∷◌, ◌++◌, length, sym, ap, ◌∙◌, subst, arith}
+use Rattle.std.proofs.Common.{◌≡◌, ◌≢◌, ℕ, ◌<◌, ◌≤◌, List, [], ◌∷◌, ◌++◌, length, map, sym, ap, ◌∙◌, subst, arith}
 use Rattle.std.specs.List.{AllByRecursion, AllZip}
-use Rattle.std.proofs.lemmas.List.{length-append, length-map}
+use Rattle.std.proofs.lemmas.List.{length-append, length-map, map-append}
 use Rattle.cadence_aggregated.specs.Sendings.{texts_in}
-use Rattle.cadence_aggregate.specs.Server.{Sample, amount, level, member, timing, other, others}
+use Rattle.cadence_aggregate.specs.Server.{Sample, amount, level, member, timing, unclear, other, others}
 use Rattle.cadence_aggregate.proofs.Observed.{others-append}
 use Rattle.cadence_aggregating.specs.Past.{Summarizes}
+use Rattle.cadence_aggregating.specs.Printed.{line_saying}
 use Rattle.cadence_aggregating.specs.Says.{LineSays, MetricSays}
 use Rattle.cadence_text.specs.Line.{line_of}
 use Rattle.cadence_text.specs.Metric.{Metric}
@@ -18,7 +19,7 @@ front_filled : (xs ys : List (List ℕ)) → AllFilled (xs ++ ys) → AllFilled 
 front_filled [] ys h = tt
 front_filled (x ∷ xs) ys (h, hs) = (h, front_filled xs ys hs)
 
-others_filled : (lines : List (List ℕ)) (said : List Sample) → AllZip LineSays lines said → AllFilled lines → AllFilled (others said)
+others_filled : (lines : List (List ℕ)) (said : List Sample) → AllZip LineSays lines said → AllFilled lines → AllFilled (map line_saying (others said))
 others_filled [] [] zip filled = tt
 others_filled [] (s ∷ said) zip filled = absurd zip
 others_filled (line ∷ lines) [] zip filled = absurd zip
@@ -26,6 +27,8 @@ others_filled (line ∷ lines) (amount c n ∷ said) (says, zip) (some, filled) 
 others_filled (line ∷ lines) (level c v ∷ said) (says, zip) (some, filled) = others_filled lines said zip filled
 others_filled (line ∷ lines) (member l ∷ said) (says, zip) (some, filled) = others_filled lines said zip filled
 others_filled (line ∷ lines) (timing c t ∷ said) (says, zip) (some, filled) = others_filled lines said zip filled
+others_filled (line ∷ lines) (unclear l ∷ said) (says, zip) (some, filled) =
+    ((λ none. some (sym says.0 ∙ none)), others_filled lines said zip filled)
 others_filled (line ∷ lines) (other l ∷ said) (says, zip) (some, filled) =
     ((λ none. some (sym says.0 ∙ none)), others_filled lines said zip filled)
 
@@ -33,7 +36,7 @@ module _ (law : (metric : Metric) → 0 < length (line_of metric)) where
   metric_filled : (line : List ℕ) (said : Sample) → MetricSays line said → line ≢ []
   metric_filled line said (m, listed, is, says) none = absurd (omega (arith, law m, ap (λ l. length l) is, ap (λ l. length l) none))
 
-  sent_filled : (lines : List (List ℕ)) (said : List Sample) → AllZip LineSays lines said → AllFilled (others said) → AllFilled lines
+  sent_filled : (lines : List (List ℕ)) (said : List Sample) → AllZip LineSays lines said → AllFilled (map line_saying (others said)) → AllFilled lines
   sent_filled [] [] zip filled = tt
   sent_filled [] (s ∷ said) zip filled = absurd zip
   sent_filled (line ∷ lines) [] zip filled = absurd zip
@@ -41,6 +44,8 @@ module _ (law : (metric : Metric) → 0 < length (line_of metric)) where
   sent_filled (line ∷ lines) (level c v ∷ said) (says, zip) filled = (metric_filled line (level c v) says, sent_filled lines said zip filled)
   sent_filled (line ∷ lines) (member l ∷ said) (says, zip) filled = (metric_filled line (member l) says, sent_filled lines said zip filled)
   sent_filled (line ∷ lines) (timing c t ∷ said) (says, zip) filled = (metric_filled line (timing c t) says, sent_filled lines said zip filled)
+  sent_filled (line ∷ lines) (unclear l ∷ said) (says, zip) (some, filled) =
+      ((λ none. some (says.0 ∙ none)), sent_filled lines said zip filled)
   sent_filled (line ∷ lines) (other l ∷ said) (says, zip) (some, filled) =
       ((λ none. some (says.0 ∙ none)), sent_filled lines said zip filled)
 
@@ -52,7 +57,10 @@ module _ (law : (metric : Metric) → 0 < length (line_of metric)) where
       → AreFilled kept
   kept_filled accepted kept held filled (sent, says, (said, zip, sum)) =
       let rest : others said ≡ others sent ++ others held = sum.rest ∙ others-append sent held in
-      let all : AllFilled (others sent) = front_filled (others sent) (others held) (subst AllFilled rest (others_filled accepted said zip filled)) in
+      let both : map line_saying (others said) ≡ map line_saying (others sent) ++ map line_saying (others held) =
+      ap (map line_saying) rest ∙ map-append line_saying (others sent) (others held) in
+      let all : AllFilled (map line_saying (others sent)) =
+      front_filled (map line_saying (others sent)) (map line_saying (others held)) (subst AllFilled both (others_filled accepted said zip filled)) in
       texts_filled kept (sent_filled (texts_in kept) sent says all)
 
 zip_length : (lines : List (List ℕ)) (said : List Sample) → AllZip LineSays lines said → length lines ≡ length said

@@ -1,6 +1,7 @@
 pub mod Aggregated
 pub mod Asked
 pub mod Causes
+pub mod InTurn
 pub mod Leads
 pub mod Led
 pub mod PackedRuns

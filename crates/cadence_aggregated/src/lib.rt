@@ -7,8 +7,10 @@
 //! - `packer_sink`: the packer as a sink of what lines say.
 //! - `packing`: the packer, with the numbers of lines in its packets.
 //! - `listed`: a list of lines as a sink of what lines say.
+//! - `laws`: that flushes which each send a line send all that is held.
 #![tactic(auto)]
 
+pub mod laws;
 mod listed;
 mod packer_sink;
 mod packing;

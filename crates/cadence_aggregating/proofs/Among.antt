@@ -4,7 +4,7 @@ use Rattle.std.specs.Prelude.{◌||◌, ◌&&◌, count_by, nat_eq}
 use Rattle.std.specs.Cmp.Lexicographic.{pointwise, bytes_decides}
 use Rattle.std.proofs.lemmas.Bool.{cases_lt}
 use Rattle.std.proofs.lemmas.List.Sums.{sum_by-cons}
-use Rattle.cadence_aggregate.specs.Server.{Sample, amount, level, member, timing, other, has_amount, has_level, has_member, others, times, times_in, values_in}
+use Rattle.cadence_aggregate.specs.Server.{Sample, amount, level, member, timing, unclear, other, has_amount, has_level, has_member, others, times, times_in, values_in}
 use Rattle.cadence_aggregate.proofs.Observed.{amount-append, level-append, member-append, others-append, times-append}
 
 -- The element is in the list.
@@ -48,6 +48,7 @@ amount_found c (amount d n ∷ xs) h = (elim (is c d) as (λ b. is c d ≡ b →
 amount_found c (level d v ∷ xs) h = let r = amount_found c xs h in (r.0, inr r.1)
 amount_found c (member d ∷ xs) h = let r = amount_found c xs h in (r.0, inr r.1)
 amount_found c (timing d t ∷ xs) h = let r = amount_found c xs h in (r.0, inr r.1)
+amount_found c (unclear l ∷ xs) h = let r = amount_found c xs h in (r.0, inr r.1)
 amount_found c (other l ∷ xs) h = let r = amount_found c xs h in (r.0, inr r.1)
 
 -- gauges
@@ -75,6 +76,7 @@ level_found c v (level d w ∷ xs) h = (elim (is_level c v d w) as (λ b. is_lev
 ]) refl h
 level_found c v (member d ∷ xs) h = inr (level_found c v xs h)
 level_found c v (timing d t ∷ xs) h = inr (level_found c v xs h)
+level_found c v (unclear l ∷ xs) h = inr (level_found c v xs h)
 level_found c v (other l ∷ xs) h = inr (level_found c v xs h)
 
 -- sets
@@ -93,23 +95,32 @@ member_found c (member d ∷ xs) h = (elim (is c d) as (λ b. is c d ≡ b → (
   | false ↦ λ e t. inr (member_found c xs t)
 ]) refl h
 member_found c (timing d t ∷ xs) h = inr (member_found c xs h)
+member_found c (unclear l ∷ xs) h = inr (member_found c xs h)
 member_found c (other l ∷ xs) h = inr (member_found c xs h)
 
 -- other lines
-pub other_shown : (l : List ℕ) (xs : List Sample) → Among (other l) xs → Among l (others xs)
-other_shown l [] h = absurd h
-other_shown l (x ∷ xs) (inl same) = subst (λ t. Among l (others (t ∷ xs))) (sym same) (inl refl)
-other_shown l (x ∷ xs) (inr later) =
-    subst (Among l) (sym (others-append (x ∷ []) xs)) (among_right l (others (x ∷ [])) (others xs) (other_shown l xs later))
+pub unclear_shown : (l : List ℕ) (xs : List Sample) → Among (unclear l) xs → Among (unclear l) (others xs)
+unclear_shown l [] h = absurd h
+unclear_shown l (x ∷ xs) (inl same) = subst (λ t. Among (unclear l) (others (t ∷ xs))) (sym same) (inl refl)
+unclear_shown l (x ∷ xs) (inr later) =
+    subst (Among (unclear l)) (sym (others-append (x ∷ []) xs)) (among_right (unclear l) (others (x ∷ [])) (others xs) (unclear_shown l xs later))
 
-pub other_found : (l : List ℕ) (xs : List Sample) → Among l (others xs) → Among (other l) xs
-other_found l [] h = absurd h
-other_found l (amount d n ∷ xs) h = inr (other_found l xs h)
-other_found l (level d v ∷ xs) h = inr (other_found l xs h)
-other_found l (member d ∷ xs) h = inr (other_found l xs h)
-other_found l (timing d t ∷ xs) h = inr (other_found l xs h)
-other_found l (other m ∷ xs) (inl same) = inl (ap other same)
-other_found l (other m ∷ xs) (inr later) = inr (other_found l xs later)
+pub other_shown : (l : List ℕ) (xs : List Sample) → Among (other l) xs → Among (other l) (others xs)
+other_shown l [] h = absurd h
+other_shown l (x ∷ xs) (inl same) = subst (λ t. Among (other l) (others (t ∷ xs))) (sym same) (inl refl)
+other_shown l (x ∷ xs) (inr later) =
+    subst (Among (other l)) (sym (others-append (x ∷ []) xs)) (among_right (other l) (others (x ∷ [])) (others xs) (other_shown l xs later))
+
+pub rest_found : (s : Sample) (xs : List Sample) → Among s (others xs) → Among s xs
+rest_found s [] h = absurd h
+rest_found s (amount d n ∷ xs) h = inr (rest_found s xs h)
+rest_found s (level d v ∷ xs) h = inr (rest_found s xs h)
+rest_found s (member d ∷ xs) h = inr (rest_found s xs h)
+rest_found s (timing d t ∷ xs) h = inr (rest_found s xs h)
+rest_found s (unclear m ∷ xs) (inl same) = inl same
+rest_found s (unclear m ∷ xs) (inr later) = inr (rest_found s xs later)
+rest_found s (other m ∷ xs) (inl same) = inl same
+rest_found s (other m ∷ xs) (inr later) = inr (rest_found s xs later)
 
 -- values
 count_cons : (x v : List ℕ) (vs : List (List ℕ)) → count_by (is x) (v ∷ vs) ≡ cond {A = ℕ} (is x v) 1 0 + count_by (is x) vs
@@ -161,4 +172,5 @@ timing_found c x (timing d t ∷ xs) h = (elim (is c d) as (λ b. is c d ≡ b �
   ]
   | false ↦ λ e s. more_values c x (timing d t) xs (timing_found c x xs (omega (arith, s)))
 ]) refl h
+timing_found c x (unclear l ∷ xs) h = more_values c x (unclear l) xs (timing_found c x xs h)
 timing_found c x (other l ∷ xs) h = more_values c x (other l) xs (timing_found c x xs h)

@@ -8,7 +8,7 @@ use Rattle.std.proofs.lemmas.List.Elements.{All-from_recursion}
 use mir.Syntax.{w64}
 use Rattle.cadence_aggregate.specs.Server.{amount, level}
 use Rattle.cadence_aggregate.specs.declared.line.Line.{Line}
-use Rattle.cadence_aggregate.specs.declared.line.Line.TheVariants.{Amount, Level, Member, Timing, Other}
+use Rattle.cadence_aggregate.specs.declared.line.Line.TheVariants.{Amount, Level, Member, Timing, Unclear, Other}
 use Rattle.cadence_text.specs.declared.line.MetricType.TheVariants.{Counter, Gauge}
 use Rattle.cadence_text.specs.Line.{line_of}
 use Rattle.cadence_value.specs.Number.{Number, IsDecimal, natural, number_text, whole}
@@ -73,6 +73,7 @@ shorter_held limits (Amount c by) low high less fits = omega (arith, less, fits)
 shorter_held limits (Level c value) low high less fits = omega (arith, less, fits)
 shorter_held limits (Member c) low high less fits = omega (arith, less, fits)
 shorter_held limits (Timing c values) low high less (fits, packs) = (omega (arith, less, fits), packs)
+shorter_held limits (Unclear line) low high less fits = omega (arith, less, fits)
 shorter_held limits (Other line) low high less fits = omega (arith, less, fits)
 
 -- a line is no shorter than its context

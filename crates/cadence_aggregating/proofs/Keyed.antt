@@ -4,7 +4,7 @@ use Rattle.std.specs.Prelude.{ℕ, IfSome, IsTrue, if◌then◌else◌, not, ◌
 use Rattle.std.specs.Int.RustNames.{FitsSigned}
 use Rattle.std.specs.Option.{option_map}
 use mir.Syntax.{w64}
-use Rattle.cadence_aggregate.specs.Server.{Sample, amount, level, member, timing, other}
+use Rattle.cadence_aggregate.specs.Server.{Sample, amount, level, member, timing, unclear, other}
 use Rattle.cadence_errors.specs.declared.MetricError.{MetricError}
 use Rattle.cadence_read.specs.Listed.{IsListed}
 use Rattle.cadence_settings.specs.Call.{Choice, MetricCall, allows_call, chosen_time, is_free_call, last_or, metric_of_call, tagged}
@@ -119,7 +119,8 @@ module _ (s : Settings) (call : MetricCall) (line : List ℕ) (zero : IsLineOfZe
   does_either kinds untimed (member l, (m, listed, its, (k, time, same)), h) = no_member kinds (sym (kind_found m listed its) ∙ k)
   does_either kinds untimed (timing c t, (m, listed, its, (timed, time, context, values, some)), h) =
       no_timing kinds (ap is_timed (sym (kind_found m listed its)) ∙ timed)
-  does_either kinds untimed (other l, (same, nothing), h) = let (said, says) = zero_says kinds untimed in nothing said says
+  does_either kinds untimed (unclear l, (same, nothing, marked), h) = let (said, says) = zero_says kinds untimed in nothing said says
+  does_either kinds untimed (other l, (same, nothing, unmarked), h) = let (said, says) = zero_says kinds untimed in nothing said says
 
 pub counter_key : (line c t : List ℕ) (n : ℤ) → LineSays line (amount c n) → t ≡ c
     → (m : Metric) × IsListed m × (line_of m ≡ line)

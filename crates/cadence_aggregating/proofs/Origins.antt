@@ -7,7 +7,7 @@ use Rattle.std.proofs.lemmas.List.{length-append}
 use Rattle.std.proofs.lemmas.List.Elements.{All-from_recursion, recursion_from_All, Contains-append_left, Contains-append_right, Contains-push}
 use Rattle.std.proofs.Math.Nat.{div-le_self}
 use mir.Syntax.{w64}
-use Rattle.cadence_aggregate.specs.Server.{Sample, amount, level, member, timing, other, IsSummary}
+use Rattle.cadence_aggregate.specs.Server.{Sample, amount, level, member, timing, unclear, other, IsSummary}
 use Rattle.cadence_value.specs.Number.{decimal_text, number_text, numbers_text, whole}
 use Rattle.cadence_value.proofs.digits.Digits.{length-decimal_text-le}
 use Rattle.cadence_value.proofs.digits.NumberText.{sign, sign-pos, unsigned_text}
@@ -19,7 +19,7 @@ use Rattle.cadence_aggregating.specs.Past.{SumsUpWithin}
 use Rattle.cadence_aggregating.specs.Printed.{before_bar, from_bar, spliced, line_saying}
 use Rattle.cadence_aggregating.specs.Says.{LineSays, context_of}
 use Rattle.cadence_aggregating.specs.declared.note.Note.{Note}
-use Rattle.cadence_aggregating.proofs.Among.{Among, amount_found, amount_shown, level_found, level_shown, member_found, member_shown, other_found, other_shown, is, is_level}
+use Rattle.cadence_aggregating.proofs.Among.{Among, amount_found, amount_shown, level_found, level_shown, member_found, member_shown, rest_found, other_shown, unclear_shown, is, is_level}
 use Rattle.cadence_aggregating.proofs.MetricParts.{line_parts}
 use Rattle.cadence_aggregating.proofs.Records.{among_left, among_mapped, sized}
 use Rattle.cadence_aggregating.proofs.Sayable.{IsSized, all_said, first_value, sayable, spliced_context, value_came}
@@ -98,6 +98,7 @@ accepted_within most (line ∷ lines) (level c v ∷ said) (here, rest) (first, 
 accepted_within most (line ∷ lines) (member c ∷ said) (here, rest) (first, later) = accepted_within most lines said rest later
 accepted_within most (line ∷ lines) (timing c t ∷ said) (here, rest) (first, later) =
     (subst (λ n. n ≤ most) (timing_size line c t here) first, accepted_within most lines said rest later)
+accepted_within most (line ∷ lines) (unclear l ∷ said) (here, rest) (first, later) = accepted_within most lines said rest later
 accepted_within most (line ∷ lines) (other l ∷ said) (here, rest) (first, later) = accepted_within most lines said rest later
 
 -- each line of values among others is within what all are within
@@ -156,9 +157,12 @@ module _ (limit : ℕ) (accepted : List (List ℕ)) (came sent : List Sample) (z
       let there = member_found l came (same.members (is l) ∙ member_shown l sent among) in
       unchanged (member l) (said_by_line accepted came zip (member l) there) (λ line (m, listed, its, (kind, time, whole)). whole ∙ its)
   origin (timing c t) among fits = inr (values_made c t among)
+  origin (unclear l) among fits =
+      let there = rest_found (unclear l) came (subst (Among (unclear l)) (sym same.rest) (unclear_shown l sent among)) in
+      unchanged (unclear l) (said_by_line accepted came zip (unclear l) there) (λ line (whole, none, marked). whole)
   origin (other l) among fits =
-      let there = other_found l came (subst (Among l) (sym same.rest) (other_shown l sent among)) in
-      unchanged (other l) (said_by_line accepted came zip (other l) there) (λ line (whole, none). whole)
+      let there = rest_found (other l) came (subst (Among (other l)) (sym same.rest) (other_shown l sent among)) in
+      unchanged (other l) (said_by_line accepted came zip (other l) there) (λ line (whole, none, unmarked). whole)
 
 all_from : (limit : ℕ) (accepted : List (List ℕ)) (notes : List Note) → ((note : Note) → Among note notes → ComesFrom limit accepted (line_of_note note))
     → AllByRecursion (ComesFrom limit accepted) (map line_of_note notes)

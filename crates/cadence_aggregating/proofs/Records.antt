@@ -15,7 +15,7 @@ use Rattle.cadence_aggregating.specs.declared.accepted.Accepted.{Accepted}
 use Rattle.cadence_aggregating.specs.Printed.{line_saying}
 use Rattle.cadence_aggregating.specs.Says.{LineSays}
 use Rattle.cadence_aggregating.specs.declared.note.Note.{Note}
-use Rattle.cadence_aggregating.specs.declared.note.Kind.TheVariants.{Amount, Level, Member, Timing, Other}
+use Rattle.cadence_aggregating.specs.declared.note.Kind.TheVariants.{Amount, Level, Member, Timing, Unclear, Other}
 use Rattle.cadence_aggregating.proofs.Among.{Among}
 use Rattle.cadence_aggregating.proofs.Sayable.{IsSized, all_said, sayable}
 
@@ -72,6 +72,7 @@ sized note = elim note.kind as (λ k. IsSized (noted k note.by note.name note.va
   | Level ↦ tt
   | Member ↦ tt
   | Timing ↦ tt
+  | Unclear ↦ tt
   | Other ↦ tt
 ]
 

@@ -6,7 +6,7 @@ use Rattle.std.specs.List.{AllByRecursion, AllZip, join_with_byte}
 use Rattle.std.proofs.lemmas.List.Elements.{All-from_recursion, recursion_from_All}
 use Rattle.std.proofs.lemmas.List.Splits.{join_with_byte-slice_split, length-slice_split}
 use mir.Syntax.{w64}
-use Rattle.cadence_aggregate.specs.Server.{Sample, amount, level, member, timing, other, values_in, IsSummary}
+use Rattle.cadence_aggregate.specs.Server.{Sample, amount, level, member, timing, unclear, other, values_in, IsSummary}
 use Rattle.cadence_read.specs.Listed.{IsListed}
 use Rattle.cadence_read.proofs.Pieces.{pieces-joined}
 use Rattle.cadence_text.specs.Line.{line_of}
@@ -15,8 +15,8 @@ use Rattle.cadence_text.proofs.grammar.LineText.{joined_texts-joined, number_lac
 use Rattle.cadence_value.specs.Number.{Number, IsDecimal, number_text, numbers_text, whole}
 use Rattle.cadence_value.proofs.lists.SplitTexts.{Lacks, each_image}
 use Rattle.cadence_aggregating.specs.Printed.{spliced, line_saying}
-use Rattle.cadence_aggregating.specs.Says.{LineSays, MetricSays, context_of, fields_of}
-use Rattle.cadence_aggregating.proofs.Among.{Among, HasValue, amount_shown, amount_found, level_shown, level_found, member_shown, member_found, other_shown, other_found, timing_shown, timing_found, is, is_level}
+use Rattle.cadence_aggregating.specs.Says.{LineSays, MaySetGauge, MetricSays, context_of, fields_of}
+use Rattle.cadence_aggregating.proofs.Among.{Among, HasValue, amount_shown, amount_found, level_shown, level_found, member_shown, member_found, other_shown, unclear_shown, rest_found, timing_shown, timing_found, is, is_level}
 use Rattle.cadence_aggregating.proofs.MetricParts.{line_parts, name_lacks}
 use Rattle.cadence_aggregating.proofs.Spliced.{before_found, from_found}
 
@@ -30,6 +30,7 @@ IsSized (amount c n) = FitsSigned w64 n
 IsSized (level c v) = Unit {0}
 IsSized (member l) = Unit {0}
 IsSized (timing c t) = Unit {0}
+IsSized (unclear l) = Unit {0}
 IsSized (other l) = Unit {0}
 
 -- a metric with these numbers
@@ -91,7 +92,8 @@ said_sayable line (member l) (m, listed, its, (kind, time, same)) = (m, listed, 
 said_sayable line (timing c t) (m, listed, its, (kind, time, context, values, some)) =
     let text : line_of m ≡ spliced c t = line_parts m ∙ sym (spliced_context m listed (numbers_text m.numbers)) ∙ ap₂ spliced (sym context) (sym values) in
     (m, listed, text, (kind, time, context, values, some))
-said_sayable line (other l) (same, none) = (refl, λ said h. none said (subst (λ t. MetricSays t said) same h))
+said_sayable line (unclear l) (same, none, marked) = (refl, λ said h. none said (subst (λ t. MetricSays t said) same h), subst MaySetGauge (sym same) marked)
+said_sayable line (other l) (same, none, unmarked) = (refl, λ said h. none said (subst (λ t. MetricSays t said) same h), λ h. unmarked (subst MaySetGauge same h))
 
 pub all_said : (lines : List (List ℕ)) (came : List Sample) → AllZip LineSays lines came → (s : Sample) → Among s came → IsSayable s
 all_said [] [] h s among = absurd among
@@ -165,4 +167,5 @@ module _ (came sent : List Sample) (same : IsSummary came sent) (said : (s : Sam
   sayable (level c v) among fits = said (level c v) (level_found c v came (same.values (is_level c v) (level_shown c v sent among)))
   sayable (member l) among fits = said (member l) (member_found l came (same.members (is l) ∙ member_shown l sent among))
   sayable (timing c t) among fits = sayable_timing c t among
-  sayable (other l) among fits = said (other l) (other_found l came (subst (Among l) (sym same.rest) (other_shown l sent among)))
+  sayable (unclear l) among fits = said (unclear l) (rest_found (unclear l) came (subst (Among (unclear l)) (sym same.rest) (unclear_shown l sent among)))
+  sayable (other l) among fits = said (other l) (rest_found (other l) came (subst (Among (other l)) (sym same.rest) (other_shown l sent among)))

@@ -1,6 +1,6 @@
 -- What contracts see of the keys of calls that make no line.
 use Rattle.std.specs.Prelude.{◌≡◌, ℕ, ℤ, List, [], ◌∷◌, string_bytes}
-use Rattle.cadence_aggregate.specs.Server.{Sample, amount, level, member, timing, other}
+use Rattle.cadence_aggregate.specs.Server.{Sample, amount, level, member, timing, unclear, other}
 use Rattle.cadence_read.specs.Listed.{IsListed}
 use Rattle.cadence_settings.specs.Call.{MetricCall, metric_of_call}
 use Rattle.cadence_settings.specs.Settings.{Settings}
@@ -53,14 +53,15 @@ IsKeyOf m (Sets key) = (m.kind ≡ Gauge) × ((n : ℕ) → line_of_gauge key n 
 abbrev pub IsKeyOfLine : List ℕ → LineKey → Type 0
 IsKeyOfLine line key = (m : Metric) × IsListed m × (line_of m ≡ line) × IsKeyOf m key
 
--- This neither raises a counter nor sets a gauge.
+-- This neither raises a counter by a whole number nor sets a gauge to a value of its own.
 abbrev pub IsNeither : Sample → Type 0
 IsNeither (amount c n) = ⊥
 IsNeither (level c v) = ⊥
 IsNeither (member l) = Unit {0}
 IsNeither (timing c t) = Unit {0}
+IsNeither (unclear l) = Unit {0}
 IsNeither (other l) = Unit {0}
 
--- The line neither raises a counter nor sets a gauge.
+-- The line says neither of these.
 abbrev pub SaysNeither : List ℕ → Type 0
 SaysNeither line = (said : Sample) × LineSays line said × IsNeither said

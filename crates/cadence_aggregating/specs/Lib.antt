@@ -18,6 +18,7 @@ pub mod Recorded
 pub mod Results
 pub mod Runs
 pub mod Says
+pub mod Shared
 pub mod Shown
 pub mod Summed
 pub mod ToHold

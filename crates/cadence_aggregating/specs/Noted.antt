@@ -1,8 +1,8 @@
 -- What a line says that is known by its kind and by the lengths of its name and its values.
 use Rattle.std.specs.Prelude.{ℕ, ℤ, ◌+◌, List, [], ◌∷◌, ◌++◌, drop, take}
-use Rattle.cadence_aggregate.specs.Server.{Sample, amount, level, member, timing, other}
+use Rattle.cadence_aggregate.specs.Server.{Sample, amount, level, member, timing, unclear, other}
 use Rattle.cadence_aggregating.specs.declared.note.Kind.{Kind}
-use Rattle.cadence_aggregating.specs.declared.note.Kind.TheVariants.{Amount, Level, Member, Timing, Other}
+use Rattle.cadence_aggregating.specs.declared.note.Kind.TheVariants.{Amount, Level, Member, Timing, Unclear, Other}
 
 -- the text of a list of one text
 abbrev pub only_text : List (List ℕ × ℕ) → List ℕ
@@ -23,4 +23,5 @@ noted Amount by name values line = amount (around name values line) by
 noted Level by name values line = level (around name values line) (within name values line)
 noted Member by name values line = member line
 noted Timing by name values line = timing (around name values line) (within name values line)
+noted Unclear by name values line = unclear line
 noted Other by name values line = other line

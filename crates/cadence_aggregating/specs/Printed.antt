@@ -1,6 +1,6 @@
 -- The line that says something.
 use Rattle.std.specs.Prelude.{ℕ, ◌==◌, if◌then◌else◌, Option, Some, None, List, [], ◌∷◌, ◌++◌, codes}
-use Rattle.cadence_aggregate.specs.Server.{Sample, amount, level, member, timing, other}
+use Rattle.cadence_aggregate.specs.Server.{Sample, amount, level, member, timing, unclear, other}
 use Rattle.cadence_value.specs.Number.{number_text, whole}
 
 -- the text before the first bar
@@ -28,4 +28,5 @@ line_saying (amount c n) = spliced c (number_text (whole n))
 line_saying (level c v) = spliced c v
 line_saying (member l) = l
 line_saying (timing c t) = spliced c t
+line_saying (unclear l) = l
 line_saying (other l) = l

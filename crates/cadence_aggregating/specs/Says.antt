@@ -2,7 +2,7 @@
 use Rattle.std.specs.Prelude.{◌≡◌, ◌<◌, ℕ, Bool, true, false, None, List, [], ◌∷◌, ◌++◌, codes, length}
 use Rattle.std.specs.Int.RustNames.{FitsSigned}
 use mir.Syntax.{w64}
-use Rattle.cadence_aggregate.specs.Server.{Sample, amount, level, member, timing, other}
+use Rattle.cadence_aggregate.specs.Server.{Sample, amount, level, member, timing, unclear, other}
 use Rattle.cadence_read.specs.Listed.{IsListed}
 use Rattle.cadence_text.specs.declared.line.MetricType.{MetricType}
 use Rattle.cadence_text.specs.declared.line.MetricType.TheVariants.{Counter, Timer, Gauge, Meter, Histogram, Set, Distribution}
@@ -40,16 +40,27 @@ Says m (member l) = (m.kind ≡ Set) × (m.time ≡ None) × (l ≡ line_of m)
 Says m (timing c t) =
     (is_timed m.kind ≡ true) × (m.time ≡ None) × (c ≡ context_of m) × (t ≡ numbers_text m.numbers)
     × (0 < length m.numbers)
+Says m (unclear l) = ⊥
 Says m (other l) = ⊥
 
 -- The line is that of a metric which says this.
 abbrev pub MetricSays : List ℕ → Sample → Type 0
 MetricSays line said = (m : Metric) × IsListed m × (line_of m ≡ line) × Says m said
 
--- A reader gets this from the line: what its metric says, or, if no metric of it can be added, the line itself.
+-- Somewhere the line has a bar and then a `g`, as each line of a gauge has, so that a server may set a gauge by it.
+abbrev pub MaySetGauge : List ℕ → Type 0
+MaySetGauge line = (before : List ℕ) × (after : List ℕ) × (line ≡ before ++ (codes "|g" ++ after))
+
+-- No metric of the line can be added.
+abbrev pub IsNotAdded : List ℕ → Type 0
+IsNotAdded line = (said : Sample) → MetricSays line said → ⊥
+
+-- A reader gets this from the line: what its metric says, or, if no metric of it can be added, the line itself, which may
+-- set a gauge or not.
 abbrev pub LineSays : List ℕ → Sample → Type 0
 LineSays line (amount c n) = MetricSays line (amount c n)
 LineSays line (level c v) = MetricSays line (level c v)
 LineSays line (member l) = MetricSays line (member l)
 LineSays line (timing c t) = MetricSays line (timing c t)
-LineSays line (other l) = (l ≡ line) × ((said : Sample) → MetricSays line said → ⊥)
+LineSays line (unclear l) = (l ≡ line) × IsNotAdded line × MaySetGauge line
+LineSays line (other l) = (l ≡ line) × IsNotAdded line × (MaySetGauge line → ⊥)

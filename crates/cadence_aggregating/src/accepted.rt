@@ -52,6 +52,7 @@ impl Accepted {
             Line::Level(context, value) => Accepted::new(Kind::Level, 0, context, value),
             Line::Member(line) => Accepted::new(Kind::Member, 0, line, ""),
             Line::Timing(context, values) => Accepted::new(Kind::Timing, 0, context, values),
+            Line::Unclear(line) => Accepted::new(Kind::Unclear, 0, line, ""),
             Line::Other(line) => Accepted::new(Kind::Other, 0, line, ""),
         }
     }

@@ -7,7 +7,7 @@ use crate::limits::Limits;
 use crate::locked::LockedAggregator;
 use crate::sink::{AggregatingMetricSink, Timed};
 use cadence_errors::MetricResult;
-use cadence_flow::MetricSink;
+use cadence_flow::{MetricSink, SinkErrorHandler};
 use cadence_queuing::FlushingMetricSink;
 use std::alloc::Global;
 use std::num::NonZeroUsize;
@@ -30,18 +30,27 @@ const MOST_BYTES: usize = 512;
 ///     .with_flush_period(Duration::from_secs(2));
 /// let sink = builder.build(rt.clone()?, alloc, inner)?;
 /// ```
-#[derive(Clone, Copy, Debug)]
+#[derive(Drop)]
 pub struct AggregatingMetricSinkBuilder {
     pub(crate) limits: Limits,
     pub(crate) period: Option<Duration>,
+    pub(crate) handler: Option<FlushHandler>,
+}
+
+/// A closure that hears the errors of flushes, and may be called at any time.
+#[derive(Drop)]
+pub struct FlushHandler {
+    call: SinkErrorHandler,
+    ghost callable: { IsAlwaysCallable call },
 }
 
 impl AggregatingMetricSinkBuilder {
     ghost use Rattle.std.specs.Prelude.{◌≡◌, false, true, None, Some};
-    ghost use Rattle.cadence_aggregating.specs.Builder.{max_line_of, packs_of, flush_period_of_sums};
+    ghost use Rattle.cadence_aggregating.specs.Builder.{at_least_one, max_contexts_of, max_line_of, packs_of, flush_period_of_sums};
 
     /// Returns a builder without any setting.
     pub fn new() -> Self
+        ensures contexts { max_contexts_of result ≡ 4096 }
         ensures line { max_line_of result ≡ 512 }
         ensures packed { packs_of result ≡ false }
         ensures period { flush_period_of_sums result ≡ None }
@@ -53,12 +62,14 @@ impl AggregatingMetricSinkBuilder {
                 packs_values: false,
             },
             period: None,
+            handler: None,
         }
     }
 
-    /// Sets how many contexts of each kind are held. A new context in a full table first sends the one that was called
-    /// least recently. 0 counts as 1.
+    /// Sets how many contexts of each kind are held. A new context in a full table first sends the oldest one. 0 counts
+    /// as 1.
     pub fn with_max_contexts(mut self, contexts: usize) -> Self
+        ensures contexts { max_contexts_of result ≡ at_least_one contexts }
         ensures line { max_line_of result ≡ max_line_of self }
         ensures packed { packs_of result ≡ packs_of self }
         ensures period { flush_period_of_sums result ≡ flush_period_of_sums self }
@@ -70,6 +81,7 @@ impl AggregatingMetricSinkBuilder {
     /// Sets the most bytes of a line that is held. A longer line is handed on at once, and values are packed up to this
     /// length.
     pub fn with_max_line(mut self, bytes: usize) -> Self
+        ensures contexts { max_contexts_of result ≡ max_contexts_of self }
         ensures line { max_line_of result ≡ bytes }
         ensures packed { packs_of result ≡ packs_of self }
         ensures period { flush_period_of_sums result ≡ flush_period_of_sums self }
@@ -81,6 +93,7 @@ impl AggregatingMetricSinkBuilder {
     /// Packs the values of each timer, histogram and distribution into one line, as `t:1:2:3|ms`. Not every server
     /// reads such a line.
     pub fn with_packed_values(mut self) -> Self
+        ensures contexts { max_contexts_of result ≡ max_contexts_of self }
         ensures line { max_line_of result ≡ max_line_of self }
         ensures packed { packs_of result ≡ true }
         ensures period { flush_period_of_sums result ≡ flush_period_of_sums self }
@@ -90,14 +103,28 @@ impl AggregatingMetricSinkBuilder {
     }
 
     /// Sets a period. A thread flushes the sink after each period. A period below one millisecond counts as one
-    /// millisecond. The errors of these flushes are dropped, and what a failed flush didn't send is tried again after
-    /// one more period.
+    /// millisecond. What a failed flush didn't send is tried again after one more period. Without a handler the errors
+    /// of these flushes are dropped.
     pub fn with_flush_period(mut self, period: Duration) -> Self
+        ensures contexts { max_contexts_of result ≡ max_contexts_of self }
         ensures line { max_line_of result ≡ max_line_of self }
         ensures packed { packs_of result ≡ packs_of self }
         ensures period { flush_period_of_sums result ≡ Some period }
     {
         self.period = Some(period);
+        self
+    }
+
+    /// Sets the handler, which receives the error of each flush of the thread that fails. It runs in the thread while no
+    /// lock is held. Without a period there is no thread, and the handler hears nothing.
+    pub fn with_error_handler(mut self, handler: SinkErrorHandler) -> Self
+        requires { IsAlwaysCallable handler }
+        ensures contexts { max_contexts_of result ≡ max_contexts_of self }
+        ensures line { max_line_of result ≡ max_line_of self }
+        ensures packed { packs_of result ≡ packs_of self }
+        ensures period { flush_period_of_sums result ≡ flush_period_of_sums self }
+    {
+        self.handler = Some(FlushHandler { call: handler });
         self
     }
 
@@ -111,10 +138,31 @@ impl AggregatingMetricSinkBuilder {
     {
         let locked = LockedAggregator::new(rt.clone()?, alloc, self.limits, sink)?;
         let timed = match self.period {
-            Some(period) => Timed::Often(FlushingMetricSink::new(rt, alloc, locked, period)?),
+            Some(period) => Timed::Often(flushing(rt, alloc, locked, period, self.handler)?),
             None => Timed::Never(locked),
         };
         Ok(AggregatingMetricSink { timed })
+    }
+}
+
+// Makes a sink that a thread flushes, with a handler or without.
+pub(crate) fn flushing<
+    S: MetricSink + Send + Sync + 'static,
+    R: Wait + Clock + Threads + Clone + Drop + Send + Sync + 'static,
+>(
+    rt: R,
+    alloc: Global,
+    sink: S,
+    period: Duration,
+    handler: Option<FlushHandler>,
+) -> MetricResult<FlushingMetricSink<S, R>>
+    ensures { IfErr result IsQueuingRefusal }
+{
+    match handler {
+        Some(FlushHandler { call }) => {
+            FlushingMetricSink::with_error_handler(rt, alloc, sink, period, call)
+        }
+        None => FlushingMetricSink::new(rt, alloc, sink, period),
     }
 }
 

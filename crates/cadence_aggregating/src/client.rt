@@ -1,8 +1,9 @@
 //! A client whose calls make no line.
-use crate::builder::AggregatingMetricSinkBuilder;
+use crate::builder::{AggregatingMetricSinkBuilder, flushing};
 use crate::call::KeyedCall;
 use crate::keys::{CounterKey, GaugeKey, StrictSettings};
-use crate::shared::SharedAggregator;
+use crate::locked::LockedAggregator;
+use crate::shared::SharedSink;
 use cadence_errors::MetricResult;
 use cadence_flow::MetricSink;
 use cadence_flow::stats::SinkStats;
@@ -31,8 +32,8 @@ use std::time::Clock;
 pub struct AggregatedClient<S: MetricSink, R: Wait + Drop> {
     alloc: Global,
     settings: StrictSettings,
-    lines: SharedAggregator<S, R>,
-    flusher: Option<FlushingMetricSink<SharedAggregator<S, R>, R>>,
+    lines: SharedSink<LockedAggregator<S, R>>,
+    flusher: Option<FlushingMetricSink<SharedSink<LockedAggregator<S, R>>, R>>,
 }
 
 impl AggregatingMetricSinkBuilder {
@@ -65,9 +66,10 @@ impl AggregatingMetricSinkBuilder {
             ⊎ (IsInvalid e × (is_free_settings settings ≡ false))) }
     {
         let settings = StrictSettings::new(settings)?;
-        let lines = SharedAggregator::new(rt.clone()?, alloc, self.limits, sink)?;
+        let locked = LockedAggregator::new(rt.clone()?, alloc, self.limits, sink)?;
+        let lines = SharedSink::new(alloc, locked)?;
         let flusher = match self.period {
-            Some(period) => Some(FlushingMetricSink::new(rt, alloc, lines.clone()?, period)?),
+            Some(period) => Some(flushing(rt, alloc, lines.clone()?, period, self.handler)?),
             None => None,
         };
         Ok(AggregatedClient {
@@ -105,7 +107,7 @@ impl<S: MetricSink, R: Wait + Drop> AggregatedClient<S, R> {
         Ok(AggregatedClient {
             alloc,
             settings,
-            lines: SharedAggregator::new(rt, alloc, limits, sink)?,
+            lines: SharedSink::new(alloc, LockedAggregator::new(rt, alloc, limits, sink)?)?,
             flusher: None,
         })
     }
@@ -141,7 +143,7 @@ impl<S: MetricSink, R: Wait + Drop> AggregatedClient<S, R> {
     pub fn count(&self, key: &CounterKey, by: i64) -> MetricResult<()>
         ensures { IsCallOf (line_of_counter key.now by) result }
     {
-        self.lines.locked().call(KeyedCall::Raise(key, by))
+        self.lines.get().call(KeyedCall::Raise(key, by))
     }
 
     /// Raises a counter by 1. The errors are those of `count`.
@@ -162,7 +164,7 @@ impl<S: MetricSink, R: Wait + Drop> AggregatedClient<S, R> {
     pub fn gauge(&self, key: &GaugeKey, value: u64) -> MetricResult<()>
         ensures { IsCallOf (line_of_gauge key.now value) result }
     {
-        self.lines.locked().call(KeyedCall::Set(key, value))
+        self.lines.get().call(KeyedCall::Set(key, value))
     }
 
     /// Sends one line for each counter and gauge that was called, and flushes the wrapped sink. The error is that of the

@@ -87,8 +87,8 @@ pub enum LineKey {
 impl LineKey {
     ghost use Rattle.cadence_aggregating.specs.Keys.{IsKeyOfLine, SaysNeither};
 
-    /// Makes the key of the counter that a line raises, or of the gauge that it sets. Returns `None` if the line does
-    /// neither. The only error is that memory ran out.
+    /// Makes the key of the counter that a line raises by a whole number, or of the gauge that it sets. Returns `None` if
+    /// the line can't be added to others so. The only error is that memory ran out.
     pub fn of_line(alloc: Global, line: &str) -> Result<Option<LineKey>, AllocError>
         ensures key { IfOk result (λ made. IfSome made (IsKeyOfLine line.now)) }
         ensures none { IfOk result (λ made. IfNone made (SaysNeither line.now)) }
@@ -101,7 +101,7 @@ impl LineKey {
             Line::Level(context, _) => Ok(Some(LineKey::Sets(GaugeKey {
                 context: String::from_str(alloc, context)?,
             }))),
-            Line::Member(_) | Line::Timing(_, _) | Line::Other(_) => Ok(None),
+            Line::Member(_) | Line::Timing(_, _) | Line::Unclear(_) | Line::Other(_) => Ok(None),
         }
     }
 }

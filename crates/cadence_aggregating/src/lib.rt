@@ -16,7 +16,7 @@
 //! - `accepted`: a record of a line that was accepted, for proofs.
 //! - `keys`: the keys of calls that make no line.
 //! - `call`: a call by a key, and what its line would say.
-//! - `shared`: an aggregator that a client shares with a thread.
+//! - `shared`: a sink that several owners share.
 //! - `client`: a client whose calls make no line.
 #![tactic(auto)]
 

@@ -21,7 +21,8 @@ impl Limits {
 
     /// Returns whether a line of `len` bytes, which says this, is held.
     pub fn holds(&self, said: &Line<'_>, len: usize) -> bool
-        ensures { IsToHold self.now said.now len → result ≡ true }
+        ensures held { IsToHold self.now said.now len → result ≡ true }
+        ensures passed { result ≡ true → IsToHold self.now said.now len }
     {
         if len > self.most_bytes {
             return false;

@@ -2,11 +2,13 @@
 mod called;
 
 ghost use Rattle.cadence_aggregating.specs.Answers.{IsAggregated};
+ghost use Rattle.cadence_aggregating.specs.Shared.{shared_sink};
 ghost use Rattle.cadence_aggregating.specs.Shown.{ShowsAdded, ShowsEmptied};
 ghost use Rattle.cadence_errors.specs.Errors.{MayOnlyRunOutOfMemory};
 ghost use Rattle.cadence_flow.specs.Answered.{IsAnswered, IsFlushAnswered, answered_by_holding_nothing};
 
 use crate::limits::Limits;
+use crate::shared::SharedSink;
 use crate::under_lock::{Added, Emptied, Failed, UnderLock};
 use cadence_errors::{MetricError, MetricResult, SinkError};
 use cadence_flow::stats::SinkStats;
@@ -15,12 +17,13 @@ use std::alloc::Global;
 use std::sync::{Mutex, Wait};
 
 /// An aggregator of lines over a sink, under a lock. Whenever the lock is free, what that sink took, with what is held,
-/// is a summary of the accepted lines.
+/// is a summary of the accepted lines. The sink also lies beside the lock, so that its counts are read without it.
 ///
 /// The drop flushes both, and drops the errors.
 pub struct LockedAggregator<S: MetricSink, R: Wait + Drop> {
     rt: R,
-    lines: Mutex<UnderLock<S>>,
+    sink: SharedSink<S>,
+    lines: Mutex<UnderLock<SharedSink<S>>>,
 }
 
 impl<S: MetricSink, R: Wait + Drop> LockedAggregator<S, R> {
@@ -28,11 +31,13 @@ impl<S: MetricSink, R: Wait + Drop> LockedAggregator<S, R> {
     pub fn new(rt: R, alloc: Global, limits: Limits, sink: S) -> MetricResult<Self>
         ensures { MayOnlyRunOutOfMemory result }
     {
-        let Ok(lines) = UnderLock::new(alloc, limits, sink) else {
+        let sink = SharedSink::new(alloc, sink)?;
+        let Ok(lines) = UnderLock::new(alloc, limits, sink.clone()?) else {
             return Err(MetricError::Sink(SinkError::OutOfMemory));
         };
         Ok(LockedAggregator {
             rt,
+            sink,
             lines: Mutex::new(lines),
         })
     }
@@ -41,9 +46,9 @@ impl<S: MetricSink, R: Wait + Drop> LockedAggregator<S, R> {
 /// Adds a line, under the lock. The answer has the line's length, and shows the aggregator before and after it accepted
 /// this line. After an error the line is not added.
 impl<S: MetricSink, R: Wait + Drop> AnsweringSink for LockedAggregator<S, R> {
-    type Took = Added<S>;
+    type Took = Added<SharedSink<S>>;
 
-    type Refused = Failed<S>;
+    type Refused = Failed<SharedSink<S>>;
 
     ghost may_answer = { λ _ line answer. IsAggregated line answer };
 
@@ -57,13 +62,14 @@ impl<S: MetricSink, R: Wait + Drop> AnsweringSink for LockedAggregator<S, R> {
 /// Sends what is held, and flushes the wrapped sink, under the lock. The answer shows the aggregator before and after
 /// this.
 impl<S: MetricSink, R: Wait + Drop> AnsweringFlush for LockedAggregator<S, R> {
-    type Flushed = Emptied<S>;
+    type Flushed = Emptied<SharedSink<S>>;
 
-    type Unflushed = Failed<S>;
+    type Unflushed = Failed<SharedSink<S>>;
 
     ghost may_flush = { λ _ _. Unit {0} };
 
-    ghost shows_flush = { λ _ answer e. ShowsEmptied S.may_flush answer e };
+    ghost shows_flush = { λ _ answer e.
+        ShowsEmptied (λ s. S.may_flush (shared_sink s)) answer e };
 
     fn flush_lines(&self, fault: &mut SinkError) -> Result<Self::Flushed, Self::Unflushed> {
         self.lines.lock(&self.rt).flush(fault)
@@ -88,17 +94,21 @@ impl<S: MetricSink, R: Wait + Drop> MetricSink for LockedAggregator<S, R> {
     }
 
     fn stats(&self) -> SinkStats {
-        self.lines.lock(&self.rt).stats()
+        self.sink.stats()
     }
 
     fn dropped_lines(&self) -> u64 {
-        self.lines.lock(&self.rt).dropped_lines()
+        self.sink.dropped_lines()
     }
 }
 
 impl<S: MetricSink, R: Wait + Drop> Drop for LockedAggregator<S, R> {
     fn drop(self) {
-        let LockedAggregator { rt: _rt, lines } = self;
+        let LockedAggregator {
+            rt: _rt,
+            sink: _sink,
+            lines,
+        } = self;
         lines.into_inner().finish();
     }
 }

@@ -17,6 +17,8 @@ pub enum Kind {
     Member,
     /// A timer, a histogram or a distribution has values.
     Timing,
+    /// The line may set a gauge, though nothing says which one, or to what.
+    Unclear,
     /// The line is none of these.
     Other,
 }

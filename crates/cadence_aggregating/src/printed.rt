@@ -131,6 +131,10 @@ pub fn note_line(text: &mut String, line: Line<'_>) -> Result<Note, AllocError>
             let name = write_values(text, context, values)?;
             Ok(note_of(Kind::Timing, 0, name, values.len(), text))
         }
+        Line::Unclear(line) => {
+            text.push_str(line)?;
+            Ok(note_of(Kind::Unclear, 0, 0, 0, text))
+        }
         Line::Other(line) => {
             text.push_str(line)?;
             Ok(note_of(Kind::Other, 0, 0, 0, text))

@@ -2,7 +2,7 @@
 //! calls that make no line.
 mod called;
 
-ghost use Rattle.std.specs.Prelude.{◌≡◌, ◌++◌, ◌∷◌, [], IfOk, OnErr, OnOk, map, true};
+ghost use Rattle.std.specs.Prelude.{◌≡◌, ◌++◌, ◌∷◌, [], IfOk, OnErr, OnOk, length, map, true};
 ghost use Rattle.cadence_aggregate.specs.Aggregate.{CanHold, held};
 ghost use Rattle.cadence_aggregate.specs.Lines.{samples_of};
 ghost use Rattle.cadence_aggregate.specs.Refusals.{after_reply};
@@ -20,6 +20,9 @@ use cadence_aggregate::{Aggregator, Fault, Line, LineSink};
 use cadence_errors::SinkError;
 use cadence_flow::{GhostList, MetricSink};
 use std::alloc::{AllocError, Global};
+
+// For a line that is sent no more bytes are reserved, however long a line may be.
+const MOST_RESERVED: usize = 65_536;
 
 /// An aggregator of lines over a sink of metrics, with a record of the lines that it accepted. The record exists in
 /// proofs only. The fact `past` is true of every `RecordedAggregator`: what the sink took, with what is still held, is
@@ -82,7 +85,7 @@ impl<S: MetricSink> RecordedAggregator<S> {
         ensures limits { IfOk result (λ a. limits_of a ≡ limits) }
     {
         let aggregator = Aggregator::new(alloc, limits.most_contexts, limits.most_bytes)?;
-        let text = String::with_capacity(alloc, limits.most_bytes)?;
+        let text = String::with_capacity(alloc, limits.most_bytes.min(MOST_RESERVED))?;
         Ok(RecordedAggregator {
             alloc,
             limits,
@@ -164,6 +167,13 @@ impl<S: MetricSink> RecordedAggregator<S> {
             Ok(()) => Ok(()),
             Err(fault) => Err(self.error_of(fault)),
         }
+    }
+
+    /// Returns how many contexts are held.
+    pub(crate) fn count_held(&self) -> u128
+        ensures { result ≡ length (samples_held self.now) }
+    {
+        self.aggregator.count_held()
     }
 
     /// Returns the sink.

@@ -1,5 +1,5 @@
 //! Reads what a line says.
-ghost use Rattle.std.specs.Prelude.{◌≡◌, ◌≢◌, ◌∷◌, ◌++◌, [], ℕ, ℤ, List, All, FitsSigned, IfNone, IfOk, IfSome, OnOk, string_bytes};
+ghost use Rattle.std.specs.Prelude.{◌≡◌, ◌≢◌, ◌↔◌, ◌∷◌, ◌++◌, [], true, ℕ, ℤ, List, All, FitsSigned, IfNone, IfOk, IfSome, OnOk, string_bytes};
 ghost use mir.Syntax.{w64};
 ghost use Rattle.cadence_aggregate.specs.Lines.{sample_of};
 ghost use Rattle.cadence_aggregate.specs.Server.{Sample};
@@ -7,7 +7,7 @@ ghost use Rattle.cadence_read.specs.Listed.{IsMetricOf};
 ghost use Rattle.cadence_text.specs.OneReading.{IsNoSeparator};
 ghost use Rattle.cadence_text.specs.Owned.{metric_of_owned};
 ghost use Rattle.cadence_value.specs.Number.{whole};
-ghost use Rattle.cadence_aggregating.specs.Says.{LineSays, Says};
+ghost use Rattle.cadence_aggregating.specs.Says.{IsNotAdded, LineSays, MaySetGauge, Says};
 ghost use Rattle.cadence_aggregating.specs.Additions.{IsAddition};
 
 use cadence_aggregate::Line;
@@ -71,6 +71,25 @@ fn addition_of(metric: &OwnedMetric) -> Option<Addition>
     }
 }
 
+// Returns whether a line has a bar and then a `g`, as each line of a gauge has.
+fn may_set_gauge(line: &str) -> bool
+    ensures { (result ≡ true) ↔ MaySetGauge line.now }
+{
+    line.contains("|g")
+}
+
+// Returns what a line says if none of its metrics can be added.
+fn not_added(line: &str) -> Line<'_>
+    requires { IsNotAdded line.now }
+    ensures { LineSays line.now (sample_of result) }
+{
+    if may_set_gauge(line) {
+        Line::Unclear(line)
+    } else {
+        Line::Other(line)
+    }
+}
+
 // Cuts a line into the name before the first colon, the values up to the next bar, and the text after that bar.
 fn cut_parts(line: &str) -> Option<(&str, &str, &str)>
     ensures name { IfSome result (λ parts. All (λ byte. byte ≢ 58) parts.0.now) }
@@ -106,7 +125,7 @@ fn line_of_metric<'a>(
 {
     line_reads_one_way();
     let Some(addition) = addition_of(metric) else {
-        return Ok(Line::Other(line));
+        return Ok(not_added(line));
     };
     let Some((name, values, fields)) = cut_parts(line) else {
         return Ok(Line::Other(line));
@@ -130,7 +149,7 @@ pub fn read_said<'a>(
 {
     match read_line(&alloc, line.as_bytes()) {
         Ok(metric) => line_of_metric(line, &metric, context),
-        Err(ReadFault::Unusable(_)) => Ok(Line::Other(line)),
+        Err(ReadFault::Unusable(_)) => Ok(not_added(line)),
         Err(ReadFault::OutOfMemory) => Err(AllocError),
     }
 }

@@ -1,52 +1,52 @@
-//! An aggregator that a client shares with a thread.
-ghost use Rattle.cadence_errors.specs.Errors.{MayOnlyRunOutOfMemory};
-ghost use Rattle.cadence_aggregating.specs.Answers.{IsAggregated};
-ghost use Rattle.cadence_flow.specs.Answered.{IsAnswered, IsFlushAnswered, answered_by_holding_nothing};
+//! A sink that several owners share.
+ghost use Rattle.std.specs.Prelude.{◌≡◌, IfOk};
+ghost use Rattle.cadence_aggregating.specs.Shared.{shared_sink};
 
-use crate::limits::Limits;
-use crate::locked::LockedAggregator;
-use cadence_errors::{MetricResult, SinkError};
+use cadence_errors::SinkError;
 use cadence_flow::MetricSink;
 use cadence_flow::stats::SinkStats;
 use std::alloc::{AllocError, Global};
-use std::sync::{Arc, Wait};
+use std::sync::Arc;
 
-/// A handle of an aggregator under a lock. Its clones are handles of the same aggregator, and the last drop drops it.
+/// A handle of a sink. Its clones are handles of the same sink, and the last drop drops it.
 #[derive(Drop)]
-pub struct SharedAggregator<S: MetricSink, R: Wait + Drop> {
-    shared: Arc<LockedAggregator<S, R>>,
+pub struct SharedSink<S: MetricSink> {
+    shared: Arc<S>,
 }
 
-impl<S: MetricSink, R: Wait + Drop> SharedAggregator<S, R> {
-    /// Makes an aggregator that accepted no line yet. The only error is `OutOfMemory`.
-    pub(crate) fn new(rt: R, alloc: Global, limits: Limits, sink: S) -> MetricResult<Self>
-        ensures { MayOnlyRunOutOfMemory result }
+impl<S: MetricSink> SharedSink<S> {
+    /// Makes the first handle of a sink. The only error is that memory ran out.
+    pub(crate) fn new(alloc: Global, sink: S) -> Result<Self, AllocError>
+        ensures { IfOk result (λ made. shared_sink made ≡ sink) }
     {
-        let locked = LockedAggregator::new(rt, alloc, limits, sink)?;
-        Ok(SharedAggregator {
-            shared: Arc::new(alloc, locked)?,
+        Ok(SharedSink {
+            shared: Arc::new(alloc, sink)?,
         })
     }
 
     /// Returns one more handle.
-    pub(crate) fn clone(&self) -> Result<Self, AllocError> {
-        Ok(SharedAggregator {
+    pub(crate) fn clone(&self) -> Result<Self, AllocError>
+        ensures { IfOk result (λ made. shared_sink made ≡ shared_sink self.now) }
+    {
+        Ok(SharedSink {
             shared: self.shared.clone()?,
         })
     }
 
-    /// Returns the aggregator.
-    pub(crate) fn locked(&self) -> &LockedAggregator<S, R> {
+    /// Returns the sink.
+    pub(crate) fn get(&self) -> &S
+        ensures { result.now ≡ shared_sink self.now }
+    {
         &self.shared
     }
 }
 
-impl<S: MetricSink, R: Wait + Drop> MetricSink for SharedAggregator<S, R> {
-    ghost may_answer = { λ _ line answer. IsAggregated line answer × IsAnswered line answer };
+impl<S: MetricSink> MetricSink for SharedSink<S> {
+    ghost may_answer = { λ s. S.may_answer (shared_sink s) };
 
-    ghost may_flush = { λ _ answer. IsFlushAnswered answer };
+    ghost may_flush = { λ s. S.may_flush (shared_sink s) };
 
-    ghost flush_may_succeed = { λ _ held. answered_by_holding_nothing held };
+    ghost flush_may_succeed = { λ s. S.flush_may_succeed (shared_sink s) };
 
     fn emit(&self, line: &str) -> Result<usize, SinkError> {
         self.shared.emit(line)

@@ -21,13 +21,18 @@ pub(crate) enum Timed<S: MetricSink, R: Wait + Drop> {
 /// flushes the wrapped sink. A context is a line without its values: its name, kind, sampling rate, tags and container.
 ///
 /// Lines that can't be added are handed on at once: those with a timestamp, decimals of counters, values of gauges with
-/// a sign, and texts that are no lines of metrics. A server knows the same from the lines that the wrapped sink took,
+/// a sign, and texts that are no lines of metrics. The values of gauges that are held come before such a line if it may
+/// set a gauge, because it has `|g` in it. A server knows the same from the lines that the wrapped sink took,
 /// and those that the next flush hands on, as from the lines that were emitted, whichever contexts it takes for one.
 ///
 /// `emit` returns the length of the line. Its errors are those of the wrapped sink, if a line had to be handed on, and
 /// `OutOfMemory`; the line is not added then. A line that the wrapped sink refuses at a flush stays, and the next flush
-/// tries it again. The drop flushes the sink, and drops the error of that flush. What is held when the process crashes
-/// is lost.
+/// tries it again, before all others. The drop flushes the sink, again and again as long as a flush sends something, and
+/// drops the errors of these flushes. What is held when the process crashes is lost.
+///
+/// The wrapped sink takes lines under the lock of this sink. So callers wait while it does, a whole flush long, and the
+/// wrapped sink must not emit into this sink or flush it, because that would wait for ever. `stats` and `dropped_lines`
+/// take no lock of this sink.
 ///
 /// ```text
 /// let (receiver, spy) = SpyMetricSink::new(rt.clone()?, alloc)?;

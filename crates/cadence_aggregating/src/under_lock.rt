@@ -9,7 +9,6 @@ use crate::limits::Limits;
 use crate::recorded::RecordedAggregator;
 use cadence_errors::SinkError;
 use cadence_flow::MetricSink;
-use cadence_flow::stats::SinkStats;
 use std::alloc::{AllocError, Global};
 use std::snapshot::Snapshot;
 
@@ -90,18 +89,19 @@ impl<S: MetricSink> UnderLock<S> {
         }
     }
 
-    /// Sends what is held, flushes the sink and ends both. What the sink refuses is lost.
+    /// Sends what is held, flushes the sink and ends both. If the sink refuses a line, all is tried again, as long as a
+    /// try sends something. What is still held then is lost.
     pub(crate) fn finish(mut self) {
-        let _ = self.send_all();
-    }
-
-    /// Returns the counts of the sink.
-    pub(crate) fn stats(&self) -> SinkStats {
-        self.aggregator.sink().stats()
-    }
-
-    /// Returns how many lines the sink dropped.
-    pub(crate) fn dropped_lines(&self) -> u64 {
-        self.aggregator.sink().dropped_lines()
+        let mut held = self.aggregator.count_held();
+        for _ in 0..=held {
+            if self.send_all().is_ok() {
+                return;
+            }
+            let left = self.aggregator.count_held();
+            if left == held {
+                return;
+            }
+            held = left;
+        }
     }
 }

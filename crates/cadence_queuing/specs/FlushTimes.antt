@@ -28,3 +28,9 @@ IsTimeLeft (Some period) (Some last) (Some now) left = MatchOption left
     (as_nanos period ≤ instant_nanos now - instant_nanos last)
     (λ some. (0 < as_nanos some) × (as_nanos some + (instant_nanos now - instant_nanos last) ≡ as_nanos period))
 IsTimeLeft _ _ _ left = left ≡ None
+
+-- How long a worker waits for lines before it tries a flush again that failed: at least the shortest wait, and for the rest of the period if
+-- that is not shorter.
+pub record IsRetryWait (period : Option Duration) (last now : Option Instant) (wait : Duration) : Type 0 where
+  pub long : shortest_wait ≤ as_nanos wait
+  pub rest : (left : Duration) → IsTimeLeft period last now (Some left) → shortest_wait ≤ as_nanos left → as_nanos wait ≡ as_nanos left

@@ -30,7 +30,7 @@ wrapped_sink q = (arc_value q.shared).sink
 
 -- the work that a repeater shares with its thread
 abbrev pub repeated_work : {W R A : Type 0} → Repeater W R A → W
-repeated_work r = (arc_value r.shared).work
+repeated_work r = arc_value r.work
 
 -- the sink that a flushing sink wraps
 abbrev pub flushed_sink : {S R A : Type 0} → FlushingMetricSink S R A → S

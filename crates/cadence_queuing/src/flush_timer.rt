@@ -2,7 +2,7 @@
 ghost use Rattle.std.specs.Prelude.{◌≡◌, ◌+◌, ◌-◌, ◌≤◌, ◌<◌, false, true, IfNone, IfSome, is_some};
 ghost use Rattle.std.specs.Duration.{as_nanos};
 ghost use Rattle.std.specs.Time.{instant_nanos};
-ghost use Rattle.cadence_queuing.specs.FlushTimes.{IsTimeLeft, CountsAs, CountsAsIfAny, shortest_wait};
+ghost use Rattle.cadence_queuing.specs.FlushTimes.{IsTimeLeft, IsRetryWait, CountsAs, CountsAsIfAny, shortest_wait};
 
 use std::time::{Duration, Instant};
 
@@ -106,7 +106,7 @@ impl FlushTimer {
     /// Returns how long a worker waits for lines at this time, before it tries a flush again that failed: the rest of
     /// the period, but at least one millisecond, also if the period is 0 or the clock couldn't be read.
     pub fn wait_before_retry(&self, now: Option<Instant>) -> Duration
-        ensures { shortest_wait ≤ as_nanos result }
+        ensures { IsRetryWait self.now.period self.now.last now result }
     {
         let left = self.left(now).unwrap_or(Duration::ZERO);
         at_least_shortest(left)

@@ -27,8 +27,9 @@ impl<S: MetricSink> PeriodicWork for FlushWork<S> {
 /// waits longer in the wrapped sink's buffer, also if no more lines come. A `QueuingMetricSink` with a period needs no
 /// second thread for this.
 ///
-/// The drop stops the thread and doesn't wait for it. It also flushes the wrapped sink, and drops the error of this
-/// flush. The sink keeps the runtime `R`, whose locks it takes.
+/// The drop stops the thread and doesn't wait for it. It also flushes the wrapped sink, drops the error of this flush,
+/// and drops the wrapped sink. If the thread is in a flush at that time, it drops the wrapped sink itself after this
+/// flush, and the end of the process may come first. The sink keeps the runtime `R`, whose locks it takes.
 ///
 /// ```text
 /// let inner = BufferedUdpMetricSink::from(rt.clone()?, alloc, target, socket)?;

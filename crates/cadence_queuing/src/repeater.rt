@@ -7,7 +7,7 @@ use cadence_flow::Handler;
 use cadence_flow::thread::{Job, start};
 use cadence_queue::Latch;
 use std::alloc::{Allocator, Global};
-use std::sync::{Arc, Wait};
+use std::sync::{Arc, Mutex, Wait};
 use std::thread::{self, Threads};
 use std::time::{Clock, Duration, Instant};
 
@@ -20,21 +20,27 @@ pub trait PeriodicWork: Drop {
     fn do_once<R: Wait>(&self, rt: &R) -> Result<(), SinkError>;
 }
 
-// What the owner and the thread share. The mark is set when the thread has to end.
+// What the owner and the thread share: a share of the work, and the mark that is set when the thread has to end. The
+// thread clones the share for each turn, and the owner takes it back at its drop. So the owner is the last one that has
+// the work, and drops it itself, unless the thread is in a turn.
 #[derive(Drop)]
-struct SharedWork<W: PeriodicWork> {
-    work: W,
+struct SharedWork<W: PeriodicWork, A: Allocator> {
+    share: Mutex<Option<Arc<W, A>>>,
     end: Latch,
 }
 
-impl<W: PeriodicWork> SharedWork<W> {
+impl<W: PeriodicWork, A: Allocator + Clone> SharedWork<W, A> {
+    // Does the work once, if the owner still shares it.
+    fn take_turn<R: Wait>(&self, rt: &R) -> Result<(), SinkError> {
+        let work = match &*self.share.lock(rt) {
+            Some(work) => work.clone()?,
+            None => return Ok(()),
+        };
+        work.do_once(rt)
+    }
+
     // Does the work after each period, until the mark is set. An error goes to the handler.
-    fn run<R: Wait + Clock, A: Allocator>(
-        &self,
-        rt: &R,
-        period: Duration,
-        handler: &Option<Handler<A>>,
-    ) {
+    fn run<R: Wait + Clock>(&self, rt: &R, period: Duration, handler: &Option<Handler<A>>) {
         for _ in rt.forever() {
             if self.end.wait_within(rt, period) {
                 return;
@@ -43,7 +49,7 @@ impl<W: PeriodicWork> SharedWork<W> {
             if Instant::now(rt).is_err() {
                 thread::sleep(rt, period);
             }
-            if let (Err(fault), Some(handler)) = (self.work.do_once(rt), handler) {
+            if let (Err(fault), Some(handler)) = (self.take_turn(rt), handler) {
                 handler.handle(fault);
             }
         }
@@ -54,11 +60,11 @@ impl<W: PeriodicWork> SharedWork<W> {
 #[derive(Drop)]
 struct Thread<W: PeriodicWork, R: Wait + Clock + Drop, A: Allocator> {
     rt: R,
-    shared: Arc<SharedWork<W>, A>,
+    shared: Arc<SharedWork<W, A>, A>,
     period: Duration,
 }
 
-impl<W: PeriodicWork, R: Wait + Clock + Drop, A: Allocator> Job<Option<Handler<A>>>
+impl<W: PeriodicWork, R: Wait + Clock + Drop, A: Allocator + Clone> Job<Option<Handler<A>>>
     for Thread<W, R, A> {
     fn run(self, handler: Option<Handler<A>>) {
         self.shared.run(&self.rt, self.period, &handler)
@@ -67,11 +73,13 @@ impl<W: PeriodicWork, R: Wait + Clock + Drop, A: Allocator> Job<Option<Handler<A
 
 /// Owns work, and shares it with a thread that does it after each period.
 ///
-/// The drop stops the thread and doesn't wait for it. Then it does the work once more, and drops the error of this. It
-/// keeps the runtime `R`, whose locks it takes.
+/// The drop stops the thread and doesn't wait for it. Then it does the work once more, drops the error of this, and drops
+/// the work. If the thread is doing the work at that time, the thread drops it when this turn ends. It keeps the runtime
+/// `R`, whose locks it takes.
 pub struct Repeater<W: PeriodicWork, R: Wait + Drop, A: Allocator = Global> {
     rt: R,
-    shared: Arc<SharedWork<W>, A>,
+    work: Arc<W, A>,
+    shared: Arc<SharedWork<W, A>, A>,
 }
 
 impl<
@@ -94,14 +102,16 @@ impl<
     {
         let end = Latch::new();
         let shortest = Duration::from_millis(SHORTEST_PERIOD);
-        let shared = Arc::new(alloc, SharedWork { work, end })?;
+        let work = Arc::new(alloc.clone()?, work)?;
+        let share = Mutex::new(Some(work.clone()?));
+        let shared = Arc::new(alloc, SharedWork { share, end })?;
         let thread = Thread {
             rt: rt.clone()?,
             shared: shared.clone()?,
             period: if period < shortest { shortest } else { period },
         };
         start(&rt, thread, handler)?;
-        Ok(Repeater { rt, shared })
+        Ok(Repeater { rt, work, shared })
     }
 }
 
@@ -110,7 +120,7 @@ impl<W: PeriodicWork, R: Wait + Drop, A: Allocator> Repeater<W, R, A> {
     pub fn work(&self) -> &W
         ensures { result.now ≡ repeated_work self.now }
     {
-        &self.shared.work
+        &self.work
     }
 
     /// Returns the runtime.
@@ -122,7 +132,13 @@ impl<W: PeriodicWork, R: Wait + Drop, A: Allocator> Repeater<W, R, A> {
 impl<W: PeriodicWork, R: Wait + Drop, A: Allocator> Drop for Repeater<W, R, A> {
     fn drop(self) {
         self.shared.end.mark(&self.rt);
-        let _ = self.shared.work.do_once(&self.rt);
-        let Repeater { rt: _, shared: _ } = self;
+        let _ = self.work.do_once(&self.rt);
+        let share = self.shared.share.lock(&self.rt).take();
+        drop(share);
+        let Repeater {
+            rt: _,
+            work: _,
+            shared: _,
+        } = self;
     }
 }

@@ -2,10 +2,10 @@
 ghost use Rattle.std.specs.Prelude.{IfErr};
 ghost use Rattle.cadence_resolve.specs.Refusals.{IsLookupFault};
 
-use super::Target;
+use super::{Family, Target, find_address_of};
 use cadence_errors::SinkError;
 use std::alloc::{Allocator, Global};
-use std::net::{Net, SocketAddr, ToSocketAddrs};
+use std::net::{Net, SocketAddr};
 use std::time::Duration;
 
 /// The result of a lookup: the addresses of the name, possibly none, or the error.
@@ -23,40 +23,36 @@ pub trait Sleeper: Drop {
     fn sleep(&self, time: Duration);
 }
 
-// Asks the system for the addresses of a host.
-pub(super) fn host_addresses<A: Allocator>(
+// Asks the system for the address of a host to which a socket of this family sends. The lookup has no other address.
+fn host_address<A: Allocator>(
     net: &impl Net,
     alloc: A,
-    host: &str,
-    port: u16,
+    host: (&str, u16),
+    family: Family,
 ) -> Lookup<A>
     ensures { IfErr result (λ e. IsLookupFault e) }
 {
-    let found = match (host, port).to_socket_addrs(net) {
-        Ok(found) => found,
-        Err(fault) => return Err(SinkError::Io(fault)),
-    };
-    let mut addresses = Vec::new(alloc);
-    for address in found {
-        if addresses.push(address).is_err() {
-            return Err(SinkError::OutOfMemory);
-        }
+    match find_address_of(net, host, family) {
+        Ok(Some(address)) => Ok(Vec::from_slice(alloc, &[address])?),
+        Ok(None) => Ok(Vec::new(alloc)),
+        Err(fault) => Err(SinkError::Io(fault)),
     }
-    Ok(addresses)
 }
 
-/// Looks up a target. The lookup of an address returns this address.
+/// Looks up a target for a socket of a family. The lookup of an address returns this address, and that of a name at most
+/// one.
 #[derive(Drop)]
 pub struct TargetLookup<R: Net + Drop, A: Allocator + Clone> {
     pub rt: R,
     pub alloc: A,
     pub target: Target<A>,
+    pub family: Family,
 }
 
 impl<R: Net + Drop, A: Allocator + Clone> TargetLookup<R, A> {
     ghost use Rattle.cadence_resolve.specs.Lookups.{IsLookedUp};
 
-    /// Returns the addresses that the target has now. The errors are `OutOfMemory`, and for a host's name also `Io`
+    /// Returns the address that the target has now, if it has any. The errors are `OutOfMemory`, and for a host's name also `Io`
     /// if the lookup fails.
     pub fn addresses(&self) -> Lookup<A>
         ensures { IsLookedUp self.now.target result }
@@ -64,7 +60,9 @@ impl<R: Net + Drop, A: Allocator + Clone> TargetLookup<R, A> {
         let alloc = self.alloc.clone()?;
         match &self.target {
             Target::Addr(address) => Ok(Vec::from_slice(alloc, &[*address])?),
-            Target::Name { host, port } => { host_addresses(&self.rt, alloc, host.as_str(), *port) }
+            Target::Name { host, port } => {
+                host_address(&self.rt, alloc, (host.as_str(), *port), self.family)
+            }
         }
     }
 }

@@ -1,6 +1,6 @@
-//! A resolver that looks its name up again after each period.
+//! A resolver that looks its name up again after each period, and after a refused packet.
 use super::resolver_core::ResolverCore;
-use super::{Lookup, NameLookup, Sleeper};
+use super::{Lookup, NameLookup, PERIOD_AFTER_REFUSAL, Sleeper};
 use cadence_errors::{MetricResult, SinkError};
 use cadence_flow::Handler;
 use std::alloc::Allocator;
@@ -12,11 +12,13 @@ use std::time::{Clock, Duration, Instant};
 // The shortest sleep between two lookups, in milliseconds, so that the thread also sleeps if the period is 0.
 const SHORTEST_SLEEP: u64 = 1;
 
-// What the lock protects: the address, and whether the resolver still runs.
+// What the lock protects: the address, whether the resolver still runs, and whether a packet to the address was refused
+// since the thread last woke up.
 #[derive(Drop)]
 struct State {
     core: ResolverCore,
     running: bool,
+    is_refused: bool,
 }
 
 impl State {
@@ -36,15 +38,15 @@ fn sleep_of(period: Duration) -> Duration {
     if period < shortest { shortest } else { period }
 }
 
-/// A `ResolverCore` under a lock. One thread runs `run`, which looks the name up again after each period, while other
-/// threads read the address.
+/// A `ResolverCore` under a lock. One thread runs `run`, which looks the name up again after each period, or earlier after
+/// a refused packet, while other threads read the address.
 #[derive(Drop)]
 pub struct PeriodicResolver<R: Wait + Drop> {
     rt: R,
     /// The time between two lookups.
     pub period: Duration,
     state: Mutex<State>,
-    stopped: Condvar,
+    changed: Condvar,
 }
 
 impl<R: Wait + Drop> PeriodicResolver<R> {
@@ -68,8 +70,9 @@ impl<R: Wait + Drop> PeriodicResolver<R> {
             state: Mutex::new(State {
                 core,
                 running: true,
+                is_refused: false,
             }),
-            stopped: Condvar::new(),
+            changed: Condvar::new(),
         })
     }
 
@@ -108,7 +111,14 @@ impl<R: Wait + Drop> PeriodicResolver<R> {
     /// for the end.
     pub fn stop(&self) {
         self.state.lock(&self.rt).stop();
-        self.stopped.notify_all();
+        self.changed.notify_all();
+    }
+
+    /// Tells the resolver that the system refused a packet to the address. Its thread then looks the name up as soon as a
+    /// second has passed since it last did, or a period if that is shorter.
+    pub fn note_refusal(&self) {
+        self.state.lock(&self.rt).is_refused = true;
+        self.changed.notify_all();
     }
 
     /// Returns the first address of the last lookup that gave one.
@@ -127,16 +137,25 @@ impl<R: Wait + Drop> PeriodicResolver<R> {
     }
 }
 
-/// A stop of the resolver ends its sleep.
+/// A stop of the resolver ends its sleep, and so does a refused packet, but only when a second has passed.
 impl<R: Wait + Clock + Drop> Sleeper for PeriodicResolver<R> {
     fn sleep(&self, time: Duration) {
         // a wait for the stop is over at once if the clock can't be read
         if Instant::now(&self.rt).is_err() {
             return thread::sleep(&self.rt, time);
         }
+        let least = time.min(Duration::from_secs(PERIOD_AFTER_REFUSAL));
         let state = self.state.lock(&self.rt);
-        let _ = self
-            .stopped
-            .wait_timeout_while(&self.rt, state, time, |state| state.running);
+        let (state, _) = self
+            .changed
+            .wait_timeout_while(&self.rt, state, least, |state| state.running);
+        let left = time.saturating_sub(least);
+        let (mut state, _) = self.changed.wait_timeout_while(
+            &self.rt,
+            state,
+            left,
+            |state| state.running && !state.is_refused,
+        );
+        state.is_refused = false;
     }
 }

@@ -2,17 +2,15 @@
 ghost use Rattle.std.specs.Prelude.{◌≡◌, IfErr, IfOk, None, is_some};
 ghost use Rattle.cadence_resolve.specs.Refusals.{IsSocketRefusal, IsTargetRefusal};
 
-use super::lookup::{TargetLookup, host_addresses};
-use super::resolver_core::ResolverCore;
-use super::{PeriodicResolver, Target};
+use super::lookup::TargetLookup;
+use super::{Family, PeriodicResolver, Runtime, Target, address_of};
 use cadence_errors::MetricResult;
 use cadence_flow::Handler;
 use cadence_flow::thread::{Job, start};
 use std::alloc::Allocator;
 use std::marker::Model;
-use std::net::{Net, SocketAddr, TcpListener, TcpStream};
+use std::net::{Net, SocketAddr};
 use std::sync::{Arc, Wait};
-use std::thread::Threads;
 use std::time::{Clock, Duration};
 
 /// A resolver that looks its target up once. It stores the address that its target had when it was made.
@@ -32,24 +30,17 @@ impl Model for StaticResolver {
 impl StaticResolver {
     ghost use Rattle.cadence_resolve.specs.Lookups.{IsAddressOf};
 
-    /// Makes a resolver of this target. An address is stored as it is, without a request for memory. A host's name is
-    /// looked up now, and the first of its addresses is stored.
-    ///
-    /// For a name the errors are `SinkError::Io` if the lookup fails, `SinkError::OutOfMemory` if there is no memory
-    /// for the addresses, and the kind `InvalidInput` with the text `No socket addresses yielded` if the name has no
-    /// address.
-    pub fn new<A: Allocator>(net: &impl Net, alloc: A, target: &Target<A>) -> MetricResult<Self>
+    /// Makes a resolver of this target for a socket of this family. A host's name is looked up now. The address is the
+    /// one that `address_of` returns, with the same errors.
+    pub fn new<A: Allocator>(
+        net: &impl Net,
+        target: &Target<A>,
+        family: Family,
+    ) -> MetricResult<Self>
         ensures { IsAddressOf target.now result }
     {
-        match target {
-            Target::Addr(address) => Ok(StaticResolver { address: *address }),
-            Target::Name { host, port } => {
-                let core = ResolverCore::new(host_addresses(net, alloc, host.as_str(), *port))?;
-                Ok(StaticResolver {
-                    address: core.get_addr(),
-                })
-            }
-        }
+        let address = address_of(net, target, family)?;
+        Ok(StaticResolver { address })
     }
 
     /// Returns the address that the target had when the resolver was made.
@@ -81,6 +72,14 @@ impl<R: Wait + Drop, A: Allocator> Resolver<R, A> {
             Resolver::Periodic(resolver) => resolver.get_addr(),
         }
     }
+
+    /// Tells the resolver that the system refused a packet to the address. A periodic resolver then looks the target up
+    /// soon, as `PeriodicResolver::note_refusal` says.
+    pub fn note_refusal(&self) {
+        if let Resolver::Periodic(resolver) = self {
+            resolver.note_refusal();
+        }
+    }
 }
 
 impl<R: Wait + Drop, A: Allocator> Drop for Resolver<R, A> {
@@ -92,35 +91,12 @@ impl<R: Wait + Drop, A: Allocator> Drop for Resolver<R, A> {
     }
 }
 
-/// A runtime under which a resolver can have a thread of its own. Each type that meets these bounds implements this
-/// trait.
-pub trait ResolverRuntime: Net<Listener = TcpListener, Stream = TcpStream>
-    + Wait
-    + Threads
-    + Clock
-    + Clone
-    + Drop
-    + Send
-    + Sync
-    + 'static {}
-
-impl<
-    R: Net<Listener = TcpListener, Stream = TcpStream>
-        + Wait
-        + Threads
-        + Clock
-        + Clone
-        + Drop
-        + Send
-        + Sync
-        + 'static,
-> ResolverRuntime for R {}
-
-impl<R: ResolverRuntime, A: Allocator + Clone + Send + Sync + 'static> Resolver<R, A> {
+impl<R: Runtime, A: Allocator + Clone + Send + Sync + 'static> Resolver<R, A> {
     ghost use Rattle.cadence_resolve.specs.Lookups.{KeepsAddress, is_periodic};
 
-    /// Looks the target up and makes a resolver. It is a static one if there is no period. Otherwise it is a periodic
-    /// one, and this call starts its thread. A period below one millisecond counts as one millisecond.
+    /// Looks the target up and makes a resolver for a socket of this family. It is a static one if there is no period.
+    /// Otherwise it is a periodic one, and this call starts its thread. A period below one millisecond counts as one
+    /// millisecond.
     ///
     /// The errors are `SinkError::Io` if the lookup fails or the thread can't be started, `SinkError::OutOfMemory`, and
     /// the kind `InvalidInput` if the name has no address.
@@ -128,6 +104,7 @@ impl<R: ResolverRuntime, A: Allocator + Clone + Send + Sync + 'static> Resolver<
         rt: &R,
         alloc: &A,
         target: Target<A>,
+        family: Family,
         period: Option<Duration>,
         handler: Option<Handler>,
     ) -> MetricResult<Self>
@@ -137,13 +114,14 @@ impl<R: ResolverRuntime, A: Allocator + Clone + Send + Sync + 'static> Resolver<
         ensures once { period ≡ None → IfErr result (λ e. IsTargetRefusal target e) }
     {
         let Some(period) = period else {
-            let resolver = StaticResolver::new(rt, alloc.clone()?, &target)?;
+            let resolver = StaticResolver::new(rt, &target, family)?;
             return Ok(Resolver::Static(resolver));
         };
         let lookup = TargetLookup {
             rt: rt.clone()?,
             alloc: alloc.clone()?,
             target,
+            family,
         };
         let resolver = PeriodicResolver::new(rt.clone()?, lookup.addresses(), period)?;
         let resolver = Arc::new(alloc.clone()?, resolver)?;

@@ -6,7 +6,7 @@ use Rattle.std.proofs.lemmas.List.{append-nil, length-append, map-append}
 use Rattle.std.proofs.lemmas.List.Elements.{filter-append}
 use Rattle.std.proofs.lemmas.List.Sums.{sum_by-append}
 use Rattle.cadence_send.specs.Losses.{Fate, fates_of, lines_of_packet, lost_of, losses_of, packets_in}
-use Rattle.cadence_send.specs.declared.lasting.Losses.{Losses}
+use Rattle.cadence_send.specs.declared.board.Losses.{Losses}
 
 zip_more : (packets : List (List ℕ)) (are_lost : List Bool) (packet : List ℕ) (is_lost : Bool) → length are_lost ≡ length packets
     → fates_of (packets ++ packet ∷ []) (are_lost ++ is_lost ∷ []) ≡ fates_of packets are_lost ++ (packet, is_lost) ∷ []

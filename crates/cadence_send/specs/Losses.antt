@@ -1,11 +1,11 @@
 -- The packets that a writer is given by a stream, and those of them that are lost.
-use Rattle.std.specs.Prelude.{◌≡◌, ◌⊎◌, ℕ, ◌%◌, ◌^◌, ◌==◌, Bool, true, false, if◌then◌else◌, List, [], ◌∷◌, ◌++◌, length, map, count_by}
+use Rattle.std.specs.Prelude.{◌≡◌, ◌⊎◌, ℕ, ◌+◌, ◌%◌, ◌^◌, ◌==◌, Bool, true, false, if◌then◌else◌, List, [], ◌∷◌, ◌++◌, length, map, count_by}
 use Rattle.std.specs.List.{filter, sum_by, zip}
 use Rattle.cadence_errors.specs.declared.SinkError.{SinkError}
 use Rattle.cadence_errors.specs.declared.SinkError.TheVariants.{OutOfMemory}
 use Rattle.cadence_flow.specs.Sums.{zero_sums}
 use Rattle.cadence_flow.specs.Writer.{PacketHistory, WriterKind, Reports, TakesWhole, after_packet}
-use Rattle.cadence_send.specs.declared.lasting.Losses.{Losses}
+use Rattle.cadence_send.specs.declared.board.Losses.{Losses}
 
 -- whether the error says that memory ran out
 abbrev pub is_out_of_memory : SinkError → Bool
@@ -56,10 +56,12 @@ pub record IsSent (kind : WriterKind) (old new : PacketHistory) (before after : 
   pub fate : after ≡ before ++ (packet, false) ∷ []
   pub taken : Reports kind → new ≡ after_packet old packet
 
--- The packet is lost. A writer below that takes whole did not take it.
+-- The packet is lost. A writer below that takes whole did not take it, but refused it.
 pub record IsLost (kind : WriterKind) (old new : PacketHistory) (before after : List Fate) (packet : List ℕ) : Type 0 where
   pub fate : after ≡ before ++ (packet, true) ∷ []
   pub kept : TakesWhole kind → new.packets ≡ old.packets
+  -- the writer below was asked: it refused one more packet, or it may take only a part of a packet
+  pub cause : (new.refusals ≡ ((old.refusals + 1) % 2 ^ 64)) ⊎ (TakesWhole kind → ⊥)
 
 -- The packet was sent, or it is lost.
 abbrev pub IsSentOrLost : WriterKind → PacketHistory → PacketHistory → List Fate → List Fate → List ℕ → Type 0

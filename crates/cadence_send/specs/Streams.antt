@@ -7,7 +7,7 @@ use Rattle.cadence_flow.specs.Writer.{PacketHistory, history_of}
 use Rattle.cadence_send.specs.Losses.{Fate, fates_of, losses_of, packets_in}
 use Rattle.cadence_send.specs.Sent.{AreLinesOf}
 use Rattle.cadence_send.specs.declared.lasting.LastingWriter.{LastingWriter}
-use Rattle.cadence_send.specs.declared.lasting.Losses.{Losses}
+use Rattle.cadence_send.specs.declared.board.Losses.{Losses}
 use Rattle.cadence_words.specs.declared.defaults.Defaults.{Defaults}
 use Rattle.cadence_flow.specs.RecordedWriter.{packets_of}
 

@@ -3,9 +3,11 @@ ghost use Rattle.std.specs.Prelude.{◌≡◌, ◌∷◌, ◌++◌, [], IfNone, 
 ghost use Rattle.cadence_send.specs.Fed.{Feeds, FeedsSome, IsOneText};
 ghost use Rattle.cadence_send.specs.Sent.{TakesFirst, TakesTexts, texts_of_input, without_return};
 
+use crate::board::LossBoard;
 use crate::error::RunError;
 use crate::pace::Pace;
 use crate::taker::LineTaker;
+use crate::tidings::Tidings;
 use cadence_words::{Defaults, Part, WordError, write_line_of_text};
 use memchr::memchr;
 use std::alloc::Allocator;
@@ -148,9 +150,9 @@ fn feed<L: LineTaker, E: Write, A: Allocator + Clone>(
     Ok(())
 }
 
-// Returns whether what is held is to be sent before more input is read.
+// Returns whether what is held is to be sent before more input is read. Input without a whole line begins no period.
 fn is_due<L: LineTaker, P: Pace>(lines: &L, pace: &mut P) -> bool {
-    pace.is_due() || (lines.is_holding() && pace.wait_until_due())
+    lines.is_holding() && (pace.is_due() || pace.wait_until_due())
 }
 
 // Sends what is held if it is due before more input is read.
@@ -174,12 +176,17 @@ pub struct Sending<'a, E, P, A: Allocator> {
     pub errors: &'a mut E,
     /// When what is held is sent before more input is read.
     pub pace: &'a mut P,
+    /// Counts what was lost. The run writes the counts to `errors` from time to time.
+    pub board: &'a LossBoard,
 }
 
 impl<E: Write, P: Pace, A: Allocator + Clone> Sending<'_, E, P, A> {
     /// Reads the lines of the input, and gives the metric's line of each to what takes them. For a line that can't be
     /// read, its number and the reason are written to `errors`. After each piece of input, what is held is sent if the
     /// pace says that it is due, now or before more input comes. What is held at the end of the input is not sent.
+    ///
+    /// The counts of what was lost are written to `errors`, at most once a minute. If packets are sent again, they are
+    /// written at once, and otherwise a minute after the first loss that was not yet written.
     ///
     /// # Errors
     /// `Input` if the reader fails, `Writer` if a packet is refused, and `OutOfMemory`. The lines before the error were
@@ -203,6 +210,7 @@ impl<E: Write, P: Pace, A: Allocator + Clone> Sending<'_, E, P, A> {
             waiting: Vec::new(alloc.clone()?),
             line: Vec::new(alloc.clone()?),
         };
+        let mut tidings = Tidings::default();
         let mut buffer = [0u8; CHUNK];
         for _ in 0..u64::MAX {
             match input.read(&mut buffer) {
@@ -226,6 +234,7 @@ impl<E: Write, P: Pace, A: Allocator + Clone> Sending<'_, E, P, A> {
                 Err(error) => return Err(RunError::Input(error)),
             }
             keep_pace(lines, self.pace)?;
+            tidings.follow(self.board, self.pace, self.errors);
         }
         Err(RunError::Input(io::Error::from(ErrorKind::Other)))
     }

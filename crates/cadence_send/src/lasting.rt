@@ -3,6 +3,7 @@ ghost use Rattle.std.specs.Prelude.{◌≡◌, ◌==◌, count_by, length};
 ghost use Rattle.cadence_flow.specs.RecordedWriter.{packets_of};
 ghost use Rattle.cadence_send.specs.Losses.{fates_of, lines_of_packet, losses_of};
 
+use crate::board::{LossBoard, Losses};
 use crate::nowhere::{Nowhere, note_packet};
 use crate::outlet::Outlet;
 use cadence_errors::SinkError;
@@ -10,17 +11,6 @@ use cadence_flow::io::{PacketWriter, Refusals};
 use cadence_flow::{GhostList, RecordedWriter};
 use std::alloc::Allocator;
 use std::io::Write;
-
-/// How many packets a stream gave to its writer, and how many of them were lost, each modulo 2^64.
-#[derive(Clone, Copy, Debug, Default, PartialEq, Eq)]
-pub struct Losses {
-    /// The packets that were given, also the lost ones.
-    pub given: u64,
-    /// The packets that were lost.
-    pub packets: u64,
-    /// The lines of the lost packets.
-    pub lines: u64,
-}
 
 // Returns how many newlines a packet has.
 fn newlines_of(packet: &[u8]) -> usize
@@ -63,7 +53,7 @@ impl<A: Allocator> Told<A> {
 
 /// A writer that gives each packet to a writer below it, and goes on if that one refuses the packet: the packet is
 /// dropped and counts as lost, with its lines. The first refusal of a kind is told to `errors`, with the place to which
-/// the packets go. An error of `errors` is ignored.
+/// the packets go. An error of `errors` is ignored. The losses are noted on a board after each packet.
 ///
 /// It has a record of the packets that it was given, each with whether it was lost, which exists in proofs only. The
 /// field `counted` says that the losses are those of this record.
@@ -75,6 +65,7 @@ pub struct LastingWriter<'a, T, E, A: Allocator> {
     told: Told<A>,
     losses: Losses,
     refusals: Refusals,
+    board: &'a LossBoard,
     given: RecordedWriter<Nowhere>,
     are_lost: GhostList<bool>,
     pub ghost paired: { length are_lost.items ≡ length (packets_of given) },
@@ -86,7 +77,7 @@ impl<'a, T: PacketWriter, E: Write + Drop, A: Allocator> LastingWriter<'a, T, E,
     ghost use Rattle.cadence_send.specs.Streams.{fates_in, writer_below};
 
     /// Returns a writer over this one. It was given no packet yet.
-    pub fn new(alloc: A, inner: T, outlet: Outlet<'a>, errors: E) -> Self
+    pub fn new(alloc: A, inner: T, outlet: Outlet<'a>, errors: E, board: &'a LossBoard) -> Self
         ensures none { fates_in result ≡ [] }
         ensures below { writer_below result ≡ inner }
     {
@@ -99,6 +90,7 @@ impl<'a, T: PacketWriter, E: Write + Drop, A: Allocator> LastingWriter<'a, T, E,
             },
             losses: Losses::default(),
             refusals: Refusals::none(),
+            board,
             given: RecordedWriter::new(Nowhere),
             are_lost: GhostList::new(),
         }
@@ -173,6 +165,7 @@ impl<T: PacketWriter, E: Write + Drop, A: Allocator> LastingWriter<'_, T, E, A> 
             }
         };
         self.count(packet, is_lost);
+        self.board.note_packet(self.losses, is_lost);
         Ok(())
     }
 }

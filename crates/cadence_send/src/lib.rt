@@ -1,5 +1,6 @@
 //! The engine of `statsd_send`: it takes the lines of metrics, packs them and sends the packets.
 //!
+//! - `board`: what a stream lost so far, where its run can see it.
 //! - `engine`: takes the lines of an input, as it arrives.
 //! - `error`: why a run ended early.
 //! - `lasting`: a writer of packets that outlives refusals, and counts what is lost.
@@ -11,8 +12,10 @@
 //! - `run`: sends one metric, or those of an input, and returns the exit status.
 //! - `summed`: lines that are added up before a packer takes them.
 //! - `taker`: what takes the lines of the engine: a packer, or sums over a packer.
+//! - `tidings`: says when a run writes to its error output how much was lost.
 #![tactic(auto)]
 
+mod board;
 mod engine;
 mod error;
 mod lasting;
@@ -24,10 +27,12 @@ mod packets;
 mod run;
 mod summed;
 mod taker;
+mod tidings;
 
+pub use board::{LossBoard, Losses};
 pub use engine::{Sending, TextCounts};
 pub use error::RunError;
-pub use lasting::{LastingWriter, Losses};
+pub use lasting::LastingWriter;
 pub use options::{Destination, OptionError, Options, Setting};
 pub use outlet::Outlet;
 pub use pace::Pace;

@@ -48,6 +48,8 @@ pub struct Options<'a, A: Allocator> {
     pub is_strict: bool,
     /// Whether packets are printed instead of sent.
     pub is_printing: bool,
+    /// The most milliseconds that packets wait for room at a Unix socket.
+    pub wait: Option<u64>,
     /// Whether a packet is dropped if a Unix socket has no room for it, instead of waiting for room.
     pub is_dropping: bool,
 }
@@ -73,11 +75,13 @@ pub enum Setting {
     Capacity,
     /// The most milliseconds that buffered lines wait.
     FlushEvery,
+    /// The most milliseconds that packets wait for room at a Unix socket.
+    Wait,
 }
 
 impl Setting {
     /// All settings.
-    pub const ALL: [Setting; 9] = [
+    pub const ALL: [Setting; 10] = [
         Setting::To,
         Setting::Prefix,
         Setting::Tag,
@@ -87,6 +91,7 @@ impl Setting {
         Setting::Sample,
         Setting::Capacity,
         Setting::FlushEvery,
+        Setting::Wait,
     ];
 
     /// Returns the name of the option, without its dashes.
@@ -101,6 +106,7 @@ impl Setting {
             Setting::Sample => "sample",
             Setting::Capacity => "capacity",
             Setting::FlushEvery => "flush-every",
+            Setting::Wait => "wait",
         }
     }
 
@@ -120,6 +126,7 @@ impl Setting {
             }
             Setting::Capacity => "a number of bytes, as in --capacity 512",
             Setting::FlushEvery => "a number of milliseconds, as in --flush-every 1000",
+            Setting::Wait => "a number of milliseconds, as in --wait 1000",
         }
     }
 }
@@ -173,13 +180,24 @@ fn read_target(value: &str) -> Option<&str>
     None
 }
 
-// Reads HOST:PORT or unix:PATH.
+// Reads HOST:PORT or udp://HOST:PORT.
+fn read_host(value: &str) -> Option<Destination<'_>>
+    ensures { IfSome result (SaysDestination value.now) }
+{
+    let text = match value.strip_prefix("udp://") {
+        Some(rest) => rest,
+        None => value,
+    };
+    let target = read_target(text)?;
+    Some(Destination::Host(target))
+}
+
+// Reads HOST:PORT, udp://HOST:PORT or unix:PATH.
 fn read_destination(value: &str) -> Option<Destination<'_>>
     ensures { IfSome result (SaysDestination value.now) }
 {
     let Some(path) = value.strip_prefix("unix:") else {
-        let target = read_target(value)?;
-        return Some(Destination::Host(target));
+        return read_host(value);
     };
     if path.is_empty() {
         return None;
@@ -205,6 +223,7 @@ impl<'a, A: Allocator> Options<'a, A> {
             is_adding_up: false,
             is_strict: false,
             is_printing: false,
+            wait: None,
             is_dropping: false,
         }
     }
@@ -238,6 +257,7 @@ impl<'a, A: Allocator> Options<'a, A> {
             }
             Setting::Capacity => self.capacity = read_whole(value).ok_or(refused)? as usize,
             Setting::FlushEvery => self.flush_every = Some(read_whole(value).ok_or(refused)?),
+            Setting::Wait => self.wait = Some(read_whole(value).ok_or(refused)?),
         }
         Ok(())
     }

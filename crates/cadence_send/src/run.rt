@@ -5,9 +5,10 @@ ghost use Rattle.cadence_send.specs.Sent.{SendsTexts, SendsWords, TakesFirst, te
 ghost use Rattle.cadence_send.specs.Streams.{Accounts, AccountsFirst, fates_in, given_history};
 ghost use Rattle.cadence_send.specs.Summed.{IsAllSent, HoldsSummary, TakesSummed, packer_below};
 
+use crate::board::{LossSummary, Losses};
 use crate::engine::{Sending, TextCounts};
 use crate::error::RunError;
-use crate::lasting::{LastingWriter, Losses};
+use crate::lasting::LastingWriter;
 use crate::outlet::Outlet;
 use crate::pace::Pace;
 use crate::summed::SummedPacker;
@@ -104,25 +105,19 @@ fn report_end<E: Write>(
     2
 }
 
-// Writes to `errors` how much was lost, if anything was. Returns the exit status of a run that ended with `status`: 1 in
-// place of 0 or 2 if anything was lost.
-fn report_losses<E: Write>(status: u8, losses: Losses, errors: &mut E) -> u8
+// Writes to `errors` how much was lost, if anything was, and how many lines of the input were added up, at most, to the
+// lines that were lost. Returns the exit status of a run that ended with `status`: 1 in place of 0 or 2 if anything was
+// lost.
+fn report_losses<E: Write>(status: u8, losses: Losses, lost_sums: u64, errors: &mut E) -> u8
     requires { status ≤ 3 }
     ensures most { result ≤ 3 }
     ensures none { (result ≡ 0) ⊎ (result ≡ 2) → (losses.packets ≡ 0) × (result ≡ status) }
 {
-    let Losses {
-        given,
-        packets,
-        lines,
-    } = losses;
-    if packets == 0 {
+    if losses.packets == 0 {
         return status;
     }
-    let _ = writeln!(
-        errors,
-        "statsd_send: {packets} of {given} packets were lost, with {lines} lines"
-    );
+    let summary = LossSummary { losses, lost_sums };
+    let _ = writeln!(errors, "statsd_send: {summary}");
     if status == 3 { 3 } else { 1 }
 }
 
@@ -208,15 +203,17 @@ impl<E: Write, P: Pace, A: Allocator + Clone> Sending<'_, E, P, A> {
     {
         let ended = self.send_stream(lines, input);
         let status = report_end(ended, outlet, self.errors);
-        report_losses(status, lines.get_ref().losses(), self.errors)
+        report_losses(status, lines.get_ref().losses(), 0, self.errors)
     }
 
     /// Sends the metrics of the input's lines with `send_input`, added up before they are packed, and returns the exit
     /// status of the program as `run_stream` does. The lines that the packer took and those that wait, with what is held,
-    /// are a summary of the lines that were added up.
+    /// are a summary of the lines that were added up. If packets were lost, it is also written to `errors` how many lines
+    /// of the input were added up to what was lost, at most: those that were taken between two times at which everything
+    /// was sent, if a packet was lost between them.
     pub fn run_summed<T: PacketWriter, F: Write + Drop, I: Read>(
         &mut self,
-        lines: &mut SummedPacker<LastingWriter<'_, T, F, A>, A>,
+        lines: &mut SummedPacker<'_, LastingWriter<'_, T, F, A>, A>,
         input: &mut I,
         outlet: Outlet<'_>,
     ) -> u8
@@ -231,6 +228,7 @@ impl<E: Write, P: Pace, A: Allocator + Clone> Sending<'_, E, P, A> {
         let ended = self.send_input(lines, input);
         lines.keeps_the_record();
         let status = report_end(ended, outlet, self.errors);
-        report_losses(status, lines.get_ref().losses(), self.errors)
+        let lost_sums = self.board.lost_sums();
+        report_losses(status, lines.get_ref().losses(), lost_sums, self.errors)
     }
 }

@@ -2,6 +2,7 @@
 ghost use Rattle.std.specs.Prelude.{◌≡◌, [], IfOk, OnOk};
 ghost use Rattle.cadence_aggregating.specs.Summed.{accepted_in, gone_in, held_in, waiting_in};
 
+use crate::board::LossBoard;
 use crate::error::RunError;
 use crate::taker::LineTaker;
 use cadence_aggregating::{Limits, SummedLines};
@@ -11,16 +12,17 @@ use std::alloc::{AllocError, Allocator, Global};
 use std::io::{self, ErrorKind};
 use std::str;
 
-/// Adds up lines, and gives a packer those that are to be sent.
+/// Adds up lines, and gives a packer those that are to be sent. Which lines were added up is noted on a board.
 #[derive(Drop)]
-pub struct SummedPacker<T, A: Allocator = Global> {
+pub struct SummedPacker<'a, T, A: Allocator = Global> {
     sums: SummedLines,
     lines: LineBuffer<T, A>,
     // Whether a line was taken since everything was sent.
     is_holding: bool,
+    board: &'a LossBoard,
 }
 
-impl<T: PacketWriter, A: Allocator> SummedPacker<T, A> {
+impl<'a, T: PacketWriter, A: Allocator> SummedPacker<'a, T, A> {
     ghost use Rattle.cadence_send.specs.Summed.{GivesToPacker, HoldsSummary, packer_below, sums_of};
 
     /// Returns sums of no line over a packer. The only error is that memory ran out.
@@ -28,7 +30,8 @@ impl<T: PacketWriter, A: Allocator> SummedPacker<T, A> {
         alloc: Global,
         limits: Limits,
         lines: LineBuffer<T, A>,
-    ) -> Result<SummedPacker<T, A>, AllocError>
+        board: &'a LossBoard,
+    ) -> Result<SummedPacker<'a, T, A>, AllocError>
         ensures accepted { IfOk result (λ p. accepted_in (sums_of p) ≡ []) }
         ensures gone { IfOk result (λ p. gone_in (sums_of p) ≡ []) }
         ensures packer { IfOk result (λ p. packer_below p ≡ lines) }
@@ -37,6 +40,7 @@ impl<T: PacketWriter, A: Allocator> SummedPacker<T, A> {
             sums: SummedLines::new(alloc, limits)?,
             lines,
             is_holding: false,
+            board,
         })
     }
 
@@ -71,7 +75,7 @@ impl<T: PacketWriter, A: Allocator> SummedPacker<T, A> {
 }
 
 /// What is held waits for a flush. A line that the packer refuses waits too, and comes before all others.
-impl<T: PacketWriter, A: Allocator> LineTaker for SummedPacker<T, A> {
+impl<T: PacketWriter, A: Allocator> LineTaker for SummedPacker<'_, T, A> {
     ghost use Rattle.cadence_send.specs.Summed.{IsAllSent, TakesSummed, summed_more, summed_none};
 
     ghost takes = { TakesSummed T.kind T.history };
@@ -90,6 +94,7 @@ impl<T: PacketWriter, A: Allocator> LineTaker for SummedPacker<T, A> {
         self.sums.add(text)?;
         self.is_holding = true;
         let _ = self.give_waiting();
+        self.board.note_added();
         Ok(())
     }
 
@@ -99,6 +104,7 @@ impl<T: PacketWriter, A: Allocator> LineTaker for SummedPacker<T, A> {
         self.give_waiting()?;
         self.lines.send()?;
         self.is_holding = false;
+        self.board.note_sent();
         Ok(())
     }
 

@@ -12,7 +12,7 @@ use cadence_errors::{MetricResult, SinkError};
 use cadence_flow::io::DEFAULT_CAPACITY;
 use cadence_flow::stats::{SinkStats, Unread};
 use cadence_flow::{Handler, MetricSink, SinkErrorHandler, emit_by, flush_by};
-use cadence_resolve::{Resolver, ResolverRuntime, StaticResolver, Target};
+use cadence_resolve::{Family, Resolver, Runtime, StaticResolver, Target};
 use std::alloc::{Allocator, Global};
 use std::net::{Net, UdpSocket};
 use std::sync::Wait;
@@ -32,6 +32,7 @@ impl<R: Wait + Drop, A: Allocator> DatagramSocket for UdpPeer<R, A> {
         let taken = match self.socket.send_to(packet, self.resolver.get_addr()) {
             Ok(n) => Some(n),
             Err(error) => {
+                self.resolver.note_refusal();
                 *fault = SinkError::Io(error);
                 None
             }
@@ -60,7 +61,7 @@ pub struct UdpMetricSink<R: Wait + Drop, A: Allocator = Global> {
 
 impl<R: Net + Wait + Drop, A: Allocator + Clone> UdpMetricSink<R, A> {
     /// Makes a sink over a socket that the caller bound. The target is looked up once, now, and the sink sends to its
-    /// first address.
+    /// first address of the socket's family, or if it has none to its first address.
     ///
     /// The errors are `SinkError::Io` if the lookup fails, the kind `InvalidInput` if the name has no address, and
     /// `SinkError::OutOfMemory`. After an error the socket is dropped.
@@ -69,7 +70,11 @@ impl<R: Net + Wait + Drop, A: Allocator + Clone> UdpMetricSink<R, A> {
         ensures address { IfOk result (λ s. SendsTo s target) }
         ensures refused { IfErr result (λ e. IsTargetRefusal target e) }
     {
-        let resolver = Resolver::Static(StaticResolver::new(&rt, alloc.clone()?, &target)?);
+        let resolver = Resolver::Static(StaticResolver::new(
+            &rt,
+            &target,
+            Family::of_socket(&socket),
+        )?);
         let socket = CountedSocket::new(rt, alloc, UdpPeer { socket, resolver })?;
         Ok(UdpMetricSink { socket })
     }
@@ -126,8 +131,8 @@ impl UdpMetricSinkBuilder {
         }
     }
 
-    /// Lets a thread look the target up again after each period. The thread sleeps in between. A period below one
-    /// millisecond counts as one millisecond. The drop of the sink wakes the thread, which then ends after one more
+    /// Lets a thread look the target up again after each period, and after a refused packet, but then only when a second
+    /// has passed. The thread sleeps in between. A period below one millisecond counts as one millisecond. The drop of the sink wakes the thread, which then ends after one more
     /// lookup at the latest.
     pub fn with_resolver_period(mut self, period: Duration) -> Self
         ensures period { period_of result ≡ Some period }
@@ -152,7 +157,7 @@ impl UdpMetricSinkBuilder {
     ///
     /// The errors are `SinkError::Io` if the first lookup fails or the thread can't be started, the kind `InvalidInput`
     /// if the name has no address, and `SinkError::OutOfMemory`. After an error the socket is dropped.
-    pub fn build<R: ResolverRuntime, A: Allocator + Clone + Send + Sync + 'static>(
+    pub fn build<R: Runtime, A: Allocator + Clone + Send + Sync + 'static>(
         self,
         rt: R,
         alloc: A,
@@ -164,7 +169,8 @@ impl UdpMetricSinkBuilder {
         ensures refused { IfErr result (λ e. IsSocketRefusal e) }
         ensures once { period_of self ≡ None → IfErr result (λ e. IsTargetRefusal target e) }
     {
-        let resolver = Resolver::new(&rt, &alloc, target, self.period, self.handler)?;
+        let family = Family::of_socket(&socket);
+        let resolver = Resolver::new(&rt, &alloc, target, family, self.period, self.handler)?;
         let socket = CountedSocket::new(rt, alloc, UdpPeer { socket, resolver })?;
         Ok(UdpMetricSink { socket })
     }
@@ -202,7 +208,7 @@ impl<R: Net + Wait + Clone + Drop, A: Allocator + Clone> BufferedUdpMetricSink<R
 
     /// Makes a sink with a buffer of `capacity` bytes over a socket that the caller bound. A capacity of more than
     /// 65,507 bytes is a mistake over IPv4, as the comment of the type says. The target is looked up once, now, and the
-    /// sink sends to its first address.
+    /// sink sends to its first address of the socket's family, or if it has none to its first address.
     ///
     /// The errors are `SinkError::Io` if the lookup fails, the kind `InvalidInput` if the name has no address, and
     /// `SinkError::OutOfMemory`. After an error the socket is dropped.
@@ -216,7 +222,11 @@ impl<R: Net + Wait + Clone + Drop, A: Allocator + Clone> BufferedUdpMetricSink<R
         ensures buffer { IfOk result (λ s. udp_buffer s ≡ capacity) }
         ensures refused { IfErr result (λ e. IsTargetRefusal target e) }
     {
-        let resolver = Resolver::Static(StaticResolver::new(&rt, alloc.clone()?, &target)?);
+        let resolver = Resolver::Static(StaticResolver::new(
+            &rt,
+            &target,
+            Family::of_socket(&socket),
+        )?);
         let socket = PackedSocket::new(rt, alloc, UdpPeer { socket, resolver }, capacity)?;
         Ok(BufferedUdpMetricSink { socket })
     }
@@ -278,6 +288,16 @@ impl BufferedUdpMetricSinkBuilder {
         }
     }
 
+    // Returns a builder with these settings of the lookups, and without a capacity.
+    pub(crate) fn of_lookups(lookups: UdpMetricSinkBuilder) -> Self
+        ensures { lookups_of result ≡ lookups }
+    {
+        BufferedUdpMetricSinkBuilder {
+            capacity: None,
+            lookups,
+        }
+    }
+
     /// Sets the capacity of the buffer, in bytes. More than 65,507 are a mistake over IPv4, as the comment of
     /// `BufferedUdpMetricSink` says.
     pub fn with_capacity(mut self, capacity: usize) -> Self
@@ -318,7 +338,7 @@ impl BufferedUdpMetricSinkBuilder {
     ///
     /// The errors are `SinkError::Io` if the first lookup fails or the thread can't be started, the kind `InvalidInput`
     /// if the name has no address, and `SinkError::OutOfMemory`. After an error the socket is dropped.
-    pub fn build<R: ResolverRuntime, A: Allocator + Clone + Send + Sync + 'static>(
+    pub fn build<R: Runtime, A: Allocator + Clone + Send + Sync + 'static>(
         self,
         rt: R,
         alloc: A,
@@ -333,7 +353,8 @@ impl BufferedUdpMetricSinkBuilder {
     {
         let capacity = self.capacity.unwrap_or(DEFAULT_CAPACITY);
         let UdpMetricSinkBuilder { period, handler } = self.lookups;
-        let resolver = Resolver::new(&rt, &alloc, target, period, handler)?;
+        let family = Family::of_socket(&socket);
+        let resolver = Resolver::new(&rt, &alloc, target, family, period, handler)?;
         let socket = PackedSocket::new(rt, alloc, UdpPeer { socket, resolver }, capacity)?;
         Ok(BufferedUdpMetricSink { socket })
     }

@@ -1,4 +1,4 @@
-//! The first program of docs/GUIDE.md: a client that packs lines into UDP datagrams for a server on this machine.
+//! The first program of docs/rattle.md: a client that packs lines into UDP datagrams for a server on this machine.
 //!
 //! It prints 82, the bytes of the three lines `my.service.visits:1|c` (21), `my.service.visits:1|c|#page:home` (32) and
 //! `my.service.startup:1250|ms` (26), each with its newline. It doesn't show that a server receives them.

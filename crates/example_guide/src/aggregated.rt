@@ -1,12 +1,12 @@
 //! A sink that adds up lines, what a spy below it receives, and a client whose calls make no line.
 
+use crate::clients::add_message;
 use cadence::client::ClientSettings;
 use cadence::line::Tag;
 use cadence::prelude::*;
 use cadence::ready::{buffered_udp_sink, host};
-use cadence::{MetricResult, MetricSink, SpyMetricSink, StatsdClient};
+use cadence::{MetricResult, MetricSink, Runtime, SpyMetricSink, StatsdClient};
 use cadence_aggregating::{AggregatedClient, AggregatingMetricSink, AggregatingMetricSinkBuilder};
-use example_service::runtime::Runtime;
 use std::alloc::Global;
 use std::time::Duration;
 
@@ -48,22 +48,23 @@ fn count_over<S: MetricSink, R: Runtime>(rt: &R, alloc: Global, sink: S) -> Metr
     Ok(())
 }
 
-/// Returns the messages of two spies: one got the sum of two lines, and the other one that of two calls by a key.
-pub fn report<R: Runtime>(rt: &R, alloc: Global) -> MetricResult<String> {
+// Adds up two lines. It is the example of `AggregatingMetricSink`.
+fn sum_of_two<R: Runtime>(rt: &R, alloc: Global, text: &mut String) -> MetricResult<()> {
     let (receiver, spy) = SpyMetricSink::new(rt.clone()?, alloc)?;
     let sink = AggregatingMetricSink::from(rt.clone()?, alloc, spy)?;
     sink.emit("visits:1|c")?;
     sink.emit("visits:2|c")?;
     sink.flush()?;
     let message = receiver.try_recv(); // visits:3|c
+    add_message(alloc, text, message)
+}
+
+/// Returns the messages of two spies: one got the sum of two lines, and the other one that of two calls by a key.
+pub fn report<R: Runtime>(rt: &R, alloc: Global) -> MetricResult<String> {
     let mut text = String::new(alloc);
-    if let Some(line) = message {
-        writeln!(text, "{}", String::from_utf8_lossy(alloc, &line)?)?;
-    }
+    sum_of_two(rt, alloc, &mut text)?;
     let (receiver, spy) = SpyMetricSink::new(rt.clone()?, alloc)?;
     count_over(rt, alloc, spy)?;
-    if let Some(line) = receiver.try_recv() {
-        writeln!(text, "{}", String::from_utf8_lossy(alloc, &line)?)?;
-    }
+    add_message(alloc, &mut text, receiver.try_recv())?;
     Ok(text)
 }

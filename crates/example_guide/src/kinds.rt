@@ -2,7 +2,7 @@
 
 use cadence::decimal::Decimal;
 use cadence::prelude::*;
-use cadence::{Metric, MetricResult, MetricSink, NopMetricSink, StatsdClient};
+use cadence::{MetricResult, MetricSink, StatsdClient};
 use std::alloc::Global;
 use std::time::Duration;
 
@@ -37,15 +37,25 @@ pub fn send_with_options<S: MetricSink>(client: &StatsdClient<Global, S>) -> Met
     Ok(())
 }
 
-/// Returns the line of a counter whose client has a default tag.
-pub fn counter_line(alloc: Global) -> MetricResult<String> {
-    let client = StatsdClient::builder(alloc, "my.prefix", NopMetricSink)
-        .with_tag("env", "prod")
-        .build()?;
-    let counter = client
-        .count_with_tags("my.counter", 29)
-        .with_tag("host", "web03.example.com")
-        .with_tag_value("beta-test")
+/// Sends the metrics of the examples of `MetricClient`.
+pub fn send_seven<S: MetricSink>(client: &StatsdClient<Global, S>) -> MetricResult<()> {
+    client.count("visits", 1)?;
+    client.time("startup", Duration::from_millis(1250))?;
+    client.gauge("temperature", Decimal::new(215, 1)?)?;
+    client.meter("requests", 5)?;
+    client.histogram("latency", Duration::from_micros(83))?;
+    client.distribution("payload", 1500)?;
+    client.set("users", 4711)?;
+    Ok(())
+}
+
+/// Sends the metric of the example of `MetricBuilder`.
+pub fn send_tenth<S: MetricSink>(client: &StatsdClient<Global, S>) -> MetricResult<()> {
+    let tenth = Decimal::new(1, 1)?;
+    client
+        .count_with_tags("visits", 1)
+        .with_tag("page", "home")
+        .with_sampling_rate(tenth)
         .try_send()?;
-    Ok(String::from_str(alloc, counter.as_metric_str())?)
+    Ok(())
 }

@@ -1,58 +1,48 @@
-//! The programs of docs/GUIDE.md. Each block of Rattle there is in a file of this crate, word for word, and
-//! `.ci/front-door` compares them.
+//! The programs of docs/rattle.md, and the examples of the library's documentation. Each block of Rattle there is in a
+//! file of this crate or of `example_service`, word for word, and `.ci/front-door` compares them.
 //!
-//! The program prints what the blocks send: the lines of metrics, what clients over sockets count, and the datagrams
-//! that a server of its own receives. The lines follow from the grammar of Statsd with the DogStatsD fields. Nobody has
-//! to listen at port 8125; what is sent there is counted and not looked at.
+//! The program runs them, and prints the lines, numbers and datagrams of those that have some. The lines follow from
+//! the grammar of Statsd with the DogStatsD fields. Nobody has to listen at port 8125 or at a path.
 //!
-//! - `shop`: a service that makes its client, and code that sends over any client.
-//! - `kinds`: each kind of metric and each option of a call.
-//! - `sinks`: a client over each sink.
-//! - `aggregated`: a sink that adds up lines.
-//! - `errors`: what a service does with errors.
-//! - `own`: a sink, a value and a metric of a caller's own types.
+//! - `kinds`: each kind of metric and each option of a call. `own`: sinks, a value and a metric of a caller's own types.
+//! - `clients`: clients, and what spies receive of them. `errors`: what a service does with errors.
+//! - `sinks`: sinks over UDP and over Unix sockets, and queues. `agent`: clients of the environment and of an agent.
+//! - `aggregated`: a sink that adds up lines, and a client whose calls make no line.
+//! - `texts`: records, numbers, plans of packets, and packets that are read back.
+//! - `service`: the service of `example_service`, and a sink that reports, with the datagrams that a server receives.
 //! - `ported`: a program of the Rust crate.
-//! - `capacities`: how many packets some lines need.
-//! - `documented`, `documented_sockets`: the examples of the library's documentation.
-//! - `lines`, `numbers`, `round_trip`: these blocks run, and what they send as a text.
-//! - `unix`: clients over a Unix socket, and what a server receives.
 #![tactic(auto)]
 
+mod agent;
 mod aggregated;
-mod capacities;
-mod documented;
-mod documented_sockets;
+mod clients;
 mod errors;
 mod kinds;
-mod lines;
-mod numbers;
 mod own;
 mod ported;
-mod round_trip;
-mod shop;
+mod service;
 mod sinks;
-mod unix;
+mod texts;
 
 use cadence::client::BoxedHandler;
-use cadence::sinks::ResolverRuntime;
-use cadence::{MetricError, MetricResult, NopMetricSink, StatsdClient};
-use example_service::runtime::Runtime;
+use cadence::{MetricError, MetricResult, NopMetricSink, Runtime, StatsdClient};
 use std::alloc::Global;
 use std::env::Env;
-use std::process;
 
-// Runs the blocks, and returns what they send and count.
+// Runs the examples that have something to print, and returns it.
 fn report<R: Runtime>(rt: &R, alloc: Global) -> MetricResult<String> {
-    let mut text = lines::report(rt, alloc)?;
-    text.push_str(&numbers::report(rt, alloc)?)?;
-    text.push_str(&round_trip::report(rt, alloc)?)?;
+    let mut text = clients::report(rt, alloc)?;
+    text.push_str(&sinks::report(rt, alloc)?)?;
+    text.push_str(&errors::report(rt, alloc)?)?;
+    text.push_str(&texts::report(alloc)?)?;
+    text.push_str(&aggregated::report(rt, alloc)?)?;
+    text.push_str(&service::report(rt, alloc)?)?;
     Ok(text)
 }
 
-// Runs the blocks whose lines nobody has to receive.
-fn send_unheard<R: Runtime + ResolverRuntime + Env>(rt: &R, alloc: Global) -> MetricResult<()> {
-    documented::count_by_environment(rt, alloc)?;
-    unix::count_within_a_second(rt, alloc)?;
+// Runs the examples whose lines nobody has to receive.
+fn send_unheard<R: Runtime + Env>(rt: &R, alloc: Global) -> MetricResult<()> {
+    agent::count_by_environment(rt, alloc)?;
     aggregated::count_by_sums(rt, alloc)?;
     aggregated::count_by_keys(rt, alloc)?;
     ported::send_over_re_resolving_sink(rt, alloc)
@@ -74,11 +64,10 @@ fn send_with_handler(rt: &HostRuntime, alloc: Global) -> MetricResult<()> {
 fn main(rt: HostRuntime) -> MetricResult<()> {
     let alloc = rt.alloc();
     print!(rt; "{}", report(&rt, alloc)?)?;
-    print!(rt; "{}", documented::report(&rt, alloc)?)?;
-    let id = process::id(rt.process());
-    let path = format!(in alloc; "/tmp/statsd-{id}.sock")?;
-    print!(rt; "{}", unix::report(&rt, alloc, &path)?)?;
-    print!(rt; "{}", aggregated::report(&rt, alloc)?)?;
     send_unheard(&rt, alloc)?;
+    // nobody listens at the paths of these, so their results are not looked at
+    let _ = agent::send_to_agent(&rt, alloc, "/run/statsd.sock");
+    let _ = agent::send_to_nobody(&rt, alloc);
+    let _ = agent::count_for_nobody(&rt, alloc);
     send_with_handler(&rt, alloc)
 }

@@ -3,10 +3,10 @@
 
 use cadence::prelude::*;
 use cadence::ready::host;
-use cadence::sinks::ResolverRuntime;
 use cadence::types::SinkError;
 use cadence::{
-    BufferedUdpMetricSink, BufferedUdpMetricSinkBuilder, DEFAULT_PORT, MetricResult, StatsdClient,
+    BufferedUdpMetricSink, BufferedUdpMetricSinkBuilder, DEFAULT_PORT, MetricResult, Runtime,
+    StatsdClient,
 };
 use std::alloc::Global;
 use std::net::UdpSocket;
@@ -15,7 +15,7 @@ use std::sync::atomic::{AtomicU64, Ordering};
 use std::time::Duration;
 
 // Makes the sink. Its handler counts the lookups that fail.
-fn make_sink<R: ResolverRuntime>(
+fn make_sink<R: Runtime>(
     rt: &R,
     alloc: Global,
     failures: Arc<AtomicU64>,
@@ -34,7 +34,7 @@ fn make_sink<R: ResolverRuntime>(
 }
 
 /// Sends two lines over such a sink.
-pub fn send_over_re_resolving_sink<R: ResolverRuntime>(rt: &R, alloc: Global) -> MetricResult<()> {
+pub fn send_over_re_resolving_sink<R: Runtime>(rt: &R, alloc: Global) -> MetricResult<()> {
     let sink = make_sink(rt, alloc, Arc::new(alloc, AtomicU64::new(0))?)?;
     let client = StatsdClient::from_sink(alloc, "my.prefix", sink)?;
     client.count("my.counter.thing", 29)?;

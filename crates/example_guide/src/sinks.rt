@@ -1,117 +1,62 @@
-//! A client over each sink. Each function of a block makes the sink, the client over it, and sends a line.
+//! Sinks over UDP and over Unix sockets, and queues. Nobody has to listen.
 
 use cadence::prelude::*;
 use cadence::queue::QueuePolicy;
-use cadence::ready::{buffered_udp_sink, host, udp_sink};
 use cadence::sinks::PathSocket;
 use cadence::types::SinkError;
 use cadence::{
-    BufferedSpyMetricSink, BufferedUdpMetricSink, BufferedUnixMetricSink, FlushingMetricSink,
-    MetricResult, MetricSink, NopMetricSink, QueuingMetricSink, QueuingMetricSinkBuilder,
-    SpyMetricSink, StatsdClient, UnixMetricSink,
+    BufferedUdpMetricSink, BufferedUnixMetricSink, DEFAULT_PORT, FlushingMetricSink, MetricResult,
+    MetricSink, NopMetricSink, QueuingMetricSink, QueuingMetricSinkBuilder, Runtime, StatsdClient,
+    Target, UdpMetricSink, UdpMetricSinkBuilder, UnixMetricSink,
 };
-use example_service::runtime::Runtime;
 use std::alloc::Global;
+use std::net::{Ipv4Addr, SocketAddr, UdpSocket};
 use std::time::Duration;
 
-// Sends a line over a client over this sink.
-fn send_over<S: MetricSink>(alloc: Global, sink: S) -> MetricResult<()> {
-    let client = StatsdClient::from_sink(alloc, "p", sink)?;
-    client.incr("visits")?;
-    Ok(())
+// The example of `UdpMetricSink`. Returns the length of the datagram that it sends.
+fn send_datagram<R: Runtime>(rt: &R, alloc: Global) -> MetricResult<usize> {
+    let socket = UdpSocket::bind(rt, SocketAddr::from((Ipv4Addr::UNSPECIFIED, 0)))?;
+    let target = Target::Name {
+        host: String::from_str(alloc, "localhost")?,
+        port: DEFAULT_PORT,
+    };
+    let sink = UdpMetricSink::from(rt.clone()?, alloc, target, socket)?;
+    Ok(sink.emit("p.visits:1|c")?)
 }
 
-// Sends a line over a client over this sink, which packs lines.
-fn send_packed_over<S: MetricSink>(alloc: Global, sink: S) -> MetricResult<()> {
-    let client = StatsdClient::from_sink(alloc, "p", sink)?;
-    client.incr("visits")?;
-    client.flush()
+// Returns a socket that may send, and the target of the datagrams.
+fn bind_socket<R: Runtime>(rt: &R) -> MetricResult<(Target, UdpSocket)> {
+    let target = Target::Addr(SocketAddr::from((Ipv4Addr::LOCALHOST, DEFAULT_PORT)));
+    let socket = UdpSocket::bind(rt, SocketAddr::from((Ipv4Addr::UNSPECIFIED, 0)))?;
+    Ok((target, socket))
 }
 
-// Makes a sink that packs lines for an agent on this machine, at most this many bytes in a packet.
-fn packing_sink<R: Runtime>(
-    rt: &R,
-    alloc: Global,
-    capacity: usize,
-) -> MetricResult<BufferedUdpMetricSink<R>> {
-    buffered_udp_sink(rt, alloc, host(alloc, "localhost", 8125)?, capacity)
+// The example of `UdpMetricSinkBuilder`.
+fn send_and_look_up<R: Runtime>(rt: &R, alloc: Global) -> MetricResult<usize> {
+    let (target, socket) = bind_socket(rt)?;
+    let builder = UdpMetricSinkBuilder::new().with_resolver_period(Duration::from_secs(60));
+    let sink = builder.build(rt.clone()?, alloc, target, socket)?;
+    Ok(sink.emit("p.visits:1|c")?)
 }
 
-pub fn send_over_nop(alloc: Global) -> MetricResult<()> {
-    send_over(alloc, NopMetricSink)
+// The example of `BufferedUdpMetricSink`.
+fn send_packed<R: Runtime>(rt: &R, alloc: Global) -> MetricResult<usize> {
+    let (target, socket) = bind_socket(rt)?;
+    let sink = BufferedUdpMetricSink::with_capacity(rt.clone()?, alloc, target, socket, 1432)?;
+    Ok(sink.emit("p.visits:1|c")?)
 }
 
-pub fn send_over_udp<R: Runtime>(rt: &R, alloc: Global) -> MetricResult<()> {
-    let target = host(alloc, "localhost", 8125)?;
-    send_over(alloc, udp_sink(rt, alloc, target)?)
+// The example of `FlushingMetricSink`.
+fn send_each_second<R: Runtime>(rt: &R, alloc: Global) -> MetricResult<usize> {
+    let (target, socket) = bind_socket(rt)?;
+    let inner = BufferedUdpMetricSink::from(rt.clone()?, alloc, target, socket)?;
+    let sink = FlushingMetricSink::new(rt.clone()?, alloc, inner, Duration::from_secs(1))?;
+    Ok(sink.emit("p.visits:1|c")?)
 }
 
-pub fn send_over_buffered_udp<R: Runtime>(rt: &R, alloc: Global) -> MetricResult<()> {
-    send_packed_over(alloc, packing_sink(rt, alloc, 512)?)
-}
-
-// A queue over a sink that packs lines.
-type Queue<R> = QueuingMetricSink<BufferedUdpMetricSink<R>, R>;
-
-// Makes a queue of 1000 lines.
-fn make_queue<R: Runtime>(rt: &R, alloc: Global) -> MetricResult<Queue<R>> {
-    let inner = packing_sink(rt, alloc, 1432)?;
-    QueuingMetricSink::with_capacity(rt.clone()?, alloc, inner, 1000)
-}
-
-pub fn send_over_queue<R: Runtime>(rt: &R, alloc: Global) -> MetricResult<()> {
-    let client = StatsdClient::from_sink(alloc, "p", make_queue(rt, alloc)?)?;
-    client.incr("visits")?;
-    client.sink().stop_and_wait();
-    client.flush()
-}
-
-pub fn send_each_second<R: Runtime>(rt: &R, alloc: Global) -> MetricResult<()> {
-    let inner = packing_sink(rt, alloc, 512)?;
-    let period = Duration::from_secs(1);
-    send_over(
-        alloc,
-        FlushingMetricSink::new(rt.clone()?, alloc, inner, period)?,
-    )
-}
-
-pub fn make_latest_sink<R: Runtime>(rt: &R, alloc: Global) -> MetricResult<Queue<R>> {
-    let inner = packing_sink(rt, alloc, 1432)?;
-    let queue = QueuingMetricSinkBuilder::new()
-        .with_capacity(100)
-        .with_policy(QueuePolicy::DropOldest);
-    queue.build(rt.clone()?, alloc, inner)
-}
-
-/// Sends over a queue that drops its oldest line, and returns how many lines it dropped.
-pub fn send_latest<R: Runtime>(rt: &R, alloc: Global) -> MetricResult<u64> {
-    let client = StatsdClient::from_sink(alloc, "my.service", make_latest_sink(rt, alloc)?)?;
-    client.gauge("depth", 17)?;
-    client.sink().stop_and_wait();
-    Ok(client.sink().dropped())
-}
-
-pub fn send_over_unix<R: Runtime, P: PathSocket + Send + Sync>(
-    rt: &R,
-    alloc: Global,
-    socket: P,
-) -> MetricResult<()> {
-    let sink = UnixMetricSink::from(rt.clone()?, alloc, "/run/statsd.sock", socket)?;
-    send_over(alloc, sink)
-}
-
-pub fn send_over_buffered_unix<R: Runtime, P: PathSocket + Send + Sync>(
-    rt: &R,
-    alloc: Global,
-    socket: P,
-) -> MetricResult<()> {
-    let sink = BufferedUnixMetricSink::from(rt.clone()?, alloc, "/run/statsd.sock", socket)?;
-    send_packed_over(alloc, sink)
-}
-
-/// Takes every packet, in place of a socket.
+// Takes every packet, in place of a socket.
 #[derive(Drop)]
-pub struct TakesAll;
+struct TakesAll;
 
 impl PathSocket for TakesAll {
     fn send_to(&self, packet: &[u8], _path: &str) -> Result<usize, SinkError> {
@@ -119,36 +64,49 @@ impl PathSocket for TakesAll {
     }
 }
 
-/// Returns the line that a spy received.
-pub fn spy_line<R: Runtime>(rt: &R, alloc: Global) -> MetricResult<Option<Vec<u8>>> {
-    let (receiver, sink) = SpyMetricSink::new(rt.clone()?, alloc)?;
-    send_over(alloc, sink)?;
-    Ok(receiver.try_recv())
+// The example of `UnixMetricSink`.
+fn send_to_path<R: Runtime>(rt: &R, alloc: Global, socket: TakesAll) -> MetricResult<usize> {
+    let sink = UnixMetricSink::from(rt.clone()?, alloc, "/run/statsd.sock", socket)?;
+    Ok(sink.emit("p.visits:1|c")?)
 }
 
-// Sends two lines over a client over this sink, which packs them.
-fn send_two_over<S: MetricSink>(alloc: Global, sink: S) -> MetricResult<()> {
-    let client = StatsdClient::from_sink(alloc, "p", sink)?;
+// The example of `BufferedUnixMetricSink`.
+fn send_packed_to_path<R: Runtime>(rt: &R, alloc: Global, socket: TakesAll) -> MetricResult<usize> {
+    let sink = BufferedUnixMetricSink::from(rt.clone()?, alloc, "/run/statsd.sock", socket)?;
+    Ok(sink.emit("p.visits:1|c")?)
+}
+
+// The example of `QueuingMetricSinkBuilder`. Returns how many lines the queue accepted.
+fn queue_lines<R: Runtime>(rt: &R, alloc: Global, inner: NopMetricSink) -> MetricResult<u64> {
+    let builder = QueuingMetricSinkBuilder::new()
+        .with_capacity(1000)
+        .with_policy(QueuePolicy::DropOldest)
+        .with_flush_period(Duration::from_secs(1));
+    let sink = builder.build(rt.clone()?, alloc, inner)?;
+    sink.emit("p.visits:1|c")?;
+    sink.stop_and_wait();
+    Ok(sink.submitted())
+}
+
+// The example of `QueuingMetricSink`.
+fn queue_and_stop<R: Runtime>(rt: &R, alloc: Global, inner: NopMetricSink) -> MetricResult<()> {
+    let sink = QueuingMetricSink::with_capacity(rt.clone()?, alloc, inner, 1000)?;
+    let client = StatsdClient::from_sink(alloc, "my.service", sink)?;
     client.incr("visits")?;
-    client.incr("logins")?;
-    client.flush()
+    client.sink().stop_and_wait();
+    client.flush()?;
+    Ok(())
 }
 
-/// Returns the packet of two lines that a buffered spy received.
-pub fn spy_packet<R: Runtime>(rt: &R, alloc: Global) -> MetricResult<Option<Vec<u8>>> {
-    let (receiver, sink) = BufferedSpyMetricSink::new(rt.clone()?, alloc)?;
-    send_two_over(alloc, sink)?;
-    Ok(receiver.try_recv())
-}
-
-/// Sends over each of these sinks in turn, and returns how many lines the last one dropped.
-pub fn send_over_each<R: Runtime>(rt: &R, alloc: Global) -> MetricResult<u64> {
-    send_over_nop(alloc)?;
-    send_over_udp(rt, alloc)?;
-    send_over_buffered_udp(rt, alloc)?;
-    send_over_queue(rt, alloc)?;
-    send_each_second(rt, alloc)?;
-    send_over_unix(rt, alloc, TakesAll)?;
-    send_over_buffered_unix(rt, alloc, TakesAll)?;
-    send_latest(rt, alloc)
+/// Runs the examples, and returns how many bytes the sinks over sockets take, and how many lines a queue.
+pub fn report<R: Runtime>(rt: &R, alloc: Global) -> MetricResult<String> {
+    let (plain, again) = (send_datagram(rt, alloc)?, send_and_look_up(rt, alloc)?);
+    let (packed, timed) = (send_packed(rt, alloc)?, send_each_second(rt, alloc)?);
+    let path = send_to_path(rt, alloc, TakesAll)?;
+    let packed_path = send_packed_to_path(rt, alloc, TakesAll)?;
+    queue_and_stop(rt, alloc, NopMetricSink)?;
+    let queued = queue_lines(rt, alloc, NopMetricSink)?;
+    Ok(format!(in alloc;
+        "UDP: {plain} {again} {packed} {timed} bytes\nUnix: {path} {packed_path} bytes\n{queued} line queued\n"
+    )?)
 }

@@ -1,11 +1,10 @@
 //! One whole service: two threads count over a client that they share, and a clean end sends every line.
 
-use crate::runtime::Runtime;
 use cadence::prelude::*;
 use cadence::ready::buffered_udp_sink;
 use cadence::{
     BufferedUdpMetricSink, MetricResult, MetricSink, QueuingMetricSink, QueuingMetricSinkBuilder,
-    StatsdClient, Target,
+    Runtime, StatsdClient, Target,
 };
 use std::alloc::Global;
 use std::sync::Arc;

@@ -21,13 +21,18 @@ VALUE  c, s   a whole number; of s, no name
        g with a minus is a decrement to most Statsd servers; to DogStatsD it is the value;
        a plus is never sent: g load +3 is the value 3
        Numbers may also be as tools print them: .5, +1, 1e+06; not those of durations
-TAG    K:V or V; with --tag also one that begins with a dash
+TAG    K:V or V; behind --, and in --tag=TAG, also one that begins with a dash
 
-Status: 0 sent, 1 input or sending failed, 2 words or lines that can't be read, 3 memory.
-As in: tail -f access.log | sed -un 's/.* \\([0-9]*\\) [0-9]*$/c hits 1 code:\\1/p' | statsd_send --flush-every 0
+Status: 0 sent, 1 input or sending failed, or packets were lost, 2 words or lines that can't be read, 3 memory.
+As in: tail -F access.log | sed -un 's/.* \\([0-9]*\\) [0-9]*$/c hits 1 code:\\1/p' | statsd_send --flush-every 0
+A signal loses the lines that wait to be sent. So in a pipe the last command is to be
+(trap '' TERM INT HUP; exec statsd_send ..): it sends all when the commands before it end.
 ";
 
-const DROP: &str = "drops a packet for which a Unix socket has no room, in place of waiting";
+const DROP: &str = "drops a packet for which a Unix socket has no room: as --wait 0";
+
+const WAIT: &str = "how long a pipe waits for room at a Unix socket; after that packets are
+lost until it takes one again [by default without an end]";
 
 const STRICT: &str = "refuses tags of the environment that have a second colon";
 
@@ -37,9 +42,10 @@ const METRICS: &str = "Each metric";
 
 const PACKETS: &str = "Packets";
 
-const TO: &str = "where to, or unix:PATH [by default DD_DOGSTATSD_URL of the environment,
-else DD_AGENT_HOST and DD_DOGSTATSD_PORT, else STATSD_HOST and
-STATSD_PORT, else 127.0.0.1:8125]";
+const TO: &str = "where to, also as udp://HOST:PORT, or unix:PATH [by default
+DD_DOGSTATSD_URL of the environment, else DD_AGENT_HOST and
+DD_DOGSTATSD_PORT, else STATSD_HOST and STATSD_PORT, else
+127.0.0.1:8125]";
 
 const PREFIX: &str = "begins each name, with a dot after it";
 
@@ -62,9 +68,9 @@ const FLUSH_EVERY: &str = "sends buffered lines after each MS milliseconds, also
 input comes; with 0 no line waits; without this option lines wait
 until a packet is full or the input ends";
 
-const AGGREGATE: &str = "adds up the lines of the input, and sends what they come to when
---flush-every says so and at the end of the input; timers, histograms
-and distributions are not added up";
+const AGGREGATE: &str = "adds up counters, gauges and members of sets of the input, and sends
+what they come to after each --flush-every [by default 10000], and at
+the end of the input; other lines are not added up";
 
 // Returns the argument of an option that has a value. It may be there several times.
 fn option<'a>(
@@ -117,6 +123,7 @@ fn command<'a>(alloc: Global) -> Result<Command<'a>, AllocError> {
         .arg(option(alloc, "capacity", "BYTES", CAPACITY, PACKETS))?
         .arg(option(alloc, "flush-every", "MS", FLUSH_EVERY, PACKETS))?
         .arg(flag(alloc, "aggregate", AGGREGATE, PACKETS)?)?
+        .arg(option(alloc, "wait", "MS", WAIT, TARGET))?
         .arg(flag(alloc, "drop", DROP, TARGET)?)?
         .arg(flag(alloc, "print", "prints the packets, and sends none", TARGET)?)?
         .arg(flag(alloc, "strict", STRICT, METRICS)?)

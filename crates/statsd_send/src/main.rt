@@ -2,39 +2,42 @@
 //!
 //! - `arguments`: the words of the command line.
 //! - `asked`: what the options ask for besides the target.
+//! - `exits`: what is printed if nothing is sent.
 //! - `host`: a socket that sends each packet to a host, whose name is looked up again and again.
 //! - `pace`: a pace that follows the clock.
 //! - `place`: the place to which packets are sent, and where it comes from.
-//! - `unix`: a socket that sends each packet to one path.
+//! - `unix`: a socket that sends each packet to one path, and waits for room there.
 #![tactic(auto)]
 
 mod arguments;
 mod asked;
+mod exits;
 mod host;
 mod pace;
 mod place;
 mod unix;
 
 use crate::arguments::{ArgumentError, Arguments, guarded, read_arguments};
-use crate::asked::{asked_input, asked_limits, asked_pace, asked_sampler, exit_without_sample};
+use crate::asked::{asked_input, asked_limits, asked_pace, asked_patience, asked_sampler};
+use crate::exits::{
+    OUT_OF_MEMORY, TooMuch, exit_with_error, exit_without_address, exit_without_defaults,
+    exit_without_environment, exit_without_sample, exit_without_socket, exit_without_words,
+};
 use crate::host::{LONGEST_DATAGRAM, SocketOfHost};
 use crate::place::{Place, check_destination, find_place};
 use crate::unix::SocketOfPath;
-use cadence_agent::{Destination, Environment, EnvironmentError, UnixSocket};
-use cadence_errors::{ErrorKind as MetricErrorKind, MetricError};
+use cadence_agent::{Destination, Environment};
 use cadence_flow::io::{LineBuffer, PacketWriter};
 use cadence_resolve::{bind_socket, find_address};
 use cadence_send::{
-    LastingWriter, Outlet, PacketPrinter, RunError, Sending, SummedPacker, run_words,
+    LastingWriter, LossBoard, Outlet, PacketPrinter, RunError, Sending, SummedPacker, run_words,
 };
 use cadence_sinks::SocketWriter;
 use cadence_words::Defaults;
 use std::alloc::{AllocError, Global};
+use std::env;
 use std::io::{ErrorKind, Read};
 use std::process::ExitCode;
-use std::{env, fmt};
-
-const OUT_OF_MEMORY: &str = "out of memory";
 
 fn main(rt: HostRuntime) -> ExitCode {
     let given = match read_words(&rt) {
@@ -74,58 +77,6 @@ fn read_words(rt: &HostRuntime) -> Result<Vec<String>, ErrorKind> {
 
 fn no_memory(_error: AllocError) -> ErrorKind {
     ErrorKind::OutOfMemory
-}
-
-// Prints to the standard error why the words of the command line can't be read, and returns the exit status.
-fn exit_without_words(rt: &HostRuntime, kind: ErrorKind) -> ExitCode {
-    if kind == ErrorKind::OutOfMemory {
-        return exit_with_error(rt, 3, OUT_OF_MEMORY);
-    }
-    exit_with_error(
-        rt,
-        2,
-        "a word of the command line is not UTF-8: wants text, as in `c visits 1 page:home`",
-    )
-}
-
-// Prints to the standard error why nothing is sent, and returns the exit status.
-fn exit_with_error<T: fmt::Display + Drop>(rt: &HostRuntime, status: u8, why: T) -> ExitCode {
-    let _ = eprintln!(rt; "statsd_send: {why}");
-    ExitCode::from(status)
-}
-
-// Prints to the standard error why the environment can't be used, and returns the exit status.
-fn exit_without_environment(rt: &HostRuntime, error: EnvironmentError) -> ExitCode {
-    let status = match error {
-        EnvironmentError::Unusable(_) => 2,
-        EnvironmentError::OutOfMemory => 3,
-    };
-    exit_with_error(rt, status, error)
-}
-
-// Prints to the standard error why the metrics have no defaults, and returns the exit status.
-fn exit_without_defaults(rt: &HostRuntime, error: MetricError) -> ExitCode {
-    if error.kind() == MetricErrorKind::InvalidInput {
-        let why =
-            "--strict wants tags of the environment without a second colon, as in DD_TAGS=team:shop";
-        return exit_with_error(rt, 2, why);
-    }
-    exit_with_error(rt, 3, OUT_OF_MEMORY)
-}
-
-// A step towards sending that failed for a place, and why.
-#[derive(Drop)]
-struct Failed<'a, T: Drop> {
-    step: &'static str,
-    place: &'a Place,
-    why: T,
-}
-
-impl<T: fmt::Display + Drop> fmt::Display for Failed<'_, T> {
-    fn fmt<W: fmt::Write>(&self, f: &mut fmt::Formatter<W>) -> fmt::Result {
-        let (step, text, source, why) = (self.step, &self.place.text, self.place.source, &self.why);
-        write!(f, "cannot {step} {text} ({source}): {why}")
-    }
 }
 
 // Sends the metric of the words, or those of the input if there are no words. Returns the exit status.
@@ -183,17 +134,19 @@ fn print_packets(rt: &HostRuntime, arguments: &Arguments<'_>, defaults: &Default
     let Ok(mut pace) = asked_pace(rt, &arguments.options) else {
         return exit_with_error(rt, 3, OUT_OF_MEMORY);
     };
-    let (alloc, mut errors) = (rt.alloc(), rt.stderr());
+    let (alloc, mut errors, board) = (rt.alloc(), rt.stderr(), LossBoard::new());
     let mut sending = Sending {
         alloc: &alloc,
         defaults,
         errors: &mut errors,
         pace: &mut pace,
+        board: &board,
     };
     if !arguments.options.is_adding_up {
         return ExitCode::from(sending.run_input(&mut lines, &mut input, Outlet::Output));
     }
-    let Ok(mut sums) = SummedPacker::new(alloc, asked_limits(&arguments.options), lines) else {
+    let Ok(mut sums) = SummedPacker::new(alloc, asked_limits(&arguments.options), lines, &board)
+    else {
         return exit_with_error(rt, 3, OUT_OF_MEMORY);
     };
     ExitCode::from(sending.run_input(&mut sums, &mut input, Outlet::Output))
@@ -229,17 +182,6 @@ fn send_to_host(
     }
 }
 
-// Prints to the standard error why there is no address, and returns the exit status.
-fn exit_without_address<T: fmt::Display + Drop>(
-    rt: &HostRuntime,
-    status: u8,
-    place: &Place,
-    why: T,
-) -> ExitCode {
-    let step = "find";
-    exit_with_error(rt, status, Failed { step, place, why })
-}
-
 // Sends to the path of a Unix socket. Returns the exit status.
 fn send_to_path(
     rt: &HostRuntime,
@@ -248,43 +190,17 @@ fn send_to_path(
     place: &Place,
     path: &str,
 ) -> ExitCode {
-    let is_waiting = arguments.words.is_empty() && !arguments.options.is_dropping;
-    let socket = if is_waiting {
-        UnixSocket::waiting(rt)
-    } else {
-        UnixSocket::new(rt)
+    let Ok(runtime) = rt.clone() else {
+        return exit_with_error(rt, 3, OUT_OF_MEMORY);
     };
-    match socket {
+    let outlet = Outlet::Target(&place.text, place.source);
+    match SocketOfPath::new(runtime, path, outlet, asked_patience(arguments)) {
         Ok(socket) => {
             let longest = socket.longest_packet();
-            let writer = SocketWriter::new(SocketOfPath { socket, path });
+            let writer = SocketWriter::new(socket);
             send_with(rt, arguments, defaults, place, writer, longest)
         }
         Err(why) => exit_without_socket(rt, place, why),
-    }
-}
-
-// Prints to the standard error why there is no socket, and returns the exit status.
-fn exit_without_socket<T: fmt::Display + Drop>(
-    rt: &HostRuntime,
-    place: &Place,
-    why: T,
-) -> ExitCode {
-    let step = "make a socket for";
-    exit_with_error(rt, 1, Failed { step, place, why })
-}
-
-// A capacity that is more than the target takes.
-#[derive(Drop)]
-struct TooMuch<'a>(usize, usize, &'a Place);
-
-impl fmt::Display for TooMuch<'_> {
-    fn fmt<W: fmt::Write>(&self, f: &mut fmt::Formatter<W>) -> fmt::Result {
-        let (capacity, longest, text) = (self.0, self.1, &self.2.text);
-        write!(
-            f,
-            "--capacity {capacity}: wants at most {longest} bytes, the longest datagram to {text}"
-        )
     }
 }
 
@@ -310,7 +226,8 @@ fn send_with<T: PacketWriter>(
         };
         return send_words(rt, arguments, &defaults, &mut lines, outlet);
     }
-    let lasting = LastingWriter::new(alloc, writer, outlet, rt.stderr());
+    let board = LossBoard::new();
+    let lasting = LastingWriter::new(alloc, writer, outlet, rt.stderr(), &board);
     let Ok(mut lines) = LineBuffer::new(alloc, lasting, capacity) else {
         return exit_with_error(rt, 3, OUT_OF_MEMORY);
     };
@@ -327,11 +244,13 @@ fn send_with<T: PacketWriter>(
         defaults: &defaults,
         errors: &mut errors,
         pace: &mut pace,
+        board: &board,
     };
     if !arguments.options.is_adding_up {
         return ExitCode::from(sending.run_stream(&mut lines, &mut input, outlet));
     }
-    let Ok(mut sums) = SummedPacker::new(alloc, asked_limits(&arguments.options), lines) else {
+    let Ok(mut sums) = SummedPacker::new(alloc, asked_limits(&arguments.options), lines, &board)
+    else {
         return exit_with_error(rt, 3, OUT_OF_MEMORY);
     };
     ExitCode::from(sending.run_summed(&mut sums, &mut input, outlet))

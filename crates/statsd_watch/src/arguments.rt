@@ -6,7 +6,7 @@ use clap::{Arg, ArgAction, Command, Error, value_parser};
 use std::alloc::{AllocError, Global};
 use std::fmt;
 
-const USAGE: &str = "statsd_watch [OPTIONS] [HOST:PORT | PORT | unix:PATH]";
+const USAGE: &str = "statsd_watch [OPTIONS] [HOST:PORT | *:PORT | PORT | unix:PATH]";
 
 const ABOUT: &str =
     "Receives packets, by default at 127.0.0.1:8125, and prints each metric as it comes.";
@@ -15,7 +15,11 @@ const NOTES: &str =
     "For a line that can't be read, its packet, its line, the first byte that can't be read and what is
 wanted there are written to the standard error, and the other lines are printed.
 
-Status: 0 all was read, 1 the socket or the output failed, 2 words or lines that can't be read, 3 memory.
+*:PORT, or :PORT, receives at all addresses of IPv4, and PORT at 127.0.0.1. The file of a Unix socket
+to which nobody listens any more is replaced.
+
+Status: 0 all was read, 1 the socket or the output failed, or the system dropped packets, because they came
+faster than they are printed, 2 words or lines that can't be read, 3 memory.
 As in: statsd_watch --count 1 127.0.0.1:8125";
 
 /// Where packets are received.
@@ -124,7 +128,7 @@ fn command<'a>(alloc: Global) -> Result<Command<'a>, AllocError> {
         ))
 }
 
-// Reads HOST:PORT, PORT or unix:PATH.
+// Reads HOST:PORT, *:PORT, :PORT, PORT or unix:PATH. Before a host there may be `udp://`.
 fn read_place(text: &str) -> Option<Place<'_>> {
     if let Some(path) = text.strip_prefix("unix:") {
         return if path.is_empty() {
@@ -136,8 +140,12 @@ fn read_place(text: &str) -> Option<Place<'_>> {
     if let Some(port) = read_port(text) {
         return Some(Place::Host("127.0.0.1", port));
     }
+    let text = text.strip_prefix("udp://").unwrap_or(text);
     let (host, port) = text.rsplit_once(':')?;
     let port = read_port(port)?;
+    if host.is_empty() || host == "*" {
+        return Some(Place::Host("0.0.0.0", port));
+    }
     let inner = match host.strip_prefix('[') {
         Some(inner) => inner.strip_suffix(']')?,
         None => host,

@@ -1,23 +1,25 @@
 //! `statsd_watch`: receives packets, and prints their metrics as they come.
 //!
 //! - `arguments`: the words of the command line.
+//! - `batch`: packets that were received and are not printed yet.
+//! - `drops`: how many packets the system dropped.
 //! - `receiver`: the socket that receives.
+//! - `watch`: receives packets, and prints their metrics.
 #![tactic(auto)]
 
 mod arguments;
+mod batch;
+mod drops;
 mod receiver;
+mod watch;
 
 use crate::arguments::{ArgumentError, Arguments, Place, read_arguments};
 use crate::receiver::Receiver;
-use cadence_listen::{Origin, WatchError, print_packet};
+use crate::watch::{Stop, receive_all};
 use std::alloc::AllocError;
 use std::io::{ErrorKind, Write};
 use std::process::ExitCode;
-use std::time::{Duration, Instant, SystemTime};
-use std::{env, fmt};
-
-// The most bytes of a packet that are received.
-const LONGEST: usize = 65536;
+use std::{env, fmt, io};
 
 fn main(rt: HostRuntime) -> ExitCode {
     let words = match read_words(&rt) {
@@ -26,7 +28,7 @@ fn main(rt: HostRuntime) -> ExitCode {
         Err(_) => return exit_with_error(&rt, 2, "a word of the command line is not UTF-8"),
     };
     match read_arguments(rt.alloc(), &words) {
-        Ok(arguments) => watch(&rt, &arguments),
+        Ok(arguments) => run(&rt, &arguments),
         Err(ArgumentError::Refused(error)) => match error.print(&rt) {
             Ok(()) => ExitCode::from(error.exit_code() as u8),
             Err(fault) => exit_with_error(&rt, 1, fault),
@@ -85,105 +87,35 @@ impl<T: fmt::Display + Drop> fmt::Display for Failed<'_, T> {
     }
 }
 
+// A fault of the standard output.
+#[derive(Drop)]
+struct Unprinted(io::Error);
+
+impl fmt::Display for Unprinted {
+    fn fmt<W: fmt::Write>(&self, f: &mut fmt::Formatter<W>) -> fmt::Result {
+        let why = &self.0;
+        write!(f, "cannot print: {why}")
+    }
+}
+
 // Receives packets at the place, and prints their metrics. Returns the exit status.
-fn watch(rt: &HostRuntime, arguments: &Arguments<'_>) -> ExitCode {
+fn run(rt: &HostRuntime, arguments: &Arguments<'_>) -> ExitCode {
+    // If the standard output is closed, the system gives its number, file descriptor 1, to the next file that is opened.
+    // That would be our socket. Writing 0 bytes now finds out, since it fails if file descriptor 1 is closed.
+    if let Err(why) = rt.stdout().write(&[]) {
+        return exit_with_error(rt, 1, Unprinted(why));
+    }
     let place = &arguments.place;
     let mut receiver = match Receiver::new(rt, place) {
         Ok(receiver) => receiver,
         Err(why) => return exit_with_error(rt, 1, Failed("listen at", place, why)),
     };
-    let status = receive_all(rt, arguments, &mut receiver);
+    let stopped = receive_all(rt, arguments, &mut receiver);
     receiver.remove_path(rt, place);
-    status
-}
-
-// Returns how long to wait for the next packet, or `None` if the time is over. If the clock fails, the time is over.
-fn time_left(
-    rt: &HostRuntime,
-    arguments: &Arguments<'_>,
-    start: Option<Instant>,
-) -> Option<Duration> {
-    let Some(seconds) = arguments.seconds else {
-        return Some(Duration::from_secs(3600));
-    };
-    let passed = Instant::now(rt).ok()?.duration_since(start?);
-    let left = Duration::from_secs(seconds).saturating_sub(passed);
-    if left.is_zero() { None } else { Some(left) }
-}
-
-// Receives packets until as many came as are asked for, or until the time is over. Returns the exit status: 0 if all lines
-// can be read, 1 if receiving or printing failed, 2 if a line can't be read, and 3 if memory ran out.
-fn receive_all(rt: &HostRuntime, arguments: &Arguments<'_>, receiver: &mut Receiver) -> ExitCode {
-    let (mut number, mut status, start) = (0u64, 0u8, Instant::now(rt).ok());
-    let Ok(mut buffer) = Vec::from_elem(rt.alloc(), 0u8, LONGEST) else {
-        return exit_with_error(rt, 3, "out of memory");
-    };
-    for _ in 0..u64::MAX {
-        if arguments.count.is_some_and(|count| count <= number) {
-            break;
-        }
-        let Some(left) = time_left(rt, arguments, start) else {
-            break;
-        };
-        match receiver.receive(rt, left, &mut buffer) {
-            Ok(None) => continue,
-            Ok(Some((length, sender))) => {
-                number = number.saturating_add(1);
-                let packet = buffer.get(..length).unwrap_or(&[]);
-                match print_one(rt, arguments, number, packet, sender.as_str()) {
-                    Ok(true) => {}
-                    Ok(false) => status = 2,
-                    Err(WatchError::OutOfMemory) => return exit_with_error(rt, 3, "out of memory"),
-                    Err(WatchError::Output(why)) => return exit_with_error(rt, 1, why),
-                }
-            }
-            Err(why) => return exit_with_error(rt, 1, Failed("receive at", &arguments.place, why)),
-        }
-    }
-    ExitCode::from(status)
-}
-
-// Prints the metrics of a packet. Returns whether all its lines can be read.
-fn print_one(
-    rt: &HostRuntime,
-    arguments: &Arguments<'_>,
-    number: u64,
-    packet: &[u8],
-    sender: &str,
-) -> Result<bool, WatchError> {
-    let (alloc, mut output, mut errors) = (rt.alloc(), rt.stdout(), rt.stderr());
-    let mut time = String::new(alloc);
-    if arguments.has_time {
-        let since = SystemTime::now(rt)
-            .ok()
-            .and_then(|now| now.duration_since(SystemTime::UNIX_EPOCH).ok());
-        let since = since.unwrap_or(Duration::ZERO);
-        let (seconds, millis) = (since.as_secs(), since.subsec_millis());
-        write!(time, "{seconds}.{millis:03}")?;
-    }
-    let origin = Origin {
-        number,
-        time: if arguments.has_time {
-            Some(&time)
-        } else {
-            None
-        },
-        sender: if arguments.has_sender {
-            Some(sender)
-        } else {
-            None
-        },
-    };
-    let is_whole = print_packet(
-        alloc,
-        packet,
-        origin,
-        arguments.format,
-        &mut output,
-        &mut errors,
-    )?;
-    match output.flush() {
-        Ok(()) => Ok(is_whole),
-        Err(error) => Err(WatchError::Output(error)),
+    match stopped {
+        Ok(status) => ExitCode::from(status),
+        Err(Stop::Socket(why)) => exit_with_error(rt, 1, Failed("receive at", place, why)),
+        Err(Stop::Output(why)) => exit_with_error(rt, 1, Unprinted(why)),
+        Err(Stop::OutOfMemory) => exit_with_error(rt, 3, "out of memory"),
     }
 }

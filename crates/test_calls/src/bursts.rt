@@ -3,8 +3,8 @@
 use crate::callers::{CallerAnswers, Pace, Totals, run_callers};
 use crate::queues::{CAPACITY, Queue, QueueKind, make_queue};
 use crate::record::{CALLERS, Record, SinkState, is_set};
-use crate::turns::{Runtime, holds_in_time, push_whether};
-use cadence::MetricResult;
+use crate::turns::{holds_in_time, push_whether};
+use cadence::{MetricResult, Runtime};
 use std::alloc::Global;
 use std::sync::Wait;
 

@@ -2,10 +2,10 @@
 
 use crate::queues::Queue;
 use crate::record::{CALLERS, next_trace};
-use crate::turns::{Runtime, holds_in_time};
+use crate::turns::holds_in_time;
 use cadence::prelude::*;
 use cadence::types::{Counter, SinkError};
-use cadence::{MetricResult, StatsdClient};
+use cadence::{MetricResult, Runtime, StatsdClient};
 use std::alloc::Global;
 use std::sync::{Arc, Mutex};
 use std::thread;

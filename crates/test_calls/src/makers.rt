@@ -1,9 +1,10 @@
 //! Makes each sink that has a thread, and says whether it was made.
-use crate::turns::Runtime;
+use cadence::client::ClientSettings;
 use cadence::sinks::FlushingMetricSink;
 use cadence::types::{MetricError, MetricResult, SinkError};
-use cadence::{MetricSink, QueuingMetricSink};
+use cadence::{MetricSink, QueuingMetricSink, Runtime};
 use cadence_agent::ReportingMetricSink;
+use cadence_aggregating::AggregatingMetricSinkBuilder;
 use std::alloc::{AllocError, Global};
 use std::sync::Arc;
 use std::sync::atomic::{AtomicU64, Ordering};
@@ -37,10 +38,18 @@ enum Maker {
     Queuing,
     Flushing,
     Reporting,
+    Aggregating,
+    Aggregated,
 }
 
 // All of them.
-const MAKERS: [Maker; 3] = [Maker::Queuing, Maker::Flushing, Maker::Reporting];
+const MAKERS: [Maker; 5] = [
+    Maker::Queuing,
+    Maker::Flushing,
+    Maker::Reporting,
+    Maker::Aggregating,
+    Maker::Aggregated,
+];
 
 impl Maker {
     // Returns the name of the sink.
@@ -49,6 +58,8 @@ impl Maker {
             Maker::Queuing => "QueuingMetricSink",
             Maker::Flushing => "FlushingMetricSink",
             Maker::Reporting => "ReportingMetricSink",
+            Maker::Aggregating => "AggregatingMetricSink",
+            Maker::Aggregated => "AggregatedClient",
         }
     }
 
@@ -59,6 +70,15 @@ impl Maker {
             Maker::Queuing => drop(QueuingMetricSink::from(own, alloc, sink)?),
             Maker::Flushing => drop(FlushingMetricSink::new(own, alloc, sink, hour)?),
             Maker::Reporting => drop(ReportingMetricSink::new(own, alloc, sink, "me", hour)?),
+            Maker::Aggregating => {
+                let sums = AggregatingMetricSinkBuilder::new().with_flush_period(hour);
+                drop(sums.build(own, alloc, sink)?);
+            }
+            Maker::Aggregated => {
+                let sums = AggregatingMetricSinkBuilder::new().with_flush_period(hour);
+                let settings = ClientSettings::new(alloc, "p")?;
+                drop(sums.build_client(own, alloc, settings, sink)?);
+            }
         }
         Ok(())
     }

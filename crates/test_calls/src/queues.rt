@@ -1,9 +1,8 @@
 //! The three kinds of queues: without a bound, refusing when full, and dropping the oldest line when full.
 
 use crate::record::{RecordingSink, SinkState};
-use crate::turns::Runtime;
 use cadence::queue::QueuePolicy;
-use cadence::{MetricResult, QueuingMetricSink, QueuingMetricSinkBuilder};
+use cadence::{MetricResult, QueuingMetricSink, QueuingMetricSinkBuilder, Runtime};
 use std::alloc::Global;
 use std::fmt;
 use std::sync::Arc;

@@ -1,14 +1,8 @@
-//! Waits that give up after a time, and the bounds of the runtime.
+//! Waits that give up after a time.
 
 use std::alloc::AllocError;
-use std::sync::Wait;
-use std::thread::{self, Threads};
+use std::thread;
 use std::time::{Clock, Duration};
-
-/// The bounds of a runtime for these runs. Each type that meets these bounds implements this trait.
-pub trait Runtime: Clock + Wait + Threads + Clone + Drop + Send + Sync + 'static {}
-
-impl<R: Clock + Wait + Threads + Clone + Drop + Send + Sync + 'static> Runtime for R {}
 
 // A wait gives up after this many milliseconds.
 const MOST_MILLISECONDS: u32 = 20_000;

@@ -4,8 +4,7 @@
 use crate::callers::{Pace, Totals, run_callers};
 use crate::queues::{QueueKind, make_queue};
 use crate::record::CALLERS;
-use crate::turns::Runtime;
-use cadence::MetricResult;
+use cadence::{MetricResult, Runtime};
 use std::alloc::Global;
 
 // How many calls each caller makes.

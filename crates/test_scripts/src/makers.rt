@@ -3,11 +3,11 @@ use crate::memory::{Heap, has_memory_for_a_line};
 use crate::udp_makers::{UdpMaker, long_period};
 use cadence::prelude::*;
 use cadence::queue::{QueueCore, QueuePolicy};
-use cadence::sinks::{PathSocket, ResolverRuntime, SpyReceiver};
+use cadence::sinks::{PathSocket, SpyReceiver};
 use cadence::types::SinkError;
 use cadence::{
     BufferedSpyMetricSink, BufferedUnixMetricSink, FlushingMetricSink, Metric, MetricError,
-    MetricResult, MetricSink, NopMetricSink, QueuingMetricSink, QueuingMetricSinkBuilder,
+    MetricResult, MetricSink, NopMetricSink, QueuingMetricSink, QueuingMetricSinkBuilder, Runtime,
     SpyMetricSink, StatsdClient, UnixMetricSink,
 };
 use std::alloc::Global;
@@ -170,7 +170,7 @@ fn dropped_spy_has_memory<R: Wait + Drop>(
 }
 
 impl SpyMaker {
-    fn has_memory<R: ResolverRuntime>(self, rt: R, heap: Heap) -> MetricResult<bool> {
+    fn has_memory<R: Runtime>(self, rt: R, heap: Heap) -> MetricResult<bool> {
         match self {
             SpyMaker::New => spy_has_memory(SpyMetricSink::new(rt, heap)?, false),
             SpyMaker::WithCapacity => spy_has_memory(
@@ -190,7 +190,7 @@ impl SpyMaker {
 }
 
 impl UnixMaker {
-    fn has_memory<R: ResolverRuntime>(self, rt: R, heap: Heap) -> MetricResult<bool> {
+    fn has_memory<R: Runtime>(self, rt: R, heap: Heap) -> MetricResult<bool> {
         match self {
             UnixMaker::From => has_memory_for_a_line(&UnixMetricSink::from(
                 rt,
@@ -223,7 +223,7 @@ impl UnixMaker {
 }
 
 // Returns whether a queue had memory for a line and a flush. It has accepted exactly one line then.
-fn queue_has_memory<R: ResolverRuntime>(
+fn queue_has_memory<R: Runtime>(
     sink: QueuingMetricSink<NopMetricSink, R, Heap>,
 ) -> MetricResult<bool> {
     let has_all = has_memory_for_a_line(&sink)?;
@@ -234,7 +234,7 @@ fn queue_has_memory<R: ResolverRuntime>(
 }
 
 impl QueueMaker {
-    fn has_memory<R: ResolverRuntime>(self, rt: R, heap: Heap) -> MetricResult<bool> {
+    fn has_memory<R: Runtime>(self, rt: R, heap: Heap) -> MetricResult<bool> {
         match self {
             QueueMaker::Core => Ok(QueueCore::new(heap, None)?.submit(1u64).is_ok()),
             QueueMaker::BoundedCore => {
@@ -266,12 +266,7 @@ fn client_has_memory(heap: Heap) -> MetricResult<bool> {
 
 impl Maker {
     // Returns whether there was memory for the constructor, and for a line and a flush after it.
-    fn has_memory<R: ResolverRuntime>(
-        self,
-        rt: &R,
-        heap: Heap,
-        server: SocketAddr,
-    ) -> MetricResult<bool> {
+    fn has_memory<R: Runtime>(self, rt: &R, heap: Heap, server: SocketAddr) -> MetricResult<bool> {
         match self {
             Maker::Spy(maker) => maker.has_memory(rt.clone()?, heap),
             Maker::Unix(maker) => maker.has_memory(rt.clone()?, heap),
@@ -283,12 +278,7 @@ impl Maker {
 
     // Returns whether there was memory for the constructor, and for a line and a flush after it. If the constructor
     // fails with `OutOfMemory`, there was none.
-    fn makes<R: ResolverRuntime>(
-        self,
-        rt: &R,
-        heap: Heap,
-        server: SocketAddr,
-    ) -> MetricResult<bool> {
+    fn makes<R: Runtime>(self, rt: &R, heap: Heap, server: SocketAddr) -> MetricResult<bool> {
         match self.has_memory(rt, heap, server) {
             Err(MetricError::Sink(SinkError::OutOfMemory)) => Ok(false),
             answer => answer,
@@ -298,7 +288,7 @@ impl Maker {
 
 /// Returns a line for each constructor, with the number of requests for memory that it makes, including those for a
 /// line and a flush. In as many turns memory ran out.
-pub fn report_makers<R: ResolverRuntime>(
+pub fn report_makers<R: Runtime>(
     rt: &R,
     alloc: Global,
     server: SocketAddr,

@@ -1,8 +1,8 @@
 //! Runs scripts, and compares the outcomes with those that they must have.
 use cadence_cli::push_bytes;
 use cadence_script::run_script;
-use std::alloc::{AllocError, Global};
-use std::io::ErrorKind;
+use std::alloc::{AllocError, Allocator, Global};
+use std::io::{ErrorKind, Read};
 use std::rt::Files;
 use std::{fs, io};
 
@@ -29,16 +29,25 @@ impl Outcome {
     }
 }
 
-/// Runs a script, and returns the outcome.
-pub fn outcome_of(alloc: Global, script: &[u8]) -> Outcome {
+/// Runs the script that is read from this input, with this memory, and returns the outcome.
+pub fn outcome_with<A: Allocator + Clone, I: Read>(
+    alloc: Global,
+    heap: A,
+    input: &mut I,
+) -> Outcome {
     let (mut output, mut errors) = (Vec::new(alloc), Vec::new(alloc));
-    let mut input = script;
-    let status = run_script(alloc, alloc, &mut input, &mut output, &mut errors);
+    let status = run_script(alloc, heap, input, &mut output, &mut errors);
     Outcome {
         output,
         errors,
         status,
     }
+}
+
+/// Runs a script, and returns the outcome.
+pub fn outcome_of(alloc: Global, script: &[u8]) -> Outcome {
+    let mut input = script;
+    outcome_with(alloc, alloc, &mut input)
 }
 
 // Reads the file of a row with this ending. Returns `None` if there is no such file.
@@ -69,11 +78,6 @@ fn parse_status(file: Option<Vec<u8>>) -> io::Result<u8> {
 /// Reads the script of this row.
 pub fn read_script<R: Files + AllocGlobal>(rt: &R, name: &str) -> io::Result<Vec<u8>> {
     Ok(read_file(rt, name, "in")?.unwrap_or_else(|| Vec::new(rt.alloc())))
-}
-
-/// Returns whether a script has an aggregator. Its first line says so then.
-pub fn has_aggregator(script: &[u8]) -> bool {
-    script.starts_with(b"aggregate ")
 }
 
 /// Runs the script of this row, and returns what differs from the row's files. Returns `None` if nothing does.

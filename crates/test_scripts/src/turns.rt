@@ -1,131 +1,225 @@
-//! Runs of a script in which one thing fails in each turn: a request for memory, an answer of the writer, a read or a
-//! write.
+//! Runs of a script in which one thing fails in each turn: a request for memory, a read or a write.
 //!
 //! A turn has to end in one of these ways: as the run without a failure does, if the failure didn't happen or changed
 //! nothing; with the status and the message of the failure, and with no output or a first part of the report; or with a
-//! report that `test_tools::model` allows.
-use crate::scripts::{Outcome, has_aggregator, outcome_of};
+//! report in which the reply of one step says that memory ran out. But for that reply it has to be the report of the
+//! script in which that step is a call that is always refused, or in which the writer refuses one packet more. So no
+//! step leaves anything else behind if memory runs out. With an aggregator it may also be as the report without a failure
+//! up to that reply.
+use crate::scripts::{Outcome, outcome_of, outcome_with};
 use cadence_script::run_script;
 use std::alloc::{AllocError, Global};
 use std::fmt;
 use test_tools::RefusingAllocator;
-use test_tools::model::{is_right_report, is_usable};
 use test_tools::reader::{ByteReader, FailingReader};
 use test_tools::writer::{ByteWriter, FailingWriter};
 
-// More than the requests, answers, reads or writes of any run.
+// More than the requests, reads or writes of any run.
 const MOST_TURNS: u64 = 20_000;
+
+// A call that is always refused, because its value doesn't fit.
+const REFUSED_CALL: &str = "call ms k t:18446744073709551615/0";
+
+// The ways in which a turn may end, as places in the counts.
+
+// As the run without a failure ends.
+const SAME: usize = 0;
+
+// In a report in which one reply says that memory ran out.
+const REPORTED: usize = 1;
+
+// With status 3, because memory ran out, and nothing printed.
+const OUT_OF_MEMORY: usize = 2;
+
+// With status 2, because the input can't be read, and nothing printed.
+const UNREAD: usize = 3;
+
+// With status 1, and a first part of the report printed.
+const UNWRITTEN: usize = 4;
+
+// In any other way.
+const WRONG: usize = 5;
+
+// How the counts are printed.
+const ENDS: [&str; 6] = [
+    "as without",
+    "in a reply",
+    "for want of memory",
+    "unread",
+    "unwritten",
+    "otherwise",
+];
 
 /// How many turns ended in each way.
 #[derive(Drop)]
 pub struct EndCounts {
-    /// As the run without a failure ends.
-    pub same: u64,
-    /// In a report that the model allows.
-    pub right: u64,
-    /// With status 3, because memory ran out, and nothing printed.
-    pub out_of_memory: u64,
-    /// With status 2, because the input can't be read, and nothing printed.
-    pub unread: u64,
-    /// With status 2, because the script is strict and its settings have a separator, and nothing printed.
-    pub unusable: u64,
-    /// With status 1, and a first part of the report printed.
-    pub unwritten: u64,
-    /// In any other way.
-    pub wrong: u64,
+    counts: [u64; 6],
 }
 
 impl EndCounts {
     /// Returns counts of 0.
     pub fn zero() -> EndCounts {
-        EndCounts {
-            same: 0,
-            right: 0,
-            out_of_memory: 0,
-            unread: 0,
-            unusable: 0,
-            unwritten: 0,
-            wrong: 0,
-        }
-    }
-
-    // Returns the count of this end, or that of wrong ends if `is_right` is false.
-    fn count_of(&mut self, is_right: bool, end: End) -> &mut u64 {
-        match end {
-            _ if !is_right => &mut self.wrong,
-            End::Same => &mut self.same,
-            End::RightReport => &mut self.right,
-            End::OutOfMemory => &mut self.out_of_memory,
-            End::Unread => &mut self.unread,
-            End::Unusable => &mut self.unusable,
-            End::Unwritten => &mut self.unwritten,
-        }
+        EndCounts { counts: [0; 6] }
     }
 
     // Counts a turn that ended in this way. If `is_right` is false, the turn counts as wrong.
-    fn count(&mut self, is_right: bool, end: End) {
-        let count = self.count_of(is_right, end);
-        *count = count.wrapping_add(1);
+    fn count(&mut self, is_right: bool, end: usize) {
+        let place = if is_right { end } else { WRONG };
+        if let Some(count) = self.counts.get_mut(place) {
+            *count = count.wrapping_add(1);
+        }
     }
 }
 
 impl fmt::Display for EndCounts {
     fn fmt<W: fmt::Write>(&self, f: &mut fmt::Formatter<W>) -> fmt::Result {
-        let EndCounts {
-            same,
-            right,
-            out_of_memory,
-            unread,
-            unusable,
-            unwritten,
-            wrong,
-        } = self;
-        write!(
-            f,
-            "{same} as without, {right} in a report that is due, {out_of_memory} for want of memory, "
-        )?;
-        write!(
-            f,
-            "{unread} unread, {unusable} unusable, {unwritten} unwritten, {wrong} otherwise"
-        )
+        for (place, (count, end)) in self.counts.iter().zip(&ENDS).enumerate() {
+            write!(f, "{}{count} {end}", if place == 0 { "" } else { ", " })?;
+        }
+        Ok(())
     }
 }
 
-// The ways in which a turn may end, as in `EndCounts`.
-#[derive(Clone, Copy)]
-enum End {
-    Same,
-    RightReport,
-    OutOfMemory,
-    Unread,
-    Unusable,
-    Unwritten,
+// Returns the place of the first reply that says that memory ran out, and whether it is the reply of a call.
+fn refused_reply(report: &str) -> Option<(usize, bool)> {
+    let mut lines = report.lines().enumerate();
+    let (place, line) = lines.find(|(_, line)| line.ends_with(" err out of memory"))?;
+    Some((place, line.starts_with("call ")))
 }
 
-// Returns whether a report has a reply that says that memory ran out.
-fn lacks_memory(report: &str) -> bool {
-    report
+// Returns the text of these bytes, or no text if they aren't UTF-8.
+fn text_of(bytes: &[u8]) -> &str {
+    str::from_utf8(bytes).unwrap_or("")
+}
+
+// Returns whether two reports have the same lines, but for the one at this place.
+fn are_same_but_for(report: &str, other: &str, place: usize) -> bool {
+    let mut others = other.lines();
+    for (index, line) in report.lines().enumerate() {
+        match others.next() {
+            Some(other) if index == place || line == other => {}
+            _ => return false,
+        }
+    }
+    others.next().is_none()
+}
+
+// Returns whether the run of this script has this report, but for the reply at this place.
+fn has_report_but_for(alloc: Global, script: &str, report: &str, place: usize) -> bool {
+    let other = outcome_of(alloc, script.as_bytes());
+    are_same_but_for(report, text_of(&other.output), place)
+}
+
+fn is_step(line: &str) -> bool {
+    let name = line.split(' ').next().unwrap_or("");
+    ["call", "take", "hand", "flush", "stop"].contains(&name)
+}
+
+// Returns the script with the call that is always refused in place of its step at this place.
+fn with_refused_call(alloc: Global, script: &str, place: usize) -> Result<String, AllocError> {
+    let mut text = String::new(alloc);
+    let mut steps: usize = 0;
+    for line in script.lines() {
+        let is_place = is_step(line) && steps == place;
+        steps = steps.wrapping_add(usize::from(is_step(line)));
+        writeln!(&mut text, "{}", if is_place { REFUSED_CALL } else { line })?;
+    }
+    Ok(text)
+}
+
+// Returns the script with its last `writer` line, but with a refusal at this place.
+fn with_refused_packet(alloc: Global, script: &str, place: usize) -> Result<String, AllocError> {
+    let answers = script
         .lines()
-        .any(|line| line.ends_with("err out of memory"))
+        .filter_map(|line| line.strip_prefix("writer "))
+        .last();
+    let mut own = answers.unwrap_or("whole").split(' ');
+    let mut text = String::from_str(alloc, "writer")?;
+    for _ in 0..place {
+        write!(&mut text, " {}", own.next().unwrap_or("whole"))?;
+    }
+    let refused = own.next();
+    text.push_str(" refuse")?;
+    for answer in own {
+        write!(&mut text, " {answer}")?;
+    }
+    // a script with a short count has no known cut, so this answer stays, where no packet gets it
+    if let Some(answer) = refused {
+        for _ in script.lines() {
+            text.push_str(" whole whole")?;
+        }
+        write!(&mut text, " {answer}")?;
+    }
+    for line in script.lines().filter(|line| !line.starts_with("writer ")) {
+        write!(&mut text, "\n{line}")?;
+    }
+    Ok(text)
 }
 
-// Returns whether a run printed nothing but a report that the model allows. `was_refused` says that one request for
-// memory was refused. The model knows no aggregator, so a report of a script with one has to say that memory ran out.
-fn has_right_report(
+// Returns whether two reports have the same lines before this place.
+fn begin_alike(report: &str, other: &str, place: usize) -> bool {
+    let mut lines = report.lines().zip(other.lines()).take(place);
+    lines.all(|(line, other)| line == other)
+}
+
+// Returns whether the report is the one of this script, if the writer refuses one packet more, but for the reply at this
+// place. The report has a line for each packet that was sent, so its lines are enough packets.
+fn has_refused_packet(
     alloc: Global,
-    script: &[u8],
-    outcome: &Outcome,
-    was_refused: bool,
+    script: &str,
+    report: &str,
+    place: usize,
 ) -> Result<bool, AllocError> {
-    let (Ok(script), Ok(report)) = (str::from_utf8(script), str::from_utf8(&outcome.output)) else {
+    for packet in 0..report.lines().count() {
+        let turned = with_refused_packet(alloc, script, packet)?;
+        if has_report_but_for(alloc, &turned, report, place) {
+            return Ok(true);
+        }
+    }
+    Ok(false)
+}
+
+// Returns whether a report has one reply that says that memory ran out, and is else the report of the script in which
+// that call, or one packet, is refused for another reason. With an aggregator memory can run out before a line is
+// packed, which no script says: then the report has to be as the plain one up to that reply.
+fn is_report_without_memory(
+    alloc: Global,
+    script: &str,
+    plain: &str,
+    report: &str,
+) -> Result<bool, AllocError> {
+    let Some((place, is_call)) = refused_reply(report) else {
         return Ok(false);
     };
-    let is_right = if has_aggregator(script.as_bytes()) {
-        was_refused && lacks_memory(report)
+    if is_call {
+        let turned = with_refused_call(alloc, script, place)?;
+        return Ok(has_report_but_for(alloc, &turned, report, place));
+    }
+    let is_alike = script.starts_with("aggregate ") && begin_alike(report, plain, place);
+    Ok(is_alike || has_refused_packet(alloc, script, report, place)?)
+}
+
+// Counts the end of a run that was refused one request for memory.
+fn count_refusal(
+    alloc: Global,
+    script: &[u8],
+    plain: &Outcome,
+    outcome: &Outcome,
+    ends: &mut EndCounts,
+) -> Result<(), AllocError> {
+    if outcome.difference(plain).is_none() {
+        ends.count(true, SAME);
+    } else if outcome.status == 3 {
+        let is_reported = outcome.errors.as_slice()
+            == b"statsd_schedule: out of memory\n".as_slice();
+        ends.count(is_reported && outcome.output.is_empty(), OUT_OF_MEMORY);
     } else {
-        is_right_report(alloc, script, report, was_refused)?
-    };
-    Ok(outcome.status == 0 && outcome.errors.is_empty() && is_right)
+        let (plain, report) = (text_of(&plain.output), text_of(&outcome.output));
+        let is_right = is_report_without_memory(alloc, text_of(script), plain, report)?;
+        let is_alone = outcome.status == 0 && outcome.errors.is_empty();
+        ends.count(is_alone && is_right, REPORTED);
+    }
+    Ok(())
 }
 
 // Refuses each request for memory in turn, until a run asks for less.
@@ -137,87 +231,15 @@ fn refuse_memory(
 ) -> Result<(), AllocError> {
     for granted in 0..MOST_TURNS {
         let heap = RefusingAllocator::after(alloc, alloc, granted)?;
-        let (mut output, mut errors) = (Vec::new(alloc), Vec::new(alloc));
         let mut input = script;
-        let status = run_script(alloc, heap.clone()?, &mut input, &mut output, &mut errors);
-        let outcome = Outcome {
-            output,
-            errors,
-            status,
-        };
+        let outcome = outcome_with(alloc, heap.clone()?, &mut input);
         if heap.left() <= granted {
-            ends.count(outcome.difference(plain).is_none(), End::Same);
+            ends.count(outcome.difference(plain).is_none(), SAME);
             return Ok(());
         }
-        if outcome.difference(plain).is_none() {
-            ends.count(true, End::Same);
-        } else if status == 3 {
-            let is_reported = outcome.errors.as_slice()
-                == b"statsd_schedule: out of memory\n".as_slice();
-            ends.count(is_reported && outcome.output.is_empty(), End::OutOfMemory);
-        } else {
-            ends.count(
-                has_right_report(alloc, script, &outcome, true)?,
-                End::RightReport,
-            );
-        }
+        count_refusal(alloc, script, plain, &outcome, ends)?;
     }
-    ends.count(false, End::Same);
-    Ok(())
-}
-
-// Returns the script with this line of the writer's answers in place of its own ones.
-fn replace_answers(alloc: Global, script: &str, answers: &str) -> Result<String, AllocError> {
-    let mut text = format!(in alloc; "writer{answers}\n")?;
-    for line in script.split('\n') {
-        if !line.starts_with("writer ") {
-            writeln!(&mut text, "{line}")?;
-        }
-    }
-    Ok(text)
-}
-
-// Returns the answers of the script's last `writer` line, but with a refusal at this place.
-fn answers_with_refusal(alloc: Global, script: &str, place: usize) -> Result<String, AllocError> {
-    let mut own = "".split(' ');
-    for line in script.split('\n') {
-        if let Some(answers) = line.strip_prefix("writer ") {
-            own = answers.split(' ');
-        }
-    }
-    let mut text = String::new(alloc);
-    for index in 0..place.saturating_add(1) {
-        let answer = match own.next() {
-            Some(answer) if !answer.is_empty() => answer,
-            _ => "whole",
-        };
-        write!(
-            &mut text,
-            " {}",
-            if index == place { "refuse" } else { answer }
-        )?;
-    }
-    for answer in own {
-        write!(&mut text, " {answer}")?;
-    }
-    Ok(text)
-}
-
-// Lets each answer of the writer be `refuse` in turn. The report has a line for each packet, so its lines are enough
-// turns.
-fn refuse_packets(
-    alloc: Global,
-    script: &str,
-    plain: &Outcome,
-    ends: &mut EndCounts,
-) -> Result<(), AllocError> {
-    let lines = plain.output.iter().filter(|byte| **byte == b'\n').count();
-    for place in 0..lines {
-        let turned = replace_answers(alloc, script, &answers_with_refusal(alloc, script, place)?)?;
-        let outcome = outcome_of(alloc, turned.as_bytes());
-        let is_right = has_right_report(alloc, turned.as_bytes(), &outcome, false)?;
-        ends.count(is_right, End::RightReport);
-    }
+    ends.count(false, SAME);
     Ok(())
 }
 
@@ -230,25 +252,19 @@ fn fail_reads(
 ) -> Result<(), AllocError> {
     for passed in 0..MOST_TURNS {
         let mut input = FailingReader::after(ByteReader::new(script), passed);
-        let (mut output, mut errors) = (Vec::new(alloc), Vec::new(alloc));
-        let status = run_script(alloc, alloc, &mut input, &mut output, &mut errors);
-        let outcome = Outcome {
-            output,
-            errors,
-            status,
-        };
+        let outcome = outcome_with(alloc, alloc, &mut input);
         if passed > script.len() as u64 {
-            ends.count(outcome.difference(plain).is_none(), End::Same);
+            ends.count(outcome.difference(plain).is_none(), SAME);
             return Ok(());
         }
         let is_reported = outcome.errors.as_slice()
             == b"statsd_schedule: input: cannot read\n".as_slice();
         ends.count(
-            status == 2 && is_reported && outcome.output.is_empty(),
-            End::Unread,
+            outcome.status == 2 && is_reported && outcome.output.is_empty(),
+            UNREAD,
         );
     }
-    ends.count(false, End::Same);
+    ends.count(false, SAME);
     Ok(())
 }
 
@@ -271,66 +287,23 @@ fn fail_writes(
         let status = run_script(alloc, alloc, &mut input, &mut output, &mut errors);
         let (printed, reported) = (output.get_ref().taken(), errors.get_ref().taken());
         if status == plain.status && printed == plain.output.as_slice() {
-            ends.count(is_start(reported, &plain.errors, passed), End::Same);
+            ends.count(is_start(reported, &plain.errors, passed), SAME);
         } else {
             let is_part = is_start(printed, &plain.output, passed) && reported.is_empty();
-            ends.count(status == 1 && is_part, End::Unwritten);
+            ends.count(status == 1 && is_part, UNWRITTEN);
         }
         if passed > (plain.output.len().max(plain.errors.len())) as u64 {
             return Ok(());
         }
     }
-    ends.count(false, End::Same);
+    ends.count(false, SAME);
     Ok(())
 }
 
-/// Runs a script, and then lets each read and each write fail in turn. Counts the ends.
-pub fn fail_bytes_in_turn(
-    alloc: Global,
-    script: &[u8],
-    ends: &mut EndCounts,
-) -> Result<(), AllocError> {
-    let plain = outcome_of(alloc, script);
-    fail_reads(alloc, script, &plain, ends)?;
-    fail_writes(alloc, script, &plain, ends)
-}
-
-/// Runs a script, and then lets each request for memory and each answer of the writer be refused in turn. Counts the
-/// ends. A script that can be read and run must first have, without a failure, the report that the model works out. A
-/// script with an aggregator, which that model doesn't know, is refused memory alone.
+/// Runs a script, and then lets each request for memory, each read and each write fail in turn. Counts the ends.
 pub fn fail_in_turn(alloc: Global, script: &[u8], ends: &mut EndCounts) -> Result<(), AllocError> {
     let plain = outcome_of(alloc, script);
     refuse_memory(alloc, script, &plain, ends)?;
-    if plain.status != 0 || has_aggregator(script) {
-        return Ok(());
-    }
-    ends.count(
-        has_right_report(alloc, script, &plain, false)?,
-        End::RightReport,
-    );
-    match str::from_utf8(script) {
-        Ok(text) => refuse_packets(alloc, text, &plain, ends),
-        Err(_) => Ok(()),
-    }
-}
-
-/// Runs a script that can be read, and counts how the run ends: as unusable if and only if the model says so, and then with the
-/// message that is due, or as any other run does.
-pub fn count_usability(
-    alloc: Global,
-    script: &str,
-    ends: &mut EndCounts,
-) -> Result<(), AllocError> {
-    let outcome = outcome_of(alloc, script.as_bytes());
-    if is_usable(alloc, script)? {
-        ends.count(outcome.status == 0, End::Same);
-        return Ok(());
-    }
-    let is_reported = outcome.errors.as_slice()
-        == b"statsd_schedule: settings: separator in a text\n".as_slice();
-    ends.count(
-        outcome.status == 2 && is_reported && outcome.output.is_empty(),
-        End::Unusable,
-    );
-    Ok(())
+    fail_reads(alloc, script, &plain, ends)?;
+    fail_writes(alloc, script, &plain, ends)
 }

@@ -1,9 +1,9 @@
 //! The constructors of sinks over UDP, and of a client over one.
 use crate::memory::{Heap, has_memory_for_a_line};
 use cadence::ready::{buffered_udp_client, udp_sink};
-use cadence::sinks::{ResolverRuntime, Target};
+use cadence::sinks::Target;
 use cadence::{
-    BufferedUdpMetricSink, BufferedUdpMetricSinkBuilder, MetricResult, UdpMetricSink,
+    BufferedUdpMetricSink, BufferedUdpMetricSinkBuilder, MetricResult, Runtime, UdpMetricSink,
     UdpMetricSinkBuilder,
 };
 use std::io;
@@ -34,13 +34,13 @@ pub fn long_period() -> Duration {
 }
 
 // Binds a socket at the loopback address, with a port of its own.
-fn bind_to_loopback<R: ResolverRuntime>(rt: &R) -> io::Result<UdpSocket> {
+fn bind_to_loopback<R: Runtime>(rt: &R) -> io::Result<UdpSocket> {
     UdpSocket::bind(rt, SocketAddr::from((Ipv4Addr::LOCALHOST, 0)))
 }
 
 impl UdpMaker {
     /// Returns whether there was memory for the constructor, and for a line and a flush after it.
-    pub fn has_memory<R: ResolverRuntime>(
+    pub fn has_memory<R: Runtime>(
         self,
         rt: &R,
         heap: Heap,
@@ -60,7 +60,7 @@ impl UdpMaker {
     }
 
     // Makes a sink that sends each line by itself.
-    fn make_unbuffered<R: ResolverRuntime>(
+    fn make_unbuffered<R: Runtime>(
         self,
         rt: &R,
         heap: Heap,
@@ -78,7 +78,7 @@ impl UdpMaker {
     }
 
     // Makes a sink that packs lines.
-    fn make_buffered<R: ResolverRuntime>(
+    fn make_buffered<R: Runtime>(
         self,
         rt: &R,
         heap: Heap,

@@ -1,3 +1,4 @@
+# SPDX-License-Identifier: Apache-2.0 OR MIT
 """A Statsd client over a proved formatter and packer, with the calls of statsd.StatsClient and the Datadog fields.
 
     from statsd_proved import StatsClient

@@ -1,3 +1,4 @@
+# SPDX-License-Identifier: Apache-2.0 OR MIT
 """The client."""
 from __future__ import annotations
 
@@ -5,14 +6,13 @@ import contextlib
 import errno
 import logging
 import os
-import socket
 import sys
 import threading
 import weakref
 from collections.abc import Callable, Mapping
 from typing import Any, NoReturn, Self, TypedDict
 
-from . import environment, process
+from . import address, environment, flusher, process
 from ._core import Packer
 from .environment import UNIX
 from .errors import Status, StatusError
@@ -37,49 +37,20 @@ class Counts(TypedDict):
     bad: int
 
 
-def _open(host: str, port: int, ipv6: bool) -> tuple[socket.socket, Any]:
-    """Returns a socket and the address that it sends to."""
-    if host.startswith(UNIX):
-        path = os.fsencode(host[len(UNIX):])
-        return socket.socket(socket.AF_UNIX, socket.SOCK_DGRAM), path
-    if not 0 < int(port) < 65536:
-        raise ValueError(f"port is {port}: it has to be from 1 to 65535")
-    family = socket.AF_INET6 if ipv6 else socket.AF_INET
-    found = socket.getaddrinfo(host, port, family, socket.SOCK_DGRAM)
-    return socket.socket(family, socket.SOCK_DGRAM), found[0][4]
-
-
-def _period(flush_every: float | None) -> float | None:
-    """Returns a period for which a thread can wait."""
-    if flush_every is None:
-        return None
-    if not isinstance(flush_every, (int, float)) or not flush_every >= 0:
-        raise ValueError(f"flush_every is {flush_every!r}: it has to be None or seconds from 0 on")
-    return min(flush_every, threading.TIMEOUT_MAX)
-
-
-def _flush_often(client: weakref.ref[StatsClient], seconds: float, ended: threading.Lock) -> None:
-    """Flushes the client after each period, until it is closed or no longer referenced. It waits for a plain lock, because
-    it may be stopped while it waits, if the process ends, and must not hold a lock then that others wait for."""
-    while not ended.acquire(timeout=seconds):
-        it = client()
-        if it is None:
-            return
-        if not it._ended:
-            it._tell(it._flush(), may_raise=False)
-        del it
-
-
 class StatsClient(Metrics):
     """A client that packs metrics into packets, and sends the packets to one address.
 
-    `host` is a name, an address, or `unix:///path` for a datagram socket at that path. `maxudpsize` is the capacity of
+    `host` is a name, an address, or `unix:///path` for a datagram socket at that path. Of a name the first address of IPv4
+    is taken, or if it has none the first one; with `ipv6` only addresses of IPv6. The constructor looks a name up. Later a
+    thread does, which no call waits for: after a minute, and after a refused packet, but then at most once in a second. If a
+    lookup fails, the client keeps its address. If it has none yet, its packets are refused. `maxudpsize` is the capacity of
     a packet in bytes; a longer line is a packet of its own. The client sends the held text when a packet is full, every
     `flush_every` seconds, at `flush`, at `close`, at the end of a `with`, when the client is no longer referenced, and
     when the process ends. A thread flushes every `flush_every` seconds; with 0 each call flushes, and with None neither
-    does. In a process that multiprocessing started each call flushes in place of the thread, because a pool ends such
-    processes by a signal. Threads may share a client. In the child of a fork the client starts empty, because the parent
-    still has the held text.
+    does. In a process that multiprocessing or Celery started each call flushes in place of the thread, because they end such
+    processes at once, and also under uWSGI without `enable-threads` and `threads`, where no thread runs. Threads may
+    share a client. In the child of a fork the client starts empty, because the parent still has the held text. It notices
+    each fork, also that of a program which doesn't tell Python of it, as uWSGI.
 
     No call raises, because a metric must not stop a service. A bad value is counted. A packet that the socket refuses
     is counted, and waits until it is offered again with the next packet. If `packets` packets already wait behind it,
@@ -89,9 +60,9 @@ class StatsClient(Metrics):
     the call is kept, so the caller must not make the call again. Without both, the first error is logged by `logging`.
 
     If `aggregate` is set, lines are added up before they are packed: counters are summed, of a gauge the last value is
-    held, and of a set each number once, for each name with its tags, rate and container. What is held is sent every
-    `flush_every` seconds, at `flush`, at `close` and when the process ends. Other lines, as those of timers, are packed at
-    once. If `packets` wait because the socket refuses them, a call for which one more has to be made keeps no line, and
+    held, and of a set each whole number once, for each name with its tags, rate and container. What is held is sent every
+    `flush_every` seconds, at `flush`, at `close` and when the process ends. Other lines, as those of timers and
+    of texts in a set, are packed at once. If `packets` wait because the socket refuses them, a call for which one more has to be made keeps no line, and
     counts as a bad one.
 
     If `strict` is set, a call with a colon, a comma, a bar or a newline in its name, in a tag, in the container or in the
@@ -108,20 +79,26 @@ class StatsClient(Metrics):
         self._settings = (prefix.rstrip(".") + "." if prefix else "", maxudpsize, packets, strict, tags, container)
         self._packer = Packer(*self._settings, aggregate)
         self._adds_up = aggregate
-        self._flush_every = _period(flush_every)
+        self._flush_every = flusher.period(flush_every)
         self._at_once = flush_every == 0
         self._on_error = on_error
         self._raises = raises
         self._logs_next = on_error is None and not raises
         self._pipelines: weakref.WeakSet[Pipeline] = weakref.WeakSet()
-        self._socket, self._address = _open(host, port, ipv6)
-        self._socket.setblocking(False)
+        self._socket, self._address, self._name = address.opened(host, port, ipv6)
+        self._family = self._socket.family
         self._ended = False
         self._begin()
         process.watch(self)
+        if self._name is not None and self._name.fault is not None:
+            self._report(self._name.fault)
 
     @classmethod
-    def from_environment(cls, prefix: str | None = None, **arguments: Any) -> Self:
+    def from_environment(cls, prefix: str | None = None, *, host: str | None = None, port: int | None = None,
+                         maxudpsize: int | None = None, ipv6: bool = False, tags: Tags | None = None,
+                         container: str | None = None, packets: int = 64, flush_every: float | None = 1.0,
+                         on_error: Callable[[Exception], object] | None = None, raises: bool = False, strict: bool = False,
+                         aggregate: bool = False) -> Self:
         """Makes a client that sends to the address and has the tags of the variables of the environment. An empty variable
         counts as not set, and a variable that another one overrides isn't read.
 
@@ -135,16 +112,19 @@ class StatsClient(Metrics):
 
         A packet has at most 512 bytes over UDP, and 8192 bytes over a Unix socket, unless `maxudpsize` says otherwise.
 
-        `arguments` are those of the constructor. With `host` or `port` no variable of an address is read. `tags` come after
-        those of the variables. A host that is an IPv6 address sets `ipv6`. The call raises a VariableError if a variable
-        can't be used, before it makes anything, and what the constructor raises."""
-        if not {"host", "port"} & arguments.keys():
+        The arguments are those of the constructor. With `host` or `port` no variable of an address is read. `tags` come after
+        those of the variables. The call raises a VariableError if a variable can't be used, before it makes anything, and
+        what the constructor raises."""
+        if host is None and port is None:
             host, port = environment.address(os.environb)
-            size = 8192 if host.startswith(UNIX) else 512
-            arguments = {"ipv6": ":" in host, "maxudpsize": size, **arguments, "host": host, "port": port}
-        own = arguments.pop("tags", None) or ()
+            if maxudpsize is None and host.startswith(environment.UNIX):
+                maxudpsize = 8192
+        own = tags or ()
         tags = [*environment.tags(os.environb), *(own.items() if isinstance(own, Mapping) else own)]
-        return cls(prefix=prefix, tags=tags, **arguments)
+        return cls(host="localhost" if host is None else host, port=8125 if port is None else port, prefix=prefix,
+                   maxudpsize=512 if maxudpsize is None else maxudpsize, ipv6=ipv6, tags=tags, container=container,
+                   packets=packets, flush_every=flush_every, on_error=on_error, raises=raises, strict=strict,
+                   aggregate=aggregate)
 
     def __reduce__(self) -> NoReturn:
         raise TypeError("a StatsClient can't be copied or pickled: make another one")
@@ -170,8 +150,8 @@ class StatsClient(Metrics):
         self._tell(self._flush())
 
     def close(self) -> None:
-        """Sends the packets that wait and the held text, drops each packet that the socket refuses, and closes. A
-        second call does nothing."""
+        """Sends the packets that wait and the held text, and closes. A packet that the socket refuses is offered once more
+        if the one before it was sent, and dropped if it isn't sent then. A second call does nothing."""
         self._tell(self._close())
 
     def counts(self) -> Counts:
@@ -195,9 +175,16 @@ class StatsClient(Metrics):
     def _sending(self) -> contextlib.AbstractContextManager[Any]:
         """The lock of all that the client sends and counts. At the end of the interpreter no other thread runs any more, and
         one that was stopped may have the lock for ever."""
+        self._follow_fork()
         if sys.is_finalizing():
             return contextlib.nullcontext()
         return self._lock
+
+    def _follow_fork(self) -> None:
+        """Lets all clients start empty, if this is the child of a fork of which Python wasn't told. Until then the lock may be
+        that of a thread which the child doesn't have."""
+        if self._packer.is_forked():
+            process.renew_all()
 
     def _stop(self) -> None:
         """Ends the thread that flushes, and lets none start."""
@@ -217,25 +204,66 @@ class StatsClient(Metrics):
                 waiting += self._packer.close()
             except MemoryError as fault:
                 faults.append(fault)
-            for packet in waiting:
-                if (refusal := self._send(packet)) is not None:
-                    faults.append(refusal)
-                    self._lost += 1
+            faults += self._send_or_drop(waiting)
             self._socket.close()
         return faults
 
+    def _send_or_drop(self, packets: list[bytes]) -> list[OSError]:
+        """Offers each packet to the socket, and a refused one once more if the one before it was sent."""
+        faults: list[OSError] = []
+        has_sent = False
+        for packet in packets:
+            fault = self._send(packet)
+            if fault is not None and has_sent and fault.errno != errno.EMSGSIZE:
+                faults.append(fault)
+                fault = self._send(packet)
+            has_sent = fault is None
+            if fault is not None:
+                faults.append(fault)
+                self._lost += 1
+        return faults
+
     def _end(self) -> None:
-        """Sends the held text, and lets each later call flush, because the process ends."""
-        if not self._ended:
-            self._stop()
-            self._at_once = True
-            self._tell(self._flush(), may_raise=False)
+        """Sends the held text, and lets each later call flush, because the process ends. If the socket refuses a packet, it
+        tries again, as long as a try sends something."""
+        faults: list[Exception] = []
+        with self._sending:
+            if not self._ended:
+                sent, faults = self._sent, self._flush()
+                while self._refused is not None and self._sent != sent:
+                    sent = self._sent
+                    faults += self._flush()
+                self._stop()
+                self._at_once = True
+        self._tell(faults, may_raise=False)
+
+    def _flush_unless_ended(self) -> list[Exception]:
+        with self._sending:
+            return [] if self._ended else self._flush()
+
+    def _move(self, family: int, to: Any) -> None:
+        """Sends from now on to this address, from a socket of its family. If none can be made, all stays as it is."""
+        with self._sending:
+            if self._ended or to == self._address:
+                return
+            if family != self._family:
+                try:
+                    made = address.socket_of(family)
+                except OSError:
+                    return
+                self._socket.close()
+                self._socket, self._family = made, made.family
+            self._address = to
 
     def _renew(self) -> None:
         """Drops, in the child of a fork, the text and the packets that the parent has too. It makes new locks, because a
         thread that the child doesn't have may hold the old ones."""
+        if not self._packer.is_forked():
+            return
         self._begin()
         self._packer.renew()
+        if self._name is not None:
+            self._name.renew()
         for pipeline in list(self._pipelines):
             pipeline._renew()
 
@@ -249,13 +277,15 @@ class StatsClient(Metrics):
         is_worker = process.watch_worker()
         if not self._flush_every:
             return
-        if is_worker:
+        if is_worker or process.lacks_threads():
             self._at_once = True
             return
-        words = (weakref.ref(self), self._flush_every, self._alarm)
         try:
-            threading.Thread(target=_flush_often, args=words, name="statsd_proved", daemon=True).start()
+            flusher.start(self, self._flush_every, self._alarm)
         except RuntimeError as fault:
+            if "shutdown" in str(fault):  # the process ends, so that no thread can be started any more
+                self._at_once = True
+                return
             self._starts = True
             self._tell([fault])
 
@@ -347,6 +377,8 @@ class StatsClient(Metrics):
                     self._refused = self._packer.take()
                 if self._refused is None:
                     break
+                if self._name is not None:
+                    self._name.follow(self)
                 fault = self._send(self._refused)
                 if fault is not None:
                     faults.append(fault)
@@ -362,9 +394,18 @@ class StatsClient(Metrics):
 
     def _send(self, packet: bytes) -> OSError | None:
         try:
+            if self._address is None:
+                raise self._no_address()
             self._socket.sendto(packet, self._address)
         except OSError as fault:
             self._refusals += 1
+            if self._name is not None and fault.errno != errno.EMSGSIZE:
+                self._name.was_refused()
             return fault
         self._sent += 1
         return None
+
+    def _no_address(self) -> OSError:
+        """Returns the error of the last lookup as a new one."""
+        fault = self._name and self._name.fault
+        return type(fault)(*fault.args) if fault else OSError(errno.EDESTADDRREQ, os.strerror(errno.EDESTADDRREQ))

@@ -1,3 +1,4 @@
+# SPDX-License-Identifier: Apache-2.0 OR MIT
 """Numbers that are neither ints nor floats."""
 import decimal
 
@@ -9,7 +10,7 @@ def parts(text: str) -> tuple[int, int]:
     """Returns the number of a text, rounded to 30 places, as a whole number and a number of places. It raises an
     ArithmeticError if the text is no number, or if the number is far too large."""
     number = _CONTEXT.create_decimal(text)
-    if number.adjusted() > 18 and number:
+    if number.adjusted() > 19 and number:
         raise OverflowError(text)
     whole, _, places = f"{number:f}".partition(".")
     if len(places) > 30:

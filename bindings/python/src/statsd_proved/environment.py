@@ -1,3 +1,4 @@
+# SPDX-License-Identifier: Apache-2.0 OR MIT
 """What the variables of the environment say about a client."""
 from __future__ import annotations
 

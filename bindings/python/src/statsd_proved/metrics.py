@@ -1,3 +1,4 @@
+# SPDX-License-Identifier: Apache-2.0 OR MIT
 """The calls that make metrics, of clients and of pipelines."""
 from __future__ import annotations
 
@@ -24,32 +25,38 @@ class Several(Protocol[Element]):
 
 Number = Union[int, float, decimal.Decimal]
 Numbers = Union[tuple[Number, ...], Several[Number]]
-Tag = Union[str, Number, tuple[str, Union[str, Number]]]
-Tags = Union[Mapping[str, Union[str, Number]], tuple[Tag, ...], Several[Tag]]
-"""Tags: a dict, or a list whose elements are texts ("page:home", "beta") or pairs of a key and a text."""
+Tag = Union[str, Number, tuple[str, object]]
+Tags = Union[Mapping[str, object], tuple[Tag, ...], Several[Tag]]
+"""Tags: a dict, or a list whose elements are texts ("page:home", "beta") or pairs of a key and a text. An object that is no
+str is printed as `str` does, but bytes and objects that have others in them are refused."""
 
 COUNTER, TIMER, GAUGE, METER, HISTOGRAM, SET, DISTRIBUTION = range(7)
 PLAIN, CHANGE, LEVEL = range(3)  # forms of a gauge: as any metric, a change by a value, a value that may be below 0
+
+
+def _millis(time: Any) -> Any:
+    """Returns a timedelta in milliseconds, and each other object as it is."""
+    return time.total_seconds() * 1000 if isinstance(time, datetime.timedelta) else time
 
 
 class Metrics(abc.ABC):
     """Calls that make metrics.
 
     Each call takes a `rate`. If the rate is below 1, only this share of the calls is kept, chosen at random, and the
-    line has the rate, by which the server scales. Each call also takes `tags`, a `container` and a `timestamp` (whole
-    seconds since 1970), which servers with the Datadog fields read. A value is an int, a float or a Decimal. An empty list
+    line has the rate, by which the server scales. Each call also takes `tags`, a `container` and a `timestamp` (seconds
+    since 1970, of which the whole ones are sent), which servers with the Datadog fields read. A value is an int, a float or a Decimal. An empty list
     of values is refused, because no server reads a metric without a value.
     """
 
     _packer: Packer
 
     def incr(self, stat: str, count: Number = 1, rate: float = 1, *, tags: Tags | None = None,
-             container: str | None = None, timestamp: int | None = None) -> None:
+             container: str | None = None, timestamp: float | None = None) -> None:
         """Adds `count` to a counter."""
         self._keep(COUNTER, PLAIN, stat, count, rate, tags, container, timestamp)
 
     def decr(self, stat: str, count: Number = 1, rate: float = 1, *, tags: Tags | None = None,
-             container: str | None = None, timestamp: int | None = None) -> None:
+             container: str | None = None, timestamp: float | None = None) -> None:
         """Subtracts `count` from a counter."""
         try:
             count = -count
@@ -60,37 +67,39 @@ class Metrics(abc.ABC):
         self._keep(COUNTER, PLAIN, stat, count, rate, tags, container, timestamp)
 
     def gauge(self, stat: str, value: Number, rate: float = 1, delta: bool = False, *, tags: Tags | None = None,
-              container: str | None = None, timestamp: int | None = None) -> None:
+              container: str | None = None, timestamp: float | None = None) -> None:
         """Sets a gauge, or changes it by the value if `delta` is set. A gauge that is set to a value below 0 is set to
         0 first, in the same packet and without the rate, because a server reads a value with a sign as a change."""
         self._keep(GAUGE, CHANGE if delta else LEVEL, stat, value, rate, tags, container, timestamp)
 
     def set(self, stat: str, value: Number | str, rate: float = 1, *, tags: Tags | None = None,
-            container: str | None = None, timestamp: int | None = None) -> None:
+            container: str | None = None, timestamp: float | None = None) -> None:
         """Adds a value, which may be a text, to a set. A text is printed as it is, with any separators in it, unless the
         client is strict."""
         self._keep(SET, PLAIN, stat, value, rate, tags, container, timestamp)
 
-    def timing(self, stat: str, delta: Number | datetime.timedelta | Numbers, rate: float = 1, *,
-               tags: Tags | None = None, container: str | None = None, timestamp: int | None = None) -> None:
+    def timing(self, stat: str, delta: Number | datetime.timedelta | Numbers | Several[datetime.timedelta], rate: float = 1, *,
+               tags: Tags | None = None, container: str | None = None, timestamp: float | None = None) -> None:
         """Sends a time: a number of milliseconds, or a timedelta. A float is rounded to six places, if the result fits.
         A list makes one line."""
         if isinstance(delta, datetime.timedelta):
-            delta = delta.total_seconds() * 1000
+            delta = _millis(delta)
+        elif isinstance(delta, (list, tuple)):
+            delta = [_millis(each) for each in delta]
         self._keep(TIMER, PLAIN, stat, delta, rate, tags, container, timestamp)
 
     def histogram(self, stat: str, value: Number | Numbers, rate: float = 1, *, tags: Tags | None = None,
-                  container: str | None = None, timestamp: int | None = None) -> None:
+                  container: str | None = None, timestamp: float | None = None) -> None:
         """Sends a value for a histogram. A list makes one line."""
         self._keep(HISTOGRAM, PLAIN, stat, value, rate, tags, container, timestamp)
 
     def distribution(self, stat: str, value: Number | Numbers, rate: float = 1, *, tags: Tags | None = None,
-                     container: str | None = None, timestamp: int | None = None) -> None:
+                     container: str | None = None, timestamp: float | None = None) -> None:
         """Sends a value for a distribution. A list makes one line."""
         self._keep(DISTRIBUTION, PLAIN, stat, value, rate, tags, container, timestamp)
 
     def meter(self, stat: str, value: Number = 1, rate: float = 1, *, tags: Tags | None = None,
-              container: str | None = None, timestamp: int | None = None) -> None:
+              container: str | None = None, timestamp: float | None = None) -> None:
         """Sends a number of events for a meter."""
         self._keep(METER, PLAIN, stat, value, rate, tags, container, timestamp)
 
@@ -104,10 +113,11 @@ class Metrics(abc.ABC):
             return
         self._kept(made_packet)
 
-    def timer(self, stat: str, rate: float = 1, **fields: Any) -> Timer:
+    def timer(self, stat: str, rate: float = 1, *, tags: Tags | None = None, container: str | None = None,
+              timestamp: float | None = None) -> Timer:
         """Returns a timer. It is a context manager, a decorator of functions and of coroutine functions, and an object
-        with `start`, `stop` and `send`. `fields` are `tags`, `container` and `timestamp`."""
-        return Timer(self, stat, rate, **fields)
+        with `start`, `stop` and `send`."""
+        return Timer(self, stat, rate, tags=tags, container=container, timestamp=timestamp)
 
     def _keep(self, kind: int, form: int, stat: str, value: Any, rate: float, tags: Any, container: Any,
               timestamp: Any) -> None:

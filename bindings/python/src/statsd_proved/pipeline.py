@@ -1,3 +1,4 @@
+# SPDX-License-Identifier: Apache-2.0 OR MIT
 """Metrics that go out together."""
 from __future__ import annotations
 
@@ -27,6 +28,7 @@ class Pipeline(Metrics):
 
     def send(self) -> None:
         """Sends the metrics that are held."""
+        self._client._follow_fork()
         try:
             self._packer.flush()
         except MemoryError as fault:

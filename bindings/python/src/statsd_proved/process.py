@@ -1,3 +1,4 @@
+# SPDX-License-Identifier: Apache-2.0 OR MIT
 """What clients do when the process ends, and in the child of a fork."""
 from __future__ import annotations
 
@@ -24,8 +25,12 @@ def watch(client: StatsClient) -> None:
 
 def watch_worker() -> bool:
     """Makes all clients send their held text when a process of multiprocessing ends, because such a process doesn't
-    call the handlers of atexit. Returns whether multiprocessing has started this process."""
+    call the handlers of atexit. Returns whether multiprocessing has started this process, or billiard, which Celery has in
+    place of it."""
     global _watched
+    billiard = sys.modules.get("billiard.process")
+    if billiard is not None and billiard.current_process()._parent_pid is not None:
+        return True
     util = sys.modules.get("multiprocessing.util")
     if util is None:
         return False
@@ -50,9 +55,18 @@ def _end_all() -> None:
     _each(lambda client: client._end())
 
 
-def _renew_all() -> None:
+def renew_all() -> None:
+    """Lets each client that a parent made start empty, in the child of a fork. The extension module calls this too, at the
+    first call of a client in a child that Python wasn't told of."""
     _each(lambda client: client._renew())
 
 
+def lacks_threads() -> bool:
+    """Returns whether threads don't run while this process waits for work, as under uWSGI without `enable-threads` and
+    `threads`."""
+    options = getattr(sys.modules.get("uwsgi"), "opt", None)
+    return options is not None and not {"enable-threads", "threads"} & {os.fsdecode(name) for name in options}
+
+
 atexit.register(_end_all)
-os.register_at_fork(after_in_child=_renew_all)
+os.register_at_fork(after_in_child=renew_all)

@@ -1,3 +1,4 @@
+# SPDX-License-Identifier: Apache-2.0 OR MIT
 """Times of blocks and of functions."""
 from __future__ import annotations
 
@@ -8,7 +9,7 @@ from collections.abc import Callable
 from typing import TYPE_CHECKING, Any, TypeVar, cast
 
 if TYPE_CHECKING:
-    from .metrics import Metrics
+    from .metrics import Metrics, Tags
 
 Function = TypeVar("Function", bound=Callable[..., Any])
 
@@ -22,30 +23,35 @@ def _wraps(function: Callable[..., Any]) -> Callable[[Callable[..., Any]], Any]:
 class Timer:
     """Measures a time. After `stop`, the field `ms` is the time in milliseconds."""
 
-    def __init__(self, client: Metrics, stat: str, rate: float = 1, **fields: Any) -> None:
+    def __init__(self, client: Metrics, stat: str, rate: float = 1, *, tags: Tags | None = None,
+                 container: str | None = None, timestamp: float | None = None) -> None:
         self.client = client
         self.stat = stat
         self.rate = rate
         self.ms: float | None = None
-        self._fields = fields
+        self._fields = (tags, container, timestamp)
         self._sent = False
         self._start_time: float | None = None
 
     def __call__(self, function: Function) -> Function:
         """Returns a function that measures each of its calls, also if several threads call it at once. A coroutine is
-        measured from its first step to its end."""
-        if inspect.iscoroutinefunction(function):
+        measured from its first step to its end. Of a generator only the call is measured that makes it."""
+        if inspect.iscoroutinefunction(function) or inspect.iscoroutinefunction(getattr(function, "__call__", None)):
             @_wraps(function)
             async def timed_coroutine(*args: Any, **kwargs: Any) -> Any:
-                with Timer(self.client, self.stat, self.rate, **self._fields):
+                with self._another():
                     return await function(*args, **kwargs)
             return cast(Function, timed_coroutine)
 
         @_wraps(function)
         def timed(*args: Any, **kwargs: Any) -> Any:
-            with Timer(self.client, self.stat, self.rate, **self._fields):
+            with self._another():
                 return function(*args, **kwargs)
         return cast(Function, timed)
+
+    def _another(self) -> Timer:
+        tags, container, timestamp = self._fields
+        return Timer(self.client, self.stat, self.rate, tags=tags, container=container, timestamp=timestamp)
 
     def __enter__(self) -> Timer:
         return self.start()
@@ -76,4 +82,5 @@ class Timer:
         if self._sent:
             raise RuntimeError("the time was sent already")
         self._sent = True
-        self.client.timing(self.stat, self.ms, self.rate, **self._fields)
+        tags, container, timestamp = self._fields
+        self.client.timing(self.stat, self.ms, self.rate, tags=tags, container=container, timestamp=timestamp)

@@ -1,3 +1,4 @@
+// SPDX-License-Identifier: MIT OR Apache-2.0
 //! The buffer of lines that the buffered sinks share.
 use super::core::{MetricSink, SinkStats};
 use crate::packer::Packer;
@@ -95,3 +96,7 @@ impl<S: MetricSink> Drop for Buffer<S> {
         let _ = self.flush();
     }
 }
+
+#[cfg(test)]
+#[path = "../../tests/unit/buffer.rs"]
+mod tests;

@@ -1,3 +1,4 @@
+// SPDX-License-Identifier: MIT OR Apache-2.0
 //! The trait of sinks, and the counts of a sink.
 use std::io;
 use std::sync::atomic::{AtomicU64, Ordering};

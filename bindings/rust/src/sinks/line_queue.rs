@@ -1,3 +1,4 @@
+// SPDX-License-Identifier: MIT OR Apache-2.0
 //! The queue of a queuing sink: a channel, or a ring that drops its oldest line for a new one.
 use super::ring::{disconnected, full, ring, Ring, RingEnd};
 use std::io;

@@ -1,3 +1,4 @@
+// SPDX-License-Identifier: MIT OR Apache-2.0
 //! A sink that passes lines to another one in a thread of its own.
 use super::core::{MetricSink, SinkStats};
 use super::line_queue::{line_queue, Callers, QueuePolicy, Worker};

@@ -1,3 +1,4 @@
+// SPDX-License-Identifier: MIT OR Apache-2.0
 //! The receiving end of a spy.
 use super::ring::Ring;
 use std::fmt;

@@ -1,9 +1,10 @@
+// SPDX-License-Identifier: MIT OR Apache-2.0
 //! Addresses of names, looked up once or again and again.
 use crate::sync::run_to_end;
 use crate::types::{ErrorKind, MetricError, MetricResult};
 use std::fmt;
 use std::io;
-use std::net::{SocketAddr, ToSocketAddrs};
+use std::net::{SocketAddr, ToSocketAddrs, UdpSocket};
 use std::panic::RefUnwindSafe;
 use std::sync::mpsc::{self, RecvTimeoutError};
 use std::sync::{Arc, PoisonError, RwLock};
@@ -23,30 +24,46 @@ pub(crate) enum Resolver {
     },
 }
 
-fn first_address<A: ToSocketAddrs>(name: &A) -> io::Result<Option<SocketAddr>> {
-    Ok(name.to_socket_addrs()?.next())
+/// Returns the first address of a name that has the family of the socket, to which alone it can send, or the first one.
+fn first_address<A: ToSocketAddrs>(name: &A, family: Option<bool>) -> io::Result<Option<SocketAddr>> {
+    let mut addresses = name.to_socket_addrs()?;
+    let first = addresses.next();
+    let fits = |address: &SocketAddr| family.is_none_or(|is_ipv4| is_ipv4 == address.is_ipv4());
+    Ok(first.filter(fits).or_else(|| addresses.find(fits)).or(first))
+}
+
+/// Returns whether the socket is one of IPv4, if the system says so.
+fn family_of(socket: &UdpSocket) -> Option<bool> {
+    socket.local_addr().ok().map(|address| address.is_ipv4())
+}
+
+/// Returns the first address of IPv4, or if there is none the first one. Most servers listen on IPv4 alone, also on a
+/// machine whose `localhost` has both families.
+pub(crate) fn preferred<A: ToSocketAddrs>(name: &A) -> io::Result<Option<SocketAddr>> {
+    first_address(name, Some(true))
 }
 
 impl Resolver {
-    /// Looks the name up once, now.
-    pub(crate) fn once<A: ToSocketAddrs>(name: &A) -> MetricResult<Self> {
-        let no_address = || MetricError::from((ErrorKind::InvalidInput, "No socket addresses yielded"));
-        first_address(name)?.ok_or_else(no_address).map(Resolver::Once)
+    /// Looks the name up once, now, for a socket.
+    pub(crate) fn once<A: ToSocketAddrs>(name: &A, socket: &UdpSocket) -> MetricResult<Self> {
+        first_address(name, family_of(socket))?.ok_or_else(no_address).map(Resolver::Once)
     }
 
     /// Looks the name up now. If there is a period, a thread looks it up again each time that the period has passed.
     pub(crate) fn new<A: ToSocketAddrs + fmt::Debug + Send + Sync + RefUnwindSafe + 'static>(
         name: A,
+        socket: &UdpSocket,
         period: Option<Duration>,
         errors: Option<LookupHandler>,
     ) -> MetricResult<Self> {
-        let once = Self::once(&name)?;
+        let once = Self::once(&name, socket)?;
+        let family = family_of(socket);
         let Some(period) = period else { return Ok(once) };
         let (address, (channel, ended)) = (Arc::new(RwLock::new(once.address())), mpsc::channel());
         let known = Arc::clone(&address);
         run_to_end(move || {
             while ended.recv_timeout(period) == Err(RecvTimeoutError::Timeout) {
-                match (look_up(&name), &errors) {
+                match (look_up(&name, family), &errors) {
                     (Ok(address), _) => *known.write().unwrap_or_else(PoisonError::into_inner) = address,
                     (Err(error), Some(handler)) => handler(error),
                     (Err(_), None) => {}
@@ -66,8 +83,13 @@ impl Resolver {
     }
 }
 
+/// Returns the error of a name without an address.
+pub(crate) fn no_address() -> MetricError {
+    MetricError::from((ErrorKind::InvalidInput, "No socket addresses yielded"))
+}
+
 /// Looks a name up again.
-fn look_up<A: ToSocketAddrs + fmt::Debug>(name: &A) -> io::Result<SocketAddr> {
+fn look_up<A: ToSocketAddrs + fmt::Debug>(name: &A, family: Option<bool>) -> io::Result<SocketAddr> {
     let text = || format!("{name:?} did not resolve to any addresses");
-    first_address(name)?.ok_or_else(|| io::Error::new(io::ErrorKind::NotFound, text()))
+    first_address(name, family)?.ok_or_else(|| io::Error::new(io::ErrorKind::NotFound, text()))
 }

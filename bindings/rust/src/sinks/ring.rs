@@ -1,3 +1,4 @@
+// SPDX-License-Identifier: MIT OR Apache-2.0
 //! A queue of messages under a lock, for spies and for the policy that drops the oldest line.
 use super::line_queue::QueuePolicy;
 use std::collections::VecDeque;

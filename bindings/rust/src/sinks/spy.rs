@@ -1,3 +1,4 @@
+// SPDX-License-Identifier: MIT OR Apache-2.0
 //! Sinks for tests, whose lines a receiver returns.
 use super::buffer::{buffered_sink, Buffer};
 use super::line_queue::QueuePolicy;

@@ -1,3 +1,4 @@
+// SPDX-License-Identifier: MIT OR Apache-2.0
 //! Sinks over UDP.
 use super::buffer::{buffered_sink, Buffer};
 use super::core::{MetricSink, SinkStats, SocketStats};
@@ -36,8 +37,9 @@ impl UdpMetricSinkBuilder {
         Self::default()
     }
 
-    /// Makes the sink. It sends to the first address that the host has now, and after a later lookup to the first
-    /// address that this lookup found. The socket keeps its settings, such as whether it blocks.
+    /// Makes the sink. It sends to the first address of the socket's family that the host has now, or if it has none to
+    /// the first one, and after a later lookup to the one that this lookup found. The socket keeps its settings, such as
+    /// whether it blocks.
     ///
     /// It fails with `IoError` if the host can't be looked up or no thread can be started, and with `InvalidInput` if
     /// the host has no address.
@@ -46,7 +48,7 @@ impl UdpMetricSinkBuilder {
         to_addr: A,
         socket: UdpSocket,
     ) -> MetricResult<UdpMetricSink> {
-        Ok(UdpMetricSink::of(Resolver::new(to_addr, self.period, self.errors)?, socket))
+        Ok(UdpMetricSink::of(Resolver::new(to_addr, &socket, self.period, self.errors)?, socket))
     }
 
     /// Lets a thread look the host up again after each period. The drop of the sink ends the thread.
@@ -94,11 +96,12 @@ impl UdpMetricSink {
         UdpMetricSinkBuilder::new()
     }
 
-    /// Makes a sink that sends to the first address that the host has now. The socket keeps its settings.
+    /// Makes a sink that sends to the first address of the socket's family that the host has now, or if it has none to
+    /// the first one. The socket keeps its settings.
     ///
     /// It fails with `IoError` if the host can't be looked up, and with `InvalidInput` if it has no address.
     pub fn from<A: ToSocketAddrs>(to_addr: A, socket: UdpSocket) -> MetricResult<Self> {
-        Ok(Self::of(Resolver::once(&to_addr)?, socket))
+        Ok(Self::of(Resolver::once(&to_addr, &socket)?, socket))
     }
 
     fn of(resolver: Resolver, socket: UdpSocket) -> Self {
@@ -195,7 +198,7 @@ impl BufferedUdpMetricSinkBuilder {
 pub struct BufferedUdpMetricSink(Buffer<UdpMetricSink>);
 
 impl BufferedUdpMetricSink {
-    /// Makes a sink with packets of at most 512 bytes, which sends to the first address that the host has now.
+    /// Makes a sink with packets of at most 512 bytes, which sends to the address that [`UdpMetricSink::from`] takes.
     ///
     /// It fails with `IoError` if the host can't be looked up or memory runs out, and with `InvalidInput` if the host
     /// has no address.
@@ -203,8 +206,8 @@ impl BufferedUdpMetricSink {
         Self::with_capacity(sink_addr, socket, DEFAULT_CAPACITY)
     }
 
-    /// Makes a sink with packets of at most `cap` bytes, which sends to the first address that the host has now. The
-    /// socket keeps its settings, such as whether it blocks. It fails as [`from`](Self::from) does.
+    /// Makes a sink with packets of at most `cap` bytes, which sends to the address that [`UdpMetricSink::from`] takes.
+    /// The socket keeps its settings, such as whether it blocks. It fails as [`from`](Self::from) does.
     pub fn with_capacity<A: ToSocketAddrs>(to_addr: A, socket: UdpSocket, cap: usize) -> MetricResult<Self> {
         Ok(BufferedUdpMetricSink(Buffer::new(UdpMetricSink::from(to_addr, socket)?, cap)?))
     }

@@ -1,3 +1,4 @@
+// SPDX-License-Identifier: MIT OR Apache-2.0
 //! Sinks over Unix datagram sockets.
 use super::buffer::{buffered_sink, Buffer};
 use super::core::{MetricSink, SinkStats, SocketStats};

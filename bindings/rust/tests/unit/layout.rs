@@ -1,3 +1,4 @@
+// SPDX-License-Identifier: MIT OR Apache-2.0
 //! The layouts of the structs that are passed to the library, beside those of `cadence.h`.
 use super::*;
 use std::mem::{offset_of, size_of};
@@ -22,7 +23,6 @@ fn layouts_are_those_of_the_header() {
         layout!("settings" Settings<'_>: prefix.at prefix.len tags.at tags.len container.at container.len contained strict),
         layout!("decimal" Decimal: mantissa places),
         layout!("options" Options<'_>: tags.at tags.len container.at container.len rate time contained rated timed known),
-        layout!("counts" Counts: held waiting made sent dropped),
     ];
     for line in ours {
         assert!(header.lines().any(|theirs| theirs == line), "{line}");

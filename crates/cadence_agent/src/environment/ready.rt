@@ -5,24 +5,24 @@ ghost use Rattle.cadence_agent.specs.Refusals.{IsEnvironmentRefusal, IsPlaceRefu
 
 use super::sink::EnvironmentSink;
 use crate::unix::buffered_unix_sink;
+use cadence::Runtime;
 use cadence::ready::{buffered_udp_sink, host};
 use cadence_environment::{Destination, Environment};
 use cadence_errors::MetricResult;
 use cadence_flow::io::DEFAULT_CAPACITY;
 use std::alloc::Allocator;
 use std::env::Env;
-use std::net::Net;
-use std::sync::Wait;
 
 // How many bytes a datagram to a Unix socket holds. The agent reads datagrams of this length unless it is configured
 // otherwise.
 const UNIX_CAPACITY: usize = 8192;
 
 /// Makes a buffered sink with a socket of its own to this destination. Its buffer has 512 bytes for UDP, and 8192 for a
-/// Unix socket, which are as many as the agent reads at once unless it is configured otherwise.
+/// Unix socket, which are as many as the agent reads at once unless it is configured otherwise. A host's name is looked up
+/// again, as the head of `cadence::ready` says; each packet to a path finds the socket that is bound there then.
 ///
 /// The errors are those of `buffered_udp_sink` or of `buffered_unix_sink`.
-pub fn sink_to<R: Net + Wait + Clone + Drop, A: Allocator + Clone, B: Allocator>(
+pub fn sink_to<R: Runtime, A: Allocator + Clone + Send + Sync + 'static, B: Allocator>(
     rt: &R,
     alloc: A,
     destination: &Destination<B>,
@@ -48,7 +48,7 @@ pub fn sink_to<R: Net + Wait + Clone + Drop, A: Allocator + Clone, B: Allocator>
 ///
 /// The errors are `Described` of the kind `InvalidInput` with the text of an `EnvironmentError` if a variable is
 /// malformed, and those of `sink_to`.
-pub fn environment_sink<R: Env + Net + Wait + Clone + Drop, A: Allocator + Clone>(
+pub fn environment_sink<R: Env + Runtime, A: Allocator + Clone + Send + Sync + 'static>(
     rt: &R,
     alloc: A,
 ) -> MetricResult<EnvironmentSink<R, A>>

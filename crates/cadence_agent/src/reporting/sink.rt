@@ -27,8 +27,10 @@ use std::time::{Clock, Duration};
 ///
 /// No lock is held while the wrapped sink returns its counts, so its `stats` and `dropped_lines` may emit over this sink.
 ///
-/// The drop stops the thread and doesn't wait for it. It also sends a last report, and drops the error of this one. A
-/// queue below is stopped after that. The sink keeps the runtime `R`, whose locks it takes.
+/// The drop stops the thread and doesn't wait for it. It also sends a last report, drops the error of this one, and drops
+/// the wrapped sink, so that a buffered one sends its held text and a queue below is stopped. If the thread is sending a
+/// report at that time, it drops the wrapped sink itself after this report, and the end of the process may come first. A
+/// flush before the drop sends what is held in any case. The sink keeps the runtime `R`, whose locks it takes.
 ///
 /// ```text
 /// let period = Duration::from_secs(3600);

@@ -7,6 +7,7 @@ ghost use Rattle.cadence_aggregating.specs.Shown.{ShowsAdded};
 
 use super::LockedAggregator;
 use crate::call::KeyedCall;
+use crate::shared::SharedSink;
 use crate::under_lock::{Added, Failed};
 use cadence_errors::{MetricError, MetricResult, SinkError};
 use cadence_flow::{AnsweringSink, MetricSink, acquire, emit_by};
@@ -21,9 +22,9 @@ struct LockedCall<'a, S: MetricSink, R: Wait + Drop> {
 
 // The answer shows the aggregator before and after it accepted the line of the call. After an error it accepted none.
 impl<'a, S: MetricSink, R: Wait + Drop> AnsweringSink for LockedCall<'a, S, R> {
-    type Took = Added<S>;
+    type Took = Added<SharedSink<S>>;
 
-    type Refused = Failed<S>;
+    type Refused = Failed<SharedSink<S>>;
 
     ghost may_answer = { λ made _ answer. IsResultOf (line_of_keyed made.call) answer };
 

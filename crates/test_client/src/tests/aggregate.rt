@@ -1,6 +1,7 @@
-//! Tests of metrics that are added up before they are sent: `rows` of lines and flushes with the lines that the wrapped
-//! sink gets of them, `sinks` for the aggregating sink, and `clients` for clients whose calls make no line.
+//! Tests of metrics that are added up before they are sent: `sinks` for the aggregating sink, `clients` for clients
+//! whose calls make no line, and `passing` for what both pass on to the wrapped sink. The rows of the program
+//! `test_calls` say which lines are sent of which.
 
 mod clients;
-mod rows;
+mod passing;
 mod sinks;

@@ -1,8 +1,5 @@
-//! Tests of the client: `lines` of values, `sending` with the calls of sinks and handlers counted, `memory` refused,
-//! `threads` that share a client, and `strict` clients.
+//! Tests of the client: `sending` with the calls of sinks and handlers counted, and `memory` refused. The rows of the
+//! program `test_calls` say which line or error each call has.
 
-mod lines;
 mod memory;
 mod sending;
-mod strict;
-mod threads;

@@ -1,5 +1,5 @@
-//! Tests of what the environment says: `rows` of variables with what they say, and `sending` to real sockets.
+//! Tests of what the environment says: `refusals` of memory, and `sending` to real sockets. The rows of the program
+//! `test_calls` say what is read from which variables.
 
 mod refusals;
-mod rows;
 mod sending;

@@ -2,7 +2,6 @@
 //! number, kind.
 ghost use Rattle.std.specs.Prelude.{◌≡◌, IfOk};
 
-use super::own::Event;
 use cadence::decimal::Decimal;
 use cadence::types::{
     Counter, Distribution, Gauge, Histogram, Meter, Metric, MetricError, MetricResult, MetricText,
@@ -67,12 +66,6 @@ fn equal_texts_are_equal_metrics(rt: HostRuntime) -> Result<(), Fail> {
     let made = Counter::new(rt.alloc(), "", "k", 1)?;
     assert_equal(&made, &counter_of(rt.alloc(), "k:1|c")?)?;
     assert!(rt; made != counter_of(rt.alloc(), "k:2|c")?);
-    Ok(())
-}
-
-#[test]
-fn callers_have_metrics_of_their_own(rt: HostRuntime) -> Result<(), Fail> {
-    assert_eq!(rt; text_of(&Event), "p.k:1|e");
     Ok(())
 }
 

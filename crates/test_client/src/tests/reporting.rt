@@ -3,5 +3,5 @@
 
 mod lock_is_free;
 mod reports;
-mod stage;
+pub mod stage;
 mod threads;

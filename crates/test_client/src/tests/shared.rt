@@ -1,10 +1,13 @@
-//! Every sink may be shared by threads, whatever the runtime.
-use super::flushes::Runtime;
+//! Every sink and client may be shared by threads, whatever the runtime.
+use cadence::Runtime;
+use cadence::client::StatsdClient;
 use cadence::sinks::{
     BufferedSpyMetricSink, BufferedUdpMetricSink, BufferedUnixMetricSink, FlushingMetricSink,
     NopMetricSink, QueuingMetricSink, SpyMetricSink, SpyReceiver, UdpMetricSink, UnixMetricSink,
 };
 use cadence_agent::{EnvironmentSink, ReportingMetricSink, UnixSocket};
+use cadence_aggregating::{AggregatedClient, AggregatingMetricSink};
+use std::alloc::Global;
 
 // Compiles only for a type whose values may be sent to a thread and shared with one.
 fn require_shareable<T: Send + Sync>() {}
@@ -23,6 +26,9 @@ fn require_shareable_sinks<R: Runtime>(_rt: &R) {
     require_shareable::<EnvironmentSink<R>>();
     require_shareable::<QueuingMetricSink<EnvironmentSink<R>, R>>();
     require_shareable::<ReportingMetricSink<NopMetricSink, R>>();
+    require_shareable::<AggregatingMetricSink<NopMetricSink, R>>();
+    require_shareable::<AggregatedClient<NopMetricSink, R>>();
+    require_shareable::<StatsdClient<Global, NopMetricSink>>();
 }
 
 #[test]

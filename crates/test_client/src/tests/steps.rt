@@ -1,4 +1,5 @@
-//! Steps of tests that assert their result: what a sink takes, what a spy or a socket receives, and what is made.
+//! Steps of tests that assert their result: what a sink takes and passes on, what a spy or a socket receives, and what
+//! is made.
 use cadence::sinks::{MetricSink, SpyReceiver};
 use cadence::types::{MetricError, MetricResult, SinkError};
 use std::net::UdpSocket;
@@ -36,6 +37,20 @@ pub fn assert_gets<R: Wait + Drop>(receiver: &SpyReceiver<R>, line: &str) -> Res
     match receiver.recv() {
         Some(message) if message.as_slice() == line.as_bytes() => assert_got(receiver, ""),
         _ => Err(Fail::new(format_args!("another line than {line}"))),
+    }
+}
+
+/// Asserts that a sink has the counts 1 to 4 and five dropped lines, and that its flush writes nothing.
+pub fn assert_passes_on<S: MetricSink>(sink: &S) -> Result<(), Fail> {
+    let stats = sink.stats();
+    let is_sent = stats.bytes_sent == 1 && stats.packets_sent == 2;
+    let is_dropped = stats.bytes_dropped == 3 && stats.packets_dropped == 4;
+    if !is_sent || !is_dropped || sink.dropped_lines() != 5 {
+        return Err(Fail::new("another count"));
+    }
+    match sink.flush() {
+        Err(SinkError::NothingWritten) => Ok(()),
+        _ => Err(Fail::new("another answer of a flush")),
     }
 }
 

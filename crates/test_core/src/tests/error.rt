@@ -1,4 +1,4 @@
-//! The kinds and texts of errors. docs/SCRIPT.md lists the texts of the errors of sinks.
+//! The kinds and texts of errors. docs/statsd_schedule.md lists the texts of the errors of sinks.
 
 use cadence_errors::{ErrorKind, MetricError, SinkError};
 use std::alloc::Global;

@@ -1,9 +1,8 @@
 //! The engine of `statsd_send` over a reader, writers, packets and memory that fail. A run has to end with the status
 //! and the message of its failure, and to send the lines before it.
 use super::stream::{OUTLET, Waiting};
-use cadence_errors::ErrorKind;
 use cadence_flow::io::{Answer, LineBuffer, PacketLog, PacketWriter};
-use cadence_send::{Options, PacketPrinter, Sending, Setting, run_words};
+use cadence_send::{LossBoard, Options, PacketPrinter, Sending, Setting, run_words};
 use cadence_text::line::OwnedTag;
 use cadence_words::Defaults;
 use std::alloc::{Allocator, Global};
@@ -83,11 +82,13 @@ fn run_lines<A: Allocator + Clone, T: PacketWriter, I: Read, E: Write>(
     errors: &mut E,
 ) -> u8 {
     let mut unhurried: Option<Waiting> = None;
+    let board = LossBoard::new();
     let mut sending = Sending {
         alloc,
         defaults,
         errors,
         pace: &mut unhurried,
+        board: &board,
     };
     sending.run_input(lines, input, OUTLET)
 }
@@ -337,25 +338,5 @@ fn is_printed_with(alloc: Global, heap: RefusingAllocator<Global>) -> Result<boo
 fn each_request_of_a_printed_packet_may_be_refused(rt: HostRuntime) -> Result<(), Fail> {
     let granted = each_refused(rt.alloc(), |heap| is_printed_with(rt.alloc(), heap))?;
     assert!(rt; granted.is_some());
-    Ok(())
-}
-
-// Returns whether options refuse a default tag because its text has a colon. There may be no other error.
-fn refuses_colon(alloc: Global, is_strict: bool) -> Result<bool, Fail> {
-    let mut options = Options::new(alloc);
-    options.is_strict = is_strict;
-    let key = String::from_str(alloc, "a")?;
-    let tags: [OwnedTag; 1] = [(Some(key), String::from_str(alloc, "b:c")?)];
-    match options.defaults(alloc, &tags) {
-        Ok(_) => Ok(false),
-        Err(error) if error.kind() == ErrorKind::InvalidInput => Ok(true),
-        Err(error) => Err(Fail::new(error)),
-    }
-}
-
-#[test]
-fn strict_options_refuse_a_default_tag_with_a_separator(rt: HostRuntime) -> Result<(), Fail> {
-    assert!(rt; refuses_colon(rt.alloc(), true)?);
-    assert!(rt; !refuses_colon(rt.alloc(), false)?);
     Ok(())
 }

@@ -1,16 +1,17 @@
 //! How a queue ends, and that it ends whatever the wrapped sink does: what has left once the last handle is dropped,
 //! and periods that are hardly a wait, while each flush fails.
 use super::noting::{make_noting_sink, make_refusing_sink};
-use super::steps::{Runtime, assert_accepts, assert_messages, assert_reaches};
+use super::steps::{assert_accepts, assert_messages, assert_reaches};
 use cadence_errors::SinkError;
 use cadence_queuing::{FlushingMetricSink, QueuingMetricSinkBuilder};
+use cadence_resolve::{Runtime, RuntimeParts};
 use cadence_sinks::BufferedSpyMetricSink;
 use std::alloc::Global;
 use std::sync::Arc;
 use std::sync::atomic::{AtomicBool, Ordering};
 use std::test::Fail;
 use std::thread;
-use std::time::{Clock, Duration, Instant};
+use std::time::{Duration, Instant};
 
 // Sets its flag when it is dropped.
 struct DropFlag {
@@ -62,7 +63,7 @@ fn a_stop_and_the_last_drop_leave_nothing(rt: HostRuntime) -> Result<(), Fail> {
 
 // Asserts that a queue with this period, whose flushes all fail, tries a flush again though no line comes, at most once
 // a millisecond; that it still hands lines on; and that a stop ends its worker.
-fn assert_outlives_failures<R: Runtime + Clock>(
+fn assert_outlives_failures<R: Runtime>(
     rt: &R,
     alloc: Global,
     period: Duration,
@@ -112,7 +113,7 @@ fn a_queue_may_wait_for_ever(rt: HostRuntime) -> Result<(), Fail> {
 
 // Asserts that the thread of a flushing sink over this clock, with a period of so many nanoseconds, flushes again and
 // again, but at most once in so many milliseconds of real time.
-fn assert_flushes_within<R: Runtime + Clock, C: Runtime + Clock>(
+fn assert_flushes_within<R: RuntimeParts, C: Runtime>(
     rt: &R,
     clock: C,
     alloc: Global,

@@ -2,19 +2,20 @@
 //! themselves; a worker with a period of five milliseconds looks at it after as many milliseconds of real time.
 use super::noting::{NotingSink, Stage, Watch, make_noting_sink};
 use super::steps::{
-    Runtime, WantedError, assert_accepts, assert_counts, assert_flushes, assert_last_message,
+    WantedError, assert_accepts, assert_counts, assert_flushes, assert_last_message,
     assert_refuses_flush,
 };
 use cadence_errors::SinkError;
 use cadence_flow::MetricSink;
 use cadence_queuing::{FlushingMetricSink, QueuingMetricSink, QueuingMetricSinkBuilder};
+use cadence_resolve::Runtime;
 use cadence_sinks::BufferedSpyMetricSink;
 use std::alloc::Global;
 use std::sync::Arc;
 use std::sync::atomic::Ordering;
 use std::test::Fail;
 use std::thread;
-use std::time::{Clock, Duration};
+use std::time::Duration;
 use test_tools::moved_clock::MovedClock;
 
 type NotedQueue<R> = QueuingMetricSink<NotingSink<R>, MovedClock<R>>;
@@ -29,7 +30,7 @@ fn count_refusal(stage: &Stage, error: &SinkError) {
 }
 
 // Makes a queue over a noting sink, whose worker flushes it after this many milliseconds of the moved clock.
-fn make_queue<R: Runtime + Clock>(
+fn make_queue<R: Runtime>(
     rt: &R,
     alloc: Global,
     period: u64,
@@ -47,7 +48,7 @@ fn make_queue<R: Runtime + Clock>(
 
 // Emits a line, and asserts that the worker hands it on. Before a test then moves the clock, it has to wait until the
 // worker has read it, by `assert_reads`.
-fn assert_passes<R: Runtime + Clock>(watch: &Watch<R>, sink: &NotedQueue<R>) -> Result<(), Fail> {
+fn assert_passes<R: Runtime>(watch: &Watch<R>, sink: &NotedQueue<R>) -> Result<(), Fail> {
     assert_accepts(sink, &[("a:1|c", 5)])?;
     watch.assert_notes(&["a:1|c"])
 }
@@ -103,11 +104,7 @@ fn a_busy_worker_flushes_between_lines(rt: HostRuntime) -> Result<(), Fail> {
 
 // Asserts that a flush which fails twice is tried again after each `wait` milliseconds and no sooner, though no line
 // comes. `errors` is how often it failed before.
-fn assert_tries_again<R: Runtime + Clock>(
-    watch: &Watch<R>,
-    wait: u64,
-    errors: u64,
-) -> Result<(), Fail> {
+fn assert_tries_again<R: Runtime>(watch: &Watch<R>, wait: u64, errors: u64) -> Result<(), Fail> {
     for failed in 1..3 {
         watch
             .clock
@@ -135,10 +132,7 @@ fn a_failed_flush_is_tried_again(rt: HostRuntime) -> Result<(), Fail> {
 }
 
 // Asserts that each line is flushed when the worker has no more.
-fn assert_flushes_each<R: Runtime + Clock>(
-    watch: &Watch<R>,
-    sink: &NotedQueue<R>,
-) -> Result<(), Fail> {
+fn assert_flushes_each<R: Runtime>(watch: &Watch<R>, sink: &NotedQueue<R>) -> Result<(), Fail> {
     for _ in 0..2 {
         assert_passes(watch, sink)?;
         watch.assert_notes(&["flush"])?;
@@ -172,10 +166,7 @@ fn without_a_clock_each_line_is_flushed(rt: HostRuntime) -> Result<(), Fail> {
 }
 
 // Makes a flushing sink over a noting one, with a period of five milliseconds of the moved clock.
-fn make_flushes<R: Runtime + Clock>(
-    rt: &R,
-    alloc: Global,
-) -> Result<(Watch<R>, NotedFlushes<R>), Fail> {
+fn make_flushes<R: Runtime>(rt: &R, alloc: Global) -> Result<(Watch<R>, NotedFlushes<R>), Fail> {
     let (watch, noting) = make_noting_sink(rt, alloc)?;
     let stage = watch.stage.clone()?;
     let handler = Box::new(alloc, move |error: SinkError| count_refusal(&stage, &error))?;

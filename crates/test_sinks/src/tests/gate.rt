@@ -1,10 +1,11 @@
 //! A sink with a gate. The worker of a queue waits there until the test opens it, so that a test knows which lines are
 //! in the queue.
-use super::steps::{COUNTS, Runtime, assert_accepts, assert_messages, make_spy};
+use super::steps::{COUNTS, assert_accepts, assert_messages, make_spy};
 use cadence_errors::SinkError;
 use cadence_flow::MetricSink;
 use cadence_flow::stats::SinkStats;
 use cadence_queuing::QueuingMetricSink;
+use cadence_resolve::Runtime;
 use cadence_sinks::{SpyMetricSink, SpyReceiver};
 use std::alloc::{Allocator, Global};
 use std::sync::atomic::{AtomicBool, Ordering};

@@ -1,15 +1,16 @@
 //! A sink that notes and counts its lines and its flushes, and whose lines may move a clock.
-use super::steps::{COUNTS, Runtime, make_spy};
+use super::steps::{COUNTS, make_spy};
 use cadence_errors::SinkError;
 use cadence_flow::MetricSink;
 use cadence_flow::stats::SinkStats;
+use cadence_resolve::RuntimeParts;
 use cadence_sinks::{SpyMetricSink, SpyReceiver};
 use std::alloc::Global;
 use std::sync::atomic::{AtomicBool, AtomicU64, Ordering};
 use std::sync::{Arc, Wait};
 use std::test::Fail;
 use std::thread;
-use std::time::{Clock, Duration};
+use std::time::Duration;
 use test_tools::moved_clock::{MovedClock, PATIENCE};
 
 /// What a test sets and sees of a noting sink.
@@ -78,7 +79,7 @@ impl<R: Wait + Drop> MetricSink for NotingSink<R> {
 
 /// A moved clock, and what a test sees of a noting sink.
 #[derive(Drop)]
-pub struct Watch<R: Runtime> {
+pub struct Watch<R: RuntimeParts> {
     pub clock: MovedClock<R>,
     pub stage: Arc<Stage>,
     pub notes: SpyReceiver<R>,
@@ -96,7 +97,7 @@ fn new_stage() -> Stage {
 }
 
 /// Makes a noting sink, and what a test sees of it.
-pub fn make_noting_sink<R: Runtime>(
+pub fn make_noting_sink<R: RuntimeParts>(
     rt: &R,
     alloc: Global,
 ) -> Result<(Watch<R>, NotingSink<R>), Fail> {
@@ -117,7 +118,7 @@ pub fn make_noting_sink<R: Runtime>(
 }
 
 /// Makes a sink that refuses each flush, and what a test sets and sees of it. Nobody receives its notes.
-pub fn make_refusing_sink<R: Runtime>(
+pub fn make_refusing_sink<R: RuntimeParts>(
     rt: &R,
     alloc: Global,
 ) -> Result<(Arc<Stage>, NotingSink<R>), Fail> {
@@ -126,7 +127,7 @@ pub fn make_refusing_sink<R: Runtime>(
     Ok((watch.stage.clone()?, sink))
 }
 
-impl<R: Runtime + Clock> Watch<R> {
+impl<R: RuntimeParts> Watch<R> {
     /// Sets whether the sink refuses flushes.
     pub fn set_refuses(&self, refuses: bool) {
         self.stage.refuses.store(refuses, Ordering::SeqCst);

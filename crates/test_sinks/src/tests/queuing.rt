@@ -2,13 +2,14 @@
 //! of errors. Tests wait for a message or for the end of the worker, so no result depends on the threads' turns.
 use super::gate::{GatedQueue, make_gated_queue, make_gated_sink};
 use super::steps::{
-    Runtime, WantedError, assert_accepts, assert_flushes, assert_last_message, assert_messages,
+    WantedError, assert_accepts, assert_flushes, assert_last_message, assert_messages,
     assert_next_message, assert_refuses, make_spy,
 };
 use cadence_errors::SinkError;
 use cadence_flow::MetricSink;
 use cadence_queue::QueuePolicy;
 use cadence_queuing::{QueuingMetricSink, QueuingMetricSinkBuilder};
+use cadence_resolve::Runtime;
 use cadence_sinks::{BufferedSpyMetricSink, SpyMetricSink, SpyReceiver};
 use std::alloc::{Allocator, Global};
 use std::sync::atomic::{AtomicU64, Ordering};

@@ -6,16 +6,19 @@ use super::sockets::{assert_sends, bind_to_loopback};
 use super::steps::{WantedError, assert_counts, assert_refuses};
 use cadence_errors::ErrorKind;
 use cadence_flow::MetricSink;
-use cadence_resolve::{Target, address_of, find_address};
+use cadence_resolve::{Family, Target, address_of, find_address};
 use cadence_sinks::ready::{buffered_udp_sink, host, udp_sink};
-use cadence_sinks::{BufferedUdpMetricSink, MAX_PACKET};
+use cadence_sinks::{BufferedUdpMetricSink, MAX_PACKET, UdpMetricSinkBuilder};
 use std::alloc::{AllocError, Global};
-use std::net::{Ipv4Addr, Ipv6Addr, Net, SocketAddr, UdpSocket};
+use std::net::{Ipv4Addr, Ipv6Addr, Net, SocketAddr, TcpListener, TcpStream, UdpSocket};
 use std::os::fd::AsRawFd;
 use std::sync::atomic::{AtomicU64, Ordering};
 use std::sync::{Arc, Wait};
 use std::test::Fail;
+use std::thread::{self, Threads};
+use std::time::{Clock, Duration};
 use std::{fs, io};
+use test_tools::moved_clock::PATIENCE;
 
 // The addresses of a host. The ports are those of the lookup.
 fn v6(last: u16, port: u16) -> SocketAddr {
@@ -33,50 +36,72 @@ enum Found {
     OnlyV6,
     V6First,
     V4First,
+    // At first an address to which the system refuses packets, and from the third lookup on one of IPv4.
+    Moves,
 }
 
-// Returns how many addresses a lookup gives, and up to four of them.
-fn addresses_of(found: Found, port: u16) -> (usize, [SocketAddr; 4]) {
+// Returns how many addresses the lookup with this number gives, and up to four of them.
+fn addresses_of(found: Found, number: u64, port: u16) -> (usize, [SocketAddr; 4]) {
     let (first, second) = (v6(1, port), v6(2, port));
     match found {
         Found::Nothing => (0, [first; 4]),
         Found::OnlyV6 => (2, [first, second, first, second]),
         Found::V6First => (4, [first, v4(1, port), second, v4(2, port)]),
         Found::V4First => (3, [v4(1, port), first, v4(2, port), second]),
+        Found::Moves if number < 2 => { (1, [SocketAddr::from((Ipv4Addr::BROADCAST, port)); 4]) }
+        Found::Moves => (1, [v4(1, port); 4]),
     }
 }
 
-// A network in which each name has the same addresses. Its UDP sockets are those of another network; it notes the file
-// descriptor of the last one.
+// A network in which each name has the same addresses. All else is that of another runtime; it notes the file descriptor of
+// the last UDP socket, and counts the lookups.
 #[derive(Drop)]
-struct Listed<R: Net + Wait + Drop> {
+struct Listed<R> {
     rt: R,
     found: Found,
     last: Arc<AtomicU64>,
+    lookups: Arc<AtomicU64>,
 }
 
-impl<R: Net + Wait + Drop> Wait for Listed<R> {}
+impl<R: Wait> Wait for Listed<R> {}
 
-impl<R: Net + Wait + Clone + Drop> Clone for Listed<R> {
+impl<R: Threads> Threads for Listed<R> {}
+
+impl<R: Clock> Clock for Listed<R> {
+    fn monotonic(&self) -> io::Result<Duration> {
+        self.rt.monotonic()
+    }
+
+    fn since_1970(&self) -> io::Result<Duration> {
+        self.rt.since_1970()
+    }
+
+    fn sleep(&self, duration: Duration) {
+        self.rt.sleep(duration)
+    }
+}
+
+impl<R: Clone> Clone for Listed<R> {
     fn clone(&self) -> Result<Listed<R>, AllocError> {
         Ok(Listed {
             rt: self.rt.clone()?,
             found: self.found,
             last: self.last.clone()?,
+            lookups: self.lookups.clone()?,
         })
     }
 }
 
-impl<R: Net + Wait + Drop> Net for Listed<R> {
-    type Stream = R::Stream;
+impl<R: Net<Stream = TcpStream, Listener = TcpListener>> Net for Listed<R> {
+    type Stream = TcpStream;
 
-    type Listener = R::Listener;
+    type Listener = TcpListener;
 
-    fn bind(&self, address: SocketAddr) -> io::Result<R::Listener> {
+    fn bind(&self, address: SocketAddr) -> io::Result<TcpListener> {
         self.rt.bind(address)
     }
 
-    fn connect(&self, address: SocketAddr) -> io::Result<R::Stream> {
+    fn connect(&self, address: SocketAddr) -> io::Result<TcpStream> {
         self.rt.connect(address)
     }
 
@@ -90,7 +115,8 @@ impl<R: Net + Wait + Drop> Net for Listed<R> {
     fn lookup_host(&self, _host: &str, port: u16, found: &mut [SocketAddr]) -> io::Result<usize>
         ensures in_bounds { IfOk result (λ n. n ≤ length found.new) }
     {
-        let (count, addresses) = addresses_of(self.found, port);
+        let number = self.lookups.fetch_add(1, Ordering::SeqCst);
+        let (count, addresses) = addresses_of(self.found, number, port);
         for (place, address) in found.iter_mut().zip(addresses.iter().take(count)) {
             *place = *address;
         }
@@ -98,33 +124,77 @@ impl<R: Net + Wait + Drop> Net for Listed<R> {
     }
 }
 
-fn make_listed<R: Net + Wait + Clone + Drop>(
-    rt: &R,
-    alloc: Global,
-    found: Found,
-) -> Result<Listed<R>, Fail> {
+fn make_listed<R: Clone>(rt: &R, alloc: Global, found: Found) -> Result<Listed<R>, Fail> {
     Ok(Listed {
         rt: rt.clone()?,
         found,
         last: Arc::new(alloc, AtomicU64::new(0))?,
+        lookups: Arc::new(alloc, AtomicU64::new(0))?,
     })
 }
 
+// The first address of the socket's family is sent to, or if there is none the first address.
 #[test]
-fn an_address_of_ipv4_comes_first(rt: HostRuntime) -> Result<(), Fail> {
+fn an_address_of_the_sockets_family_comes_first(rt: HostRuntime) -> Result<(), Fail> {
     let rows = [
-        (Found::Nothing, None),
-        (Found::OnlyV6, Some(v6(1, 7))),
-        (Found::V6First, Some(v4(1, 7))),
-        (Found::V4First, Some(v4(1, 7))),
+        (Found::Nothing, None, None),
+        (Found::OnlyV6, Some(v6(1, 7)), Some(v6(1, 7))),
+        (Found::V6First, Some(v4(1, 7)), Some(v6(1, 7))),
+        (Found::V4First, Some(v4(1, 7)), Some(v6(1, 7))),
     ];
-    for (found, wanted) in rows {
+    for (found, of_v4, of_v6) in rows {
         let net = make_listed(&rt, rt.alloc(), found)?;
-        assert!(rt; find_address(&net, ("both.example", 7))? == wanted);
+        assert!(rt; find_address(&net, ("both.example", 7))? == of_v4);
         let target: Target = host(rt.alloc(), "both.example", 7)?;
-        assert!(rt; address_of(&net, &target).ok() == wanted);
+        assert!(rt; address_of(&net, &target, Family::V4).ok() == of_v4);
+        assert!(rt; address_of(&net, &target, Family::V6).ok() == of_v6);
     }
     Ok(())
+}
+
+#[test]
+fn a_socket_of_ipv4_sends_over_ipv4(rt: HostRuntime) -> Result<(), Fail> {
+    let server = bind_to_loopback(&rt)?;
+    for period in [None, Some(Duration::from_secs(3600))] {
+        let net = make_listed(&rt, rt.alloc(), Found::V6First)?;
+        let target = host(rt.alloc(), "both.example", server.local_addr()?.port())?;
+        let mut builder = UdpMetricSinkBuilder::new();
+        if let Some(period) = period {
+            builder = builder.with_resolver_period(period);
+        }
+        let sink = builder.build(net, rt.alloc(), target, bind_to_loopback(&rt)?)?;
+        assert_sends(&sink, &server, "buz:1|m")?;
+    }
+    Ok(())
+}
+
+// The system refuses a packet to the address of a broadcast. The second lookup after that is due in a minute.
+#[test]
+fn a_name_is_looked_up_again_after_a_refused_packet(rt: HostRuntime) -> Result<(), Fail> {
+    let server = bind_to_loopback(&rt)?;
+    let net = make_listed(&rt, rt.alloc(), Found::Moves)?;
+    let target = host(rt.alloc(), "both.example", server.local_addr()?.port())?;
+    let sink = udp_sink(&net, rt.alloc(), target)?;
+    assert!(rt; sink.emit("lost:1|c").is_err());
+    for _ in 0..PATIENCE {
+        if net.lookups.load(Ordering::SeqCst) > 2 {
+            break;
+        }
+        thread::sleep(&rt, Duration::from_millis(1));
+    }
+    thread::sleep(&rt, Duration::from_millis(20));
+    assert_sends(&sink, &server, "buz:1|m")
+}
+
+// Such a sink has no thread, and so it is made where no thread can be started.
+#[test]
+fn an_address_as_text_is_not_looked_up(rt: HostRuntime) -> Result<(), Fail> {
+    let server = bind_to_loopback(&rt)?;
+    let net = make_listed(&rt, rt.alloc(), Found::Nothing)?;
+    let target = host(rt.alloc(), "127.0.0.1", server.local_addr()?.port())?;
+    let sink = udp_sink(&net, rt.alloc(), target)?;
+    assert!(rt; net.lookups.load(Ordering::SeqCst) == 0);
+    assert_sends(&sink, &server, "buz:1|m")
 }
 
 #[test]

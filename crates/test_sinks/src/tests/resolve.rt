@@ -3,10 +3,10 @@
 use cadence_errors::{MetricError, SinkError};
 use cadence_flow::{Handler, SinkErrorHandler};
 use cadence_resolve::{
-    Lookup, NameLookup, PeriodicResolver, Resolver, Sleeper, StaticResolver, Target,
+    Family, Lookup, NameLookup, PeriodicResolver, Resolver, Runtime, Sleeper, Target,
 };
 use std::alloc::Global;
-use std::net::{Ipv4Addr, Net, SocketAddr};
+use std::net::{Ipv4Addr, SocketAddr};
 use std::sync::atomic::{AtomicU64, Ordering};
 use std::sync::{Arc, Wait};
 use std::test::Fail;
@@ -21,12 +21,13 @@ fn lookup_of(alloc: Global, addresses: &[SocketAddr]) -> Lookup {
     Ok(Vec::from_slice(alloc, addresses)?)
 }
 
-// Returns whether the heap had all the memory for a lookup. If it hadn't, the lookup has to fail with `OutOfMemory`.
-fn has_all_memory(net: &impl Net, heap: RefusingAllocator<Global>) -> Result<bool, Fail> {
+// Returns whether the heap had all the memory for a resolver of a name. If it hadn't, its error has to be `OutOfMemory`.
+fn has_all_memory<R: Runtime>(rt: &R, heap: RefusingAllocator<Global>) -> Result<bool, Fail> {
     let Ok(host) = String::from_str(heap.clone()?, "localhost") else {
         return Ok(false);
     };
-    match StaticResolver::new(net, heap, &Target::Name { host, port: 8125 }) {
+    let (name, hour) = (Target::Name { host, port: 8125 }, Duration::from_secs(3600));
+    match Resolver::new(rt, &heap, name, Family::V4, Some(hour), None) {
         Ok(resolver) => Ok(resolver.get_addr().port() == 8125),
         Err(MetricError::Sink(SinkError::OutOfMemory)) => Ok(false),
         Err(_) => Err(Fail::new("another error")),

@@ -3,7 +3,7 @@ use super::sockets::bind_to_loopback;
 use super::steps::assert_reaches;
 use cadence_errors::MetricResult;
 use cadence_flow::SinkErrorHandler;
-use cadence_resolve::{ResolverRuntime, Target};
+use cadence_resolve::{Runtime, Target};
 use cadence_sinks::{UdpMetricSink, UdpMetricSinkBuilder};
 use std::alloc::Global;
 use std::net::SocketAddr;
@@ -26,7 +26,7 @@ impl Drop for Owned {
 }
 
 // Builds a sink whose resolver has this period. The handler of its resolver counts its drop.
-fn build_sink<R: ResolverRuntime>(
+fn build_sink<R: Runtime>(
     rt: &R,
     alloc: Global,
     (period, server): (Duration, SocketAddr),

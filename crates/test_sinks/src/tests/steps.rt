@@ -2,19 +2,15 @@
 use cadence_errors::SinkError;
 use cadence_flow::MetricSink;
 use cadence_flow::stats::SinkStats;
+use cadence_resolve::Runtime;
 use cadence_sinks::{SpyMetricSink, SpyReceiver};
 use std::alloc::{Allocator, Global};
 use std::sync::Wait;
 use std::sync::atomic::{AtomicU64, Ordering};
 use std::test::Fail;
-use std::thread::{self, Threads};
+use std::thread;
 use std::time::{Clock, Duration};
 use test_tools::moved_clock::PATIENCE;
-
-/// A runtime under which a queue can have a worker. Each type that meets these bounds implements this trait.
-pub trait Runtime: Wait + Clock + Threads + Clone + Drop + Send + Sync + 'static {}
-
-impl<R: Wait + Clock + Threads + Clone + Drop + Send + Sync + 'static> Runtime for R {}
 
 /// Four counts, each unlike the others, of a sink that counts nothing.
 pub const COUNTS: SinkStats = SinkStats {

@@ -5,7 +5,7 @@ use super::steps::{
 };
 use cadence_errors::{MetricError, MetricResult, SinkError};
 use cadence_flow::{MetricSink, SinkErrorHandler};
-use cadence_resolve::{ResolverRuntime, Target};
+use cadence_resolve::{Runtime, Target};
 use cadence_sinks::{
     BufferedUdpMetricSink, BufferedUdpMetricSinkBuilder, UdpMetricSink, UdpMetricSinkBuilder,
 };
@@ -92,7 +92,7 @@ fn calls_handler_and_sends<R: Clock, S: MetricSink>(
 
 // Returns whether the heap had memory to make a sink, with a buffer or without, that looks its server up every
 // millisecond. Asserts that it then calls its handler and still sends.
-fn makes<R: ResolverRuntime>(
+fn makes<R: Runtime>(
     rt: &R,
     (alloc, heap): (Global, RefusingAllocator<Global>),
     server: &UdpSocket,

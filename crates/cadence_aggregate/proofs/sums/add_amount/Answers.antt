@@ -7,6 +7,7 @@ use mir.Syntax.{w64}
 use mir.Val.{SFits, to_z, of_z}
 use Rattle.cadence_aggregate.specs.Server.{Sample, amount}
 use Rattle.cadence_aggregate.specs.Held.{held_sums}
+use Rattle.cadence_aggregate.proofs.InPlace.{sums_placed}
 use Rattle.cadence_aggregate.proofs.Observed.{same_of}
 use Rattle.cadence_aggregate.proofs.Tables.{has_context, its_context, put_said, room_after, on_err}
 use Rattle.cadence_aggregate.proofs.SumSteps.{raised, restarted, unwritten}
@@ -17,8 +18,11 @@ use Rattle.cadence_aggregate.proofs.sums.add_amount.Goals.{then-len-get+in_ok-se
 pub returns-in_err-send-in-None-clause-err : goal.returns-in_err-send-in-None-clause-err
 returns-in_err-send-in-None-clause-err g c =
     let t : String Global → Bool = has_context c.args.context.now in
+    let found = sym c.in-Some.ensures.value in
+    let said = g.S.LineSink.sent c.args.sink.now in
     on_err c.from_residual.result (rw c.in_err-send-in-None.ensures.err
-    (unwritten t c.args.context.now (its_context c.args.context.now) (g.S.LineSink.sent c.args.sink.now) c.args.sums.now.entries c.in-Some.sum.now c.args.by (sym c.in-Some.ensures.value)))
+    (sums_placed t _ said c.args.sums.now.entries c.in-Some.sum.now c.in-Some.sum.now found
+    (unwritten t c.args.context.now (its_context c.args.context.now) said c.args.sums.now.entries c.in-Some.sum.now c.args.by found)))
 
 pub returns-in-Some-checked_add-clause-ok : goal.returns-in-Some-checked_add-clause-ok
 returns-in-Some-checked_add-clause-ok g c =
@@ -26,14 +30,21 @@ returns-in-Some-checked_add-clause-ok g c =
     let fits : SFits w64 c.in-Some-checked_add.more = search rules in
     let old : SFits w64 c.in-Some.sum.now = search rules in
     let sum : to_z w64 (of_z w64 c.in-Some-checked_add.more) ≡ c.in-Some.sum.now +ℤ c.args.by = grind (arith, ints, c.in-Some-checked_add.ensures) in
-    raised t c.args.context.now (its_context c.args.context.now) (g.S.LineSink.sent c.args.sink.now) c.args.sums.now.entries c.in-Some.sum.now c.args.by (sym c.in-Some.ensures.value) (to_z w64 (of_z w64 c.in-Some-checked_add.more)) sum
+    let found = sym c.in-Some.ensures.value in
+    let said = g.S.LineSink.sent c.args.sink.now in
+    let more = to_z w64 (of_z w64 c.in-Some-checked_add.more) in
+    sums_placed t _ said c.args.sums.now.entries c.in-Some.sum.now more found
+    (raised t c.args.context.now (its_context c.args.context.now) said c.args.sums.now.entries c.in-Some.sum.now c.args.by found more sum)
 
 pub returns-in_ok-send-in-None-clause-ok : goal.returns-in_ok-send-in-None-clause-ok
 returns-in_ok-send-in-None-clause-ok g c =
     let t : String Global → Bool = has_context c.args.context.now in
     let old : SFits w64 c.in-Some.sum.now = search rules in
+    let found = sym c.in-Some.ensures.value in
+    let said = g.S.LineSink.sent c.args.sink.now in
     rw (c.in_ok-send-in-None.ensures.ok, to_z-of_z w64 c.in-Some.sum.now old, to_z-of_z w64 c.args.by c.ranges.by)
-    (restarted t c.args.context.now (its_context c.args.context.now) (g.S.LineSink.sent c.args.sink.now) c.args.sums.now.entries c.in-Some.sum.now c.args.by (sym c.in-Some.ensures.value))
+    (sums_placed t _ (said ++ amount c.args.context.now c.in-Some.sum.now ∷ []) c.args.sums.now.entries c.in-Some.sum.now c.args.by found
+    (restarted t c.args.context.now (its_context c.args.context.now) said c.args.sums.now.entries c.in-Some.sum.now c.args.by found))
 
 pub returns-clause-ok : goal.returns-clause-ok
 returns-clause-ok g c =

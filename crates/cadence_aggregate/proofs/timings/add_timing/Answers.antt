@@ -2,6 +2,8 @@ use Rattle.std.specs.Prelude.{String, string_bytes}
 use Rattle.std.proofs.Common.{◌≡◌, ◌++◌, ◌∷◌, ◌<◌, [], length, length-append, refl, sym, ap, ◌∙◌, arith, Global, Bool}
 use Rattle.cadence_aggregate.specs.Server.{Sample, timing}
 use Rattle.cadence_aggregate.specs.Held.{held_timings}
+use Rattle.cadence_aggregate.specs.Within.{if_ok}
+use Rattle.cadence_aggregate.proofs.InPlace.{timings_placed, timings_stay}
 use Rattle.cadence_aggregate.proofs.Observed.{same_of}
 use Rattle.cadence_aggregate.proofs.Tables.{has_context, its_context, put_said, room_after, on_err}
 use Rattle.cadence_aggregate.proofs.TimingSteps.{appended, restarted, unwritten}
@@ -12,28 +14,33 @@ use Rattle.cadence_aggregate.proofs.timings.add_timing.Goals.{then-len-get+in_ok
 pub returns-in_err-append_values-clause-err : goal.returns-in_err-append_values-clause-err
 returns-in_err-append_values-clause-err g c =
     let t : String Global → Bool = has_context c.args.context.now in
-    on_err c.from_residual.result (unwritten t c.args.context.now (its_context c.args.context.now) (g.S.LineSink.sent c.args.sink.now) c.args.timings.now.entries c.in-Some.text.now c.append_values.new.text (sym c.in-Some.ensures.value) c.in_err-append_values.ensures.err)
+    on_err c.from_residual.result (timings_placed t _ (g.S.LineSink.sent c.args.sink.now) c.args.timings.now.entries c.in-Some.text.now c.append_values.new.text (sym c.in-Some.ensures.value)
+    (unwritten t c.args.context.now (its_context c.args.context.now) (g.S.LineSink.sent c.args.sink.now) c.args.timings.now.entries c.in-Some.text.now c.append_values.new.text (sym c.in-Some.ensures.value) c.in_err-append_values.ensures.err))
 
 pub returns-in_err-fresh-clause-err : goal.returns-in_err-fresh-clause-err
 returns-in_err-fresh-clause-err g c =
     let t : String Global → Bool = has_context c.args.context.now in
-    on_err c.from_residual-in_err-fresh.result (unwritten t c.args.context.now (its_context c.args.context.now) (g.S.LineSink.sent c.args.sink.now) c.args.timings.now.entries c.in-Some.text.now c.in-Some.text.now (sym c.in-Some.ensures.value) refl)
+    on_err c.from_residual-in_err-fresh.result (timings_placed t _ (g.S.LineSink.sent c.args.sink.now) c.args.timings.now.entries c.in-Some.text.now c.in-Some.text.now (sym c.in-Some.ensures.value)
+    (unwritten t c.args.context.now (its_context c.args.context.now) (g.S.LineSink.sent c.args.sink.now) c.args.timings.now.entries c.in-Some.text.now c.in-Some.text.now (sym c.in-Some.ensures.value) refl))
 
 pub returns-in_err-send-clause-err : goal.returns-in_err-send-clause-err
 returns-in_err-send-clause-err g c =
     let t : String Global → Bool = has_context c.args.context.now in
-    on_err c.from_residual-in_err-send.result (rw c.in_err-send.ensures.err (unwritten t c.args.context.now (its_context c.args.context.now) (g.S.LineSink.sent c.args.sink.now) c.args.timings.now.entries c.in-Some.text.now c.in-Some.text.now (sym c.in-Some.ensures.value) refl))
+    on_err c.from_residual-in_err-send.result (rw c.in_err-send.ensures.err (timings_placed t _ (g.S.LineSink.sent c.args.sink.now) c.args.timings.now.entries c.in-Some.text.now c.in-Some.text.now (sym c.in-Some.ensures.value)
+    (unwritten t c.args.context.now (its_context c.args.context.now) (g.S.LineSink.sent c.args.sink.now) c.args.timings.now.entries c.in-Some.text.now c.in-Some.text.now (sym c.in-Some.ensures.value) refl)))
 
 pub returns-in_ok-append_values-clause-ok : goal.returns-in_ok-append_values-clause-ok
 returns-in_ok-append_values-clause-ok g c =
     let t : String Global → Bool = has_context c.args.context.now in
-    appended t c.args.context.now (its_context c.args.context.now) (g.S.LineSink.sent c.args.sink.now) c.args.timings.now.entries c.in-Some.text.now c.append_values.new.text (sym c.in-Some.ensures.value) c.args.values.now c.in_ok-append_values.ensures.ok
+    timings_placed t _ (g.S.LineSink.sent c.args.sink.now) c.args.timings.now.entries c.in-Some.text.now c.append_values.new.text (sym c.in-Some.ensures.value)
+    (appended t c.args.context.now (its_context c.args.context.now) (g.S.LineSink.sent c.args.sink.now) c.args.timings.now.entries c.in-Some.text.now c.append_values.new.text (sym c.in-Some.ensures.value) c.args.values.now c.in_ok-append_values.ensures.ok)
 
 pub returns-in_ok-send-clause-ok : goal.returns-in_ok-send-clause-ok
 returns-in_ok-send-clause-ok g c =
     let t : String Global → Bool = has_context c.args.context.now in
     rw (c.in_ok-send.ensures.ok, c.as_str-else-fits.ensures.value)
-    (restarted t c.args.context.now (its_context c.args.context.now) (g.S.LineSink.sent c.args.sink.now) c.args.timings.now.entries c.in-Some.text.now c.in_ok-fresh.fresh (sym c.in-Some.ensures.value) c.args.values.now c.in_ok-fresh.ensures.ok)
+    (timings_placed t _ (g.S.LineSink.sent c.args.sink.now ++ timing c.args.context.now (string_bytes c.in-Some.text.now) ∷ []) c.args.timings.now.entries c.in-Some.text.now c.in_ok-fresh.fresh (sym c.in-Some.ensures.value)
+    (restarted t c.args.context.now (its_context c.args.context.now) (g.S.LineSink.sent c.args.sink.now) c.args.timings.now.entries c.in-Some.text.now c.in_ok-fresh.fresh (sym c.in-Some.ensures.value) c.args.values.now c.in_ok-fresh.ensures.ok))
 
 pub returns-clause-ok : goal.returns-clause-ok
 returns-clause-ok g c =
@@ -59,35 +66,40 @@ returns-clause-ok g c =
 pub returns-in_err-append_values-clause-within : goal.returns-in_err-append_values-clause-within
 returns-in_err-append_values-clause-within g c =
     let t : String Global → Bool = has_context c.args.context.now in
-    unwritten_within t c.args.context.now (its_context c.args.context.now) c.args.timings.now.entries c.in-Some.text.now c.append_values.new.text (sym c.in-Some.ensures.value) c.args.most (g.S.LineSink.sent c.args.sink.now)
-    c.from_residual.result (timing c.args.context.now c.args.values.now ∷ []) c.in_err-append_values.ensures.err
+    timings_stay t ((g.S.LineSink.sent c.args.sink.now ++ held_timings c.args.timings.now.entries) ++ if_ok c.from_residual.result (timing c.args.context.now c.args.values.now ∷ [])) (g.S.LineSink.sent c.args.sink.now) c.args.most c.args.timings.now.entries c.in-Some.text.now c.append_values.new.text (sym c.in-Some.ensures.value)
+    (unwritten_within t c.args.context.now (its_context c.args.context.now) c.args.timings.now.entries c.in-Some.text.now c.append_values.new.text (sym c.in-Some.ensures.value) c.args.most (g.S.LineSink.sent c.args.sink.now)
+    c.from_residual.result (timing c.args.context.now c.args.values.now ∷ []) c.in_err-append_values.ensures.err)
 
 pub returns-in_err-fresh-clause-within : goal.returns-in_err-fresh-clause-within
 returns-in_err-fresh-clause-within g c =
     let t : String Global → Bool = has_context c.args.context.now in
-    unwritten_within t c.args.context.now (its_context c.args.context.now) c.args.timings.now.entries c.in-Some.text.now c.in-Some.text.now (sym c.in-Some.ensures.value) c.args.most (g.S.LineSink.sent c.args.sink.now)
-    c.from_residual-in_err-fresh.result (timing c.args.context.now c.args.values.now ∷ []) refl
+    timings_stay t ((g.S.LineSink.sent c.args.sink.now ++ held_timings c.args.timings.now.entries) ++ if_ok c.from_residual-in_err-fresh.result (timing c.args.context.now c.args.values.now ∷ [])) (g.S.LineSink.sent c.args.sink.now) c.args.most c.args.timings.now.entries c.in-Some.text.now c.in-Some.text.now (sym c.in-Some.ensures.value)
+    (unwritten_within t c.args.context.now (its_context c.args.context.now) c.args.timings.now.entries c.in-Some.text.now c.in-Some.text.now (sym c.in-Some.ensures.value) c.args.most (g.S.LineSink.sent c.args.sink.now)
+    c.from_residual-in_err-fresh.result (timing c.args.context.now c.args.values.now ∷ []) refl)
 
 pub returns-in_err-send-clause-within : goal.returns-in_err-send-clause-within
 returns-in_err-send-clause-within g c =
     let t : String Global → Bool = has_context c.args.context.now in
     rw c.in_err-send.ensures.err
+    (timings_stay t ((g.S.LineSink.sent c.args.sink.now ++ held_timings c.args.timings.now.entries) ++ if_ok c.from_residual-in_err-send.result (timing c.args.context.now c.args.values.now ∷ [])) (g.S.LineSink.sent c.args.sink.now) c.args.most c.args.timings.now.entries c.in-Some.text.now c.in-Some.text.now (sym c.in-Some.ensures.value)
     (unwritten_within t c.args.context.now (its_context c.args.context.now) c.args.timings.now.entries c.in-Some.text.now c.in-Some.text.now (sym c.in-Some.ensures.value) c.args.most (g.S.LineSink.sent c.args.sink.now)
-    c.from_residual-in_err-send.result (timing c.args.context.now c.args.values.now ∷ []) refl)
+    c.from_residual-in_err-send.result (timing c.args.context.now c.args.values.now ∷ []) refl))
 
 pub returns-in_ok-append_values-clause-within : goal.returns-in_ok-append_values-clause-within
 returns-in_ok-append_values-clause-within g c =
     let t : String Global → Bool = has_context c.args.context.now in
     let size = ap (λ u. length u) c.in_ok-append_values.ensures.ok ∙ length-append (string_bytes c.in-Some.text.now) (58 ∷ c.args.values.now) in
     let fits = c.fits.ensures.fits c.if-fits.true in
-    appended_within t c.args.context.now (its_context c.args.context.now) c.args.timings.now.entries c.in-Some.text.now c.append_values.new.text (sym c.in-Some.ensures.value) c.args.most (g.S.LineSink.sent c.args.sink.now)
-    (timing c.args.context.now c.args.values.now ∷ []) (omega (arith, size, rw c.as_str.ensures.value at fits))
+    timings_stay t ((g.S.LineSink.sent c.args.sink.now ++ held_timings c.args.timings.now.entries) ++ timing c.args.context.now c.args.values.now ∷ []) (g.S.LineSink.sent c.args.sink.now) c.args.most c.args.timings.now.entries c.in-Some.text.now c.append_values.new.text (sym c.in-Some.ensures.value)
+    (appended_within t c.args.context.now (its_context c.args.context.now) c.args.timings.now.entries c.in-Some.text.now c.append_values.new.text (sym c.in-Some.ensures.value) c.args.most (g.S.LineSink.sent c.args.sink.now)
+    (timing c.args.context.now c.args.values.now ∷ []) (omega (arith, size, rw c.as_str.ensures.value at fits)))
 
 pub returns-in_ok-send-clause-within : goal.returns-in_ok-send-clause-within
 returns-in_ok-send-clause-within g c =
     let t : String Global → Bool = has_context c.args.context.now in
     rw (c.in_ok-send.ensures.ok, c.as_str-else-fits.ensures.value)
-    (restarted_within t c.args.context.now (its_context c.args.context.now) c.args.timings.now.entries c.in-Some.text.now c.in_ok-fresh.fresh (sym c.in-Some.ensures.value) c.args.most (g.S.LineSink.sent c.args.sink.now) c.args.values.now c.in_ok-fresh.ensures.ok)
+    (timings_stay t ((g.S.LineSink.sent c.args.sink.now ++ held_timings c.args.timings.now.entries) ++ timing c.args.context.now c.args.values.now ∷ []) (g.S.LineSink.sent c.args.sink.now ++ timing c.args.context.now (string_bytes c.in-Some.text.now) ∷ []) c.args.most c.args.timings.now.entries c.in-Some.text.now c.in_ok-fresh.fresh (sym c.in-Some.ensures.value)
+    (restarted_within t c.args.context.now (its_context c.args.context.now) c.args.timings.now.entries c.in-Some.text.now c.in_ok-fresh.fresh (sym c.in-Some.ensures.value) c.args.most (g.S.LineSink.sent c.args.sink.now) c.args.values.now c.in_ok-fresh.ensures.ok))
 
 pub returns-clause-within : goal.returns-clause-within
 returns-clause-within g c =

@@ -1,11 +1,11 @@
 //! The aggregating sink over a spy: what leaves at a flush, after a refusal, at a drop, after a period, with two
 //! callers and below a client.
 use crate::tests::steps::{assert_gets, assert_got, assert_takes};
+use cadence::StatsdClient;
+use cadence::client::BoxedSink;
 use cadence::prelude::*;
 use cadence::sinks::{MetricSink, SpyMetricSink};
-use cadence::{MetricResult, StatsdClient};
 use cadence_aggregating::{AggregatingMetricSink, AggregatingMetricSinkBuilder};
-use std::alloc::Global;
 use std::test::Fail;
 use std::thread;
 use std::time::Duration;
@@ -24,6 +24,21 @@ fn flushes_and_a_drop_send_what_is_held(rt: HostRuntime) -> Result<(), Fail> {
     assert_takes(&sink, "g:5|g")?;
     drop(sink);
     assert_got(&receiver, "g:5|g")
+}
+
+// The sink takes two lines at each flush, and each context is called again before it.
+#[test]
+fn no_context_waits_for_ever(rt: HostRuntime) -> Result<(), Fail> {
+    let (receiver, spy) = SpyMetricSink::with_capacity(rt.clone()?, rt.alloc(), 2)?;
+    let sink = AggregatingMetricSink::from(rt.clone()?, rt.alloc(), spy)?;
+    for wanted in ["a:1|c b:1|c", "c:2|c d:2|c", "g:3|g u:4|s", "a:3|c b:3|c"] {
+        assert_takes(&sink, "a:1|c b:1|c c:1|c d:1|c g:3|g u:4|s")?;
+        if sink.flush().is_ok() {
+            return Err(Fail::new("a full sink took a line"));
+        }
+        assert_got(&receiver, wanted)?;
+    }
+    Ok(())
 }
 
 #[test]
@@ -61,22 +76,14 @@ fn two_callers_lose_nothing(rt: HostRuntime) -> Result<(), Fail> {
     assert_got(&receiver, "a:3000|c")
 }
 
-// Raises a counter twice over a boxed sink.
-fn count_over_box(
-    alloc: Global,
-    sink: Box<dyn MetricSink + Send + Sync>,
-) -> MetricResult<StatsdClient> {
-    let client = StatsdClient::from_sink(alloc, "p", sink)?;
-    client.incr("a")?;
-    client.count("a", 2i64)?;
-    Ok(client)
-}
-
 #[test]
 fn a_client_sends_sums_over_a_boxed_sink(rt: HostRuntime) -> Result<(), Fail> {
     let (receiver, spy) = SpyMetricSink::new(rt.clone()?, rt.alloc())?;
     let sink = AggregatingMetricSink::from(rt.clone()?, rt.alloc(), spy)?;
-    let client = count_over_box(rt.alloc(), Box::new(rt.alloc(), sink)?)?;
+    let boxed: BoxedSink = Box::new(rt.alloc(), sink)?;
+    let client = StatsdClient::from_sink(rt.alloc(), "p", boxed)?;
+    client.incr("a")?;
+    client.count("a", 2i64)?;
     client.flush()?;
     assert_got(&receiver, "p.a:3|c")
 }

@@ -3,17 +3,16 @@
 ghost use Rattle.std.specs.Prelude.{◌≡◌, Err, Ok, length};
 ghost use Rattle.cadence_errors.specs.declared.SinkError.TheVariants.{PacketRefused};
 
-use crate::tests::own::{Event, Nothing};
-use cadence::client::{BoxedErrorHandler, BoxedHandler, BoxedSink, ErrorHandler, StatsdClient};
+use crate::tests::own::{Event, Nothing, Seven};
+use cadence::client::{BoxedErrorHandler, BoxedHandler, BoxedSink, StatsdClient};
 use cadence::ext::MetricBackend;
 use cadence::prelude::*;
-use cadence::sinks::{MetricSink, NopMetricSink, SpyMetricSink, SpyReceiver};
-use cadence::types::{ErrorKind, MetricError, MetricResult, SinkError};
+use cadence::sinks::{MetricSink, NopMetricSink};
+use cadence::types::{ErrorKind, Metric, MetricError, MetricResult, SinkError};
 use std::alloc::{AllocError, Global};
+use std::sync::Arc;
 use std::sync::atomic::{AtomicU64, Ordering};
-use std::sync::{Arc, Wait};
 use std::test::Fail;
-use std::time::Duration;
 
 // A sink that refuses each line, and counts the calls of `emit`.
 #[derive(Drop)]
@@ -62,18 +61,6 @@ impl MetricSink for CountingSink {
     ghost flush_may_succeed = { λ _ _. tt };
 }
 
-// A handler that adds up the weights of its errors.
-#[derive(Drop)]
-struct WeighingHandler {
-    weights: Arc<AtomicU64>,
-}
-
-impl ErrorHandler for WeighingHandler {
-    fn handle(&self, error: MetricError) {
-        self.weights.fetch_add(weight_of(&error), Ordering::SeqCst);
-    }
-}
-
 // Makes a counter that is 0.
 pub(super) fn make_counter(alloc: Global) -> Result<Arc<AtomicU64>, AllocError> {
     let zero = Arc::new(alloc, AtomicU64::new(0))?;
@@ -94,7 +81,9 @@ fn make_counted_client(
 
 // Sends a metric by each kind of call that returns it: a plain one, and one with tags.
 fn make_calls_that_answer(client: &StatsdClient<Global, CountingSink>) -> MetricResult<()> {
-    client.incr("k")?;
+    if client.count("k", Seven)?.as_metric_str() != "p.k:7|c" {
+        return Err(MetricError::from(SinkError::NothingWritten));
+    }
     let tagged = client.gauge_with_tags("k", 2).with_tag("a", "b");
     tagged.try_send()?;
     Ok(())
@@ -131,39 +120,6 @@ fn error_of<T: Drop>(answer: MetricResult<T>) -> Result<MetricError, Fail> {
         Ok(_) => Err(Fail::new("taken")),
         Err(error) => Ok(error),
     }
-}
-
-// Returns whether the error is an invalid input with this text.
-fn is_invalid(alloc: Global, error: &MetricError, text: &str) -> Result<bool, AllocError> {
-    let printed = error.to_string(alloc)?;
-    Ok(error.kind() == ErrorKind::InvalidInput && printed.as_str() == text)
-}
-
-// Returns the error of a call with tags whose duration is a millisecond too long for 64 bits of milliseconds.
-fn overflow_error(client: &StatsdClient<Global, CountingSink>) -> Result<MetricError, Fail> {
-    let longer = Duration::new(18_446_744_073_709_551, 616_000_000);
-    let call = client.time_with_tags("k", longer).with_tag("a", "b");
-    error_of(call.with_tag_value("c").try_send())
-}
-
-// Returns whether calls whose values are refused return their errors, and don't call the sink.
-fn keep_uncalled(
-    alloc: Global,
-    calls: &AtomicU64,
-    client: &StatsdClient<Global, CountingSink>,
-) -> Result<bool, Fail> {
-    let overflows = is_invalid(alloc, &overflow_error(client)?, "u64 overflow")?;
-    client.count_with_tags("k", Nothing).send();
-    let refused = error_of(client.count("k", Nothing))?;
-    let is_refused = is_invalid(alloc, &refused, "no number")?;
-    Ok(overflows && is_refused && calls.load(Ordering::SeqCst) == 0)
-}
-
-#[test]
-fn an_error_of_a_value_keeps_the_sink_uncalled(rt: HostRuntime) -> Result<(), Fail> {
-    let (calls, client) = make_counted_client(rt.alloc())?;
-    assert!(rt; keep_uncalled(rt.alloc(), &calls, &client)?);
-    Ok(())
 }
 
 // Returns the weight of an error: a power of ten for each error that the tests tell apart.
@@ -263,35 +219,6 @@ fn an_error_that_is_not_returned_is_handled_once(rt: HostRuntime) -> Result<(), 
     Ok(())
 }
 
-// A client whose sink refuses each line, with a handler of the caller's own type, which isn't boxed.
-type OwnClient = StatsdClient<Global, RefusingSink, WeighingHandler>;
-
-// Makes such a client.
-fn make_client_with_own_handler(alloc: Global, counts: &CallCounts) -> Result<OwnClient, Fail> {
-    let weights = counts.weights.clone()?;
-    let client = StatsdClient::builder(alloc, "p", counts.sink()?)
-        .with_handler(WeighingHandler { weights })
-        .with_tag_value("a")
-        .build()?;
-    Ok(client)
-}
-
-// Returns whether an error is handled once if no call returns it, and else not.
-fn own_is_called(client: &OwnClient, counts: &CallCounts) -> bool {
-    client.incr_with_tags("k").send();
-    client.count_with_tags("k", Nothing).send();
-    let handled = counts.are(1, 1_001);
-    handled && client.incr("k").is_err() && counts.are(2, 1_001)
-}
-
-#[test]
-fn a_handler_of_the_callers_own_type_is_called_once(rt: HostRuntime) -> Result<(), Fail> {
-    let counts = CallCounts::zero(rt.alloc())?;
-    let client = make_client_with_own_handler(rt.alloc(), &counts)?;
-    assert!(rt; own_is_called(&client, &counts));
-    Ok(())
-}
-
 // The handler is made first, because the check finds no proof if the sink is made first.
 #[test]
 fn a_boxed_sink_takes_a_boxed_handler(rt: HostRuntime) -> Result<(), Fail> {
@@ -301,33 +228,5 @@ fn a_boxed_sink_takes_a_boxed_handler(rt: HostRuntime) -> Result<(), Fail> {
         .with_error_handler(handler)
         .build()?;
     assert!(rt; client.incr("k").is_ok());
-    Ok(())
-}
-
-// Sends a metric of the caller's own and a counter, by a client that is dropped then.
-fn send_by_a_client(alloc: Global, sink: BoxedSink) -> MetricResult<()> {
-    let client = StatsdClient::from_sink(alloc, "p", sink)?;
-    client.send_metric(&Event)?;
-    client.incr_with_tags("k").with_tag("a", "b").send();
-    Ok(())
-}
-
-// Waits for the next message, and returns whether it is this text.
-fn is_next<R: Wait + Drop>(receiver: &SpyReceiver<R>, text: &str) -> bool {
-    receiver
-        .recv()
-        .is_some_and(|next| next.as_slice() == text.as_bytes())
-}
-
-// Returns whether the next messages are those two, and no other one comes.
-fn are_just_both<R: Wait + Drop>(receiver: &SpyReceiver<R>) -> bool {
-    is_next(receiver, "p.k:1|e") && is_next(receiver, "p.k:1|c|#a:b") && receiver.recv().is_none()
-}
-
-#[test]
-fn just_the_text_goes_to_the_sink(rt: HostRuntime) -> Result<(), Fail> {
-    let (receiver, spy) = SpyMetricSink::new(rt.clone()?, rt.alloc())?;
-    send_by_a_client(rt.alloc(), Box::new(rt.alloc(), spy)?)?;
-    assert!(rt; are_just_both(&receiver));
     Ok(())
 }

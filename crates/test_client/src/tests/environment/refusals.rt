@@ -1,11 +1,10 @@
 //! Each request for memory of the environment refused in turn.
 use crate::tests::steps::is_made;
+use cadence::Runtime;
 use cadence::prelude::*;
 use cadence::types::{ErrorKind, MetricError, MetricResult};
 use cadence_agent::{Environment, EnvironmentError, EnvironmentExt, EnvironmentSink, sink_to};
 use std::alloc::Global;
-use std::net::Net;
-use std::sync::Wait;
 use std::test::Fail;
 use test_tools::given::Given;
 use test_tools::{RefusingAllocator, each_refused};
@@ -40,7 +39,7 @@ fn each_request_of_a_reading_may_be_refused(rt: HostRuntime) -> Result<(), Fail>
 }
 
 // Makes a client of what the environment says, and sends a line of it.
-fn send_line<R: Net + Wait + Clone + Drop>(rt: &R, alloc: Global, heap: Heap) -> MetricResult<()> {
+fn send_line<R: Runtime>(rt: &R, alloc: Global, heap: Heap) -> MetricResult<()> {
     let environment = Environment::read(&(GIVEN, alloc))?;
     let sink = sink_to(rt, heap.clone()?, environment.destination())?;
     let client = environment.builder(heap, "p", sink).build()?;

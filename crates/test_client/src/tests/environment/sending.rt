@@ -1,13 +1,10 @@
 //! Clients that send to where the environment says, with its tags.
 use crate::tests::steps::assert_receives;
-use crate::tests::unix::sending::path_of;
-use crate::tests::unix::server::{bind_server, unlink};
 use cadence::prelude::*;
-use cadence::{Metric, MetricResult, StatsdClient};
+use cadence::{Metric, MetricResult, MetricSink, Runtime, StatsdClient};
 use cadence_agent::{Environment, EnvironmentExt, EnvironmentSink, environment_sink, sink_to};
 use std::alloc::Global;
-use std::net::{Ipv4Addr, Net, SocketAddr, UdpSocket};
-use std::sync::Wait;
+use std::net::{Ipv4Addr, SocketAddr, UdpSocket};
 use std::test::Fail;
 use std::time::Duration;
 use test_tools::given::Given;
@@ -16,7 +13,7 @@ use test_tools::given::Given;
 type Client<R> = StatsdClient<Global, EnvironmentSink<R>>;
 
 // Makes a client to where the environment says, with its tags.
-fn client_of<R: Net + Wait + Clone + Drop>(
+fn client_of<R: Runtime>(
     rt: &R,
     alloc: Global,
     environment: &Environment,
@@ -26,11 +23,7 @@ fn client_of<R: Net + Wait + Clone + Drop>(
 }
 
 // Makes a client to where these variables say, with their tags.
-fn client_by<R: Net + Wait + Clone + Drop>(
-    rt: &R,
-    alloc: Global,
-    variables: &str,
-) -> MetricResult<Client<R>> {
+fn client_by<R: Runtime>(rt: &R, alloc: Global, variables: &str) -> MetricResult<Client<R>> {
     let given = Given {
         variables: variables.as_bytes(),
     };
@@ -38,15 +31,9 @@ fn client_by<R: Net + Wait + Clone + Drop>(
 }
 
 // Sends a line with a tag of its own.
-fn send_tagged<R: Net + Wait + Clone + Drop>(client: &Client<R>) -> MetricResult<()> {
+fn send_tagged<R: Runtime>(client: &Client<R>) -> MetricResult<()> {
     let call = client.count_with_tags("k", 1).with_tag("a", "b");
     call.try_send()?;
-    client.flush()
-}
-
-// Sends a line.
-fn send_plain<R: Net + Wait + Clone + Drop>(client: &Client<R>) -> MetricResult<()> {
-    client.count("k", 1)?;
     client.flush()
 }
 
@@ -56,24 +43,14 @@ fn a_server_gets_the_tags_over_udp(rt: HostRuntime) -> Result<(), Fail> {
     server.set_read_timeout(Some(Duration::from_secs(60)))?;
     let port = server.local_addr()?.port();
     let variables = format!(in rt.alloc(); "DD_DOGSTATSD_PORT={port};DD_ENV=prod;DD_TAGS=beta")?;
-    send_tagged(&client_by(&rt, rt.alloc(), &variables)?)?;
+    let client = client_by(&rt, rt.alloc(), &variables)?;
+    send_tagged(&client)?;
+    assert!(rt; client.sink().stats().packets_sent == 1 && client.sink().dropped_lines() == 0);
     assert_receives(&server, "p.k:1|c|#env:prod,beta,a:b\n")
 }
 
-#[test]
-fn a_server_gets_the_tags_at_a_path(rt: HostRuntime) -> Result<(), Fail> {
-    let path = path_of(&rt, "environment")?;
-    let variables = format!(in rt.alloc();
-        "DD_DOGSTATSD_URL=unix://{path};DD_SERVICE=shop;DD_ENTITY_ID=9f2c"
-    )?;
-    let server = bind_server(&rt, &path)?;
-    send_plain(&client_by(&rt, rt.alloc(), &variables)?)?;
-    unlink(&rt, &path)?;
-    server.assert_datagrams(&["p.k:1|c|#service:shop,dd.internal.entity_id:9f2c\n"])
-}
-
 // Asserts that a client to where the environment says sends over UDP, and without tags.
-fn assert_is_untagged<R: Net + Wait + Clone + Drop>(client: &Client<R>) -> Result<(), Fail> {
+fn assert_is_untagged<R: Runtime>(client: &Client<R>) -> Result<(), Fail> {
     if client.count("k", 1)?.as_metric_str() != "p.k:1|c" {
         return Err(Fail::new("another line"));
     }

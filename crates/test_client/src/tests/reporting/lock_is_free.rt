@@ -1,6 +1,6 @@
 //! A wrapped sink whose `stats` waits while another thread reports and emits over the reporting sink above it.
-use super::stage::Runtime;
 use crate::tests::steps::assert_got;
+use cadence::Runtime;
 use cadence::sinks::{MetricSink, SpyMetricSink, SpyReceiver};
 use cadence::stats::SinkStats;
 use cadence::types::SinkError;

@@ -1,4 +1,5 @@
 //! A sink whose counts a test sets, and which notes its lines in a spy.
+use cadence::Runtime;
 use cadence::sinks::{MetricSink, SpyMetricSink, SpyReceiver};
 use cadence::stats::SinkStats;
 use cadence::types::{MetricResult, SinkError};
@@ -17,6 +18,8 @@ pub struct Stage {
     pub counts: [AtomicU64; 5],
     /// Whether the sink refuses lines.
     pub refuses: AtomicBool,
+    /// How often the sink was flushed.
+    flushes: AtomicU64,
 }
 
 impl Stage {
@@ -25,6 +28,11 @@ impl Stage {
         for (count, number) in self.counts.iter().zip(counts) {
             count.store(number, Ordering::SeqCst);
         }
+    }
+
+    /// Returns how often the sink was flushed.
+    pub fn flushes(&self) -> u64 {
+        self.flushes.load(Ordering::SeqCst)
     }
 
     fn count(&self, index: usize) -> u64 {
@@ -49,12 +57,13 @@ impl<R: Wait + Drop> MetricSink for CountedSink<R> {
 
     fn emit(&self, line: &str) -> Result<usize, SinkError> {
         if self.stage.refuses.load(Ordering::SeqCst) {
-            return Err(SinkError::ChannelFull);
+            return Err(SinkError::PacketRefused);
         }
         self.notes.emit(line)
     }
 
     fn flush(&self) -> Result<(), SinkError> {
+        self.stage.flushes.fetch_add(1, Ordering::SeqCst);
         Err(SinkError::NothingWritten)
     }
 
@@ -91,6 +100,7 @@ fn new_stage() -> Stage {
             AtomicU64::new(0),
         ],
         refuses: AtomicBool::new(false),
+        flushes: AtomicU64::new(0),
     }
 }
 
@@ -118,11 +128,6 @@ impl<R: Wait + Drop> Watch<R> {
         self.stage.refuses.store(refuses, Ordering::SeqCst);
     }
 }
-
-/// What the thread of a reporting sink asks of a runtime.
-pub trait Runtime: Wait + Clock + Threads + Clone + Drop + Send + Sync + 'static {}
-
-impl<R: Wait + Clock + Threads + Clone + Drop + Send + Sync + 'static> Runtime for R {}
 
 /// A reporting sink over a counted one.
 pub type Reporting<R, A = Global> = ReportingMetricSink<CountedSink<R>, R, A>;

@@ -1,6 +1,7 @@
 //! The thread of a reporting sink, over a real clock and a real socket.
-use super::stage::{CountedSink, Runtime, make_counted};
+use super::stage::{CountedSink, make_counted};
 use crate::tests::steps::assert_receives;
+use cadence::Runtime;
 use cadence::ready::udp_sink;
 use cadence::sinks::{MetricSink, Target, UdpMetricSink};
 use cadence::types::{MetricResult, SinkError};
@@ -59,7 +60,7 @@ fn is_called<R: Runtime>(rt: &R, calls: &AtomicU64) -> bool {
     false
 }
 
-// Makes a reporting sink with a period of a millisecond. Its handler counts the errors of a full channel.
+// Makes a reporting sink with a period of a millisecond. Its handler counts the packets that are refused.
 fn make_counting<R: Runtime>(
     rt: &R,
     alloc: Global,
@@ -67,7 +68,7 @@ fn make_counting<R: Runtime>(
     calls: Arc<AtomicU64>,
 ) -> MetricResult<ReportingMetricSink<CountedSink<R>, R>> {
     let handler = Box::new(alloc, move |error: SinkError| {
-        if matches!(error, SinkError::ChannelFull) {
+        if matches!(error, SinkError::PacketRefused) {
             calls.fetch_add(1, Ordering::SeqCst);
         }
     })?;

@@ -28,7 +28,7 @@ const FAULTS: &[(&str, PathError, &str)] = &[
         "the path of a Unix socket has a NUL inside",
     ),
     (
-        "/run/s\0",
+        "/s\0",
         PathError::Nul,
         "the path of a Unix socket has a NUL inside",
     ),
@@ -39,55 +39,35 @@ const FAULTS: &[(&str, PathError, &str)] = &[
     ),
 ];
 
-// Asserts that a sink is not made for a path, because the path has the fault of this text.
-fn assert_no_sink<R: Net + Wait + Clone + Drop>(
+// Returns the text of the error with which a sink is not made for a path.
+fn text_of_sink<R: Net + Wait + Clone + Drop>(
     rt: &R,
     alloc: Global,
     path: &str,
-    text: &str,
-) -> Result<(), Fail> {
-    let Err(error) = unix_sink(rt, alloc, path) else {
-        return Err(Fail::new("a sink is made"));
-    };
-    let says = format!(in alloc; "{error}")?;
-    if error.kind() != ErrorKind::InvalidInput || says.as_str() != text {
-        return Err(Fail::new(format_args!("another error: {error}")));
+) -> Result<String, Fail> {
+    match unix_sink(rt, alloc, path) {
+        Err(error) if error.kind() == ErrorKind::InvalidInput => Ok(error.to_string(alloc)?),
+        _ => Err(Fail::new("a sink is made, or another error")),
     }
-    Ok(())
 }
 
-// Asserts that a socket sends nothing to a path, because the path has the fault of this text.
-fn assert_not_sent(alloc: Global, socket: &UnixSocket, path: &str, text: &str) -> Result<(), Fail> {
-    let Err(SinkError::Io(error)) = socket.send_to(b"a:1|c", path) else {
-        return Err(Fail::new("a packet is sent, or another error"));
-    };
-    let says = format!(in alloc; "{error}")?;
-    if error.kind() != io::ErrorKind::InvalidInput || says.as_str() != text {
-        return Err(Fail::new(format_args!("another error: {error}")));
+// Returns the text of the error with which a socket sends nothing to a path.
+fn text_of_socket(alloc: Global, socket: &UnixSocket, path: &str) -> Result<String, Fail> {
+    match socket.send_to(b"a:1|c", path) {
+        Err(SinkError::Io(error)) if error.kind() == io::ErrorKind::InvalidInput => {
+            Ok(error.to_string(alloc)?)
+        }
+        _ => Err(Fail::new("a packet is sent, or another error")),
     }
-    Ok(())
-}
-
-// Asserts that a path has this fault, and that neither a sink nor a socket takes it.
-fn assert_fault<R: Net + Wait + Clone + Drop>(
-    rt: &R,
-    alloc: Global,
-    socket: &UnixSocket,
-    row: &(&str, PathError, &str),
-) -> Result<(), Fail> {
-    let (path, fault, text) = *row;
-    if check_path(path) != Err(fault) {
-        return Err(Fail::new("another fault"));
-    }
-    assert_no_sink(rt, alloc, path, text)?;
-    assert_not_sent(alloc, socket, path, text)
 }
 
 #[test]
 fn a_text_that_is_no_path_is_refused(rt: HostRuntime) -> Result<(), Fail> {
     let socket = UnixSocket::new(&rt)?;
-    for row in FAULTS {
-        assert_fault(&rt, rt.alloc(), &socket, row)?;
+    for (path, fault, text) in FAULTS {
+        assert_eq!(rt; check_path(path), Err(*fault));
+        assert_eq!(rt; text_of_sink(&rt, rt.alloc(), path)?.as_str(), *text);
+        assert_eq!(rt; text_of_socket(rt.alloc(), &socket, path)?.as_str(), *text);
     }
     Ok(())
 }
@@ -105,27 +85,16 @@ fn the_longest_path_is_a_path(rt: HostRuntime) -> Result<(), Fail> {
     Ok(())
 }
 
-// Asserts that a buffer is refused because no datagram holds its capacity.
-fn assert_too_large<S: Drop>(alloc: Global, made: MetricResult<S>) -> Result<(), Fail> {
-    let Err(error) = made else {
-        return Err(Fail::new("a sink is made"));
-    };
-    let says = format!(in alloc; "{error}")?;
-    let text = "the capacity is more than a datagram holds, 65507 bytes";
-    if error.kind() != ErrorKind::InvalidInput || says.as_str() != text {
-        return Err(Fail::new(format_args!("another error: {error}")));
-    }
-    Ok(())
-}
-
 #[test]
 fn a_buffer_that_no_datagram_holds_is_refused(rt: HostRuntime) -> Result<(), Fail> {
-    let alloc = rt.alloc();
-    let _largest = buffered_unix_sink(&rt, alloc, LONGEST, MAX_PACKET)?;
-    assert_too_large(
-        alloc,
-        buffered_unix_sink(&rt, alloc, LONGEST, MAX_PACKET + 1),
-    )
+    let _largest = buffered_unix_sink(&rt, rt.alloc(), LONGEST, MAX_PACKET)?;
+    let Err(error) = buffered_unix_sink(&rt, rt.alloc(), LONGEST, MAX_PACKET + 1) else {
+        return Err(Fail::new("a sink is made"));
+    };
+    let says = error.to_string(rt.alloc())?;
+    let text = "the capacity is more than a datagram holds, 65507 bytes";
+    assert!(rt; error.kind() == ErrorKind::InvalidInput && says.as_str() == text);
+    Ok(())
 }
 
 // Returns whether there was memory for both sinks, a client and a line.

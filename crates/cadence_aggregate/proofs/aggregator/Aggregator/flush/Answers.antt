@@ -1,29 +1,42 @@
 use Rattle.std.proofs.Common.{◌≡◌, ◌++◌, [], List, sym, ap, ◌∙◌, append_assoc, append-nil}
-use Rattle.cadence_aggregate.specs.Server.{Sample}
+use Rattle.cadence_aggregate.specs.Aggregate.{held_after, held_first}
 use Rattle.cadence_aggregate.specs.Held.{held_sums, held_levels, held_members, held_timings}
-use Rattle.cadence_aggregate.proofs.Fewest.{fewest}
+use Rattle.cadence_aggregate.specs.Server.{Sample}
+use Rattle.cadence_aggregate.proofs.InTurn.{fewest_in_turn, none_first}
 use Rattle.cadence_aggregate.proofs.Tables.{on_ok}
 use Rattle.cadence_aggregate.proofs.aggregator.Aggregator.flush.Goals as goal
 
-three : (s0 s1 s2 s3 a b c d c' : List Sample) → s1 ++ [] ≡ s0 ++ a → s2 ++ [] ≡ s1 ++ b → s3 ++ c' ≡ s2 ++ c → s3 ++ (c' ++ d) ≡ s0 ++ (a ++ (b ++ (c ++ d)))
-three s0 s1 s2 s3 a b c d c' e f h =
-    let e' : s1 ≡ s0 ++ a = sym (append-nil s1) ∙ e in
-    let f' : s2 ≡ (s0 ++ a) ++ b = sym (append-nil s2) ∙ f ∙ ap (λ t. t ++ b) e' in
-    sym (append_assoc s3 c' d) ∙ ap (λ t. t ++ d) (h ∙ ap (λ t. t ++ c) f') ∙ simp append_assoc
+one_pass : (s0 s1 f0 f1 a0 a1 : List Sample) → s1 ++ f1 ≡ s0 ++ f0 → a1 ≡ a0 → s1 ++ (f1 ++ a1) ≡ s0 ++ (f0 ++ a0)
+one_pass s0 s1 f0 f1 a0 a1 e f = sym (append_assoc s1 f1 a1) ∙ ap (λ t. t ++ a1) e ∙ ap (λ t. (s0 ++ f0) ++ t) f ∙ append_assoc s0 f0 a0
 
-pub returns-in_err-flush_members-clause-same : goal.returns-in_err-flush_members-clause-same
-returns-in_err-flush_members-clause-same g c =
+-- the first pass sent what was due, and the second one what was not
+two_passes : (s0 s1 s2 f0 f1 f2 f3 a0 a1 a3 : List Sample) → s1 ++ f1 ≡ s0 ++ f0 → a1 ≡ a0 → f1 ≡ [] → f2 ≡ a1 → s2 ++ f3 ≡ s1 ++ f2 → a3 ≡ [] → s2 ++ (f3 ++ a3) ≡ s0 ++ (f0 ++ a0)
+two_passes s0 s1 s2 f0 f1 f2 f3 a0 a1 a3 e f none all g end =
+    let whole : s1 ≡ s0 ++ f0 = sym (append-nil s1) ∙ ap (λ t. s1 ++ t) (sym none) ∙ e in
+    ap (λ t. s2 ++ (f3 ++ t)) end ∙ ap (λ t. s2 ++ t) (append-nil f3) ∙ g ∙ ap (λ t. s1 ++ t) all ∙ ap (λ t. t ++ a1) whole ∙ ap (λ t. (s0 ++ f0) ++ t) f ∙ append_assoc s0 f0 a0
+
+pub returns-in_err-send_due-clause-same : goal.returns-in_err-send_due-clause-same
+returns-in_err-send_due-clause-same g c =
     let sent = g.S.LineSink.sent in
-    let a = c.args.self.now in
-    let one = rw c.in_ok-flush_sums.ensures.ok at c.in_ok-flush_sums.ensures.same in
-    let two = rw c.in_ok-flush_levels.ensures.ok at c.in_ok-flush_levels.ensures.same in
-    rw (c.in_ok-flush_sums.ensures.ok, c.in_ok-flush_levels.ensures.ok)
-    (three (sent c.args.sink.now) (sent c.flush_sums.new.sink) (sent c.flush_levels.new.sink) (sent c.flush_members.new.sink)
-    (held_sums a.sums.entries) (held_levels a.levels.entries) (held_members a.members.entries) (held_timings a.timings.entries) (held_members c.flush_members.new.members.entries)
-    one two c.in_err-flush_members.ensures.same)
+    let now = c.args.self.now in
+    let left = c.send_due.new.self in
+    one_pass (sent c.args.sink.now) (sent c.send_due.new.sink) (held_first now) (held_first left) (held_after now) (held_after left) c.in_err-send_due.ensures.same c.in_err-send_due.ensures.rest
+
+pub returns-clause-same : goal.returns-clause-same
+returns-clause-same g c =
+    let sent = g.S.LineSink.sent in
+    let now = c.args.self.now in
+    let mid = c.send_due.new.self in
+    let all = c.make_all_due.new.self in
+    let end = c.send_due-2.new.self in
+    let e = c.in_ok-send_due.ensures in
+    two_passes (sent c.args.sink.now) (sent c.send_due.new.sink) (sent c.send_due-2.new.sink)
+    (held_first now) (held_first mid) (held_first all) (held_first end) (held_after now) (held_after mid) (held_after end)
+    e.same e.rest (none_first mid.due (held_sums mid.sums.entries) (held_levels mid.levels.entries) (held_members mid.members.entries) (held_timings mid.timings.entries) e.ok)
+    c.make_all_due.ensures.first c.send_due-2.ensures.same (c.send_due-2.ensures.rest ∙ c.make_all_due.ensures.after)
 
 pub returns-clause-fewest : goal.returns-clause-fewest
 returns-clause-fewest g c =
     let a = c.args.self.now in
-    on_ok c.flush_timings.result (λ ys same. fewest a.sums.entries a.levels.entries a.members.entries a.timings.entries ys same
-    c.in_ok-flush_sums.ensures.distinct c.in_ok-flush_levels.ensures.distinct c.in_ok-flush_members.ensures.distinct)
+    let d = c.lengths.ensures.distinct in
+    on_ok c.send_due-2.result (λ ys same. fewest_in_turn a.due a.sums.entries a.levels.entries a.members.entries a.timings.entries ys same d.sums d.levels d.members)

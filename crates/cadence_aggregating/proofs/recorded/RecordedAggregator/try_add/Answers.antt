@@ -42,5 +42,5 @@ returns-clause-quiet g c =
     ∣ (
       c.in_ok-said.said,
       c.in_ok-said.ensures,
-      λ to_hold can. same_lines old.printer.notes.items new.sink.notes.items (c.add_or_pass.ensures.quiet (c.holds-is_held.ensures to_hold) can),
+      λ to_hold can. same_lines old.printer.notes.items new.sink.notes.items (c.add_or_pass.ensures.quiet (c.holds-is_held.ensures.held to_hold) can),
     ) ∣₁

@@ -49,5 +49,5 @@ returns-clause-quiet g c =
       c.in_ok-said.said,
       says,
       λ to_hold can. same_lines old.printer.notes.items new.sink.notes.items (c.add_or_pass.ensures.quiet
-          (c.holds-is_held.ensures (shorter_held old.limits c.in_ok-said.said (length c.context_of-context.result.now) (length (line_of_keyed c.args.call)) c.context_of-context.ensures to_hold)) can),
+          (c.holds-is_held.ensures.held (shorter_held old.limits c.in_ok-said.said (length c.context_of-context.result.now) (length (line_of_keyed c.args.call)) c.context_of-context.ensures to_hold)) can),
     ))

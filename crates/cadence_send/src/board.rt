@@ -1,0 +1,122 @@
+//! What a stream lost so far, where its run can see it.
+use std::cell::Cell;
+use std::fmt;
+
+/// How many packets a stream gave to its writer, and how many of them were lost, each modulo 2^64.
+#[derive(Clone, Copy, Debug, Default, PartialEq, Eq)]
+pub struct Losses {
+    /// The packets that were given, also the lost ones.
+    pub given: u64,
+    /// The packets that were lost.
+    pub packets: u64,
+    /// The lines of the lost packets.
+    pub lines: u64,
+}
+
+/// Counts what a stream has lost. The writer of packets notes each packet here, and the run reads the counts.
+#[derive(Drop)]
+pub struct LossBoard {
+    losses: Cell<Losses>,
+    is_failing: Cell<bool>,
+    sums: Cell<Sums>,
+}
+
+// How many lines of the input were added up.
+#[derive(Clone, Copy, Debug, Default)]
+struct Sums {
+    // All of them.
+    taken: u64,
+    // Those that were taken before everything was sent for the last time, and how many packets were lost then.
+    sent: u64,
+    lost_packets: u64,
+    // Those that were taken between two such times between which a packet was lost.
+    lost: u64,
+}
+
+impl LossBoard {
+    /// Returns a board for a stream that has lost nothing.
+    pub fn new() -> LossBoard {
+        LossBoard {
+            losses: Cell::new(Losses::default()),
+            is_failing: Cell::new(false),
+            sums: Cell::new(Sums::default()),
+        }
+    }
+
+    // Notes the losses after one more packet, and whether that one was lost.
+    pub(crate) fn note_packet(&self, losses: Losses, is_lost: bool) {
+        self.losses.set(losses);
+        self.is_failing.set(is_lost);
+    }
+
+    // Notes that a line of the input was added up.
+    pub(crate) fn note_added(&self) {
+        let mut sums = self.sums.get();
+        sums.taken = sums.taken.wrapping_add(1);
+        self.sums.set(sums);
+    }
+
+    // Notes that everything was sent that was added up.
+    pub(crate) fn note_sent(&self) {
+        let mut sums = self.sums.get();
+        sums.lost = self.lost_sums();
+        sums.sent = sums.taken;
+        sums.lost_packets = self.losses.get().packets;
+        self.sums.set(sums);
+    }
+
+    // Returns how many lines of the input were added up, at most, to those of the lost packets. What left the sums since
+    // everything was sent comes from the lines that were taken since then.
+    pub(crate) fn lost_sums(&self) -> u64 {
+        let sums = self.sums.get();
+        if self.losses.get().packets == sums.lost_packets {
+            return sums.lost;
+        }
+        sums.lost.wrapping_add(sums.taken.wrapping_sub(sums.sent))
+    }
+
+    // Returns how many packets were lost.
+    pub(crate) fn lost_packets(&self) -> u64 {
+        self.losses.get().packets
+    }
+
+    // Returns whether the last packet was lost.
+    pub(crate) fn is_failing(&self) -> bool {
+        self.is_failing.get()
+    }
+
+    // Returns what was lost, as messages say it.
+    pub(crate) fn summary(&self) -> LossSummary {
+        LossSummary {
+            losses: self.losses.get(),
+            lost_sums: self.lost_sums(),
+        }
+    }
+}
+
+// What was lost, as messages say it.
+#[derive(Clone, Copy, Debug)]
+pub(crate) struct LossSummary {
+    pub losses: Losses,
+    // How many lines of the input were added up, at most, to those of the lost packets.
+    pub lost_sums: u64,
+}
+
+impl fmt::Display for LossSummary {
+    fn fmt<W: fmt::Write>(&self, f: &mut fmt::Formatter<W>) -> fmt::Result {
+        let Losses {
+            given,
+            packets,
+            lines,
+        } = self.losses;
+        write!(
+            f,
+            "{packets} of {given} packets were lost, with {lines} lines"
+        )?;
+        let sums = self.lost_sums;
+        if sums == 0 {
+            return Ok(());
+        }
+        write!(f, ", the sums of at most {sums} lines of the input")
+    }
+}
