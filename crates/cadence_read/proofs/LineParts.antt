@@ -245,26 +245,27 @@ lacks_bar name h = recursion_from_All (λ byte. byte ≢ 124) name (All-weaker I
 pub lacks_newline : (name : List ℕ) → All IsNoSeparator name → Lacks 10 name
 lacks_newline name h = recursion_from_All (λ byte. byte ≢ 10) name (All-weaker IsNoSeparator (λ byte. byte ≢ 10) (λ b p. p.3) name h)
 
--- If a text begins with a name and a colon, then that colon is its first separator.
-colon_by : (text name rest : List ℕ) (at : ℕ) → length name < length text → get_or text (length name) 0 ≡ 58
+-- If a text begins with a front and a separator, then that separator is its first one.
+first_by : (mark : ℕ) → (IsNoSeparator mark → ⊥) → (text front rest : List ℕ) (at : ℕ) → length front < length text → get_or text (length front) 0 ≡ mark
     → ((k : ℕ) → k < at → IsNoSeparator (get_or text k 0)) → (at < length text → IsNoSeparator (get_or text at 0) → ⊥)
-    → All IsNoSeparator name → text ≡ name ++ 58 ∷ rest → (at < length name) ⊎ (length name ≤ at) → (length name < at) ⊎ (at ≤ length name)
-    → (at < length text) × (get_or text at 0 ≡ 58)
-colon_by text name rest at long colon front stops plain e (inl less) other =
-    let here : get_or text at 0 ≡ get_or name at 0 = ap (λ t. get_or t at 0) e ∙ get_or_append_left name (58 ∷ rest) 0 at less in
-    absurd (stops (omega arith) (subst IsNoSeparator (sym here) (plain at 0 less)))
-colon_by text name rest at long colon front stops plain e (inr _) (inl more) = absurd ((front (length name) more).0 colon)
-colon_by text name rest at long colon front stops plain e (inr low) (inr high) =
-    let same : at ≡ length name = omega arith in
-    (omega arith, ap (λ k. get_or text k 0) same ∙ colon)
+    → All IsNoSeparator front → text ≡ front ++ mark ∷ rest → (at < length front) ⊎ (length front ≤ at) → (length front < at) ⊎ (at ≤ length front)
+    → (at < length text) × (get_or text at 0 ≡ mark)
+first_by mark is text front rest at long here before stops plain e (inl less) other =
+    let same : get_or text at 0 ≡ get_or front at 0 = ap (λ t. get_or t at 0) e ∙ get_or_append_left front (mark ∷ rest) 0 at less in
+    absurd (stops (omega arith) (subst IsNoSeparator (sym same) (plain at 0 less)))
+first_by mark is text front rest at long here before stops plain e (inr _) (inl more) =
+    absurd (is (subst IsNoSeparator here (before (length front) more)))
+first_by mark is text front rest at long here before stops plain e (inr low) (inr high) =
+    let same : at ≡ length front = omega arith in
+    (omega arith, ap (λ k. get_or text k 0) same ∙ here)
 
-pub first_is_colon : (text name rest : List ℕ) (at : ℕ) → ((k : ℕ) → k < at → IsNoSeparator (get_or text k 0))
-    → (at < length text → IsNoSeparator (get_or text at 0) → ⊥) → All IsNoSeparator name → text ≡ name ++ 58 ∷ rest
-    → (at < length text) × (get_or text at 0 ≡ 58)
-first_is_colon text name rest at front stops plain e =
-    let long : length name < length text = omega (arith, ap (λ t. length t) e, length-append name (58 ∷ rest)) in
-    let colon : get_or text (length name) 0 ≡ 58 = ap (λ t. get_or t (length name) 0) e ∙ get_or-append_seam name 58 rest 0 in
-    colon_by text name rest at long colon front stops plain e (cases_lt at (length name)) (cases_lt (length name) at)
+pub first_is : (mark : ℕ) → (IsNoSeparator mark → ⊥) → (text front rest : List ℕ) (at : ℕ) → ((k : ℕ) → k < at → IsNoSeparator (get_or text k 0))
+    → (at < length text → IsNoSeparator (get_or text at 0) → ⊥) → All IsNoSeparator front → text ≡ front ++ mark ∷ rest
+    → (at < length text) × (get_or text at 0 ≡ mark)
+first_is mark is text front rest at before stops plain e =
+    let long : length front < length text = omega (arith, ap (λ t. length t) e, length-append front (mark ∷ rest)) in
+    let here : get_or text (length front) 0 ≡ mark = ap (λ t. get_or t (length front) 0) e ∙ get_or-append_seam front mark rest 0 in
+    first_by mark is text front rest at long here before stops plain e (cases_lt at (length front)) (cases_lt (length front) at)
 
 -- The fields that were taken off make the parts.
 marked_back : (mark : List ℕ) (parts rest : List (List ℕ)) (f : Option (List ℕ)) → IsMarked mark parts f rest → field_part mark f ++ rest ≡ parts

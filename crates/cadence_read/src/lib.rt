@@ -1,5 +1,6 @@
 //! Reads the metrics of a client's packets.
 //!
+//! - `any_line`: cuts the line of any client into its parts.
 //! - `splitting`: splits a line at its separators.
 //! - `fault`: why no metrics were read.
 //! - `fields`: reads the fields of a line.
@@ -7,12 +8,14 @@
 //! - `packet`: reads the metrics of a packet, and of the packets of a run.
 #![tactic(auto)]
 
+mod any_line;
 mod fault;
 mod fields;
 mod line;
 mod packet;
 mod splitting;
 
+pub use any_line::{AnyLine, MetricParts, cut_line, cuts_own_lines};
 pub use fault::{NotMetrics, ReadFault};
 pub use line::read_line;
 pub use packet::{read_packet, read_run};

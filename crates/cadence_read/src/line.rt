@@ -6,7 +6,7 @@ ghost use Rattle.cadence_read.specs.Reads.{ReadsFields, ReadsMetric};
 
 use crate::fault::{NotMetrics, ReadFault};
 use crate::fields::{read_container, read_free, read_numbers, read_rate, read_tags, read_time};
-use crate::splitting::{TextsOfLine, plain_texts, split_fields, split_name};
+use crate::splitting::{TextsOfLine, plain_texts, split_fields, split_first};
 use cadence_text::line::{MetricType, OwnedMetric};
 use std::alloc::Allocator;
 
@@ -69,7 +69,7 @@ pub(crate) fn read_named<A: Allocator + Clone>(
 pub fn read_line<A: Allocator + Clone>(alloc: &A, line: &[u8]) -> Result<OwnedMetric<A>, ReadFault>
     ensures { ReadsMetric line.now result }
 {
-    let Some((name, rest)) = split_name(line) else {
+    let Some((name, rest)) = split_first(line, b':') else {
         return Err(ReadFault::Unusable(NotMetrics));
     };
     read_named(alloc, name, rest)

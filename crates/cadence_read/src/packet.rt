@@ -9,7 +9,7 @@ ghost use Rattle.cadence_read.specs.Faults.{not_metrics};
 
 use crate::fault::{NotMetrics, ReadFault};
 use crate::line::{read_line, read_named};
-use crate::splitting::{split_name, split_piece};
+use crate::splitting::{split_first, split_piece};
 use cadence_text::line::OwnedMetric;
 use std::alloc::Allocator;
 
@@ -35,7 +35,7 @@ fn read_lines<A: Allocator + Clone>(
     let mut metrics = Vec::with_capacity(alloc.clone()?, room_for(lines))?;
     let mut left = Some(lines);
     while let Some(text) = left {
-        let Some((name, rest)) = split_name(text) else {
+        let Some((name, rest)) = split_first(text, b':') else {
             return Err(ReadFault::Unusable(NotMetrics));
         };
         let (fields, others) = split_piece(rest, b'\n');

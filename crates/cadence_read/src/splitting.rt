@@ -38,16 +38,19 @@ fn take_marked<'a>(left: Option<&'a [u8]>, mark: &[u8]) -> (Option<&'a [u8]>, Op
     (Some(value), others)
 }
 
-// Returns the name, and the text after the colon that ends it. Returns `None` if the text has no separator, or if the
-// first one is not a colon.
-pub(crate) fn split_name(text: &[u8]) -> Option<(&[u8], &[u8])>
-    ensures none { IfNone result ((name rest : List ℕ) →
-        All IsNoSeparator name → text.now ≡ name ++ 58 ∷ rest → ⊥) }
-    ensures name { IfSome result (λ parts. All IsNoSeparator parts.0.now) }
-    ensures whole { IfSome result (λ parts. text.now ≡ parts.0.now ++ 58 ∷ parts.1.now) }
+// Returns the text before the first separator, and the text after it, if that separator is the mark. Returns `None` if the
+// text has no separator, or if the first one is another byte.
+// Without this hint a byte of `bench read 512 20` takes more instructions, because the mark is not known.
+#[inline(always)]
+pub(crate) fn split_first(text: &[u8], mark: u8) -> Option<(&[u8], &[u8])>
+    requires { IsNoSeparator mark → ⊥ }
+    ensures none { IfNone result ((front rest : List ℕ) →
+        All IsNoSeparator front → text.now ≡ front ++ mark ∷ rest → ⊥) }
+    ensures front { IfSome result (λ parts. All IsNoSeparator parts.0.now) }
+    ensures whole { IfSome result (λ parts. text.now ≡ parts.0.now ++ mark ∷ parts.1.now) }
 {
     let at = first_separator(text);
-    if at == text.len() || text[at] != b':' {
+    if at == text.len() || text[at] != mark {
         return None;
     }
     Some((&text[..at], &text[at + 1..]))
