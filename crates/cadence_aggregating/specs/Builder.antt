@@ -8,19 +8,19 @@ use Rattle.cadence_aggregating.specs.declared.builder.AggregatingMetricSinkBuild
 abbrev pub at_least_one : ℕ → ℕ
 at_least_one n = if n == 0 then 1 else n
 
-module _ {Y : Type 0} {G : Y → Type 0} {g : _} where
+module _ {H : Type 0} where
   -- how many contexts of each kind are held
-  abbrev pub max_contexts_of : AggregatingMetricSinkBuilder Y G g → ℕ
+  abbrev pub max_contexts_of : AggregatingMetricSinkBuilder H → ℕ
   max_contexts_of b = non_zero_usize_get b.limits.most_contexts
 
   -- the most bytes of a line that is held
-  abbrev pub max_line_of : AggregatingMetricSinkBuilder Y G g → ℕ
+  abbrev pub max_line_of : AggregatingMetricSinkBuilder H → ℕ
   max_line_of b = b.limits.most_bytes
 
   -- whether values are packed
-  abbrev pub packs_of : AggregatingMetricSinkBuilder Y G g → Bool
+  abbrev pub packs_of : AggregatingMetricSinkBuilder H → Bool
   packs_of b = b.limits.packs_values
 
   -- after which time the sink is flushed by its thread, or none if it has no thread
-  abbrev pub flush_period_of_sums : AggregatingMetricSinkBuilder Y G g → Option Duration
+  abbrev pub flush_period_of_sums : AggregatingMetricSinkBuilder H → Option Duration
   flush_period_of_sums b = b.period

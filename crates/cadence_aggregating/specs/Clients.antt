@@ -8,7 +8,7 @@ use Rattle.cadence_settings.specs.Settings.{Settings}
 use Rattle.cadence_aggregating.specs.declared.client.AggregatedClient.{AggregatedClient}
 
 -- the prefix and the defaults of a client
-abbrev pub settings_of_aggregated : {S R : Type 0} → AggregatedClient S R → Settings
+abbrev pub settings_of_aggregated : {S R H : Type 0} → AggregatedClient S R H → Settings
 settings_of_aggregated c = c.settings.settings
 
 -- The result of a flush is what the sink of the client answered.

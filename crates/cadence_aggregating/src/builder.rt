@@ -3,11 +3,12 @@ ghost use Rattle.std.specs.Prelude.{IfErr};
 ghost use Rattle.cadence_errors.specs.Errors.{MayOnlyRunOutOfMemory};
 ghost use Rattle.cadence_queuing.specs.Queuing.{IsQueuingRefusal};
 
+use crate::handler::{FlushErrorHandler, NopFlushErrorHandler};
 use crate::limits::Limits;
 use crate::locked::LockedAggregator;
 use crate::sink::{AggregatingMetricSink, Timed};
 use cadence_errors::MetricResult;
-use cadence_flow::{MetricSink, SinkErrorHandler};
+use cadence_flow::{Handler, MetricSink, SinkErrorHandler};
 use cadence_queuing::FlushingMetricSink;
 use std::alloc::Global;
 use std::num::NonZeroUsize;
@@ -31,22 +32,15 @@ const MOST_BYTES: usize = 512;
 /// let sink = builder.build(rt.clone()?, alloc, inner)?;
 /// ```
 #[derive(Drop)]
-pub struct AggregatingMetricSinkBuilder {
+pub struct AggregatingMetricSinkBuilder<H: FlushErrorHandler = NopFlushErrorHandler> {
     pub(crate) limits: Limits,
     pub(crate) period: Option<Duration>,
-    pub(crate) handler: Option<FlushHandler>,
-}
-
-/// A closure that hears the errors of flushes, and may be called at any time.
-#[derive(Drop)]
-pub struct FlushHandler {
-    call: SinkErrorHandler,
-    ghost callable: { IsAlwaysCallable call },
+    pub(crate) handler: H,
 }
 
 impl AggregatingMetricSinkBuilder {
-    ghost use Rattle.std.specs.Prelude.{◌≡◌, false, true, None, Some};
-    ghost use Rattle.cadence_aggregating.specs.Builder.{at_least_one, max_contexts_of, max_line_of, packs_of, flush_period_of_sums};
+    ghost use Rattle.std.specs.Prelude.{◌≡◌, false, None};
+    ghost use Rattle.cadence_aggregating.specs.Builder.{max_contexts_of, max_line_of, packs_of, flush_period_of_sums};
 
     /// Returns a builder without any setting.
     pub fn new() -> Self
@@ -62,9 +56,14 @@ impl AggregatingMetricSinkBuilder {
                 packs_values: false,
             },
             period: None,
-            handler: None,
+            handler: NopFlushErrorHandler,
         }
     }
+}
+
+impl<H: FlushErrorHandler> AggregatingMetricSinkBuilder<H> {
+    ghost use Rattle.std.specs.Prelude.{◌≡◌, true, Some};
+    ghost use Rattle.cadence_aggregating.specs.Builder.{at_least_one, max_contexts_of, max_line_of, packs_of, flush_period_of_sums};
 
     /// Sets how many contexts of each kind are held. A new context in a full table first sends the oldest one. 0 counts
     /// as 1.
@@ -115,54 +114,57 @@ impl AggregatingMetricSinkBuilder {
         self
     }
 
-    /// Sets the handler, which receives the error of each flush of the thread that fails. It runs in the thread while no
-    /// lock is held. Without a period there is no thread, and the handler hears nothing.
-    pub fn with_error_handler(mut self, handler: SinkErrorHandler) -> Self
+    /// Sets a closure that receives the error of each flush that fails: of a flush of the thread, of a flush of a caller,
+    /// who also gets it as the result, and the last error of the drop. It runs in the thread that flushes, while no lock
+    /// of the sink is held.
+    pub fn with_error_handler(
+        self,
+        handler: SinkErrorHandler,
+    ) -> AggregatingMetricSinkBuilder<Handler>
         requires { IsAlwaysCallable handler }
         ensures contexts { max_contexts_of result ≡ max_contexts_of self }
         ensures line { max_line_of result ≡ max_line_of self }
         ensures packed { packs_of result ≡ packs_of self }
         ensures period { flush_period_of_sums result ≡ flush_period_of_sums self }
     {
-        self.handler = Some(FlushHandler { call: handler });
-        self
+        self.with_handler(Handler::new(handler))
     }
 
+    /// Sets a handler without a box. It receives the same errors.
+    pub fn with_handler<G: FlushErrorHandler>(self, handler: G) -> AggregatingMetricSinkBuilder<G>
+        ensures contexts { max_contexts_of result ≡ max_contexts_of self }
+        ensures line { max_line_of result ≡ max_line_of self }
+        ensures packed { packs_of result ≡ packs_of self }
+        ensures period { flush_period_of_sums result ≡ flush_period_of_sums self }
+    {
+        AggregatingMetricSinkBuilder {
+            limits: self.limits,
+            period: self.period,
+            handler,
+        }
+    }
+}
+
+impl<H: FlushErrorHandler + Send + Sync + 'static> AggregatingMetricSinkBuilder<H> {
     /// Makes the sink, and starts its thread if there is a period. The errors are `OutOfMemory`, and `Io` if the thread
     /// can't be started. The wrapped sink is dropped then.
     pub fn build<
         S: MetricSink + Send + Sync + 'static,
         R: Wait + Clock + Threads + Clone + Drop + Send + Sync + 'static,
-    >(self, rt: R, alloc: Global, sink: S) -> MetricResult<AggregatingMetricSink<S, R>>
+    >(self, rt: R, alloc: Global, sink: S) -> MetricResult<AggregatingMetricSink<S, R, H>>
         ensures { IfErr result IsQueuingRefusal }
     {
-        let locked = LockedAggregator::new(rt.clone()?, alloc, self.limits, sink)?;
-        let timed = match self.period {
-            Some(period) => Timed::Often(flushing(rt, alloc, locked, period, self.handler)?),
+        let AggregatingMetricSinkBuilder {
+            limits,
+            period,
+            handler,
+        } = self;
+        let locked = LockedAggregator::new(rt.clone()?, alloc, limits, sink, handler)?;
+        let timed = match period {
+            Some(period) => Timed::Often(FlushingMetricSink::new(rt, alloc, locked, period)?),
             None => Timed::Never(locked),
         };
         Ok(AggregatingMetricSink { timed })
-    }
-}
-
-// Makes a sink that a thread flushes, with a handler or without.
-pub(crate) fn flushing<
-    S: MetricSink + Send + Sync + 'static,
-    R: Wait + Clock + Threads + Clone + Drop + Send + Sync + 'static,
->(
-    rt: R,
-    alloc: Global,
-    sink: S,
-    period: Duration,
-    handler: Option<FlushHandler>,
-) -> MetricResult<FlushingMetricSink<S, R>>
-    ensures { IfErr result IsQueuingRefusal }
-{
-    match handler {
-        Some(FlushHandler { call }) => {
-            FlushingMetricSink::with_error_handler(rt, alloc, sink, period, call)
-        }
-        None => FlushingMetricSink::new(rt, alloc, sink, period),
     }
 }
 
@@ -171,9 +173,14 @@ impl<S: MetricSink, R: Wait + Drop> AggregatingMetricSink<S, R> {
     pub fn from(rt: R, alloc: Global, sink: S) -> MetricResult<Self>
         ensures { MayOnlyRunOutOfMemory result }
     {
-        let limits = AggregatingMetricSinkBuilder::new().limits;
+        let AggregatingMetricSinkBuilder {
+            limits,
+            handler,
+            ..
+        } = AggregatingMetricSinkBuilder::new();
+        let locked = LockedAggregator::new(rt, alloc, limits, sink, handler)?;
         Ok(AggregatingMetricSink {
-            timed: Timed::Never(LockedAggregator::new(rt, alloc, limits, sink)?),
+            timed: Timed::Never(locked),
         })
     }
 }

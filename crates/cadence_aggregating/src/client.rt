@@ -1,6 +1,7 @@
 //! A client whose calls make no line.
-use crate::builder::{AggregatingMetricSinkBuilder, flushing};
+use crate::builder::AggregatingMetricSinkBuilder;
 use crate::call::KeyedCall;
+use crate::handler::{FlushErrorHandler, NopFlushErrorHandler};
 use crate::keys::{CounterKey, GaugeKey, StrictSettings};
 use crate::locked::LockedAggregator;
 use crate::shared::SharedSink;
@@ -18,8 +19,8 @@ use std::time::Clock;
 /// A client that adds its calls up, and makes no line for a call. When it is flushed, it makes one line for each counter
 /// and each gauge that was called, as an `AggregatingMetricSink` does. A call has a key that the client made once.
 ///
-/// The client is strict: no text of its settings and of its keys has a colon, a comma, a bar or a newline. The drop
-/// flushes the wrapped sink, and drops the error of that flush.
+/// The client is strict: no text of its settings and of its keys has a colon, a comma, a bar or a newline. A flush that
+/// fails and the drop do what they do for an `AggregatingMetricSink`.
 ///
 /// ```text
 /// let client = AggregatedClient::from_sink(rt.clone()?, alloc, "my.service", sink)?;
@@ -29,14 +30,18 @@ use std::time::Clock;
 /// client.flush()?; // my.service.visits:3|c
 /// ```
 #[derive(Drop)]
-pub struct AggregatedClient<S: MetricSink, R: Wait + Drop> {
+pub struct AggregatedClient<
+    S: MetricSink,
+    R: Wait + Drop,
+    H: FlushErrorHandler = NopFlushErrorHandler,
+> {
     alloc: Global,
     settings: StrictSettings,
-    lines: SharedSink<LockedAggregator<S, R>>,
-    flusher: Option<FlushingMetricSink<SharedSink<LockedAggregator<S, R>>, R>>,
+    lines: SharedSink<LockedAggregator<S, R, H>>,
+    flusher: Option<FlushingMetricSink<SharedSink<LockedAggregator<S, R, H>>, R>>,
 }
 
-impl AggregatingMetricSinkBuilder {
+impl<H: FlushErrorHandler + Send + Sync + 'static> AggregatingMetricSinkBuilder<H> {
     ghost use Rattle.std.specs.Prelude.{◌≡◌, ◌⊎◌, IfErr, IfOk, IsTrue, OnOk, false};
     ghost use Rattle.cadence_errors.specs.Errors.{IsInvalid};
     ghost use Rattle.cadence_queuing.specs.Queuing.{IsQueuingRefusal};
@@ -58,7 +63,7 @@ impl AggregatingMetricSinkBuilder {
         alloc: Global,
         settings: ClientSettings,
         sink: S,
-    ) -> MetricResult<AggregatedClient<S, R>>
+    ) -> MetricResult<AggregatedClient<S, R, H>>
         ensures settings { IfOk result (λ client.
             settings_of_aggregated client ≡ with_strict_texts settings) }
         ensures free { OnOk result (IsTrue (is_free_settings settings)) }
@@ -66,10 +71,10 @@ impl AggregatingMetricSinkBuilder {
             ⊎ (IsInvalid e × (is_free_settings settings ≡ false))) }
     {
         let settings = StrictSettings::new(settings)?;
-        let locked = LockedAggregator::new(rt.clone()?, alloc, self.limits, sink)?;
+        let locked = LockedAggregator::new(rt.clone()?, alloc, self.limits, sink, self.handler)?;
         let lines = SharedSink::new(alloc, locked)?;
         let flusher = match self.period {
-            Some(period) => Some(flushing(rt, alloc, lines.clone()?, period, self.handler)?),
+            Some(period) => Some(FlushingMetricSink::new(rt, alloc, lines.clone()?, period)?),
             None => None,
         };
         Ok(AggregatedClient {
@@ -82,15 +87,10 @@ impl AggregatingMetricSinkBuilder {
 }
 
 impl<S: MetricSink, R: Wait + Drop> AggregatedClient<S, R> {
-    ghost use Rattle.std.specs.Prelude.{◌≡◌, IfErr, IfOk, map, negsuc, pos};
-    ghost use Rattle.cadence_settings.specs.Call.{is_free_call};
+    ghost use Rattle.std.specs.Prelude.{◌≡◌, IfErr, IfOk};
     ghost use Rattle.cadence_settings.specs.Settings.{is_free_settings, settings_of, with_strict_texts};
-    ghost use Rattle.cadence_text.specs.declared.line.MetricType.TheVariants.{Counter, Gauge};
-    ghost use Rattle.cadence_text.specs.Record.{tag_of};
-    ghost use Rattle.cadence_aggregating.specs.Contexts.{MayFailFor, tagged_call};
-    ghost use Rattle.cadence_aggregating.specs.Clients.{IsFlushOfClient, settings_of_aggregated};
-    ghost use Rattle.cadence_aggregating.specs.Keys.{CountsFor, SetsFor, line_of_counter, line_of_gauge};
-    ghost use Rattle.cadence_aggregating.specs.Results.{IsCallOf};
+    ghost use Rattle.cadence_aggregating.specs.Contexts.{MayFailFor};
+    ghost use Rattle.cadence_aggregating.specs.Clients.{settings_of_aggregated};
 
     /// Makes a client with a prefix, without default tags, with the settings of a new builder. It starts no thread.
     ///
@@ -102,15 +102,31 @@ impl<S: MetricSink, R: Wait + Drop> AggregatedClient<S, R> {
             settings_of_aggregated client ≡ with_strict_texts (settings_of prefix.now)) }
         ensures refused { IfErr result (MayFailFor (is_free_settings (settings_of prefix.now))) }
     {
-        let limits = AggregatingMetricSinkBuilder::new().limits;
+        let AggregatingMetricSinkBuilder {
+            limits,
+            handler,
+            ..
+        } = AggregatingMetricSinkBuilder::new();
         let settings = StrictSettings::new(ClientSettings::new(alloc, prefix)?)?;
+        let locked = LockedAggregator::new(rt, alloc, limits, sink, handler)?;
         Ok(AggregatedClient {
             alloc,
             settings,
-            lines: SharedSink::new(alloc, LockedAggregator::new(rt, alloc, limits, sink)?)?,
+            lines: SharedSink::new(alloc, locked)?,
             flusher: None,
         })
     }
+}
+
+impl<S: MetricSink, R: Wait + Drop, H: FlushErrorHandler> AggregatedClient<S, R, H> {
+    ghost use Rattle.std.specs.Prelude.{◌≡◌, IfErr, IfOk, map, negsuc, pos};
+    ghost use Rattle.cadence_settings.specs.Call.{is_free_call};
+    ghost use Rattle.cadence_text.specs.declared.line.MetricType.TheVariants.{Counter, Gauge};
+    ghost use Rattle.cadence_text.specs.Record.{tag_of};
+    ghost use Rattle.cadence_aggregating.specs.Contexts.{MayFailFor, tagged_call};
+    ghost use Rattle.cadence_aggregating.specs.Clients.{IsFlushOfClient, settings_of_aggregated};
+    ghost use Rattle.cadence_aggregating.specs.Keys.{CountsFor, SetsFor, line_of_counter, line_of_gauge};
+    ghost use Rattle.cadence_aggregating.specs.Results.{IsCallOf};
 
     /// Makes the key of a counter, with tags after the default ones. It takes memory, and a call by it takes none once
     /// the counter is held.

@@ -10,6 +10,7 @@
 //! - `summed`: lines that are added up for one thread, and wait to be sent.
 //! - `runs`: a run of lines and flushes.
 //! - `under_lock`: the same, with answers that can't be let go.
+//! - `handler`: receivers of the errors of flushes.
 //! - `locked`: an aggregator of lines under a lock.
 //! - `sink`: the aggregating sink, which may flush by time.
 //! - `builder`: its settings.
@@ -24,6 +25,7 @@ mod accepted;
 mod builder;
 mod call;
 mod client;
+mod handler;
 mod keys;
 mod limits;
 mod locked;
@@ -41,6 +43,7 @@ mod waiting;
 
 pub use builder::AggregatingMetricSinkBuilder;
 pub use client::AggregatedClient;
+pub use handler::{FlushErrorHandler, NopFlushErrorHandler};
 pub use keys::{CounterKey, GaugeKey, LineKey};
 pub use limits::Limits;
 pub use note::{Kind, Note};

@@ -7,6 +7,7 @@ ghost use Rattle.cadence_aggregating.specs.Shown.{ShowsAdded, ShowsEmptied};
 ghost use Rattle.cadence_errors.specs.Errors.{MayOnlyRunOutOfMemory};
 ghost use Rattle.cadence_flow.specs.Answered.{IsAnswered, IsFlushAnswered, answered_by_holding_nothing};
 
+use crate::handler::{FlushErrorHandler, NopFlushErrorHandler};
 use crate::limits::Limits;
 use crate::shared::SharedSink;
 use crate::under_lock::{Added, Emptied, Failed, UnderLock};
@@ -19,16 +20,21 @@ use std::sync::{Mutex, Wait};
 /// An aggregator of lines over a sink, under a lock. Whenever the lock is free, what that sink took, with what is held,
 /// is a summary of the accepted lines. The sink also lies beside the lock, so that its counts are read without it.
 ///
-/// The drop flushes both, and drops the errors.
-pub struct LockedAggregator<S: MetricSink, R: Wait + Drop> {
+/// The drop flushes both. The handler receives the error of each flush that fails, and the last error of the drop.
+pub struct LockedAggregator<
+    S: MetricSink,
+    R: Wait + Drop,
+    H: FlushErrorHandler = NopFlushErrorHandler,
+> {
     rt: R,
+    handler: H,
     sink: SharedSink<S>,
     lines: Mutex<UnderLock<SharedSink<S>>>,
 }
 
-impl<S: MetricSink, R: Wait + Drop> LockedAggregator<S, R> {
+impl<S: MetricSink, R: Wait + Drop, H: FlushErrorHandler> LockedAggregator<S, R, H> {
     /// Makes an aggregator that accepted no line yet. The only error is `OutOfMemory`.
-    pub fn new(rt: R, alloc: Global, limits: Limits, sink: S) -> MetricResult<Self>
+    pub fn new(rt: R, alloc: Global, limits: Limits, sink: S, handler: H) -> MetricResult<Self>
         ensures { MayOnlyRunOutOfMemory result }
     {
         let sink = SharedSink::new(alloc, sink)?;
@@ -37,6 +43,7 @@ impl<S: MetricSink, R: Wait + Drop> LockedAggregator<S, R> {
         };
         Ok(LockedAggregator {
             rt,
+            handler,
             sink,
             lines: Mutex::new(lines),
         })
@@ -45,7 +52,8 @@ impl<S: MetricSink, R: Wait + Drop> LockedAggregator<S, R> {
 
 /// Adds a line, under the lock. The answer has the line's length, and shows the aggregator before and after it accepted
 /// this line. After an error the line is not added.
-impl<S: MetricSink, R: Wait + Drop> AnsweringSink for LockedAggregator<S, R> {
+impl<S: MetricSink, R: Wait + Drop, H: FlushErrorHandler> AnsweringSink
+    for LockedAggregator<S, R, H> {
     type Took = Added<SharedSink<S>>;
 
     type Refused = Failed<SharedSink<S>>;
@@ -61,7 +69,8 @@ impl<S: MetricSink, R: Wait + Drop> AnsweringSink for LockedAggregator<S, R> {
 
 /// Sends what is held, and flushes the wrapped sink, under the lock. The answer shows the aggregator before and after
 /// this.
-impl<S: MetricSink, R: Wait + Drop> AnsweringFlush for LockedAggregator<S, R> {
+impl<S: MetricSink, R: Wait + Drop, H: FlushErrorHandler> AnsweringFlush
+    for LockedAggregator<S, R, H> {
     type Flushed = Emptied<SharedSink<S>>;
 
     type Unflushed = Failed<SharedSink<S>>;
@@ -76,7 +85,7 @@ impl<S: MetricSink, R: Wait + Drop> AnsweringFlush for LockedAggregator<S, R> {
     }
 }
 
-impl<S: MetricSink, R: Wait + Drop> MetricSink for LockedAggregator<S, R> {
+impl<S: MetricSink, R: Wait + Drop, H: FlushErrorHandler> MetricSink for LockedAggregator<S, R, H> {
     ghost may_answer = { λ _ line answer. IsAggregated line answer × IsAnswered line answer };
 
     ghost may_flush = { λ _ answer. IsFlushAnswered answer };
@@ -90,7 +99,11 @@ impl<S: MetricSink, R: Wait + Drop> MetricSink for LockedAggregator<S, R> {
 
     fn flush(&self) -> Result<(), SinkError> {
         let mut fault = SinkError::NothingWritten;
-        flush_by(self, &mut fault).ok_or(fault)
+        let flushed = flush_by(self, &mut fault);
+        if flushed.is_none() {
+            self.handler.handle(&fault);
+        }
+        flushed.ok_or(fault)
     }
 
     fn stats(&self) -> SinkStats {
@@ -102,13 +115,16 @@ impl<S: MetricSink, R: Wait + Drop> MetricSink for LockedAggregator<S, R> {
     }
 }
 
-impl<S: MetricSink, R: Wait + Drop> Drop for LockedAggregator<S, R> {
+impl<S: MetricSink, R: Wait + Drop, H: FlushErrorHandler> Drop for LockedAggregator<S, R, H> {
     fn drop(self) {
         let LockedAggregator {
             rt: _rt,
+            handler,
             sink: _sink,
             lines,
         } = self;
-        lines.into_inner().finish();
+        if let Err(error) = lines.into_inner().finish() {
+            handler.handle(&error);
+        }
     }
 }

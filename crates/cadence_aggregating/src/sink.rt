@@ -2,6 +2,7 @@
 ghost use Rattle.cadence_aggregating.specs.Answers.{IsAggregated};
 ghost use Rattle.cadence_flow.specs.Answered.{IsAnswered, IsFlushAnswered, answered_by_holding_nothing};
 
+use crate::handler::{FlushErrorHandler, NopFlushErrorHandler};
 use crate::locked::LockedAggregator;
 use cadence_errors::SinkError;
 use cadence_flow::MetricSink;
@@ -11,9 +12,9 @@ use std::sync::Wait;
 
 // An aggregator that is flushed by its callers alone, or also by a thread.
 #[derive(Drop)]
-pub(crate) enum Timed<S: MetricSink, R: Wait + Drop> {
-    Never(LockedAggregator<S, R>),
-    Often(FlushingMetricSink<LockedAggregator<S, R>, R>),
+pub(crate) enum Timed<S: MetricSink, R: Wait + Drop, H: FlushErrorHandler> {
+    Never(LockedAggregator<S, R, H>),
+    Often(FlushingMetricSink<LockedAggregator<S, R, H>, R>),
 }
 
 /// A sink that adds up lines before it hands them to the wrapped sink. Counters are summed, of a gauge's values the
@@ -27,8 +28,9 @@ pub(crate) enum Timed<S: MetricSink, R: Wait + Drop> {
 ///
 /// `emit` returns the length of the line. Its errors are those of the wrapped sink, if a line had to be handed on, and
 /// `OutOfMemory`; the line is not added then. A line that the wrapped sink refuses at a flush stays, and the next flush
-/// tries it again, before all others. The drop flushes the sink, again and again as long as a flush sends something, and
-/// drops the errors of these flushes. What is held when the process crashes is lost.
+/// tries it again, before all others. The drop flushes the sink, again and again as long as a flush sends something. What
+/// it can't send is lost, and so is what is held when the process crashes. The builder's handler receives the error of
+/// each flush that fails, and the last error of the drop.
 ///
 /// The wrapped sink takes lines under the lock of this sink. So callers wait while it does, a whole flush long, and the
 /// wrapped sink must not emit into this sink or flush it, because that would wait for ever. `stats` and `dropped_lines`
@@ -43,11 +45,16 @@ pub(crate) enum Timed<S: MetricSink, R: Wait + Drop> {
 /// let message = receiver.try_recv(); // visits:3|c
 /// ```
 #[derive(Drop)]
-pub struct AggregatingMetricSink<S: MetricSink, R: Wait + Drop> {
-    pub(crate) timed: Timed<S, R>,
+pub struct AggregatingMetricSink<
+    S: MetricSink,
+    R: Wait + Drop,
+    H: FlushErrorHandler = NopFlushErrorHandler,
+> {
+    pub(crate) timed: Timed<S, R, H>,
 }
 
-impl<S: MetricSink, R: Wait + Drop> MetricSink for AggregatingMetricSink<S, R> {
+impl<S: MetricSink, R: Wait + Drop, H: FlushErrorHandler> MetricSink
+    for AggregatingMetricSink<S, R, H> {
     ghost may_answer = { λ _ line answer. IsAggregated line answer × IsAnswered line answer };
 
     ghost may_flush = { λ _ answer. IsFlushAnswered answer };

@@ -90,18 +90,18 @@ impl<S: MetricSink> UnderLock<S> {
     }
 
     /// Sends what is held, flushes the sink and ends both. If the sink refuses a line, all is tried again, as long as a
-    /// try sends something. What is still held then is lost.
-    pub(crate) fn finish(mut self) {
+    /// try sends something. What is still held then is lost. The error is that of the last try.
+    pub(crate) fn finish(mut self) -> Result<(), SinkError> {
         let mut held = self.aggregator.count_held();
+        let mut sent = self.send_all();
         for _ in 0..=held {
-            if self.send_all().is_ok() {
-                return;
-            }
             let left = self.aggregator.count_held();
-            if left == held {
-                return;
+            if sent.is_ok() || left == held {
+                break;
             }
             held = left;
+            sent = self.send_all();
         }
+        sent
     }
 }

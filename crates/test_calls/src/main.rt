@@ -7,6 +7,7 @@
 //! - `data/sums`: lines that are added up, and what is sent of them. `sums` makes them.
 //! - `data/environment.rows`: variables of the environment. `environment` reads them; the tests of C, Rust and Python
 //!   read the same file. It also prints the message of each variable that can't be used.
+//! - `data/addresses.rows`: the addresses of a name, and the one that is sent to. `addresses` reads them, as those tests do.
 //!
 //! Then it prints the texts of an audited queue's errors. Sockets, memory that is refused and numbers of calls are
 //! tested in `test_client`.
@@ -30,6 +31,7 @@
 //! - `bursts`: callers that emit as fast as they can. `wake_ups`: callers that wait after each line.
 #![tactic(auto)]
 
+mod addresses;
 mod bursts;
 mod callers;
 mod calls;
@@ -48,6 +50,7 @@ use cadence::{DEFAULT_PORT, MetricResult, Runtime};
 use queues::QueueKind;
 use std::alloc::{Alloc, AllocError, Global};
 use std::fs::Files;
+use std::net::Net;
 use std::{env, fs};
 
 // Returns the text of each error of an audited queue and of its end.
@@ -96,11 +99,13 @@ fn wants_threads_alone(rt: &HostRuntime) -> MetricResult<bool> {
 }
 
 // Returns what came of the rows of each file.
-fn report_rows<R: Runtime + Alloc + Files>(rt: &R, alloc: Global) -> MetricResult<String> {
+fn report_rows<R: Runtime + Alloc + Files + Net>(rt: &R, alloc: Global) -> MetricResult<String> {
     let mut text = clients::report(rt, alloc, &fs::read_to_string(rt, "calls")?)?;
     text.push_str(&sums::report(rt, alloc, &fs::read_to_string(rt, "sums")?)?)?;
     let variables = fs::read_to_string(rt, "environment.rows")?;
     text.push_str(&environment::report(alloc, &variables)?)?;
+    let addresses = fs::read_to_string(rt, "addresses.rows")?;
+    text.push_str(&addresses::report(rt, alloc, &addresses)?)?;
     writeln!(&mut text, "port {DEFAULT_PORT}")?;
     text.push_str(&audit_error_texts(alloc)?)?;
     Ok(text)

@@ -7,6 +7,7 @@ ghost use Rattle.cadence_aggregating.specs.Shown.{ShowsAdded};
 
 use super::LockedAggregator;
 use crate::call::KeyedCall;
+use crate::handler::FlushErrorHandler;
 use crate::shared::SharedSink;
 use crate::under_lock::{Added, Failed};
 use cadence_errors::{MetricError, MetricResult, SinkError};
@@ -15,13 +16,14 @@ use std::sync::Wait;
 
 // A call of an aggregator by a key.
 #[derive(Drop)]
-struct LockedCall<'a, S: MetricSink, R: Wait + Drop> {
-    to: &'a LockedAggregator<S, R>,
+struct LockedCall<'a, S: MetricSink, R: Wait + Drop, H: FlushErrorHandler> {
+    to: &'a LockedAggregator<S, R, H>,
     call: KeyedCall<'a>,
 }
 
 // The answer shows the aggregator before and after it accepted the line of the call. After an error it accepted none.
-impl<'a, S: MetricSink, R: Wait + Drop> AnsweringSink for LockedCall<'a, S, R> {
+impl<'a, S: MetricSink, R: Wait + Drop, H: FlushErrorHandler> AnsweringSink
+    for LockedCall<'a, S, R, H> {
     type Took = Added<SharedSink<S>>;
 
     type Refused = Failed<SharedSink<S>>;
@@ -35,7 +37,7 @@ impl<'a, S: MetricSink, R: Wait + Drop> AnsweringSink for LockedCall<'a, S, R> {
     }
 }
 
-impl<S: MetricSink, R: Wait + Drop> LockedAggregator<S, R> {
+impl<S: MetricSink, R: Wait + Drop, H: FlushErrorHandler> LockedAggregator<S, R, H> {
     /// Makes a call by a key. The errors are those of `emit`, as `MetricError::Sink`; the call did nothing then.
     pub(crate) fn call(&self, call: KeyedCall<'_>) -> MetricResult<()>
         ensures { IsCallOf (line_of_keyed call.entry) result }

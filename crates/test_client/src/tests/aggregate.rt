@@ -1,7 +1,8 @@
 //! Tests of metrics that are added up before they are sent: `sinks` for the aggregating sink, `clients` for clients
-//! whose calls make no line, and `passing` for what both pass on to the wrapped sink. The rows of the program
+//! whose calls make no line, `handlers` for the errors of flushes, and `passing` for what both pass on to the wrapped sink. The rows of the program
 //! `test_calls` say which lines are sent of which.
 
 mod clients;
+mod handlers;
 mod passing;
 mod sinks;

@@ -1,10 +1,14 @@
 //! Steps of tests that assert their result: what a sink takes and passes on, what a spy or a socket receives, and what
 //! is made.
+use cadence::Runtime;
 use cadence::sinks::{MetricSink, SpyReceiver};
 use cadence::types::{MetricError, MetricResult, SinkError};
 use std::net::UdpSocket;
 use std::sync::Wait;
+use std::sync::atomic::{AtomicU64, Ordering};
 use std::test::Fail;
+use std::thread;
+use std::time::Duration;
 
 /// Emits these lines, which have white space between them, and asserts that each answer is the line's length.
 pub fn assert_takes<S: MetricSink>(sink: &S, lines: &str) -> Result<(), Fail> {
@@ -52,6 +56,17 @@ pub fn assert_passes_on<S: MetricSink>(sink: &S) -> Result<(), Fail> {
         Err(SinkError::NothingWritten) => Ok(()),
         _ => Err(Fail::new("another answer of a flush")),
     }
+}
+
+/// Waits until a handler has been called, five seconds at most, and returns whether it was.
+pub fn is_called<R: Runtime>(rt: &R, calls: &AtomicU64) -> bool {
+    for _ in 0..5000u64 {
+        if calls.load(Ordering::SeqCst) > 0 {
+            return true;
+        }
+        thread::sleep(rt, Duration::from_millis(1));
+    }
+    false
 }
 
 /// Asserts that the next datagram that the server receives is this text.

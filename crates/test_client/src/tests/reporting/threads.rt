@@ -1,6 +1,6 @@
 //! The thread of a reporting sink, over a real clock and a real socket.
 use super::stage::{CountedSink, make_counted};
-use crate::tests::steps::assert_receives;
+use crate::tests::steps::{assert_receives, is_called};
 use cadence::Runtime;
 use cadence::ready::udp_sink;
 use cadence::sinks::{MetricSink, Target, UdpMetricSink};
@@ -11,7 +11,6 @@ use std::net::{Ipv4Addr, Net, SocketAddr, UdpSocket};
 use std::sync::Arc;
 use std::sync::atomic::{AtomicU64, Ordering};
 use std::test::Fail;
-use std::thread;
 use std::time::Duration;
 
 // A sink that reports over UDP.
@@ -47,17 +46,6 @@ fn a_report_comes_over_udp_after_a_period(rt: HostRuntime) -> Result<(), Fail> {
     server.set_read_timeout(Some(Duration::from_secs(5)))?;
     let sink = make_reporting(&rt, rt.alloc(), server.local_addr()?)?;
     assert_reports(&sink, &server)
-}
-
-// Waits until a handler has been called, five seconds at most, and returns whether it was.
-fn is_called<R: Runtime>(rt: &R, calls: &AtomicU64) -> bool {
-    for _ in 0..5000u64 {
-        if calls.load(Ordering::SeqCst) > 0 {
-            return true;
-        }
-        thread::sleep(rt, Duration::from_millis(1));
-    }
-    false
 }
 
 // Makes a reporting sink with a period of a millisecond. Its handler counts the packets that are refused.
