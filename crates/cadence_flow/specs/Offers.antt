@@ -8,7 +8,7 @@ use Rattle.cadence_flow.specs.Frame.{Format, IsNotOversize, IsOversize, PassesRo
 abbrev pub Offer : Type 0
 Offer = List ℕ × ℕ
 
--- the offers so far, the oldest first; `None` for a writer that doesn't tell them
+-- the offers so far, the oldest first; `None` for a writer that doesn't list them
 abbrev pub Offers : Type 0
 Offers = Option (List Offer)
 

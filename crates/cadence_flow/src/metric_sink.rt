@@ -30,8 +30,9 @@ pub trait MetricSink: Drop {
     /// The results that a flush may get. By default a flush can't fail.
     ghost may_flush: { Self → Result (Unit {0}) SinkError → Type 0 } = { λ _ r. IfErr r (λ _. ⊥) };
 
-    /// A flush may succeed if the sink holds no text. Only the default `flush` has the premise, so one that passes on
-    /// the result of another sink has to flush that sink.
+    /// States that a flush may return `Ok(())` if the sink holds no text (`NothingIsHeld`). Only the default `flush`
+    /// can show that no text is held. So the `flush` of a sink that wraps another one has to call the `flush` of that
+    /// one.
     ghost flush_may_succeed: { (s : Self) → NothingIsHeld → may_flush s (Ok tt) };
 
     /// Takes a line, and returns how many of its bytes the sink took, or why it refused the line.

@@ -152,7 +152,7 @@ impl<W: PacketWriter, A: Allocator> RecordedPacker<W, A> {
     }
 }
 
-/// The packer took a line.
+/// The answer of a packer that took a line.
 pub struct Packed<P> {
     bytes: usize,
     returned: Snapshot<usize>,
@@ -160,14 +160,14 @@ pub struct Packed<P> {
     after: Snapshot<P>,
 }
 
-/// The packer refused a line, or a flush of it failed.
+/// The answer of a packer that refused a line, or whose flush failed.
 pub struct Refused<P> {
     why: Snapshot<SinkError>,
     before: Snapshot<P>,
     after: Snapshot<P>,
 }
 
-/// The packer was flushed, and holds nothing.
+/// The answer of a packer that was flushed, and that holds nothing.
 pub struct Flushed<P> {
     before: Snapshot<P>,
     after: Snapshot<P>,

@@ -27,7 +27,7 @@ pub trait PacketWriter: Drop {
     ghost kind: { Self → WriterKind };
 
     /// The packets that the writer was offered and didn't refuse, each with the number of its bytes that it took.
-    /// `None`, the default, is for a writer that doesn't tell them.
+    /// `None`, the default, is for a writer that doesn't list them.
     ghost offers: { Self → Offers } = { λ _. None };
 
     /// Offers one packet to the writer. Returns how many of its first bytes the writer took, as one packet. After an
