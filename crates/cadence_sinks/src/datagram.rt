@@ -24,9 +24,10 @@ pub trait DatagramSocket: Drop {
     /// The errors that the socket may return.
     ghost may_give: { SinkError → Bool };
 
-    /// Sends a packet, and returns how many of its first bytes were taken, which has to be counted before anyone reads
-    /// it. After an error it is `None`, and the error is in `fault`. A `Result` in its place would be as wide as the
-    /// widest error, and each function that passes one on copies all of it.
+    /// Sends a packet. The answer has the number of the packet's first bytes that the socket took, or `None` after an
+    /// error, which is in `fault` then. Nobody can read the answer before it was counted, by `SinkStats::count`. A
+    /// `Result` in its place would be as wide as the widest error, and each function that passes one on copies all of
+    /// it.
     fn send(&self, packet: &[u8], fault: &mut SinkError) -> Unread
         ensures answer { IsSocketAnswer may_give packet.now (ok_or (count_taken result) fault.new) }
         ensures len { len_of result ≡ length packet.now };

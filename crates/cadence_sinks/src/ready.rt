@@ -59,8 +59,8 @@ fn lookups_for<A: Allocator>(target: &Target<A>) -> UdpMetricSinkBuilder
 /// Makes a `UdpMetricSink` with a socket of its own. It sends to the first address of IPv4 that the target has, or if there
 /// is none to its first address. A name is looked up again, as the head of `cadence::ready` says.
 ///
-/// The errors are `SinkError::Io` if the lookup fails, or if the socket can't be made or the thread not started, the kind
-/// `InvalidInput` if the name has no address, and `SinkError::OutOfMemory`.
+/// The errors are `SinkError::Io` if the lookup fails, the socket can't be made or the thread can't be started, the
+/// kind `InvalidInput` if the name has no address, and `SinkError::OutOfMemory`.
 pub fn udp_sink<R: Runtime, A: Allocator + Clone + Send + Sync + 'static>(
     rt: &R,
     alloc: A,
