@@ -56,7 +56,7 @@ impl<W: PeriodicWork, A: Allocator + Clone> SharedWork<W, A> {
     }
 }
 
-// What the thread needs beside the handler.
+// What the thread needs besides the handler.
 #[derive(Drop)]
 struct Thread<W: PeriodicWork, R: Wait + Clock + Drop, A: Allocator> {
     rt: R,
