@@ -14,7 +14,7 @@ impl Due {
     ghost use Rattle.std.specs.Prelude.{◌≡◌};
     ghost use Rattle.cadence_aggregate.specs.Held.{none_due};
 
-    /// Returns that no context is due.
+    /// Returns counts of 0: no context is due.
     pub(crate) fn none() -> Due
         ensures { result ≡ none_due }
     {

@@ -11,7 +11,7 @@
 //! - `members`: the members of sets.
 //! - `timings`: the values of timers, histograms and distributions.
 //! - `due`: how many contexts are to be sent before all others.
-//! - `aggregator`: all of them.
+//! - `aggregator`: the aggregator, which holds all of these.
 //! - `runs`: a run of lines and flushes.
 #![tactic(auto)]
 
