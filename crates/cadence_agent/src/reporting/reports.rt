@@ -118,8 +118,8 @@ impl<S: MetricSink, A: Allocator + Clone> Reports<S, A> {
 }
 
 impl<S: MetricSink, A: Allocator + Clone> PeriodicWork for Reports<S, A> {
-    /// Sends a counter for each count that grew since the last report. What a counter couldn't report stays for the next
-    /// report. The error is that of the last counter that failed, or that memory ran out for the list of counters.
+    /// Sends a counter for each count that grew since the last report. If a counter isn't sent, the next report adds
+    /// its number. The error is that of the last counter that failed, or that memory ran out for the list of counters.
     fn do_once<R: Wait>(&self, rt: &R) -> Result<(), SinkError> {
         let growths = self.take_growths(rt)?;
         let mut answer = Ok(());
