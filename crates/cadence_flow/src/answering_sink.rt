@@ -45,7 +45,7 @@ pub trait AnsweringSink: Drop {
     /// The answer for a line that was refused.
     type Refused: Closed;
 
-    /// The results that a line may get.
+    /// The results that `emit_by` may return for a line.
     ghost may_answer: { Self → List ℕ → Result ℕ SinkError → Type 0 };
 
     /// What an answer for a line shows of the step that took or refused the line. By default it shows nothing.
@@ -65,7 +65,7 @@ pub trait AnsweringFlush: Drop {
     /// The answer for a flush that failed.
     type Unflushed: Closed;
 
-    /// The results that a flush may get.
+    /// The results that `flush_by` may return.
     ghost may_flush: { Self → Result (Unit {0}) SinkError → Type 0 };
 
     /// What an answer for a flush shows of the flush. By default it shows nothing.
