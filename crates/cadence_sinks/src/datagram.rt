@@ -1,4 +1,4 @@
-//! What the sinks over UDP and over Unix sockets share: the counts of a socket, and a buffer with its lock over one.
+//! What the sinks over UDP and over Unix sockets share: a socket with its counts, and a buffer under a lock over one.
 ghost use Rattle.std.specs.Option.{ok_or};
 ghost use Rattle.std.specs.Prelude.{◌≡◌, [], Bool, IfOk, length};
 ghost use Rattle.cadence_errors.specs.Errors.{MayOnlyRunOutOfMemory};
