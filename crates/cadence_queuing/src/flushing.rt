@@ -46,7 +46,7 @@ impl<
     A: Allocator + Clone + Send + Sync + 'static,
 > FlushingMetricSink<S, R, A> {
     /// Makes the sink and starts its thread. A period below one millisecond counts as one millisecond. The errors of
-    /// the thread's flushes are dropped. The errors are `OutOfMemory`, and `Io` if the thread can't be started. The
+    /// the thread's flushes are dropped. This call returns `OutOfMemory`, or `Io` if the thread can't be started. The
     /// wrapped sink is dropped then.
     pub fn new(rt: R, alloc: A, sink: S, period: Duration) -> MetricResult<Self>
         ensures wrapped { IfOk result (λ f. flushed_sink f ≡ sink) }
