@@ -1,4 +1,4 @@
--- What is promised of a run: the headline (`HasHeadline`), and more beside it (`IsAccounted`). The contract of
+-- What is promised of a run: the headline (`HasHeadline`), and further facts (`IsAccounted`). The contract of
 -- `run_schedule_with` cites both.
 use Rattle.std.specs.Prelude.{◌≡◌, ℕ, ◌+◌, ◌%◌, ◌^◌, ◌≤◌, List, [], ◌++◌, Option, Bool, true, All, codes, length, map, drop, string_bytes}
 use Rattle.std.specs.List.{concat, zip}
@@ -129,7 +129,8 @@ module _ {W A : Type 0} (history : W → PacketHistory) (given : Given A) (outco
         → NoGroupHasRoom given.format.capacity marks_of (groups_of outcome.cut (map (size_of given.format) kept_of))
         × IsFewest given.format.capacity marks_of (map (size_of given.format) kept_of) outcome.cut
 
-  -- What is promised beside the headline, of refusals, short counts, sums, earlier packets, and what a listener reads.
+  -- What is promised besides the headline, about refusals, short counts, sums, earlier packets, and what a listener
+  -- reads.
   pub record IsAccounted : Type 0 where
     -- Over a writer that reports its packets and takes each whole or refuses it, refusals included: no group could have
     -- had one line more, except one that a flush or a refused line came after.
