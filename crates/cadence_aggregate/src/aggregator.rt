@@ -185,7 +185,8 @@ impl Aggregator {
         send_due_timings(&mut self.timings, &mut self.due.timings, sink)
     }
 
-    /// Sends one line for each context, and forgets it. The contexts that the last flush left come before all others.
+    /// Sends one line for each context, and forgets it. If the last flush failed, as many contexts of each kind as it
+    /// left come before all others, the oldest ones first.
     ///
     /// # Errors
     /// The error of the sink, if it did not take a line. The flush ends there, and what was not sent is still held.
