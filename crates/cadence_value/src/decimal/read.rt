@@ -229,7 +229,7 @@ pub fn read_number(text: &[u8]) -> Option<Decimal>
     number_of(is_below, whole, fraction).ok()
 }
 
-// Returns the decimal that a text denotes, also if there are zeros at the end of its places.
+// Returns the decimal that a text denotes, even if there are zeros at the end of its places.
 fn read(text: &[u8]) -> Result<Decimal, ParseDecimalError>
     ensures { ReadsDecimal text.now result }
 {
