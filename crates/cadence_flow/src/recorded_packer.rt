@@ -72,8 +72,8 @@ impl<W: PacketWriter, A: Allocator> RecordedPacker<W, A> {
         }
     }
 
-    /// Writes a line that doesn't fit beside the held text, as `LineBuffer::write_late` does, and adds it to the record
-    /// if it was accepted.
+    /// Writes a line that doesn't fit into the room that the held text leaves, as `LineBuffer::write_late` does, and
+    /// adds it to the record if it was accepted.
     pub fn write_late(
         &mut self,
         line: &[u8],
@@ -177,8 +177,8 @@ impl<P> Packed<P> {
     ghost use Rattle.cadence_flow.specs.Packed.{after_of, before_of, bytes_of, returned_of};
 
     /// Returns the same answer with this number of bytes for the caller. It is for a sink that stores a copy of its
-    /// packer's capacity outside the lock, because no contract can say that both are equal: for a line that fits this
-    /// copy, the sink makes the answer have the length of the line.
+    /// packer's capacity outside the lock, because no contract can say that both are equal. For a line that fits this
+    /// copy, such a sink answers the length of the line.
     pub fn with_bytes(self, bytes: usize) -> Self
         ensures bytes { bytes_of result ≡ bytes }
         ensures same { (returned_of result ≡ returned_of self)
