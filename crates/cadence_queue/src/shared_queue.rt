@@ -31,7 +31,7 @@ const TURNS_TO_GIVE_WAY: u32 = 20;
 ///
 /// `offer` and the calls whose names end in `_shown` also show, in proofs, the states of the queue between which they made
 /// their step. No call lets a text go, so none loses one under the lock: a text may be of a type that can't be dropped.
-/// `M` is the type of a text that the worker is done with: `offer` makes a later text in the memory of such a one.
+/// `M` is the type of a text that the worker is done with: `offer` reuses its memory for a later text.
 #[derive(Drop)]
 pub struct SharedQueue<T, A: Allocator = Global, M = T> {
     pub(super) state: Mutex<UnderLock<T, A, M>>,
