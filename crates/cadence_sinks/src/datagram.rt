@@ -171,7 +171,7 @@ impl<D: DatagramSocket, R: Wait + Drop, A: Allocator> PackedSocket<D, R, A> {
 
     // Takes a line that doesn't fit into the free room of the buffer. It is a function of its own, so that the first
     // case of `emit_line` is short. A line that fits into an empty buffer is never cut, so its answer has the line's
-    // length; but no clause ties the capacity beside the lock to that of the packer under it.
+    // length; but no clause ties the capacity outside the lock to that of the packer under it.
     fn emit_late(
         &self,
         lines: &mut SocketLines<D, R, A>,
