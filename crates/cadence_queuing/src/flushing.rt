@@ -24,7 +24,7 @@ impl<S: MetricSink> PeriodicWork for FlushWork<S> {
 }
 
 /// A sink that passes each call on to the wrapped sink, and whose thread flushes that one after each period. So no line
-/// waits longer in the wrapped sink's buffer, also if no more lines come. A `QueuingMetricSink` with a period needs no
+/// waits longer in the wrapped sink's buffer, even if no more lines come. A `QueuingMetricSink` with a period needs no
 /// second thread for this.
 ///
 /// The drop stops the thread and doesn't wait for it. It also flushes the wrapped sink, drops the error of this flush,

@@ -174,7 +174,7 @@ impl<'a, S: MetricSink, R: Wait + Clock + Drop, A: Allocator + Clone, H: Report>
     }
 
     // Waits for a text, and flushes the sink whenever a flush is due. It looks at the queue between two tries of a flush,
-    // so it returns with a text, or at a stop, also if each flush fails. Once no flush is owed, it returns without a
+    // so it returns with a text, or at a stop, even if each flush fails. Once no flush is owed, it returns without a
     // text.
     fn fetch_and_flush(&mut self)
         ensures given { given_by self.new.taker ≡ given_by self.old.taker }
