@@ -1,9 +1,9 @@
 //! How the library's own sinks answer: the one body of their `emit`, and the one of their `flush`.
 //!
 //! A sink of the library can't make up what its `emit` returns. Its `emit_line`, or that of the part that does its
-//! work, returns an answer, which only the packer, the queue or the counts of a socket can make, while they take or
-//! refuse the line. The answer for a line that was taken has no `Drop`, so no code can let it go, and only `emit_by`
-//! can open it. So an `emit_line` that does nothing, or that writes a line twice, doesn't compile.
+//! work, returns an answer, which only the packer, the queue, the aggregator or the counts of a socket can make, while
+//! they take or refuse the line. The answer for a line that was taken has no `Drop`, so no code can let it go, and only
+//! `emit_by` can open it. So an `emit_line` that does nothing, or that writes a line twice, doesn't compile.
 ghost use Rattle.std.specs.Option.{ok_or};
 ghost use Rattle.std.specs.Prelude.{◌≡◌, List, ℕ, Result};
 ghost use Rattle.cadence_errors.specs.declared.SinkError.{SinkError};
@@ -34,8 +34,8 @@ pub trait Closed {
     fn close(self, by: Opener);
 }
 
-/// A sink of the library, or the part of one that does its work. Only the packer, the queue or the counts of a socket
-/// can make its answers.
+/// A sink of the library, or the part of one that does its work. Only what takes the line can make its answers: the
+/// packer, the queue, the aggregator or the counts of a socket.
 ///
 /// The error of a refused line is in `fault`, because a `Result` with an error in it is as wide as the widest error,
 /// and each function that passes one on copies all of it.
