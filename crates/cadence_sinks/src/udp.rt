@@ -186,7 +186,7 @@ impl UdpMetricSinkBuilder {
 ///
 /// A datagram holds at most 65,507 bytes over IPv4, and 65,527 over IPv6. With a larger capacity the held text can
 /// become longer than that. Then the system refuses it for its size (`EMSGSIZE`) at each flush. It stays held, so each
-/// later line that doesn't fit beside it is refused too. Only the ready-made sinks refuse such a capacity.
+/// later line for which the buffer has no room is refused too. Only the ready-made sinks refuse such a capacity.
 ///
 /// ```text
 /// let sink = BufferedUdpMetricSink::with_capacity(rt.clone()?, alloc, target, socket, 1432)?;

@@ -100,8 +100,8 @@ impl<P: PathSocket, R: Wait + Drop, A: Allocator> MetricSink for UnixMetricSink<
 ///
 /// A Unix datagram holds as many bytes as the send buffer of its socket, less 32: on Linux 212,960, unless
 /// `net.core.wmem_default` says otherwise. With a larger capacity the held text can become longer than that. Then the
-/// system refuses it for its size (`EMSGSIZE`) at each flush. It stays held, so each later line that doesn't fit beside
-/// it is refused too. Only the ready-made sinks refuse a capacity: one of more than 65,507 bytes.
+/// system refuses it for its size (`EMSGSIZE`) at each flush. It stays held, so each later line for which the buffer
+/// has no room is refused too. Only the ready-made sinks refuse a capacity: one of more than 65,507 bytes.
 ///
 /// ```text
 /// let sink = BufferedUnixMetricSink::from(rt.clone()?, alloc, "/run/statsd.sock", socket)?;
