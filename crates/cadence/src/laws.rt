@@ -17,7 +17,7 @@ pub use cadence_value::laws::decimals_equal_by_number;
 use std::alloc::Allocator;
 
 /// States that if a builder has the draft of a call's metric, then after one more option it has the draft of the metric
-/// of this call with the option, or an error, which is right for any call.
+/// of this call with the option, or an error.
 pub fn choosing_stands_for_more()
     ensures { (settings : Settings) (takes_memory : Bool) (old new : Result Draft MetricError)
         (option : Choice) → AppliesOption settings takes_memory old option new →

@@ -11,8 +11,8 @@ use std::io::{Error, ErrorKind};
 use std::os::fd::{AsRawFd, BorrowedFd};
 use std::time::Duration;
 
-// Returns how many milliseconds the system is asked to wait: a part of one more counts as a whole one, and there are at
-// most those of 24 days.
+// Returns how many milliseconds the system is asked to wait: this time, rounded up to whole milliseconds, but at most
+// `i32::MAX`, which is 24 days.
 fn millis_of(most: Duration) -> i32
     ensures { IsTimeout most result }
 {

@@ -5,7 +5,7 @@
 //! - `reporting`: a sink that sends its own counts as metrics after each period.
 //! - `unix`: a Unix datagram socket that sends to a path, and sinks over it, ready made.
 //!
-//! `input` and the module `socket` of `unix` are the modules of the library that call the C library by themselves.
+//! Of all modules of the library, only `input` and the module `socket` of `unix` call the C library directly.
 #![tactic(auto)]
 
 mod environment;

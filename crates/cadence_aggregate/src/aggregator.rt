@@ -1,4 +1,4 @@
-//! Adds up what lines say, and sends it at each flush.
+//! Adds up what lines say of each context, and sends one line for each context at a flush.
 ghost use Rattle.std.specs.NonZero.{non_zero_usize_get};
 ghost use Rattle.std.specs.Prelude.{◌≡◌, ◌+◌, ◌++◌, [], OnOk, OnErr, IfOk, length};
 ghost use Rattle.cadence_aggregate.specs.Aggregate.{CanHold, HasDistinct, HasRoomForEach, held, held_after, held_first};
@@ -20,7 +20,8 @@ use lru::LruCache;
 use std::alloc::{AllocError, Global};
 use std::num::NonZeroUsize;
 
-/// Holds for each context what lines said of it since it was last sent.
+/// Holds for each context what lines said of it since a line of this context was last sent: a sum, the last value of a
+/// gauge, a member of a set, or the values of a timer, a histogram or a distribution.
 #[derive(Drop)]
 pub struct Aggregator {
     alloc: Global,
@@ -55,9 +56,12 @@ impl Aggregator {
         })
     }
 
-    /// Adds what a line says. A line that can't be added is sent at once, and so are the values of gauges before a
-    /// value of a gauge that isn't plain, and before a line that may set a gauge. Nothing else is sent, unless the kind has no room for one more context, a sum
-    /// would overflow or the values would pass the length of a line: then one line is.
+    /// Adds what a line says to what is held of its context. It sends a line in these cases only:
+    ///
+    /// - The line can't be added, because it is `Unclear` or `Other`, or the value of a gauge that doesn't begin with a
+    ///   digit: the line itself is sent. If it sets a gauge, or may set one, the held values of gauges are sent first.
+    /// - The line is of a new context, for which its kind has no room: the oldest context of this kind is sent.
+    /// - The sum would overflow, or the line of the values would be too long: the sum or the values so far are sent.
     ///
     /// # Errors
     /// `Refused` if the sink refused a line, and `OutOfMemory`. After an error the line is not added, and what was held
@@ -100,8 +104,8 @@ impl Aggregator {
         }
     }
 
-    /// Hands a line on at once, although it may be one that can be added. A line that sets a gauge, or may set one, comes
-    /// after the values of gauges that are held.
+    /// Sends a line at once, even if it is one that can be added. If the line sets a gauge, or may set one, the held
+    /// values of gauges are sent first.
     ///
     /// # Errors
     /// The error of the sink, if it did not take a line. Then this line is not added, and what was held is sent or
@@ -181,7 +185,8 @@ impl Aggregator {
         send_due_timings(&mut self.timings, &mut self.due.timings, sink)
     }
 
-    /// Sends one line for each context, and forgets it. The contexts that the last flush left come before all others.
+    /// Sends one line for each context, and forgets it. If the last flush failed, as many contexts of each kind as it
+    /// left come before all others, the oldest ones first.
     ///
     /// # Errors
     /// The error of the sink, if it did not take a line. The flush ends there, and what was not sent is still held.

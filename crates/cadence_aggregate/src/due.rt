@@ -1,7 +1,7 @@
 //! How many contexts are to be sent before all others.
 
-/// How many contexts of each kind the last flush left. They are the oldest ones of their kind, and the next flush sends
-/// them before all others.
+/// How many contexts of each kind the next flush sends before all others: as many as the last flush left. They are the
+/// oldest ones of their kind.
 #[derive(Clone, Copy)]
 pub struct Due {
     pub(crate) sums: usize,
@@ -14,7 +14,7 @@ impl Due {
     ghost use Rattle.std.specs.Prelude.{◌≡◌};
     ghost use Rattle.cadence_aggregate.specs.Held.{none_due};
 
-    /// Returns that no context is due.
+    /// Returns counts of 0: no context is due.
     pub(crate) fn none() -> Due
         ensures { result ≡ none_due }
     {

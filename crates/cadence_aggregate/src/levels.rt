@@ -91,7 +91,7 @@ fn begins_with_digit(value: &str) -> bool
     }
 }
 
-// Sets a gauge to a plain value.
+// Sets a gauge to a value that begins with a digit.
 fn hold_level<S: LineSink>(
     alloc: Global,
     levels: &mut LruCache<String, String>,
@@ -146,7 +146,7 @@ pub(crate) fn send_after<S: LineSink>(
     sink.send(line)
 }
 
-// Sets a gauge. If the value isn't plain, the values that are held are sent, and then this one.
+// Sets a gauge. If the value doesn't begin with a digit, the values that are held are sent, and then this one.
 pub(crate) fn set_level<S: LineSink>(
     alloc: Global,
     levels: &mut LruCache<String, String>,

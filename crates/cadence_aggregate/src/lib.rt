@@ -10,8 +10,8 @@
 //! - `levels`: the last values of gauges.
 //! - `members`: the members of sets.
 //! - `timings`: the values of timers, histograms and distributions.
-//! - `due`: how many contexts are to be sent before all others.
-//! - `aggregator`: all of them.
+//! - `due`: how many contexts the next flush sends before all others.
+//! - `aggregator`: the aggregator, which holds all of these.
 //! - `runs`: a run of lines and flushes.
 #![tactic(auto)]
 

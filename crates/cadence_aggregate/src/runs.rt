@@ -48,11 +48,11 @@ fn take_step<S: LineSink>(
     }
 }
 
-/// Runs lines and flushes, over any sink, which may refuse what it likes, and with any limits. Each step has a reply.
+/// Runs a list of lines and flushes with any limits, over any sink, which may refuse any line. Each step has a reply.
 ///
-/// A server knows the same from the lines that were sent, and those of what is still held, as from the accepted lines
-/// themselves, and they are no more. As many replies are `Refused` as the sink refused lines, modulo 2 to the 64. The
-/// only error is that memory ran out.
+/// A server learns the same from the lines that were sent, and then the lines of what is still held, as from the
+/// accepted lines themselves, and it gets no more lines. As many replies are `Refused` as the sink refused lines,
+/// modulo 2 to the 64. The only error is that memory ran out.
 pub fn run<S: LineSink>(
     alloc: Global,
     most: NonZeroUsize,

@@ -41,7 +41,7 @@ pub trait LineSink {
     /// How many lines it refused, modulo 2 to the 64.
     ghost refusals: { Self → ℕ };
 
-    /// What a sink promises of its states before and after some lines were given to it.
+    /// What a sink promises of its state before, and its state after, any number of lines were given to it.
     ghost leads: { Self → Self → Type 0 };
 
     /// Takes a line, or refuses it. Memory may run out, and then the sink neither took nor refused it.
@@ -51,9 +51,10 @@ pub trait LineSink {
         ensures refused { refusals self.new ≡ after_reply (refusals self.old) result }
         ensures leads { leads self.old self.new };
 
-    /// It is so of a state and itself, because no line may be given.
+    /// `leads` holds from each state to itself, because the number of lines may be 0.
     ghost leads_to_itself: { (s : Self) → leads s s };
 
-    /// It is so of the first and the last of three states, if it is so from each to the next.
+    /// If `leads` holds from a first state to a second one and from this one to a third, it holds from the first state
+    /// to the third.
     ghost leads_further: { (a b c : Self) → leads a b → leads b c → leads a c };
 }

@@ -180,8 +180,7 @@ fn port_or_default(variable: Variable, text: &str) -> Result<u16, EnvironmentErr
     }
 }
 
-// Makes the destination of two variables, a host and a port. The first parts are the variables, and the second ones their
-// texts.
+// Makes the destination from a host and a port, each given as a variable and the text of this variable.
 fn read_pair<A: Allocator>(
     alloc: A,
     host: (Variable, &str),

@@ -39,7 +39,7 @@ fn has_mark(text: &str) -> bool {
         .any(|byte| *byte == b',' || *byte == b'|' || *byte == b'\n')
 }
 
-// Adds the tag of a variable that says one tag's text, if the variable is set.
+// Adds the tag that a variable such as `DD_ENV` stands for, if the variable is set. Its text is the text of the tag.
 fn push_own<A: Allocator + Clone>(
     tags: &mut Tags<A>,
     key: &'static str,
@@ -79,7 +79,7 @@ fn tag_from(text: &str) -> Tag<'_>
     }
 }
 
-// Returns whether a variable of its own, which is set, says the tag of this key.
+// Returns whether the tag of this key has a variable of its own (`DD_ENV`, `DD_SERVICE` or `DD_VERSION`) that is set.
 fn has_own_variable(variables: &Variables<'_>, key: Option<&str>) -> bool
     ensures { result ≡ is_overridden variables.now (option_copied key.entry) }
 {
@@ -91,7 +91,7 @@ fn has_own_variable(variables: &Variables<'_>, key: Option<&str>) -> bool
         || (key == "version" && !variables.version.is_empty())
 }
 
-// Adds the tag of a piece of `DD_TAGS`, if the piece says one that no variable of its own says.
+// Adds the tag of a piece of `DD_TAGS`, unless the piece is empty or the tag has a variable of its own that is set.
 fn push_piece<A: Allocator + Clone>(
     tags: &mut Tags<A>,
     variables: &Variables<'_>,
@@ -141,7 +141,7 @@ fn split_pieces<A: Allocator>(alloc: A, text: &str) -> Result<Vec<&str, A>, Allo
     split_at_spaces(alloc, text)
 }
 
-// Adds the tags of pieces.
+// Adds the tag of each of these pieces of `DD_TAGS`, as `push_piece` does.
 fn push_pieces<A: Allocator + Clone>(
     tags: &mut Tags<A>,
     variables: &Variables<'_>,

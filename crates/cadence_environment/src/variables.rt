@@ -3,7 +3,7 @@
 use cadence_errors::Reason;
 use std::fmt;
 
-/// A variable of the environment. It prints what it wants.
+/// A variable of the environment. It prints as the text of an error: its name, and what it has to be.
 #[derive(Clone, Copy, Debug, PartialEq, Eq)]
 pub enum Variable {
     /// `DD_DOGSTATSD_URL`: the agent, as a URL.
@@ -46,9 +46,9 @@ impl Variable {
     }
 }
 
-/// Its message says what the variable wants.
+/// The message names the variable and says what it has to be.
 impl Reason for Variable {
-    // A description of an error holds each of these texts whole.
+    // None of these texts is longer than `MAX_DESCRIPTION`, so an error has the whole text.
     fn message(self) -> &'static str {
         match self {
             Variable::Url => "DD_DOGSTATSD_URL wants udp://HOST, udp://HOST:PORT or unix:///PATH",

@@ -1,4 +1,4 @@
--- What a caller gets of an answer that wasn't opened yet.
+-- The result that a caller gets when an answer is opened.
 use Rattle.std.specs.Prelude.{ℕ, Result, Ok, Err}
 use Rattle.cadence_errors.specs.declared.SinkError.{SinkError}
 

@@ -1,9 +1,9 @@
-//! The one body of `emit` and of `flush` of the library's own sinks.
+//! How the library's own sinks answer: the one body of their `emit`, and the one of their `flush`.
 //!
-//! A sink of the library doesn't answer a line by a number of its own. Its `emit_line`, or that of what the sink is made
-//! of, returns an answer that only the packer, the queue, or what counts the packets of its socket, can make. Nobody can
-//! let such an answer go, and only `emit_by` opens it. So an `emit_line` that does nothing, or writes a line twice,
-//! doesn't compile.
+//! A sink of the library can't make up what its `emit` returns. Its `emit_line`, or that of the part that does its
+//! work, returns an answer, which only the packer, the queue, the aggregator or the counts of a socket can make, while
+//! they take or refuse the line. The answer for a line that was taken has no `Drop`, so no code can let it go, and only
+//! `emit_by` can open it. So an `emit_line` that does nothing, or that writes a line twice, doesn't compile.
 ghost use Rattle.std.specs.Option.{ok_or};
 ghost use Rattle.std.specs.Prelude.{◌≡◌, List, ℕ, Result};
 ghost use Rattle.cadence_errors.specs.declared.SinkError.{SinkError};
@@ -34,17 +34,18 @@ pub trait Closed {
     fn close(self, by: Opener);
 }
 
-/// A sink of the library, or what it is made of. Its answers are made by what takes the line, and by nothing else.
+/// A sink of the library, or the part of one that does its work. Only what takes the line can make its answers: the
+/// packer, the queue, the aggregator or the counts of a socket.
 ///
-/// The error of a refused line is in `fault`, because a `Result` with an error in it is as wide as the widest error, and
-/// each function that passes one on copies all of it.
+/// The error of a refused line is in `fault`, because a `Result` with an error in it is as wide as the widest error,
+/// and each function that passes one on copies all of it.
 pub trait AnsweringSink: Drop {
     /// The answer for a line that was taken.
     type Took: Opened;
     /// The answer for a line that was refused.
     type Refused: Closed;
 
-    /// The results that a line may get.
+    /// The results that `emit_by` may return for a line.
     ghost may_answer: { Self → List ℕ → Result ℕ SinkError → Type 0 };
 
     /// What an answer for a line shows of the step that took or refused the line. By default it shows nothing.
@@ -56,14 +57,15 @@ pub trait AnsweringSink: Drop {
         ensures shows { shows self.now line.now result fault.new };
 }
 
-/// A sink of the library that holds text, or what it is made of. The answer for a flush is made by what holds the text, and by nothing else.
+/// A sink of the library that holds text, or the part of one that does its work. Only what holds the text can make the
+/// answer for a flush.
 pub trait AnsweringFlush: Drop {
     /// The answer for a flush that succeeded.
     type Flushed: Closed;
     /// The answer for a flush that failed.
     type Unflushed: Closed;
 
-    /// The results that a flush may get.
+    /// The results that `flush_by` may return.
     ghost may_flush: { Self → Result (Unit {0}) SinkError → Type 0 };
 
     /// What an answer for a flush shows of the flush. By default it shows nothing.
@@ -75,11 +77,11 @@ pub trait AnsweringFlush: Drop {
         ensures shows { shows_flush self.now result fault.new };
 }
 
-/// Gives a line to a sink of the library, and returns what its answer says. After an error that is `None`, and the error
-/// is in `fault`. Each sink of the library calls this in its `emit`. Only these results are answered, in the sense of
-/// `IsAnswered`, so none of these sinks can answer by itself.
-// Each sink has an `impl` of `MetricSink` of its own over these two functions. One `impl` for all of them can't make a
-// box of a sink that is dropped by code.
+/// Gives a line to a sink of the library, and returns how many of its bytes were taken, as the sink's answer says.
+/// After an error it returns `None`, and `fault` has the error. Each sink of the library calls this in its `emit`. Only
+/// the results of this call meet `IsAnswered`, so the `emit` of such a sink can't return a result of its own.
+// Each sink has an `impl` of `MetricSink` of its own over these two functions. With one `impl` for all of them, a sink
+// that implements `Drop` by code can't be put in a box.
 #[inline(always)]
 pub fn emit_by<S: AnsweringSink>(sink: &S, line: &str, fault: &mut SinkError) -> Option<usize>
     ensures may { S.may_answer sink.now line.now (ok_or result fault.new) }
@@ -95,8 +97,9 @@ pub fn emit_by<S: AnsweringSink>(sink: &S, line: &str, fault: &mut SinkError) ->
     }
 }
 
-/// Flushes a sink of the library, and returns what its answer says, as `emit_by` does for a line. Each sink of the
-/// library that holds text calls this in its `flush`.
+/// Flushes a sink of the library. After an error it returns `None`, and `fault` has the error. Each sink of the library
+/// that holds text calls this in its `flush`. Only the results of this call, and of the default `flush` of a sink that
+/// holds no text, meet `IsFlushAnswered`.
 pub fn flush_by<S: AnsweringFlush>(sink: &S, fault: &mut SinkError) -> Option<()>
     ensures may { S.may_flush sink.now (ok_or result fault.new) }
     ensures answered { IsFlushAnswered (ok_or result fault.new) }

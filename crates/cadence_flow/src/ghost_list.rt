@@ -11,7 +11,7 @@ pub struct GhostList<T> {
     pub ghost items: { List T },
 }
 
-// A derived drop would want values that can be dropped.
+// A derived `Drop` would require that the values can be dropped.
 impl<T> Drop for GhostList<T> {
     fn drop(self) {
         let GhostList { of: _ } = self;

@@ -8,7 +8,7 @@ pub type SinkErrorHandler<A = Global> = Box<dyn Fn(SinkError) + Send + Sync, A>;
 
 /// Stores a closure that may be called at any time.
 // `BoxedErrorHandler` of the crate `cadence` is the same struct for a `MetricError`. They aren't one struct with the
-// type of the error as a parameter, because the check "cannot state an item with a field whose function pointer or
+// type of the error as a parameter, because the checker "cannot state an item with a field whose function pointer or
 // `dyn` type names a type parameter yet".
 #[derive(Drop)]
 pub struct Handler<A: Allocator = Global> {

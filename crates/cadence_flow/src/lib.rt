@@ -1,6 +1,6 @@
-//! What lines flow through, below the sinks themselves: the trait of all sinks and their answers, the packer with a record of
-//! its past, the counts of a socket, and how a lock is taken. A record exists in proofs only: it costs neither memory nor
-//! time.
+//! What lines flow through, below the sinks themselves: the trait of all sinks and their answers, the packer with a
+//! record of its past, the counts of a socket, and how a lock is taken. A record exists in proofs only: it costs
+//! neither memory nor time.
 //!
 //! - `io`: the packer, the writers of packets below it, and a writer that keeps its packets
 //! - `stats`: sums of bytes and packets, and the counts of a socket, which are such sums under a lock

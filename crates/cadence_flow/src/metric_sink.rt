@@ -9,8 +9,8 @@ use std::alloc::Allocator;
 
 /// Takes lines and sends them somewhere. A line has no newline at its end.
 ///
-/// An impl states which results a line may get and which results a flush may get. The results of a flush have to
-/// include `Ok(())`, because that is what the default `flush` returns.
+/// An impl states which results `emit` may return for a line, and which results `flush` may return. Those of `flush`
+/// have to include `Ok(())`, because that is what the default `flush` returns.
 ///
 /// ```text
 /// impl MetricSink for MySink {
@@ -24,14 +24,15 @@ use std::alloc::Allocator;
 /// }
 /// ```
 pub trait MetricSink: Drop {
-    /// The results that a line may get.
+    /// The results that `emit` may return for a line.
     ghost may_answer: { Self → List ℕ → Result ℕ SinkError → Type 0 };
 
-    /// The results that a flush may get. By default a flush can't fail.
+    /// The results that `flush` may return. By default a flush can't fail.
     ghost may_flush: { Self → Result (Unit {0}) SinkError → Type 0 } = { λ _ r. IfErr r (λ _. ⊥) };
 
-    /// A flush may succeed if the sink holds no text. Only the default `flush` has the premise, so one that passes on
-    /// the result of another sink has to flush that sink.
+    /// States that a flush may return `Ok(())` if the sink holds no text (`NothingIsHeld`). Only the default `flush`
+    /// can show that no text is held. So the `flush` of a sink that wraps another one has to call the `flush` of that
+    /// one.
     ghost flush_may_succeed: { (s : Self) → NothingIsHeld → may_flush s (Ok tt) };
 
     /// Takes a line, and returns how many of its bytes the sink took, or why it refused the line.

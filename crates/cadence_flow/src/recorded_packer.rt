@@ -72,8 +72,8 @@ impl<W: PacketWriter, A: Allocator> RecordedPacker<W, A> {
         }
     }
 
-    /// Writes a line that doesn't fit beside the held text, as `LineBuffer::write_late` does, and adds it to the record
-    /// if it was accepted.
+    /// Writes a line that doesn't fit into the room that the held text leaves, as `LineBuffer::write_late` does, and
+    /// adds it to the record if it was accepted.
     pub fn write_late(
         &mut self,
         line: &[u8],
@@ -152,7 +152,7 @@ impl<W: PacketWriter, A: Allocator> RecordedPacker<W, A> {
     }
 }
 
-/// The packer took a line.
+/// The answer of a packer that took a line.
 pub struct Packed<P> {
     bytes: usize,
     returned: Snapshot<usize>,
@@ -160,14 +160,14 @@ pub struct Packed<P> {
     after: Snapshot<P>,
 }
 
-/// The packer refused a line, or a flush of it failed.
+/// The answer of a packer that refused a line, or whose flush failed.
 pub struct Refused<P> {
     why: Snapshot<SinkError>,
     before: Snapshot<P>,
     after: Snapshot<P>,
 }
 
-/// The packer was flushed, and holds nothing.
+/// The answer of a packer that was flushed, and that holds nothing.
 pub struct Flushed<P> {
     before: Snapshot<P>,
     after: Snapshot<P>,
@@ -176,9 +176,9 @@ pub struct Flushed<P> {
 impl<P> Packed<P> {
     ghost use Rattle.cadence_flow.specs.Packed.{after_of, before_of, bytes_of, returned_of};
 
-    /// Returns the same answer with this number of bytes for the caller. It is for a sink that stores the capacity of
-    /// its packer beside the lock, where no clause ties it to the packer's own: the sink returns the length of a line
-    /// that fits by this capacity.
+    /// Returns the same answer with this number of bytes for the caller. It is for a sink that stores a copy of its
+    /// packer's capacity outside the lock, because no contract can say that both are equal. For a line that fits this
+    /// copy, such a sink answers the length of the line.
     pub fn with_bytes(self, bytes: usize) -> Self
         ensures bytes { bytes_of result ≡ bytes }
         ensures same { (returned_of result ≡ returned_of self)
@@ -237,7 +237,7 @@ impl<W, A: Allocator> Packed<RecordedPacker<W, A>> {
     ghost use Rattle.cadence_flow.specs.RecordedPacker.{accepted_of, packer_of};
     ghost use Rattle.cadence_flow.specs.RecordedWriter.{offers_of};
 
-    /// Both states of the answer meet the facts of every `RecordedPacker`. The call does nothing.
+    /// States that both states of the answer meet the facts of every `RecordedPacker`. Does nothing when it is called.
     pub fn meets_the_record(&self)
         ensures before { let p = packer_of (before_of self.now) in
             bytes_taken (offers_of p.writer) ++ p.held

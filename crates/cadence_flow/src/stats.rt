@@ -212,12 +212,13 @@ impl<R: Wait + Clone + Drop, A: Allocator + Clone> Clone for SocketStats<R, A> {
     }
 }
 
-/// A socket took a line, and that was counted. It can't be let go.
+/// The answer for a line that a socket took, after it was counted. It can't be let go, because its type has no `Drop`.
 pub struct Sent {
     bytes: usize,
 }
 
-/// A socket refused a line, and that was counted. It can't be let go.
+/// The answer for a line that a socket refused, after it was counted. It can't be let go, because its type has no
+/// `Drop`.
 pub struct Dropped {
     of: (),
 }

@@ -2,8 +2,8 @@
 use std::thread::Threads;
 use std::{io, thread};
 
-/// Work for a thread of its own. One part of what the work needs is not in the job, but is an argument of `run`,
-/// because the check doesn't find that a thread may own a job whose type has a handler inside.
+/// Work for a thread of its own. One part of what the work needs, such as an error handler, is not in the job but is an
+/// argument of `run`, because the checker can't see that a thread may own a job whose type has a handler inside.
 pub trait Job<P>: Drop {
     /// Does the work. The thread ends when this returns.
     fn run(self, part: P);

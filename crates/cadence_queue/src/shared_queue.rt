@@ -19,9 +19,10 @@ use std::alloc::{AllocError, Allocator, Global};
 use std::snapshot::Snapshot;
 use std::sync::{Condvar, Mutex, MutexGuard, Wait};
 
-/// How many turns of an empty loop a caller waits that finds the queue full. More turns let more lines in, and a burst
-/// takes longer. It doesn't let other threads run: on a busy machine that takes milliseconds. The number was chosen by
-/// measurement. It decides how fast a caller is, and nothing else: no contract speaks of it.
+/// How many turns of an empty loop a caller waits if it finds the queue full. With more turns the queue accepts more
+/// lines, but a burst takes longer. The caller doesn't yield to other threads, because on a busy machine a yield takes
+/// milliseconds. The number was chosen by measurement. It decides how fast a caller is, and nothing else: no contract
+/// speaks of it.
 const TURNS_TO_GIVE_WAY: u32 = 20;
 
 /// A queue of texts under a lock, which threads share by reference. Each call takes the lock and does one step of a
@@ -30,7 +31,7 @@ const TURNS_TO_GIVE_WAY: u32 = 20;
 ///
 /// `offer` and the calls whose names end in `_shown` also show, in proofs, the states of the queue between which they made
 /// their step. No call lets a text go, so none loses one under the lock: a text may be of a type that can't be dropped.
-/// `M` is the type of the memory of a text that was handed on already, which `offer` lends to a later text.
+/// `M` is the type of a text that the worker is done with: `offer` reuses its memory for a later text.
 #[derive(Drop)]
 pub struct SharedQueue<T, A: Allocator = Global, M = T> {
     pub(super) state: Mutex<UnderLock<T, A, M>>,
@@ -88,9 +89,9 @@ impl<T, A: Allocator, M> SharedQueue<T, A, M> {
     }
 
     /// Returns why this queue refused a text.
-    // A contract can't say that the capacity under the lock is the one outside. So if there is none outside, a refusal
-    // that says that the queue is full, which no run reaches, counts as one for want of memory. That is how the contracts
-    // can promise that a queue without a capacity is never full.
+    // A queue without a capacity is never full. But a contract can't state that the capacity under the lock is the one
+    // outside it, so for the checker such a queue may be full. Therefore a queue without a capacity returns `Full` as
+    // `OutOfMemory`, which no run does, and the contracts can promise that it is never full.
     pub fn why(&self, refusal: &Refusal<T, A>) -> QueueError
         ensures reason { bound_of self.now ≢ None → result ≡ why_refused refusal.now }
         ensures refusal { IsQueueRefusal (error_of result) }
@@ -196,8 +197,8 @@ impl<T, A: Allocator, M> SharedQueue<T, A, M> {
     }
 
     // Releases the lock of a full queue for a moment, so that the worker can take it, and then takes it again. A caller
-    // that asks a full queue again and again would otherwise keep the lock from the worker, which wants to empty it. It is
-    // a function of its own, so that `enter` is short enough to be inlined.
+    // that asks a full queue again and again would otherwise keep the lock from the worker, which has to empty the
+    // queue. It is a function of its own, so that `enter` is short enough to be inlined.
     #[cold]
     fn enter_late<'a>(
         &'a self,

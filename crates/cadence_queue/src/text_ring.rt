@@ -61,7 +61,7 @@ impl<T, A: Allocator + Clone> TextRing<T, A> {
             None => {
                 let alloc = self.alloc.clone()?;
                 let block = HeapCircularBuffer::with_capacity(alloc, LEAST_ROOM)?;
-                // an assignment would drop the block of before, and a block of texts may have no drop
+                // an assignment would drop the old block, and a block of texts may have no `Drop`
                 match mem::replace(&mut self.block, Some(block)) {
                     None => Ok(()),
                     Some(_block) => unreachable!(),
@@ -70,8 +70,8 @@ impl<T, A: Allocator + Clone> TextRing<T, A> {
         }
     }
 
-    /// Makes room for one more text, if there is none. A ring with room left takes no memory, and a full one doubles its
-    /// room. If memory runs out, the ring has not changed.
+    /// Makes room for one more text, if there is none. A ring with room left takes no memory. A full one doubles its
+    /// room, and gets room for at least 8 texts. If memory runs out, the ring has not changed.
     pub fn reserve(&mut self) -> Result<(), AllocError>
         ensures items { self.new.items ≡ self.old.items }
         ensures room { OnOk result (length self.new.items < self.new.capacity) }

@@ -70,7 +70,7 @@ impl<T, A: Allocator, M: Drop> UnderLock<T, A, M> {
     }
 }
 
-/// A queue accepted a text.
+/// The answer of a queue that accepted a text.
 pub struct Accepted<T, A: Allocator = Global> {
     pub(super) dropped: Option<T>,
     pub(super) text: Snapshot<T>,
@@ -127,7 +127,7 @@ impl<T: Drop, A: Allocator> Opened for Queued<T, A> {
     }
 }
 
-/// A queue refused a text.
+/// The answer of a queue that refused a text.
 pub struct Refusal<T, A: Allocator = Global> {
     pub(super) why: QueueError,
     pub(super) at: Snapshot<QueueCore<T, A>>,
@@ -181,7 +181,7 @@ impl<T, A: Allocator> Took<T, A> {
     }
 }
 
-/// A queue was stopped.
+/// The answer to a stop of a queue: the states before and after it.
 pub struct Stopped<T, A: Allocator = Global> {
     pub(super) before: Snapshot<QueueCore<T, A>>,
     pub(super) after: Snapshot<QueueCore<T, A>>,
@@ -198,7 +198,7 @@ impl<T, A: Allocator> Drop for Stopped<T, A> {
     }
 }
 
-/// A handle of a queue was dropped.
+/// The answer to the drop of a handle of a queue: the states before and after it.
 pub struct Left<T, A: Allocator = Global> {
     pub(super) before: Snapshot<QueueCore<T, A>>,
     pub(super) after: Snapshot<QueueCore<T, A>>,
@@ -215,7 +215,7 @@ impl<T, A: Allocator> Drop for Left<T, A> {
     }
 }
 
-/// A queue has come to its end.
+/// The state of a queue that has come to its end.
 pub struct End<T, A: Allocator = Global> {
     pub(super) at: Snapshot<QueueCore<T, A>>,
     /// In this state the queue was stopped, and no text waited.

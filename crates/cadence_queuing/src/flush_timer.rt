@@ -104,7 +104,7 @@ impl FlushTimer {
     }
 
     /// Returns how long a worker waits for lines at this time, before it tries a flush again that failed: the rest of
-    /// the period, but at least one millisecond, also if the period is 0 or the clock couldn't be read.
+    /// the period, but at least one millisecond, even if the period is 0 or the clock couldn't be read.
     pub fn wait_before_retry(&self, now: Option<Instant>) -> Duration
         ensures { IsRetryWait self.now.period self.now.last now result }
     {

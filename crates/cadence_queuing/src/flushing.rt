@@ -24,7 +24,7 @@ impl<S: MetricSink> PeriodicWork for FlushWork<S> {
 }
 
 /// A sink that passes each call on to the wrapped sink, and whose thread flushes that one after each period. So no line
-/// waits longer in the wrapped sink's buffer, also if no more lines come. A `QueuingMetricSink` with a period needs no
+/// waits longer in the wrapped sink's buffer, even if no more lines come. A `QueuingMetricSink` with a period needs no
 /// second thread for this.
 ///
 /// The drop stops the thread and doesn't wait for it. It also flushes the wrapped sink, drops the error of this flush,
@@ -46,7 +46,7 @@ impl<
     A: Allocator + Clone + Send + Sync + 'static,
 > FlushingMetricSink<S, R, A> {
     /// Makes the sink and starts its thread. A period below one millisecond counts as one millisecond. The errors of
-    /// the thread's flushes are dropped. The errors are `OutOfMemory`, and `Io` if the thread can't be started. The
+    /// the thread's flushes are dropped. This call returns `OutOfMemory`, or `Io` if the thread can't be started. The
     /// wrapped sink is dropped then.
     pub fn new(rt: R, alloc: A, sink: S, period: Duration) -> MetricResult<Self>
         ensures wrapped { IfOk result (λ f. flushed_sink f ≡ sink) }

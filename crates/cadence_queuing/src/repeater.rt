@@ -56,7 +56,7 @@ impl<W: PeriodicWork, A: Allocator + Clone> SharedWork<W, A> {
     }
 }
 
-// What the thread needs beside the handler.
+// What the thread needs besides the handler.
 #[derive(Drop)]
 struct Thread<W: PeriodicWork, R: Wait + Clock + Drop, A: Allocator> {
     rt: R,
@@ -88,7 +88,7 @@ impl<
     A: Allocator + Clone + Send + Sync + 'static,
 > Repeater<W, R, A> {
     /// Starts the thread. A period below one millisecond counts as one millisecond. The handler receives the errors of
-    /// the work in the thread, while no lock is held. The errors are `OutOfMemory`, and `Io` if the thread can't be
+    /// the work in the thread, while no lock is held. This call returns `OutOfMemory`, or `Io` if the thread can't be
     /// started. The work is dropped then.
     pub fn start(
         rt: R,

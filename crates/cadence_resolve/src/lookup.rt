@@ -52,8 +52,8 @@ pub struct TargetLookup<R: Net + Drop, A: Allocator + Clone> {
 impl<R: Net + Drop, A: Allocator + Clone> TargetLookup<R, A> {
     ghost use Rattle.cadence_resolve.specs.Lookups.{IsLookedUp};
 
-    /// Returns the address that the target has now, if it has any. The errors are `OutOfMemory`, and for a host's name also `Io`
-    /// if the lookup fails.
+    /// Returns the address that the target has now, if it has any. The errors are `OutOfMemory`, and for a host's name
+    /// also `Io` if the lookup fails.
     pub fn addresses(&self) -> Lookup<A>
         ensures { IsLookedUp self.now.target result }
     {

@@ -65,7 +65,9 @@ pub enum CallOption<A: Allocator = Global> {
 pub struct Call<A: Allocator = Global> {
     /// The name of the metric. The prefix of the client comes before it.
     pub key: String<A>,
+    /// The value, which also decides the kind of the metric.
     pub value: CallValue<A>,
+    /// The options, in the order in which they apply.
     pub options: Vec<CallOption<A>, A>,
 }
 

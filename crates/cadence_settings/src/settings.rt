@@ -289,8 +289,8 @@ impl<A: Allocator + Clone> ClientSettings<A> {
     /// # Errors
     /// An error of kind `InvalidInput` if and only if a duration of the call passes `u64::MAX` in the unit of its kind
     /// (`u64 overflow`), which is milliseconds for a timer and nanoseconds for a histogram, or the settings are strict
-    /// and a text of the call has a separator (`separator in a text`). The first one counts if both are so. Otherwise the
-    /// only error is `SinkError::OutOfMemory`.
+    /// and a text of the call has a separator (`separator in a text`). If both are true, the error is the first one.
+    /// Otherwise the only error is `SinkError::OutOfMemory`.
     pub fn line_of<'a>(&'a self, call: &'a Call<A>) -> MetricResult<String<A>>
         ensures line { IfOk result (λ line.
             line_of_data self.now call.now ≡ Some (string_bytes line)) }

@@ -1,4 +1,4 @@
-//! What the sinks over UDP and over Unix sockets share: the counts of a socket, and a buffer with its lock over one.
+//! What the sinks over UDP and over Unix sockets share: a socket with its counts, and a buffer under a lock over one.
 ghost use Rattle.std.specs.Option.{ok_or};
 ghost use Rattle.std.specs.Prelude.{◌≡◌, [], Bool, IfOk, length};
 ghost use Rattle.cadence_errors.specs.Errors.{MayOnlyRunOutOfMemory};
@@ -24,9 +24,10 @@ pub trait DatagramSocket: Drop {
     /// The errors that the socket may return.
     ghost may_give: { SinkError → Bool };
 
-    /// Sends a packet, and returns how many of its first bytes were taken, which has to be counted before anyone reads
-    /// it. After an error it is `None`, and the error is in `fault`. A `Result` in its place would be as wide as the
-    /// widest error, and each function that passes one on copies all of it.
+    /// Sends a packet. The answer has the number of the packet's first bytes that the socket took, or `None` after an
+    /// error, which is in `fault` then. Nobody can read the answer before it was counted, by `SinkStats::count`. A
+    /// `Result` in its place would be as wide as the widest error, and each function that passes one on copies all of
+    /// it.
     fn send(&self, packet: &[u8], fault: &mut SinkError) -> Unread
         ensures answer { IsSocketAnswer may_give packet.now (ok_or (count_taken result) fault.new) }
         ensures len { len_of result ≡ length packet.now };
@@ -170,7 +171,7 @@ impl<D: DatagramSocket, R: Wait + Drop, A: Allocator> PackedSocket<D, R, A> {
 
     // Takes a line that doesn't fit into the free room of the buffer. It is a function of its own, so that the first
     // case of `emit_line` is short. A line that fits into an empty buffer is never cut, so its answer has the line's
-    // length; but no clause ties the capacity beside the lock to that of the packer under it.
+    // length; but no clause ties the capacity outside the lock to that of the packer under it.
     fn emit_late(
         &self,
         lines: &mut SocketLines<D, R, A>,

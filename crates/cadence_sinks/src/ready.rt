@@ -1,5 +1,5 @@
-//! Sinks over UDP with sockets of their own, made from a runtime, an allocator and a target. The sockets never wait: if the
-//! system can't take a packet at once, the error is `Io` of the kind `WouldBlock`.
+//! Sinks over UDP with sockets of their own, made from a runtime, an allocator and a target. The sockets never wait: if
+//! the system can't take a packet at once, the error is `Io` of the kind `WouldBlock`.
 //! A host's name is looked up again by a thread, as the head of `cadence::ready` says.
 ghost use Rattle.std.specs.Prelude.{◌≡◌, ◌≤◌, false, IfOk, IfErr, is_some};
 ghost use Rattle.cadence_resolve.specs.Refusals.{IsSocketRefusal};
@@ -56,11 +56,11 @@ fn lookups_for<A: Allocator>(target: &Target<A>) -> UdpMetricSinkBuilder
     }
 }
 
-/// Makes a `UdpMetricSink` with a socket of its own. It sends to the first address of IPv4 that the target has, or if there
-/// is none to its first address. A name is looked up again, as the head of `cadence::ready` says.
+/// Makes a `UdpMetricSink` with a socket of its own. It sends to the first address of IPv4 that the target has, or to
+/// its first address if it has none of IPv4. A name is looked up again, as the head of `cadence::ready` says.
 ///
-/// The errors are `SinkError::Io` if the lookup fails, or if the socket can't be made or the thread not started, the kind
-/// `InvalidInput` if the name has no address, and `SinkError::OutOfMemory`.
+/// The errors are `SinkError::Io` if the lookup fails, the socket can't be made or the thread can't be started, the
+/// kind `InvalidInput` if the name has no address, and `SinkError::OutOfMemory`.
 pub fn udp_sink<R: Runtime, A: Allocator + Clone + Send + Sync + 'static>(
     rt: &R,
     alloc: A,

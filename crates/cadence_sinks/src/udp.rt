@@ -131,9 +131,9 @@ impl UdpMetricSinkBuilder {
         }
     }
 
-    /// Lets a thread look the target up again after each period, and after a refused packet, but then only when a second
-    /// has passed. The thread sleeps in between. A period below one millisecond counts as one millisecond. The drop of the sink wakes the thread, which then ends after one more
-    /// lookup at the latest.
+    /// Lets a thread look the target up again after each period. After a refused packet it does so earlier, as soon as
+    /// a second has passed since the last lookup. The thread sleeps in between. A period below one millisecond counts
+    /// as one millisecond. The drop of the sink wakes the thread, which then ends after one more lookup at the latest.
     pub fn with_resolver_period(mut self, period: Duration) -> Self
         ensures period { period_of result ≡ Some period }
         ensures handler { lookup_handler_of result ≡ lookup_handler_of self }
@@ -184,9 +184,9 @@ impl UdpMetricSinkBuilder {
 /// socket took 0 bytes of the held text; what the socket didn't take stays held. The counts include each call of the
 /// socket. The sink keeps the runtime `R`, whose locks it takes. Its drop stops the lookups, and doesn't wait for them.
 ///
-/// A datagram holds at most 65,507 bytes over IPv4, and 65,527 over IPv6. With a larger capacity the system refuses the
-/// held text for its size (`EMSGSIZE`) as soon as it is longer. The text stays held, and so each later line is refused
-/// too. No capacity is refused for that, except by the ready-made sinks.
+/// A datagram holds at most 65,507 bytes over IPv4, and 65,527 over IPv6. With a larger capacity the held text can
+/// become longer than that. Then the system refuses it for its size (`EMSGSIZE`) at each flush. It stays held, so each
+/// later line for which the buffer has no room is refused too. Only the ready-made sinks refuse such a capacity.
 ///
 /// ```text
 /// let sink = BufferedUdpMetricSink::with_capacity(rt.clone()?, alloc, target, socket, 1432)?;

@@ -99,9 +99,9 @@ impl<P: PathSocket, R: Wait + Drop, A: Allocator> MetricSink for UnixMetricSink<
 /// the socket. The sink keeps the runtime `R`, whose locks it takes.
 ///
 /// A Unix datagram holds as many bytes as the send buffer of its socket, less 32: on Linux 212,960, unless
-/// `net.core.wmem_default` says otherwise. With a larger capacity the system refuses the held text for its size
-/// (`EMSGSIZE`) as soon as it is longer. The text stays held, and so each later line is refused too. No capacity is
-/// refused for that, except by the ready-made sinks, which take at most 65,507 bytes.
+/// `net.core.wmem_default` says otherwise. With a larger capacity the held text can become longer than that. Then the
+/// system refuses it for its size (`EMSGSIZE`) at each flush. It stays held, so each later line for which the buffer
+/// has no room is refused too. Only the ready-made sinks refuse a capacity: one of more than 65,507 bytes.
 ///
 /// ```text
 /// let sink = BufferedUnixMetricSink::from(rt.clone()?, alloc, "/run/statsd.sock", socket)?;

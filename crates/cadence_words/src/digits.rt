@@ -45,7 +45,8 @@ fn trim_both<'a>(whole: &'a [u8], fraction: &'a [u8]) -> Significant<'a>
     }
 }
 
-// Returns the decimal of a number with these zeros after it, divided by a power of ten.
+// Returns the decimal `size` times 10 to the power of `raised`, divided by 10 to the power of `lowered`, with a minus
+// if `is_below`. Returns `None` if no `Decimal` is that number. `size` doesn't end in a zero, unless it is 0.
 fn scaled(is_below: bool, size: u128, raised: u128, lowered: u128) -> Option<Decimal>
     requires { size % 10 ≡ 0 → size ≡ 0 }
     ensures { Finds (λ n. IsDecimal n

@@ -116,7 +116,11 @@ fn whole_decimal(count: u64) -> Option<Decimal>
     Decimal::new(i128::from(count), 0).ok()
 }
 
-/// Returns the value, for this kind of metric, of the duration that a word says. Takes no memory.
+/// Returns the value that the duration in a word has for this kind of metric: whole milliseconds for a timer, and
+/// nanoseconds for a histogram. Takes no memory.
+///
+/// Returns `None` if the word is no duration, if the kind takes none, or if the value is not whole or does not fit 64
+/// bits.
 pub fn read_duration(kind: MetricType, word: &[u8]) -> Option<Decimal>
     ensures { Finds (IsDurationWord kind word.now) result }
 {

@@ -155,8 +155,8 @@ fn write_line<A: Allocator + Clone>(
 /// command line adds its defaults. The caller can use one buffer for many lines, and so save memory requests.
 ///
 /// # Errors
-/// `Unusable` if the words ask for no metric, and `OutOfMemory`. If a tag is unreadable or memory runs out, the
-/// buffer is empty afterwards, and its memory is freed.
+/// `Unusable` if the words ask for no metric, and `OutOfMemory`. If a tag is unreadable or memory runs out for the
+/// line, the buffer is empty afterwards, and its memory is freed. After any other error the buffer is unchanged.
 pub fn write_line_of_words<A: Allocator + Clone>(
     alloc: &A,
     defaults: &Defaults<A>,
@@ -206,8 +206,8 @@ fn write_line_of_str<A: Allocator + Clone>(
 /// separated by spaces, and the command line adds its defaults.
 ///
 /// # Errors
-/// `Unusable` if the text asks for no metric, and `OutOfMemory`. If a tag is unreadable or memory runs out, the
-/// buffer is empty afterwards, and its memory is freed.
+/// `Unusable` if the text asks for no metric, and `OutOfMemory`. If a tag is unreadable or memory runs out for the
+/// line, the buffer is empty afterwards, and its memory is freed. After any other error the buffer is unchanged.
 pub fn write_line_of_text<A: Allocator + Clone>(
     alloc: &A,
     defaults: &Defaults<A>,

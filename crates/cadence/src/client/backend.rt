@@ -26,7 +26,7 @@ pub trait MetricBackend: Sealed {
     /// The prefix and the defaults that it adds to each call.
     ghost settings: { Self → Settings };
 
-    /// The results of its sink that a line may get.
+    /// The results that its sink may return for a line.
     ghost line_may_get: { Self → List ℕ → Result ℕ SinkError → Type 0 };
 
     /// Sends the text of a metric to the sink, without a prefix or defaults. The error is the sink's, as

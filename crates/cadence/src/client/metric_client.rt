@@ -43,7 +43,7 @@ pub trait MetricClient: MetricBackend
     + Distributed<Vec<Decimal, <Self as MetricBackend>::Memory>>
     + Setted<i64> {}
 
-// The bounds are repeated here, because the check finds no impl of such a trait for a type parameter.
+// The bounds are repeated here, because the checker finds no impl of such a trait for a type parameter.
 impl<C> MetricClient for C
 where
     C: MetricBackend

@@ -25,6 +25,7 @@ use std::marker::{Model, PhantomData};
 
 /// A metric that can be sent. A caller may implement it on types of its own.
 pub trait Metric {
+    /// The text of the metric: one line, without a newline at its end.
     ghost metric_text: { Self → List ℕ };
 
     /// Returns the text, as it is sent to a sink.

@@ -46,7 +46,7 @@ fn builder_with<A: Allocator + Clone, B: Allocator, S: MetricSink>(
     builder
 }
 
-/// What an `Environment` has beside its own methods: the builders of clients.
+/// Adds a method to `Environment` that returns the builder of a client with the tags of the environment.
 ///
 /// ```text
 /// let environment = Environment::read(&(rt, alloc))?;

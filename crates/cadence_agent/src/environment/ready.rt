@@ -18,8 +18,9 @@ use std::env::Env;
 const UNIX_CAPACITY: usize = 8192;
 
 /// Makes a buffered sink with a socket of its own to this destination. Its buffer has 512 bytes for UDP, and 8192 for a
-/// Unix socket, which are as many as the agent reads at once unless it is configured otherwise. A host's name is looked up
-/// again, as the head of `cadence::ready` says; each packet to a path finds the socket that is bound there then.
+/// Unix socket, which are as many as the agent reads at once unless it is configured otherwise. A host's name is looked
+/// up again, as the head of `cadence::ready` says. A path is looked up for each packet, so a packet goes to the socket
+/// that is bound to the path when it is sent.
 ///
 /// The errors are those of `buffered_udp_sink` or of `buffered_unix_sink`.
 pub fn sink_to<R: Runtime, A: Allocator + Clone + Send + Sync + 'static, B: Allocator>(

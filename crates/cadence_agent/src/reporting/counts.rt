@@ -81,8 +81,8 @@ impl SinkCounts {
         }
     }
 
-    /// Takes a growth back: its number is subtracted from its count, modulo 2 to the 64. So the count's growth after these
-    /// counts is greater by this number.
+    /// Takes a growth back: subtracts its number from its count, modulo 2 to the 64. So the growth of this count since
+    /// these counts is greater by this number.
     pub fn take_back(&mut self, growth: Growth)
         ensures { self.new ≡ without_growth self.old growth }
     {

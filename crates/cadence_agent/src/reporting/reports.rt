@@ -20,7 +20,7 @@ use std::sync::{Mutex, Wait};
 struct Reported {
     // The counts of the sink that were reported.
     counts: SinkCounts,
-    // How often counts were noted here, modulo 2 to the 64.
+    // How often counts were stored here, modulo 2 to the 64.
     notes: u64,
 }
 
@@ -75,8 +75,9 @@ impl<S: MetricSink, A: Allocator + Clone> Reports<S, A> {
         answer
     }
 
-    // Returns by how much the counts grew since the last report, and notes them as reported. It reads the counts without
-    // the lock, and reads them again if another report noted some meanwhile, because those may be later ones.
+    // Returns by how much the counts grew since the last report, and stores them as reported. It reads the counts
+    // without the lock. If another report stored counts meanwhile, it reads them again, because the stored ones may be
+    // newer.
     fn take_growths<R: Wait>(&self, rt: &R) -> Result<Vec<Growth, A>, AllocError> {
         for _ in rt.forever() {
             let notes = self.reported.lock(rt).notes;
@@ -118,8 +119,8 @@ impl<S: MetricSink, A: Allocator + Clone> Reports<S, A> {
 }
 
 impl<S: MetricSink, A: Allocator + Clone> PeriodicWork for Reports<S, A> {
-    /// Sends a counter for each count that grew since the last report. What a counter couldn't report stays for the next
-    /// report. The error is that of the last counter that failed, or that memory ran out for the list of counters.
+    /// Sends a counter for each count that grew since the last report. If a counter isn't sent, the next report adds
+    /// its number. The error is that of the last counter that failed, or that memory ran out for the list of counters.
     fn do_once<R: Wait>(&self, rt: &R) -> Result<(), SinkError> {
         let growths = self.take_growths(rt)?;
         let mut answer = Ok(());

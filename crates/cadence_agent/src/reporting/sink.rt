@@ -14,16 +14,18 @@ use std::sync::Wait;
 use std::thread::Threads;
 use std::time::{Clock, Duration};
 
-/// A sink that passes each call on to the wrapped sink, and whose thread sends after each period, over the wrapped sink,
-/// by how much these counts grew since its last report: the counters `bytes_sent`, `packets_sent`, `bytes_dropped`,
-/// `packets_dropped` (of `stats`), `lines_dropped` (of `dropped_lines`) and `lines_refused`, each after the prefix and a
-/// dot. `lines_refused` counts the lines of callers for which the wrapped sink's `emit` returned an error. A counter of 0
-/// isn't sent.
+/// A sink that passes each call on to the wrapped sink, and reports the counts of that sink: after each period, its
+/// thread sends over the wrapped sink by how much each count grew since the last report.
 ///
-/// What a counter couldn't report, because the wrapped sink refused it or memory ran out, the next report adds. A counter
-/// that the wrapped sink took counts as reported, even if that sink loses it later: a queue may drop its line, or the sink
-/// below the queue may refuse it. So over such a sink the counters add up to at most what the counts grew by. The bytes and
-/// packets of the reports themselves count too.
+/// The reports are the counters `bytes_sent`, `packets_sent`, `bytes_dropped` and `packets_dropped` (of `stats`),
+/// `lines_dropped` (of `dropped_lines`) and `lines_refused`, each after the prefix and a dot. `lines_refused` counts
+/// the lines of callers for which the wrapped sink's `emit` returned an error. No counter is sent for a count that
+/// didn't grow.
+///
+/// If a counter isn't sent, because the wrapped sink refused it or memory ran out, the next report adds its number. A
+/// counter that the wrapped sink took counts as reported, even if that sink loses it later: a queue may drop its line,
+/// or the sink below the queue may refuse it. So over such a sink the counters may add up to less than the counts grew
+/// by. The bytes and packets of the reports themselves count too.
 ///
 /// No lock is held while the wrapped sink returns its counts, so its `stats` and `dropped_lines` may emit over this sink.
 ///

@@ -68,7 +68,7 @@ impl UnixSocket {
     }
 
     /// Returns the most bytes of a packet that the system takes from this socket: Linux takes 32 less than the size of the
-    /// socket's send buffer. If the system doesn't tell the size, this is `usize::MAX`.
+    /// socket's send buffer. If the system doesn't return the size, this is `usize::MAX`.
     pub fn longest_packet(&self) -> usize {
         let (mut value, mut length) = ([0u8; 16], 16);
         let fd = self.fd.as_raw_fd();

@@ -66,7 +66,7 @@ impl<A: Allocator> HeldLines<A> {
     ghost use Rattle.cadence_flow.specs.Frame.{Fits};
     ghost use Rattle.cadence_flow.specs.HeldLines.{HoldsText, TakesText, with_text};
 
-    /// Returns whether a line and its ending fit the capacity beside the held text.
+    /// Returns whether a line and its ending fit into the room that the held text leaves.
     pub fn fits(&self, line: &[u8]) -> bool
         ensures { IsTrue result ↔ Fits self.now.format self.now.text line.now }
     {
@@ -80,8 +80,8 @@ impl<A: Allocator> HeldLines<A> {
         line.len() + self.ending.len() > self.capacity
     }
 
-    /// Holds a line and its ending if they fit beside the held text, and returns whether they did. Otherwise nothing
-    /// changes. It takes no memory, and can't fail.
+    /// Holds a line and its ending if they fit into the room that the held text leaves, and returns whether they did.
+    /// Otherwise nothing changes. It takes no memory, and can't fail.
     // Without this hint a line of `bench udp 512 20` takes 17 instructions more.
     #[inline(always)]
     pub fn hold(&mut self, line: &[u8]) -> bool

@@ -69,9 +69,10 @@ impl<T: PacketWriter, A: Allocator> LineBuffer<T, A> {
 
     /// Writes a line and returns its length. It takes no memory. There are three cases:
     ///
-    /// - The line and its ending fit beside the held text: they are held, and nothing is written. They are also held if
-    ///   they fill the capacity exactly. (With an empty ending, the Rust crate writes such a line at once.)
-    /// - They fit a packet, but not beside the held text: the held text is flushed, and then the line is held.
+    /// - The line and its ending fit into the room that the held text leaves: they are held, and nothing is written.
+    ///   They are also held if they fill the capacity exactly. (With an empty ending, the Rust crate writes such a line
+    ///   at once.)
+    /// - They fit into a packet, but not into this room: the held text is flushed, and then the line is held.
     /// - They pass the capacity, so the line is oversize: the held text is flushed, and then the line alone is written
     ///   as one packet, without its ending. The result is how many bytes the writer took, which may be 0.
     ///
@@ -90,8 +91,9 @@ impl<T: PacketWriter, A: Allocator> LineBuffer<T, A> {
         self.write_late(line, fault)
     }
 
-    /// Writes a line that doesn't fit beside the held text, as `write` does: the held text is flushed, and then the line
-    /// is held, or written alone if it is oversize. So a caller that asks `hold` first doesn't ask for room twice.
+    /// Writes a line that doesn't fit into the room that the held text leaves, as `write` does: the held text is
+    /// flushed, and then the line is held, or written alone if it is oversize. It is for a caller that has called
+    /// `hold` already, so that the room isn't tested twice.
     pub fn write_late(&mut self, line: &[u8], fault: &mut SinkError) -> Option<usize>
         requires { Fits self.old.format self.old.held line.now → ⊥ }
         ensures writes { WritesLine T.kind T.history
@@ -107,15 +109,15 @@ impl<T: PacketWriter, A: Allocator> LineBuffer<T, A> {
         self.inner.write_packet_narrow(line, fault)
     }
 
-    /// Returns whether a line and its ending fit the capacity beside the held text.
+    /// Returns whether a line and its ending fit into the room that the held text leaves.
     pub fn fits(&self, line: &[u8]) -> bool
         ensures { IsTrue result ↔ Fits self.now.format self.now.held line.now }
     {
         self.lines.fits(line)
     }
 
-    /// Holds a line and its ending if they fit beside the held text, and returns whether they did. Otherwise nothing
-    /// changes. This is what `write` does with most lines. It takes no memory, and can't fail.
+    /// Holds a line and its ending if they fit into the room that the held text leaves, and returns whether they did.
+    /// Otherwise nothing changes. This is what `write` does with most lines. It takes no memory, and can't fail.
     // Without this hint a line of `bench udp 512 20` takes 17 instructions more.
     #[inline(always)]
     pub fn hold(&mut self, line: &[u8]) -> bool

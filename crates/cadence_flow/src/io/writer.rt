@@ -15,8 +15,8 @@ use cadence_errors::SinkError;
 /// bytes and has no packets. An impl states for proofs which packets it took and how many it refused (`history`), and
 /// what no call changes (`kind`).
 ///
-/// A sink calls its writer while it holds the lock of its packets. So a writer must not send a metric over that sink: that
-/// would wait for ever.
+/// A sink calls its writer while it holds the lock of its packets. So a writer must not send a metric over that sink:
+/// the call would wait for ever.
 pub trait PacketWriter: Drop {
     /// The packets that the writer took, and the number and total length of those that it refused.
     ghost history: { Self → PacketHistory };
@@ -27,7 +27,7 @@ pub trait PacketWriter: Drop {
     ghost kind: { Self → WriterKind };
 
     /// The packets that the writer was offered and didn't refuse, each with the number of its bytes that it took.
-    /// `None`, the default, is for a writer that doesn't tell them.
+    /// `None`, the default, is for a writer that doesn't list them.
     ghost offers: { Self → Offers } = { λ _. None };
 
     /// Offers one packet to the writer. Returns how many of its first bytes the writer took, as one packet. After an

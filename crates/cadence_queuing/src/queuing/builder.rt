@@ -87,8 +87,8 @@ impl<A: Allocator> QueuingMetricSinkBuilder<A> {
     }
 
     /// Sets a period. The worker flushes the wrapped sink if this time has passed since its last flush and it has
-    /// handed on a line since, so no line waits longer in a buffer, also if no more lines come, unless flushes fail. A
-    /// period above 0 and below one millisecond counts as one millisecond.
+    /// handed on a line since. So no line waits in a buffer for longer than the period, even if no more lines come,
+    /// unless a flush fails. A period above 0 and below one millisecond counts as one millisecond.
     ///
     /// The worker flushes the wrapped sink between two lines. It looks for a due flush before it takes more lines out of
     /// the queue, at most 32 at a time. While a line that it has handed on was not flushed yet, it sleeps at most until

@@ -17,10 +17,13 @@ use std::sync::{Arc, Wait};
 ///
 /// It is a handle: a clone is one more handle of the same queue. The drop of the last handle stops the queue and
 /// doesn't wait. The worker then still hands on the queued lines, and drops the wrapped sink, so that a buffered one
-/// sends its held text. After a `stop_and_wait` the worker is gone, and it is the drop of the last handle that drops
-/// the wrapped sink: when it returns, the held text was sent, also if the process ends then. The thread of a sink that
-/// flushes or reports over a handle has a handle too while it does so, and may then be the last one. A flush of the
-/// client before the drop sends the held text in any case. Each handle keeps the runtime `R`, whose locks it takes.
+/// sends its held text. But if the process ends before that, the rest is lost.
+///
+/// After `stop_and_wait` the worker has ended, so the drop of the last handle drops the wrapped sink itself: when this
+/// drop returns, the held text was sent, even if the process ends then. There is one exception: if a flushing or a
+/// reporting sink wraps a handle, its thread uses that handle while it flushes or reports, and may be the one that
+/// drops it. A flush of the client before the drop sends the held text in any case. Each handle keeps the runtime `R`,
+/// whose locks it takes.
 ///
 /// ```text
 /// let sink = QueuingMetricSink::with_capacity(rt.clone()?, alloc, inner, 1000)?;

@@ -72,9 +72,9 @@ impl<A: Allocator> Report for Option<Handler<A>> {
     }
 }
 
-// The list that `work` goes through: its texts are the lines of the queue, and `hand` emits a line into the sink. If the
-// queue has a period, there is a flush before each look at the queue that comes when one is due. The clock is read once
-// for the lines that a look brings, at most 32.
+// The list that `work` goes through: its texts are the lines of the queue, and `hand` emits a line into the sink. If
+// the queue has a period and a flush is due, the sink is flushed before the next look at the queue. The clock is read
+// once for the lines that a look brings, at most 32.
 struct QueueWorklist<'a, S: MetricSink, R: Wait + Clock + Drop, A: Allocator, H: Report> {
     rt: &'a R,
     sink: &'a S,
@@ -174,7 +174,7 @@ impl<'a, S: MetricSink, R: Wait + Clock + Drop, A: Allocator + Clone, H: Report>
     }
 
     // Waits for a text, and flushes the sink whenever a flush is due. It looks at the queue between two tries of a flush,
-    // so it returns with a text, or at a stop, also if each flush fails. Once no flush is owed, it returns without a
+    // so it returns with a text, or at a stop, even if each flush fails. Once no flush is owed, it returns without a
     // text.
     fn fetch_and_flush(&mut self)
         ensures given { given_by self.new.taker ≡ given_by self.old.taker }

@@ -120,9 +120,10 @@ impl<A: Allocator + Clone> ClientSettings<A> {
         any_is_free(self.container())
     }
 
-    /// Returns the error of a call without options whose value gave this error: the same one, if the settings allow the
-    /// key or the value doesn't fit, and otherwise the error of kind `InvalidInput` (`separator in a text`). So a call
-    /// that is refused for its texts is refused so too if memory ran out for its value.
+    /// Returns the error of a call without options whose value could not be made because of `error`. That is `error`
+    /// itself if the settings allow the key, or if `error` says that the value doesn't fit. Otherwise it is the error
+    /// of kind `InvalidInput` (`separator in a text`). So strict settings refuse a key in the same way if memory ran
+    /// out for the value.
     #[cold]
     pub fn value_error(&self, key: &str, error: MetricError) -> MetricError
         ensures allowed { IsTrue (allows_text self.now key.now) → result ≡ error }

@@ -70,7 +70,7 @@ fn with_digit(value: u128, digit: u8) -> Option<u128>
     value.checked_mul(10)?.checked_add(u128::from(digit))
 }
 
-/// Returns the number that digits say if they come after those of `start`. Takes no memory.
+/// Returns the number whose digits are those of `start` and then these: 1234 for 12 and `34`. Takes no memory.
 ///
 /// Returns `None` if a byte is not a digit, or if the number does not fit 128 bits.
 pub fn read_digits(start: u128, digits: &[u8]) -> Option<u128>
@@ -174,7 +174,7 @@ fn size_of(whole: &[u8], fraction: &[u8]) -> Option<u128>
     read_digits(read_whole(whole)?, fraction)
 }
 
-// Returns why digits have no size.
+// Returns why no decimal has these digits on both sides of the dot.
 #[cold]
 fn why_none(whole: &[u8], fraction: &[u8]) -> ParseDecimalError
     requires plain { EndsPlain fraction.now }
@@ -229,7 +229,7 @@ pub fn read_number(text: &[u8]) -> Option<Decimal>
     number_of(is_below, whole, fraction).ok()
 }
 
-// Returns the decimal that a text denotes, also if there are zeros at the end of its places.
+// Returns the decimal that a text denotes, even if there are zeros at the end of its places.
 fn read(text: &[u8]) -> Result<Decimal, ParseDecimalError>
     ensures { ReadsDecimal text.now result }
 {
@@ -241,7 +241,7 @@ fn read(text: &[u8]) -> Result<Decimal, ParseDecimalError>
 
 /// Reads the number exactly. Zeros at the end of the places are accepted: `"1.50"` is read as 1.5. Takes no memory.
 ///
-/// If the text can't be read, the error is the first variant of `ParseDecimalError` that is true of the text.
+/// If the text can't be read, the error is the first variant of `ParseDecimalError` that applies to the text.
 impl FromStr for Decimal {
     type Err = ParseDecimalError;
 

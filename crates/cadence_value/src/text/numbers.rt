@@ -95,7 +95,7 @@ fn push_digit<S: ByteWriter>(line: &mut S, digit: u64)
     line.take_byte(b'0' + digit as u8);
 }
 
-// Writes two digits, also if the first one is 0.
+// Writes two digits, even if the first one is 0.
 fn push_pair<S: ByteWriter>(line: &mut S, pair: u64)
     requires { pair < 100 }
     ensures { Takes S.ends_as line.old ((48 + pair / 10) ∷ (48 + pair % 10) ∷ []) line.new }
