@@ -70,9 +70,9 @@
 #define CADENCE_H
 
 #define CADENCE_VERSION_MAJOR 0
-#define CADENCE_VERSION_MINOR 7
+#define CADENCE_VERSION_MINOR 8
 #define CADENCE_VERSION_PATCH 0
-#define CADENCE_VERSION "0.7.0"
+#define CADENCE_VERSION "0.8.0"
 
 #include <stdbool.h>
 #include <stddef.h>
