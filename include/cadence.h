@@ -70,9 +70,9 @@
 #define CADENCE_H
 
 #define CADENCE_VERSION_MAJOR 0
-#define CADENCE_VERSION_MINOR 7
+#define CADENCE_VERSION_MINOR 8
 #define CADENCE_VERSION_PATCH 0
-#define CADENCE_VERSION "0.7.0"
+#define CADENCE_VERSION "0.8.0"
 
 #include <stdbool.h>
 #include <stddef.h>
@@ -117,7 +117,7 @@ enum {
     CADENCE_VARIABLE = 9   /* a variable of the environment can't be used: *variable is its number */
 };
 
-/* What a client does if as many packets wait as may wait, and a call makes one more. */
+/* What a client does if its queue of packets is full, and a call makes one more. */
 enum {
     CADENCE_REFUSE = 0,     /* the call returns CADENCE_FULL */
     CADENCE_DROP_OLDEST = 1 /* the client drops its oldest packet and counts it; no call returns CADENCE_FULL */
@@ -278,20 +278,20 @@ uint32_t cadence_open_sums(cadence_sums *sums, size_t contexts, size_t longest, 
 /* Frees the sums with all that they hold, and closes them. Closed sums stay closed. */
 void cadence_free_sums(cadence_sums *sums);
 
-/* Adds a line up, so that what it says is held and the client keeps no line of it. A line that can't be held, as one
- * with a time, a decimal counter, a meter or a line that is too long, is kept by the client like that of cadence_line.
- * Some calls give the client a line of what is held, which is then no longer held: of the oldest context, if
- * there is no room for a new one; of a sum that would pass 64 bits; and of values that would pass the
- * length of a line. All gauges that are held come before a line that can't be held and has `|g` in it, as a gauge with
- * a sign or a time, or a text that isn't read, because a server may set a gauge by it. A line for which the client has
- * no room waits in the sums, and comes before all others. Returns CADENCE_OK; CADENCE_NO_CLIENT if the handle or the
- * sums are closed; CADENCE_NOT_UTF8; CADENCE_FULL if a line waits and the client has no room for it; or
+/* Adds a line up: what it says is held, and the client gets no line for it yet. A line that can't be held goes to the
+ * client at once, as in cadence_line: one with a time, a decimal counter, a meter, or one that is too long. A call may
+ * also give the client a line for something that is held, which is then no longer held: the line of the oldest context,
+ * if there is no room for a new one; of a sum that would not fit 64 bits; or of packed values that would make a line
+ * too long. Before a line that can't be held and has `|g` in it, such as a gauge with a sign or a time, the client gets
+ * a line for each gauge that is held, because a server may set a gauge by that line. If the client has no room for a
+ * line, the line waits in the sums, and comes before all others. Returns CADENCE_OK; CADENCE_NO_CLIENT if the handle or
+ * the sums are closed; CADENCE_NOT_UTF8; CADENCE_FULL if a line waits and the client has no room for it; or
  * CADENCE_NO_MEMORY. If it is not CADENCE_OK, the line is not added, and nothing that was added before is lost. */
 uint32_t cadence_add_line(cadence_sums *sums, cadence_handle *handle, const uint8_t *line, size_t line_len);
 
-/* Makes a key of a line, and writes the number of the key into *key. The line raises a counter, or sets a gauge; which
- * number it has makes no difference. The key is part of these sums, and is gone with them. Make one key for each
- * context and keep its number, because each call makes a new key. Returns CADENCE_OK; CADENCE_NO_CLIENT if the sums are
+/* Makes a key from a line, and writes the number of the key into *key. The line raises a counter, or sets a gauge; its
+ * own number makes no difference. The key can be used until these sums are freed. Make one key for each context and
+ * store its number, because each call makes a new key. Returns CADENCE_OK; CADENCE_NO_CLIENT if the sums are
  * closed; CADENCE_NOT_UTF8; CADENCE_INVALID if the line can't be added, or is not that of a counter or a gauge; or
  * CADENCE_NO_MEMORY. */
 uint32_t cadence_make_key(cadence_sums *sums, const uint8_t *line, size_t line_len, size_t *key);
@@ -303,8 +303,8 @@ uint32_t cadence_make_key(cadence_sums *sums, const uint8_t *line, size_t line_l
 uint32_t cadence_add_number(cadence_sums *sums, cadence_handle *handle, size_t key, int64_t number);
 
 /* Gives the client a line for each context that is held, so that nothing is held any more. Call cadence_flush after it.
- * Returns CADENCE_OK, CADENCE_NO_CLIENT, CADENCE_NO_MEMORY or CADENCE_FULL. Nothing else tells the host of the last two.
- * After them, what the client did not get is still there: send the packets that wait, and call again. With
+ * Returns CADENCE_OK, CADENCE_NO_CLIENT, CADENCE_NO_MEMORY or CADENCE_FULL. Check for the last two, because no later
+ * call reports them: what the client did not get is still held, so send the packets that wait, and call again. With
  * CADENCE_DROP_OLDEST the client drops packets of a large flush, if it makes more packets than may wait. */
 uint32_t cadence_flush_sums(cadence_sums *sums, cadence_handle *handle);
 
@@ -395,9 +395,9 @@ uint32_t cadence_destination(const cadence_variables *variables, uint8_t *out, s
 uint32_t cadence_environment_tags(const cadence_variables *variables, uint8_t *out, size_t out_len, size_t *length,
                                   uint32_t *variable);
 
-/* Writes into `out` what a variable wants, in words that begin with its name, and sets *length to the length of that
- * text in bytes. Returns CADENCE_OK; CADENCE_TOO_SMALL, with that length; or CADENCE_INVALID or CADENCE_NO_MEMORY, with
- * *length 0. */
+/* Writes the message for a variable that can't be used into `out`: its name, and what its value has to be. Sets *length
+ * to the length of that text in bytes. Returns CADENCE_OK; CADENCE_TOO_SMALL, with that length; or CADENCE_INVALID or
+ * CADENCE_NO_MEMORY, with *length 0. */
 uint32_t cadence_variable_text(uint32_t variable, uint8_t *out, size_t out_len, size_t *length);
 
 /* Returns the version of the linked library. CADENCE_VERSION is the version of this header. */
@@ -413,9 +413,9 @@ static inline const char *cadence_status_text(uint32_t status) {
     case CADENCE_OK: return "done";
     case CADENCE_NO_CLIENT: return "the client is closed (CADENCE_NO_CLIENT)";
     case CADENCE_NO_MEMORY: return "out of memory (CADENCE_NO_MEMORY)";
-    case CADENCE_FULL: return "as many packets wait as may (CADENCE_FULL)";
-    case CADENCE_INVALID: return "no such kind, policy or number (CADENCE_INVALID)";
-    case CADENCE_NOT_UTF8: return "a text is no UTF-8 (CADENCE_NOT_UTF8)";
+    case CADENCE_FULL: return "too many packets wait: send them, then try again (CADENCE_FULL)";
+    case CADENCE_INVALID: return "an unknown kind, policy or key, or a number out of range (CADENCE_INVALID)";
+    case CADENCE_NOT_UTF8: return "a text is not UTF-8 (CADENCE_NOT_UTF8)";
     case CADENCE_NO_PACKET: return "no packet waits (CADENCE_NO_PACKET)";
     case CADENCE_TOO_SMALL: return "the buffer is too small (CADENCE_TOO_SMALL)";
     case CADENCE_SEPARATOR: return "a text has a separator, and the settings are strict (CADENCE_SEPARATOR)";
@@ -681,8 +681,9 @@ static inline uint32_t cadence_integer(cadence_handle *handle, const cadence_set
 #endif
 
 /* These keep a metric of one number, an integer of up to 64 bits or (from C11 and in C++) a double. Each returns what
- * cadence_floating returns. Adds to a counter; sets a gauge; keeps a time in milliseconds, with up to six places of a double; adds a
- * value to a distribution. Many servers read a gauge below 0 as a change of the gauge. */
+ * cadence_floating returns. cadence_count adds to a counter, cadence_gauge sets a gauge, cadence_time_millis keeps a
+ * time in milliseconds with up to six places of a double, and cadence_distribute adds a value to a distribution. Many
+ * servers read a gauge below 0 as a change of the gauge. */
 #ifdef __cplusplus
 CADENCE_KEEPS(cadence_count, CADENCE_COUNTER)
 CADENCE_KEEPS(cadence_gauge, CADENCE_GAUGE)

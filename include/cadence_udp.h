@@ -37,7 +37,7 @@ typedef struct cadence_udp {
     cadence_handle client;
     cadence_settings settings;
     struct cadence_udp_socket *socket; /* null if nothing is open */
-    uint64_t period, since; /* in nanoseconds of the clock that no one sets */
+    uint64_t period, since; /* in nanoseconds of the monotonic clock */
     uint64_t refused; /* how many times a packet could not be sent for now */
     uint64_t too_long; /* how many packets were dropped because they are too long for the socket */
     char fault[256];

@@ -38,7 +38,7 @@ bool call_begin(call *c, PyObject *parts, PyObject *const *args, Py_ssize_t coun
     c->form = PyLong_AsLong(args[1]);
     if (PyErr_Occurred()) return false;
     if (!PyUnicode_Check(args[2])) {
-        PyErr_Format(PyExc_TypeError, "the name %R is no str", args[2]);
+        PyErr_Format(PyExc_TypeError, "the name %R is not a str", args[2]);
         return false;
     }
     if (!text_of(args[2], NULL, &c->key, &c->key_len)) return false;

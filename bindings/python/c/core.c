@@ -254,7 +254,7 @@ static PyObject *packer_keep(packer *self, PyObject *const *args, Py_ssize_t cou
 static PyObject *packer_line(packer *self, PyObject *line) {
     const uint8_t *at;
     size_t len;
-    if (!PyUnicode_Check(line)) return PyErr_Format(PyExc_TypeError, "the line %R is no str", line);
+    if (!PyUnicode_Check(line)) return PyErr_Format(PyExc_TypeError, "the line %R is not a str", line);
     if (!follow_fork(self) || !text_of(line, NULL, &at, &len)) return NULL;
     return answer(self, sums_line(&self->sums, &self->handle, at, len));
 }

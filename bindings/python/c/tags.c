@@ -14,7 +14,7 @@ bool text_of(PyObject *value, PyObject **texts, const uint8_t **at, size_t *len)
     Py_ssize_t size;
     if (!PyUnicode_Check(value)) {
         if (has_no_text(value)) {
-            PyErr_Format(PyExc_TypeError, "%R is no text", value);
+            PyErr_Format(PyExc_TypeError, "%R can't be used as a text", value);
             return false;
         }
         if (*texts == NULL) *texts = PyList_New(0);
@@ -35,7 +35,7 @@ static bool tag_of(PyObject *item, PyObject **texts, cadence_tag *to) {
     to->key_len = 0;
     if (!to->keyed) return text_of(item, texts, &to->text, &to->text_len);
     if (PyTuple_Size(item) != 2) {
-        PyErr_Format(PyExc_TypeError, "the tag %R is no pair", item);
+        PyErr_Format(PyExc_TypeError, "the tag %R is not a pair of a key and a text", item);
         return false;
     }
     return text_of(PyTuple_GetItem(item, 0), texts, &to->key, &to->key_len)

@@ -5,7 +5,7 @@
 #include <string.h>
 
 static bool does_not_fit(PyObject *value) {
-    PyErr_Format(PyExc_ValueError, "%R does not fit 63 bits over 10 to the power of 30", value);
+    PyErr_Format(PyExc_ValueError, "%R is out of range: it has to be finite, and its digits have to fit 63 bits", value);
     return false;
 }
 
@@ -38,7 +38,7 @@ static bool decimal_of_text(PyObject *text, PyObject *value, PyObject *parts, ca
  * otherwise by its __float__. */
 static bool decimal_of_other(PyObject *value, PyObject *parts, bool in_millis, cadence_decimal_number *to) {
     if (!PyNumber_Check(value)) {
-        PyErr_Format(PyExc_TypeError, "%R is no number", value);
+        PyErr_Format(PyExc_TypeError, "%R is not a number", value);
         return false;
     }
     PyObject *made = PyIndex_Check(value) ? PyNumber_Index(value) : NULL;

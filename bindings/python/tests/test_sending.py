@@ -68,7 +68,7 @@ class When(ClientTest):
 
     def test_a_period_that_is_none(self):
         for period in (-1, -0.001, math.nan, -math.inf, "1", b"1"):
-            with self.subTest(period=period), self.assertRaisesRegex(ValueError, "flush_every is .* seconds from 0 on"):
+            with self.subTest(period=period), self.assertRaisesRegex(ValueError, "flush_every is .* seconds that is 0 or more"):
                 self.client(flush_every=period)
 
     def test_a_period_that_is_longer_than_a_thread_can_wait(self):
@@ -286,7 +286,7 @@ class Refusals(ClientTest):
             client.incr("a")
             client.flush()
         self.assertEqual(len(logged.records), 1)
-        self.assertIn("'text' is no number", logged.output[0])
+        self.assertIn("'text' is not a number", logged.output[0])
         self.assertEqual((client.counts()["bad"], client.counts()["refused"]), (2, 1))
 
     def test_on_error_may_call_the_client(self):

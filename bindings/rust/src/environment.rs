@@ -53,7 +53,8 @@ pub struct Environment {
     tags: Vec<(Option<String>, String)>,
 }
 
-/// The error of a variable that can't be used.
+/// The error of a variable that can't be used. Its text has the name of the variable, and says what the value has to
+/// be.
 #[derive(Clone, Debug, PartialEq, Eq)]
 pub struct EnvironmentError {
     variable: &'static str,
@@ -67,7 +68,7 @@ impl EnvironmentError {
     }
 }
 
-/// Prints what the variable wants, in words that begin with its name.
+/// Prints the name of the variable, and what its value has to be.
 impl fmt::Display for EnvironmentError {
     fn fmt(&self, f: &mut fmt::Formatter<'_>) -> fmt::Result {
         f.write_str(&self.text)
@@ -93,8 +94,8 @@ fn tags_of(text: &str) -> Vec<(Option<String>, String)> {
 }
 
 impl Environment {
-    /// Reads the variables of the process. It fails if a variable can't be used; the error says which one, and what it
-    /// wants.
+    /// Reads the variables of the process. It fails if a variable can't be used; the error says which one, and what its
+    /// value has to be.
     pub fn read() -> Result<Environment, EnvironmentError> {
         Self::read_from(|name| env::var_os(name))
     }

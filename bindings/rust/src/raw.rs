@@ -250,7 +250,7 @@ pub(crate) fn environment_tags(variables: &Variables<'_>) -> Result<String, u32>
     unsafe { said(|out, room, size, variable| cadence_environment_tags(variables, out, room, size, variable)) }
 }
 
-/// Returns what the variable of this number wants, in words that begin with its name.
+/// Returns the message for the variable of this number: its name, and what its value has to be.
 pub(crate) fn variable_text(variable: u32) -> String {
     // SAFETY: the call only writes to the room, and what it writes is ASCII.
     unsafe { text_of(|out, room, size| cadence_variable_text(variable, out, room, size)) }.unwrap_or_default()

@@ -4,10 +4,10 @@
 //! - `report`: what a run returns.
 //! - `running`: the state of a run between two steps, and what each step does.
 //! - `sums`: the aggregator over the packer.
-//! - `packer_sink`: the packer as a sink of what lines say.
+//! - `packer_sink`: the packer, as the sink to which the aggregator sends lines.
 //! - `packing`: the packer, with the numbers of lines in its packets.
-//! - `listed`: a list of lines as a sink of what lines say.
-//! - `laws`: that flushes which each send a line send all that is held.
+//! - `listed`: a list, as the sink to which the aggregator sends lines.
+//! - `laws`: several flushes send everything that is held, if each of them sends at least one line.
 #![tactic(auto)]
 
 pub mod laws;

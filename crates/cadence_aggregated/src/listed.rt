@@ -1,4 +1,4 @@
-//! A list of lines as a sink of what lines say.
+//! A list, as the sink to which the aggregator sends lines.
 ghost use Rattle.std.specs.Prelude.{◌≡◌, [], map, string_bytes};
 ghost use Rattle.cadence_aggregating.specs.Notes.{line_of_note, sample_of_note};
 
@@ -7,7 +7,7 @@ use cadence_aggregating::{Note, note_line};
 use cadence_flow::GhostList;
 use std::alloc::Global;
 
-// The lines that were sent, in order, with what they say, which only proofs know.
+// The lines that were sent, in order. `notes` has what each of them says, and exists in proofs only.
 #[derive(Drop)]
 pub(crate) struct ListedLines {
     alloc: Global,

@@ -1,4 +1,4 @@
-//! The packer of a run as a sink of what lines say.
+//! The packer of a run, as the sink to which the aggregator sends lines.
 ghost use Rattle.std.specs.Prelude.{◌≡◌, [], None};
 
 use crate::packing::Packing;
@@ -10,8 +10,8 @@ use cadence_flow::io::PacketWriter;
 use std::alloc::{Allocator, Global};
 use std::mem;
 
-// The packer of a run, with a note of each line that it kept, which only proofs know. After it refused a line it is
-// asked for no other one, until the error is taken.
+// The packer of a run. `notes` has what each line says that the packer kept, and exists in proofs only. After the
+// packer has refused a line it gets no other one, until the error is taken.
 #[derive(Drop)]
 pub(crate) struct PackerSink<P: PacketWriter, A: Allocator> {
     pub(crate) packing: Packing<P, A>,

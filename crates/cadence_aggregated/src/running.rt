@@ -70,7 +70,7 @@ impl<P: PacketWriter, A: Allocator + Clone> Running<P, A> {
         Reply::Handed(self.sums.hand(line.as_str()))
     }
 
-    // Sends what the aggregator holds to the packer, and then flushes that.
+    // Sends what the aggregator holds to the packer, and then flushes the packer.
     fn flush(&mut self) -> Reply
         ensures queue { (line_of : _) → MovesQueue line_of self.old (step.Flush, result) self.new }
         ensures sums { SumsTurn P.kind P.history (hand_of self.old) self.old.sums

@@ -23,7 +23,7 @@ pub(crate) struct Sums<P: PacketWriter, A: Allocator> {
     pub(crate) sink: PackerSink<P, A>,
 }
 
-// Adds what a line says, or hands the line on.
+// Adds a line to what is held, or gives it to the sink at once if it can't be held.
 fn add_or_pass<S: LineSink>(
     aggregator: &mut Aggregator,
     sink: &mut S,
@@ -73,7 +73,7 @@ impl<P: PacketWriter, A: Allocator> Sums<P, A> {
         }
     }
 
-    // Adds what a line says to what is held, or hands it on.
+    // Adds a line to what is held, or gives it to the packer at once if it can't be held.
     fn try_add(&mut self, line: &str) -> Result<(), Fault>
         ensures ok { OnOk result ((said : Sample) × LineSays line.now said × IsSummary
             ((sent_by self.old.sink ++ held self.old.aggregator) ++ said ∷ [])
@@ -90,7 +90,8 @@ impl<P: PacketWriter, A: Allocator> Sums<P, A> {
         add_or_pass(&mut self.aggregator, &mut self.sink, said, is_held)
     }
 
-    // Adds a line and returns its length. After an error it is not added, and what was held is sent or still held.
+    // Adds a line and returns its length. After an error the line is not added, and each line that was held before is
+    // sent or still held.
     pub(crate) fn hand(&mut self, line: &str) -> Result<usize, SinkError>
         ensures turn { SumsTurn P.kind P.history (Some line.now)
             self.old (step.Hand, reply.Handed result) self.new }

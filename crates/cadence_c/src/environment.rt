@@ -203,8 +203,9 @@ pub extern "C" fn cadence_destination(
     }
 }
 
-/// Writes what a variable wants, in words that begin with its name, into the first bytes of `out`, and the length of that
-/// text into `size`. The status is that of `Invalid` if no variable has the number.
+/// Writes the message for a variable that can't be used into the first bytes of `out`, and the length of that text into
+/// `size`. The message begins with the name of the variable, and says what its value has to be. The status is that of
+/// `Invalid` if no variable has the number.
 #[unsafe(no_mangle)]
 pub extern "C" fn cadence_variable_text(
     alloc: Global,

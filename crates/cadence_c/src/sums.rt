@@ -20,9 +20,10 @@ use cadence_aggregating::{CounterKey, GaugeKey, Limits, SummedLines};
 use std::alloc::{AllocError, Global};
 use std::num::NonZeroUsize;
 
-/// Makes sums in a handle, and drops earlier ones there. At most `contexts` contexts of each kind are held, and lines
-/// of at most `longest` bytes. If `packed` is set, one line holds several values of a timer, a histogram or a
-/// distribution. If it is not set, the client gets each line of these kinds at once.
+/// Makes sums in a handle, and drops earlier ones there. A context is a line without its values: at most `contexts`
+/// contexts of each kind are held, and lines of at most `longest` bytes. If `packed` is set, one line holds several
+/// values of a timer, a histogram or a distribution. If it is not set, the client gets each line of these kinds at
+/// once.
 #[unsafe(no_mangle)]
 pub extern "C" fn cadence_open_sums(
     alloc: Global,
@@ -177,7 +178,7 @@ fn empty_with(alloc: Global, lines: &mut SummedLines, handle: &mut Handle) -> u3
     status
 }
 
-/// Adds up a line, so that the client keeps no line for it, or keeps it at once if it can't be added.
+/// Adds up a line. The client keeps no line for it yet, unless it can't be added: then the client keeps it at once.
 #[unsafe(no_mangle)]
 pub extern "C" fn cadence_add_line(
     alloc: Global,

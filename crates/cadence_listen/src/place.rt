@@ -6,16 +6,17 @@ use cadence_read::{ReadFault, read_line};
 use cadence_text::line::OwnedMetric;
 use std::alloc::{AllocError, Allocator};
 
-/// What a line says.
+/// What reading a line gave.
 #[derive(Debug, Drop)]
 pub enum Reading<A: Allocator> {
-    /// The line of this metric.
+    /// The line is that of this metric.
     Read(OwnedMetric<A>),
-    /// No metric has this line. The line of some metric has the same bytes up to this place, if the place is not 0.
+    /// The line is not that of any metric. Its first bytes, up to this place, are also the first bytes of some metric's
+    /// line, unless the place is 0.
     Unread(usize),
 }
 
-// Texts that make a line of each beginning of a line, if one of them is put behind it.
+// Each beginning of a metric's line is a whole line if one of these texts is put behind it.
 const ENDS: [&[u8]; 13] = [
     b"",
     b"|c",
@@ -32,7 +33,7 @@ const ENDS: [&[u8]; 13] = [
     b"#",
 ];
 
-// Returns whether the text and the end are the line of a metric. The line is written into the buffer.
+// Returns whether the text, with the end behind it, is the line of a metric. Both are written into the buffer.
 fn is_line<A: Allocator + Clone>(
     alloc: &A,
     buffer: &mut Vec<u8, A>,
@@ -67,8 +68,8 @@ fn can_begin<A: Allocator + Clone>(
     Ok(false)
 }
 
-// Returns a place up to which the line of some metric has the same bytes. Each beginning of a beginning is one too, so
-// halving finds the last such place.
+// Returns how many bytes of the line are also the first bytes of some metric's line. If a text is the beginning of a
+// line, so is each beginning of the text, and so a binary search finds the longest one.
 fn find_place<A: Allocator + Clone>(alloc: &A, line: &[u8]) -> Result<usize, AllocError>
     ensures { IfOk result (IsPlace line.now) }
 {

@@ -18,7 +18,7 @@ pub struct WatchFormat {
     pub is_strict: bool,
 }
 
-/// What is known of a packet beside its bytes.
+/// What is known of a packet besides its bytes.
 #[derive(Clone, Copy, Debug)]
 pub struct Origin<'a> {
     /// The number of the packet, counted from 1.
@@ -161,7 +161,7 @@ fn plain_of(alloc: Global, line: &[u8], origin: Origin<'_>) -> Result<String, Al
     Ok(text)
 }
 
-// Tells that a line can't be read. An error of `errors` is ignored.
+// Reports that a line can't be read. An error of `errors` is ignored.
 fn tell_fault<E: Write>(
     alloc: Global,
     origin: Origin<'_>,
@@ -181,7 +181,8 @@ fn tell_fault<E: Write>(
     Ok(())
 }
 
-// Adds the text of each metric of the packet, and tells each line that can't be read. Returns whether all lines can be read.
+// Adds the text of each metric of the packet, and reports each line that can't be read. Returns whether all lines can
+// be read.
 fn list_packet<E: Write>(
     alloc: Global,
     packet: &[u8],

@@ -76,7 +76,7 @@ fn read_list<A: Allocator + Clone>(
 /// packet, reading takes no memory from the heap once the arena has room.
 ///
 /// # Errors
-/// `Unusable(NotMetrics)` if no list of metrics has this packet, and `OutOfMemory`.
+/// `Unusable(NotMetrics)` if the bytes are not the packet of any metrics, and `OutOfMemory`.
 pub fn read_packet<A: Allocator + Clone>(
     alloc: A,
     packet: &[u8],
@@ -90,11 +90,11 @@ pub fn read_packet<A: Allocator + Clone>(
     read_list(&alloc, packet)
 }
 
-/// Reads the metrics of the packets of a run, and then the metrics of the held text, into one list.
+/// Reads the metrics of several packets, in order, and then those of the text that a packer still holds after the last
+/// packet, into one list.
 ///
 /// # Errors
-/// `Unusable(NotMetrics)` if no list of metrics has one of the packets, or the held text, as its packet, and
-/// `OutOfMemory`.
+/// `Unusable(NotMetrics)` if a packet or the held text is not the packet of any metrics, and `OutOfMemory`.
 pub fn read_run<A: Allocator + Clone>(
     alloc: A,
     packets: &[Vec<u8, A>],

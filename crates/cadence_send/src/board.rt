@@ -5,7 +5,7 @@ use std::fmt;
 /// How many packets a stream gave to its writer, and how many of them were lost, each modulo 2^64.
 #[derive(Clone, Copy, Debug, Default, PartialEq, Eq)]
 pub struct Losses {
-    /// The packets that were given, also the lost ones.
+    /// The packets that were given, including the lost ones.
     pub given: u64,
     /// The packets that were lost.
     pub packets: u64,
@@ -13,7 +13,7 @@ pub struct Losses {
     pub lines: u64,
 }
 
-/// Counts what a stream has lost. The writer of packets notes each packet here, and the run reads the counts.
+/// Counts what a stream has lost. The writer of packets counts each packet here, and the run reads the counts.
 #[derive(Drop)]
 pub struct LossBoard {
     losses: Cell<Losses>,
@@ -26,10 +26,11 @@ pub struct LossBoard {
 struct Sums {
     // All of them.
     taken: u64,
-    // Those that were taken before everything was sent for the last time, and how many packets were lost then.
+    // How many of them were added up before the last time that everything was sent, and how many packets had been lost
+    // by then.
     sent: u64,
     lost_packets: u64,
-    // Those that were taken between two such times between which a packet was lost.
+    // How many of them were added up between two times that everything was sent, if a packet was lost in between.
     lost: u64,
 }
 
@@ -65,8 +66,8 @@ impl LossBoard {
         self.sums.set(sums);
     }
 
-    // Returns how many lines of the input were added up, at most, to those of the lost packets. What left the sums since
-    // everything was sent comes from the lines that were taken since then.
+    // Returns an upper bound for the lines of the input whose sums were in lost packets. A packet that is lost after
+    // everything was sent has sums of lines that were added up since then.
     pub(crate) fn lost_sums(&self) -> u64 {
         let sums = self.sums.get();
         if self.losses.get().packets == sums.lost_packets {
@@ -98,7 +99,7 @@ impl LossBoard {
 #[derive(Clone, Copy, Debug)]
 pub(crate) struct LossSummary {
     pub losses: Losses,
-    // How many lines of the input were added up, at most, to those of the lost packets.
+    // An upper bound for the lines of the input whose sums were in lost packets.
     pub lost_sums: u64,
 }
 

@@ -22,7 +22,7 @@ const CHUNK: usize = 16384;
 pub struct TextCounts {
     /// All lines of the input. An empty text after the last newline is not a line.
     pub texts: u64,
-    /// The lines that have words, but ask for no metric.
+    /// The lines that have words, but can't be read as a metric.
     pub unread: u64,
 }
 
@@ -165,12 +165,12 @@ fn keep_pace<L: LineTaker, P: Pace>(lines: &mut L, pace: &mut P) -> Result<(), R
     lines.send()
 }
 
-/// What a run over an input has besides the input and what takes the lines.
+/// What a run over an input needs besides the input and the `LineTaker`.
 #[derive(Drop)]
 pub struct Sending<'a, E, P, A: Allocator> {
     /// The memory of the buffers.
     pub alloc: &'a A,
-    /// What each metric gets.
+    /// What each metric gets besides its words: a prefix, tags and other fields.
     pub defaults: &'a Defaults<A>,
     /// What is wrong with a line or a run is written to this. An error of `errors` is ignored.
     pub errors: &'a mut E,

@@ -30,15 +30,15 @@ fn lines_of_packet(packet: &[u8]) -> u64
     newlines as u64
 }
 
-// The kinds of refusals that were told. Two refusals are of one kind if they have the same code of the system.
+// The kinds of refusals that were reported. Two refusals are of one kind if the system gave them the same code.
 #[derive(Drop)]
 struct Told<A: Allocator> {
     codes: Vec<Option<i32>, A>,
 }
 
 impl<A: Allocator> Told<A> {
-    // Returns whether no refusal of this kind was told before, and notes that one is. If there is no memory for the
-    // note, later ones count as told.
+    // Returns whether a refusal of this kind is to be reported, because none was before. Without memory to store the
+    // kind it returns `false`, so that no refusal is reported twice.
     fn is_new(&mut self, fault: &SinkError) -> bool {
         let code = match fault {
             SinkError::Io(error) => error.raw_os_error(),
@@ -52,11 +52,12 @@ impl<A: Allocator> Told<A> {
 }
 
 /// A writer that gives each packet to a writer below it, and goes on if that one refuses the packet: the packet is
-/// dropped and counts as lost, with its lines. The first refusal of a kind is told to `errors`, with the place to which
-/// the packets go. An error of `errors` is ignored. The losses are noted on a board after each packet.
+/// dropped and counts as lost, with its lines. The first refusal of each kind is reported to `errors`, with the place
+/// to which the packets go. An error of `errors` is ignored. After each packet the losses are stored in a
+/// [`LossBoard`].
 ///
-/// It has a record of the packets that it was given, each with whether it was lost, which exists in proofs only. The
-/// field `counted` says that the losses are those of this record.
+/// In proofs it also has a record of the packets that it was given, each with whether it was lost. The field `counted`
+/// says that the losses are those of this record.
 #[derive(Drop)]
 pub struct LastingWriter<'a, T, E, A: Allocator> {
     inner: T,
@@ -116,7 +117,7 @@ impl<T: PacketWriter, E: Write + Drop, A: Allocator> LastingWriter<'_, T, E, A> 
     ghost use Rattle.cadence_send.specs.Losses.{IsSentOrLost, is_out_of_memory};
     ghost use Rattle.cadence_send.specs.Streams.{fates_in, writer_below};
 
-    // Tells a refusal if it is the first of its kind.
+    // Reports a refusal if it is the first of its kind.
     fn tell(&mut self, fault: &SinkError)
         ensures below { writer_below self.new ≡ writer_below self.old }
         ensures fates { fates_in self.new ≡ fates_in self.old }

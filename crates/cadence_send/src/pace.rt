@@ -2,7 +2,8 @@
 
 /// Decides when buffered lines are sent before more input is read.
 pub trait Pace: Drop {
-    /// Returns whether the buffered lines are to be sent now. It is called after each piece of input, if there are any.
+    /// Returns whether the buffered lines are to be sent now. It is called after each piece of input, if lines are
+    /// buffered.
     fn is_due(&mut self) -> bool;
 
     /// Waits until the buffered lines are to be sent, or until there is more input. Returns whether they are to be sent.

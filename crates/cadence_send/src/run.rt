@@ -105,9 +105,8 @@ fn report_end<E: Write>(
     2
 }
 
-// Writes to `errors` how much was lost, if anything was, and how many lines of the input were added up, at most, to the
-// lines that were lost. Returns the exit status of a run that ended with `status`: 1 in place of 0 or 2 if anything was
-// lost.
+// Writes to `errors` how much was lost, if anything was, with an upper bound for the lines of the input whose sums were
+// in it. Returns the exit status of a run that ended with `status`: 1 in place of 0 or 2 if anything was lost.
 fn report_losses<E: Write>(status: u8, losses: Losses, lost_sums: u64, errors: &mut E) -> u8
     requires { status ≤ 3 }
     ensures most { result ≤ 3 }
@@ -207,10 +206,10 @@ impl<E: Write, P: Pace, A: Allocator + Clone> Sending<'_, E, P, A> {
     }
 
     /// Sends the metrics of the input's lines with `send_input`, added up before they are packed, and returns the exit
-    /// status of the program as `run_stream` does. The lines that the packer took and those that wait, with what is held,
-    /// are a summary of the lines that were added up. If packets were lost, it is also written to `errors` how many lines
-    /// of the input were added up to what was lost, at most: those that were taken between two times at which everything
-    /// was sent, if a packet was lost between them.
+    /// status of the program as `run_stream` does. The lines that the packer took and those that wait, with what is
+    /// held, are a summary of the lines that were added up. If packets were lost, `errors` also gets an upper bound for
+    /// the lines of the input whose sums were in these packets: all lines that were taken between two times at which
+    /// everything was sent, if a packet was lost between them.
     pub fn run_summed<T: PacketWriter, F: Write + Drop, I: Read>(
         &mut self,
         lines: &mut SummedPacker<'_, LastingWriter<'_, T, F, A>, A>,

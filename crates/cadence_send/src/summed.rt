@@ -12,7 +12,7 @@ use std::alloc::{AllocError, Allocator, Global};
 use std::io::{self, ErrorKind};
 use std::str;
 
-/// Adds up lines, and gives a packer those that are to be sent. Which lines were added up is noted on a board.
+/// Adds up lines, and gives a packer those that are to be sent. A [`LossBoard`] counts the lines that were added up.
 #[derive(Drop)]
 pub struct SummedPacker<'a, T, A: Allocator = Global> {
     sums: SummedLines,

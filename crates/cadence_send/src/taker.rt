@@ -42,7 +42,7 @@ pub trait LineTaker {
         takes q r others → takes p r (lines ++ others) };
 }
 
-/// A packer holds text.
+/// A packer holds the text of lines until they fill a packet.
 impl<T: PacketWriter, A: Allocator> LineTaker for LineBuffer<T, A> {
     ghost use Rattle.cadence_send.specs.Takes.{takes_more as packer_takes_more, takes_none as packer_takes_none};
 

@@ -3,29 +3,29 @@ use crate::board::LossBoard;
 use crate::pace::Pace;
 use std::io::Write;
 
-// The shortest time between two messages, in seconds.
+// The shortest time between two reports, in seconds.
 const MINUTE: u64 = 60;
 
-// What was told of the losses, and when more is told: at once if packets are sent again, and otherwise a minute after the
-// first loss that was not told, but at most once a minute.
+// Which losses were reported, and when the next report is due: at once if packets are sent again, and otherwise a
+// minute after the first loss that was not reported, but at most once a minute.
 #[derive(Clone, Copy, Debug, Default)]
 pub(crate) struct Tidings {
-    // How many lost packets were told, and whether packets were being lost then.
+    // How many lost packets the last report had, and whether packets were being lost then.
     told: u64,
     was_failing: bool,
-    // The earliest time of the next message, in seconds.
+    // The earliest time of the next report, in seconds.
     next: u64,
-    // Since when there is something to tell.
+    // Since when there is something to report.
     since: Option<u64>,
 }
 
 impl Tidings {
-    // Returns whether something is to be told.
+    // Returns whether there is something to report.
     fn has_news(&self, board: &LossBoard) -> bool {
         self.told != board.lost_packets() || (self.was_failing && !board.is_failing())
     }
 
-    // Returns how many seconds are left until it is told.
+    // Returns in how many seconds the report is due.
     fn left(&mut self, board: &LossBoard, now: u64) -> u64 {
         let since = self.since.unwrap_or(now);
         self.since = Some(since);
@@ -37,7 +37,7 @@ impl Tidings {
         due.saturating_sub(now)
     }
 
-    // Tells it. An error of `errors` is ignored.
+    // Writes the report. An error of `errors` is ignored.
     fn tell<E: Write>(&mut self, board: &LossBoard, now: u64, errors: &mut E) {
         let summary = board.summary();
         let _ = if board.is_failing() {
@@ -51,8 +51,8 @@ impl Tidings {
         self.since = None;
     }
 
-    // Tells what was lost if that is due. If it is due later, waits until then, or until there is more input. Without a
-    // clock nothing is told.
+    // Reports what was lost, if a report is due. If it is due later, waits until then, or until there is more input.
+    // Without a clock nothing is reported.
     pub(crate) fn follow<P: Pace, E: Write>(
         &mut self,
         board: &LossBoard,

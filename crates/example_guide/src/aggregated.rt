@@ -1,8 +1,6 @@
 //! A sink that adds up lines, what a spy below it receives, and a client whose calls make no line.
 
 use crate::clients::add_message;
-use cadence::client::ClientSettings;
-use cadence::line::Tag;
 use cadence::prelude::*;
 use cadence::ready::{buffered_udp_sink, host};
 use cadence::{MetricResult, MetricSink, Runtime, SpyMetricSink, StatsdClient};
@@ -19,22 +17,6 @@ pub fn count_by_sums<R: Runtime>(rt: &R, alloc: Global) -> MetricResult<()> {
     let sink = builder.build(rt.clone()?, alloc, inner)?;
     let client = StatsdClient::from_sink(alloc, "my.service", sink)?;
     client.incr("visits")?;
-    client.flush()
-}
-
-/// Counts by the keys of a client that sends sums every two seconds, and whose calls make no line.
-pub fn count_by_keys<R: Runtime>(rt: &R, alloc: Global) -> MetricResult<()> {
-    let inner = buffered_udp_sink(rt, alloc, host(alloc, "localhost", 8125)?, 1432)?;
-    let builder = AggregatingMetricSinkBuilder::new().with_flush_period(Duration::from_secs(2));
-    let settings = ClientSettings::new(alloc, "my.service")?;
-    let client = builder.build_client(rt.clone()?, alloc, settings, inner)?;
-    let tag = Tag {
-        key: Some("page"),
-        text: "home",
-    };
-    let visits = client.counter_key("visits", &[tag])?; // once
-    client.incr(&visits)?;
-    client.count(&visits, 2)?; // my.service.visits:3|c|#page:home
     client.flush()
 }
 

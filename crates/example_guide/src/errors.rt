@@ -31,7 +31,7 @@ impl ErrorHandler for DropsErrors {
     fn handle(&self, _error: MetricError) {}
 }
 
-// Sends without an answer: an error goes to the client's handler.
+/// Sends without an answer: an error goes to the client's handler.
 pub fn send_quietly<S: MetricSink, H: ErrorHandler>(client: &StatsdClient<Global, S, H>) {
     client
         .count_with_tags("visits", 1)

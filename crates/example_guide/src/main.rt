@@ -8,6 +8,7 @@
 //! - `clients`: clients, and what spies receive of them. `errors`: what a service does with errors.
 //! - `sinks`: sinks over UDP and over Unix sockets, and queues. `agent`: clients of the environment and of an agent.
 //! - `aggregated`: a sink that adds up lines, and a client whose calls make no line.
+//! - `shop`: a service whose client adds up by keys, over a queue to the place that the environment says.
 //! - `texts`: records, numbers, plans of packets, and packets that are read back.
 //! - `service`: the service of `example_service`, and a sink that reports, with the datagrams that a server receives.
 //! - `ported`: a program of the Rust crate.
@@ -21,6 +22,7 @@ mod kinds;
 mod own;
 mod ported;
 mod service;
+mod shop;
 mod sinks;
 mod texts;
 
@@ -36,6 +38,7 @@ fn report<R: Runtime>(rt: &R, alloc: Global) -> MetricResult<String> {
     text.push_str(&errors::report(rt, alloc)?)?;
     text.push_str(&texts::report(alloc)?)?;
     text.push_str(&aggregated::report(rt, alloc)?)?;
+    text.push_str(&shop::report(rt, alloc)?)?;
     text.push_str(&service::report(rt, alloc)?)?;
     Ok(text)
 }
@@ -44,7 +47,7 @@ fn report<R: Runtime>(rt: &R, alloc: Global) -> MetricResult<String> {
 fn send_unheard<R: Runtime + Env>(rt: &R, alloc: Global) -> MetricResult<()> {
     agent::count_by_environment(rt, alloc)?;
     aggregated::count_by_sums(rt, alloc)?;
-    aggregated::count_by_keys(rt, alloc)?;
+    shop::run(rt, alloc)?;
     ported::send_over_re_resolving_sink(rt, alloc)
 }
 

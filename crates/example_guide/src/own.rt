@@ -73,6 +73,7 @@ impl Metric for Event {
     }
 }
 
+/// Sends a value and a metric of such types.
 pub fn send_own<S: MetricSink>(
     client: &StatsdClient<Global, S>,
     event: &Event,

@@ -5,7 +5,7 @@ use clap::{Arg, ArgAction, ArgMatches, Command, Error};
 use std::alloc::{AllocError, AllocFailed, Global};
 
 /// The version of this program.
-pub const VERSION: &str = "0.7.0";
+pub const VERSION: &str = "0.8.0";
 
 const USAGE: &str = "statsd_send [OPTIONS] KIND NAME VALUE [TAG ..]   sends one metric
        statsd_send [OPTIONS]   reads one metric a line, and packs them";

@@ -11,7 +11,7 @@ use std::os::fd::AsFd;
 use std::os::unix::net::UnixStream;
 use std::time::Duration;
 
-// Returns how long a packet waits before that is told. This is also the longest time of one call of the system.
+// Returns how long a packet waits before the wait is reported. This is also the longest time of one call of the system.
 fn second() -> Duration {
     Duration::from_secs(1)
 }
@@ -37,9 +37,9 @@ pub struct SocketOfPath<'a> {
     socket: UnixSocket,
     // How long one call of `socket` waits.
     slice: Duration,
-    // A socket that doesn't wait. It is used while the patience is at its end.
+    // A socket that doesn't wait. It is used from when a packet has waited in vain until the path takes a packet again.
     hasty: Option<UnixSocket>,
-    // Whether it was told that packets wait.
+    // Whether it was reported that packets wait.
     is_told: bool,
 }
 
@@ -61,7 +61,7 @@ enum Ending {
     Interrupted,
 }
 
-// Returns how the wait ended that gave this answer.
+// Returns how a wait with this answer ended.
 fn ending_of(answer: &Result<usize, SinkError>) -> Ending {
     match answer {
         Err(SinkError::Io(why)) => match why.kind() {
@@ -126,7 +126,7 @@ impl<'a> SocketOfPath<'a> {
         self.socket.send_to(packet, self.path)
     }
 
-    // Tells that a packet has waited for a second, unless that was told of a packet just before it.
+    // Reports that a packet has waited for a second, unless that was reported of the packet before it.
     fn tell_wait(&mut self) {
         if self.is_told {
             return;

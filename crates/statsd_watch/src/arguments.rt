@@ -103,7 +103,7 @@ fn number<'a>(alloc: Global, name: &'a str, value: &'a str, help: &'a str) -> Ar
 // Returns what the command line may have.
 fn command<'a>(alloc: Global) -> Result<Command<'a>, AllocError> {
     Command::new(alloc, "statsd_watch")
-        .version("0.7.0")
+        .version("0.8.0")
         .about(ABOUT)
         .override_usage(USAGE)
         .after_help(NOTES)

@@ -83,8 +83,8 @@ impl Drops {
         }
     }
 
-    /// Looks at the count, and tells it if it grew. Returns whether packets were dropped so far. If the system doesn't say
-    /// it, nothing is told.
+    /// Looks at the count, and reports it if it grew. Returns whether packets were dropped so far. If the system
+    /// doesn't give the count, nothing is reported.
     pub fn look(&mut self, rt: &HostRuntime) -> bool {
         if self.is_due {
             self.is_due = false;

@@ -25,7 +25,11 @@ fn main(rt: HostRuntime) -> ExitCode {
     let words = match read_words(&rt) {
         Ok(words) => words,
         Err(ErrorKind::OutOfMemory) => return exit_with_error(&rt, 3, "out of memory"),
-        Err(_) => return exit_with_error(&rt, 2, "a word of the command line is not UTF-8"),
+        Err(_) => return exit_with_error(
+            &rt,
+            2,
+            "a word of the command line is not UTF-8: wants HOST:PORT, PORT or unix:PATH",
+        ),
     };
     match read_arguments(rt.alloc(), &words) {
         Ok(arguments) => run(&rt, &arguments),

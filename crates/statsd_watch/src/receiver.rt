@@ -80,7 +80,7 @@ impl Receiver {
         }
     }
 
-    /// Returns how long a packet is of which it isn't known whether it was received whole. A longer one is cut.
+    /// Returns the length from which on a packet counts as cut, because its end may not have been received.
     pub fn most(&self) -> usize {
         match self {
             Receiver::Udp(_) => MOST_OF_HOST,

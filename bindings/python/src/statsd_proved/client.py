@@ -46,9 +46,10 @@ class StatsClient(Metrics):
     lookup fails, the client keeps its address. If it has none yet, its packets are refused. `maxudpsize` is the capacity of
     a packet in bytes; a longer line is a packet of its own. The client sends the held text when a packet is full, every
     `flush_every` seconds, at `flush`, at `close`, at the end of a `with`, when the client is no longer referenced, and
-    when the process ends. A thread flushes every `flush_every` seconds; with 0 each call flushes, and with None neither
-    does. In a process that multiprocessing or Celery started each call flushes in place of the thread, because they end such
-    processes at once, and also under uWSGI without `enable-threads` and `threads`, where no thread runs. Threads may
+    when the process ends. A thread flushes every `flush_every` seconds. There is no such thread with 0, where each call
+    flushes, nor with None, where no call does. Each call flushes too, in place of the thread, in a process that
+    multiprocessing or Celery started, because they end such a process at once, and under uWSGI without `enable-threads`
+    and `threads`, where no thread runs. Threads may
     share a client. In the child of a fork the client starts empty, because the parent still has the held text. It notices
     each fork, also that of a program which doesn't tell Python of it, as uWSGI.
 
@@ -57,13 +58,13 @@ class StatsClient(Metrics):
     the oldest of them is dropped and counted. A packet that is too long for the socket is dropped and counted.
     `on_error` receives each of these errors: a TypeError, ValueError, OverflowError, MemoryError or StatusError of a
     call, or an OSError of a packet. If `raises` is set, the call raises the error too. If that is an OSError, the line of
-    the call is kept, so the caller must not make the call again. Without both, the first error is logged by `logging`.
+    the call is kept, so the caller must not make the call again. With neither, the first error is logged by `logging`.
 
     If `aggregate` is set, lines are added up before they are packed: counters are summed, of a gauge the last value is
     held, and of a set each whole number once, for each name with its tags, rate and container. What is held is sent every
-    `flush_every` seconds, at `flush`, at `close` and when the process ends. Other lines, as those of timers and
-    of texts in a set, are packed at once. If `packets` wait because the socket refuses them, a call for which one more has to be made keeps no line, and
-    counts as a bad one.
+    `flush_every` seconds, at `flush`, at `close` and when the process ends. Other lines, such as those of timers and of
+    texts in a set, are packed at once. If the socket refuses packets and `packets` of them wait, a call that would need
+    one more keeps no line, and is counted in `bad`.
 
     If `strict` is set, a call with a colon, a comma, a bar or a newline in its name, in a tag, in the container or in the
     text of a set is refused with a StatusError of the status SEPARATOR, and no line of it is kept. So no text can make,

@@ -19,7 +19,7 @@ _NAMES = (b"DD_DOGSTATSD_URL", b"DD_AGENT_HOST", b"DD_DOGSTATSD_PORT", b"STATSD_
 
 
 class VariableError(ValueError):
-    """A variable of the environment can't be used. `variable` is its name, and the text says what it wants."""
+    """A variable of the environment can't be used. `variable` is its name, and the text says what it has to be."""
 
     def __init__(self, variable: str, text: str) -> None:
         super().__init__(variable, text)

@@ -15,7 +15,7 @@ def period(flush_every: float | None) -> float | None:
     if flush_every is None:
         return None
     if not isinstance(flush_every, (int, float)) or not flush_every >= 0:
-        raise ValueError(f"flush_every is {flush_every!r}: it has to be None or seconds from 0 on")
+        raise ValueError(f"flush_every is {flush_every!r}: it has to be None, or a number of seconds that is 0 or more")
     return min(flush_every, threading.TIMEOUT_MAX)
 
 

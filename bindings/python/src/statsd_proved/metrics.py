@@ -44,8 +44,8 @@ class Metrics(abc.ABC):
 
     Each call takes a `rate`. If the rate is below 1, only this share of the calls is kept, chosen at random, and the
     line has the rate, by which the server scales. Each call also takes `tags`, a `container` and a `timestamp` (seconds
-    since 1970, of which the whole ones are sent), which servers with the Datadog fields read. A value is an int, a float or a Decimal. An empty list
-    of values is refused, because no server reads a metric without a value.
+    since 1970, rounded down), which servers with the Datadog fields read. A value is an int, a float or a Decimal. An
+    empty list of values is refused, because no server reads a metric without a value.
     """
 
     _packer: Packer

@@ -15,7 +15,7 @@ if TYPE_CHECKING:
 
 _log = logging.getLogger("statsd_proved")
 _clients: weakref.WeakValueDictionary[int, StatsClient] = weakref.WeakValueDictionary()
-_watched = 0  # the process whose end multiprocessing tells
+_watched = 0  # the process whose end multiprocessing reports
 
 
 def watch(client: StatsClient) -> None:

@@ -35,7 +35,7 @@ class Timer:
 
     def __call__(self, function: Function) -> Function:
         """Returns a function that measures each of its calls, also if several threads call it at once. A coroutine is
-        measured from its first step to its end. Of a generator only the call is measured that makes it."""
+        measured from its first step to its end. Of a generator, only the call that makes it is measured."""
         if inspect.iscoroutinefunction(function) or inspect.iscoroutinefunction(getattr(function, "__call__", None)):
             @_wraps(function)
             async def timed_coroutine(*args: Any, **kwargs: Any) -> Any:

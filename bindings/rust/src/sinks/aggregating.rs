@@ -121,10 +121,11 @@ impl AggregatingMetricSinkBuilder {
 /// context, and then flushes the other sink. The drop flushes too, and tries again as long as it passes a line on. What the
 /// other sink still refuses then is lost.
 ///
-/// Each other line is passed on at once: with a time, of a meter, of a decimal counter, too long, and, unless values are
-/// packed, of a timer, a histogram or a distribution. `emit` fails if the other sink refuses such a line, which is dropped
-/// then. A line of what was held waits until the other sink takes it. `emit` fails too if such lines wait, and there is no
-/// room for one more. The line is not added then. After any other call the line is added.
+/// These lines are not held, but passed on at once: lines with a time, meters, counters with decimal places, lines that
+/// are too long, and, unless values are packed, timers, histograms and distributions. `emit` fails if the other sink
+/// refuses such a line, which is dropped then. A line of what was held waits until the other sink takes it. `emit`
+/// fails too if such lines wait, and there is no room for one more. The line is not added then. After any other call
+/// the line is added.
 ///
 /// The other sink may call this one, for example to count its packets: then the line is added, and what has to be passed on
 /// is passed on after the line that the other sink is taking. If the other sink panics, the call panics, and the line that
@@ -178,8 +179,8 @@ impl<S: MetricSink> AggregatingMetricSink<S> {
     }
 }
 
-/// The key of a counter or a gauge, with all else that its lines have but the number. An [`AggregatingMetricSink`] makes
-/// it, and adds numbers up by it without making a line.
+/// The key of a counter or a gauge: its name, tags and all else that its lines have, except the number. An
+/// [`AggregatingMetricSink`] makes it, and adds numbers up by it without making a line.
 #[derive(Clone, Copy, Debug)]
 pub struct LineKey {
     number: usize,
@@ -312,7 +313,7 @@ impl<S: MetricSink> Locked<S> {
         let (mut turns, is_inner) = self.enter();
         while !call(&mut turns.sums)? {
             if is_inner {
-                return Err(io::Error::new(io::ErrorKind::WouldBlock, "as many lines wait as may"));
+                return Err(io::Error::new(io::ErrorKind::WouldBlock, "too many lines wait for the other sink"));
             }
             if let Some(refusal) = self.pass_on(turns, "") {
                 return Err(refusal.error);
@@ -383,9 +384,9 @@ impl<S: MetricSink> Locked<S> {
 }
 
 impl<S: MetricSink> Drop for Locked<S> {
-    /// Passes on what is held, and tries again after a refusal, as long as a try passes a line on. Then flushes the other sink,
-    /// and tells the last refusal. A panic of the other sink or of the handler goes no further, because it may come while
-    /// another one unwinds. That of the other sink loses its line.
+    /// Passes on what is held, and tries again after a refusal, as long as a try passes a line on. Then flushes the
+    /// other sink, and reports the last refusal. A panic of the other sink or of the handler goes no further, because
+    /// it may come while another one unwinds. That of the other sink loses its line.
     fn drop(&mut self) {
         let refused = loop {
             let before = self.turns().passed;

@@ -39,7 +39,7 @@ fn make_key(alloc: Global, keys: &mut Vec<LineKey>, line: &[u8]) -> Result<usize
 }
 
 /// Makes the key of the counter that a line raises, or of the gauge that it sets, and writes its number into `key`. The
-/// key is gone with the sums.
+/// key can be used until the sums are dropped.
 #[unsafe(no_mangle)]
 pub extern "C" fn cadence_make_key(
     alloc: Global,
