@@ -1,4 +1,4 @@
--- The result that a caller gets when an answer is opened.
+-- What a caller gets of an answer that wasn't opened yet.
 use Rattle.std.specs.Prelude.{ℕ, Result, Ok, Err}
 use Rattle.cadence_errors.specs.declared.SinkError.{SinkError}
 

@@ -52,7 +52,7 @@ module _ {W A : Type 0} (kind : W → WriterKind) (history : W → PacketHistory
       pub accepted : accepted_of new ≡ accepted_of old ++ (line, n) ∷ []
       pub writes : WritesLine (recorded_kind kind) (recorded_history history) (packer_of old) (packer_of new) line (Ok n)
 
-    -- The packer made the whole write of this line, and it failed with this error.
+    -- The packer was asked to the end for this line, and refused it with this error.
     pub record Refuses (line : List ℕ) (e : SinkError) : Type 0 where
       pub accepted : accepted_of new ≡ accepted_of old
       pub writes : WritesLine (recorded_kind kind) (recorded_history history) (packer_of old) (packer_of new) line (Err e)

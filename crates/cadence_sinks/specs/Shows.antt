@@ -22,8 +22,8 @@ abbrev pub SpyLines : Type 0 → Type 0 → Type 0
 SpyLines R A = RecordedPacker (MessageWriter R A) A
 
 module _ {D R A : Type 0} (may_give : SinkError → Bool) where
-  -- The packer of a socket took just this line, or made the whole write of it and failed. The caller gets the number
-  -- that the packer returned; of a line that with its newline fits into an empty buffer it gets the length.
+  -- The packer of a socket took just this line, or was asked to the end for it and refused it. The caller gets the
+  -- number that the packer returned; of a line that with its newline fits into an empty buffer it gets the length.
   abbrev pub SocketShows : ℕ → List ℕ → Result (Packed (SocketLines D R A)) (Refused (SocketLines D R A)) → SinkError → Type 0
   SocketShows buffer line answer e =
       ShowsLine (λ _. socket_kind may_give) (λ w. history_of [] w.refusals) line answer e
@@ -34,8 +34,8 @@ module _ {D R A : Type 0} (may_give : SinkError → Bool) where
   SocketShowsFlush answer e = ShowsFlush (λ _. socket_kind may_give) (λ w. history_of [] w.refusals) answer e
 
 module _ {R A : Type 0} where
-  -- The packer of a spy took just this line, or made the whole write of it and failed. The caller gets the number that
-  -- the packer returned.
+  -- The packer of a spy took just this line, or was asked to the end for it and refused it. The caller gets the number
+  -- that the packer returned.
   abbrev pub SpyShows : List ℕ → Result (Packed (SpyLines R A)) (Refused (SpyLines R A)) → SinkError → Type 0
   SpyShows line answer e =
       ShowsLine (λ _. queue_kind) (λ w. history_of [] w.refusals) line answer e
