@@ -12,27 +12,27 @@ const USAGE: &str = "statsd_send [OPTIONS] KIND NAME VALUE [TAG ..]   sends one 
 
 const NOTES: &str =
     "KIND   c, ms, g, m, h, s, d, or count, time, gauge, meter, histogram, set, distribution
-VALUE  c, s   a whole number; of s, no name
+VALUE  c, s   a whole number; a member of a set can't be a name
        m      a whole number from 0
        ms     whole milliseconds, or a duration of them, as 1250ms or 1.25s
        g, d   a number, as 1 or 0.75
        h      a number, or a duration, which is sent in nanoseconds: 1.5ms is 1500000
-       ms, h and d take several, as 12,250, which a DogStatsD server of version 1.1 reads
-       g with a minus is a decrement to most Statsd servers; to DogStatsD it is the value;
-       a plus is never sent: g load +3 is the value 3
-       Numbers may also be as tools print them: .5, +1, 1e+06; not those of durations
+       ms, h and d take several values, as 12,250, which a DogStatsD server of version 1.1 reads
+       Most Statsd servers read a gauge with a minus as a decrement, DogStatsD as the value.
+       A plus is never sent: g load +3 sets the gauge to 3.
+       Numbers, but not those of durations, may be as tools print them: .5, +1, 1e+06.
 TAG    K:V or V; behind --, and in --tag=TAG, also one that begins with a dash
 
 Status: 0 sent, 1 input or sending failed, or packets were lost, 2 words or lines that can't be read, 3 memory.
 As in: tail -F access.log | sed -un 's/.* \\([0-9]*\\) [0-9]*$/c hits 1 code:\\1/p' | statsd_send --flush-every 0
-A signal loses the lines that wait to be sent. So in a pipe the last command is to be
-(trap '' TERM INT HUP; exec statsd_send ..): it sends all when the commands before it end.
+A signal loses the lines that wait to be sent. So let the last command of a pipe be
+(trap '' TERM INT HUP; exec statsd_send ..), which sends all lines when the commands before it end.
 ";
 
-const DROP: &str = "drops a packet for which a Unix socket has no room: as --wait 0";
+const DROP: &str = "drops a packet if a Unix socket has no room for it, as --wait 0 does";
 
 const WAIT: &str = "how long a pipe waits for room at a Unix socket; after that packets are
-lost until it takes one again [by default without an end]";
+lost until the socket takes one again [by default it waits for ever]";
 
 const STRICT: &str = "refuses tags of the environment that have a second colon";
 
@@ -42,7 +42,7 @@ const METRICS: &str = "Each metric";
 
 const PACKETS: &str = "Packets";
 
-const TO: &str = "where to, also as udp://HOST:PORT, or unix:PATH [by default
+const TO: &str = "where to send, also as udp://HOST:PORT or unix:PATH [by default
 DD_DOGSTATSD_URL of the environment, else DD_AGENT_HOST and
 DD_DOGSTATSD_PORT, else STATSD_HOST and STATSD_PORT, else
 127.0.0.1:8125]";
@@ -56,11 +56,11 @@ const CONTAINER: &str = "adds the id of a container";
 
 const TIME: &str = "adds a time, in seconds since 1970";
 
-const RATE: &str = "says that the lines are a sample, so that the server multiplies
-them; it leaves out no line";
+const RATE: &str = "adds this rate to each line, for lines that are a sample already,
+so that the server multiplies them; it leaves out no line";
 
-const SAMPLE: &str = "sends each line with this chance, as 0.1, and says so as --rate
-does; the other lines are left out";
+const SAMPLE: &str = "sends each line with this chance, such as 0.1, and adds it as the
+rate; the other lines are left out";
 
 const CAPACITY: &str = "how much a packet holds [by default 512]";
 
@@ -68,9 +68,9 @@ const FLUSH_EVERY: &str = "sends buffered lines after each MS milliseconds, also
 input comes; with 0 no line waits; without this option lines wait
 until a packet is full or the input ends";
 
-const AGGREGATE: &str = "adds up counters, gauges and members of sets of the input, and sends
-what they come to after each --flush-every [by default 10000], and at
-the end of the input; other lines are not added up";
+const AGGREGATE: &str = "adds up the counters, gauges and sets of the input, and sends the
+sums after each --flush-every [by default 10000], and at the end of
+the input; other lines are not added up";
 
 // Returns the argument of an option that has a value. It may be there several times.
 fn option<'a>(

@@ -12,8 +12,9 @@ const ABOUT: &str =
     "Receives packets, by default at 127.0.0.1:8125, and prints each metric as it comes.";
 
 const NOTES: &str =
-    "For a line that can't be read, its packet, its line, the first byte that can't be read and what is
-wanted there are written to the standard error, and the other lines are printed.
+    "A line that can't be read is reported on the standard error, with its packet, its number, the first byte
+that can't be read, and what has to be there. The other lines are printed. Lines are read as this library
+writes them. Of those of other clients some can't be read: +2|g, 1.50|g, texts in sets, events, service checks.
 
 *:PORT, or :PORT, receives at all addresses of IPv4, and PORT at 127.0.0.1. The file of a Unix socket
 to which nobody listens any more is replaced.
