@@ -11,14 +11,14 @@ const USAGE: &str = "statsd_watch [OPTIONS] [HOST:PORT | *:PORT | PORT | unix:PA
 const ABOUT: &str =
     "Receives packets, by default at 127.0.0.1:8125, and prints each line as it comes.";
 
-const NOTES: &str = "A line is printed as columns with a tab between each two:
-metric      NAME, VALUES, TYPE, the other fields, and perhaps a remark
-event       the whole line
-check       the whole line, which is a service check
-unreadable  the whole line
-The remark is on a metric that statsd_listen can't read: the first byte that it can't read, and what it wants
-there. Servers may read the line all the same. A line that no server can read is also told on the standard
-error. With --only, --kind or --tag only metrics are printed; a * at the end stands for any text.
+const NOTES: &str =
+    "A line is printed as columns with a tab between each two. Of a metric they are the word metric, the name, the
+values, the type, the other fields, and perhaps a remark. Of an event, a service check and a line that no
+server can read they are the word event, check or unreadable, and the whole line.
+
+The remark is on a metric that statsd_listen can't read, with the first byte that it can't read, and what it
+wants there. Servers may read the line all the same. A line that no server can read is also told on the
+standard error. With --only, --kind or --tag only metrics are printed; a * at the end stands for any text.
 
 *:PORT, or :PORT, receives at all addresses of IPv4, and PORT at 127.0.0.1. The file of a Unix socket
 to which nobody listens any more is replaced.
