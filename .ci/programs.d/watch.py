@@ -3,13 +3,37 @@ import errno, os, re, signal, socket, subprocess, tempfile, time
 
 from running import LONGEST, bound, result_of, status_of
 
-# Packets; the lines that are printed for them, and the messages.
-WATCHED_PACKETS = [b'a:1:2.5|ms|@0.5|#k:v,w|c:id|T7\n', b'b:3|c\nc:x|c\n\n', b'":|g']
-WATCHED = [b'a:1:2.5|ms|@0.5|#k:v,w|c:id|T7\n', b'b:3|c\n', b'":|g\n']
-UNWATCHED = [
-    (b'2, line 2, byte 3', b'a number, as 1 or -0.5, and then a bar', b'c:x|c'),
-    (b'2, line 3, byte 1', b'a name and then a colon', b''),
+# Packets; the rows that are printed for them, and the message.
+WATCHED_PACKETS = [b'a:1:2.5|ms|@0.5|#k:v,w|c:id|T7\n', b'b:3|c\nc\n\n', b'":|g']
+WATCHED = [b'metric\ta\t1:2.5\tms\t|@0.5|#k:v,w|c:id|T7\n', b'metric\tb\t3\tc\t\nunreadable\tc\n', b'metric\t"\t\tg\t\n']
+WATCHED_JSON = [
+    b'{"is":"metric","name":"a","values":[1,2.5],"type":"ms","rate":0.5,"tags":["k:v","w"],"container":"id","time":7}\n',
+    b'{"is":"metric","name":"b","values":[3],"type":"c"}\n{"is":"unreadable","line":"c"}\n',
+    b'{"is":"metric","name":"\\"","values":[],"type":"g"}\n',
 ]
+UNREADABLE = b'statsd_watch: packet 2, line 2: wants NAME:VALUE|TYPE: c\n'
+VISITS = b'metric\ta\t1\tc\t\n'  # what is printed of the line a:1|c
+
+# Lines of other clients; the row of each without its first word and its remark, and the beginning of the remark.
+WANTED = b': statsd_listen wants '
+FOREIGN = [
+    (b'load:0.50|g', b'load\t0.50\tg\t', b'byte 10'),
+    (b'a:.5|g', b'a\t.5\tg\t', b'byte 3'),
+    (b'a:1e-05|g', b'a\t1e-05\tg\t', b'byte 4'),
+    (b'load:+3|g', b'load\t+3\tg\t', b'byte 6'),
+    (b'a:-0|g', b'a\t-0\tg\t', b'byte 5'),
+    (b'a:NaN|g', b'a\tNaN\tg\t', b'byte 3'),
+    (b'users:alice|s', b'users\talice\ts\t', b'byte 7'),
+    (b'a:1|c|#url:http://x:80/', b'a\t1\tc\t|#url:http://x:80/', b'byte 16'),
+    (b'a:1|c|#a:b|@0.5', b'a\t1\tc\t|#a:b|@0.5', b'byte 12'),
+    (b'a:1|c|#a|T7|c:id', b'a\t1\tc\t|#a|T7|c:id', b'byte 12'),
+    (b'a:1|c|c:id|e:it-false,cn-x|card:low', b'a\t1\tc\t|c:id|e:it-false,cn-x|card:low', b'byte 12'),
+    (b'a:1|c|x', b'a\t1\tc\t|x', b'byte 7'),
+    (b'a:1|c|', b'a\t1\tc\t|', b'byte 7'),
+    (b'a:1|x', b'a\t1\tx\t', b'byte 5'),
+    (b'a\tb:\xff|c', b'a\\x09b\t\\xff\tc\t', b'byte 5'),
+]
+EVENT, CHECK = b'_e{5,4}:title|text|t:warning|#a:b', b'_sc|web|0|#a:b|m:ok'
 
 
 def watch_cases(program):
@@ -17,14 +41,12 @@ def watch_cases(program):
     yield 'the version', result_of([program, '--version'], b''), (0, b'statsd_watch 0.8.0\n', b'')
     status, text, errors = result_of([program, '--help'], b'')
     yield 'help', (status, b'--strict' in text, errors), (0, True, b'')
+    yield from foreign_cases(program)
+    yield from filter_cases(program)
+    yield from top_cases(program)
     yield 'no place', result_of([program, 'nowhere'], b''), (
         2, b'', b'statsd_watch: nowhere: wants HOST:PORT, PORT or unix:PATH, as in 127.0.0.1:8125\n')
-    for options, wanted in [
-        ([], WATCHED), (['--strict'], WATCHED[:1] + WATCHED[-1:]),
-        (['--json'], [
-            b'{"name":"a","values":[1,2.5],"type":"ms","rate":0.5,"tags":["k:v","w"],"container":"id","time":7}\n',
-            b'{"name":"b","values":[3],"type":"c"}\n', b'{"name":"\\"","values":[],"type":"g"}\n']),
-    ]:
+    for options, wanted in [([], WATCHED), (['--strict'], WATCHED[:1] + WATCHED[-1:]), (['--json'], WATCHED_JSON)]:
         with tempfile.TemporaryDirectory() as room:
             yield from watch_path(program, f'{room}/s', options, b''.join(wanted))
     with socket.socket(socket.AF_INET, socket.SOCK_DGRAM) as sender:
@@ -39,7 +61,7 @@ def watch_cases(program):
             while run.poll() is None:
                 sender.sendto(b'a:1|c\n', place)
                 time.sleep(0.05)
-            yield 'a sender', (run.returncode, run.stdout.read()), (0, b'127.0.0.1:%d a:1|c\n' % port)
+            yield 'a sender', (run.returncode, run.stdout.read()), (0, b'127.0.0.1:%d\t%s' % (port, VISITS))
     yield from watch_places(program)
     yield from watch_again(program)
     yield from watch_long(program)
@@ -55,6 +77,63 @@ def watch_error(doing, number):
     return f'statsd_watch: {doing}: {os.strerror(number)} (os error {number})\n'.encode()
 
 
+def watched(program, options, packets):
+    """Returns what a run with these options prints for packets to a path, and its status."""
+    with tempfile.TemporaryDirectory() as room:
+        run = started_at(program, f'{room}/s', '--count', str(len(packets)), *options)
+        with socket.socket(socket.AF_UNIX, socket.SOCK_DGRAM) as sender:
+            for packet in packets:
+                sender.sendto(packet, f'{room}/s')
+        return (*run.communicate(timeout=LONGEST), run.returncode)
+
+
+def foreign_cases(program):
+    """Yields runs that get lines of other clients. A server can read each of them."""
+    for line, parts, place in FOREIGN:
+        output, errors, status = watched(program, [], [line])
+        row = b'metric\t' + parts + b'\t' + place + WANTED
+        yield f'{line}: {output}', (output.startswith(row), output.count(b'\n'), errors, status), (True, 1, b'', 0)
+    for line, row in [(EVENT, b'event\t%s\n' % EVENT), (CHECK, b'check\t%s\n' % CHECK), (b'', b''), (b'\n', b'')]:
+        yield line, watched(program, [], [line]), (row, b'', 0)
+    row = b'metric\ta\t1\tc\t\n'
+    yield 'CR LF', watched(program, [], [b'a:1|c\r\na:1|c\r\n\r\n', b'a:1|c\r']), (row * 3, b'', 0)
+    output = b'{"is":"metric","name":"a","values":[".5",1e-05,"x"],"type":"ms","tags":["k:v:w"],"rate":0.5,"fields":["e:x","#z"],"remark":"byte 3'
+    got = watched(program, ['--json'], [b'a:.5:1e-05:x|ms|#k:v:w|@0.5|e:x|#z'])
+    yield f'as JSON: {got}', (got[0].startswith(output), *got[1:]), (True, b'', 0)
+    yield 'an event as JSON', watched(program, ['--json'], [EVENT]), (b'{"is":"event","line":"%s"}\n' % EVENT, b'', 0)
+
+
+FILTERED = [b'app.a:1|c|#env:prod,web\napp.b:2|ms|@0.5|#env:dev\n', b'other:3|c|c:x|#web\n_sc|app|0|#web\nbad\n']
+FILTERS = {'app.a': '1', 'app.*': '12', '*': '123', 'app': '', 'app.a*': '1'}, {'c': '13', 'ms': '2', 'm*': '2', 'm': ''}, {
+    'web': '13', 'env:*': '12', 'env:prod': '1', 'env': '', 'c:x': ''}
+
+
+def filter_cases(program):
+    """Yields runs with filters, and which of the metrics they print, by their values."""
+    message = b'statsd_watch: packet 2, line 3: wants NAME:VALUE|TYPE: bad\n'
+    for option, wanted in zip(['--only', '--kind', '--tag'], FILTERS):
+        for pattern, values in wanted.items():
+            output, errors, status = watched(program, [option, pattern], FILTERED)
+            got = b''.join(row.split(b'\t')[2] for row in output.splitlines()).decode()
+            yield f'{option} {pattern}', (got, errors, status), (values, message, 2)
+    got = watched(program, ['--only', 'app.*', '--kind', 'c', '--tag', 'web'], FILTERED)
+    yield 'three filters', got, (b'metric\tapp.a\t1\tc\t|#env:prod,web\n', message, 2)
+
+
+def top_cases(program):
+    """Yields runs that count lines by name: at the end, and again and again."""
+    packets = [b'b:1|c\na:1|c\nb:2|g\n', b'b:3|g\na:x|s\n%s\nc:1|c\n' % EVENT]
+    table = b'3\tmetric\tb\n2\tmetric\ta\n1\tevent\n1\tmetric\tc\n\n'
+    yield 'counts', watched(program, ['--top', '0'], packets), (table, b'', 0)
+    yield 'counts of some', watched(program, ['--top', '60', '--only', 'b'], packets), (b'3\tmetric\tb\n\n', b'', 0)
+    output, errors, status = watched(program, ['--top', '0', '--json'], [])
+    yield 'counts as JSON', (output, b'--json' in errors, status), (b'', True, 2)
+    with tempfile.TemporaryDirectory() as room:
+        run = started_at(program, f'{room}/s', '--for', '3', '--top', '1')
+        output, errors = run.communicate(timeout=LONGEST)
+        yield 'counts each second', (output.count(b'\n') >= 2, errors, run.returncode), (True, b'', 0)
+
+
 def watch_path(program, path, options, wanted):
     """Yields what a run with these options prints for the packets, which come to a path."""
     pipe = subprocess.PIPE
@@ -65,8 +144,7 @@ def watch_path(program, path, options, wanted):
             for packet in WATCHED_PACKETS:
                 sender.sendto(packet, path)
         output, errors = run.communicate(timeout=LONGEST)
-        messages = b''.join(b'statsd_watch: packet %s: wants %s: %s\n' % fault for fault in UNWATCHED)
-        yield f'watched, {options}', (run.returncode, output, errors), (2, wanted, messages)
+        yield f'watched, {options}', (run.returncode, output, errors), (2, wanted, UNREADABLE)
         yield f'the file after that, {options}', os.path.exists(path), False
 
 
@@ -86,7 +164,7 @@ def watch_places(program):
                 while run.poll() is None:
                     sender.sendto(b'a:1|c\n', ('127.0.0.1', port))
                     time.sleep(0.05)
-            yield f'the place {form}', (run.returncode, run.stdout.read()), (0, b'a:1|c\n')
+            yield f'the place {form}', (run.returncode, run.stdout.read()), (0, VISITS)
 
 
 def started_at(program, path, *options):
@@ -110,7 +188,7 @@ def watch_again(program):
         with started_at(program, path, '--count', '1') as run:
             with socket.socket(socket.AF_UNIX, socket.SOCK_DGRAM) as sender:
                 sender.sendto(b'a:1|c\n', path)
-            yield 'the start after it', (*run.communicate(timeout=LONGEST), run.returncode), (b'a:1|c\n', b'', 0)
+            yield 'the start after it', (*run.communicate(timeout=LONGEST), run.returncode), (VISITS, b'', 0)
         taken = lambda path: (1, b'', watch_error(f'cannot listen at unix:{path}', errno.EADDRINUSE))
         with bound(path):
             yield 'a path that is taken', result_of([program, f'unix:{path}'], b''), taken(path)
@@ -120,6 +198,7 @@ def watch_again(program):
 
 
 SO_SNDBUFFORCE, UNCUT, MOST_OF_PATH = 32, b'visits:1|c|#page:home\n', 1 << 19
+UNCUT_ROW = b'metric\tvisits\t1\tc\t|#page:home\n'
 
 
 def watch_long(program):
@@ -129,7 +208,7 @@ def watch_long(program):
         path, lines = f'{room}/s', 200000 // len(UNCUT)
         run = started_at(program, path, '--count', '1')
         sender.sendto(UNCUT * lines, path)
-        yield 'a long datagram', (*run.communicate(timeout=LONGEST), run.returncode), (UNCUT * lines, b'', 0)
+        yield 'a long datagram', (*run.communicate(timeout=LONGEST), run.returncode), (UNCUT_ROW * lines, b'', 0)
         run = started_at(program, path, '--count', '2')
         try:
             sender.setsockopt(socket.SOL_SOCKET, SO_SNDBUFFORCE, 2 * MOST_OF_PATH)
@@ -140,7 +219,7 @@ def watch_long(program):
             return
         sender.sendto(b'a:1|c\n', path)
         message = b'statsd_watch: packet 1: has %d bytes or more: wants fewer\n' % MOST_OF_PATH
-        yield 'a datagram that is cut', (*run.communicate(timeout=LONGEST), run.returncode), (b'a:1|c\n', message, 2)
+        yield 'a datagram that is cut', (*run.communicate(timeout=LONGEST), run.returncode), (VISITS, message, 2)
 
 
 FLOOD, DROPPED = 1000, re.compile(rb'statsd_watch: the system dropped (\d+) packets: they came faster than they are printed\n')
@@ -158,7 +237,7 @@ def watch_flood(program):
             output, errors = run.communicate(timeout=2 * LONGEST)
         if not was_late or seconds == LONGEST:
             dropped = DROPPED.fullmatch(errors)
-            got = run.returncode, output.count(b'a:1|c\n') + int(dropped[1] if dropped else 0)
+            got = run.returncode, output.count(VISITS) + int(dropped[1] if dropped else 0)
             yield f'packets in a flood, {errors}', got, (1, sent)
             return
 

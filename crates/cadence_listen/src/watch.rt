@@ -1,20 +1,30 @@
-//! Prints the metrics of packets as they come.
-use crate::place::{Reading, read_or_find};
+//! Prints or counts the lines of packets as they come.
+ghost use Rattle.std.specs.Prelude.{◌≡◌, ◌++◌, List, IfOk, OnOk, IsFalse, IsTrue, false, string_bytes, ℕ};
+ghost use Rattle.std.specs.Io.KnownBytes.{Appends};
+ghost use Rattle.cadence_listen.specs.Filters.{pieces};
+ghost use Rattle.cadence_listen.specs.Readable.{IsReadable, IsUnreadable, Tells};
+ghost use Rattle.cadence_listen.specs.Rows.{AreRows, IsRow, IsRowOf, IsWithoutLast, front_column};
+
+use crate::counts::Counts;
+use crate::filter::Filter;
+use crate::object::{push_line, push_member, push_raw};
+use crate::pieces::split_piece;
+use crate::remark::remark_on;
+use crate::row::push_row;
 use cadence_cli::push_bytes;
-use cadence_errors::MetricError;
-use cadence_text::line::OwnedMetric;
-use cadence_value::decimal::Decimal;
-use serde_json::Value;
+use cadence_read::{AnyLine, cut_line};
 use std::alloc::{AllocError, AllocFailed, Global};
 use std::io;
 use std::io::Write;
 
-/// How the metrics of packets are printed.
+/// Which lines of packets are printed, and how.
 #[derive(Clone, Copy, Debug, Default)]
-pub struct WatchFormat {
-    /// Whether each metric is printed as a JSON object.
+pub struct WatchFormat<'a> {
+    /// Which lines are printed.
+    pub filter: Filter<'a>,
+    /// Whether each line is printed as a JSON object.
     pub is_json: bool,
-    /// Whether a packet with a line that can't be read is refused whole.
+    /// Whether a packet with a line that no server can read is refused whole.
     pub is_strict: bool,
 }
 
@@ -29,7 +39,7 @@ pub struct Origin<'a> {
     pub sender: Option<&'a str>,
 }
 
-/// Why the metrics of a packet were not printed.
+/// Why the lines of a packet were not printed.
 #[derive(Debug, Drop)]
 pub enum WatchError {
     /// Writing to the output failed.
@@ -50,74 +60,29 @@ impl<T: Drop> From<AllocFailed<T>> for WatchError {
     }
 }
 
-impl From<MetricError> for WatchError {
-    fn from(_error: MetricError) -> WatchError {
-        WatchError::OutOfMemory
+// Returns a text without this byte at its end.
+fn without_last(text: &[u8], last: u8) -> &[u8]
+    ensures { IsWithoutLast last text.now result.now }
+{
+    match text.strip_suffix(&[last]) {
+        Some(front) => front,
+        None => text,
     }
 }
 
-// Returns what has to follow the beginning of a line.
-fn wanted(front: &[u8]) -> &'static str {
-    if !front.contains(&b':') {
-        return "a name and then a colon";
-    }
-    match front.iter().filter(|byte| **byte == b'|').count() {
-        0 => "a number, as 1 or -0.5, and then a bar",
-        1 => "the type c, ms, g, m, h, s or d",
-        _ => "@RATE, #TAGS, c:CONTAINER and TTIME, in this order",
+// Returns the remark on a line. Only a metric's line has one.
+fn remark_of(alloc: Global, line: &[u8], is: AnyLine<'_>) -> Result<Option<String>, AllocError> {
+    match is {
+        AnyLine::MetricLine(_) => remark_on(alloc, line),
+        _ => Ok(None),
     }
 }
 
-// Adds a member of a JSON object whose text is already JSON.
-fn push_raw(text: &mut String, name: &str, value: &str) -> Result<(), AllocError> {
-    text.push(if text.is_empty() { '{' } else { ',' })?;
-    write!(text, "\"{name}\":{value}")
-}
-
-// Adds a member of a JSON object that is a text.
-fn push_member(
-    alloc: Global,
-    text: &mut String,
-    name: &str,
-    value: &str,
-) -> Result<(), AllocError> {
-    let quoted = Value::String(String::from_str(alloc, value)?).to_string(alloc)?;
-    push_raw(text, name, &quoted)
-}
-
-// Returns the numbers as a JSON array.
-fn numbers_of(alloc: Global, numbers: &[Decimal]) -> Result<String, AllocError> {
-    let mut text = String::new(alloc);
-    for number in numbers {
-        text.push(if text.is_empty() { '[' } else { ',' })?;
-        write!(text, "{number}")?;
-    }
-    if text.is_empty() {
-        text.push('[')?;
-    }
-    text.push(']')?;
-    Ok(text)
-}
-
-// Returns the tags as a JSON array of texts.
-fn tags_of(alloc: Global, metric: &OwnedMetric<Global>) -> Result<String, AllocError> {
-    let mut text = String::new(alloc);
-    for (key, value) in &metric.tags {
-        text.push(if text.is_empty() { '[' } else { ',' })?;
-        let tag = match key {
-            Some(key) => format!(in alloc; "{key}:{value}")?,
-            None => String::from_str(alloc, value)?,
-        };
-        text.push_str(&Value::String(tag).to_string(alloc)?)?;
-    }
-    text.push(']')?;
-    Ok(text)
-}
-
-// Returns a metric as a JSON object in one line.
+// Returns what is printed of a line as a JSON object.
 fn json_of(
     alloc: Global,
-    metric: &OwnedMetric<Global>,
+    line: &[u8],
+    is: AnyLine<'_>,
     origin: Origin<'_>,
 ) -> Result<String, AllocError> {
     let mut text = String::new(alloc);
@@ -125,115 +90,225 @@ fn json_of(
         push_raw(&mut text, "received", time)?;
     }
     if let Some(sender) = origin.sender {
-        push_member(alloc, &mut text, "sender", sender)?;
+        push_member(alloc, &mut text, "sender", sender.as_bytes())?;
     }
-    push_member(alloc, &mut text, "name", &metric.name)?;
-    push_raw(&mut text, "values", &numbers_of(alloc, &metric.numbers)?)?;
-    let kind = metric.kind;
-    push_member(alloc, &mut text, "type", &format!(in alloc; "{kind}")?)?;
-    if let Some(rate) = metric.rate {
-        push_raw(&mut text, "rate", &format!(in alloc; "{rate}")?)?;
-    }
-    if !metric.tags.is_empty() {
-        push_raw(&mut text, "tags", &tags_of(alloc, metric)?)?;
-    }
-    if let Some(container) = &metric.container {
-        push_member(alloc, &mut text, "container", container)?;
-    }
-    if let Some(time) = metric.time {
-        push_raw(&mut text, "time", &format!(in alloc; "{time}")?)?;
+    push_line(alloc, &mut text, is)?;
+    if let Some(remark) = remark_of(alloc, line, is)? {
+        push_member(alloc, &mut text, "remark", remark.as_bytes())?;
     }
     text.push_str("}\n")?;
     Ok(text)
 }
 
-// Returns the line of a metric as it is printed: after the time and the sender, if they are printed.
-fn plain_of(alloc: Global, line: &[u8], origin: Origin<'_>) -> Result<String, AllocError> {
-    let mut text = String::new(alloc);
-    if let Some(time) = origin.time {
-        write!(text, "{time} ")?;
+// Adds a text and a tab, if there is a text.
+fn push_front(out: &mut String, text: Option<&str>) -> Result<(), AllocError>
+    ensures { OnOk result (string_bytes out.new
+        ≡ string_bytes out.old ++ front_column text.entry) }
+{
+    match text {
+        Some(text) => {
+            out.push_str(text)?;
+            out.push('\t')
+        }
+        None => Ok(()),
     }
-    if let Some(sender) = origin.sender {
-        write!(text, "{sender} ")?;
-    }
-    push_bytes(&mut text, line)?;
-    text.push('\n')?;
-    Ok(text)
 }
 
-// Reports that a line can't be read. An error of `errors` is ignored.
+// Adds a tab and the remark on a line, if it has one.
+fn push_remark(
+    alloc: Global,
+    out: &mut String,
+    line: &[u8],
+    is: AnyLine<'_>,
+) -> Result<(), AllocError>
+    ensures { OnOk result ((remark : List ℕ) ×
+        (string_bytes out.new ≡ string_bytes out.old ++ remark)) }
+{
+    match remark_of(alloc, line, is)? {
+        Some(remark) => {
+            out.push('\t')?;
+            out.push_str(&remark)
+        }
+        None => Ok(()),
+    }
+}
+
+// Adds what is printed of a line as columns.
+fn push_columns(
+    alloc: Global,
+    out: &mut String,
+    line: &[u8],
+    is: AnyLine<'_>,
+    origin: Origin<'_>,
+) -> Result<(), AllocError>
+    ensures { OnOk result ((row : List ℕ) × IsRow origin.entry is.entry row
+        × (string_bytes out.new ≡ string_bytes out.old ++ row)) }
+{
+    push_front(out, origin.time)?;
+    push_front(out, origin.sender)?;
+    push_row(out, is)?;
+    push_remark(alloc, out, line, is)?;
+    out.push('\n')
+}
+
+// Adds what is printed of a text between newlines.
+fn push_piece(
+    alloc: Global,
+    out: &mut String,
+    piece: &[u8],
+    origin: Origin<'_>,
+    format: WatchFormat<'_>,
+) -> Result<(), AllocError>
+    ensures { OnOk result (format.entry.is_json ≡ false → (row : List ℕ)
+        × IsRowOf format.entry.filter origin.entry piece.now row
+        × (string_bytes out.new ≡ string_bytes out.old ++ row)) }
+{
+    let line = without_last(piece, b'\r');
+    let is = cut_line(line);
+    if line.is_empty() || !format.filter.keeps(is) {
+        return Ok(());
+    }
+    if format.is_json {
+        let text = json_of(alloc, line, is, origin)?;
+        return out.push_str(&text);
+    }
+    push_columns(alloc, out, line, is, origin)
+}
+
+// Returns whether a server can read the line of a text between newlines. An empty line is no line, so that it is read.
+fn can_be_read(piece: &[u8]) -> bool
+    ensures yes { IsTrue result → IsReadable piece.now }
+    ensures no { IsFalse result → IsUnreadable piece.now }
+{
+    let line = without_last(piece, b'\r');
+    let is = cut_line(line);
+    if line.is_empty() {
+        return true;
+    }
+    !matches!(is, AnyLine::Opaque(_))
+}
+
+// Reports that no server can read a line. An error of `errors` is ignored.
 fn tell_fault<E: Write>(
     alloc: Global,
-    origin: Origin<'_>,
-    place: (u64, usize),
-    line: &[u8],
+    piece: &[u8],
+    place: (u64, u64),
     errors: &mut E,
 ) -> Result<(), AllocError> {
     let mut text = String::new(alloc);
-    push_bytes(&mut text, line)?;
-    let (packet, (number, at)) = (origin.number, place);
-    let why = wanted(&line[..at.min(line.len())]);
-    let byte = at.saturating_add(1);
+    push_bytes(&mut text, without_last(piece, b'\r'))?;
+    let (packet, number) = place;
     let _ = writeln!(
         errors,
-        "statsd_watch: packet {packet}, line {number}, byte {byte}: wants {why}: {text}"
+        "statsd_watch: packet {packet}, line {number}: wants NAME:VALUE|TYPE: {text}"
     );
     Ok(())
 }
 
-// Adds the text of each metric of the packet, and reports each line that can't be read. Returns whether all lines can
-// be read.
-fn list_packet<E: Write>(
+// Reports each line of a packet that no server can read. Returns whether there is none.
+fn tell_faults<E: Write>(
     alloc: Global,
-    packet: &[u8],
-    origin: Origin<'_>,
-    format: WatchFormat,
-    text: &mut String,
+    lines: &[u8],
+    packet: u64,
     errors: &mut E,
-) -> Result<bool, WatchError> {
+) -> Result<bool, AllocError>
+    ensures { IfOk result (Tells lines.now) }
+{
     let (mut number, mut is_whole) = (0u64, true);
-    for line in packet
-        .strip_suffix(b"\n")
-        .unwrap_or(packet)
-        .split(|byte| *byte == b'\n')
-    {
+    let mut left = Some(lines);
+    while let Some(rest) = left {
+        let (piece, others) = split_piece(rest, b'\n');
         number = number.saturating_add(1);
-        match read_or_find(&alloc, line)? {
-            Reading::Read(metric) if format.is_json => text.push_str(&json_of(
-                alloc, &metric, origin,
-            )?)?,
-            Reading::Read(_) => text.push_str(&plain_of(alloc, line, origin)?)?,
-            Reading::Unread(at) => {
-                is_whole = false;
-                tell_fault(alloc, origin, (number, at), line, errors)?;
-            }
+        let is_readable = can_be_read(piece);
+        if !is_readable {
+            tell_fault(alloc, piece, (packet, number), errors)?;
         }
+        is_whole = is_whole && is_readable;
+        left = others;
     }
     Ok(is_whole)
 }
 
-/// Prints the metrics of a packet: those of the lines between its newlines. For each line that can't be read, its number,
-/// the number of the first byte that can't be read, and what is wanted there are written to `errors`. Numbers begin with 1.
-/// If the format is strict, such a packet is refused: none of its metrics is printed. Returns whether all lines can be
-/// read. An error of `errors` is ignored.
+// Returns what is printed of the texts between newlines.
+fn list_lines(
+    alloc: Global,
+    lines: &[u8],
+    origin: Origin<'_>,
+    format: WatchFormat<'_>,
+) -> Result<String, AllocError>
+    ensures { IfOk result (λ text. format.entry.is_json ≡ false →
+        AreRows format.entry.filter origin.entry (pieces 10 lines.now) (string_bytes text)) }
+{
+    let mut text = String::new(alloc);
+    let mut left = Some(lines);
+    while let Some(rest) = left {
+        let (piece, others) = split_piece(rest, b'\n');
+        push_piece(alloc, &mut text, piece, origin, format)?;
+        left = others;
+    }
+    Ok(text)
+}
+
+/// Prints the lines of a packet that the filter keeps. A carriage return at the end of a line belongs to its end, and an
+/// empty line is no line. For each line that no server can read, the number of the packet and of the line are written to
+/// `errors`. If the format is strict, nothing is printed of such a packet. Returns whether a server can read all lines. An
+/// error of `errors` is ignored.
 ///
 /// # Errors
-/// `Output` if the metrics can't be written, and `OutOfMemory`.
+/// `Output` if the lines can't be written, and `OutOfMemory`.
 pub fn print_packet<O: Write, E: Write>(
     alloc: Global,
     packet: &[u8],
     origin: Origin<'_>,
-    format: WatchFormat,
+    format: WatchFormat<'_>,
     output: &mut O,
     errors: &mut E,
-) -> Result<bool, WatchError> {
-    let mut text = String::new(alloc);
-    let is_whole = list_packet(alloc, packet, origin, format, &mut text, errors)?;
+) -> Result<bool, WatchError>
+    ensures told { IfOk result (λ whole. (lines : List ℕ) × IsWithoutLast 10 packet.now lines
+        × Tells lines whole) }
+    ensures printed { IfOk result (λ whole. format.entry.is_json ≡ false → format.entry.is_strict ≡ false →
+        (lines : List ℕ) × (text : List ℕ) × IsWithoutLast 10 packet.now lines
+        × AreRows format.entry.filter origin.entry (pieces 10 lines) text
+        × Appends (O.contents output.old) (O.contents output.new) text) }
+{
+    let lines = without_last(packet, b'\n');
+    let is_whole = tell_faults(alloc, lines, origin.number, errors)?;
     if format.is_strict && !is_whole {
         return Ok(false);
     }
+    let text = list_lines(alloc, lines, origin, format)?;
     match output.write_all(text.as_bytes()) {
         Ok(()) => Ok(is_whole),
         Err(error) => Err(WatchError::Output(error)),
     }
+}
+
+/// Counts the lines of a packet in place of printing them. All else is as `print_packet` has it.
+///
+/// # Errors
+/// `OutOfMemory`.
+pub fn count_packet<E: Write>(
+    alloc: Global,
+    packet: &[u8],
+    number: u64,
+    format: WatchFormat<'_>,
+    counts: &mut Counts,
+    errors: &mut E,
+) -> Result<bool, AllocError>
+    ensures { IfOk result (λ whole. (lines : List ℕ) × IsWithoutLast 10 packet.now lines
+        × Tells lines whole) }
+{
+    let lines = without_last(packet, b'\n');
+    let is_whole = tell_faults(alloc, lines, number, errors)?;
+    if format.is_strict && !is_whole {
+        return Ok(false);
+    }
+    for line in lines.split(|byte| *byte == b'\n') {
+        let line = without_last(line, b'\r');
+        let is = cut_line(line);
+        if !line.is_empty() && format.filter.keeps(is) {
+            counts.add(alloc, is)?;
+        }
+    }
+    Ok(is_whole)
 }

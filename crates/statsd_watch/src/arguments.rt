@@ -1,27 +1,35 @@
 //! The words of the command line.
 use cadence_environment::read_port;
-use cadence_listen::WatchFormat;
+use cadence_listen::{Filter, WatchFormat};
 use clap::error::ErrorKind;
-use clap::{Arg, ArgAction, Command, Error, value_parser};
+use clap::{Arg, ArgAction, ArgMatches, Command, Error, value_parser};
 use std::alloc::{AllocError, Global};
 use std::fmt;
 
 const USAGE: &str = "statsd_watch [OPTIONS] [HOST:PORT | *:PORT | PORT | unix:PATH]";
 
 const ABOUT: &str =
-    "Receives packets, by default at 127.0.0.1:8125, and prints each metric as it comes.";
+    "Receives packets, by default at 127.0.0.1:8125, and prints each line as it comes.";
 
 const NOTES: &str =
-    "A line that can't be read is reported on the standard error, with its packet, its number, the first byte
-that can't be read, and what has to be there. The other lines are printed. Lines are read as this library
-writes them. Of those of other clients some can't be read: +2|g, 1.50|g, texts in sets, events, service checks.
+    "A line is printed as columns with a tab between each two. Of a metric they are the word metric, the name, the
+values, the type, the other fields, and perhaps a remark. Of an event, a service check and a line that no
+server can read they are the word event, check or unreadable, and the whole line.
+
+The remark is on a metric that statsd_listen can't read, with the first byte that it can't read, and what it
+wants there. Servers may read the line all the same. A line that no server can read is also reported on
+the standard error. With --only, --kind or --tag only metrics are printed; a * at the end stands for any text.
 
 *:PORT, or :PORT, receives at all addresses of IPv4, and PORT at 127.0.0.1. The file of a Unix socket
 to which nobody listens any more is replaced.
 
 Status: 0 all was read, 1 the socket or the output failed, or the system dropped packets, because they came
-faster than they are printed, 2 words or lines that can't be read, 3 memory.
-As in: statsd_watch --count 1 127.0.0.1:8125";
+faster than they are printed, 2 words that can't be read, or lines that no server can read, 3 memory.
+As in: statsd_watch --only 'my.service.*' 127.0.0.1:8125";
+
+const TOP: &str = "counts the lines of each name in place of printing them, and prints
+the counts after each SECONDS seconds and at the end, with 0 only
+at the end";
 
 /// Where packets are received.
 #[derive(Clone, Copy, Debug)]
@@ -54,8 +62,11 @@ pub struct Arguments<'a> {
     pub has_time: bool,
     /// Whether the sender of a packet is printed.
     pub has_sender: bool,
-    /// How the metrics are printed.
-    pub format: WatchFormat,
+    /// Which lines are printed, and how.
+    pub format: WatchFormat<'a>,
+    /// After how many seconds the counts are printed again, if the lines are counted in place of being printed. With 0 they
+    /// are printed only at the end.
+    pub top: Option<u64>,
 }
 
 /// Why the command line can't be followed.
@@ -101,8 +112,20 @@ fn number<'a>(alloc: Global, name: &'a str, value: &'a str, help: &'a str) -> Ar
         .help(help)
 }
 
+// Returns an option whose value is a pattern.
+fn pattern<'a>(alloc: Global, name: &'a str, value: &'a str, help: &'a str) -> Arg<'a> {
+    Arg::new(alloc, name)
+        .long(name)
+        .value_name(value)
+        .help(help)
+}
+
 // Returns what the command line may have.
 fn command<'a>(alloc: Global) -> Result<Command<'a>, AllocError> {
+    let top = number(alloc, "top", "SECONDS", TOP)
+        .conflicts_with("json")?
+        .conflicts_with("time")?
+        .conflicts_with("sender")?;
     Command::new(alloc, "statsd_watch")
         .version("0.8.0")
         .about(ABOUT)
@@ -120,12 +143,31 @@ fn command<'a>(alloc: Global) -> Result<Command<'a>, AllocError> {
         .arg(flag(
             alloc,
             "json",
-            "prints each metric as a JSON object in one line",
+            "prints each line as a JSON object in one line",
         ))?
+        .arg(pattern(
+            alloc,
+            "only",
+            "NAME",
+            "prints only metrics of this name, as in --only 'my.service.*'",
+        ))?
+        .arg(pattern(
+            alloc,
+            "kind",
+            "TYPE",
+            "prints only metrics of this type, as in --kind ms",
+        ))?
+        .arg(pattern(
+            alloc,
+            "tag",
+            "TAG",
+            "prints only metrics with this tag, as in --tag 'env:*'",
+        ))?
+        .arg(top)?
         .arg(flag(
             alloc,
             "strict",
-            "prints no metric of a packet with a line that can't be read",
+            "prints no line of a packet with a line that no server can read",
         ))
 }
 
@@ -157,6 +199,11 @@ fn read_place(text: &str) -> Option<Place<'_>> {
     Some(Place::Host(inner, port))
 }
 
+// Returns the pattern of an option, if it is there.
+fn pattern_of<'a>(matches: &ArgMatches<'a>, name: &str) -> Option<&'a [u8]> {
+    Some(matches.get_str(name)?.as_bytes())
+}
+
 /// Reads the command line: the name of the program, and then its words.
 ///
 /// # Errors
@@ -177,7 +224,13 @@ pub fn read_arguments<'a>(
         seconds: matches.get_one::<u64>("for"),
         has_time: matches.get_flag("time"),
         has_sender: matches.get_flag("sender"),
+        top: matches.get_one::<u64>("top"),
         format: WatchFormat {
+            filter: Filter {
+                name: pattern_of(&matches, "only"),
+                kind: pattern_of(&matches, "kind"),
+                tag: pattern_of(&matches, "tag"),
+            },
             is_json: matches.get_flag("json"),
             is_strict: matches.get_flag("strict"),
         },

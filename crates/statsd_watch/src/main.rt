@@ -1,21 +1,26 @@
-//! `statsd_watch`: receives packets, and prints their metrics as they come.
+//! `statsd_watch`: receives packets, and prints their lines as they come.
 //!
 //! - `arguments`: the words of the command line.
 //! - `batch`: packets that were received and are not printed yet.
 //! - `drops`: how many packets the system dropped.
+//! - `printer`: prints the lines of packets, or counts them.
 //! - `receiver`: the socket that receives.
-//! - `watch`: receives packets, and prints their metrics.
+//! - `stop`: why no more packets are received and printed.
+//! - `watch`: receives packets, and prints or counts their lines.
 #![tactic(auto)]
 
 mod arguments;
 mod batch;
 mod drops;
+mod printer;
 mod receiver;
+mod stop;
 mod watch;
 
 use crate::arguments::{ArgumentError, Arguments, Place, read_arguments};
 use crate::receiver::Receiver;
-use crate::watch::{Stop, receive_all};
+use crate::stop::Stop;
+use crate::watch::receive_all;
 use std::alloc::AllocError;
 use std::io::{ErrorKind, Write};
 use std::process::ExitCode;
@@ -102,7 +107,7 @@ impl fmt::Display for Unprinted {
     }
 }
 
-// Receives packets at the place, and prints their metrics. Returns the exit status.
+// Receives packets at the place, and prints or counts their lines. Returns the exit status.
 fn run(rt: &HostRuntime, arguments: &Arguments<'_>) -> ExitCode {
     // If the standard output is closed, the system gives its number, file descriptor 1, to the next file that is opened.
     // That would be our socket. Writing 0 bytes now finds out, since it fails if file descriptor 1 is closed.
