@@ -77,30 +77,41 @@ fn lines_are_counted(rt: HostRuntime) -> Result<(), Fail> {
     Ok(())
 }
 
+// Returns a filter that keeps metrics with such a name.
+fn named(pattern: &[u8]) -> Filter<'_> {
+    Filter {
+        name: Some(pattern),
+        ..Filter::default()
+    }
+}
+
 #[test]
 fn a_filter_keeps_lines(rt: HostRuntime) {
     let line = cut_line(b"app.visits:1|c|#env:prod,web");
-    let named = |name| Filter {
-        name: Some(name),
-        ..Filter::default()
-    };
+    let check = cut_line(b"_sc|web|0");
     assert!(rt; named(b"app.*").keeps(line));
     assert!(rt; named(b"app.visits").keeps(line));
     assert!(rt; !named(b"app").keeps(line));
-    assert!(rt; !named(b"*").keeps(cut_line(b"_sc|web|0")));
-    assert!(rt; Filter::default().keeps(cut_line(b"_sc|web|0")));
+    assert!(rt; !named(b"*").keeps(check));
+    assert!(rt; Filter::default().keeps(check));
+}
+
+// Returns whether there was enough of this memory for the row of a line. If there was, the row must be the right one.
+fn makes_row(heap: RefusingAllocator<Global>) -> Result<bool, Fail> {
+    let mut row = String::new(heap);
+    if push_row(&mut row, cut_line(b"a:1:2.5|ms|@0.5|#k:v,w")).is_err() {
+        return Ok(false);
+    }
+    if row.as_str() == "metric\ta\t1:2.5\tms\t|@0.5|#k:v,w" {
+        Ok(true)
+    } else {
+        Err(Fail::new("another row"))
+    }
 }
 
 #[test]
 fn each_request_may_be_refused(rt: HostRuntime) -> Result<(), Fail> {
-    let line = b"a:1:2.5|ms|@0.5|#k:v,w";
-    let granted = each_refused(rt.alloc(), |heap: RefusingAllocator<Global>| {
-        let mut row = String::new(heap);
-        match push_row(&mut row, cut_line(line)) {
-            Ok(()) => Ok(row.as_str() == "metric\ta\t1:2.5\tms\t|@0.5|#k:v,w"),
-            Err(_) => Ok(false),
-        }
-    })?;
+    let granted = each_refused(rt.alloc(), makes_row)?;
     assert!(rt; granted.is_some_and(|granted| granted > 0));
     Ok(())
 }
