@@ -1,5 +1,5 @@
 //! Prints or counts the lines of packets as they come.
-ghost use Rattle.std.specs.Prelude.{◌≡◌, ◌++◌, List, IfOk, OnOk, IsFalse, IsTrue, false, string_bytes, ℕ};
+ghost use Rattle.std.specs.Prelude.{◌≡◌, ◌&&◌, ◌++◌, List, IfOk, OnOk, IsFalse, IsTrue, false, not, string_bytes, true, ℕ};
 ghost use Rattle.std.specs.Io.KnownBytes.{Appends};
 ghost use Rattle.cadence_listen.specs.Filters.{pieces};
 ghost use Rattle.cadence_listen.specs.Readable.{IsReadable, IsUnreadable, Tells};
@@ -266,8 +266,11 @@ pub fn print_packet<O: Write, E: Write>(
 ) -> Result<bool, WatchError>
     ensures told { IfOk result (λ whole. (lines : List ℕ) × IsWithoutLast 10 packet.now lines
         × Tells lines whole) }
-    ensures printed { IfOk result (λ whole. format.entry.is_json ≡ false → format.entry.is_strict ≡ false →
-        (lines : List ℕ) × (text : List ℕ) × IsWithoutLast 10 packet.now lines
+    ensures refused { IfOk result (λ whole. (format.entry.is_strict && not whole) ≡ true →
+        O.contents output.new ≡ O.contents output.old) }
+    ensures printed { IfOk result (λ whole. (format.entry.is_strict && not whole) ≡ false →
+        format.entry.is_json ≡ false → (lines : List ℕ) × (text : List ℕ)
+        × IsWithoutLast 10 packet.now lines
         × AreRows format.entry.filter origin.entry (pieces 10 lines) text
         × Appends (O.contents output.old) (O.contents output.new) text) }
 {
