@@ -95,8 +95,11 @@ def foreign_cases(program):
         yield f'{line}: {output}', (output.startswith(row), output.count(b'\n'), errors, status), (True, 1, b'', 0)
     for line, row in [(EVENT, b'event\t%s\n' % EVENT), (CHECK, b'check\t%s\n' % CHECK), (b'', b''), (b'\n', b'')]:
         yield line, watched(program, [], [line]), (row, b'', 0)
-    row = b'metric\ta\t1\tc\t\n'
-    yield 'CR LF', watched(program, [], [b'a:1|c\r\na:1|c\r\n\r\n', b'a:1|c\r']), (row * 3, b'', 0)
+    for line in (b'a', b'a:1', b'a|c', b'a|b:1', b'\r\r'):
+        shown = line.replace(b'\r\r', b'\\x0d')
+        message = b'statsd_watch: packet 1, line 1: wants NAME:VALUE|TYPE: %s\n' % shown
+        yield line, watched(program, [], [line]), (b'unreadable\t%s\n' % shown, message, 2)
+    yield 'CR LF', watched(program, [], [b'a:1|c\r\na:1|c\r\n\r\n', b'a:1|c\r']), (VISITS * 3, b'', 0)
     output = b'{"is":"metric","name":"a","values":[".5",1e-05,"x"],"type":"ms","tags":["k:v:w"],"rate":0.5,"fields":["e:x","#z"],"remark":"byte 3'
     got = watched(program, ['--json'], [b'a:.5:1e-05:x|ms|#k:v:w|@0.5|e:x|#z'])
     yield f'as JSON: {got}', (got[0].startswith(output), *got[1:]), (True, b'', 0)

@@ -3,9 +3,10 @@
 //!
 //! - `counts`: counts lines by what they are and by name.
 //! - `engine`: prints the lines of one packet, over any reader and writers.
+//! - `faults`: reports the lines of a packet that no server can read.
 //! - `filter`: which lines are printed.
 //! - `object`: prints what a line is, and its parts, as a JSON object.
-//! - `pieces`: splits a text at a byte.
+//! - `pieces`: splits a text at a byte, and cuts a byte off its end.
 //! - `place`: reads a line, or finds the place from which it can't be read.
 //! - `remark`: what this library's own reader says of a line.
 //! - `row`: prints what a line is, and its parts, as columns.
@@ -15,6 +16,7 @@
 
 mod counts;
 mod engine;
+mod faults;
 mod filter;
 mod object;
 mod pieces;

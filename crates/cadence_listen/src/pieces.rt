@@ -1,8 +1,9 @@
-//! Splits a text at a byte.
+//! Splits a text at a byte, and cuts a byte off its end.
 ghost use Rattle.std.specs.Prelude.{◌≡◌, ◌∷◌};
 ghost use Rattle.std.specs.Option.{option_copied};
 ghost use Rattle.cadence_read.specs.LineTexts.{pieces_left};
 ghost use Rattle.cadence_listen.specs.Filters.{pieces};
+ghost use Rattle.cadence_listen.specs.Rows.{IsWithoutLast};
 
 use cadence_value::bytes::split_once;
 
@@ -14,5 +15,15 @@ pub(crate) fn split_piece(text: &[u8], mark: u8) -> (&[u8], Option<&[u8]>)
     match split_once(text, mark) {
         Some((piece, left)) => (piece, Some(left)),
         None => (text, None),
+    }
+}
+
+/// Returns a text without this byte at its end.
+pub(crate) fn without_last(text: &[u8], last: u8) -> &[u8]
+    ensures { IsWithoutLast last text.now result.now }
+{
+    match text.strip_suffix(&[last]) {
+        Some(front) => front,
+        None => text,
     }
 }

@@ -1,17 +1,17 @@
 //! Prints or counts the lines of packets as they come.
-ghost use Rattle.std.specs.Prelude.{◌≡◌, ◌&&◌, ◌++◌, List, IfOk, OnOk, IsFalse, IsTrue, false, not, string_bytes, true, ℕ};
+ghost use Rattle.std.specs.Prelude.{◌≡◌, ◌&&◌, ◌++◌, List, IfOk, OnOk, false, not, string_bytes, true, ℕ};
 ghost use Rattle.std.specs.Io.KnownBytes.{Appends};
 ghost use Rattle.cadence_listen.specs.Filters.{pieces};
-ghost use Rattle.cadence_listen.specs.Readable.{IsReadable, IsUnreadable, Tells};
+ghost use Rattle.cadence_listen.specs.Readable.{Tells};
 ghost use Rattle.cadence_listen.specs.Rows.{AreRows, IsRow, IsRowOf, IsWithoutLast, front_column};
 
 use crate::counts::Counts;
+use crate::faults::tell_faults;
 use crate::filter::Filter;
 use crate::object::{push_line, push_member, push_raw};
-use crate::pieces::split_piece;
+use crate::pieces::{split_piece, without_last};
 use crate::remark::remark_on;
 use crate::row::push_row;
-use cadence_cli::push_bytes;
 use cadence_read::{AnyLine, cut_line};
 use std::alloc::{AllocError, AllocFailed, Global};
 use std::io;
@@ -57,16 +57,6 @@ impl From<AllocError> for WatchError {
 impl<T: Drop> From<AllocFailed<T>> for WatchError {
     fn from(_error: AllocFailed<T>) -> WatchError {
         WatchError::OutOfMemory
-    }
-}
-
-// Returns a text without this byte at its end.
-fn without_last(text: &[u8], last: u8) -> &[u8]
-    ensures { IsWithoutLast last text.now result.now }
-{
-    match text.strip_suffix(&[last]) {
-        Some(front) => front,
-        None => text,
     }
 }
 
@@ -173,60 +163,6 @@ fn push_piece(
         return out.push_str(&text);
     }
     push_columns(alloc, out, line, is, origin)
-}
-
-// Returns whether a server can read the line of a text between newlines. An empty line is no line, so that it is read.
-fn can_be_read(piece: &[u8]) -> bool
-    ensures yes { IsTrue result → IsReadable piece.now }
-    ensures no { IsFalse result → IsUnreadable piece.now }
-{
-    let line = without_last(piece, b'\r');
-    let is = cut_line(line);
-    if line.is_empty() {
-        return true;
-    }
-    !matches!(is, AnyLine::Opaque(_))
-}
-
-// Reports that no server can read a line. An error of `errors` is ignored.
-fn tell_fault<E: Write>(
-    alloc: Global,
-    piece: &[u8],
-    place: (u64, u64),
-    errors: &mut E,
-) -> Result<(), AllocError> {
-    let mut text = String::new(alloc);
-    push_bytes(&mut text, without_last(piece, b'\r'))?;
-    let (packet, number) = place;
-    let _ = writeln!(
-        errors,
-        "statsd_watch: packet {packet}, line {number}: wants NAME:VALUE|TYPE: {text}"
-    );
-    Ok(())
-}
-
-// Reports each line of a packet that no server can read. Returns whether there is none.
-fn tell_faults<E: Write>(
-    alloc: Global,
-    lines: &[u8],
-    packet: u64,
-    errors: &mut E,
-) -> Result<bool, AllocError>
-    ensures { IfOk result (Tells lines.now) }
-{
-    let (mut number, mut is_whole) = (0u64, true);
-    let mut left = Some(lines);
-    while let Some(rest) = left {
-        let (piece, others) = split_piece(rest, b'\n');
-        number = number.saturating_add(1);
-        let is_readable = can_be_read(piece);
-        if !is_readable {
-            tell_fault(alloc, piece, (packet, number), errors)?;
-        }
-        is_whole = is_whole && is_readable;
-        left = others;
-    }
-    Ok(is_whole)
 }
 
 // Returns what is printed of the texts between newlines.

@@ -27,6 +27,18 @@ Status: 0 all was read, 1 the socket or the output failed, or the system dropped
 faster than they are printed, 2 words that can't be read, or lines that no server can read, 3 memory.
 As in: statsd_watch --only 'my.service.*' 127.0.0.1:8125";
 
+const TIME: &str = "prints when the packet came, in seconds since 1970";
+
+const JSON: &str = "prints each line as a JSON object in one line";
+
+const ONLY: &str = "prints only metrics of this name, as in --only 'my.service.*'";
+
+const KIND: &str = "prints only metrics of this type, as in --kind ms";
+
+const TAG: &str = "prints only metrics with this tag, as in --tag 'env:*'";
+
+const STRICT: &str = "prints no line of a packet with a line that no server can read";
+
 const TOP: &str = "counts the lines of each name in place of printing them, and prints
 the counts after each SECONDS seconds and at the end, with 0 only
 at the end";
@@ -134,41 +146,14 @@ fn command<'a>(alloc: Global) -> Result<Command<'a>, AllocError> {
         .arg(Arg::new(alloc, "place").hide(true))?
         .arg(number(alloc, "count", "N", "ends after N packets"))?
         .arg(number(alloc, "for", "SECONDS", "ends after SECONDS seconds"))?
-        .arg(flag(
-            alloc,
-            "time",
-            "prints when the packet came, in seconds since 1970",
-        ))?
+        .arg(flag(alloc, "time", TIME))?
         .arg(flag(alloc, "sender", "prints who sent the packet"))?
-        .arg(flag(
-            alloc,
-            "json",
-            "prints each line as a JSON object in one line",
-        ))?
-        .arg(pattern(
-            alloc,
-            "only",
-            "NAME",
-            "prints only metrics of this name, as in --only 'my.service.*'",
-        ))?
-        .arg(pattern(
-            alloc,
-            "kind",
-            "TYPE",
-            "prints only metrics of this type, as in --kind ms",
-        ))?
-        .arg(pattern(
-            alloc,
-            "tag",
-            "TAG",
-            "prints only metrics with this tag, as in --tag 'env:*'",
-        ))?
+        .arg(flag(alloc, "json", JSON))?
+        .arg(pattern(alloc, "only", "NAME", ONLY))?
+        .arg(pattern(alloc, "kind", "TYPE", KIND))?
+        .arg(pattern(alloc, "tag", "TAG", TAG))?
         .arg(top)?
-        .arg(flag(
-            alloc,
-            "strict",
-            "prints no line of a packet with a line that no server can read",
-        ))
+        .arg(flag(alloc, "strict", STRICT))
 }
 
 // Reads HOST:PORT, *:PORT, :PORT, PORT or unix:PATH. Before a host there may be `udp://`.

@@ -3,7 +3,7 @@ use Rattle.std.specs.Option.{option_copied}
 use Rattle.cadence_read.specs.LineTexts.{pieces_left}
 use Rattle.cadence_listen.specs.Filters.{pieces}
 use Rattle.cadence_listen.proofs.Told.{Knows}
-use Rattle.cadence_listen.proofs.watch.tell_faults.Given as goal
+use Rattle.cadence_listen.proofs.faults.tell_faults.Given as goal
 
 abbrev pub decreases-loop-left : goal.decreases-loop-left
 decreases-loop-left g l = length (pieces_left 10 (option_copied l.left))
