@@ -1,5 +1,6 @@
 pub mod Handler
 pub mod Answered
+pub mod Call
 pub mod Cut
 pub mod Held
 pub mod HeldLines
@@ -9,6 +10,7 @@ pub mod RecordedPacker
 pub mod RecordedWriter
 pub mod Sent
 pub mod Frame
+pub mod GhostLog
 pub mod Log
 pub mod Offers
 pub mod Packer
