@@ -9,10 +9,12 @@ ghost use Rattle.cadence_flow.specs.Answered.{IsAnswered, IsFlushAnswered, answe
 
 use crate::limits::Limits;
 use crate::shared::SharedSink;
-use crate::under_lock::{Added, Emptied, Failed, UnderLock};
+use crate::under_lock::{Stepped, UnderLock};
 use cadence_errors::{MetricError, MetricResult, SinkError};
 use cadence_flow::stats::SinkStats;
-use cadence_flow::{AnsweringFlush, AnsweringSink, MetricSink, acquire, emit_by, flush_by};
+use cadence_flow::{
+    AnsweringFlush, AnsweringSink, MetricSink, OneCall, acquire, emit_by, flush_by,
+};
 use std::alloc::Global;
 use std::sync::{Mutex, Wait};
 
@@ -43,35 +45,31 @@ impl<S: MetricSink, R: Wait + Drop> LockedAggregator<S, R> {
     }
 }
 
-/// Adds a line, under the lock. The answer has the line's length, and shows the aggregator before and after it accepted
-/// this line. After an error the line is not added.
+/// Adds a line, under the lock. The answer is the line's length, and the receipt shows the aggregator before and after
+/// it accepted this line. After an error the line is not added.
 impl<S: MetricSink, R: Wait + Drop> AnsweringSink for LockedAggregator<S, R> {
-    type Took = Added<SharedSink<S>>;
-
-    type Refused = Failed<SharedSink<S>>;
+    type Receipt = Stepped<SharedSink<S>>;
 
     ghost may_answer = { λ _ line answer. IsAggregated line answer };
 
-    ghost shows = { λ _ line answer e. ShowsAdded line answer e };
+    ghost shows = { λ _ receipt line answer. ShowsAdded receipt line answer };
 
-    fn emit_line(&self, line: &str, fault: &mut SinkError) -> Result<Self::Took, Self::Refused> {
+    fn emit_line(&self, line: &str, fault: &mut SinkError) -> (Option<usize>, Self::Receipt) {
         acquire(&self.lines, &self.rt).add(line, fault)
     }
 }
 
-/// Sends what is held, and flushes the wrapped sink, under the lock. The answer shows the aggregator before and after
+/// Sends what is held, and flushes the wrapped sink, under the lock. The receipt shows the aggregator before and after
 /// this.
 impl<S: MetricSink, R: Wait + Drop> AnsweringFlush for LockedAggregator<S, R> {
-    type Flushed = Emptied<SharedSink<S>>;
-
-    type Unflushed = Failed<SharedSink<S>>;
+    type Receipt = Stepped<SharedSink<S>>;
 
     ghost may_flush = { λ _ _. Unit {0} };
 
-    ghost shows_flush = { λ _ answer e.
-        ShowsEmptied (λ s. S.may_flush (shared_sink s)) answer e };
+    ghost shows_flush = { λ _ receipt answer.
+        ShowsEmptied (λ s. S.may_flush (shared_sink s)) receipt answer };
 
-    fn flush_lines(&self, fault: &mut SinkError) -> Result<Self::Flushed, Self::Unflushed> {
+    fn flush_lines(&self, fault: &mut SinkError) -> (Option<()>, Stepped<SharedSink<S>>) {
         self.lines.lock(&self.rt).flush(fault)
     }
 }
@@ -85,12 +83,12 @@ impl<S: MetricSink, R: Wait + Drop> MetricSink for LockedAggregator<S, R> {
 
     fn emit(&self, line: &str) -> Result<usize, SinkError> {
         let mut fault = SinkError::NothingWritten;
-        emit_by(self, line, &mut fault).ok_or(fault)
+        emit_by(OneCall::of(self), line, &mut fault).ok_or(fault)
     }
 
     fn flush(&self) -> Result<(), SinkError> {
         let mut fault = SinkError::NothingWritten;
-        flush_by(self, &mut fault).ok_or(fault)
+        flush_by(OneCall::of(self), &mut fault).ok_or(fault)
     }
 
     fn stats(&self) -> SinkStats {

@@ -1,9 +1,9 @@
 //! What lies under the lock of an aggregating sink. `called` has the calls that make no line.
 ghost use Rattle.std.specs.Prelude.{◌≡◌, [], IfOk};
-ghost use Rattle.cadence_flow.specs.Opened.{opened};
+ghost use Rattle.std.specs.Option.{ok_or};
 ghost use Rattle.cadence_aggregating.specs.Answers.{IsAggregated};
 ghost use Rattle.cadence_aggregating.specs.Recorded.{lines_accepted};
-ghost use Rattle.cadence_aggregating.specs.Shown.{AnswersAdded, AnswersEmptied, EndsFlush, added_bytes, recorded_of};
+ghost use Rattle.cadence_aggregating.specs.Shown.{AddsLine, EndsFlush, IsBetween, recorded_of};
 
 use crate::limits::Limits;
 use crate::recorded::RecordedAggregator;
@@ -15,10 +15,10 @@ use std::snapshot::Snapshot;
 mod answers;
 mod called;
 
-pub use answers::{Added, Emptied, Failed};
+pub use answers::Stepped;
 
-/// What lies under the lock of an aggregating sink: an aggregator whose steps have answers that can't be let go. Nobody
-/// reaches the aggregator or its sink but by these calls.
+/// What lies under the lock of an aggregating sink: an aggregator whose steps have receipts that can't be let go.
+/// Nobody reaches the aggregator or its sink but by these calls.
 #[derive(Drop)]
 pub struct UnderLock<S: Drop> {
     aggregator: RecordedAggregator<S>,
@@ -33,28 +33,24 @@ impl<S: MetricSink> UnderLock<S> {
         Ok(UnderLock { aggregator })
     }
 
-    /// Adds a line, as `RecordedAggregator::add` does. The error is in `fault`.
-    pub(crate) fn add(&mut self, line: &str, fault: &mut SinkError) -> Result<Added<S>, Failed<S>>
-        ensures answer { IsAggregated line.now (opened added_bytes result fault.new) }
-        ensures step { AnswersAdded (recorded_of self.old) (recorded_of self.new)
-            line.now result fault.new }
+    /// Adds a line, as `RecordedAggregator::add` does, and returns its length; `None` after an error, which is in
+    /// `fault`.
+    pub(crate) fn add(&mut self, line: &str, fault: &mut SinkError) -> (Option<usize>, Stepped<S>)
+        ensures answer { IsAggregated line.now (ok_or result.0 fault.new) }
+        ensures between { IsBetween (recorded_of self.old) (recorded_of self.new) result.1 }
+        ensures step { AddsLine (recorded_of self.old) (recorded_of self.new)
+            line.now (ok_or result.0 fault.new) }
     {
         let before = Snapshot::of(&self.aggregator);
-        match self.aggregator.add(line) {
-            Ok(()) => Ok(Added {
-                bytes: line.len(),
-                before,
-                after: Snapshot::of(&self.aggregator),
-            }),
+        let added = match self.aggregator.add(line) {
+            Ok(()) => Some(line.len()),
             Err(error) => {
                 *fault = error;
-                Err(Failed {
-                    why: Snapshot::of(fault),
-                    before,
-                    after: Snapshot::of(&self.aggregator),
-                })
+                None
             }
-        }
+        };
+        let after = Snapshot::of(&self.aggregator);
+        (added, Stepped { before, after })
     }
 
     // Sends what is held, and flushes the sink.
@@ -68,25 +64,21 @@ impl<S: MetricSink> UnderLock<S> {
     }
 
     /// Sends what is held, as `RecordedAggregator::flush` does, and then flushes the sink. The error is in `fault`.
-    pub(crate) fn flush(&mut self, fault: &mut SinkError) -> Result<Emptied<S>, Failed<S>>
-        ensures { AnswersEmptied (recorded_of self.old) (recorded_of self.new)
-            S.may_flush result fault.new }
+    pub(crate) fn flush(&mut self, fault: &mut SinkError) -> (Option<()>, Stepped<S>)
+        ensures between { IsBetween (recorded_of self.old) (recorded_of self.new) result.1 }
+        ensures step { EndsFlush (recorded_of self.old) (recorded_of self.new)
+            S.may_flush (ok_or result.0 fault.new) }
     {
         let before = Snapshot::of(&self.aggregator);
-        match self.send_all() {
-            Ok(()) => Ok(Emptied {
-                before,
-                after: Snapshot::of(&self.aggregator),
-            }),
+        let sent = match self.send_all() {
+            Ok(()) => Some(()),
             Err(error) => {
                 *fault = error;
-                Err(Failed {
-                    why: Snapshot::of(fault),
-                    before,
-                    after: Snapshot::of(&self.aggregator),
-                })
+                None
             }
-        }
+        };
+        let after = Snapshot::of(&self.aggregator);
+        (sent, Stepped { before, after })
     }
 
     /// Sends what is held, flushes the sink and ends both. If the sink refuses a line, all is tried again, as long as a

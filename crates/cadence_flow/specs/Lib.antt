@@ -4,11 +4,12 @@ pub mod Call
 pub mod Cut
 pub mod Held
 pub mod HeldLines
-pub mod Opened
+pub mod Kept
+pub mod OneCall
 pub mod Packed
+pub mod Past
 pub mod RecordedPacker
 pub mod RecordedWriter
-pub mod Sent
 pub mod Frame
 pub mod GhostLog
 pub mod Log

@@ -1,117 +1,108 @@
 //! The one body of `emit` and of `flush` of the library's own sinks.
 //!
-//! A sink of the library doesn't answer a line by a number of its own. Its `emit_line`, or that of what the sink is made
-//! of, returns an answer that only the packer, the queue, or what counts the packets of its socket, can make. Nobody can
-//! let such an answer go, and only `emit_by` opens it. So an `emit_line` that does nothing, or writes a line twice,
-//! doesn't compile.
+//! A sink of the library doesn't answer a line by itself. Its `emit_line`, or that of what the sink is made of, returns
+//! beside the answer a receipt that only the packer, the queue, or what counts the packets of its socket, can make.
+//! Nobody can let a receipt go but `emit_by`, which has one call of the sink and not the sink. So an `emit_line` that
+//! does nothing, or writes a line twice, doesn't compile, and neither does an `emit_by` that calls the sink twice.
 ghost use Rattle.std.specs.Option.{ok_or};
-ghost use Rattle.std.specs.Prelude.{◌≡◌, List, ℕ, Result};
+ghost use Rattle.std.specs.Prelude.{List, ℕ, Result};
 ghost use Rattle.cadence_errors.specs.declared.SinkError.{SinkError};
 ghost use Rattle.cadence_flow.specs.Answered.{IsAnswered, IsFlushAnswered};
-ghost use Rattle.cadence_flow.specs.Opened.{opened, opened_flush};
+ghost use Rattle.cadence_flow.specs.OneCall.{sink_of};
 
+use crate::one_call::OneCall;
 use cadence_errors::SinkError;
 
-/// The right to open an answer. Only this module makes one.
-#[derive(Clone, Copy)]
+/// The right to let one receipt go. Only this module makes one.
+#[derive(Drop)]
 pub struct Opener {
     of: (),
 }
 
-/// An answer for a line that was taken.
-pub trait Opened {
-    /// How many bytes of the line were taken.
-    ghost bytes: { Self → ℕ };
-
-    /// Returns how many bytes of the line were taken.
-    fn open(self, by: Opener) -> usize
-        ensures { result ≡ bytes self };
-}
-
-/// An answer for a line that was refused, or for a flush.
+/// What shows that a sink was called. Its type has no `Drop`.
 pub trait Closed {
-    /// Lets the answer go.
+    /// Lets it go.
     fn close(self, by: Opener);
 }
 
-/// A sink of the library, or what it is made of. Its answers are made by what takes the line, and by nothing else.
+/// What shows that a sink took a line, or that it refused one.
+impl<T: Closed, E: Closed> Closed for Result<T, E> {
+    fn close(self, by: Opener) {
+        match self {
+            Ok(took) => took.close(by),
+            Err(refused) => refused.close(by),
+        }
+    }
+}
+
+/// A sink of the library, or what it is made of. Its receipts are made by what takes the line, and by nothing else.
 ///
-/// The error of a refused line is in `fault`, because a `Result` with an error in it is as wide as the widest error, and
-/// each function that passes one on copies all of it.
+/// The error of a refused line is in `fault`, because a `Result` with an error in it is as wide as the widest error,
+/// and each function that passes one on copies all of it.
 pub trait AnsweringSink: Drop {
-    /// The answer for a line that was taken.
-    type Took: Opened;
-    /// The answer for a line that was refused.
-    type Refused: Closed;
+    /// What shows that a line was taken or refused.
+    type Receipt: Closed;
 
     /// The results that a line may get.
     ghost may_answer: { Self → List ℕ → Result ℕ SinkError → Type 0 };
 
-    /// What an answer for a line shows of the step that took or refused the line. By default it shows nothing.
-    ghost shows: { Self → List ℕ → Result Self.Took Self.Refused → SinkError → Type 0 } = { λ _ _ _ _. Unit {0} };
+    /// The receipt shows that the line got this result.
+    ghost shows: { Self → Self.Receipt → List ℕ → Result ℕ SinkError → Type 0 };
 
-    /// Takes a line.
-    fn emit_line(&self, line: &str, fault: &mut SinkError) -> Result<Self::Took, Self::Refused>
-        ensures answer { may_answer self.now line.now (opened Self.Took.bytes result fault.new) }
-        ensures shows { shows self.now line.now result fault.new };
+    /// Takes a line, and returns how many of its bytes were taken; `None` after an error.
+    fn emit_line(&self, line: &str, fault: &mut SinkError) -> (Option<usize>, Self::Receipt)
+        ensures answer { may_answer self.now line.now (ok_or result.0 fault.new) }
+        ensures shows { shows self.now result.1 line.now (ok_or result.0 fault.new) };
 }
 
-/// A sink of the library that holds text, or what it is made of. The answer for a flush is made by what holds the text, and by nothing else.
+/// A sink of the library that holds text, or what it is made of. The receipt of a flush is made by what holds the text,
+/// and by nothing else.
 pub trait AnsweringFlush: Drop {
-    /// The answer for a flush that succeeded.
-    type Flushed: Closed;
-    /// The answer for a flush that failed.
-    type Unflushed: Closed;
+    /// What shows that a flush was made.
+    type Receipt: Closed;
 
     /// The results that a flush may get.
     ghost may_flush: { Self → Result (Unit {0}) SinkError → Type 0 };
 
-    /// What an answer for a flush shows of the flush. By default it shows nothing.
-    ghost shows_flush: { Self → Result Self.Flushed Self.Unflushed → SinkError → Type 0 } = { λ _ _ _. Unit {0} };
+    /// The receipt shows that a flush got this result.
+    ghost shows_flush: { Self → Self.Receipt → Result (Unit {0}) SinkError → Type 0 };
 
     /// Sends the held text.
-    fn flush_lines(&self, fault: &mut SinkError) -> Result<Self::Flushed, Self::Unflushed>
-        ensures answer { may_flush self.now (opened_flush result fault.new) }
-        ensures shows { shows_flush self.now result fault.new };
+    fn flush_lines(&self, fault: &mut SinkError) -> (Option<()>, Self::Receipt)
+        ensures answer { may_flush self.now (ok_or result.0 fault.new) }
+        ensures shows { shows_flush self.now result.1 (ok_or result.0 fault.new) };
 }
 
-/// Gives a line to a sink of the library, and returns what its answer says. After an error that is `None`, and the error
-/// is in `fault`. Each sink of the library calls this in its `emit`. Only these results are answered, in the sense of
-/// `IsAnswered`, so none of these sinks can answer by itself.
+/// Gives a line to a sink of the library, and returns what the sink answers. After an error that is `None`, and the
+/// error is in `fault`. Each sink of the library calls this in its `emit`. Only these results are answered, in the
+/// sense of `IsAnswered`, so none of these sinks can answer by itself.
 // Each sink has an `impl` of `MetricSink` of its own over these two functions. One `impl` for all of them can't make a
 // box of a sink that is dropped by code.
 #[inline(always)]
-pub fn emit_by<S: AnsweringSink>(sink: &S, line: &str, fault: &mut SinkError) -> Option<usize>
-    ensures may { S.may_answer sink.now line.now (ok_or result fault.new) }
+pub fn emit_by<S: AnsweringSink>(
+    call: OneCall<'_, S>,
+    line: &str,
+    fault: &mut SinkError,
+) -> Option<usize>
+    ensures may { S.may_answer (sink_of call.entry) line.now (ok_or result fault.new) }
     ensures answered { IsAnswered line.now (ok_or result fault.new) }
 {
     answers();
-    match sink.emit_line(line, fault) {
-        Ok(took) => Some(took.open(Opener { of: () })),
-        Err(refused) => {
-            refused.close(Opener { of: () });
-            None
-        }
-    }
+    let (taken, receipt) = call.emit_line(line, fault);
+    receipt.close(Opener { of: () });
+    taken
 }
 
-/// Flushes a sink of the library, and returns what its answer says, as `emit_by` does for a line. Each sink of the
+/// Flushes a sink of the library, and returns what the sink answers, as `emit_by` does for a line. Each sink of the
 /// library that holds text calls this in its `flush`.
-pub fn flush_by<S: AnsweringFlush>(sink: &S, fault: &mut SinkError) -> Option<()>
-    ensures may { S.may_flush sink.now (ok_or result fault.new) }
+pub fn flush_by<S: AnsweringFlush>(call: OneCall<'_, S>, fault: &mut SinkError) -> Option<()>
+    ensures may { S.may_flush (sink_of call.entry) (ok_or result fault.new) }
     ensures answered { IsFlushAnswered (ok_or result fault.new) }
 {
     answers();
-    match sink.flush_lines(fault) {
-        Ok(flushed) => {
-            flushed.close(Opener { of: () });
-            Some(())
-        }
-        Err(refused) => {
-            refused.close(Opener { of: () });
-            None
-        }
-    }
+    let (done, receipt) = call.flush_lines(fault);
+    receipt.close(Opener { of: () });
+    done
 }
 
 // Says that the results of this module are answered. The call compiles to no code.

@@ -33,10 +33,8 @@ impl Entry {
     pub fn of_line(line: &str, taken: Option<usize>, fault: &SinkError) -> Entry
         ensures { call_of result ≡ Line line.now (ok_or taken fault.now) }
     {
-        let mut text = GhostTexts::new();
-        text.note(line.as_bytes(), 0);
         Entry::Line {
-            text,
+            text: GhostTexts::of(line),
             taken: Snapshot::of(&taken),
             why: Snapshot::of(fault),
         }

@@ -1,11 +1,11 @@
 -- What sinks over a queue may return.
-use Rattle.std.specs.Prelude.{◌≡◌, ℕ, true, false, List, length, Result, IfOk, MatchResult}
+use Rattle.std.specs.Prelude.{◌≡◌, ℕ, true, false, List, length, Result, Ok, Err, is_ok, MatchResult}
 use Rattle.cadence_errors.specs.declared.SinkError.{SinkError}
 use Rattle.cadence_queue.specs.Queue.{IsQueueRefusal, is_queue_refusal}
 use Rattle.cadence_flow.specs.Sums.{zero_sums}
 use Rattle.cadence_flow.specs.Writer.{WriterKind}
-use Rattle.cadence_queue.specs.Shown.{shown_of, text_of}
-use Rattle.cadence_queue.specs.declared.under_lock.Queued.{Queued}
+use Rattle.cadence_queue.specs.Shown.{text_of}
+use Rattle.cadence_queue.specs.declared.under_lock.Accepted.{Accepted}
 use Rattle.cadence_queue.specs.declared.under_lock.Refusal.{Refusal}
 
 -- The result is the length of the text, or an error of a queue.
@@ -16,9 +16,10 @@ IsQueueAnswer text answer = MatchResult answer (λ n. n ≡ length text) IsQueue
 abbrev pub IsQueueFlush : Result (Unit {0}) SinkError → Type 0
 IsQueueFlush answer = MatchResult answer (λ _. Unit {0}) IsQueueRefusal
 
--- If a queue accepted a text for this line, that text has the bytes of the line.
-abbrev pub IsCopyQueued : {T A : Type 0} → (T → List ℕ) → List ℕ → Result (Queued T A) (Refusal T A) → Type 0
-IsCopyQueued bytes line answer = IfOk answer (λ q. bytes (text_of (shown_of q)) ≡ line)
+-- A line that has this result was accepted by a queue, as a text with the bytes of the line, or it was refused by one.
+abbrev pub IsCopyQueued : {T A : Type 0} → (T → List ℕ) → Result (Accepted T A) (Refusal T A) → List ℕ → Result ℕ SinkError → Type 0
+IsCopyQueued bytes (Ok a) line answer = (bytes (text_of a) ≡ line) × (is_ok answer ≡ true)
+IsCopyQueued bytes (Err r) line answer = is_ok answer ≡ false
 
 -- a queue as a writer of packets: it has the errors of a queue, takes each packet whole, and contracts don't see its
 -- packets

@@ -6,7 +6,6 @@ use Rattle.cadence_queue.specs.RecordedQueue.{core_of}
 use Rattle.cadence_queue.specs.declared.queue_core.Taken.{Taken}
 use Rattle.cadence_queue.specs.declared.queue_error.QueueError.{QueueError}
 use Rattle.cadence_queue.specs.declared.under_lock.Accepted.{Accepted}
-use Rattle.cadence_queue.specs.declared.under_lock.Queued.{Queued}
 use Rattle.cadence_queue.specs.declared.under_lock.Refusal.{Refusal}
 use Rattle.cadence_queue.specs.declared.under_lock.Took.{Took}
 use Rattle.cadence_queue.specs.declared.under_lock.End.{End}
@@ -20,14 +19,6 @@ module _ {T A : Type 0} where
   -- the text that a full queue dropped for the accepted one, or none
   abbrev pub dropped_of : Accepted T A → Option T
   dropped_of a = a.dropped
-
-  -- how many bytes the caller gets of a queued line
-  abbrev pub queued_bytes : Queued T A → ℕ
-  queued_bytes q = q.bytes
-
-  -- what the queue shows of it
-  abbrev pub shown_of : Queued T A → Accepted T A
-  shown_of q = q.accepted
 
   -- why a queue refused a text
   abbrev pub why_refused : Refusal T A → QueueError

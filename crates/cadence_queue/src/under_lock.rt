@@ -12,7 +12,7 @@ ghost use Rattle.cadence_queue.specs.RecordedQueue.{core_of};
 use super::recorded_queue::RecordedQueue;
 use super::taking::Hand;
 use crate::{QueueCore, QueueError, Taken, TextRing};
-use cadence_flow::{Closed, Opened, Opener};
+use cadence_flow::{Closed, Opener};
 use std::alloc::{Allocator, Global};
 use std::mem;
 use std::snapshot::Snapshot;
@@ -81,7 +81,7 @@ pub struct Accepted<T, A: Allocator = Global> {
 }
 
 impl<T, A: Allocator> Accepted<T, A> {
-    ghost use Rattle.cadence_queue.specs.Shown.{shown_of, dropped_of, queued_bytes};
+    ghost use Rattle.cadence_queue.specs.Shown.{dropped_of};
 
     /// Returns the text that a full queue dropped for the accepted one, if it dropped one.
     pub fn into_dropped(self) -> Option<T>
@@ -95,35 +95,12 @@ impl<T, A: Allocator> Accepted<T, A> {
         } = self;
         dropped
     }
-
-    /// Makes the answer of a sink to the line that is this text. `bytes` is how many bytes the line has.
-    pub fn with_bytes(self, bytes: usize) -> Queued<T, A>
-        ensures bytes { queued_bytes result ≡ bytes }
-        ensures accepted { shown_of result ≡ self }
-    {
-        Queued {
-            bytes,
-            accepted: self,
-        }
-    }
 }
 
-/// The answer of a sink for a line that a queue accepted. It can't be let go, and only `emit_by` opens it. A text that was
-/// dropped for the line is freed then, when the lock is free.
-pub struct Queued<T, A: Allocator = Global> {
-    bytes: usize,
-    accepted: Accepted<T, A>,
-}
-
-impl<T: Drop, A: Allocator> Opened for Queued<T, A> {
-    ghost use Rattle.cadence_queue.specs.Shown.{queued_bytes};
-
-    ghost bytes = { queued_bytes };
-
-    fn open(self, _by: Opener) -> usize {
-        let Queued { bytes, accepted } = self;
-        drop(accepted.into_dropped());
-        bytes
+/// A text that was dropped for the line is freed then, when the lock is free.
+impl<T: Drop, A: Allocator> Closed for Accepted<T, A> {
+    fn close(self, _by: Opener) {
+        drop(self.into_dropped());
     }
 }
 

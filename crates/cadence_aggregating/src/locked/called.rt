@@ -1,6 +1,6 @@
-//! Calls by keys, under the lock. Each call is made as an `AnsweringSink` of its own, because only `emit_by` can open
-//! the answer of a step under a lock. `emit_by` passes a text to its sink. A call by a key has no line, so it passes an
-//! empty text, which the sink doesn't read.
+//! Calls by keys, under the lock. Each call is made as an `AnsweringSink` of its own, because only `emit_by` can let go
+//! of the receipt of a step under a lock. `emit_by` passes a text to its sink. A call by a key has no line, so it
+//! passes an empty text, which the sink doesn't read.
 ghost use Rattle.cadence_aggregating.specs.Calls.{line_of_keyed};
 ghost use Rattle.cadence_aggregating.specs.Results.{IsCallOf, IsResultOf};
 ghost use Rattle.cadence_aggregating.specs.Shown.{ShowsAdded};
@@ -8,9 +8,9 @@ ghost use Rattle.cadence_aggregating.specs.Shown.{ShowsAdded};
 use super::LockedAggregator;
 use crate::call::KeyedCall;
 use crate::shared::SharedSink;
-use crate::under_lock::{Added, Failed};
+use crate::under_lock::Stepped;
 use cadence_errors::{MetricError, MetricResult, SinkError};
-use cadence_flow::{AnsweringSink, MetricSink, acquire, emit_by};
+use cadence_flow::{AnsweringSink, MetricSink, OneCall, acquire, emit_by};
 use std::sync::Wait;
 
 // A call of an aggregator by a key.
@@ -20,17 +20,16 @@ struct LockedCall<'a, S: MetricSink, R: Wait + Drop> {
     call: KeyedCall<'a>,
 }
 
-// The answer shows the aggregator before and after it accepted the line of the call. After an error it accepted none.
+// The receipt shows the aggregator before and after it accepted the line of the call. After an error it accepted none.
 impl<'a, S: MetricSink, R: Wait + Drop> AnsweringSink for LockedCall<'a, S, R> {
-    type Took = Added<SharedSink<S>>;
-
-    type Refused = Failed<SharedSink<S>>;
+    type Receipt = Stepped<SharedSink<S>>;
 
     ghost may_answer = { λ made _ answer. IsResultOf (line_of_keyed made.call) answer };
 
-    ghost shows = { λ made _ answer e. ShowsAdded (line_of_keyed made.call) answer e };
+    ghost shows = { λ made receipt _ answer.
+        ShowsAdded receipt (line_of_keyed made.call) answer };
 
-    fn emit_line(&self, _none: &str, fault: &mut SinkError) -> Result<Self::Took, Self::Refused> {
+    fn emit_line(&self, _none: &str, fault: &mut SinkError) -> (Option<usize>, Self::Receipt) {
         acquire(&self.to.lines, &self.to.rt).call(self.call, fault)
     }
 }
@@ -42,7 +41,7 @@ impl<S: MetricSink, R: Wait + Drop> LockedAggregator<S, R> {
     {
         let made = LockedCall { to: self, call };
         let mut fault = SinkError::NothingWritten;
-        match emit_by(&made, "", &mut fault) {
+        match emit_by(OneCall::of(&made), "", &mut fault) {
             Some(_bytes) => Ok(()),
             None => Err(MetricError::Sink(fault)),
         }

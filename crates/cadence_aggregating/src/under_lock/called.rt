@@ -1,12 +1,12 @@
-//! Calls by keys, with answers that can't be let go.
+//! Calls by keys, with receipts that can't be let go.
+ghost use Rattle.std.specs.Option.{ok_or};
 ghost use Rattle.std.specs.Prelude.{ℕ, List, Result};
 ghost use Rattle.cadence_errors.specs.declared.SinkError.{SinkError};
-ghost use Rattle.cadence_flow.specs.Opened.{opened};
 ghost use Rattle.cadence_aggregating.specs.Calls.{line_of_keyed};
 ghost use Rattle.cadence_aggregating.specs.Results.{IsResultOf};
-ghost use Rattle.cadence_aggregating.specs.Shown.{AnswersAdded, added_bytes, recorded_of};
+ghost use Rattle.cadence_aggregating.specs.Shown.{AddsLine, IsBetween, recorded_of};
 
-use super::{Added, Failed, UnderLock};
+use super::{Stepped, UnderLock};
 use crate::call::KeyedCall;
 use cadence_errors::SinkError;
 use cadence_flow::MetricSink;
@@ -19,33 +19,28 @@ fn steps()
 {}
 
 impl<S: MetricSink> UnderLock<S> {
-    /// Makes a call by a key, as `RecordedAggregator::call` does. The error is in `fault`.
+    /// Makes a call by a key, as `RecordedAggregator::call` does. The number that it returns means nothing. The error
+    /// is in `fault`.
     pub(crate) fn call(
         &mut self,
         call: KeyedCall<'_>,
         fault: &mut SinkError,
-    ) -> Result<Added<S>, Failed<S>>
-        ensures answer { IsResultOf (line_of_keyed call.entry)
-            (opened added_bytes result fault.new) }
-        ensures step { AnswersAdded (recorded_of self.old) (recorded_of self.new)
-            (line_of_keyed call.entry) result fault.new }
+    ) -> (Option<usize>, Stepped<S>)
+        ensures answer { IsResultOf (line_of_keyed call.entry) (ok_or result.0 fault.new) }
+        ensures between { IsBetween (recorded_of self.old) (recorded_of self.new) result.1 }
+        ensures step { AddsLine (recorded_of self.old) (recorded_of self.new)
+            (line_of_keyed call.entry) (ok_or result.0 fault.new) }
     {
         steps();
         let before = Snapshot::of(&self.aggregator);
-        match self.aggregator.call(call) {
-            Ok(()) => Ok(Added {
-                bytes: 0,
-                before,
-                after: Snapshot::of(&self.aggregator),
-            }),
+        let added = match self.aggregator.call(call) {
+            Ok(()) => Some(0),
             Err(error) => {
                 *fault = error;
-                Err(Failed {
-                    why: Snapshot::of(fault),
-                    before,
-                    after: Snapshot::of(&self.aggregator),
-                })
+                None
             }
-        }
+        };
+        let after = Snapshot::of(&self.aggregator);
+        (added, Stepped { before, after })
     }
 }

@@ -8,8 +8,8 @@ ghost use Rattle.cadence_flow.specs.Answered.{IsAnswered};
 use super::worker::Shared;
 use cadence_errors::SinkError;
 use cadence_flow::stats::SinkStats;
-use cadence_flow::{AnsweringSink, MetricSink, emit_by};
-use cadence_queue::{Latch, Queued, Refusal};
+use cadence_flow::{AnsweringSink, MetricSink, OneCall, emit_by};
+use cadence_queue::{Accepted, Latch, Refusal};
 use std::alloc::{AllocError, Allocator, Global};
 use std::sync::{Arc, Wait};
 
@@ -97,24 +97,22 @@ fn copy_line<A: Allocator + Clone>(
 
 impl<S: MetricSink, R: Wait + Drop, A: Allocator + Clone> AnsweringSink
     for QueuingMetricSink<S, R, A> {
-    type Took = Queued<String<A>, A>;
-
-    type Refused = Refusal<String<A>, A>;
+    type Receipt = Result<Accepted<String<A>, A>, Refusal<String<A>, A>>;
 
     ghost may_answer = { λ q line answer. IsQueuingAnswer (queue_capacity q) line answer };
 
-    ghost shows = { λ _ line answer _. IsCopyQueued string_bytes line answer };
+    ghost shows = { λ _ receipt line answer. IsCopyQueued string_bytes receipt line answer };
 
     // Without this hint and that of `emit`, a line of `bench queue 1 20` may take 65 instructions more.
     #[inline(always)]
-    fn emit_line(&self, line: &str, fault: &mut SinkError) -> Result<Self::Took, Self::Refused> {
+    fn emit_line(&self, line: &str, fault: &mut SinkError) -> (Option<usize>, Self::Receipt) {
         let alloc = &self.alloc;
         let queue = &self.shared.queue;
         match queue.offer(&self.rt, |older| copy_line(older, alloc, line)) {
-            Ok(accepted) => Ok(accepted.with_bytes(line.len())),
+            Ok(accepted) => (Some(line.len()), Ok(accepted)),
             Err(refusal) => {
                 *fault = queue.why(&refusal).into();
-                Err(refusal)
+                (None, Err(refusal))
             }
         }
     }
@@ -142,7 +140,7 @@ impl<S: MetricSink, R: Wait + Drop, A: Allocator + Clone> MetricSink
     #[inline(always)]
     fn emit(&self, line: &str) -> Result<usize, SinkError> {
         let mut fault = SinkError::NothingWritten;
-        emit_by(self, line, &mut fault).ok_or(fault)
+        emit_by(OneCall::of(self), line, &mut fault).ok_or(fault)
     }
 
     fn flush(&self) -> Result<(), SinkError> {

@@ -1,16 +1,19 @@
 //! The queue between a spy and its receiver, and its two ends.
+ghost use Rattle.std.specs.Option.{ok_or};
 ghost use Rattle.std.specs.Prelude.{◌≡◌, IfOk, vec_items};
 ghost use Rattle.cadence_errors.specs.Errors.{MayOnlyRunOutOfMemory};
 ghost use Rattle.cadence_queue.specs.Answers.{IsCopyQueued, IsQueueAnswer};
-ghost use Rattle.cadence_flow.specs.Opened.{opened};
-ghost use Rattle.cadence_queue.specs.Shown.{queued_bytes, text_of};
+ghost use Rattle.cadence_queue.specs.Shown.{text_of};
 
 use cadence_errors::{MetricResult, SinkError};
-use cadence_queue::{Accepted, Queued, Refusal, SharedQueue, Taken};
+use cadence_queue::{Accepted, Refusal, SharedQueue, Taken};
 use std::alloc::{Allocator, Global};
 use std::sync::{Arc, Wait};
 
 type Messages<A> = Arc<SharedQueue<Vec<u8, A>, A>, A>;
+
+/// What the queue of a spy shows of a message: it accepted the message, or refused it.
+pub type Offered<A> = Result<Accepted<Vec<u8, A>, A>, Refusal<Vec<u8, A>, A>>;
 
 /// Returns the messages of a spy, the oldest first. After its drop the spy refuses lines with `ChannelDisconnected`.
 pub struct SpyReceiver<R: Wait + Drop, A: Allocator = Global> {
@@ -91,26 +94,22 @@ impl<R: Wait + Drop, A: Allocator + Clone> Sender<R, A> {
         }
     }
 
-    /// Adds a copy of the line, as `send` does, and returns an answer of a sink.
-    pub fn send_line(
-        &self,
-        line: &str,
-        fault: &mut SinkError,
-    ) -> Result<Queued<Vec<u8, A>, A>, Refusal<Vec<u8, A>, A>>
-        ensures answer { IsQueueAnswer line.now (opened queued_bytes result fault.new) }
-        ensures copy { IsCopyQueued vec_items line.now result }
+    /// Adds a copy of the line, as `send` does, and returns its length with a receipt of a sink.
+    pub fn send_line(&self, line: &str, fault: &mut SinkError) -> (Option<usize>, Offered<A>)
+        ensures answer { IsQueueAnswer line.now (ok_or result.0 fault.new) }
+        ensures copy { IsCopyQueued vec_items result.1 line.now (ok_or result.0 fault.new) }
     {
         match self.offer(line.as_bytes()) {
-            Ok(accepted) => Ok(accepted.with_bytes(line.len())),
+            Ok(accepted) => (Some(line.len()), Ok(accepted)),
             Err(refusal) => {
                 *fault = self.messages.why(&refusal).into();
-                Err(refusal)
+                (None, Err(refusal))
             }
         }
     }
 
     // Adds a copy of the bytes at the end of the queue.
-    fn offer(&self, bytes: &[u8]) -> Result<Accepted<Vec<u8, A>, A>, Refusal<Vec<u8, A>, A>>
+    fn offer(&self, bytes: &[u8]) -> Offered<A>
         ensures { IfOk result (λ a. vec_items (text_of a) ≡ bytes.now) }
     {
         self.messages.offer(&self.rt, |_older| {
