@@ -25,16 +25,6 @@ pub trait Closed {
     fn close(self, by: Opener);
 }
 
-/// What shows that a sink took a line, or that it refused one.
-impl<T: Closed, E: Closed> Closed for Result<T, E> {
-    fn close(self, by: Opener) {
-        match self {
-            Ok(took) => took.close(by),
-            Err(refused) => refused.close(by),
-        }
-    }
-}
-
 /// A sink of the library, or what it is made of. Its receipts are made by what takes the line, and by nothing else.
 ///
 /// The error of a refused line is in `fault`, because a `Result` with an error in it is as wide as the widest error,

@@ -9,7 +9,7 @@ use super::worker::Shared;
 use cadence_errors::SinkError;
 use cadence_flow::stats::SinkStats;
 use cadence_flow::{AnsweringSink, MetricSink, OneCall, emit_by};
-use cadence_queue::{Accepted, Latch, Refusal};
+use cadence_queue::{Latch, QueueStep};
 use std::alloc::{AllocError, Allocator, Global};
 use std::sync::{Arc, Wait};
 
@@ -42,7 +42,7 @@ impl<S: MetricSink, R: Wait + Drop, A: Allocator> QueuingMetricSink<S, R, A> {
     /// handle is dropped. Neither the wrapped sink nor the error handler may call this: they run in the worker, which
     /// would wait for itself.
     pub fn stop_and_wait(&self) {
-        drop(self.shared.queue.stop_shown(&self.rt));
+        drop(self.shared.queue.stop(&self.rt));
         self.end.wait(&self.rt);
     }
 
@@ -97,7 +97,7 @@ fn copy_line<A: Allocator + Clone>(
 
 impl<S: MetricSink, R: Wait + Drop, A: Allocator + Clone> AnsweringSink
     for QueuingMetricSink<S, R, A> {
-    type Receipt = Result<Accepted<String<A>, A>, Refusal<String<A>, A>>;
+    type Receipt = QueueStep<String<A>, A>;
 
     ghost may_answer = { λ q line answer. IsQueuingAnswer (queue_capacity q) line answer };
 
@@ -108,11 +108,12 @@ impl<S: MetricSink, R: Wait + Drop, A: Allocator + Clone> AnsweringSink
     fn emit_line(&self, line: &str, fault: &mut SinkError) -> (Option<usize>, Self::Receipt) {
         let alloc = &self.alloc;
         let queue = &self.shared.queue;
-        match queue.offer(&self.rt, |older| copy_line(older, alloc, line)) {
-            Ok(accepted) => (Some(line.len()), Ok(accepted)),
-            Err(refusal) => {
-                *fault = queue.why(&refusal).into();
-                (None, Err(refusal))
+        let (answer, step) = queue.offer(&self.rt, |older| copy_line(older, alloc, line));
+        match answer {
+            Ok((_dropped, _copy)) => (Some(line.len()), step),
+            Err(error) => {
+                *fault = queue.why(error).into();
+                (None, step)
             }
         }
     }
@@ -181,7 +182,7 @@ impl<S: MetricSink, R: Wait + Clone + Drop, A: Allocator + Clone> Clone
 
 impl<S: MetricSink, R: Wait + Drop, A: Allocator> Drop for QueuingMetricSink<S, R, A> {
     fn drop(self) {
-        drop(self.shared.queue.drop_handle_shown(&self.rt));
+        drop(self.shared.queue.drop_handle(&self.rt));
         let QueuingMetricSink {
             rt: _,
             alloc: _,

@@ -4,7 +4,7 @@ ghost use Rattle.cadence_errors.specs.Errors.{MayOnlyRunOutOfMemory};
 ghost use Rattle.cadence_queue.specs.Answers.{IsCopyQueued, IsQueueAnswer};
 ghost use Rattle.cadence_flow.specs.Answered.{IsAnswered};
 
-use super::channel::{Offered, Sender, SpyReceiver, new_channel};
+use super::channel::{MessageStep, Sender, SpyReceiver, new_channel};
 use cadence_errors::{MetricResult, SinkError};
 use cadence_flow::{AnsweringSink, MetricSink, OneCall, emit_by};
 use std::alloc::{Allocator, Global};
@@ -45,14 +45,14 @@ impl<R: Wait + Clone + Drop, A: Allocator + Clone> SpyMetricSink<R, A> {
 }
 
 impl<R: Wait + Drop, A: Allocator + Clone> AnsweringSink for SpyMetricSink<R, A> {
-    type Receipt = Offered<A>;
+    type Receipt = MessageStep<A>;
 
     ghost may_answer = { λ _ line answer. IsQueueAnswer line answer };
 
     ghost shows = { λ _ receipt line answer. IsCopyQueued vec_items receipt line answer };
 
-    fn emit_line(&self, line: &str, fault: &mut SinkError) -> (Option<usize>, Offered<A>) {
-        self.sender.send_line(line, fault)
+    fn emit_line(&self, line: &str, fault: &mut SinkError) -> (Option<usize>, MessageStep<A>) {
+        self.sender.offer(line.as_bytes(), fault)
     }
 }
 
