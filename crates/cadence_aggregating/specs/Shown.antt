@@ -1,26 +1,16 @@
 -- What the receipts of an aggregating sink show of the aggregator under its lock.
 use Rattle.std.specs.Prelude.{◌≡◌, ◌⊎◌, ℕ, List, [], ◌∷◌, ◌++◌, map, Result, Err, MatchResult}
 use Rattle.cadence_errors.specs.declared.SinkError.{SinkError}
+use Rattle.cadence_flow.specs.Call.{Call, Flush, Line}
+use Rattle.cadence_flow.specs.Kept.{after_of, before_of}
+use Rattle.cadence_flow.specs.declared.kept.Receipt.{Receipt}
 use Rattle.cadence_aggregating.specs.Causes.{HasCountedCause}
 use Rattle.cadence_aggregating.specs.Printed.{line_saying}
 use Rattle.cadence_aggregating.specs.Quiet.{IsQuiet}
 use Rattle.cadence_aggregating.specs.Recorded.{lines_accepted, aggregator_of, samples_held, limits_of, refusals_by, sink_of, lines_taken}
 use Rattle.cadence_aggregating.specs.declared.recorded.RecordedAggregator.{RecordedAggregator}
-use Rattle.cadence_aggregating.specs.declared.under_lock.UnderLock.{UnderLock}
-use Rattle.cadence_aggregating.specs.declared.under_lock.answers.Stepped.{Stepped}
 
 module _ {S : Type 0} where
-  -- the aggregator that lies under the lock
-  abbrev pub recorded_of : UnderLock S → RecordedAggregator S
-  recorded_of u = u.aggregator
-
-  -- the aggregator before a step, and after it
-  abbrev pub before_of : Stepped S → RecordedAggregator S
-  before_of r = r.before.value
-
-  abbrev pub after_of : Stepped S → RecordedAggregator S
-  after_of r = r.after.value
-
   module _ (old new : RecordedAggregator S) where
     -- The aggregator accepted just this line, and the sink refused none. If the line was to be held, and could be, the sink
     -- took none either.
@@ -50,16 +40,12 @@ module _ {S : Type 0} where
     abbrev pub AddsLine : List ℕ → Result ℕ SinkError → Type 0
     AddsLine line answer = MatchResult answer (λ _. AcceptsLine line) AcceptsNone
 
-    -- The receipt has these two states of the aggregator.
-    abbrev pub IsBetween : Stepped S → Type 0
-    IsBetween r = (before_of r ≡ old) × (after_of r ≡ new)
+    -- The aggregator was called so.
+    abbrev pub IsSumsStep : (S → Result (Unit {0}) SinkError → Type 0) → Call → Type 0
+    IsSumsStep may_flush (Line line answer) = AddsLine line answer
+    IsSumsStep may_flush (Flush answer) = EndsFlush may_flush answer
 
   -- The receipt of a line shows two states of an aggregator. Between them it accepted just this line, or accepted none with
   -- this error.
-  abbrev pub ShowsAdded : Stepped S → List ℕ → Result ℕ SinkError → Type 0
+  abbrev pub ShowsAdded : Receipt (RecordedAggregator S) → List ℕ → Result ℕ SinkError → Type 0
   ShowsAdded r line answer = AddsLine (before_of r) (after_of r) line answer
-
-  -- The receipt of a flush shows two states of an aggregator. Between them it sent all that it held, and its sink was
-  -- flushed, or one of both failed with this error.
-  abbrev pub ShowsEmptied : (S → Result (Unit {0}) SinkError → Type 0) → Stepped S → Result (Unit {0}) SinkError → Type 0
-  ShowsEmptied may_flush r answer = EndsFlush (before_of r) (after_of r) may_flush answer

@@ -4,7 +4,7 @@ ghost use Rattle.cadence_flow.specs.Call.{Flush, Line};
 ghost use Rattle.cadence_flow.specs.Kept.{IsBetween, Shows, stage_of};
 
 use crate::answering_sink::{Closed, Opener};
-use crate::stage::Stage;
+use crate::stage::{LinelessCall, Stage};
 use cadence_errors::SinkError;
 use std::snapshot::Snapshot;
 
@@ -44,6 +44,21 @@ impl<S: Stage> Kept<S> {
         (taken, Receipt { before, after })
     }
 
+    /// Makes a call of the stage that counts as a line.
+    pub(crate) fn call<C: LinelessCall<S>>(
+        &mut self,
+        call: C,
+        fault: &mut SinkError,
+    ) -> (Option<usize>, Receipt<S>)
+        ensures between { IsBetween (stage_of self.old) (stage_of self.new) result.1 }
+        ensures shows { Shows S.step result.1 (Line (C.counts_as call) (ok_or result.0 fault.new)) }
+    {
+        let before = Snapshot::of(&self.stage);
+        let taken = call.make(&mut self.stage, fault);
+        let after = Snapshot::of(&self.stage);
+        (taken, Receipt { before, after })
+    }
+
     /// Flushes the stage.
     #[inline(always)]
     pub(crate) fn empty(&mut self, fault: &mut SinkError) -> (Option<()>, Receipt<S>)
@@ -59,8 +74,7 @@ impl<S: Stage> Kept<S> {
     /// Flushes the stage, and ends it. What can't be sent is lost.
     pub(crate) fn finish(self) {
         let Kept { mut stage } = self;
-        let mut fault = SinkError::NothingWritten;
-        let _ = stage.empty(&mut fault);
+        stage.send_rest();
     }
 }
 

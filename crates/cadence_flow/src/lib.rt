@@ -5,7 +5,7 @@
 //! - `io`: the packer, the writers of packets below it, and a writer that keeps its packets
 //! - `stats`: sums of bytes and packets, and the counts of a socket, which are such sums under a lock
 //! - `metric_sink`: the trait of all sinks, and a sink that drops each line
-//! - `stage`: the trait of what takes lines one after the other
+//! - `stage`: the trait of what takes lines one after the other, and calls that make no line
 //! - `kept`: a stage whose calls leave receipts
 //! - `locked`: such a stage under a lock
 //! - `packer`: the packer as a stage, over a writer with a record of its packets (`recorded_writer`)
@@ -50,5 +50,5 @@ pub use metric_sink::{MetricSink, NopMetricSink};
 pub use one_call::OneCall;
 pub use packer::RecordedPacker;
 pub use recorded_writer::RecordedWriter;
-pub use stage::Stage;
+pub use stage::{LinelessCall, Stage};
 pub use stats::{Counted, SocketStats};

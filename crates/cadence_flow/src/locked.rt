@@ -1,11 +1,12 @@
 //! A stage under a lock, which threads share.
+ghost use Rattle.std.specs.Option.{ok_or};
 ghost use Rattle.cadence_flow.specs.Call.{Flush, Line};
 ghost use Rattle.cadence_flow.specs.Kept.{IsStep, Shows};
 
 use crate::answering_sink::{AnsweringFlush, AnsweringSink};
 use crate::kept::{Kept, Receipt};
 use crate::lock::acquire;
-use crate::stage::Stage;
+use crate::stage::{LinelessCall, Stage};
 use cadence_errors::SinkError;
 use std::sync::{Mutex, Wait};
 
@@ -23,6 +24,17 @@ impl<S: Stage, R: Wait + Drop> Locked<S, R> {
             rt,
             stage: Mutex::new(Kept::new(stage)),
         }
+    }
+
+    /// Makes a call of the stage that counts as a line, under the lock.
+    pub fn call<C: LinelessCall<S>>(
+        &self,
+        call: C,
+        fault: &mut SinkError,
+    ) -> (Option<usize>, Receipt<S>)
+        ensures { Shows S.step result.1 (Line (C.counts_as call) (ok_or result.0 fault.new)) }
+    {
+        acquire(&self.stage, &self.rt).call(call, fault)
     }
 }
 

@@ -1,5 +1,6 @@
 //! What takes lines one after the other.
 ghost use Rattle.std.specs.Option.{ok_or};
+ghost use Rattle.std.specs.Prelude.{List, ℕ};
 ghost use Rattle.cadence_flow.specs.Call.{Call, Flush, Line};
 
 use cadence_errors::SinkError;
@@ -17,4 +18,20 @@ pub trait Stage: Drop {
     /// Sends what the stage holds.
     fn empty(&mut self, fault: &mut SinkError) -> Option<()>
         ensures { step self.old self.new (Flush (ok_or result fault.new)) };
+
+    /// Sends what the stage holds, before it is dropped. What can't be sent is lost.
+    fn send_rest(&mut self) {
+        let mut fault = SinkError::NothingWritten;
+        let _ = self.empty(&mut fault);
+    }
+}
+
+/// A call that makes no line, but counts as one.
+pub trait LinelessCall<S: Stage>: Drop {
+    /// The line that the call counts as.
+    ghost counts_as: { Self → List ℕ };
+
+    /// Makes the call of a stage. What it returns is as for a line.
+    fn make(self, stage: &mut S, fault: &mut SinkError) -> Option<usize>
+        ensures { S.step stage.old stage.new (Line (counts_as self) (ok_or result fault.new)) };
 }
