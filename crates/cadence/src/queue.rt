@@ -4,6 +4,4 @@ pub use cadence_audit::{
     AuditCall, AuditError, AuditReply, AuditedQueue, EndFault, Event, History, Seat, SubmitReply,
     Text,
 };
-pub use cadence_queue::{
-    Accepted, Left, QueueCore, QueueError, QueuePolicy, Refusal, SharedQueue, Stopped, Taken, Took,
-};
+pub use cadence_queue::{QueueCore, QueueError, QueuePolicy, QueueStep, SharedQueue, Taken};

@@ -1,13 +1,8 @@
 -- What a line says that is known by its kind and by the lengths of its name and its values.
-use Rattle.std.specs.Prelude.{ℕ, ℤ, ◌+◌, List, [], ◌∷◌, ◌++◌, drop, take}
+use Rattle.std.specs.Prelude.{ℕ, ℤ, ◌+◌, List, ◌++◌, drop, take}
 use Rattle.cadence_aggregate.specs.Server.{Sample, amount, level, member, timing, unclear, other}
 use Rattle.cadence_aggregating.specs.declared.note.Kind.{Kind}
 use Rattle.cadence_aggregating.specs.declared.note.Kind.TheVariants.{Amount, Level, Member, Timing, Unclear, Other}
-
--- the text of a list of one text
-abbrev pub only_text : List (List ℕ × ℕ) → List ℕ
-only_text [] = []
-only_text (text ∷ texts) = text.0
 
 -- the line without its values, and without the byte before them
 abbrev pub around : ℕ → ℕ → List ℕ → List ℕ

@@ -2,7 +2,7 @@
 ghost use Rattle.std.specs.Prelude.{◌≡◌};
 ghost use Rattle.cadence_aggregate.specs.Lines.{sample_of};
 ghost use Rattle.cadence_aggregating.specs.Accepted.{said_by_entry};
-ghost use Rattle.cadence_aggregating.specs.Noted.{only_text};
+ghost use Rattle.cadence_flow.specs.Call.{only_text};
 
 use crate::note::Kind;
 use cadence_aggregate::Line;
@@ -18,15 +18,6 @@ pub struct Accepted {
     pub(crate) values: GhostTexts,
 }
 
-// Notes a text.
-fn noted_text(text: &str) -> GhostTexts
-    ensures { only_text result.items ≡ text.now }
-{
-    let mut texts = GhostTexts::new();
-    texts.note(text.as_bytes(), 0);
-    texts
-}
-
 impl Accepted {
     // Notes a line of one of the kinds.
     fn new(kind: Kind, by: i64, context: &str, values: &str) -> Accepted
@@ -38,8 +29,8 @@ impl Accepted {
         Accepted {
             kind,
             by,
-            context: noted_text(context),
-            values: noted_text(values),
+            context: GhostTexts::of(context),
+            values: GhostTexts::of(values),
         }
     }
 

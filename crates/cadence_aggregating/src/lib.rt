@@ -5,11 +5,10 @@
 //! - `printed`: writes the line that says something, and notes what it says.
 //! - `printer`: gives what lines say to a sink of metrics.
 //! - `limits`: the settings of an aggregator.
-//! - `recorded`: an aggregator of lines over a sink of metrics, with a record of its past.
+//! - `recorded`: an aggregator of lines over a sink of metrics, with a record of its past, as a stage.
 //! - `waiting`: lines that wait until their owner has sent them.
 //! - `summed`: lines that are added up for one thread, and wait to be sent.
 //! - `runs`: a run of lines and flushes.
-//! - `under_lock`: the same, with answers that can't be let go.
 //! - `handler`: receivers of the errors of flushes.
 //! - `locked`: an aggregator of lines under a lock.
 //! - `sink`: the aggregating sink, which may flush by time.
@@ -38,7 +37,6 @@ mod said;
 mod shared;
 mod sink;
 mod summed;
-mod under_lock;
 mod waiting;
 
 pub use builder::AggregatingMetricSinkBuilder;

@@ -2,20 +2,26 @@
 mod called;
 
 ghost use Rattle.cadence_aggregating.specs.Answers.{IsAggregated};
-ghost use Rattle.cadence_aggregating.specs.Shared.{shared_sink};
-ghost use Rattle.cadence_aggregating.specs.Shown.{ShowsAdded, ShowsEmptied};
+ghost use Rattle.cadence_aggregating.specs.Calls.{line_of_keyed};
+ghost use Rattle.cadence_aggregating.specs.Results.{IsCallOf};
+ghost use Rattle.cadence_aggregating.specs.Shown.{ShowsAdded};
 ghost use Rattle.cadence_errors.specs.Errors.{MayOnlyRunOutOfMemory};
 ghost use Rattle.cadence_flow.specs.Answered.{IsAnswered, IsFlushAnswered, answered_by_holding_nothing};
 
+use crate::call::KeyedCall;
 use crate::handler::{FlushErrorHandler, NopFlushErrorHandler};
 use crate::limits::Limits;
+use crate::recorded::RecordedAggregator;
 use crate::shared::SharedSink;
-use crate::under_lock::{Added, Emptied, Failed, UnderLock};
 use cadence_errors::{MetricError, MetricResult, SinkError};
 use cadence_flow::stats::SinkStats;
-use cadence_flow::{AnsweringFlush, AnsweringSink, MetricSink, acquire, emit_by, flush_by};
+use cadence_flow::{AnsweringSink, Locked, MetricSink, OneCall, Receipt, emit_by, flush_by};
+use called::LockedCall;
 use std::alloc::Global;
-use std::sync::{Mutex, Wait};
+use std::sync::Wait;
+
+/// An aggregator over a handle of a sink.
+pub type SharedSums<S> = RecordedAggregator<SharedSink<S>>;
 
 /// An aggregator of lines over a sink, under a lock. Whenever the lock is free, what that sink took, with what is held,
 /// is a summary of the accepted lines. The sink also lies beside the lock, so that its counts are read without it.
@@ -26,10 +32,9 @@ pub struct LockedAggregator<
     R: Wait + Drop,
     H: FlushErrorHandler = NopFlushErrorHandler,
 > {
-    rt: R,
     handler: H,
     sink: SharedSink<S>,
-    lines: Mutex<UnderLock<SharedSink<S>>>,
+    lines: Locked<SharedSums<S>, R>,
 }
 
 impl<S: MetricSink, R: Wait + Drop, H: FlushErrorHandler> LockedAggregator<S, R, H> {
@@ -38,53 +43,51 @@ impl<S: MetricSink, R: Wait + Drop, H: FlushErrorHandler> LockedAggregator<S, R,
         ensures { MayOnlyRunOutOfMemory result }
     {
         let sink = SharedSink::new(alloc, sink)?;
-        let Ok(lines) = UnderLock::new(alloc, limits, sink.clone()?) else {
+        let Ok(lines) = RecordedAggregator::new(alloc, limits, sink.clone()?) else {
             return Err(MetricError::Sink(SinkError::OutOfMemory));
         };
         Ok(LockedAggregator {
-            rt,
             handler,
             sink,
-            lines: Mutex::new(lines),
+            lines: Locked::new(rt, lines),
         })
+    }
+
+    /// Makes a call by a key. The errors are those of `emit`, as `MetricError::Sink`; the call did nothing then.
+    pub(crate) fn call(&self, call: KeyedCall<'_>) -> MetricResult<()>
+        ensures { IsCallOf (line_of_keyed call.entry) result }
+    {
+        let made = LockedCall {
+            to: &self.lines,
+            call,
+        };
+        let mut fault = SinkError::NothingWritten;
+        match emit_by(OneCall::of(&made), "", &mut fault) {
+            Some(_bytes) => Ok(()),
+            None => Err(MetricError::Sink(fault)),
+        }
     }
 }
 
-/// Adds a line, under the lock. The answer has the line's length, and shows the aggregator before and after it accepted
-/// this line. After an error the line is not added.
+/// Adds a line, under the lock. The answer is the line's length, and the receipt shows the aggregator before and after
+/// it accepted this line. After an error the line is not added.
 impl<S: MetricSink, R: Wait + Drop, H: FlushErrorHandler> AnsweringSink
     for LockedAggregator<S, R, H> {
-    type Took = Added<SharedSink<S>>;
-
-    type Refused = Failed<SharedSink<S>>;
+    type Receipt = Receipt<SharedSums<S>>;
 
     ghost may_answer = { λ _ line answer. IsAggregated line answer };
 
-    ghost shows = { λ _ line answer e. ShowsAdded line answer e };
+    ghost shows = { λ _ receipt line answer. ShowsAdded receipt line answer };
 
-    fn emit_line(&self, line: &str, fault: &mut SinkError) -> Result<Self::Took, Self::Refused> {
-        acquire(&self.lines, &self.rt).add(line, fault)
+    fn emit_line(&self, line: &str, fault: &mut SinkError) -> (Option<usize>, Self::Receipt) {
+        match self.lines.emit_line(line, fault) {
+            (Some(_), receipt) => (Some(line.len()), receipt),
+            (None, receipt) => (None, receipt),
+        }
     }
 }
 
-/// Sends what is held, and flushes the wrapped sink, under the lock. The answer shows the aggregator before and after
-/// this.
-impl<S: MetricSink, R: Wait + Drop, H: FlushErrorHandler> AnsweringFlush
-    for LockedAggregator<S, R, H> {
-    type Flushed = Emptied<SharedSink<S>>;
-
-    type Unflushed = Failed<SharedSink<S>>;
-
-    ghost may_flush = { λ _ _. Unit {0} };
-
-    ghost shows_flush = { λ _ answer e.
-        ShowsEmptied (λ s. S.may_flush (shared_sink s)) answer e };
-
-    fn flush_lines(&self, fault: &mut SinkError) -> Result<Self::Flushed, Self::Unflushed> {
-        self.lines.lock(&self.rt).flush(fault)
-    }
-}
-
+/// A flush sends what is held, and flushes the wrapped sink, under the lock.
 impl<S: MetricSink, R: Wait + Drop, H: FlushErrorHandler> MetricSink for LockedAggregator<S, R, H> {
     ghost may_answer = { λ _ line answer. IsAggregated line answer × IsAnswered line answer };
 
@@ -94,12 +97,12 @@ impl<S: MetricSink, R: Wait + Drop, H: FlushErrorHandler> MetricSink for LockedA
 
     fn emit(&self, line: &str) -> Result<usize, SinkError> {
         let mut fault = SinkError::NothingWritten;
-        emit_by(self, line, &mut fault).ok_or(fault)
+        emit_by(OneCall::of(self), line, &mut fault).ok_or(fault)
     }
 
     fn flush(&self) -> Result<(), SinkError> {
         let mut fault = SinkError::NothingWritten;
-        let flushed = flush_by(self, &mut fault);
+        let flushed = flush_by(OneCall::of(&self.lines), &mut fault);
         if flushed.is_none() {
             self.handler.handle(&fault);
         }
@@ -118,12 +121,11 @@ impl<S: MetricSink, R: Wait + Drop, H: FlushErrorHandler> MetricSink for LockedA
 impl<S: MetricSink, R: Wait + Drop, H: FlushErrorHandler> Drop for LockedAggregator<S, R, H> {
     fn drop(self) {
         let LockedAggregator {
-            rt: _rt,
             handler,
             sink: _sink,
             lines,
         } = self;
-        if let Err(error) = lines.into_inner().finish() {
+        if let Err(error) = lines.finish() {
             handler.handle(&error);
         }
     }

@@ -1,7 +1,8 @@
 //! A record of what a line says, for proofs.
 ghost use Rattle.std.specs.Prelude.{◌≡◌, FitsSigned};
 ghost use mir.Syntax.{w64};
-ghost use Rattle.cadence_aggregating.specs.Noted.{noted, only_text};
+ghost use Rattle.cadence_aggregating.specs.Noted.{noted};
+ghost use Rattle.cadence_flow.specs.Call.{only_text};
 ghost use Rattle.cadence_aggregating.specs.Printed.{line_saying};
 
 use cadence_flow::GhostTexts;

@@ -104,7 +104,7 @@ fn note_of(kind: Kind, by: i64, name: usize, values: usize, text: &String) -> No
         by,
         name,
         values,
-        line: GhostTexts::of(text),
+        line: GhostTexts::of(text.as_str()),
     }
 }
 

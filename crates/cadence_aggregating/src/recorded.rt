@@ -1,6 +1,7 @@
 //! An aggregator of lines, over a sink of metrics, with a record of its past that only proofs read. `called` has the
-//! calls that make no line.
+//! calls that make no line, `stage` the aggregator as a stage.
 mod called;
+mod stage;
 
 ghost use Rattle.std.specs.Prelude.{◌≡◌, ◌++◌, ◌∷◌, [], IfOk, OnErr, OnOk, length, map, true};
 ghost use Rattle.cadence_aggregate.specs.Aggregate.{CanHold, held};

@@ -22,7 +22,7 @@ bytes_taken-append a b = ap concat (map-append (λ p. take p.1 p.0) a b) ∙ con
 bytes_taken-one : (packet : List ℕ) (n : ℕ) → bytes_taken ((packet, n) ∷ []) ≡ take n packet
 bytes_taken-one packet n = append-nil (take n packet)
 
-stream_more : (format : Format) (lines : Pairs) (line : List ℕ) (n : ℕ)
+pub stream_more : (format : Format) (lines : Pairs) (line : List ℕ) (n : ℕ)
     → taken_stream format (lines ++ (line, n) ∷ []) ≡ taken_stream format lines ++ frame_of format line n
 stream_more format lines line n =
     flat_map-append (λ (k : List ℕ × ℕ). frame_of format k.0 k.1) lines ((line, n) ∷ [])

@@ -1,6 +1,6 @@
 -- What writing an oversize line does (`Writes`), if the flush before it succeeded.
 use Rattle.std.proofs.Common.{◌≡◌, ℕ, ◌+◌, ◌-◌, ◌<◌, true, [], ◌∷◌, ◌++◌, List}
-use Rattle.std.proofs.Common.{length, take, ap, ◌∙◌, sym, arith, take_all, ◌%◌, ◌^◌, refl}
+use Rattle.std.proofs.Common.{length, take, ap, ◌∙◌, sym, arith, take_all, ◌%◌, ◌^◌}
 use Rattle.std.proofs.Common.{Bool, if◌then◌else◌, Ok, Err, Result, inl}
 use Rattle.std.proofs.lemmas.Bool.{false≢true}
 use Rattle.std.proofs.lemmas.List.{append-nil, drop_all}
@@ -8,7 +8,7 @@ use Rattle.std.specs.List.{concat}
 use Rattle.cadence_errors.specs.declared.SinkError.{SinkError}
 use Rattle.cadence_flow.specs.Frame.{Format, size_of, is_oversize, frame_of, held_packet}
 use Rattle.cadence_flow.specs.Packer.{Flushes, PackerState, Writes, rest_or, taken_of_held, whole_text}
-use Rattle.cadence_flow.specs.Writer.{Extends, PacketHistory, WriterKind, Sends, WritesPacket, after_packet}
+use Rattle.cadence_flow.specs.Writer.{PacketHistory, WriterKind, Sends, WritesPacket, after_packet}
 use Rattle.cadence_flow.proofs.Histories.{concat-push, Sends-then, Extends-trans, Extends-refl}
 
 -- If nothing is held, the packets are all text.

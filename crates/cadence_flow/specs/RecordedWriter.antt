@@ -2,7 +2,7 @@
 use Rattle.std.specs.Prelude.{ℕ, true, List, map, take}
 use Rattle.cadence_flow.specs.Offers.{Offer}
 use Rattle.cadence_flow.specs.Writer.{PacketHistory, WriterKind}
-use Rattle.cadence_flow.specs.declared.recorded_packer.RecordedWriter.{RecordedWriter}
+use Rattle.cadence_flow.specs.declared.recorded_writer.RecordedWriter.{RecordedWriter}
 
 module _ {W : Type 0} where
   -- the writer without its record

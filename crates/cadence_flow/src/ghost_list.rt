@@ -39,4 +39,4 @@ impl<T> GhostList<T> {
 }
 
 // A `GhostList` owns nothing, so it may go to another thread.
-unsafe impl<T: Send> Send for GhostList<T> {}
+unsafe impl<T> Send for GhostList<T> {}

@@ -1,5 +1,5 @@
 //! A list of texts that exists in proofs only.
-ghost use Rattle.std.specs.Prelude.{◌≡◌, ◌∷◌, ◌++◌, [], ℕ, List, string_bytes};
+ghost use Rattle.std.specs.Prelude.{◌≡◌, ◌∷◌, ◌++◌, [], ℕ, List};
 ghost use Rattle.std.specs.Borrow.{ftrue};
 ghost use Rattle.std.specs.Coded.{coded_list, coded_ℕ, coded×};
 
@@ -28,8 +28,8 @@ impl GhostTexts {
     }
 
     /// Makes the list that has this text alone, with the count 0.
-    pub fn of(text: &String) -> GhostTexts
-        ensures { result.items ≡ (string_bytes text.now, 0) ∷ [] }
+    pub fn of(text: &str) -> GhostTexts
+        ensures { result.items ≡ (text.now, 0) ∷ [] }
     {
         let mut texts = GhostTexts::new();
         texts.note(text.as_bytes(), 0);

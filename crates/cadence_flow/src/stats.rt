@@ -1,6 +1,6 @@
 //! The counts of what a sink sent and dropped; and the same under a lock, for a socket that threads share.
 
-use crate::answering_sink::{Closed, Opened, Opener};
+use crate::answering_sink::{Closed, Opener};
 use crate::lock::acquire;
 use cadence_errors::{MetricResult, SinkError};
 use std::alloc::{AllocError, Allocator, Global};
@@ -136,8 +136,7 @@ pub struct SocketStats<R: Wait + Drop, A: Allocator = Global> {
 impl<R: Wait + Drop, A: Allocator> SocketStats<R, A> {
     ghost use Rattle.std.specs.Prelude.{◌≡◌};
     ghost use Rattle.cadence_errors.specs.Errors.{MayOnlyRunOutOfMemory};
-    ghost use Rattle.cadence_flow.specs.Unread.{len_of, count_taken};
-    ghost use Rattle.cadence_flow.specs.Sent.{sent_of};
+    ghost use Rattle.cadence_flow.specs.Unread.{len_of, count_taken, counted_of};
 
     /// Makes four counts of 0. The only error is `OutOfMemory`.
     pub fn new(rt: R, alloc: A) -> MetricResult<Self>
@@ -184,15 +183,18 @@ impl<R: Wait + Drop, A: Allocator> SocketStats<R, A> {
         counts.count(answer, len)
     }
 
-    /// Counts what a socket answered for a line of `len` bytes, and returns it as an answer of a sink.
-    pub fn count_line(&self, answer: Unread, len: usize) -> Result<Sent, Dropped>
+    /// Counts what a socket answered for a line of `len` bytes, and returns how many bytes the socket took, with a
+    /// receipt of a sink.
+    pub fn count_line(&self, answer: Unread, len: usize) -> (Option<usize>, Counted)
         requires { len ≡ len_of answer }
-        ensures { sent_of result ≡ count_taken answer }
+        ensures same { result.0 ≡ count_taken answer }
+        ensures shows { counted_of result.1 ≡ count_taken answer }
     {
-        match self.count(answer, len) {
-            Some(bytes) => Ok(Sent { bytes }),
-            None => Err(Dropped { of: () }),
-        }
+        let taken = self.count(answer, len);
+        let counted = Counted {
+            taken: Snapshot::of(&taken),
+        };
+        (taken, counted)
     }
 
     /// Counts a packet as `note` does, and returns the socket's result unchanged.
@@ -212,29 +214,15 @@ impl<R: Wait + Clone + Drop, A: Allocator + Clone> Clone for SocketStats<R, A> {
     }
 }
 
-/// The answer for a line that a socket took, after it was counted. It can't be let go, because its type has no `Drop`.
-pub struct Sent {
-    bytes: usize,
-}
-
-/// The answer for a line that a socket refused, after it was counted. It can't be let go, because its type has no
+/// Shows that a socket took or refused a line, and that this was counted. It can't be let go, because its type has no
 /// `Drop`.
-pub struct Dropped {
-    of: (),
+pub struct Counted {
+    taken: Snapshot<Option<usize>>,
 }
 
-impl Opened for Sent {
-    ghost bytes = { λ s. s.bytes };
-
-    fn open(self, _by: Opener) -> usize {
-        let Sent { bytes } = self;
-        bytes
-    }
-}
-
-impl Closed for Dropped {
+impl Closed for Counted {
     fn close(self, _by: Opener) {
-        let Dropped { of: () } = self;
+        let Counted { taken: _ } = self;
     }
 }
 

@@ -29,4 +29,4 @@ pub use queue_error::QueueError;
 pub use shared_queue::SharedQueue;
 pub use taking::{Taker, TakerRoom};
 pub use text_ring::TextRing;
-pub use under_lock::{Accepted, End, Left, Queued, Refusal, Stopped, Took};
+pub use under_lock::QueueStep;

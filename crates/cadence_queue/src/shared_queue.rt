@@ -1,17 +1,17 @@
 //! A queue of texts that threads share, with a record of its past that only proofs read.
-ghost use Rattle.std.specs.Prelude.{◌≡◌, ◌≢◌, IfErr, IfOk, None, Ok, Err, Option, IsTrue};
+ghost use Rattle.std.specs.Prelude.{◌≡◌, ◌≢◌, IfErr, IfOk, OnErr, None, Ok, Err, Option, IsTrue};
 ghost use Rattle.std.specs.declared.alloc.AllocError.{AllocError};
 ghost use Rattle.cadence_errors.specs.declared.SinkError.TheVariants.{ChannelFull};
-ghost use Rattle.cadence_queue.specs.Queue.{IsQueueRefusal, error_of, is_open};
+ghost use Rattle.cadence_queue.specs.Queue.{Accepts, IsQueueRefusal, after_stop, error_of, is_open, without_handle};
 ghost use Rattle.cadence_queue.specs.QueueRoom.{IsBounded, OnlyWantsRoom};
 ghost use Rattle.cadence_queue.specs.declared.policy.QueuePolicy.TheVariants.{Refuse};
 ghost use Rattle.cadence_queue.specs.declared.queue_error.QueueError.TheVariants.{Full};
 ghost use Rattle.cadence_queue.specs.RecordedQueue.{core_of};
 ghost use Rattle.cadence_queue.specs.SharedQueue.{bound_of, rule_of};
-ghost use Rattle.cadence_queue.specs.Shown.{at_of, text_of, why_refused};
+ghost use Rattle.cadence_queue.specs.Shown.{IsRefused, after_of, before_of};
 
 use super::recorded_queue::RecordedQueue;
-use super::under_lock::{Accepted, Left, Refusal, Stopped, UnderLock};
+use super::under_lock::{QueueStep, UnderLock};
 use crate::{QueueError, QueuePolicy};
 use cadence_errors::{MetricResult, SinkError};
 use cadence_flow::{acquire, spin};
@@ -29,9 +29,10 @@ const TURNS_TO_GIVE_WAY: u32 = 20;
 /// `QueueCore`; a `Taker` does several takes in a row. What lies under the lock is a `RecordedQueue`, so whenever the
 /// lock is free, each text that the queue accepted so far was taken or dropped, or it waits.
 ///
-/// `offer` and the calls whose names end in `_shown` also show, in proofs, the states of the queue between which they made
-/// their step. No call lets a text go, so none loses one under the lock: a text may be of a type that can't be dropped.
-/// `M` is the type of a text that the worker is done with: `offer` reuses its memory for a later text.
+/// `offer`, `stop`, `drop_handle` and the calls whose names end in `_shown` also show, in proofs, the states of the queue
+/// between which they made their step. No call lets a text go, so none loses one under the lock: a text may be of a type
+/// that can't be dropped. `M` is the type of a text that the worker is done with: `offer` reuses its memory for a later
+/// text.
 #[derive(Drop)]
 pub struct SharedQueue<T, A: Allocator = Global, M = T> {
     pub(super) state: Mutex<UnderLock<T, A, M>>,
@@ -88,16 +89,16 @@ impl<T, A: Allocator, M> SharedQueue<T, A, M> {
         self.capacity
     }
 
-    /// Returns why this queue refused a text.
+    /// Returns why this queue refused a text with this error.
     // A queue without a capacity is never full. But a contract can't state that the capacity under the lock is the one
     // outside it, so for the checker such a queue may be full. Therefore a queue without a capacity returns `Full` as
     // `OutOfMemory`, which no run does, and the contracts can promise that it is never full.
-    pub fn why(&self, refusal: &Refusal<T, A>) -> QueueError
-        ensures reason { bound_of self.now ≢ None → result ≡ why_refused refusal.now }
+    pub fn why(&self, error: QueueError) -> QueueError
+        ensures reason { bound_of self.now ≢ None → result ≡ error }
         ensures refusal { IsQueueRefusal (error_of result) }
         ensures unbounded { bound_of self.now ≡ None → result ≢ Full }
     {
-        match refusal.why() {
+        match error {
             QueueError::Full if self.capacity.is_none() => QueueError::OutOfMemory,
             why => why,
         }
@@ -115,42 +116,37 @@ impl<T, A: Allocator + Clone, M: Drop> SharedQueue<T, A, M> {
         ensures refused { IfErr result (λ e. IsQueueRefusal e.0 × (e.1 ≡ text)) }
         ensures unbounded { bound_of self.now ≡ None → IfErr result (λ e. e.0 ≢ ChannelFull) }
     {
-        match self.submit_shown(rt, text) {
-            Ok(accepted) => Ok(accepted.into_dropped()),
-            Err((refusal, text)) => Err((self.why(&refusal).into(), text)),
+        let (answer, _step) = self.submit_shown(rt, text);
+        match answer {
+            Ok(dropped) => Ok(dropped),
+            Err((error, text)) => Err((self.why(error).into(), text)),
         }
     }
 
-    /// Adds a text at the end, as `submit` does, and shows the step or the refusal.
+    /// Adds a text at the end, as `submit` does, and shows the step.
     pub fn submit_shown(
         &self,
         rt: &impl Wait,
         text: T,
-    ) -> Result<Accepted<T, A>, (Refusal<T, A>, T)>
-        ensures accepted { IfOk result (λ a. text_of a ≡ text) }
-        ensures refused { IfErr result (λ e. e.1 ≡ text) }
-        ensures bounded { IfErr result (λ e. IsBounded (at_of e.0).capacity →
-            IsTrue (is_open (at_of e.0)) → ⊥) }
+    ) -> (Result<Option<T>, (QueueError, T)>, QueueStep<T, A>)
+        ensures accepts { IfOk result.0 (λ dropped.
+            Accepts (before_of result.1) text dropped (after_of result.1)) }
+        ensures refuses { IfErr result.0 (λ e. IsRefused result.1 e.0 × (e.1 ≡ text)) }
+        ensures bounded { IfErr result.0 (λ _. IsBounded (before_of result.1).capacity →
+            IsTrue (is_open (before_of result.1)) → ⊥) }
     {
         let mut state = self.enter(rt);
         let idle = state.queue.core().is_idle();
-        let (before, text_added) = (Snapshot::of(state.queue.core()), Snapshot::of(&text));
+        let before = Snapshot::of(state.queue.core());
         let answer = state.queue.add(text);
         let after = Snapshot::of(state.queue.core());
         drop(state);
         self.wake(idle && answer.is_ok());
-        match answer {
-            Ok(dropped) => Ok(Accepted {
-                dropped,
-                text: text_added,
-                before,
-                after,
-            }),
-            Err((why, text)) => Err((Refusal { why, at: before }, text)),
-        }
+        (answer, QueueStep { before, after })
     }
 
-    /// Adds the text that `make` makes at the end, as `submit` does, and shows the step or the refusal.
+    /// Adds the text that `make` makes at the end, as `submit` does, and shows the step. Returns the text that a full
+    /// queue dropped for it, if it dropped one, and in proofs the text itself.
     ///
     /// `make` is called only if the queue would accept a text and has room for it. It is called under the lock, so it must
     /// not call the queue. It gets a text that the worker has handed on already, if there is one, and may make the new
@@ -159,12 +155,18 @@ impl<T, A: Allocator + Clone, M: Drop> SharedQueue<T, A, M> {
         &self,
         rt: &impl Wait,
         make: F,
-    ) -> Result<Accepted<T, A>, Refusal<T, A>>
+    ) -> (
+        Result<(Option<T>, Snapshot<T>), QueueError>,
+        QueueStep<T, A>,
+    )
         requires { F.IsAlwaysCallable make }
-        ensures made { IfOk result (λ a. (older : Option M) × F.post make older (Ok (text_of a))) }
-        ensures bounded { IfErr result (λ e. IsBounded (at_of e).capacity →
-            IsTrue (is_open (at_of e)) →
-            (older : Option M) × (error : AllocError) × F.post make older (Err error)) }
+        ensures made { IfOk result.0 (λ a. (older : Option M) × F.post make older (Ok a.1.value)) }
+        ensures accepts { IfOk result.0 (λ a.
+            Accepts (before_of result.1) a.1.value a.0 (after_of result.1)) }
+        ensures refuses { IfErr result.0 (λ e. IsRefused result.1 e) }
+        ensures bounded { IsBounded (before_of result.1).capacity →
+            IsTrue (is_open (before_of result.1)) →
+            OnErr result.0 ((older : Option M) × (error : AllocError) × F.post make older (Err error)) }
     {
         let mut state = self.enter(rt);
         let idle = state.queue.core().is_idle();
@@ -174,15 +176,7 @@ impl<T, A: Allocator + Clone, M: Drop> SharedQueue<T, A, M> {
         let after = Snapshot::of(state.queue.core());
         drop(state);
         self.wake(idle && answer.is_ok());
-        match answer {
-            Ok((dropped, text)) => Ok(Accepted {
-                dropped,
-                text,
-                before,
-                after,
-            }),
-            Err(why) => Err(Refusal { why, at: before }),
-        }
+        (answer, QueueStep { before, after })
     }
 }
 
@@ -220,20 +214,18 @@ impl<T, A: Allocator, M> SharedQueue<T, A, M> {
         }
     }
 
-    /// Stops the queue: it refuses texts from now on. Texts that wait can still be taken. Wakes the threads that wait.
-    pub fn stop(&self, rt: &impl Wait) {
-        drop(self.stop_shown(rt));
-    }
-
-    /// Stops the queue, as `stop` does, and shows the step.
-    pub fn stop_shown(&self, rt: &impl Wait) -> Stopped<T, A> {
+    /// Stops the queue: it refuses texts from now on. Texts that wait can still be taken. Wakes the threads that wait, and
+    /// shows the step.
+    pub fn stop(&self, rt: &impl Wait) -> QueueStep<T, A>
+        ensures { after_of result ≡ after_stop (before_of result) }
+    {
         let mut state = self.state.lock(rt);
         let before = Snapshot::of(state.queue.core());
         state.queue.stop();
         let after = Snapshot::of(state.queue.core());
         drop(state);
         self.changed.notify_all();
-        Stopped { before, after }
+        QueueStep { before, after }
     }
 
     /// Counts one more handle.
@@ -241,20 +233,17 @@ impl<T, A: Allocator, M> SharedQueue<T, A, M> {
         self.state.lock(rt).queue.add_handle();
     }
 
-    /// Counts one handle less. If it was the last one, stops the queue. Wakes the threads that wait.
-    pub fn drop_handle(&self, rt: &impl Wait) {
-        drop(self.drop_handle_shown(rt));
-    }
-
-    /// Counts one handle less, as `drop_handle` does, and shows the step.
-    pub fn drop_handle_shown(&self, rt: &impl Wait) -> Left<T, A> {
+    /// Counts one handle less. If it was the last one, stops the queue. Wakes the threads that wait, and shows the step.
+    pub fn drop_handle(&self, rt: &impl Wait) -> QueueStep<T, A>
+        ensures { after_of result ≡ without_handle (before_of result) }
+    {
         let mut state = self.state.lock(rt);
         let before = Snapshot::of(state.queue.core());
         state.queue.drop_handle();
         let after = Snapshot::of(state.queue.core());
         drop(state);
         self.changed.notify_all();
-        Left { before, after }
+        QueueStep { before, after }
     }
 
     /// Returns how many texts wait.

@@ -1,9 +1,11 @@
 //! How texts are taken out of a shared queue: one by one, or several at a time by a taker. No other module has the right
 //! to take one.
-ghost use Rattle.std.specs.Prelude.{◌≡◌, ◌<◌, [], ◌++◌, is_some, true};
+ghost use Rattle.std.specs.Option.{ForSome};
+ghost use Rattle.std.specs.Prelude.{◌≡◌, ◌<◌, [], ◌++◌, IfSome, is_some, true};
+ghost use Rattle.cadence_queue.specs.Shown.{IsEnd, after_of};
 
 use super::shared_queue::SharedQueue;
-use super::under_lock::{End, Took, UnderLock};
+use super::under_lock::{QueueStep, UnderLock};
 use crate::{Taken, TextRing};
 use cadence_flow::{GhostList, acquire, spin};
 use std::alloc::{AllocError, Allocator, Global};
@@ -37,26 +39,30 @@ pub struct Hand {
 const HAND: Hand = Hand { of: () };
 
 impl<T, A: Allocator, M: Drop> SharedQueue<T, A, M> {
-    ghost use Rattle.std.specs.Prelude.{◌≢◌, IfSome, false};
+    ghost use Rattle.std.specs.Prelude.{◌≢◌, false};
     ghost use Rattle.std.specs.Sync.Mutex.{mutex_guard_value};
     ghost use Rattle.cadence_queue.specs.declared.queue_core.Taken.TheVariants.{Empty};
-    ghost use Rattle.cadence_queue.specs.Shown.{IsReady, taken_of};
+    ghost use Rattle.cadence_queue.specs.Queue.{IsTaken};
+    ghost use Rattle.cadence_queue.specs.Shown.{IsReady, before_of};
     ghost use Rattle.cadence_queue.specs.Taker.{given_by, has_ended};
 
     /// Takes the oldest text, if there is one. It doesn't wait.
     pub fn try_take(&self, rt: &impl Wait) -> Taken<T> {
-        self.try_take_shown(rt).into_taken()
+        self.try_take_shown(rt).0
     }
 
     /// Takes the oldest text, as `try_take` does, and shows the step.
-    pub fn try_take_shown(&self, rt: &impl Wait) -> Took<T, A> {
+    pub fn try_take_shown(&self, rt: &impl Wait) -> (Taken<T>, QueueStep<T, A>)
+        ensures { IsTaken (before_of result.1) result.0 (after_of result.1) }
+    {
         acquire(&self.state, rt).take(HAND)
     }
 
     /// Takes the oldest text. If there is none, it waits for one, unless the queue is stopped. `None` is the end: the
     /// queue is stopped and empty.
     pub fn take_wait(&self, rt: &impl Wait) -> Option<T> {
-        match self.take_wait_shown(rt).into_taken() {
+        let (taken, _step) = self.take_wait_shown(rt);
+        match taken {
             Taken::Text(text) => Some(text),
             Taken::Ended => None,
             Taken::Empty => unreachable!(),
@@ -64,8 +70,9 @@ impl<T, A: Allocator, M: Drop> SharedQueue<T, A, M> {
     }
 
     /// Takes the oldest text, as `take_wait` does, and shows the step.
-    pub fn take_wait_shown(&self, rt: &impl Wait) -> Took<T, A>
-        ensures { taken_of result ≢ Empty }
+    pub fn take_wait_shown(&self, rt: &impl Wait) -> (Taken<T>, QueueStep<T, A>)
+        ensures taken { IsTaken (before_of result.1) result.0 (after_of result.1) }
+        ensures text { result.0 ≢ Empty }
     {
         self.sleep(rt).take(HAND)
     }
@@ -222,15 +229,16 @@ pub struct Taker<'a, T, A: Allocator = Global, M = T> {
     done: TextRing<M, A>,
     taken: GhostList<T>,
     given: GhostList<T>,
-    // the end of the queue, once the taker has seen it
-    end: Option<End<T, A>>,
+    // the step that found the queue at its end, once there was one
+    end: Option<QueueStep<T, A>>,
     pub ghost whole: { taken.items ≡ given.items ++ texts.items },
+    pub ghost end_was_seen: { ForSome end (λ step. IsEnd (after_of step)) },
     pub ghost empty: { is_some end ≡ true → texts.items ≡ [] },
     pub ghost room: { 0 < texts.capacity },
 }
 
 impl<T, A: Allocator, M: Drop> Taker<'_, T, A, M> {
-    ghost use Rattle.std.specs.Prelude.{◌∷◌, ◌↔◌, IfSome, IfNone, IsTrue, false};
+    ghost use Rattle.std.specs.Prelude.{◌∷◌, ◌↔◌, IfNone, IsTrue, false};
     ghost use Rattle.cadence_queue.specs.Shown.{AreMoved, IsReady};
     ghost use Rattle.cadence_queue.specs.Taker.{given_by, has_ended, taken_by};
 
@@ -258,7 +266,7 @@ impl<T, A: Allocator, M: Drop> Taker<'_, T, A, M> {
     // in between, and then sleeps. It is a function of its own, so that `next` is short enough to be inlined.
     // Without this hint a line of `bench queue 0 20` takes 44 instructions more.
     #[inline(never)]
-    fn fetch(&mut self, rt: &impl Wait) -> Option<End<T, A>>
+    fn fetch(&mut self, rt: &impl Wait) -> Option<QueueStep<T, A>>
         requires { (self.old.texts.items ≡ []) × (has_ended self.old ≡ false) }
         ensures same { (given_by self.new ≡ given_by self.old)
             × (has_ended self.new ≡ has_ended self.old) }
@@ -297,8 +305,8 @@ impl<T, A: Allocator, M: Drop> Taker<'_, T, A, M> {
     }
 
     // Moves the oldest texts out of the queue, for a taker that has none. Leaves the texts that it is done with among the
-    // spares. Returns the end of the queue, if it has come to its end.
-    fn take_some(&mut self, state: &mut UnderLock<T, A, M>) -> Option<End<T, A>>
+    // spares. Returns the step if the queue has come to its end.
+    fn take_some(&mut self, state: &mut UnderLock<T, A, M>) -> Option<QueueStep<T, A>>
         requires ready { IsReady state.old }
         requires none { (self.old.texts.items ≡ []) × (has_ended self.old ≡ false) }
         ensures same { (given_by self.new ≡ given_by self.old)
@@ -306,15 +314,15 @@ impl<T, A: Allocator, M: Drop> Taker<'_, T, A, M> {
         ensures moved { AreMoved result self.new.texts.items }
     {
         state.take_back(&mut self.done);
+        let before = Snapshot::of(state.queue.core());
         state
             .queue
             .take_some(HAND, &mut self.texts, &mut self.taken);
         if self.texts.len() > 0 {
             return None;
         }
-        Some(End {
-            at: Snapshot::of(state.queue.core()),
-        })
+        let after = Snapshot::of(state.queue.core());
+        Some(QueueStep { before, after })
     }
 
     /// Keeps a text that the worker is done with, so that a caller can make its next text in the same memory. It takes

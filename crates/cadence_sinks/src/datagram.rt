@@ -3,9 +3,8 @@ ghost use Rattle.std.specs.Option.{ok_or};
 ghost use Rattle.std.specs.Prelude.{◌≡◌, [], Bool, IfOk, length};
 ghost use Rattle.cadence_errors.specs.Errors.{MayOnlyRunOutOfMemory};
 ghost use Rattle.cadence_errors.specs.declared.SinkError.{SinkError};
-ghost use Rattle.cadence_flow.specs.Unread.{len_of, count_taken};
+ghost use Rattle.cadence_flow.specs.Unread.{IsCounted, len_of, count_taken};
 ghost use Rattle.cadence_flow.specs.Writer.{history_of};
-ghost use Rattle.cadence_flow.specs.Opened.{opened};
 ghost use Rattle.cadence_sinks.specs.Buffers.{buffer_of};
 ghost use Rattle.cadence_sinks.specs.Sockets.{IsBufferedAnswer, IsBufferedFlush, IsSocketAnswer, socket_kind};
 
@@ -13,11 +12,10 @@ use cadence_errors::{MetricResult, SinkError};
 use cadence_flow::io::{PacketWriter, Refusals};
 use cadence_flow::stats::{SinkStats, Unread};
 use cadence_flow::{
-    AnsweringFlush, AnsweringSink, Dropped, Flushed, Packed, RecordedPacker, Refused, Sent,
-    SocketStats, acquire,
+    AnsweringFlush, AnsweringSink, Counted, Locked, Receipt, RecordedPacker, SocketStats,
 };
 use std::alloc::Allocator;
-use std::sync::{Mutex, Wait};
+use std::sync::Wait;
 
 /// A datagram socket together with the place that it sends to.
 pub trait DatagramSocket: Drop {
@@ -69,13 +67,13 @@ impl<D: DatagramSocket, R: Wait + Drop, A: Allocator> CountedSocket<D, R, A> {
 
 /// A line is sent alone, and the result is counted.
 impl<D: DatagramSocket, R: Wait + Drop, A: Allocator> AnsweringSink for CountedSocket<D, R, A> {
-    type Took = Sent;
-
-    type Refused = Dropped;
+    type Receipt = Counted;
 
     ghost may_answer = { λ _ line answer. IsSocketAnswer D.may_give line answer };
 
-    fn emit_line(&self, line: &str, fault: &mut SinkError) -> Result<Self::Took, Self::Refused> {
+    ghost shows = { λ _ counted _ answer. IsCounted counted answer };
+
+    fn emit_line(&self, line: &str, fault: &mut SinkError) -> (Option<usize>, Counted) {
         let packet = line.as_bytes();
         self.stats
             .count_line(self.socket.send(packet, fault), packet.len())
@@ -136,11 +134,11 @@ impl<S: PacketSocket> PacketWriter for SocketWriter<S> {
 /// The packer of a packed socket.
 pub type SocketLines<D, R, A> = RecordedPacker<SocketWriter<CountedSocket<D, R, A>>, A>;
 
-/// Packs lines, each followed by a newline, into the packets of a counted socket. The packer and its record, which only
-/// proofs read, are under a lock. The drop of a `PackedSocket` tries one flush.
+/// Packs lines, each followed by a newline, into the packets of a counted socket. The packer with the log of its calls,
+/// which only proofs read, is under a lock. The drop of a `PackedSocket` tries one flush.
+#[derive(Drop)]
 pub struct PackedSocket<D: DatagramSocket, R: Wait + Drop, A: Allocator> {
-    rt: R,
-    writer: Mutex<SocketLines<D, R, A>>,
+    lines: Locked<SocketLines<D, R, A>, R>,
     stats: SocketStats<R, A>,
     capacity: usize,
 }
@@ -153,10 +151,9 @@ impl<D: DatagramSocket, R: Wait + Clone + Drop, A: Allocator + Clone> PackedSock
     {
         let socket = CountedSocket::new(rt.clone()?, alloc.clone()?, socket)?;
         let stats = socket.stats.clone()?;
-        let lines = RecordedPacker::new(alloc, SocketWriter::new(socket), capacity)?;
+        let packer = RecordedPacker::new(alloc, SocketWriter::new(socket), capacity)?;
         Ok(PackedSocket {
-            rt,
-            writer: Mutex::new(lines),
+            lines: Locked::new(rt, packer),
             stats,
             capacity,
         })
@@ -164,31 +161,6 @@ impl<D: DatagramSocket, R: Wait + Clone + Drop, A: Allocator + Clone> PackedSock
 }
 
 impl<D: DatagramSocket, R: Wait + Drop, A: Allocator> PackedSocket<D, R, A> {
-    ghost use Rattle.cadence_flow.specs.Frame.{Fits};
-    ghost use Rattle.cadence_flow.specs.Packed.{bytes_of};
-    ghost use Rattle.cadence_flow.specs.RecordedPacker.{packer_of};
-    ghost use Rattle.cadence_sinks.specs.Shows.{SocketShows};
-
-    // Takes a line that doesn't fit into the free room of the buffer. It is a function of its own, so that the first
-    // case of `emit_line` is short. A line that fits into an empty buffer is never cut, so its answer has the line's
-    // length; but no clause ties the capacity outside the lock to that of the packer under it.
-    fn emit_late(
-        &self,
-        lines: &mut SocketLines<D, R, A>,
-        line: &str,
-        fault: &mut SinkError,
-    ) -> Result<Packed<SocketLines<D, R, A>>, Refused<SocketLines<D, R, A>>>
-        requires { Fits (packer_of lines.old).format (packer_of lines.old).held line.now → ⊥ }
-        ensures answer { IsBufferedAnswer D.may_give (buffer_of self.now)
-            line.now (opened bytes_of result fault.new) }
-        ensures shows { SocketShows D.may_give (buffer_of self.now) line.now result fault.new }
-    {
-        match lines.write_late(line.as_bytes(), fault) {
-            Ok(packed) if line.len() < self.capacity => Ok(packed.with_bytes(line.len())),
-            answer => answer,
-        }
-    }
-
     /// Returns the counts of this moment.
     pub fn stats(&self) -> SinkStats {
         SinkStats::from(&self.stats)
@@ -203,56 +175,43 @@ impl<D: DatagramSocket, R: Wait + Drop, A: Allocator> PackedSocket<D, R, A> {
 ///
 /// The answer has the line's length, or in the third case how many bytes of the line the socket took. After an error
 /// nothing of the line is held. The error in `fault` is the socket's, or `NothingWritten` if the socket took 0 bytes
-/// of the held text. The answer shows the packer before and after it took or refused this line.
+/// of the held text. The receipt shows the packer before and after it took or refused this line.
 impl<D: DatagramSocket, R: Wait + Drop, A: Allocator> AnsweringSink for PackedSocket<D, R, A> {
     ghost use Rattle.cadence_sinks.specs.Shows.{SocketShows};
 
-    type Took = Packed<SocketLines<D, R, A>>;
-
-    type Refused = Refused<SocketLines<D, R, A>>;
+    type Receipt = Receipt<SocketLines<D, R, A>>;
 
     ghost may_answer = { λ s line answer.
         IsBufferedAnswer D.may_give (buffer_of s) line answer };
 
-    ghost shows = { λ s line answer e. SocketShows D.may_give (buffer_of s) line answer e };
+    ghost shows = { λ s receipt line answer.
+        SocketShows D.may_give (buffer_of s) receipt line answer };
 
+    // A line that fits into an empty buffer is never cut, so its answer is the line's length. But no clause ties the
+    // capacity beside the lock to that of the packer under it.
     // Without this hint a line of `bench udp 512 20` takes 21 instructions more.
     #[inline(always)]
-    fn emit_line(&self, line: &str, fault: &mut SinkError) -> Result<Self::Took, Self::Refused> {
-        let mut lines = acquire(&self.writer, &self.rt);
-        match lines.hold(line.as_bytes()) {
-            Some(packed) => Ok(packed),
-            None => self.emit_late(&mut *lines, line, fault),
+    fn emit_line(&self, line: &str, fault: &mut SinkError) -> (Option<usize>, Self::Receipt) {
+        match self.lines.emit_line(line, fault) {
+            (Some(_), receipt) if line.len() < self.capacity => (Some(line.len()), receipt),
+            (Some(taken), receipt) => (Some(taken), receipt),
+            (None, receipt) => (None, receipt),
         }
     }
 }
 
 /// Sends the held text. The error is the socket's, or `NothingWritten` if the socket took 0 bytes. What the socket
-/// didn't take stays held. The answer shows the packer before and after this flush.
+/// didn't take stays held. The receipt shows the packer before and after this flush.
 impl<D: DatagramSocket, R: Wait + Drop, A: Allocator> AnsweringFlush for PackedSocket<D, R, A> {
     ghost use Rattle.cadence_sinks.specs.Shows.{SocketShowsFlush};
 
-    type Flushed = Flushed<SocketLines<D, R, A>>;
-
-    type Unflushed = Refused<SocketLines<D, R, A>>;
+    type Receipt = Receipt<SocketLines<D, R, A>>;
 
     ghost may_flush = { λ _ answer. IsBufferedFlush D.may_give answer };
 
-    ghost shows_flush = { λ _ answer e. SocketShowsFlush D.may_give answer e };
+    ghost shows_flush = { λ _ receipt answer. SocketShowsFlush D.may_give receipt answer };
 
-    fn flush_lines(&self, fault: &mut SinkError) -> Result<Self::Flushed, Self::Unflushed> {
-        self.writer.lock(&self.rt).flush(fault)
-    }
-}
-
-impl<D: DatagramSocket, R: Wait + Drop, A: Allocator> Drop for PackedSocket<D, R, A> {
-    fn drop(self) {
-        let PackedSocket {
-            rt: _rt,
-            writer,
-            stats: _,
-            capacity: _,
-        } = self;
-        writer.into_inner().finish();
+    fn flush_lines(&self, fault: &mut SinkError) -> (Option<()>, Receipt<SocketLines<D, R, A>>) {
+        self.lines.flush_lines(fault)
     }
 }

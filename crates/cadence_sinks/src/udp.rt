@@ -11,7 +11,7 @@ use crate::datagram::{CountedSocket, DatagramSocket, PackedSocket};
 use cadence_errors::{MetricResult, SinkError};
 use cadence_flow::io::DEFAULT_CAPACITY;
 use cadence_flow::stats::{SinkStats, Unread};
-use cadence_flow::{Handler, MetricSink, SinkErrorHandler, emit_by, flush_by};
+use cadence_flow::{Handler, MetricSink, OneCall, SinkErrorHandler, emit_by, flush_by};
 use cadence_resolve::{Family, Resolver, Runtime, StaticResolver, Target};
 use std::alloc::{Allocator, Global};
 use std::net::{Net, UdpSocket};
@@ -99,7 +99,7 @@ impl<R: Wait + Drop, A: Allocator> MetricSink for UdpMetricSink<R, A> {
     #[inline(always)]
     fn emit(&self, line: &str) -> Result<usize, SinkError> {
         let mut fault = SinkError::NothingWritten;
-        emit_by(&self.socket, line, &mut fault).ok_or(fault)
+        emit_by(OneCall::of(&self.socket), line, &mut fault).ok_or(fault)
     }
 
     fn stats(&self) -> SinkStats {
@@ -254,12 +254,12 @@ impl<R: Wait + Drop, A: Allocator> MetricSink for BufferedUdpMetricSink<R, A> {
     #[inline(always)]
     fn emit(&self, line: &str) -> Result<usize, SinkError> {
         let mut fault = SinkError::NothingWritten;
-        emit_by(&self.socket, line, &mut fault).ok_or(fault)
+        emit_by(OneCall::of(&self.socket), line, &mut fault).ok_or(fault)
     }
 
     fn flush(&self) -> Result<(), SinkError> {
         let mut fault = SinkError::NothingWritten;
-        flush_by(&self.socket, &mut fault).ok_or(fault)
+        flush_by(OneCall::of(&self.socket), &mut fault).ok_or(fault)
     }
 
     fn stats(&self) -> SinkStats {

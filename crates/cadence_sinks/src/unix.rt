@@ -11,7 +11,7 @@ use super::datagram::{CountedSocket, DatagramSocket, PackedSocket};
 use cadence_errors::{MetricResult, SinkError};
 use cadence_flow::io::DEFAULT_CAPACITY;
 use cadence_flow::stats::{SinkStats, Unread};
-use cadence_flow::{MetricSink, emit_by, flush_by};
+use cadence_flow::{MetricSink, OneCall, emit_by, flush_by};
 use std::alloc::{Allocator, Global};
 use std::sync::Wait;
 
@@ -82,7 +82,7 @@ impl<P: PathSocket, R: Wait + Drop, A: Allocator> MetricSink for UnixMetricSink<
     #[inline(always)]
     fn emit(&self, line: &str) -> Result<usize, SinkError> {
         let mut fault = SinkError::NothingWritten;
-        emit_by(&self.socket, line, &mut fault).ok_or(fault)
+        emit_by(OneCall::of(&self.socket), line, &mut fault).ok_or(fault)
     }
 
     fn stats(&self) -> SinkStats {
@@ -151,12 +151,12 @@ impl<P: PathSocket, R: Wait + Drop, A: Allocator> MetricSink for BufferedUnixMet
     #[inline(always)]
     fn emit(&self, line: &str) -> Result<usize, SinkError> {
         let mut fault = SinkError::NothingWritten;
-        emit_by(&self.socket, line, &mut fault).ok_or(fault)
+        emit_by(OneCall::of(&self.socket), line, &mut fault).ok_or(fault)
     }
 
     fn flush(&self) -> Result<(), SinkError> {
         let mut fault = SinkError::NothingWritten;
-        flush_by(&self.socket, &mut fault).ok_or(fault)
+        flush_by(OneCall::of(&self.socket), &mut fault).ok_or(fault)
     }
 
     fn stats(&self) -> SinkStats {

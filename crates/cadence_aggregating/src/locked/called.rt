@@ -1,52 +1,43 @@
-//! Calls by keys, under the lock. Each call is made as an `AnsweringSink` of its own, because only `emit_by` can open
-//! the answer of a step under a lock. `emit_by` passes a text to its sink. A call by a key has no line, so it passes an
-//! empty text, which the sink doesn't read.
+//! Calls by keys, under the lock. Each call is made as an `AnsweringSink` of its own, because only `emit_by` can let go
+//! of the receipt of a step under a lock. `emit_by` passes a text to its sink. A call by a key has no line, so it
+//! passes an empty text, which the sink doesn't read.
+ghost use Rattle.std.specs.Prelude.{ℕ, List, Result};
 ghost use Rattle.cadence_aggregating.specs.Calls.{line_of_keyed};
-ghost use Rattle.cadence_aggregating.specs.Results.{IsCallOf, IsResultOf};
+ghost use Rattle.cadence_aggregating.specs.Results.{IsResultOf};
 ghost use Rattle.cadence_aggregating.specs.Shown.{ShowsAdded};
+ghost use Rattle.cadence_errors.specs.declared.SinkError.{SinkError};
 
-use super::LockedAggregator;
+use super::SharedSums;
 use crate::call::KeyedCall;
-use crate::handler::FlushErrorHandler;
-use crate::shared::SharedSink;
-use crate::under_lock::{Added, Failed};
-use cadence_errors::{MetricError, MetricResult, SinkError};
-use cadence_flow::{AnsweringSink, MetricSink, acquire, emit_by};
+use cadence_errors::SinkError;
+use cadence_flow::{AnsweringSink, Locked, MetricSink, Receipt};
 use std::sync::Wait;
 
-// A call of an aggregator by a key.
+/// A call of an aggregator by a key.
 #[derive(Drop)]
-struct LockedCall<'a, S: MetricSink, R: Wait + Drop, H: FlushErrorHandler> {
-    to: &'a LockedAggregator<S, R, H>,
-    call: KeyedCall<'a>,
+pub(super) struct LockedCall<'a, S: MetricSink, R: Wait + Drop> {
+    pub(super) to: &'a Locked<SharedSums<S>, R>,
+    pub(super) call: KeyedCall<'a>,
 }
 
-// The answer shows the aggregator before and after it accepted the line of the call. After an error it accepted none.
-impl<'a, S: MetricSink, R: Wait + Drop, H: FlushErrorHandler> AnsweringSink
-    for LockedCall<'a, S, R, H> {
-    type Took = Added<SharedSink<S>>;
-
-    type Refused = Failed<SharedSink<S>>;
+// The receipt shows the aggregator before and after it accepted the line of the call. After an error it accepted none.
+// The number that it returns means nothing.
+impl<'a, S: MetricSink, R: Wait + Drop> AnsweringSink for LockedCall<'a, S, R> {
+    type Receipt = Receipt<SharedSums<S>>;
 
     ghost may_answer = { λ made _ answer. IsResultOf (line_of_keyed made.call) answer };
 
-    ghost shows = { λ made _ answer e. ShowsAdded (line_of_keyed made.call) answer e };
+    ghost shows = { λ made receipt _ answer.
+        ShowsAdded receipt (line_of_keyed made.call) answer };
 
-    fn emit_line(&self, _none: &str, fault: &mut SinkError) -> Result<Self::Took, Self::Refused> {
-        acquire(&self.to.lines, &self.to.rt).call(self.call, fault)
+    fn emit_line(&self, _none: &str, fault: &mut SinkError) -> (Option<usize>, Self::Receipt) {
+        steps();
+        self.to.call(self.call, fault)
     }
 }
 
-impl<S: MetricSink, R: Wait + Drop, H: FlushErrorHandler> LockedAggregator<S, R, H> {
-    /// Makes a call by a key. The errors are those of `emit`, as `MetricError::Sink`; the call did nothing then.
-    pub(crate) fn call(&self, call: KeyedCall<'_>) -> MetricResult<()>
-        ensures { IsCallOf (line_of_keyed call.entry) result }
-    {
-        let made = LockedCall { to: self, call };
-        let mut fault = SinkError::NothingWritten;
-        match emit_by(&made, "", &mut fault) {
-            Some(_bytes) => Ok(()),
-            None => Err(MetricError::Sink(fault)),
-        }
-    }
-}
+// Says that the results of these steps are results of steps. The call compiles to no code.
+#[inline(always)]
+fn steps()
+    ensures { (line : List ℕ) → (r : Result ℕ SinkError) → IsResultOf line r }
+{}

@@ -7,7 +7,7 @@ use crate::accepted::Accepted;
 use crate::call::{KeyedCall, context_of, said_by};
 use cadence_aggregate::Fault;
 use cadence_errors::SinkError;
-use cadence_flow::MetricSink;
+use cadence_flow::{LinelessCall, MetricSink};
 
 impl<S: MetricSink> RecordedAggregator<S> {
     ghost use Rattle.cadence_aggregating.specs.Calls.{line_of_keyed};
@@ -38,7 +38,7 @@ impl<S: MetricSink> RecordedAggregator<S> {
     /// # Errors
     /// The error of the sink, if it refused a line that had to be sent, and `OutOfMemory`. After an error the call did
     /// nothing, and what was held is sent or still held.
-    pub(crate) fn call(&mut self, call: KeyedCall<'_>) -> Result<(), SinkError>
+    fn call(&mut self, call: KeyedCall<'_>) -> Result<(), SinkError>
         ensures ok { OnOk result (lines_accepted self.new
             ≡ lines_accepted self.old ++ line_of_keyed call.entry ∷ []) }
         ensures err { OnErr result (lines_accepted self.new ≡ lines_accepted self.old) }
@@ -49,6 +49,23 @@ impl<S: MetricSink> RecordedAggregator<S> {
         match self.try_call(call) {
             Ok(()) => Ok(()),
             Err(fault) => Err(self.error_of(fault)),
+        }
+    }
+}
+
+/// The number that the call returns means nothing.
+impl<'a, S: MetricSink> LinelessCall<RecordedAggregator<S>> for KeyedCall<'a> {
+    ghost use Rattle.cadence_aggregating.specs.Calls.{line_of_keyed};
+
+    ghost counts_as = { λ call. line_of_keyed call };
+
+    fn make(self, stage: &mut RecordedAggregator<S>, fault: &mut SinkError) -> Option<usize> {
+        match stage.call(self) {
+            Ok(()) => Some(0),
+            Err(error) => {
+                *fault = error;
+                None
+            }
         }
     }
 }

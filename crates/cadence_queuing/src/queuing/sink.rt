@@ -8,8 +8,8 @@ ghost use Rattle.cadence_flow.specs.Answered.{IsAnswered};
 use super::worker::Shared;
 use cadence_errors::SinkError;
 use cadence_flow::stats::SinkStats;
-use cadence_flow::{AnsweringSink, MetricSink, emit_by};
-use cadence_queue::{Latch, Queued, Refusal};
+use cadence_flow::{AnsweringSink, MetricSink, OneCall, emit_by};
+use cadence_queue::{Latch, QueueStep};
 use std::alloc::{AllocError, Allocator, Global};
 use std::sync::{Arc, Wait};
 
@@ -45,7 +45,7 @@ impl<S: MetricSink, R: Wait + Drop, A: Allocator> QueuingMetricSink<S, R, A> {
     /// handle is dropped. Neither the wrapped sink nor the error handler may call this: they run in the worker, which
     /// would wait for itself.
     pub fn stop_and_wait(&self) {
-        drop(self.shared.queue.stop_shown(&self.rt));
+        drop(self.shared.queue.stop(&self.rt));
         self.end.wait(&self.rt);
     }
 
@@ -100,24 +100,23 @@ fn copy_line<A: Allocator + Clone>(
 
 impl<S: MetricSink, R: Wait + Drop, A: Allocator + Clone> AnsweringSink
     for QueuingMetricSink<S, R, A> {
-    type Took = Queued<String<A>, A>;
-
-    type Refused = Refusal<String<A>, A>;
+    type Receipt = QueueStep<String<A>, A>;
 
     ghost may_answer = { λ q line answer. IsQueuingAnswer (queue_capacity q) line answer };
 
-    ghost shows = { λ _ line answer _. IsCopyQueued string_bytes line answer };
+    ghost shows = { λ _ receipt line answer. IsCopyQueued string_bytes receipt line answer };
 
     // Without this hint and that of `emit`, a line of `bench queue 1 20` may take 65 instructions more.
     #[inline(always)]
-    fn emit_line(&self, line: &str, fault: &mut SinkError) -> Result<Self::Took, Self::Refused> {
+    fn emit_line(&self, line: &str, fault: &mut SinkError) -> (Option<usize>, Self::Receipt) {
         let alloc = &self.alloc;
         let queue = &self.shared.queue;
-        match queue.offer(&self.rt, |older| copy_line(older, alloc, line)) {
-            Ok(accepted) => Ok(accepted.with_bytes(line.len())),
-            Err(refusal) => {
-                *fault = queue.why(&refusal).into();
-                Err(refusal)
+        let (answer, step) = queue.offer(&self.rt, |older| copy_line(older, alloc, line));
+        match answer {
+            Ok((_dropped, _copy)) => (Some(line.len()), step),
+            Err(error) => {
+                *fault = queue.why(error).into();
+                (None, step)
             }
         }
     }
@@ -145,7 +144,7 @@ impl<S: MetricSink, R: Wait + Drop, A: Allocator + Clone> MetricSink
     #[inline(always)]
     fn emit(&self, line: &str) -> Result<usize, SinkError> {
         let mut fault = SinkError::NothingWritten;
-        emit_by(self, line, &mut fault).ok_or(fault)
+        emit_by(OneCall::of(self), line, &mut fault).ok_or(fault)
     }
 
     fn flush(&self) -> Result<(), SinkError> {
@@ -186,7 +185,7 @@ impl<S: MetricSink, R: Wait + Clone + Drop, A: Allocator + Clone> Clone
 
 impl<S: MetricSink, R: Wait + Drop, A: Allocator> Drop for QueuingMetricSink<S, R, A> {
     fn drop(self) {
-        drop(self.shared.queue.drop_handle_shown(&self.rt));
+        drop(self.shared.queue.drop_handle(&self.rt));
         let QueuingMetricSink {
             rt: _,
             alloc: _,

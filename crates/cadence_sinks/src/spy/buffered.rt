@@ -5,17 +5,13 @@ ghost use Rattle.cadence_flow.specs.Writer.{history_of};
 ghost use Rattle.cadence_queue.specs.Answers.{IsQueueAnswer, IsQueueFlush, queue_kind};
 ghost use Rattle.cadence_flow.specs.Answered.{IsAnswered, IsFlushAnswered, answered_by_holding_nothing};
 ghost use Rattle.cadence_sinks.specs.Buffers.{spy_buffer};
-ghost use Rattle.cadence_sinks.specs.Shows.{SpyShows, SpyShowsFlush};
 
 use super::channel::{Sender, SpyReceiver, new_channel};
 use cadence_errors::{MetricResult, SinkError};
 use cadence_flow::io::{DEFAULT_CAPACITY, PacketWriter, Refusals};
-use cadence_flow::{
-    AnsweringFlush, AnsweringSink, Flushed, MetricSink, Packed, RecordedPacker, Refused, emit_by,
-    flush_by,
-};
+use cadence_flow::{Locked, MetricSink, OneCall, RecordedPacker, emit_by, flush_by};
 use std::alloc::{Allocator, Global};
-use std::sync::{Mutex, Wait};
+use std::sync::Wait;
 
 /// Makes each packet a message. It takes a packet whole or refuses it. Contracts don't see its packets; the packer
 /// around it records them.
@@ -55,9 +51,10 @@ type SpyLines<R, A> = RecordedPacker<MessageWriter<R, A>, A>;
 /// client.flush()?;
 /// let message = receiver.try_recv(); // p.visits:1|c and a newline
 /// ```
+// Its drop sends the held text, and then drops the writer, and with it the one handle of the queue.
+#[derive(Drop)]
 pub struct BufferedSpyMetricSink<R: Wait + Drop, A: Allocator + Clone = Global> {
-    rt: R,
-    writer: Mutex<SpyLines<R, A>>,
+    lines: Locked<SpyLines<R, A>, R>,
     capacity: usize,
 }
 
@@ -88,41 +85,12 @@ impl<R: Wait + Clone + Drop, A: Allocator + Clone> BufferedSpyMetricSink<R, A> {
             refusals: Refusals::none(),
         };
         let capacity = buffer.unwrap_or(DEFAULT_CAPACITY);
-        let lines = RecordedPacker::new(alloc, inner, capacity)?;
+        let packer = RecordedPacker::new(alloc, inner, capacity)?;
         let sink = BufferedSpyMetricSink {
-            rt,
-            writer: Mutex::new(lines),
+            lines: Locked::new(rt, packer),
             capacity,
         };
         Ok((receiver, sink))
-    }
-}
-
-impl<R: Wait + Drop, A: Allocator + Clone> AnsweringSink for BufferedSpyMetricSink<R, A> {
-    type Took = Packed<SpyLines<R, A>>;
-
-    type Refused = Refused<SpyLines<R, A>>;
-
-    ghost may_answer = { λ _ line answer. IsQueueAnswer line answer };
-
-    ghost shows = { λ _ line answer e. SpyShows line answer e };
-
-    fn emit_line(&self, line: &str, fault: &mut SinkError) -> Result<Self::Took, Self::Refused> {
-        self.writer.lock(&self.rt).write(line.as_bytes(), fault)
-    }
-}
-
-impl<R: Wait + Drop, A: Allocator + Clone> AnsweringFlush for BufferedSpyMetricSink<R, A> {
-    type Flushed = Flushed<SpyLines<R, A>>;
-
-    type Unflushed = Refused<SpyLines<R, A>>;
-
-    ghost may_flush = { λ _ answer. IsQueueFlush answer };
-
-    ghost shows_flush = { λ _ answer e. SpyShowsFlush answer e };
-
-    fn flush_lines(&self, fault: &mut SinkError) -> Result<Self::Flushed, Self::Unflushed> {
-        self.writer.lock(&self.rt).flush(fault)
     }
 }
 
@@ -137,23 +105,11 @@ impl<R: Wait + Drop, A: Allocator + Clone> MetricSink for BufferedSpyMetricSink<
     #[inline(always)]
     fn emit(&self, line: &str) -> Result<usize, SinkError> {
         let mut fault = SinkError::NothingWritten;
-        emit_by(self, line, &mut fault).ok_or(fault)
+        emit_by(OneCall::of(&self.lines), line, &mut fault).ok_or(fault)
     }
 
     fn flush(&self) -> Result<(), SinkError> {
         let mut fault = SinkError::NothingWritten;
-        flush_by(self, &mut fault).ok_or(fault)
-    }
-}
-
-// The held text goes out first. Then the writer is dropped, and with it the one handle of the queue.
-impl<R: Wait + Drop, A: Allocator + Clone> Drop for BufferedSpyMetricSink<R, A> {
-    fn drop(self) {
-        let BufferedSpyMetricSink {
-            rt: _rt,
-            writer,
-            capacity: _,
-        } = self;
-        writer.into_inner().finish();
+        flush_by(OneCall::of(&self.lines), &mut fault).ok_or(fault)
     }
 }

@@ -1,16 +1,18 @@
 //! The queue between a spy and its receiver, and its two ends.
-ghost use Rattle.std.specs.Prelude.{◌≡◌, IfOk, vec_items};
+ghost use Rattle.std.specs.Option.{ok_or};
+ghost use Rattle.std.specs.Prelude.{vec_items};
 ghost use Rattle.cadence_errors.specs.Errors.{MayOnlyRunOutOfMemory};
 ghost use Rattle.cadence_queue.specs.Answers.{IsCopyQueued, IsQueueAnswer};
-ghost use Rattle.cadence_flow.specs.Opened.{opened};
-ghost use Rattle.cadence_queue.specs.Shown.{queued_bytes, text_of};
 
 use cadence_errors::{MetricResult, SinkError};
-use cadence_queue::{Accepted, Queued, Refusal, SharedQueue, Taken};
+use cadence_queue::{QueueStep, SharedQueue, Taken};
 use std::alloc::{Allocator, Global};
 use std::sync::{Arc, Wait};
 
 type Messages<A> = Arc<SharedQueue<Vec<u8, A>, A>, A>;
+
+/// What the queue of a spy shows of a message: between two states it accepted the message, or refused it.
+pub type MessageStep<A> = QueueStep<Vec<u8, A>, A>;
 
 /// Returns the messages of a spy, the oldest first. After its drop the spy refuses lines with `ChannelDisconnected`.
 pub struct SpyReceiver<R: Wait + Drop, A: Allocator = Global> {
@@ -40,7 +42,7 @@ impl<R: Wait + Drop, A: Allocator> SpyReceiver<R, A> {
 
 impl<R: Wait + Drop, A: Allocator> Drop for SpyReceiver<R, A> {
     fn drop(self) {
-        drop(self.messages.stop_shown(&self.rt));
+        drop(self.messages.stop(&self.rt));
         let SpyReceiver { rt: _, messages: _ } = self;
     }
 }
@@ -82,47 +84,33 @@ impl<R: Wait + Drop, A: Allocator + Clone> Sender<R, A> {
     pub fn send(&self, bytes: &[u8]) -> Result<usize, SinkError>
         ensures { IsQueueAnswer bytes.now result }
     {
-        match self.offer(bytes) {
-            Ok(accepted) => {
-                drop(accepted.into_dropped());
-                Ok(bytes.len())
-            }
-            Err(refusal) => Err(self.messages.why(&refusal).into()),
-        }
+        let mut fault = SinkError::NothingWritten;
+        self.offer(bytes, &mut fault).0.ok_or(fault)
     }
 
-    /// Adds a copy of the line, as `send` does, and returns an answer of a sink.
-    pub fn send_line(
-        &self,
-        line: &str,
-        fault: &mut SinkError,
-    ) -> Result<Queued<Vec<u8, A>, A>, Refusal<Vec<u8, A>, A>>
-        ensures answer { IsQueueAnswer line.now (opened queued_bytes result fault.new) }
-        ensures copy { IsCopyQueued vec_items line.now result }
+    /// Adds a copy of the bytes, as `send` does, and shows the step. After an error, which is in `fault`, the number is
+    /// `None`.
+    pub fn offer(&self, bytes: &[u8], fault: &mut SinkError) -> (Option<usize>, MessageStep<A>)
+        ensures answer { IsQueueAnswer bytes.now (ok_or result.0 fault.new) }
+        ensures copy { IsCopyQueued vec_items result.1 bytes.now (ok_or result.0 fault.new) }
     {
-        match self.offer(line.as_bytes()) {
-            Ok(accepted) => Ok(accepted.with_bytes(line.len())),
-            Err(refusal) => {
-                *fault = self.messages.why(&refusal).into();
-                Err(refusal)
-            }
-        }
-    }
-
-    // Adds a copy of the bytes at the end of the queue.
-    fn offer(&self, bytes: &[u8]) -> Result<Accepted<Vec<u8, A>, A>, Refusal<Vec<u8, A>, A>>
-        ensures { IfOk result (λ a. vec_items (text_of a) ≡ bytes.now) }
-    {
-        self.messages.offer(&self.rt, |_older| {
+        let (answer, step) = self.messages.offer(&self.rt, |_older| {
             let alloc = self.alloc.clone()?;
             Vec::from_slice(alloc, bytes)
-        })
+        });
+        match answer {
+            Ok((_dropped, _text)) => (Some(bytes.len()), step),
+            Err(error) => {
+                *fault = self.messages.why(error).into();
+                (None, step)
+            }
+        }
     }
 }
 
 impl<R: Wait + Drop, A: Allocator> Drop for Sender<R, A> {
     fn drop(self) {
-        drop(self.messages.drop_handle_shown(&self.rt));
+        drop(self.messages.drop_handle(&self.rt));
         let Sender {
             rt: _,
             alloc: _,

@@ -4,10 +4,9 @@ ghost use Rattle.cadence_errors.specs.Errors.{MayOnlyRunOutOfMemory};
 ghost use Rattle.cadence_queue.specs.Answers.{IsCopyQueued, IsQueueAnswer};
 ghost use Rattle.cadence_flow.specs.Answered.{IsAnswered};
 
-use super::channel::{Sender, SpyReceiver, new_channel};
+use super::channel::{MessageStep, Sender, SpyReceiver, new_channel};
 use cadence_errors::{MetricResult, SinkError};
-use cadence_flow::{AnsweringSink, MetricSink, emit_by};
-use cadence_queue::{Queued, Refusal};
+use cadence_flow::{AnsweringSink, MetricSink, OneCall, emit_by};
 use std::alloc::{Allocator, Global};
 use std::sync::Wait;
 
@@ -46,16 +45,14 @@ impl<R: Wait + Clone + Drop, A: Allocator + Clone> SpyMetricSink<R, A> {
 }
 
 impl<R: Wait + Drop, A: Allocator + Clone> AnsweringSink for SpyMetricSink<R, A> {
-    type Took = Queued<Vec<u8, A>, A>;
-
-    type Refused = Refusal<Vec<u8, A>, A>;
+    type Receipt = MessageStep<A>;
 
     ghost may_answer = { λ _ line answer. IsQueueAnswer line answer };
 
-    ghost shows = { λ _ line answer _. IsCopyQueued vec_items line answer };
+    ghost shows = { λ _ receipt line answer. IsCopyQueued vec_items receipt line answer };
 
-    fn emit_line(&self, line: &str, fault: &mut SinkError) -> Result<Self::Took, Self::Refused> {
-        self.sender.send_line(line, fault)
+    fn emit_line(&self, line: &str, fault: &mut SinkError) -> (Option<usize>, MessageStep<A>) {
+        self.sender.offer(line.as_bytes(), fault)
     }
 }
 
@@ -68,6 +65,6 @@ impl<R: Wait + Drop, A: Allocator + Clone> MetricSink for SpyMetricSink<R, A> {
     #[inline(always)]
     fn emit(&self, line: &str) -> Result<usize, SinkError> {
         let mut fault = SinkError::NothingWritten;
-        emit_by(self, line, &mut fault).ok_or(fault)
+        emit_by(OneCall::of(self), line, &mut fault).ok_or(fault)
     }
 }

@@ -64,13 +64,7 @@ fn a_waiting_taker_is_woken(rt: HostRuntime) -> Result<(), Fail> {
 
 // Adds a text by `offer`, and returns whether it is accepted.
 fn accepts<R: Wait>(rt: &R, queue: &SharedQueue<char>, text: char) -> bool {
-    match queue.offer(rt, |_older| Ok(text)) {
-        Ok(accepted) => {
-            let _ = accepted.into_dropped();
-            true
-        }
-        Err(_) => false,
-    }
+    queue.offer(rt, |_older| Ok(text)).0.is_ok()
 }
 
 // Returns how many texts the queue has accepted, drained and dropped, and how many wait.

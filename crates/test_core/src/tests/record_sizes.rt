@@ -1,23 +1,18 @@
 //! The records that only proofs read take no memory: a type with one has the size of the type without it.
 use cadence_flow::io::{LineBuffer, PacketLog};
-use cadence_flow::{GhostList, RecordedPacker, RecordedWriter};
-use cadence_queue::{Accepted, End, Left, QueueError, Refusal, Stopped, Taken, Took};
+use cadence_flow::{Counted, GhostList, Log, Receipt, RecordedPacker, RecordedWriter, Right, Seen};
+use cadence_queue::QueueStep;
 use std::mem::size_of;
 
 #[test]
 fn a_ledger_takes_no_byte(rt: HostRuntime) {
     assert!(rt; size_of::<GhostList<u64>>() == 0);
     assert!(rt; size_of::<RecordedWriter<PacketLog>>() == size_of::<PacketLog>());
+    assert!(rt; size_of::<Log<u64>>() == 0);
+    assert!(rt; size_of::<Right<u64>>() == 0);
+    assert!(rt; size_of::<Seen<u64>>() == 0);
     assert!(rt; size_of::<RecordedPacker<PacketLog>>() == size_of::<LineBuffer<PacketLog>>());
-}
-
-// The states that an answer of a shared queue shows take no memory either.
-#[test]
-fn a_state_takes_no_byte(rt: HostRuntime) {
-    assert!(rt; size_of::<Accepted<u64>>() == size_of::<Option<u64>>());
-    assert!(rt; size_of::<Refusal<u64>>() == size_of::<QueueError>());
-    assert!(rt; size_of::<Took<u64>>() == size_of::<Taken<u64>>());
-    assert!(rt; size_of::<Stopped<u64>>() == 0);
-    assert!(rt; size_of::<Left<u64>>() == 0);
-    assert!(rt; size_of::<End<u64>>() == 0);
+    assert!(rt; size_of::<Receipt<RecordedPacker<PacketLog>>>() == 0);
+    assert!(rt; size_of::<Counted>() == 0);
+    assert!(rt; size_of::<QueueStep<u64>>() == 0);
 }

@@ -15,7 +15,7 @@ type LinesTaker<'a> = Taker<'a, Line, RefusingAllocator<Global>>;
 // Puts a line into the queue, in the memory of a line that was handed on if there is one. Returns whether there was
 // memory for it.
 fn accepts<R: Wait>(rt: &R, heap: &RefusingAllocator<Global>, queue: &Lines, line: &str) -> bool {
-    let answer = queue.offer(rt, |older| match older {
+    let (answer, _step) = queue.offer(rt, |older| match older {
         Some(mut text) => {
             text.clear();
             text.push_str(line)?;
@@ -23,13 +23,7 @@ fn accepts<R: Wait>(rt: &R, heap: &RefusingAllocator<Global>, queue: &Lines, lin
         }
         None => String::from_str(heap.clone()?, line),
     });
-    match answer {
-        Ok(accepted) => {
-            let _ = accepted.into_dropped();
-            true
-        }
-        Err(_) => false,
-    }
+    answer.is_ok()
 }
 
 // Takes the next line, and gives its memory back. Returns whether it is this line.

@@ -3,5 +3,5 @@ use denote.RattleType.{RattleType}
 use denote.Param.Send.{IsSend, owning_send, sendable}
 use Rattle.cadence_flow.specs.contracts.ghost_list.GhostList.{the_row, the_type}
 
-pub send : (A : RattleType) → IsSend A → IsSend (the_row A)
-send A a = owning_send (the_type A) (search sendable, tt) (λ d. tt) (λ k x w. tt)
+pub send : (A : RattleType) → IsSend (the_row A)
+send A = owning_send (the_type A) (search sendable, tt) (λ d. tt) (λ k x w. tt)

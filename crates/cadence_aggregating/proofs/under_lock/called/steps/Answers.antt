@@ -1,5 +1,0 @@
-use Rattle.cadence_aggregating.specs.Results.{is_result_of}
-use Rattle.cadence_aggregating.proofs.under_lock.called.steps.Goals as goal
-
-pub returns : goal.returns
-returns c = is_result_of
