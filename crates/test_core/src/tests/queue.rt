@@ -39,8 +39,8 @@ fn wake_a_taker<R: Wait + Clock + Threads + Sync>(
                 Wake::Text => {
                     let _ = queue.submit(rt, 'A');
                 }
-                Wake::Stop => queue.stop(rt),
-                Wake::LastHandle => queue.drop_handle(rt),
+                Wake::Stop => drop(queue.stop(rt)),
+                Wake::LastHandle => drop(queue.drop_handle(rt)),
             }
         },
     );
