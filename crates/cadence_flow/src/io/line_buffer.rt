@@ -78,6 +78,7 @@ impl<T: PacketWriter, A: Allocator> LineBuffer<T, A> {
     ///
     /// After an error the result is `None` and `fault` has the error: the writer's own, or `NothingWritten` if it took
     /// 0 bytes of held text. Nothing of the line is held then. What the writer didn't take of the held text stays held.
+    #[inline(always)]
     pub fn write(&mut self, line: &[u8], fault: &mut SinkError) -> Option<usize>
         ensures writes { WritesLine T.kind T.history
             self.old self.new line.now (ok_or result fault.new) }
