@@ -49,9 +49,10 @@ class StatsClient(Metrics):
     when the process ends. A thread flushes every `flush_every` seconds. There is no such thread with 0, where each call
     flushes, nor with None, where no call does. Each call flushes too, in place of the thread, in a process that
     multiprocessing or Celery started, because they end such a process at once, and under uWSGI without `enable-threads`
-    and `threads`, where no thread runs. Threads may
-    share a client. In the child of a fork the client starts empty, because the parent still has the held text. It notices
-    each fork, also that of a program which doesn't tell Python of it, as uWSGI.
+    and `threads`, where no thread runs.
+
+    Threads may share a client. In the child of a fork the client starts empty, because the parent still has the held
+    text. It notices each fork, also that of a program which doesn't tell Python of it, as uWSGI.
 
     No call raises, because a metric must not stop a service. A bad value is counted. A packet that the socket refuses
     is counted, and waits until it is offered again with the next packet. If `packets` packets already wait behind it,
