@@ -100,8 +100,8 @@ StandsFor settings call pending = IfOk pending (λ d. d ≡ draft_of (metric_of_
 pub record StandsForMore (old : Result Draft MetricError) (o : Choice) (new : Result Draft MetricError) : Type 0 where
   pub for_each : (settings : Settings) (call : MetricCall) → StandsFor settings call old → StandsFor settings (with_choice call o) new
 
--- For each call of which the pending draft is the right one, the line of this call was sent: what was returned was made
--- from this line, or memory ran out, or the sink may refuse this line so.
+-- For each call for which the pending draft is right, the line of this call was sent: what was returned was made from
+-- this line, or memory ran out, or it is an error that the sink may return for this line.
 pub record HasSentCall {M : Type 0} (may : SinkResults) (made : List ℕ → M → Type 0) (pending : Result Draft MetricError)
     (answer : Result M MetricError) : Type 0 where
   pub for_each : (settings : Settings) (call : MetricCall) → StandsFor settings call pending

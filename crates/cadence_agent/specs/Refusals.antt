@@ -27,29 +27,30 @@ abbrev pub IsSystemRefusal : MetricError → Type 0
 IsSystemRefusal (Sink e) = IsOfSystem e
 IsSystemRefusal _ = ⊥
 
--- A sink is not made because its path has a fault, and then the kind is `InvalidInput`. If the path has none, then the system refused the
--- socket, or memory ran out.
+-- A sink is not made because its path has a fault, and then the kind is `InvalidInput`. If the path has none, the
+-- system refused the socket, or memory ran out.
 abbrev pub IsUnixRefusal : List ℕ → MetricError → Type 0
 IsUnixRefusal path (Described k text) = (k ≡ kind.InvalidInput) × ((fault : PathError) × IsFault path fault)
 IsUnixRefusal path (Sink (Io e)) = IsPath path
 IsUnixRefusal path (Sink OutOfMemory) = IsPath path
 IsUnixRefusal path _ = ⊥
 
--- The destination may be an invalid input: each host may be one, because it may have no address, and a path is one if and only if it has a fault.
+-- The destination may be an invalid input. Each host may be one, because it may have no address. A path is one if and
+-- only if it has a fault.
 abbrev pub MayBeInvalid : {A : Type 0} → Destination A → Type 0
 MayBeInvalid (place.Udp host port) = ⊤
 MayBeInvalid (place.Unix path) = (fault : PathError) × IsFault (string_bytes path) fault
 
--- A sink to a destination is not made because that is an invalid input, because the system refused the lookup or the socket, or because memory
--- ran out.
+-- A sink to a destination is not made because the destination is an invalid input, because the system refused the
+-- lookup or the socket, or because memory ran out.
 abbrev pub IsPlaceRefusal : {A : Type 0} → Destination A → MetricError → Type 0
 IsPlaceRefusal destination (Described k text) = (k ≡ kind.InvalidInput) × MayBeInvalid destination
 IsPlaceRefusal destination (Sink (Io e)) = ⊤
 IsPlaceRefusal destination (Sink OutOfMemory) = ⊤
 IsPlaceRefusal destination _ = ⊥
 
--- A sink to the place that the environment says is not made because a variable or that place is an invalid input, because the system refused
--- the lookup or the socket, or because memory ran out.
+-- A sink to the place that the environment says is not made because a variable or that place is an invalid input,
+-- because the system refused the lookup or the socket, or because memory ran out.
 abbrev pub IsEnvironmentRefusal : MetricError → Type 0
 IsEnvironmentRefusal (Described k text) = k ≡ kind.InvalidInput
 IsEnvironmentRefusal (Sink (Io e)) = ⊤

@@ -19,8 +19,8 @@ abbrev pub HasAgentBuffer : {R A : Type 0} → EnvironmentSink R A → Type 0
 HasAgentBuffer (Udp s) = udp_buffer s ≡ 512
 HasAgentBuffer (Unix s) = unix_buffer s ≡ 8192
 
--- The sink goes to a destination of this kind: over UDP with a buffer of 512 bytes, or over a Unix socket with one of 8192 bytes. A sink over a Unix
--- socket is made only for a text that can be a path.
+-- The sink sends to a destination of this kind: over UDP with a buffer of 512 bytes, or over a Unix socket with one of
+-- 8192 bytes. A sink over a Unix socket is made only for a text that can be a path.
 abbrev pub GoesTo : {A B R : Type 0} → Destination A → EnvironmentSink R B → Type 0
 GoesTo (place.Udp host port) (Udp s) = udp_buffer s ≡ 512
 GoesTo (place.Unix path) (Unix s) = (unix_buffer s ≡ 8192) × IsPath (string_bytes path)

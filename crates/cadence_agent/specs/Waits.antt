@@ -3,7 +3,8 @@ use Rattle.std.specs.Prelude.{◌≢◌, ◌+◌, ◌*◌, ◌<◌, ◌≤◌, �
 use Rattle.std.specs.Duration.{as_nanos}
 use Rattle.std.specs.declared.time.Duration.{Duration}
 
--- The number of milliseconds is enough for this time, unless it is the most that an `i32` can be, and less than one millisecond longer.
+-- This many milliseconds are at least as long as this time, and less than one millisecond longer. If they are as many
+-- as an `i32` can be, they may be shorter.
 pub record IsWaitFor (most : Duration) (millis : ℕ) : Type 0 where
   pub enough : millis ≢ 2147483647 → as_nanos most ≤ millis * 1000000
   pub no_longer : millis * 1000000 < as_nanos most + 1000000

@@ -12,13 +12,13 @@ use Rattle.cadence_aggregate.specs.declared.runs.Step.{Step}
 use Rattle.cadence_aggregate.specs.declared.runs.Step.TheVariants.{Add, Flush}
 use Rattle.cadence_aggregate.specs.declared.sink.Fault.{Fault}
 
--- what the lines say that the next flush sends first, because the last one left them
+-- what the lines say that the next flush sends first: as many of each kind as the last flush left, the oldest ones
 abbrev pub held_first : Aggregator → List Sample
 held_first a =
     firsts a.due (held_sums a.sums.entries) (held_levels a.levels.entries) (held_members a.members.entries)
     (held_timings a.timings.entries)
 
--- what its other lines say
+-- what the other lines of the next flush say
 abbrev pub held_after : Aggregator → List Sample
 held_after a =
     rests a.due (held_sums a.sums.entries) (held_levels a.levels.entries) (held_members a.members.entries)

@@ -1,4 +1,4 @@
--- Which lines can't be fewer.
+-- When a list of lines is as short as it can be.
 use Rattle.std.specs.Prelude.{◌≤◌, length, List, [], ◌∷◌}
 use Rattle.cadence_aggregate.specs.Server.{Sample, amount, level, member, timing, unclear, other, IsSummary}
 
@@ -12,6 +12,7 @@ unpacked (timing c t ∷ xs) = unpacked xs
 unpacked (unclear l ∷ xs) = unclear l ∷ unpacked xs
 unpacked (other l ∷ xs) = other l ∷ unpacked xs
 
--- No lines from which a server knows the same are fewer, packed values apart.
+-- Each list of lines from which a server knows the same has at least as many lines as this one has without its lines of
+-- packed values.
 abbrev pub AreFewest : List Sample → Type 0
 AreFewest xs = (ys : List Sample) → IsSummary xs ys → length (unpacked xs) ≤ length ys

@@ -13,8 +13,8 @@ abbrev pub CanRaise : Option ℤ → ℤ → Type 0
 CanRaise None by = Unit {0}
 CanRaise (Some v) by = FitsSigned w64 (v +ℤ by)
 
--- The second number is the limit of a line in bytes. If values are held, they stay within the limit when a value of this
--- many bytes is added to them, with two colons.
+-- If values are held, more values can be added to their line: the held values, the context and the new values (`more`
+-- bytes together) and two colons are at most `most` bytes.
 abbrev pub CanAppend : {Z : Type 0} → Option (String Z) → ℕ → ℕ → Type 0
 CanAppend None more most = Unit {0}
 CanAppend (Some text) more most = length (string_bytes text) + more + 2 ≤ most

@@ -1,4 +1,4 @@
--- What is promised of a run with an aggregator, in the words of the headline of a run without one.
+-- What holds of each run with an aggregator, in the terms of the headline, the main theorem on runs without one.
 use Rattle.std.specs.Prelude.{◌≡◌, ℕ, ◌+◌, ◌%◌, ◌^◌, ◌≤◌, List, ◌++◌, true, length, map, string_bytes}
 use Rattle.std.specs.List.{AllByRecursion, concat}
 use Rattle.std.specs.Option.{option_map}
@@ -44,7 +44,8 @@ abbrev pub lines_in : List Sending → List (List ℕ)
 lines_in all = texts_in (counts_of_kept all)
 
 module _ {W A : Type 0} (history : W → PacketHistory) (given : Given A) (outcome : Outcome W A) where
-  -- What the headline says of the kept lines is so of the lines that the aggregator handed on and the packer kept.
+  -- What the headline says of kept lines holds of the lines that the aggregator gave to the packer and that the packer
+  -- kept.
   pub record ArePacked (all : List Sending) : Type 0 where
     pub stream : ReportsWhole given.kind → concat (packets_of_run history given outcome) ++ outcome.held ≡ stream given.format (lines_in all)
     pub cut : ReportsWhole given.kind
@@ -53,8 +54,8 @@ module _ {W A : Type 0} (history : W → PacketHistory) (given : Given A) (outco
     pub late : ReportsWhole given.kind
         → NoGroupHasRoom given.format.capacity (marks_from 0 all ++ refusals_from 0 all)
         (groups_of outcome.cut (map (size_of given.format) (lines_in all)))
-    -- If the writer refused nothing in the run, no group could have had one line more, except one that a flush came
-    -- after, and no cut that ends at every flush has fewer groups.
+    -- If the writer refused nothing in the run, no group had room for the line after it, unless a flush ended the
+    -- group; and no other cut that ends a group at every flush has fewer groups.
     pub tight : ReportsWhole given.kind → (history outcome.writer).refusals ≡ given.before.refusals
         → IsTight given.format.capacity (marks_from 0 all) (map (size_of given.format) (lines_in all)) outcome.cut
     pub fewest : ReportsWhole given.kind → (history outcome.writer).refusals ≡ given.before.refusals

@@ -68,7 +68,7 @@ SaysHostAndPort host_text port_text (Udp host port) = SaysHost host_text (string
 SaysHostAndPort host_text port_text (Unix path) = ⊥
 
 -- The variables say this destination. `DD_DOGSTATSD_URL` wins over all others, and `DD_AGENT_HOST` and
--- `DD_DOGSTATSD_PORT` win over the rest, also if only one of the two is set.
+-- `DD_DOGSTATSD_PORT` win over the rest, even if only one of the two is set.
 pub record SaysPlace {A : Type 0} (v : Variables) (d : Destination A) : Type 0 where
   pub url : v.url.now ≢ [] → SaysUrl v.url.now d
   pub host : v.url.now ≡ [] → v.agent_host.now ≢ [] → SaysHostAndPort v.agent_host.now v.agent_port.now d

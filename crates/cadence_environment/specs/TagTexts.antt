@@ -36,14 +36,14 @@ tag_split_at text (Some place) = keyed (take place text) (drop (place + 1) text)
 abbrev pub tag_of_text : List ℕ → Tag
 tag_of_text text = tag_split_at text (position (λ b. b == 58) text)
 
--- whether a variable of its own, which is set, says the tag of this key
+-- whether the tag of this key has a variable of its own that is set
 abbrev pub is_overridden : Variables → Option (List ℕ) → Bool
 is_overridden v None = false
 is_overridden v (Some key) =
     (bytes_eq key (codes "env") && has_bytes v.env.now) || ((bytes_eq key (codes "service") && has_bytes v.service.now)
     || (bytes_eq key (codes "version") && has_bytes v.version.now))
 
--- the tags of a text without spaces round it: none if it is empty, or if a variable of its own says the tag
+-- the tags of a text without spaces round it: none if it is empty, or if the tag has a variable of its own that is set
 abbrev pub listed_tags : Variables → List ℕ → List Tag
 listed_tags v [] = []
 listed_tags v (c ∷ cs) = cond (is_overridden v (tag_of_text (c ∷ cs)).key) [] (tag_of_text (c ∷ cs) ∷ [])
@@ -52,7 +52,7 @@ listed_tags v (c ∷ cs) = cond (is_overridden v (tag_of_text (c ∷ cs)).key) [
 abbrev pub piece_tags : Variables → List ℕ → List Tag
 piece_tags v piece = listed_tags v (trimmed piece)
 
--- the tag of a variable that says one tag's text, if the variable is set
+-- the tag of a variable of its own, if the variable is set: its text is the text of the tag
 abbrev pub own_tag : List ℕ → List ℕ → List Tag
 own_tag key [] = []
 own_tag key (c ∷ cs) = keyed key (c ∷ cs) ∷ []

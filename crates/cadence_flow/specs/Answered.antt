@@ -1,15 +1,15 @@
--- That a sink of the library doesn't answer by itself.
+-- Why a sink of the library can't return a result of its own.
 use Rattle.std.specs.Prelude.{List, ℕ, Result, Ok}
 use Rattle.cadence_errors.specs.declared.SinkError.{SinkError}
 use Rattle.cadence_flow.specs.Held.{NothingIsHeld}
 
--- This is the result of a line that a sink of the library has answered. Other modules can't unfold it. Only `emit_by` has
--- it, so the `emit` of such a sink can't return a result of its own.
+-- A sink of the library has answered this line with this result. Other modules can't unfold this definition, and only
+-- `emit_by` proves it, so the `emit` of such a sink can't return a result of its own.
 pub IsAnswered : List ℕ → Result ℕ SinkError → Type 0
 IsAnswered line answer = Unit {0}
 
--- This is the result of a flush that a sink of the library has answered. Other modules can't unfold it. Only `flush_by` has
--- it, and the default flush of a sink that holds nothing.
+-- A sink of the library has answered a flush with this result. Other modules can't unfold this definition, and only
+-- `flush_by` and the default flush of a sink that holds nothing prove it.
 pub IsFlushAnswered : Result (Unit {0}) SinkError → Type 0
 IsFlushAnswered answer = Unit {0}
 

@@ -37,7 +37,7 @@ abbrev pub held_packet : List ℕ → List (List ℕ)
 held_packet [] = []
 held_packet (byte ∷ rest) = (byte ∷ rest) ∷ []
 
--- What a line does beside some held text. It fits, or it passes the room and isn't oversize, or it is oversize; exactly
+-- How a line fits with some held text. It fits, or it passes the room and isn't oversize, or it is oversize; exactly
 -- one of the three is true of each line.
 
 -- The line fits: with its ending it fits the room that the held text leaves.

@@ -8,7 +8,7 @@ use Rattle.cadence_flow.specs.Frame.{Format, IsNotOversize, IsOversize, PassesRo
 abbrev pub Offer : Type 0
 Offer = List ℕ × ℕ
 
--- the offers so far, the oldest first; `None` for a writer that doesn't tell them
+-- the offers so far, the oldest first; `None` for a writer that doesn't list them
 abbrev pub Offers : Type 0
 Offers = Option (List Offer)
 
@@ -46,7 +46,8 @@ FlushesOffers None new held ok = Unit {0}
 FlushesOffers (Some old) new [] ok = new ≡ Some old
 FlushesOffers (Some old) new (b ∷ bs) ok = SendsOffers (Some old) new ok
 
--- Writing a line that doesn't fit beside the held text flushes, and then offers an oversize line once.
+-- Writing a line that doesn't fit into the room that the held text leaves flushes, and then offers an oversize line
+-- once.
 pub record WritesOffers (format : Format) (old new : Offers) (held rest line : List ℕ) (result : Result ℕ SinkError) : Type 0 where
   -- the held text goes first: the call flushes, and offers no more
   pub closes : PassesRoom format held line → IsNotOversize format line → FlushesOffers old new held (is_ok result)

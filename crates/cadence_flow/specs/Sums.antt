@@ -38,7 +38,7 @@ start_of sums h =
       packets_dropped = less sums.packets_dropped h.refusals;
     }
 
--- the sums that a counting writer began with; they mean nothing, and are 0, if the writer doesn't tell its packets
+-- the sums that a counting writer began with; they mean nothing, and are 0, if the writer doesn't report its packets
 abbrev pub start_if : Bool → SinkStats → PacketHistory → SinkStats
 start_if true sums h = start_of sums h
 start_if false sums h = zero_sums

@@ -9,8 +9,8 @@ use Rattle.std.specs.declared.time.Instant.{Instant}
 abbrev pub shortest_wait : ℕ
 shortest_wait = 1000000
 
--- The second period is the one that a worker keeps if it is given the first: the same one if that is 0 or at least a millisecond, and else at
--- least a millisecond.
+-- The second period is the one that a worker keeps if it is given the first: the same one if that is 0 or at least a
+-- millisecond, and otherwise one of at least a millisecond.
 pub record CountsAs (given kept : Duration) : Type 0 where
   pub zero : as_nanos given ≡ 0 → kept ≡ given
   pub long : shortest_wait ≤ as_nanos given → kept ≡ given
@@ -20,17 +20,17 @@ pub record CountsAs (given kept : Duration) : Type 0 where
 abbrev pub CountsAsIfAny : Option Duration → Option Duration → Type 0
 CountsAsIfAny given kept = MatchOption given (kept ≡ None) (λ period. IsSomeAnd kept (CountsAs period))
 
--- How much is left of this period, if the last flush was at the first time and it is the second one now. Either some time is left, and when it
--- has passed too, the period is over; or the whole period has passed, and none is left. If there is no period or the clock couldn't be read,
--- none is left.
+-- How much is left of this period now, by the time of the last flush and the time now. If some is left, it and the
+-- time since the last flush are together the period. None is left if the whole period has passed, if there is no
+-- period, or if the clock couldn't be read.
 abbrev pub IsTimeLeft : Option Duration → Option Instant → Option Instant → Option Duration → Type 0
 IsTimeLeft (Some period) (Some last) (Some now) left = MatchOption left
     (as_nanos period ≤ instant_nanos now - instant_nanos last)
     (λ some. (0 < as_nanos some) × (as_nanos some + (instant_nanos now - instant_nanos last) ≡ as_nanos period))
 IsTimeLeft _ _ _ left = left ≡ None
 
--- How long a worker waits for lines before it tries a flush again that failed: at least the shortest wait, and for the rest of the period if
--- that is not shorter.
+-- How long a worker waits for lines before it tries a failed flush again: the rest of the period, but at least the
+-- shortest wait.
 pub record IsRetryWait (period : Option Duration) (last now : Option Instant) (wait : Duration) : Type 0 where
   pub long : shortest_wait ≤ as_nanos wait
   pub rest : (left : Duration) → IsTimeLeft period last now (Some left) → shortest_wait ≤ as_nanos left → as_nanos wait ≡ as_nanos left

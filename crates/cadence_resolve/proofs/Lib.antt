@@ -1,2 +1,2 @@
--- Start with `Address`, the only lemmas: a resolver that was right after some lookups is right after one more.
+-- Start with `Address`, the only lemmas: if a resolver meets `IsResolvedBy` after some lookups, it does after one more.
 pub mod Address

@@ -36,7 +36,8 @@ pub record IsResolvedBy (first : List SocketAddr) (later : List (List SocketAddr
   pub successes : r.successes ≡ count_by (λ found. gave_any found) later % 2 ^ 64
   pub failures : r.failures ≡ count_by (λ found. not (gave_any found)) later % 2 ^ 64
 
--- If the resolver was right after some lookups, it is right after these and one more that gave the addresses `found`.
+-- If the resolver met `IsResolvedBy` after some lookups, it does after these and one more that gave the addresses
+-- `found`.
 abbrev pub IsNotedAfter : Resolved → List SocketAddr → Resolved → Type 0
 IsNotedAfter r found s =
     (first : List SocketAddr) (later : List (List SocketAddr)) → IsResolvedBy first later r → IsResolvedBy first (later ++ found ∷ []) s

@@ -1,4 +1,4 @@
--- What is promised of a run: the headline (`HasHeadline`), and more beside it (`IsAccounted`). The contract of
+-- What is promised of a run: the headline (`HasHeadline`), and further facts (`IsAccounted`). The contract of
 -- `run_schedule_with` cites both.
 use Rattle.std.specs.Prelude.{◌≡◌, ℕ, ◌+◌, ◌%◌, ◌^◌, ◌≤◌, List, [], ◌++◌, Option, Bool, true, All, codes, length, map, drop, string_bytes}
 use Rattle.std.specs.List.{concat, zip}
@@ -108,27 +108,29 @@ module _ {W A : Type 0} (history : W → PacketHistory) (given : Given A) (outco
     -- then the held text are byte for byte the frames of the kept lines, in order. A kept line is that of an accepted
     -- call whose hand returned Ok. Its frame is the line and the ending, or the line alone if that passes the capacity.
     pub stream : ReportsWhole given.kind → concat packets_of_run ++ outcome.held ≡ stream given.format kept_of
-    -- Over such a writer: packets and held text are those of the report's cut of the kept lines, whole frames in each,
-    -- none beyond the capacity but an oversize line alone, and a packet ends at each flush that returned Ok.
+    -- Over such a writer: the packets, and then the held text, are the kept lines, divided as the cut of the report
+    -- says. Each consists of whole frames, and is within the capacity unless it is an oversize line alone. A packet
+    -- ends at each flush that returned Ok.
     pub cut : ReportsWhole given.kind
         → ArePacketsOf given.format marks_of (refusals (line_by given) turns_of) kept_of outcome.cut packets_of_run outcome.held
-    -- Over every writer: each reply is one that the steps and replies before it allow, what waits are the accepted
-    -- lines after the first ones, which were taken or dropped, the queue's counts are the numbers accepted, taken and
-    -- dropped, it has the capacity and the policy that were given, and the line in hand is the one that was taken and not
-    -- handed on.
+    -- Over every writer: each reply is one that the steps and replies before it allow. The first accepted lines were
+    -- taken or dropped, and the others wait. The queue's counts are the numbers of lines accepted, taken and dropped,
+    -- and it has the capacity and the policy that were given. The line in hand is the one that was taken and not handed
+    -- on.
     pub replies : HasReplies
     -- Over a writer that takes each packet whole or refuses it: as many hands and flushes returned an error as the
     -- writer refused packets in the run, modulo 2 to the 64.
     pub errors : given.kind.takes_whole ≡ true
         → (history outcome.writer).refusals % 2 ^ 64 ≡ (given.before.refusals + error_count turns_of) % 2 ^ 64
-    -- Over a writer that reports its packets and takes each whole, if it refused nothing in the run: no group could have
-    -- had one line more, except one that a flush came after, and no cut of the kept lines that ends at every flush has
-    -- fewer packets, the held text counted as one if it is not empty.
+    -- Over a writer that reports its packets and takes each whole, if it refused nothing in the run: no packet could
+    -- have had one more line, unless a flush came after it. And no other cut of the kept lines that ends a packet at
+    -- every flush has fewer packets. The held text counts as a packet if it is not empty.
     pub fewest : ReportsWhole given.kind → (history outcome.writer).refusals ≡ given.before.refusals
         → NoGroupHasRoom given.format.capacity marks_of (groups_of outcome.cut (map (size_of given.format) kept_of))
         × IsFewest given.format.capacity marks_of (map (size_of given.format) kept_of) outcome.cut
 
-  -- What is promised beside the headline, of refusals, short counts, sums, earlier packets, and what a listener reads.
+  -- What is promised besides the headline, about refusals, short counts, sums, earlier packets, and what a listener
+  -- reads.
   pub record IsAccounted : Type 0 where
     -- Over a writer that reports its packets and takes each whole or refuses it, refusals included: no group could have
     -- had one line more, except one that a flush or a refused line came after.

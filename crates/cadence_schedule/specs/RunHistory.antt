@@ -1,5 +1,5 @@
--- The history of a run: what its steps and replies say. Of the queue it has the two ways in which a line leaves it, and
--- of the packer nothing.
+-- The history of a run: what its steps and replies say. From the model of the queue it uses only the two ways in which
+-- a line leaves a queue, and from that of the packer nothing.
 use Rattle.std.specs.Prelude.{ℕ, ◌+◌, ◌==◌, List, [], ◌∷◌, Option, Some, None, Ok, Err, Bool, true, false, length, map, slice_get}
 use Rattle.std.specs.Prelude.{count_by, if◌then◌else◌}
 use Rattle.std.specs.List.{flat_map, list_any}

@@ -39,7 +39,7 @@ pub record IsAtStart {P A : Type 0} (capacity : ℕ) (ending : List ℕ) (queue 
   pub replies_room : steps ≤ vec_capacity replies
   pub few : steps < 2 ^ 64
 
--- A step with its reply leads from the old run to the new one. It leaves the writer's kind, the packer's format, and
+-- A step with its reply leads from the old run to the new one. It keeps the writer's kind, the packer's format, and
 -- the queue's capacity and policy, and it adds at most one number to the cut.
 pub record MakesTurn {P A : Type 0} (kind : P → WriterKind) (history : P → PacketHistory) (line_of : Call A → Option (List ℕ))
     (old : Running P A) (turn : Turn A) (new : Running P A) : Type 0 where

@@ -16,7 +16,7 @@ is_out_of_memory _ = false
 abbrev pub lasting_kind : WriterKind
 lasting_kind = record { may_give = is_out_of_memory; reports = true; takes_whole = true; start = zero_sums }
 
--- the kind of a writer that takes each packet and tells none
+-- the kind of a writer that takes each packet and reports none
 abbrev pub nowhere_kind : WriterKind
 nowhere_kind = record { may_give = λ _. false; reports = false; takes_whole = true; start = zero_sums }
 

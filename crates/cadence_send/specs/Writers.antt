@@ -11,6 +11,6 @@ is_packet_error (Io e) = true
 is_packet_error OutOfMemory = true
 is_packet_error _ = false
 
--- the kind of a writer that doesn't tell its packets
+-- the kind of a writer that doesn't report its packets
 abbrev pub packet_writer_kind : WriterKind
 packet_writer_kind = record { may_give = is_packet_error; reports = false; takes_whole = false; start = zero_sums }

@@ -1,6 +1,6 @@
--- Start with `WordByWord`: words that are read one after the other. `WordCuts` divides a text into its words. Of numbers
--- start with `OneReading`: a text says at most one number. `Lowest` says the same of its lowest form, and `Durations` of a
--- number with a unit. By `OwnText` the text that a number prints as says the number.
+-- Start with `WordByWord`: words that are read one after the other. `WordCuts` divides a text into its words. For the
+-- numbers, start with `OneReading`: a text says at most one number. `Lowest` says the same of its lowest form, and
+-- `Durations` of a number with a unit. `OwnText` says that the text that a number prints is read as that number.
 pub mod Durations
 pub mod Lowest
 pub mod OneReading
