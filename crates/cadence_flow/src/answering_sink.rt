@@ -9,10 +9,15 @@ ghost use Rattle.std.specs.Option.{ok_or};
 ghost use Rattle.std.specs.Prelude.{List, ℕ, Result};
 ghost use Rattle.cadence_errors.specs.declared.SinkError.{SinkError};
 ghost use Rattle.cadence_flow.specs.Answered.{IsAnswered, IsFlushAnswered};
+ghost use Rattle.cadence_flow.specs.Call.{Flush};
+ghost use Rattle.cadence_flow.specs.Kept.{IsStep};
 ghost use Rattle.cadence_flow.specs.OneCall.{sink_of};
 
+use crate::locked::Locked;
 use crate::one_call::OneCall;
+use crate::stage::Stage;
 use cadence_errors::SinkError;
+use std::sync::Wait;
 
 /// The right to let one receipt go. Only this module makes one.
 #[derive(Drop)]
@@ -47,24 +52,6 @@ pub trait AnsweringSink: Drop {
         ensures shows { shows self.now result.1 line.now (ok_or result.0 fault.new) };
 }
 
-/// A sink of the library that holds text, or the part of one that does its work. Only what holds the text can make the
-/// receipt of a flush.
-pub trait AnsweringFlush: Drop {
-    /// What shows that a flush was made.
-    type Receipt: Closed;
-
-    /// The results that `flush_by` may return.
-    ghost may_flush: { Self → Result (Unit {0}) SinkError → Type 0 };
-
-    /// The receipt shows that a flush got this result.
-    ghost shows_flush: { Self → Self.Receipt → Result (Unit {0}) SinkError → Type 0 };
-
-    /// Sends the held text.
-    fn flush_lines(&self, fault: &mut SinkError) -> (Option<()>, Self::Receipt)
-        ensures answer { may_flush self.now (ok_or result.0 fault.new) }
-        ensures shows { shows_flush self.now result.1 (ok_or result.0 fault.new) };
-}
-
 /// Gives a line to a sink of the library, and returns how many of its bytes were taken. After an error it returns `None`,
 /// and `fault` has the error. Each sink of the library calls this in its `emit`. Only the results of this call meet
 /// `IsAnswered`, so the `emit` of such a sink can't return a result of its own.
@@ -85,15 +72,18 @@ pub fn emit_by<S: AnsweringSink>(
     taken
 }
 
-/// Flushes a sink of the library. After an error it returns `None`, and `fault` has the error. Each sink of the library
-/// that holds text calls this in its `flush`. Only the results of this call, and of the default `flush` of a sink that
-/// holds no text, meet `IsFlushAnswered`.
-pub fn flush_by<S: AnsweringFlush>(call: OneCall<'_, S>, fault: &mut SinkError) -> Option<()>
-    ensures may { S.may_flush (sink_of call.entry) (ok_or result fault.new) }
+/// Flushes the stage of a sink of the library. After an error it returns `None`, and `fault` has the error. Each sink of
+/// the library that holds text calls this in its `flush`. Only the results of this call, and of the default `flush` of a
+/// sink that holds no text, meet `IsFlushAnswered`.
+pub fn flush_by<S: Stage, R: Wait + Drop>(
+    call: OneCall<'_, Locked<S, R>>,
+    fault: &mut SinkError,
+) -> Option<()>
+    ensures made { IsStep S.step (Flush (ok_or result fault.new)) }
     ensures answered { IsFlushAnswered (ok_or result fault.new) }
 {
     answers();
-    let (done, receipt) = call.flush_lines(fault);
+    let (done, receipt) = call.empty(fault);
     receipt.close(Opener { of: () });
     done
 }

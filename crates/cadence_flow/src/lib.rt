@@ -37,7 +37,7 @@ mod stage;
 pub mod stats;
 pub mod thread;
 
-pub use answering_sink::{AnsweringFlush, AnsweringSink, Closed, Opener, emit_by, flush_by};
+pub use answering_sink::{AnsweringSink, Closed, Opener, emit_by, flush_by};
 pub use entry::Entry;
 pub use ghost_list::GhostList;
 pub use ghost_log::{Log, Right, Seen, twins};

@@ -3,7 +3,7 @@ ghost use Rattle.std.specs.Option.{ok_or};
 ghost use Rattle.cadence_flow.specs.Call.{Flush, Line};
 ghost use Rattle.cadence_flow.specs.Kept.{IsStep, Shows};
 
-use crate::answering_sink::{AnsweringFlush, AnsweringSink};
+use crate::answering_sink::AnsweringSink;
 use crate::kept::{Kept, Receipt};
 use crate::lock::acquire;
 use crate::stage::{LinelessCall, Stage};
@@ -42,6 +42,13 @@ impl<S: Stage, R: Wait + Drop> Locked<S, R> {
     {
         acquire(&self.stage, &self.rt).call(call, fault)
     }
+
+    /// Flushes the stage, under the lock.
+    pub(crate) fn empty(&self, fault: &mut SinkError) -> (Option<()>, Receipt<S>)
+        ensures { Shows S.step result.1 (Flush (ok_or result.0 fault.new)) }
+    {
+        self.stage.lock(&self.rt).empty(fault)
+    }
 }
 
 /// Gives the stage a line, under the lock.
@@ -55,19 +62,6 @@ impl<S: Stage, R: Wait + Drop> AnsweringSink for Locked<S, R> {
     #[inline(always)]
     fn emit_line(&self, line: &str, fault: &mut SinkError) -> (Option<usize>, Self::Receipt) {
         acquire(&self.stage, &self.rt).take_line(line, fault)
-    }
-}
-
-/// Flushes the stage, under the lock.
-impl<S: Stage, R: Wait + Drop> AnsweringFlush for Locked<S, R> {
-    type Receipt = Receipt<S>;
-
-    ghost may_flush = { λ _ answer. IsStep S.step (Flush answer) };
-
-    ghost shows_flush = { λ _ receipt answer. Shows S.step receipt (Flush answer) };
-
-    fn flush_lines(&self, fault: &mut SinkError) -> (Option<()>, Receipt<S>) {
-        self.stage.lock(&self.rt).empty(fault)
     }
 }
 

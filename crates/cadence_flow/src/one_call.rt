@@ -1,10 +1,16 @@
 //! One call of a sink that is still to be made.
 ghost use Rattle.std.specs.Option.{ok_or};
 ghost use Rattle.std.specs.Prelude.{◌≡◌};
+ghost use Rattle.cadence_flow.specs.Call.{Flush};
+ghost use Rattle.cadence_flow.specs.Kept.{Shows};
 ghost use Rattle.cadence_flow.specs.OneCall.{sink_of};
 
-use crate::answering_sink::{AnsweringFlush, AnsweringSink};
+use crate::answering_sink::AnsweringSink;
+use crate::kept::Receipt;
+use crate::locked::Locked;
+use crate::stage::Stage;
 use cadence_errors::SinkError;
+use std::sync::Wait;
 
 /// One call of a sink that is still to be made. `emit_by` and `flush_by`, which alone can let a receipt go, get it in
 /// place of the sink. So they call the sink once. It can't be let go, because its type has no `Drop`.
@@ -33,14 +39,12 @@ impl<'a, S: AnsweringSink> OneCall<'a, S> {
     }
 }
 
-impl<'a, S: AnsweringFlush> OneCall<'a, S> {
-    /// Flushes the sink.
-    #[inline(always)]
-    pub(crate) fn flush_lines(self, fault: &mut SinkError) -> (Option<()>, S::Receipt)
-        ensures answer { S.may_flush (sink_of self.entry) (ok_or result.0 fault.new) }
-        ensures shows { S.shows_flush (sink_of self.entry) result.1 (ok_or result.0 fault.new) }
+impl<'a, S: Stage, R: Wait + Drop> OneCall<'a, Locked<S, R>> {
+    /// Flushes the stage of the sink.
+    pub(crate) fn empty(self, fault: &mut SinkError) -> (Option<()>, Receipt<S>)
+        ensures { Shows S.step result.1 (Flush (ok_or result.0 fault.new)) }
     {
         let OneCall { sink } = self;
-        sink.flush_lines(fault)
+        sink.empty(fault)
     }
 }

@@ -12,7 +12,7 @@ use cadence_errors::{MetricResult, SinkError};
 use cadence_flow::io::{PacketWriter, Refusals};
 use cadence_flow::stats::{SinkStats, Unread};
 use cadence_flow::{
-    AnsweringFlush, AnsweringSink, Counted, Locked, Receipt, RecordedPacker, SocketStats,
+    AnsweringSink, Counted, Locked, Receipt, RecordedPacker, SocketStats,
 };
 use std::alloc::Allocator;
 use std::sync::Wait;
@@ -165,6 +165,12 @@ impl<D: DatagramSocket, R: Wait + Drop, A: Allocator> PackedSocket<D, R, A> {
     pub fn stats(&self) -> SinkStats {
         SinkStats::from(&self.stats)
     }
+
+    /// Returns the packer under its lock, so that it can be flushed. The error of a flush is the socket's, or
+    /// `NothingWritten` if the socket took 0 bytes. What the socket didn't take stays held.
+    pub fn lines(&self) -> &Locked<SocketLines<D, R, A>, R> {
+        &self.lines
+    }
 }
 
 /// Buffers or sends a line, under the lock. There are three cases:
@@ -197,21 +203,5 @@ impl<D: DatagramSocket, R: Wait + Drop, A: Allocator> AnsweringSink for PackedSo
             (Some(taken), receipt) => (Some(taken), receipt),
             (None, receipt) => (None, receipt),
         }
-    }
-}
-
-/// Sends the held text. The error is the socket's, or `NothingWritten` if the socket took 0 bytes. What the socket
-/// didn't take stays held. The receipt shows the packer before and after this flush.
-impl<D: DatagramSocket, R: Wait + Drop, A: Allocator> AnsweringFlush for PackedSocket<D, R, A> {
-    ghost use Rattle.cadence_sinks.specs.Shows.{SocketShowsFlush};
-
-    type Receipt = Receipt<SocketLines<D, R, A>>;
-
-    ghost may_flush = { λ _ answer. IsBufferedFlush D.may_give answer };
-
-    ghost shows_flush = { λ _ receipt answer. SocketShowsFlush D.may_give receipt answer };
-
-    fn flush_lines(&self, fault: &mut SinkError) -> (Option<()>, Receipt<SocketLines<D, R, A>>) {
-        self.lines.flush_lines(fault)
     }
 }

@@ -259,7 +259,7 @@ impl<R: Wait + Drop, A: Allocator> MetricSink for BufferedUdpMetricSink<R, A> {
 
     fn flush(&self) -> Result<(), SinkError> {
         let mut fault = SinkError::NothingWritten;
-        flush_by(OneCall::of(&self.socket), &mut fault).ok_or(fault)
+        flush_by(OneCall::of(self.socket.lines()), &mut fault).ok_or(fault)
     }
 
     fn stats(&self) -> SinkStats {

@@ -156,7 +156,7 @@ impl<P: PathSocket, R: Wait + Drop, A: Allocator> MetricSink for BufferedUnixMet
 
     fn flush(&self) -> Result<(), SinkError> {
         let mut fault = SinkError::NothingWritten;
-        flush_by(OneCall::of(&self.socket), &mut fault).ok_or(fault)
+        flush_by(OneCall::of(self.socket.lines()), &mut fault).ok_or(fault)
     }
 
     fn stats(&self) -> SinkStats {
