@@ -4,7 +4,7 @@ ghost use Rattle.cadence_aggregating.specs.Notes.{line_of_note, sample_of_note};
 
 use cadence_aggregate::{Fault, Line, LineSink};
 use cadence_aggregating::{Note, note_line};
-use cadence_flow::GhostList;
+use cadence_stage::GhostList;
 use std::alloc::Global;
 
 // The lines that were sent, in order. `notes` has what each of them says, and exists in proofs only.

@@ -5,8 +5,8 @@ use crate::packing::Packing;
 use cadence_aggregate::{Fault, Line, LineSink};
 use cadence_aggregating::{Note, note_line};
 use cadence_errors::SinkError;
-use cadence_flow::GhostList;
 use cadence_flow::io::PacketWriter;
+use cadence_stage::GhostList;
 use std::alloc::{Allocator, Global};
 use std::mem;
 

@@ -1,7 +1,7 @@
 -- The lines that were accepted, as the record has them.
 use Rattle.std.specs.Prelude.{ℕ, ℤ, List, map}
 use Rattle.cadence_aggregate.specs.Server.{Sample, amount, level, member, timing, unclear, other}
-use Rattle.cadence_flow.specs.Call.{only_text}
+use Rattle.cadence_stage.specs.Call.{only_text}
 use Rattle.cadence_aggregating.specs.Printed.{line_saying}
 use Rattle.cadence_aggregating.specs.declared.accepted.Accepted.{Accepted}
 use Rattle.cadence_aggregating.specs.declared.note.Kind.{Kind}

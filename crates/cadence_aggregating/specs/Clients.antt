@@ -3,7 +3,7 @@ use Rattle.std.specs.Prelude.{◌≡◌, Result, Ok, Err}
 use Rattle.cadence_errors.specs.declared.MetricError.{MetricError}
 use Rattle.cadence_errors.specs.declared.MetricError.TheVariants.{Sink}
 use Rattle.cadence_errors.specs.declared.SinkError.{SinkError}
-use Rattle.cadence_flow.specs.Answered.{IsFlushAnswered}
+use Rattle.cadence_stage.specs.Answered.{IsFlushAnswered}
 use Rattle.cadence_settings.specs.Settings.{Settings}
 use Rattle.cadence_aggregating.specs.declared.client.AggregatedClient.{AggregatedClient}
 

@@ -3,7 +3,7 @@ use Rattle.std.specs.Prelude.{ℕ, List}
 use Rattle.cadence_aggregate.specs.Server.{Sample}
 use Rattle.cadence_aggregating.specs.declared.note.Note.{Note}
 use Rattle.cadence_aggregating.specs.Noted.{noted}
-use Rattle.cadence_flow.specs.Call.{only_text}
+use Rattle.cadence_stage.specs.Call.{only_text}
 
 -- the line of a note
 abbrev pub line_of_note : Note → List ℕ

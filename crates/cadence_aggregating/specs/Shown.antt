@@ -1,9 +1,9 @@
 -- What the receipts of an aggregating sink show of the aggregator under its lock.
 use Rattle.std.specs.Prelude.{◌≡◌, ◌⊎◌, ℕ, List, [], ◌∷◌, ◌++◌, map, Result, Err, MatchResult}
 use Rattle.cadence_errors.specs.declared.SinkError.{SinkError}
-use Rattle.cadence_flow.specs.Call.{Call, Flush, Line}
-use Rattle.cadence_flow.specs.Kept.{after_of, before_of}
-use Rattle.cadence_flow.specs.declared.kept.Receipt.{Receipt}
+use Rattle.cadence_stage.specs.Call.{Call, Flush, Line}
+use Rattle.cadence_stage.specs.Kept.{after_of, before_of}
+use Rattle.cadence_stage.specs.declared.kept.Receipt.{Receipt}
 use Rattle.cadence_aggregating.specs.Causes.{HasCountedCause}
 use Rattle.cadence_aggregating.specs.Printed.{line_saying}
 use Rattle.cadence_aggregating.specs.Quiet.{IsQuiet}

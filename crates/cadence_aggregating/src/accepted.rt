@@ -2,11 +2,11 @@
 ghost use Rattle.std.specs.Prelude.{◌≡◌};
 ghost use Rattle.cadence_aggregate.specs.Lines.{sample_of};
 ghost use Rattle.cadence_aggregating.specs.Accepted.{said_by_entry};
-ghost use Rattle.cadence_flow.specs.Call.{only_text};
+ghost use Rattle.cadence_stage.specs.Call.{only_text};
 
 use crate::note::Kind;
 use cadence_aggregate::Line;
-use cadence_flow::GhostTexts;
+use cadence_stage::GhostTexts;
 
 /// What an accepted line says, for proofs: its kind, the number by which a counter is raised, and its context and its
 /// values, which are in lists of their own. The line itself may never have been made.

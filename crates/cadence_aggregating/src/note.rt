@@ -2,10 +2,10 @@
 ghost use Rattle.std.specs.Prelude.{◌≡◌, FitsSigned};
 ghost use mir.Syntax.{w64};
 ghost use Rattle.cadence_aggregating.specs.Noted.{noted};
-ghost use Rattle.cadence_flow.specs.Call.{only_text};
+ghost use Rattle.cadence_stage.specs.Call.{only_text};
 ghost use Rattle.cadence_aggregating.specs.Printed.{line_saying};
 
-use cadence_flow::GhostTexts;
+use cadence_stage::GhostTexts;
 
 /// What a line is about.
 #[derive(Clone, Copy)]

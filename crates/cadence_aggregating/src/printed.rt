@@ -9,7 +9,7 @@ ghost use Rattle.cadence_aggregating.specs.Printed.{barred, before_bar, from_bar
 
 use crate::note::{Kind, Note};
 use cadence_aggregate::Line;
-use cadence_flow::GhostTexts;
+use cadence_stage::GhostTexts;
 use cadence_value::bytes::split_text_once;
 use cadence_value::decimal::Decimal;
 use std::alloc::AllocError;

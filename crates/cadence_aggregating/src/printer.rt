@@ -11,7 +11,8 @@ use crate::note::Note;
 use crate::printed::note_line;
 use cadence_aggregate::{Fault, Line, LineSink};
 use cadence_errors::SinkError;
-use cadence_flow::{GhostList, MetricSink};
+use cadence_flow::MetricSink;
+use cadence_stage::GhostList;
 use std::mem;
 
 /// A sink of metrics as a sink of what lines say.

@@ -19,7 +19,8 @@ use crate::printer::Printer;
 use crate::said::read_said;
 use cadence_aggregate::{Aggregator, Fault, Line, LineSink};
 use cadence_errors::SinkError;
-use cadence_flow::{GhostList, MetricSink};
+use cadence_flow::MetricSink;
+use cadence_stage::GhostList;
 use std::alloc::{AllocError, Global};
 
 // For a line that is sent no more bytes are reserved, however long a line may be.

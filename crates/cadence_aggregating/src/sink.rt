@@ -1,6 +1,6 @@
 //! The aggregating sink.
 ghost use Rattle.cadence_aggregating.specs.Answers.{IsAggregated};
-ghost use Rattle.cadence_flow.specs.Answered.{IsAnswered, IsFlushAnswered, answered_by_holding_nothing};
+ghost use Rattle.cadence_stage.specs.Answered.{IsAnswered, IsFlushAnswered, answered_by_holding_nothing};
 
 use crate::handler::{FlushErrorHandler, NopFlushErrorHandler};
 use crate::locked::LockedAggregator;

@@ -16,7 +16,7 @@ use crate::recorded::add_or_pass;
 use crate::said::read_said;
 use crate::waiting::WaitingLines;
 use cadence_aggregate::{Aggregator, Line};
-use cadence_flow::GhostList;
+use cadence_stage::GhostList;
 use std::alloc::{AllocError, Global};
 
 /// Adds up lines. A line that is to be sent waits until its owner has sent it: `first` returns the first such line, and

@@ -5,19 +5,19 @@ use Rattle.std.proofs.lemmas.Bool.{false≢true}
 use Rattle.std.proofs.lemmas.List.{append-nil}
 use Rattle.std.proofs.lemmas.List.Elements.{All-nil}
 use Rattle.cadence_errors.specs.declared.SinkError.{SinkError}
-use Rattle.cadence_flow.specs.Call.{Call, Line, Flush}
+use Rattle.cadence_stage.specs.Call.{Call, Line, Flush}
 use Rattle.cadence_flow.specs.Cut.{IsPacketRun, bytes_taken}
 use Rattle.cadence_flow.specs.Frame.{Format, taken_stream}
 use Rattle.cadence_flow.specs.Offers.{FlushesOffers, IsShort, WritesOffers}
 use Rattle.cadence_flow.specs.Packed.{IsPacked}
 use Rattle.cadence_flow.specs.Packer.{Packer, FlushesHeld, WritesLine, added_by}
-use Rattle.cadence_flow.specs.Past.{is_flush, taken_in}
+use Rattle.cadence_stage.specs.Past.{is_flush, taken_in}
 use Rattle.cadence_flow.specs.RecordedWriter.{offers_of, recorded_history, recorded_kind}
 use Rattle.cadence_flow.specs.Writer.{PacketHistory, WriterKind}
 use Rattle.cadence_flow.specs.declared.recorded_writer.RecordedWriter.{RecordedWriter}
 use Rattle.cadence_flow.proofs.CutLemmas.{stream_more}
 use Rattle.cadence_flow.proofs.PackerCut.{PackerCut, cut_flushes, cut_writes}
-use Rattle.cadence_flow.proofs.Pasts.{flush_more, taken_more}
+use Rattle.cadence_stage.proofs.Pasts.{flush_more, taken_more}
 
 stream_line : (format : Format) (past : List Call) (line : List ℕ) (r : Result ℕ SinkError)
     → taken_stream format (taken_in past) ++ added_by format line r ≡ taken_stream format (taken_in (past ++ Line line r ∷ []))

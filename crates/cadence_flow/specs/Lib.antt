@@ -1,17 +1,10 @@
 pub mod Handler
-pub mod Answered
-pub mod Call
 pub mod Cut
-pub mod Held
 pub mod HeldLines
-pub mod Kept
-pub mod OneCall
 pub mod Packed
-pub mod Past
 pub mod RecordedPacker
 pub mod RecordedWriter
 pub mod Frame
-pub mod GhostLog
 pub mod Log
 pub mod Offers
 pub mod Packer

@@ -1,10 +1,10 @@
 -- What a packer is by its calls, over a writer that records its packets.
 use Rattle.std.specs.Prelude.{◌≡◌, true, List, [], ◌++◌}
-use Rattle.cadence_flow.specs.Call.{Call}
+use Rattle.cadence_stage.specs.Call.{Call}
 use Rattle.cadence_flow.specs.Cut.{IsCut, bytes_taken}
 use Rattle.cadence_flow.specs.Frame.{taken_stream}
 use Rattle.cadence_flow.specs.Packer.{Packer}
-use Rattle.cadence_flow.specs.Past.{is_flushed, taken_in}
+use Rattle.cadence_stage.specs.Past.{is_flushed, taken_in}
 use Rattle.cadence_flow.specs.RecordedWriter.{offers_of}
 use Rattle.cadence_flow.specs.declared.recorded_writer.RecordedWriter.{RecordedWriter}
 

@@ -1,6 +1,6 @@
 -- What contracts say of a packer with the log of its calls.
 use Rattle.std.specs.Prelude.{◌≡◌, ℕ, List, [], ◌∷◌, ◌++◌, map, codes}
-use Rattle.cadence_flow.specs.Call.{Call, Line, Flush, call_of}
+use Rattle.cadence_stage.specs.Call.{Call, Line, Flush, call_of}
 use Rattle.cadence_flow.specs.Packer.{FlushesHeld, Packer, WritesLine, new_packer}
 use Rattle.cadence_flow.specs.RecordedWriter.{writer_of, offers_of, recorded_history, recorded_kind}
 use Rattle.cadence_flow.specs.Writer.{PacketHistory, WriterKind}

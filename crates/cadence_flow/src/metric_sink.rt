@@ -1,7 +1,7 @@
 //! The trait of all sinks, and the sink that drops each line.
 ghost use Rattle.std.specs.Prelude.{◌≡◌, List, ℕ, Result, Ok, IfErr};
 ghost use Rattle.cadence_errors.specs.declared.SinkError.{SinkError};
-ghost use Rattle.cadence_flow.specs.Held.{NothingIsHeld};
+ghost use Rattle.cadence_stage.specs.Held.{NothingIsHeld};
 
 use crate::stats::SinkStats;
 use cadence_errors::SinkError;

@@ -1,14 +1,12 @@
 //! The packer as a stage, with a log of its calls that only proofs read.
 ghost use Rattle.std.specs.Prelude.{map};
-ghost use Rattle.cadence_flow.specs.Call.{call_of};
+ghost use Rattle.cadence_stage.specs.Call.{call_of};
 ghost use Rattle.cadence_flow.specs.Packed.{IsPacked};
 
-use crate::entry::Entry;
-use crate::ghost_list::GhostList;
 use crate::io::{LineBuffer, PacketWriter};
 use crate::recorded_writer::RecordedWriter;
-use crate::stage::Stage;
 use cadence_errors::{MetricError, MetricResult, SinkError};
+use cadence_stage::{Entry, GhostList, Stage};
 use std::alloc::{Allocator, Global};
 
 /// A packer whose ending is the newline, with the log of its calls. The log exists in proofs only. Every

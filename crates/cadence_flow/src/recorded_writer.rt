@@ -1,9 +1,9 @@
 //! A writer with a record of its packets, which only proofs read.
 ghost use Rattle.std.specs.Prelude.{◌≡◌, []};
 
-use crate::ghost_texts::GhostTexts;
 use crate::io::PacketWriter;
 use cadence_errors::SinkError;
+use cadence_stage::GhostTexts;
 
 /// A writer with a record of each packet that it was offered and didn't refuse, with the number of bytes that the
 /// writer returned for it. The record exists in proofs only. With it, contracts can name the packets of any writer, even

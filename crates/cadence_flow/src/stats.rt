@@ -1,8 +1,7 @@
 //! The counts of what a sink sent and dropped; and the same under a lock, for a socket that threads share.
 
-use crate::answering_sink::{Closed, Opener};
-use crate::lock::acquire;
 use cadence_errors::{MetricResult, SinkError};
+use cadence_stage::{Closed, Opener, acquire};
 use std::alloc::{AllocError, Allocator, Global};
 use std::snapshot::Snapshot;
 use std::sync::{Arc, Mutex, Wait};

@@ -5,7 +5,7 @@ ghost use Rattle.cadence_queue.specs.QueuePast.{IsPast};
 use super::taking::Hand;
 use crate::{QueueCore, QueueError, QueuePolicy, Taken, TextRing};
 use cadence_errors::MetricResult;
-use cadence_flow::GhostList;
+use cadence_stage::GhostList;
 use std::alloc::{AllocError, Allocator, Global};
 use std::snapshot::Snapshot;
 

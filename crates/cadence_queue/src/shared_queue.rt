@@ -14,7 +14,7 @@ use super::recorded_queue::RecordedQueue;
 use super::under_lock::{QueueStep, UnderLock};
 use crate::{QueueError, QueuePolicy};
 use cadence_errors::{MetricResult, SinkError};
-use cadence_flow::{acquire, spin};
+use cadence_stage::{acquire, spin};
 use std::alloc::{AllocError, Allocator, Global};
 use std::snapshot::Snapshot;
 use std::sync::{Condvar, Mutex, MutexGuard, Wait};

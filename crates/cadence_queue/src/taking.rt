@@ -7,7 +7,7 @@ ghost use Rattle.cadence_queue.specs.Shown.{IsEnd, after_of};
 use super::shared_queue::SharedQueue;
 use super::under_lock::{QueueStep, UnderLock};
 use crate::{Taken, TextRing};
-use cadence_flow::{GhostList, acquire, spin};
+use cadence_stage::{GhostList, acquire, spin};
 use std::alloc::{AllocError, Allocator, Global};
 use std::snapshot::Snapshot;
 use std::sync::{MutexGuard, Wait};

@@ -13,7 +13,7 @@ ghost use Rattle.cadence_queue.specs.Shown.{after_of, before_of};
 use super::recorded_queue::RecordedQueue;
 use super::taking::Hand;
 use crate::{QueueCore, Taken, TextRing};
-use cadence_flow::{Closed, Opener};
+use cadence_stage::{Closed, Opener};
 use std::alloc::{Allocator, Global};
 use std::mem;
 use std::snapshot::Snapshot;

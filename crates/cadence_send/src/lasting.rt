@@ -7,8 +7,9 @@ use crate::board::{LossBoard, Losses};
 use crate::nowhere::{Nowhere, note_packet};
 use crate::outlet::Outlet;
 use cadence_errors::SinkError;
+use cadence_flow::RecordedWriter;
 use cadence_flow::io::{PacketWriter, Refusals};
-use cadence_flow::{GhostList, RecordedWriter};
+use cadence_stage::GhostList;
 use std::alloc::Allocator;
 use std::io::Write;
 

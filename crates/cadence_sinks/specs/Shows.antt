@@ -1,12 +1,12 @@
 -- What the receipts of a packed socket show of the packer under the lock.
 use Rattle.std.specs.Prelude.{◌≡◌, ◌<◌, ◌⊎◌, ℕ, Bool, List, [], Result, Ok, Err, length}
 use Rattle.cadence_errors.specs.declared.SinkError.{SinkError}
-use Rattle.cadence_flow.specs.Call.{Call, Flush, Line}
-use Rattle.cadence_flow.specs.Kept.{Shows}
+use Rattle.cadence_stage.specs.Call.{Call, Flush, Line}
+use Rattle.cadence_stage.specs.Kept.{Shows}
 use Rattle.cadence_flow.specs.RecordedPacker.{IsPackerStep}
 use Rattle.cadence_flow.specs.Writer.{history_of}
 use Rattle.cadence_flow.specs.declared.packer.RecordedPacker.{RecordedPacker}
-use Rattle.cadence_flow.specs.declared.kept.Receipt.{Receipt}
+use Rattle.cadence_stage.specs.declared.kept.Receipt.{Receipt}
 use Rattle.cadence_sinks.specs.Sockets.{socket_kind}
 use Rattle.cadence_sinks.specs.declared.datagram.CountedSocket.{CountedSocket}
 use Rattle.cadence_sinks.specs.declared.datagram.SocketWriter.{SocketWriter}

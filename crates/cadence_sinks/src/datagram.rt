@@ -11,9 +11,8 @@ ghost use Rattle.cadence_sinks.specs.Sockets.{IsBufferedAnswer, IsBufferedFlush,
 use cadence_errors::{MetricResult, SinkError};
 use cadence_flow::io::{PacketWriter, Refusals};
 use cadence_flow::stats::{SinkStats, Unread};
-use cadence_flow::{
-    AnsweringSink, Counted, Locked, Receipt, RecordedPacker, SocketStats,
-};
+use cadence_flow::{Counted, RecordedPacker, SocketStats};
+use cadence_stage::{AnsweringSink, Locked, Receipt};
 use std::alloc::Allocator;
 use std::sync::Wait;
 

@@ -2,7 +2,7 @@
 //! datagrams.
 ghost use Rattle.std.specs.Prelude.{◌≡◌, false, IfOk, IfErr, Some, None, is_some, unwrap_or};
 ghost use Rattle.cadence_resolve.specs.Refusals.{IsSocketRefusal, IsTargetRefusal};
-ghost use Rattle.cadence_flow.specs.Answered.{IsAnswered, IsFlushAnswered, answered_by_holding_nothing};
+ghost use Rattle.cadence_stage.specs.Answered.{IsAnswered, IsFlushAnswered, answered_by_holding_nothing};
 ghost use Rattle.cadence_sinks.specs.Buffers.{udp_buffer};
 ghost use Rattle.cadence_sinks.specs.Sockets.{IsBufferedAnswer, IsBufferedFlush, IsSocketAnswer, is_io};
 ghost use Rattle.cadence_sinks.specs.Udp.{SendsTo, period_of, lookup_handler_of, looks_up_again, buffered_capacity_of, lookups_of};
@@ -11,8 +11,9 @@ use crate::datagram::{CountedSocket, DatagramSocket, PackedSocket};
 use cadence_errors::{MetricResult, SinkError};
 use cadence_flow::io::DEFAULT_CAPACITY;
 use cadence_flow::stats::{SinkStats, Unread};
-use cadence_flow::{Handler, MetricSink, OneCall, SinkErrorHandler, emit_by, flush_by};
+use cadence_flow::{Handler, MetricSink, SinkErrorHandler};
 use cadence_resolve::{Family, Resolver, Runtime, StaticResolver, Target};
+use cadence_stage::{OneCall, emit_by, flush_by};
 use std::alloc::{Allocator, Global};
 use std::net::{Net, UdpSocket};
 use std::sync::Wait;

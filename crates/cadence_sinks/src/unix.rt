@@ -2,16 +2,17 @@
 ghost use Rattle.std.specs.Prelude.{◌≡◌, Bool, true, IfOk};
 ghost use Rattle.cadence_errors.specs.Errors.{MayOnlyRunOutOfMemory};
 ghost use Rattle.cadence_errors.specs.declared.SinkError.{SinkError};
-ghost use Rattle.cadence_flow.specs.Answered.{IsAnswered, IsFlushAnswered, answered_by_holding_nothing};
+ghost use Rattle.cadence_stage.specs.Answered.{IsAnswered, IsFlushAnswered, answered_by_holding_nothing};
 ghost use Rattle.cadence_sinks.specs.Buffers.{unix_buffer};
 ghost use Rattle.cadence_sinks.specs.Sockets.{IsBufferedAnswer, IsBufferedFlush, IsSocketAnswer};
 ghost use Rattle.cadence_sinks.specs.Unix.{unix_path};
 
 use super::datagram::{CountedSocket, DatagramSocket, PackedSocket};
 use cadence_errors::{MetricResult, SinkError};
+use cadence_flow::MetricSink;
 use cadence_flow::io::DEFAULT_CAPACITY;
 use cadence_flow::stats::{SinkStats, Unread};
-use cadence_flow::{MetricSink, OneCall, emit_by, flush_by};
+use cadence_stage::{OneCall, emit_by, flush_by};
 use std::alloc::{Allocator, Global};
 use std::sync::Wait;
 

@@ -1,6 +1,6 @@
 //! A sink to the place that the environment says.
 ghost use Rattle.cadence_agent.specs.Shown.{environment_buffer};
-ghost use Rattle.cadence_flow.specs.Answered.{IsAnswered, IsFlushAnswered, answered_by_holding_nothing};
+ghost use Rattle.cadence_stage.specs.Answered.{IsAnswered, IsFlushAnswered, answered_by_holding_nothing};
 ghost use Rattle.cadence_sinks.specs.Sockets.{IsBufferedAnswer, IsBufferedFlush, is_io};
 
 use crate::unix::BufferedUnixSink;

@@ -7,10 +7,11 @@ ghost use Rattle.cadence_aggregating.specs.Results.{IsResultOf};
 ghost use Rattle.cadence_aggregating.specs.Shown.{ShowsAdded};
 ghost use Rattle.cadence_errors.specs.declared.SinkError.{SinkError};
 
-use super::SharedSums;
 use crate::call::KeyedCall;
+use super::SharedSums;
 use cadence_errors::SinkError;
-use cadence_flow::{AnsweringSink, Locked, MetricSink, Receipt};
+use cadence_flow::MetricSink;
+use cadence_stage::{AnsweringSink, Locked, Receipt};
 use std::sync::Wait;
 
 /// A call of an aggregator by a key.

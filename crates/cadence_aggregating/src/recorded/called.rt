@@ -2,12 +2,13 @@
 ghost use Rattle.std.specs.Prelude.{◌≡◌, ◌++◌, ◌∷◌, [], OnErr, OnOk};
 ghost use Rattle.cadence_aggregate.specs.Refusals.{after_reply};
 
-use super::{RecordedAggregator, add_or_pass};
 use crate::accepted::Accepted;
 use crate::call::{KeyedCall, context_of, said_by};
+use super::{RecordedAggregator, add_or_pass};
 use cadence_aggregate::Fault;
 use cadence_errors::SinkError;
-use cadence_flow::{LinelessCall, MetricSink};
+use cadence_flow::MetricSink;
+use cadence_stage::LinelessCall;
 
 impl<S: MetricSink> RecordedAggregator<S> {
     ghost use Rattle.cadence_aggregating.specs.Calls.{line_of_keyed};

@@ -3,7 +3,8 @@ ghost use Rattle.cadence_aggregating.specs.Shown.{EndsFlush, IsSumsStep};
 
 use super::RecordedAggregator;
 use cadence_errors::SinkError;
-use cadence_flow::{MetricSink, Stage};
+use cadence_flow::MetricSink;
+use cadence_stage::Stage;
 
 /// A line is added as `RecordedAggregator::add` does. A flush sends what is held, and then flushes the sink.
 impl<S: MetricSink> Stage for RecordedAggregator<S> {

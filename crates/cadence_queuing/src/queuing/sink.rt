@@ -3,13 +3,14 @@ ghost use Rattle.std.specs.Prelude.{◌≡◌, IfOk, string_bytes};
 ghost use Rattle.std.specs.Arc.{arc_value};
 ghost use Rattle.cadence_queue.specs.Answers.{IsCopyQueued};
 ghost use Rattle.cadence_queuing.specs.Queuing.{IsQueuingAnswer, queue_capacity, wrapped_sink};
-ghost use Rattle.cadence_flow.specs.Answered.{IsAnswered};
+ghost use Rattle.cadence_stage.specs.Answered.{IsAnswered};
 
 use super::worker::Shared;
 use cadence_errors::SinkError;
+use cadence_flow::MetricSink;
 use cadence_flow::stats::SinkStats;
-use cadence_flow::{AnsweringSink, MetricSink, OneCall, emit_by};
 use cadence_queue::{Latch, QueueStep};
+use cadence_stage::{AnsweringSink, OneCall, emit_by};
 use std::alloc::{AllocError, Allocator, Global};
 use std::sync::{Arc, Wait};
 

@@ -5,13 +5,14 @@ ghost use Rattle.cadence_queuing.specs.FlushTimes.{CountsAsIfAny};
 ghost use Rattle.cadence_queuing.specs.Queuing.{handed_line};
 ghost use Rattle.cadence_queue.specs.Taker.{given_by, has_ended};
 
-use super::handed::Handed;
 use crate::flush_timer::FlushTimer;
 use crate::worklist::{Worklist, work};
+use super::handed::Handed;
 use cadence_errors::SinkError;
 use cadence_flow::thread::Job;
-use cadence_flow::{GhostList, Handler, MetricSink};
+use cadence_flow::{Handler, MetricSink};
 use cadence_queue::{Latch, SharedQueue, Taker, TakerRoom};
+use cadence_stage::GhostList;
 use std::alloc::Allocator;
 use std::snapshot::Snapshot;
 use std::sync::{Arc, Wait};

@@ -3,13 +3,14 @@ ghost use Rattle.std.specs.Prelude.{◌≡◌, [], IfOk, unwrap_or};
 ghost use Rattle.cadence_errors.specs.Errors.{MayOnlyRunOutOfMemory};
 ghost use Rattle.cadence_flow.specs.Writer.{history_of};
 ghost use Rattle.cadence_queue.specs.Answers.{IsQueueAnswer, IsQueueFlush, queue_kind};
-ghost use Rattle.cadence_flow.specs.Answered.{IsAnswered, IsFlushAnswered, answered_by_holding_nothing};
+ghost use Rattle.cadence_stage.specs.Answered.{IsAnswered, IsFlushAnswered, answered_by_holding_nothing};
 ghost use Rattle.cadence_sinks.specs.Buffers.{spy_buffer};
 
 use super::channel::{Sender, SpyReceiver, new_channel};
 use cadence_errors::{MetricResult, SinkError};
 use cadence_flow::io::{DEFAULT_CAPACITY, PacketWriter, Refusals};
-use cadence_flow::{Locked, MetricSink, OneCall, RecordedPacker, emit_by, flush_by};
+use cadence_flow::{MetricSink, RecordedPacker};
+use cadence_stage::{Locked, OneCall, emit_by, flush_by};
 use std::alloc::{Allocator, Global};
 use std::sync::Wait;
 

@@ -2,11 +2,12 @@
 ghost use Rattle.std.specs.Prelude.{vec_items};
 ghost use Rattle.cadence_errors.specs.Errors.{MayOnlyRunOutOfMemory};
 ghost use Rattle.cadence_queue.specs.Answers.{IsCopyQueued, IsQueueAnswer};
-ghost use Rattle.cadence_flow.specs.Answered.{IsAnswered};
+ghost use Rattle.cadence_stage.specs.Answered.{IsAnswered};
 
 use super::channel::{MessageStep, Sender, SpyReceiver, new_channel};
 use cadence_errors::{MetricResult, SinkError};
-use cadence_flow::{AnsweringSink, MetricSink, OneCall, emit_by};
+use cadence_flow::MetricSink;
+use cadence_stage::{AnsweringSink, OneCall, emit_by};
 use std::alloc::{Allocator, Global};
 use std::sync::Wait;
 

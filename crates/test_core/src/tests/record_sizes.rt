@@ -1,7 +1,8 @@
 //! The records that only proofs read take no memory: a type with one has the size of the type without it.
 use cadence_flow::io::{LineBuffer, PacketLog};
-use cadence_flow::{Counted, GhostList, Log, Receipt, RecordedPacker, RecordedWriter, Right, Seen};
+use cadence_flow::{Counted, RecordedPacker, RecordedWriter};
 use cadence_queue::QueueStep;
+use cadence_stage::{GhostList, Log, Receipt, Right, Seen};
 use std::mem::size_of;
 
 #[test]

@@ -1,4 +1,4 @@
-use Rattle.cadence_flow.specs.Held.{nothing_is_held}
+use Rattle.cadence_stage.specs.Held.{nothing_is_held}
 use Rattle.cadence_flow.proofs.metric_sink.holds_nothing.Goals as goal
 
 pub returns : goal.returns

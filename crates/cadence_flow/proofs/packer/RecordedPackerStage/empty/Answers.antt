@@ -1,10 +1,10 @@
 use Rattle.std.proofs.Common.{List, map, subst, sym}
 use Rattle.std.specs.Option.{ok_or}
-use Rattle.cadence_flow.specs.Call.{call_of}
+use Rattle.cadence_stage.specs.Call.{call_of}
 use Rattle.cadence_flow.specs.Packed.{IsPacked}
-use Rattle.cadence_flow.specs.declared.entry.Entry.{Entry}
+use Rattle.cadence_stage.specs.declared.entry.Entry.{Entry}
 use Rattle.cadence_flow.proofs.PackerSteps.{packed_flush}
-use Rattle.cadence_flow.proofs.Pasts.{logged_more}
+use Rattle.cadence_stage.proofs.Pasts.{logged_more}
 use Rattle.cadence_flow.proofs.packer.RecordedPackerStage.empty.Goals as goal
 
 pub invariant_of-self : goal.invariant_of-self

@@ -1,10 +1,10 @@
 use Rattle.std.proofs.Common.{ℕ, List, [], ◌∷◌, ◌++◌, map, subst, sym}
 use Rattle.std.specs.Option.{ok_or}
-use Rattle.cadence_flow.specs.Call.{Call, Line, call_of}
+use Rattle.cadence_stage.specs.Call.{Call, Line, call_of}
 use Rattle.cadence_flow.specs.Packed.{IsPacked}
-use Rattle.cadence_flow.specs.declared.entry.Entry.{Entry}
+use Rattle.cadence_stage.specs.declared.entry.Entry.{Entry}
 use Rattle.cadence_flow.proofs.PackerSteps.{packed_line}
-use Rattle.cadence_flow.proofs.Pasts.{logged_more}
+use Rattle.cadence_stage.proofs.Pasts.{logged_more}
 use Rattle.cadence_flow.proofs.packer.RecordedPackerStage.take_line.Goals as goal
 
 pub invariant_of-self : goal.invariant_of-self

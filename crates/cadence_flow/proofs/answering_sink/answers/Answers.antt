@@ -1,8 +1,0 @@
-use Rattle.cadence_flow.specs.Answered.{is_answered, is_flush_answered}
-use Rattle.cadence_flow.proofs.answering_sink.answers.Goals as goal
-
-pub returns-clause-line : goal.returns-clause-line
-returns-clause-line c = is_answered
-
-pub returns-clause-flush : goal.returns-clause-flush
-returns-clause-flush c = is_flush_answered

@@ -1,0 +1,117 @@
+-- `again` makes one more token of what the list began with.
+use mathlib.Core.Path.{◌≡◌, refl, sym, subst}
+use mathlib.Core.List.{List, [], ◌∷◌}
+use seplogic.Ra.Ura.{Ura}
+use mir.Syntax.{Fn, a_type}
+use mir.Val.{Val, vptr}
+use mir.MapTy.{inst_fn}
+use base.Logic.{SProp, ent, via, fst∗, snd∗}
+use base.Fml.{Fml, ftrue, flft}
+use prog.Wp.{WpFn}
+use prog.Model.{Model}
+use types.Logic.{Logic, sem}
+use contract.Monad.{fact_use}
+use contract.Running.{Running, MachineTables, tables, tables_of}
+use sound.WpLaws.{WpFn-mono}
+use types.Kit.{‵, raw, ◌⊛◌, ◌$◌, ◌∵◌, !, qed, by, move, keep, drop, split, join, fsplit, fsplit3, fjoin, fjoin3, suffices, frame, feq_i, use0, use1}
+use types.Part.{agg}
+use types.Run.{and_then, no_more, returns, enter}
+use types.ByLocal.{alloc_all, pass_all, free_all, look_at, get, sets}
+use denote.RattleType.{RattleType, owns}
+use denote.Laws.{Are, Ises, owns_show, showss}
+use denote.Signature.{types_at, plain}
+use denote.Steps.{nothing, opens, closes}
+use denote.Param.{param, layouts}
+use denote.Triple.Clauses.{Clauses, closing}
+use denote.Triple.Entry.{on_entry, alive}
+use denote.Triple.Spec.{Meets, triple_of}
+use denote.Triple.Table.{entered}
+use denote.Triple.Walked.{Stays, stay_ref, walk_of, ends_at, Goes-ref, walk_Meets}
+use contract.CodeStep
+use Rattle.core.proofs.ledger.Walks.{token, Mark, made, tells_all}
+use Rattle.cadence_stage.specs.GhostLog.{seen_owns}
+use Rattle.cadence_stage.proofs.Halves as halves
+use Rattle.cadence_stage.specs.contracts.ghost_log.Seen as S
+use Rattle.cadence_stage.specs.contracts.ghost_log.Seen.again.{ended, clauses}
+use Rattle.cadence_stage.specs.contracts.ghost_log.Seen.again.Key.{name as #self}
+use Rattle.cadence_stage.proofs.ghost_log.Seen.again.Statement as stated
+use Rattle.cadence_stage.proofs.ghost_log.Seen.again.Code as code
+
+module _ (A : RattleType) {M : Type 1} {𝓤 : Ura M} (𝓛 : Logic 𝓤) (𝓜 : Model 𝓤 𝓛.H) (𝓡 : Running 𝓤 𝓛.H 𝓜) where
+  open 𝓛 use {H}
+
+  abbrev function : Fn
+  function = inst_fn (layouts (a_type ∷ []) (A, tt)) code.function
+
+  abbrev A' : RattleType
+  A' = param 0 A
+
+  abbrev Of : RattleType
+  Of = S.the_row A'
+
+  abbrev SeenOf : RattleType
+  SeenOf = S.the_row A'
+
+  abbrev stayed : Stays (ended A).signature.params (ended A).kept
+  stayed = (stay_ref (0 ∷ []) tt (plain (λ _. Of)), tt)
+
+  abbrev 𝓣 : MachineTables 𝓤 H 𝓜
+  𝓣 = tables 𝓤 H 𝓜 𝓡 𝓡.env
+
+  abbrev held : Clauses 𝓤 (ended A)
+  held = clauses A 𝓛 𝓜.mem 𝓡.returns
+
+  module _ (z : (walk_of 𝓛 (ended A) stayed held).Ghost) where
+    abbrev Vss : Type 0
+    Vss = List Val × Unit {0}
+
+    abbrev At : Vss → (walk_of 𝓛 (ended A) stayed held).Ghost
+    At vss = ((z.0.0, z.0.1, z.0.2, z.0.3, vss), z.1)
+
+    abbrev Goes : Vss → Type 1
+    Goes vss = ent 𝓤 ((walk_of 𝓛 (ended A) stayed held).pre (At vss)) (WpFn 𝓤 H 𝓣.C 𝓣.Λ function ((walk_of 𝓛 (ended A) stayed held).args (At vss)) ((walk_of 𝓛 (ended A) stayed held).post (At vss)))
+
+    abbrev a : Of.Denot
+    a = z.0.3.0.now
+
+    abbrev u : Val
+    u = vptr z.0.3.0.ref_ptr.0 z.0.3.0.ref_ptr.1
+
+    abbrev passed : Vss
+    passed = (u ∷ [], tt)
+
+    abbrev args : Fml
+    args = owns (types_at (ended A).signature.params z.0.0) z.0.3 passed
+
+    abbrev asked : SProp 𝓤
+    asked = (held z.0.0 z.0.3).requires z.1
+
+    walks : Goes passed
+    walks =
+        let r = z.0.3.0 in let new : SeenOf.Denot = record { marker = record {}; name = a.name; items = a.items } in
+        qed 𝓛 (((‵ (flft z.0.0.0 z.0.1.0) ⊛ ‵ (flft z.0.0.1.0 z.0.1.1.0) ⊛ ‵ ftrue) ⊛ ‵ args) ∷ raw asked ∷ []) ∵
+        keep ! (0 ∷ []) $ split ! $ split ! $ move ! (2 ∷ []) $ fsplit ! $ fsplit3 ! $ drop ! $ keep ! (0 ∷ 1 ∷ 3 ∷ 4 ∷ []) $
+        enter ! 𝓣.C 𝓣.Λ function (u ∷ []) _ $ alloc_all ! (λ l. pass_all ! refl ((tt, tt), tt) $
+        opens ! tt Of r.ref_ptr.0 r.ref_ptr.1 (λ cs. move ! (1 ∷ []) $ fsplit ! $ move ! (1 ∷ []) $
+        use1 𝓛 (‵ (seen_owns A'.coded.code a.name a.items) ⊛ ‵ (seen_owns A'.coded.code a.name a.items)) (halves.twice A'.coded 𝓛 a.name a.items) $ split ! $
+        move ! (2 ∷ 0 ∷ []) $ fjoin ! $ move ! (2 ∷ 0 ∷ 3 ∷ 4 ∷ 5 ∷ []) $ closes ! tt Of a cs r.ref_ptr.0 r.ref_ptr.1 $
+        sets ! (agg ! (no_more !)) refl (tt, tt) $ sets ! (agg ! (and_then ! (get ! refl) (no_more !))) refl (tt, (tt, tt)) $
+        returns ! (look_at ! 0 refl) $ free_all ! refl $ suffices ! _ (ends_at 𝓛 (ended A) stayed held (At passed) token new (a, tt) (tt, tt)) $
+        feq_i ! (List Val) (u ∷ []) (u ∷ []) refl $ fjoin3 ! $ nothing ! $ move ! (1 ∷ 0 ∷ []) $ fjoin ! $
+        move ! (2 ∷ []) $ use0 𝓛 (‵ ((Mark (S.the_type A').name (A' ∷ []) A').own_val (tt, tt) (token ∷ []))) (made (S.the_type A').name (A' ∷ []) A' 𝓛) $ fjoin ! $
+        move ! (1 ∷ 0 ∷ []) $ join ! $ move ! (1 ∷ 2 ∷ []) $ join ! $ join ! $ frame ! $
+        by ! (tells_all 𝓤 ((a.name ≡ a.name) ∷ (a.items ≡ a.items) ∷ (a ≡ a) ∷ []) (refl, (refl, refl)))))
+
+  meets : Meets 𝓛 (ended A).signature (WpFn 𝓤 H 𝓣.C 𝓣.Λ function) (closing 𝓛 (ended A) held)
+  unfolding tables_of contract.CodeStep.c_Tables
+  meets =
+      walk_Meets 𝓛 (ended A) stayed (Goes-ref 𝓛 2 0 tt (plain (λ _. Of)), tt) held
+      (WpFn 𝓤 H 𝓣.C 𝓣.Λ function) (WpFn-mono 𝓤 H 𝓛.laws (tables_of 𝓤 H 𝓜 𝓣) function)
+      (λ z. let a = z.0.3 in let vss = z.0.4 in let Rs : List RattleType = types_at (ended A).signature.params z.0.0 in let On : SProp 𝓤 = on_entry 𝓛 (ended A).signature z.0.0 z.0.1 a vss in
+      fact_use 𝓤 (Are Rs (Ises Rs) a vss) (via 𝓤 (sem 𝓛 (owns Rs a vss)) (via 𝓤 On (fst∗ 𝓤 On (asked z)) (snd∗ 𝓤 (alive 𝓛 (ended A).signature z.0.0 z.0.1) (sem 𝓛 (owns Rs a vss)))) (owns_show 𝓛 Rs (Ises Rs) (showss 𝓛 Rs) a vss)) (λ are.
+      subst (Goes z) (λ i. (sym are.0.0 i, tt)) (walks z)))
+
+pub again_spec : {M : Type 1} → stated.statement M
+again_spec 𝓤 𝓛 𝓜 𝓡 wired A LA = let 𝓣' = tables 𝓤 𝓛.H 𝓜 𝓡 𝓡.env in
+    entered 𝓤 𝓛.H (triple_of 𝓛 (ended A).signature (closing 𝓛 (ended A) (held A 𝓛 𝓜 𝓡))) 𝓣'.C 𝓣'.Λ (#self (layouts (a_type ∷ []) (A, tt))) (function A 𝓛 𝓜 𝓡)
+    (code.unfolded 𝓤 𝓛.H 𝓜 𝓡 wired (A, tt)) (meets A 𝓛 𝓜 𝓡)

@@ -1,0 +1,42 @@
+//! What takes lines one after the other, and what shows that it was called.
+//!
+//! A stage under a lock answers each call with a receipt, which nobody else can make, and which only the one body of each
+//! `emit` and `flush` can let go. A log is a list of what happened. It exists in proofs only: it costs neither memory
+//! nor time.
+//!
+//! - `stage`: the trait of what takes lines one after the other, and calls that make no line
+//! - `kept`: a stage whose calls leave receipts
+//! - `locked`: such a stage under a lock
+//! - `answering_sink`: the sinks of the library, which answer with a receipt
+//! - `one_call`: one call of a sink that is still to be made
+//! - `emit`: the one body of `emit` and of `flush` of the library's own sinks
+//! - `entry`: what the log of a stage keeps of a call
+//! - `ghost_list` and `ghost_texts`: a list and a list of texts that exist in proofs only
+//! - `ghost_log`: such a list that only grows, and the one right to add to it
+//! - `lock`: how a lock is taken
+#![tactic(auto)]
+
+mod answering_sink;
+mod emit;
+mod entry;
+mod ghost_list;
+mod ghost_log;
+mod ghost_texts;
+mod kept;
+mod lock;
+mod locked;
+mod one_call;
+mod stage;
+
+pub use answering_sink::AnsweringSink;
+pub use emit::closed::{Closed, Opener};
+pub use emit::{emit_by, flush_by};
+pub use entry::Entry;
+pub use ghost_list::GhostList;
+pub use ghost_log::{Log, Right, Seen, twins};
+pub use ghost_texts::GhostTexts;
+pub use kept::Receipt;
+pub use lock::{acquire, spin};
+pub use locked::Locked;
+pub use one_call::OneCall;
+pub use stage::{LinelessCall, Stage};
