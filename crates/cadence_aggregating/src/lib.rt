@@ -3,7 +3,7 @@
 //! - `said`: reads what a line says.
 //! - `note`: a record of what a line says, for proofs.
 //! - `printed`: writes the line that says something, and notes what it says.
-//! - `printer`: gives what lines say to a sink of metrics.
+//! - `printer`: prints the lines of an aggregator as text, for a sink of metrics.
 //! - `limits`: the settings of an aggregator.
 //! - `recorded`: an aggregator of lines over a sink of metrics, with a record of its past, as a stage.
 //! - `waiting`: lines that wait until their owner has sent them.

@@ -1,5 +1,4 @@
-//! Gives what lines say to a sink of metrics, line by line, with a record of what that sink took. The record exists in
-//! proofs only.
+//! Prints the lines of an aggregator as text, for a sink of metrics.
 ghost use Rattle.std.specs.Prelude.{◌≡◌, ◌++◌, [], OnErr, OnOk, map};
 ghost use Rattle.cadence_aggregate.specs.Lines.{sample_of, samples_of};
 ghost use Rattle.cadence_aggregate.specs.Refusals.{after_reply};
@@ -15,7 +14,8 @@ use cadence_flow::MetricSink;
 use cadence_stage::GhostList;
 use std::mem;
 
-/// A sink of metrics as a sink of what lines say.
+/// An adapter between an aggregator and a [`MetricSink`]: it prints each line that the aggregator sends as text, and
+/// gives the text to the sink. For proofs it also has a record of what the sink took, which doesn't exist at run time.
 #[derive(Drop)]
 pub struct Printer<S: Drop> {
     sink: S,

@@ -39,7 +39,7 @@ fn has_mark(text: &str) -> bool {
         .any(|byte| *byte == b',' || *byte == b'|' || *byte == b'\n')
 }
 
-// Adds the tag that a variable such as `DD_ENV` stands for, if the variable is set. Its text is the text of the tag.
+// Adds the tag whose value a variable has, if the variable is set: `DD_ENV=prod` adds the tag `env:prod`, for example.
 fn push_own<A: Allocator + Clone>(
     tags: &mut Tags<A>,
     key: &'static str,

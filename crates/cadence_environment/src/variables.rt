@@ -16,15 +16,15 @@ pub enum Variable {
     StatsdHost,
     /// `STATSD_PORT`: the port of a Statsd server.
     StatsdPort,
-    /// `DD_ENV`: the text of the tag `env`.
+    /// `DD_ENV`: the value of the tag `env`.
     Env,
-    /// `DD_SERVICE`: the text of the tag `service`.
+    /// `DD_SERVICE`: the value of the tag `service`.
     Service,
-    /// `DD_VERSION`: the text of the tag `version`.
+    /// `DD_VERSION`: the value of the tag `version`.
     Version,
     /// `DD_TAGS`: other tags.
     Tags,
-    /// `DD_ENTITY_ID`: the text of the tag `dd.internal.entity_id`.
+    /// `DD_ENTITY_ID`: the value of the tag `dd.internal.entity_id`.
     EntityId,
 }
 

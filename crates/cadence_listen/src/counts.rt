@@ -5,7 +5,8 @@ use std::alloc::{AllocError, AllocFailed, Global};
 use std::cmp::Reverse;
 use std::collections::BTreeMap;
 
-// How many names are told apart. Anybody may send lines, so that there is a limit.
+// The most names that have a count of their own. The lines of all further names share one count, because a sender that
+// makes up new names without end would otherwise use up the memory.
 const MOST_NAMES: usize = 1 << 16;
 
 /// How many lines there were of each name.

@@ -16,7 +16,8 @@ pub struct MetricParts<'a> {
     pub values: &'a [u8],
     /// The text between this bar and the next one, or the end of the line.
     pub kind: &'a [u8],
-    /// The other fields in the order in which they stand in the line, each with the bar before it.
+    /// The rest of the line, such as `|@0.5|#env:prod`: the other fields, each with the bar before it. It is empty if
+    /// the line has no other fields.
     pub fields: &'a [u8],
 }
 

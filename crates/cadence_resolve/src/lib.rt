@@ -5,7 +5,7 @@
 //! - `preferred`: the address of a host to which a socket sends: one of the socket's own family comes first
 //! - `resolver`: the resolver of a UDP sink: a static one, which looks its target up once, or a periodic one
 //! - `resolver_core`: the address of a name after each lookup, without a thread or a lock
-//! - `runtime`: what a sink with a thread asks of a runtime
+//! - `runtime`: what a runtime has to offer to a sink that starts a thread
 //! - `socket`: a socket that can send to an address
 //! - `target`: an address, or a host's name and a port
 #![tactic(auto)]

@@ -1,4 +1,5 @@
-//! What a sink with a thread asks of a runtime.
+//! What a runtime has to offer to a sink that starts a thread. A runtime, such as `HostRuntime`, is the value through
+//! which code reaches the system.
 
 use std::net::{Net, TcpListener, TcpStream};
 use std::sync::Wait;

@@ -1,4 +1,4 @@
-//! What a stream lost so far, where its run can see it.
+//! Counts the packets and lines that are lost while an input is sent, which is called a stream here.
 use std::cell::Cell;
 use std::fmt;
 

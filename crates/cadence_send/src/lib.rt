@@ -1,6 +1,6 @@
 //! The engine of `statsd_send`: it takes the lines of metrics, packs them and sends the packets.
 //!
-//! - `board`: what a stream lost so far, where its run can see it.
+//! - `board`: counts the packets and lines that are lost while an input is sent.
 //! - `engine`: takes the lines of an input, as it arrives.
 //! - `error`: why a run ended early.
 //! - `lasting`: a writer of packets that outlives refusals, and counts what is lost.
@@ -12,7 +12,7 @@
 //! - `run`: sends one metric, or those of an input, and returns the exit status.
 //! - `summed`: lines that are added up before a packer takes them.
 //! - `taker`: what takes the lines of the engine: a packer, or sums over a packer.
-//! - `tidings`: says when a run writes to its error output how much was lost.
+//! - `tidings`: reports how much was lost while a run goes on, at most once a minute.
 #![tactic(auto)]
 
 mod board;

@@ -17,7 +17,7 @@ use std::fmt;
 pub enum Destination<'a> {
     /// A host and a port, as HOST:PORT.
     Host(&'a str),
-    /// The path of a Unix socket. It is not empty. It was not tested otherwise.
+    /// The path of a Unix socket. It is not empty. Whether it can be used was not checked.
     Unix(&'a str),
 }
 
@@ -69,7 +69,7 @@ pub enum Setting {
     Time,
     /// The sampling rate that each line says.
     Rate,
-    /// The chance with which a line is sent, which each line says as its sampling rate.
+    /// The chance with which a line is sent. It is also added to each line that is sent, as the sampling rate.
     Sample,
     /// The capacity of a packet in bytes.
     Capacity,

@@ -82,7 +82,8 @@ pub fn run_words<T: PacketWriter, E: Write, A: Allocator + Clone>(
     }
 }
 
-// Writes to `errors` how a run over an input ended, if it isn't without a fault, and returns the exit status.
+// Writes to `errors` that a run over an input ended with an error, or that it couldn't read all lines, if that is so.
+// Returns the exit status.
 fn report_end<E: Write>(
     ended: Result<TextCounts, RunError>,
     outlet: Outlet<'_>,

@@ -1,4 +1,4 @@
-//! Says when a run writes to its error output how much was lost.
+//! Reports how much was lost while a run goes on, at most once a minute.
 use crate::board::LossBoard;
 use crate::pace::Pace;
 use std::io::Write;

@@ -24,7 +24,7 @@ VALUE  c, s   a whole number; a member of a set can't be a name
 TAG    K:V or V; behind --, and in --tag=TAG, also one that begins with a dash
 
 Status: 0 sent, 1 input or sending failed, or packets were lost, 2 words or lines that can't be read, 3 memory.
-As in: tail -F access.log | sed -un 's/.* \\([0-9]*\\) [0-9]*$/c hits 1 code:\\1/p' | statsd_send --flush-every 0
+As in: tail -F access.log | sed -un 's/.* \\([0-9][0-9]*\\) [0-9]*$/c hits 1 code:\\1/p' | statsd_send --flush-every 0
 A signal loses the lines that wait to be sent. So let the last command of a pipe be
 (trap '' TERM INT HUP; exec statsd_send ..), which sends all lines when the commands before it end.
 ";

@@ -29,7 +29,7 @@ pub fn asked_limits(options: &Options<'_, Global>) -> Limits {
 }
 
 /// Returns the pace of the option `--flush-every`. Without it sums are sent after each ten seconds, and other lines don't
-/// leave by time. A clock takes memory.
+/// leave by time. The only error is that there is no memory for the clock.
 pub fn asked_pace(
     rt: &HostRuntime,
     options: &Options<'_, Global>,

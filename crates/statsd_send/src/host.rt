@@ -50,7 +50,8 @@ impl<'a> SocketOfHost<'a> {
         }
     }
 
-    // Returns whether the host is to be looked up now, and notes when it is. If the clock fails, it never is.
+    // Returns whether the host is to be looked up now, and if so, stores the time as that of the last lookup. If the
+    // clock fails, the host isn't looked up.
     fn is_lookup_due(&mut self) -> bool {
         let Ok(now) = Instant::now(&self.rt) else {
             return false;

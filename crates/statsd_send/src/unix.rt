@@ -16,7 +16,7 @@ fn second() -> Duration {
     Duration::from_secs(1)
 }
 
-/// How long a path without room may hold the program.
+/// How long the program waits if the Unix socket at the path has no room for a packet.
 #[derive(Clone, Copy, Debug, PartialEq, Eq)]
 pub enum Patience {
     /// Not at all: the packet is refused.

@@ -39,9 +39,10 @@ const TAG: &str = "prints only metrics with this tag, as in --tag 'env:*'";
 
 const STRICT: &str = "prints no line of a packet with a line that no server can read";
 
-const TOP: &str = "counts the lines of each name in place of printing them, and prints
-the counts after each SECONDS seconds and at the end, with 0 only
-at the end";
+const TOP: &str = "counts the lines of each name in place of printing them; after each
+SECONDS seconds and at the end it prints the counts since the start,
+with 0 only at the end; it can't be used with --json, --time or
+--sender";
 
 /// Where packets are received.
 #[derive(Clone, Copy, Debug)]

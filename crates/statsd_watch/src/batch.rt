@@ -54,7 +54,8 @@ impl<T: Drop> From<AllocFailed<T>> for ReceiveError {
 }
 
 impl Batch {
-    /// Returns a batch without packets, of packets of less than `most` bytes. The time of each is kept if it `has_time`.
+    /// Returns an empty batch, for packets of fewer than `most` bytes. If `has_time` is set, it also stores when each
+    /// packet came.
     pub fn new(alloc: Global, most: usize, has_time: bool) -> Result<Batch, AllocError> {
         Ok(Batch {
             buffer: Vec::from_elem(alloc, 0u8, most)?,

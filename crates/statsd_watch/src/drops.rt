@@ -35,7 +35,8 @@ fn dropped_in(table: &str, number: &str) -> Option<u64> {
     None
 }
 
-// Returns the number of the socket in the table of the system, and the file of that table, if the system tells them.
+// Returns the number of the socket in the system's table of sockets, and the file of that table. Returns `None` for a
+// Unix socket, of which the system drops no packet, and if the number can't be read.
 fn find_place(
     rt: &HostRuntime,
     receiver: &Receiver,
@@ -69,7 +70,8 @@ impl Drops {
         })
     }
 
-    /// Returns how long to wait for a packet at most before the count is looked at, if it is to be.
+    /// Returns how long the program may wait for a packet before it looks at the count. Returns `None` if it needn't
+    /// look, because no packet came since it last did, or because the system has no count for this socket.
     pub fn left(&self) -> Option<Duration> {
         if self.is_due { Some(period()) } else { None }
     }

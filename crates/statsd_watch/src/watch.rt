@@ -21,7 +21,7 @@ fn time_left(
     if left.is_zero() { None } else { Some(left) }
 }
 
-// Returns the shorter one of two durations, of which the second may be missing.
+// Returns the shorter of two durations, or the first one if there is no second one.
 fn shorter(left: Duration, other: Option<Duration>) -> Duration {
     match other {
         Some(other) => left.min(other),

@@ -81,7 +81,8 @@ fn make_watched<R: Wait + Clone + Drop>(
 }
 
 impl<R: Wait + Clone + Drop> Watched<R> {
-    // Returns whether just this line came, or, if `refused ` stands before it, an error with this text.
+    // Returns whether just this line came. If the wanted text begins with the word `refused`, just one error has to
+    // have come instead, whose text follows that word.
     fn has_got(&self, wanted: &[u8]) -> bool {
         let is_wanted = match (self.lines.try_recv(), self.errors.try_recv()) {
             (Some(line), None) => line.as_slice() == wanted,

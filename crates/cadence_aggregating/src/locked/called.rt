@@ -37,7 +37,8 @@ impl<'a, S: MetricSink, R: Wait + Drop> AnsweringSink for LockedCall<'a, S, R> {
     }
 }
 
-// Says that the results of these steps are results of steps. The call compiles to no code.
+// Lets the proof of `emit_line` count what the call under the lock answers as an `IsResultOf`. That definition can't be
+// unfolded outside its own module, so a call that makes no step can't claim it. This compiles to no code.
 #[inline(always)]
 fn steps()
     ensures { (line : List ℕ) → (r : Result ℕ SinkError) → IsResultOf line r }
