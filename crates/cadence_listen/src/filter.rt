@@ -14,11 +14,11 @@ pub struct Filter<'a> {
     pub name: Option<&'a [u8]>,
     /// The pattern of kinds, as `c`.
     pub kind: Option<&'a [u8]>,
-    /// The pattern of tags, as `env:prod`. One of a line's tags is like it.
+    /// The pattern of tags, as `env:prod`. One of a line's tags matches it.
     pub tag: Option<&'a [u8]>,
 }
 
-// Returns whether a text is like a pattern.
+// Returns whether a text matches a pattern.
 fn is_like(pattern: &[u8], text: &[u8]) -> bool
     ensures { IsTrue result ↔ IsLike pattern.now text.now }
 {
@@ -28,7 +28,7 @@ fn is_like(pattern: &[u8], text: &[u8]) -> bool
     }
 }
 
-// Returns whether a field is of tags, and one of them is like the pattern.
+// Returns whether a field is of tags, and one of them matches the pattern.
 fn is_tag_field(pattern: &[u8], field: &[u8]) -> bool
     ensures { IsTrue result ↔ IsTagField pattern.now field.now }
 {
@@ -43,7 +43,7 @@ fn is_tag_field(pattern: &[u8], field: &[u8]) -> bool
     false
 }
 
-// Returns whether one of the tags in the other fields of a line is like the pattern.
+// Returns whether one of the tags in the other fields of a line matches the pattern.
 fn has_tag(pattern: &[u8], fields: &[u8]) -> bool
     ensures { IsTrue result ↔ HasTag pattern.now fields.now }
 {

@@ -7,8 +7,8 @@ ghost use Rattle.cadence_aggregating.specs.Results.{IsResultOf};
 ghost use Rattle.cadence_aggregating.specs.Shown.{ShowsAdded};
 ghost use Rattle.cadence_errors.specs.declared.SinkError.{SinkError};
 
-use crate::call::KeyedCall;
 use super::SharedSums;
+use crate::call::KeyedCall;
 use cadence_errors::SinkError;
 use cadence_flow::MetricSink;
 use cadence_stage::{AnsweringSink, Locked, Receipt};

@@ -2,9 +2,9 @@
 ghost use Rattle.std.specs.Prelude.{◌≡◌, ◌++◌, ◌∷◌, [], OnErr, OnOk};
 ghost use Rattle.cadence_aggregate.specs.Refusals.{after_reply};
 
+use super::{RecordedAggregator, add_or_pass};
 use crate::accepted::Accepted;
 use crate::call::{KeyedCall, context_of, said_by};
-use super::{RecordedAggregator, add_or_pass};
 use cadence_aggregate::Fault;
 use cadence_errors::SinkError;
 use cadence_flow::MetricSink;

@@ -5,9 +5,9 @@ ghost use Rattle.cadence_queuing.specs.FlushTimes.{CountsAsIfAny};
 ghost use Rattle.cadence_queuing.specs.Queuing.{handed_line};
 ghost use Rattle.cadence_queue.specs.Taker.{given_by, has_ended};
 
+use super::handed::Handed;
 use crate::flush_timer::FlushTimer;
 use crate::worklist::{Worklist, work};
-use super::handed::Handed;
 use cadence_errors::SinkError;
 use cadence_flow::thread::Job;
 use cadence_flow::{Handler, MetricSink};
