@@ -39,15 +39,12 @@ pub struct AggregatingMetricSinkBuilder<H: FlushErrorHandler = NopFlushErrorHand
 }
 
 impl AggregatingMetricSinkBuilder {
-    ghost use Rattle.std.specs.Prelude.{◌≡◌, false, None};
-    ghost use Rattle.cadence_aggregating.specs.Builder.{max_contexts_of, max_line_of, packs_of, flush_period_of_sums};
+    ghost use Rattle.std.specs.Prelude.{◌≡◌};
+    ghost use Rattle.cadence_aggregating.specs.Builder.{no_options, options_of};
 
     /// Returns a builder without any setting.
     pub fn new() -> Self
-        ensures contexts { max_contexts_of result ≡ 4096 }
-        ensures line { max_line_of result ≡ 512 }
-        ensures packed { packs_of result ≡ false }
-        ensures period { flush_period_of_sums result ≡ None }
+        ensures { options_of result ≡ no_options }
     {
         AggregatingMetricSinkBuilder {
             limits: Limits {
@@ -63,15 +60,12 @@ impl AggregatingMetricSinkBuilder {
 
 impl<H: FlushErrorHandler> AggregatingMetricSinkBuilder<H> {
     ghost use Rattle.std.specs.Prelude.{◌≡◌, true, Some};
-    ghost use Rattle.cadence_aggregating.specs.Builder.{at_least_one, max_contexts_of, max_line_of, packs_of, flush_period_of_sums};
+    ghost use Rattle.cadence_aggregating.specs.Builder.{at_least_one, options_of};
 
     /// Sets how many contexts of each kind are held. A new context in a full table first sends the oldest one. 0 counts
     /// as 1.
     pub fn with_max_contexts(mut self, contexts: usize) -> Self
-        ensures contexts { max_contexts_of result ≡ at_least_one contexts }
-        ensures line { max_line_of result ≡ max_line_of self }
-        ensures packed { packs_of result ≡ packs_of self }
-        ensures period { flush_period_of_sums result ≡ flush_period_of_sums self }
+        ensures { options_of result ≡ record (options_of self) { contexts = at_least_one contexts } }
     {
         self.limits.most_contexts = NonZeroUsize::new(contexts).unwrap_or(NonZeroUsize::MIN);
         self
@@ -80,10 +74,7 @@ impl<H: FlushErrorHandler> AggregatingMetricSinkBuilder<H> {
     /// Sets the most bytes of a line that is held. A longer line is handed on at once, and values are packed up to this
     /// length.
     pub fn with_max_line(mut self, bytes: usize) -> Self
-        ensures contexts { max_contexts_of result ≡ max_contexts_of self }
-        ensures line { max_line_of result ≡ bytes }
-        ensures packed { packs_of result ≡ packs_of self }
-        ensures period { flush_period_of_sums result ≡ flush_period_of_sums self }
+        ensures { options_of result ≡ record (options_of self) { line = bytes } }
     {
         self.limits.most_bytes = bytes;
         self
@@ -92,10 +83,7 @@ impl<H: FlushErrorHandler> AggregatingMetricSinkBuilder<H> {
     /// Packs the values of each timer, histogram and distribution into one line, as `t:1:2:3|ms`. Not every server
     /// reads such a line.
     pub fn with_packed_values(mut self) -> Self
-        ensures contexts { max_contexts_of result ≡ max_contexts_of self }
-        ensures line { max_line_of result ≡ max_line_of self }
-        ensures packed { packs_of result ≡ true }
-        ensures period { flush_period_of_sums result ≡ flush_period_of_sums self }
+        ensures { options_of result ≡ record (options_of self) { packed = true } }
     {
         self.limits.packs_values = true;
         self
@@ -105,10 +93,7 @@ impl<H: FlushErrorHandler> AggregatingMetricSinkBuilder<H> {
     /// millisecond. What a failed flush didn't send is tried again after one more period. Without a handler the errors
     /// of these flushes are dropped.
     pub fn with_flush_period(mut self, period: Duration) -> Self
-        ensures contexts { max_contexts_of result ≡ max_contexts_of self }
-        ensures line { max_line_of result ≡ max_line_of self }
-        ensures packed { packs_of result ≡ packs_of self }
-        ensures period { flush_period_of_sums result ≡ Some period }
+        ensures { options_of result ≡ record (options_of self) { period = Some period } }
     {
         self.period = Some(period);
         self
@@ -122,20 +107,14 @@ impl<H: FlushErrorHandler> AggregatingMetricSinkBuilder<H> {
         handler: SinkErrorHandler,
     ) -> AggregatingMetricSinkBuilder<Handler>
         requires { IsAlwaysCallable handler }
-        ensures contexts { max_contexts_of result ≡ max_contexts_of self }
-        ensures line { max_line_of result ≡ max_line_of self }
-        ensures packed { packs_of result ≡ packs_of self }
-        ensures period { flush_period_of_sums result ≡ flush_period_of_sums self }
+        ensures { options_of result ≡ options_of self }
     {
         self.with_handler(Handler::new(handler))
     }
 
     /// Sets a handler without a box. It receives the same errors.
     pub fn with_handler<G: FlushErrorHandler>(self, handler: G) -> AggregatingMetricSinkBuilder<G>
-        ensures contexts { max_contexts_of result ≡ max_contexts_of self }
-        ensures line { max_line_of result ≡ max_line_of self }
-        ensures packed { packs_of result ≡ packs_of self }
-        ensures period { flush_period_of_sums result ≡ flush_period_of_sums self }
+        ensures { options_of result ≡ options_of self }
     {
         AggregatingMetricSinkBuilder {
             limits: self.limits,

@@ -1,3 +1,4 @@
+pub mod Builder
 pub mod FlushTimes
 pub mod Queuing
 pub use Rattle.cadence_errors.specs.Errors

@@ -1,9 +1,7 @@
--- What contracts show of a queuing sink, of its builder, of a repeater and of a flushing sink, whose fields are private.
+-- What contracts show of a queuing sink, of a repeater and of a flushing sink, whose fields are private.
 use Rattle.std.specs.Prelude.{◌≡◌, ◌≢◌, ℕ, List, Option, None, Result, Err, String}
 use Rattle.std.specs.Arc.{arc_value}
-use Rattle.std.specs.Option.{option_map}
 use Rattle.std.specs.declared.time.Duration.{Duration}
-use Rattle.std.specs.declared.dyn_box.DynBox.{DynBox}
 use Rattle.cadence_errors.specs.declared.SinkError.{SinkError}
 use Rattle.cadence_errors.specs.declared.SinkError.TheVariants.{ChannelFull, Io, OutOfMemory}
 use Rattle.cadence_queue.specs.Answers.{IsQueueAnswer}
@@ -11,12 +9,10 @@ use Rattle.cadence_errors.specs.declared.MetricError.{MetricError}
 use Rattle.cadence_errors.specs.declared.MetricError.TheVariants.{Sink}
 use Rattle.cadence_queue.specs.declared.policy.QueuePolicy.{QueuePolicy}
 use Rattle.cadence_queue.specs.SharedQueue.{bound_of, rule_of}
-use Rattle.cadence_flow.specs.Handler.{closure_of}
 use Rattle.cadence_queuing.specs.declared.flushing.FlushingMetricSink.{FlushingMetricSink}
 use Rattle.cadence_queuing.specs.declared.repeater.Repeater.{Repeater}
 use Rattle.cadence_queuing.specs.declared.queuing.sink.QueuingMetricSink.{QueuingMetricSink}
 use Rattle.cadence_queuing.specs.declared.queuing.handed.Handed.{Handed}
-use Rattle.cadence_queuing.specs.declared.queuing.builder.QueuingMetricSinkBuilder.{QueuingMetricSinkBuilder}
 
 -- A queuing or a flushing sink is not made because memory ran out, or because the thread could not be started.
 abbrev pub IsQueuingRefusal : MetricError → Type 0
@@ -57,20 +53,3 @@ flush_period q = (arc_value q.shared).period
 -- the line that was handed to a sink
 abbrev pub handed_line : {S A : Type 0} {s : _} → Handed S A s → String A
 handed_line h = h.line.value
-
-module _ {A Y : Type 0} {G : Y → Type 0} {g : _} where
-  -- the capacity in lines that a builder has, or none
-  abbrev pub capacity_of : QueuingMetricSinkBuilder A Y G g → Option ℕ
-  capacity_of b = b.capacity
-
-  -- what the queue that a builder makes does with a line when it is full
-  abbrev pub policy_of : QueuingMetricSinkBuilder A Y G g → QueuePolicy
-  policy_of b = b.policy
-
-  -- the closure that receives the errors of the wrapped sink, if a builder has one
-  abbrev pub handler_of : QueuingMetricSinkBuilder A Y G g → Option (DynBox Y A G)
-  handler_of b = option_map closure_of b.handler
-
-  -- after which time the worker that a builder starts flushes the wrapped sink, or none if it never does
-  abbrev pub flush_period_of : QueuingMetricSinkBuilder A Y G g → Option Duration
-  flush_period_of b = b.period

@@ -1,5 +1,5 @@
 -- What contracts show of UDP sinks and of their builders, whose fields are private.
-use Rattle.std.specs.Prelude.{ℕ, Bool, Option}
+use Rattle.std.specs.Prelude.{ℕ, Bool, Option, None}
 use Rattle.std.specs.Option.{option_map}
 use Rattle.std.specs.declared.dyn_box.DynBox.{DynBox}
 use Rattle.std.specs.declared.alloc.Global.{Global}
@@ -19,19 +19,23 @@ looks_up_again s = is_periodic s.socket.socket.resolver
 abbrev pub SendsTo : {R A B : Type 0} → UdpMetricSink R A → Target B → Type 0
 SendsTo s target = KeepsAddress s.socket.socket.resolver target
 
+-- The options of a UDP sink.
+pub record UdpOptions (H : Type 0) : Type 0 where
+  -- the capacity of the buffer in bytes, if it was set; none for a sink that sends each line alone
+  pub capacity : Option ℕ
+  -- the time between two lookups of the target, or none if it is looked up once
+  pub period : Option Duration
+  -- the closure that receives the errors of lookups, if there is one
+  pub handler : Option H
+
+-- the options of a builder that has no setting
+abbrev pub no_options : {H : Type 0} → UdpOptions H
+no_options = record { capacity = None; period = None; handler = None }
+
 module _ {Y : Type 0} {G : Y → Type 0} {g : _} where
-  -- the time between two lookups that a builder has, or none
-  abbrev pub period_of : UdpMetricSinkBuilder Y G g → Option Duration
-  period_of b = b.period
+  -- the options that a builder has
+  abbrev pub options_of : UdpMetricSinkBuilder Y G g → UdpOptions (DynBox Y Global G)
+  options_of b = record { capacity = None; period = b.period; handler = option_map closure_of b.handler }
 
-  -- the closure that receives the errors of lookups, if a builder has one
-  abbrev pub lookup_handler_of : UdpMetricSinkBuilder Y G g → Option (DynBox Y Global G)
-  lookup_handler_of b = option_map closure_of b.handler
-
-  -- the capacity of the buffer in bytes, if a builder has one
-  abbrev pub buffered_capacity_of : BufferedUdpMetricSinkBuilder Y G g → Option ℕ
-  buffered_capacity_of b = b.capacity
-
-  -- the builder with the settings of the lookups, inside the builder of a buffered sink
-  abbrev pub lookups_of : BufferedUdpMetricSinkBuilder Y G g → UdpMetricSinkBuilder Y G g
-  lookups_of b = b.lookups
+  abbrev pub buffered_options : BufferedUdpMetricSinkBuilder Y G g → UdpOptions (DynBox Y Global G)
+  buffered_options b = record (options_of b.lookups) { capacity = b.capacity }

@@ -5,7 +5,7 @@ ghost use Rattle.std.specs.Prelude.{◌≡◌, ◌≤◌, false, IfOk, IfErr, is
 ghost use Rattle.cadence_resolve.specs.Refusals.{IsSocketRefusal};
 ghost use Rattle.cadence_sinks.specs.Host.{IsHostTarget, is_name, IsSameUnlessNamed};
 ghost use Rattle.cadence_sinks.specs.Buffers.{udp_buffer};
-ghost use Rattle.cadence_sinks.specs.Udp.{SendsTo, looks_up_again, lookups_of, period_of};
+ghost use Rattle.cadence_sinks.specs.Udp.{SendsTo, looks_up_again, options_of};
 
 use crate::{
     BufferedUdpMetricSink, BufferedUdpMetricSinkBuilder, UdpMetricSink, UdpMetricSinkBuilder,
@@ -47,7 +47,7 @@ fn without_name<A: Allocator>(target: Target<A>) -> Target<A>
 
 // Returns the settings of the lookups of a target: only a name is looked up again.
 fn lookups_for<A: Allocator>(target: &Target<A>) -> UdpMetricSinkBuilder
-    ensures { is_some (period_of result) ≡ is_name target.now }
+    ensures { is_some (options_of result).period ≡ is_name target.now }
 {
     let builder = UdpMetricSinkBuilder::new();
     match target {

@@ -5,7 +5,7 @@ ghost use Rattle.cadence_resolve.specs.Refusals.{IsSocketRefusal, IsTargetRefusa
 ghost use Rattle.cadence_stage.specs.Answered.{IsAnswered, IsFlushAnswered, answered_by_holding_nothing};
 ghost use Rattle.cadence_sinks.specs.Buffers.{udp_buffer};
 ghost use Rattle.cadence_sinks.specs.Sockets.{IsBufferedAnswer, IsBufferedFlush, IsSocketAnswer, is_io};
-ghost use Rattle.cadence_sinks.specs.Udp.{SendsTo, period_of, lookup_handler_of, looks_up_again, buffered_capacity_of, lookups_of};
+ghost use Rattle.cadence_sinks.specs.Udp.{SendsTo, buffered_options, looks_up_again, no_options, options_of};
 
 use crate::datagram::{CountedSocket, DatagramSocket, PackedSocket};
 use cadence_errors::{MetricResult, SinkError};
@@ -84,8 +84,7 @@ impl<R: Net + Wait + Drop, A: Allocator + Clone> UdpMetricSink<R, A> {
 impl<R: Wait + Drop, A: Allocator> UdpMetricSink<R, A> {
     /// Returns a builder without any setting.
     pub fn builder() -> UdpMetricSinkBuilder
-        ensures period { period_of result ≡ None }
-        ensures handler { lookup_handler_of result ≡ None }
+        ensures { options_of result ≡ no_options }
     {
         UdpMetricSinkBuilder::new()
     }
@@ -123,8 +122,7 @@ pub struct UdpMetricSinkBuilder {
 impl UdpMetricSinkBuilder {
     /// Returns a builder without any setting.
     pub fn new() -> Self
-        ensures period { period_of result ≡ None }
-        ensures handler { lookup_handler_of result ≡ None }
+        ensures { options_of result ≡ no_options }
     {
         UdpMetricSinkBuilder {
             period: None,
@@ -136,8 +134,7 @@ impl UdpMetricSinkBuilder {
     /// a second has passed since the last lookup. The thread sleeps in between. A period below one millisecond counts
     /// as one millisecond. The drop of the sink wakes the thread, which then ends after one more lookup at the latest.
     pub fn with_resolver_period(mut self, period: Duration) -> Self
-        ensures period { period_of result ≡ Some period }
-        ensures handler { lookup_handler_of result ≡ lookup_handler_of self }
+        ensures { options_of result ≡ record (options_of self) { period = Some period } }
     {
         self.period = Some(period);
         self
@@ -147,8 +144,7 @@ impl UdpMetricSinkBuilder {
     /// `NoAddresses` if one gives no address. It runs in the thread that looks up. Without a period it is never called.
     pub fn with_resolver_error_handler(mut self, handler: SinkErrorHandler) -> Self
         requires { IsAlwaysCallable handler }
-        ensures period { period_of result ≡ period_of self }
-        ensures handler { lookup_handler_of result ≡ Some handler }
+        ensures { options_of result ≡ record (options_of self) { handler = Some handler } }
     {
         self.handler = Some(Handler::new(handler));
         self
@@ -165,10 +161,10 @@ impl UdpMetricSinkBuilder {
         target: Target<A>,
         socket: UdpSocket,
     ) -> MetricResult<UdpMetricSink<R, A>>
-        ensures periodic { IfOk result (λ s. looks_up_again s ≡ is_some (period_of self)) }
+        ensures periodic { IfOk result (λ s. looks_up_again s ≡ is_some (options_of self).period) }
         ensures address { IfOk result (λ s. SendsTo s target) }
         ensures refused { IfErr result (λ e. IsSocketRefusal e) }
-        ensures once { period_of self ≡ None → IfErr result (λ e. IsTargetRefusal target e) }
+        ensures once { (options_of self).period ≡ None → IfErr result (λ e. IsTargetRefusal target e) }
     {
         let family = Family::of_socket(&socket);
         let resolver = Resolver::new(&rt, &alloc, target, family, self.period, self.handler)?;
@@ -236,9 +232,7 @@ impl<R: Net + Wait + Clone + Drop, A: Allocator + Clone> BufferedUdpMetricSink<R
 impl<R: Wait + Drop, A: Allocator> BufferedUdpMetricSink<R, A> {
     /// Returns a builder without any setting.
     pub fn builder() -> BufferedUdpMetricSinkBuilder
-        ensures capacity { buffered_capacity_of result ≡ None }
-        ensures period { period_of (lookups_of result) ≡ None }
-        ensures handler { lookup_handler_of (lookups_of result) ≡ None }
+        ensures { buffered_options result ≡ no_options }
     {
         BufferedUdpMetricSinkBuilder::new()
     }
@@ -279,9 +273,7 @@ pub struct BufferedUdpMetricSinkBuilder {
 impl BufferedUdpMetricSinkBuilder {
     /// Returns a builder without any setting.
     pub fn new() -> Self
-        ensures capacity { buffered_capacity_of result ≡ None }
-        ensures period { period_of (lookups_of result) ≡ None }
-        ensures handler { lookup_handler_of (lookups_of result) ≡ None }
+        ensures { buffered_options result ≡ no_options }
     {
         BufferedUdpMetricSinkBuilder {
             capacity: None,
@@ -291,7 +283,7 @@ impl BufferedUdpMetricSinkBuilder {
 
     // Returns a builder with these settings of the lookups, and without a capacity.
     pub(crate) fn of_lookups(lookups: UdpMetricSinkBuilder) -> Self
-        ensures { lookups_of result ≡ lookups }
+        ensures { buffered_options result ≡ options_of lookups }
     {
         BufferedUdpMetricSinkBuilder {
             capacity: None,
@@ -302,8 +294,8 @@ impl BufferedUdpMetricSinkBuilder {
     /// Sets the capacity of the buffer, in bytes. More than 65,507 are a mistake over IPv4, as the comment of
     /// `BufferedUdpMetricSink` says.
     pub fn with_capacity(mut self, capacity: usize) -> Self
-        ensures capacity { buffered_capacity_of result ≡ Some capacity }
-        ensures lookups { lookups_of result ≡ lookups_of self }
+        ensures { buffered_options result
+            ≡ record (buffered_options self) { capacity = Some capacity } }
     {
         self.capacity = Some(capacity);
         self
@@ -311,10 +303,8 @@ impl BufferedUdpMetricSinkBuilder {
 
     /// Sets a period, as `UdpMetricSinkBuilder::with_resolver_period` does.
     pub fn with_resolver_period(self, period: Duration) -> Self
-        ensures capacity { buffered_capacity_of result ≡ buffered_capacity_of self }
-        ensures period { period_of (lookups_of result) ≡ Some period }
-        ensures handler { lookup_handler_of (lookups_of result)
-            ≡ lookup_handler_of (lookups_of self) }
+        ensures { buffered_options result
+            ≡ record (buffered_options self) { period = Some period } }
     {
         BufferedUdpMetricSinkBuilder {
             capacity: self.capacity,
@@ -325,9 +315,8 @@ impl BufferedUdpMetricSinkBuilder {
     /// Sets the handler of lookups, as `UdpMetricSinkBuilder::with_resolver_error_handler` does.
     pub fn with_resolver_error_handler(self, handler: SinkErrorHandler) -> Self
         requires { IsAlwaysCallable handler }
-        ensures capacity { buffered_capacity_of result ≡ buffered_capacity_of self }
-        ensures period { period_of (lookups_of result) ≡ period_of (lookups_of self) }
-        ensures handler { lookup_handler_of (lookups_of result) ≡ Some handler }
+        ensures { buffered_options result
+            ≡ record (buffered_options self) { handler = Some handler } }
     {
         BufferedUdpMetricSinkBuilder {
             capacity: self.capacity,
@@ -347,9 +336,9 @@ impl BufferedUdpMetricSinkBuilder {
         socket: UdpSocket,
     ) -> MetricResult<BufferedUdpMetricSink<R, A>>
         ensures buffer { IfOk result (λ s.
-            udp_buffer s ≡ unwrap_or (buffered_capacity_of self) 512) }
+            udp_buffer s ≡ unwrap_or (buffered_options self).capacity 512) }
         ensures refused { IfErr result (λ e. IsSocketRefusal e) }
-        ensures once { period_of (lookups_of self) ≡ None →
+        ensures once { (buffered_options self).period ≡ None →
             IfErr result (λ e. IsTargetRefusal target e) }
     {
         let capacity = self.capacity.unwrap_or(DEFAULT_CAPACITY);

@@ -1,7 +1,7 @@
 //! The builder of a queuing sink, which starts its worker.
 ghost use Rattle.std.specs.Prelude.{◌≡◌, IfOk, IfErr, Some, None};
-ghost use Rattle.cadence_queuing.specs.Queuing.{IsQueuingRefusal, wrapped_sink, queue_capacity, queue_policy, flush_period, capacity_of, policy_of, handler_of, flush_period_of};
-ghost use Rattle.cadence_queue.specs.declared.policy.QueuePolicy.TheVariants.{Refuse};
+ghost use Rattle.cadence_queuing.specs.Builder.{IsMadeBy, no_options, options_of, plain_queue};
+ghost use Rattle.cadence_queuing.specs.Queuing.{IsQueuingRefusal};
 
 use super::QueuingMetricSink;
 use super::worker::{Part, Shared, Worker};
@@ -36,10 +36,7 @@ pub struct QueuingMetricSinkBuilder<A: Allocator = Global> {
 impl<A: Allocator> QueuingMetricSinkBuilder<A> {
     /// Returns a builder without any setting.
     pub fn new() -> Self
-        ensures capacity { capacity_of result ≡ None }
-        ensures policy { policy_of result ≡ Refuse }
-        ensures handler { handler_of result ≡ None }
-        ensures period { flush_period_of result ≡ None }
+        ensures { options_of result ≡ no_options }
     {
         QueuingMetricSinkBuilder {
             capacity: None,
@@ -51,10 +48,7 @@ impl<A: Allocator> QueuingMetricSinkBuilder<A> {
 
     /// Sets the capacity of the queue, in lines.
     pub fn with_capacity(mut self, capacity: usize) -> Self
-        ensures capacity { capacity_of result ≡ Some capacity }
-        ensures policy { policy_of result ≡ policy_of self }
-        ensures handler { handler_of result ≡ handler_of self }
-        ensures period { flush_period_of result ≡ flush_period_of self }
+        ensures { options_of result ≡ record (options_of self) { capacity = Some capacity } }
     {
         self.capacity = Some(capacity);
         self
@@ -63,10 +57,7 @@ impl<A: Allocator> QueuingMetricSinkBuilder<A> {
     /// Sets what a full queue does with a new line: it refuses the new line, or drops its oldest one, whose `emit` has
     /// long returned `Ok`. A dropped line is only counted, by `QueuingMetricSink::dropped`.
     pub fn with_policy(mut self, policy: QueuePolicy) -> Self
-        ensures capacity { capacity_of result ≡ capacity_of self }
-        ensures policy { policy_of result ≡ policy }
-        ensures handler { handler_of result ≡ handler_of self }
-        ensures period { flush_period_of result ≡ flush_period_of self }
+        ensures { options_of result ≡ record (options_of self) { policy = policy } }
     {
         self.policy = policy;
         self
@@ -77,10 +68,7 @@ impl<A: Allocator> QueuingMetricSinkBuilder<A> {
     /// handler that owns a handle of this queue keeps the queue and its worker alive until somebody stops the queue.
     pub fn with_error_handler(mut self, handler: SinkErrorHandler<A>) -> Self
         requires { IsAlwaysCallable handler }
-        ensures capacity { capacity_of result ≡ capacity_of self }
-        ensures policy { policy_of result ≡ policy_of self }
-        ensures handler { handler_of result ≡ Some handler }
-        ensures period { flush_period_of result ≡ flush_period_of self }
+        ensures { options_of result ≡ record (options_of self) { handler = Some handler } }
     {
         self.handler = Some(Handler::new(handler));
         self
@@ -98,10 +86,7 @@ impl<A: Allocator> QueuingMetricSinkBuilder<A> {
     /// if the clock can't be read, it flushes the sink whenever it has no more lines in hand, and tries a failed flush
     /// again after each look at the queue, and after a millisecond if no line comes.
     pub fn with_flush_period(mut self, period: Duration) -> Self
-        ensures capacity { capacity_of result ≡ capacity_of self }
-        ensures policy { policy_of result ≡ policy_of self }
-        ensures handler { handler_of result ≡ handler_of self }
-        ensures period { flush_period_of result ≡ Some period }
+        ensures { options_of result ≡ record (options_of self) { period = Some period } }
     {
         self.period = Some(period);
         self
@@ -115,10 +100,7 @@ fn make_sink<S: MetricSink, R: Wait + Drop, A: Allocator + Clone>(
     sink: S,
     builder: &QueuingMetricSinkBuilder<A>,
 ) -> MetricResult<QueuingMetricSink<S, R, A>>
-    ensures wrapped { IfOk result (λ q. wrapped_sink q ≡ sink) }
-    ensures capacity { IfOk result (λ q. queue_capacity q ≡ capacity_of builder.now) }
-    ensures policy { IfOk result (λ q. queue_policy q ≡ policy_of builder.now) }
-    ensures period { IfOk result (λ q. flush_period q ≡ flush_period_of builder.now) }
+    ensures made { IfOk result (IsMadeBy (options_of builder.now) sink) }
     ensures refused { IfErr result IsQueuingRefusal }
 {
     let queue = SharedQueue::with_policy(alloc.clone()?, builder.capacity, builder.policy)?;
@@ -159,10 +141,7 @@ impl<A: Allocator + Clone + Send + Sync + 'static> QueuingMetricSinkBuilder<A> {
         S: MetricSink + Send + Sync + 'static,
         R: Wait + Clock + Threads + Clone + Drop + Send + Sync + 'static,
     >(self, rt: R, alloc: A, sink: S) -> MetricResult<QueuingMetricSink<S, R, A>>
-        ensures wrapped { IfOk result (λ q. wrapped_sink q ≡ sink) }
-        ensures capacity { IfOk result (λ q. queue_capacity q ≡ capacity_of self) }
-        ensures policy { IfOk result (λ q. queue_policy q ≡ policy_of self) }
-        ensures period { IfOk result (λ q. flush_period q ≡ flush_period_of self) }
+        ensures made { IfOk result (IsMadeBy (options_of self) sink) }
         ensures refused { IfErr result IsQueuingRefusal }
     {
         let sink = make_sink(rt, alloc, sink, &self)?;
@@ -180,10 +159,7 @@ impl<
     /// Makes a sink with an unbounded queue, and starts its worker thread. The errors are `OutOfMemory`, and `Io` if
     /// the thread can't be started. The wrapped sink is dropped then.
     pub fn from(rt: R, alloc: A, sink: S) -> MetricResult<Self>
-        ensures wrapped { IfOk result (λ q. wrapped_sink q ≡ sink) }
-        ensures capacity { IfOk result (λ q. queue_capacity q ≡ None) }
-        ensures policy { IfOk result (λ q. queue_policy q ≡ Refuse) }
-        ensures period { IfOk result (λ q. flush_period q ≡ None) }
+        ensures made { IfOk result (IsMadeBy (plain_queue None) sink) }
         ensures refused { IfErr result IsQueuingRefusal }
     {
         QueuingMetricSinkBuilder::new().build(rt, alloc, sink)
@@ -192,10 +168,7 @@ impl<
     /// Makes a sink with a queue of at most `capacity` lines, and starts its worker thread. The errors are
     /// `OutOfMemory`, and `Io` if the thread can't be started. The wrapped sink is dropped then.
     pub fn with_capacity(rt: R, alloc: A, sink: S, capacity: usize) -> MetricResult<Self>
-        ensures wrapped { IfOk result (λ q. wrapped_sink q ≡ sink) }
-        ensures capacity { IfOk result (λ q. queue_capacity q ≡ Some capacity) }
-        ensures policy { IfOk result (λ q. queue_policy q ≡ Refuse) }
-        ensures period { IfOk result (λ q. flush_period q ≡ None) }
+        ensures made { IfOk result (IsMadeBy (plain_queue (Some capacity)) sink) }
         ensures refused { IfErr result IsQueuingRefusal }
     {
         let builder = QueuingMetricSinkBuilder::new().with_capacity(capacity);
@@ -206,10 +179,7 @@ impl<
 impl<S: MetricSink, R: Wait + Drop, A: Allocator> QueuingMetricSink<S, R, A> {
     /// Returns a builder without any setting.
     pub fn builder() -> QueuingMetricSinkBuilder<A>
-        ensures capacity { capacity_of result ≡ None }
-        ensures policy { policy_of result ≡ Refuse }
-        ensures handler { handler_of result ≡ None }
-        ensures period { flush_period_of result ≡ None }
+        ensures { options_of result ≡ no_options }
     {
         QueuingMetricSinkBuilder::new()
     }
