@@ -33,7 +33,7 @@ WANTS_TAG = b'TAG is K:V or V, and has no comma, bar or second colon, as in `c v
 WANTS_LENGTH = b'the metric is longer than a datagram can be'
 WANTS_TEXT = b'not UTF-8: wants text, as in `c visits 1 page:home`'
 WANTED = {
-    'DD_DOGSTATSD_URL': 'udp://HOST, udp://HOST:PORT or unix:///PATH',
+    'DD_DOGSTATSD_URL': 'udp://HOST[:PORT] or unix:///PATH, datagrams only',
     'DD_AGENT_HOST': 'a host, as in DD_AGENT_HOST=127.0.0.1',
     'DD_DOGSTATSD_PORT': 'a port, as in DD_DOGSTATSD_PORT=8125',
     'STATSD_HOST': 'a host, as in STATSD_HOST=127.0.0.1',

@@ -28,7 +28,7 @@ pub enum Target {
 ///
 /// | Variable | What it sets |
 /// |---|---|
-/// | `DD_DOGSTATSD_URL` | where to send: `udp://HOST`, `udp://HOST:PORT` or `unix:///PATH` |
+/// | `DD_DOGSTATSD_URL` | where to send: `udp://HOST`, `udp://HOST:PORT`, or `unix:///PATH`, also written `unixgram:///PATH` |
 /// | `DD_AGENT_HOST`, `DD_DOGSTATSD_PORT` | the host and the port, if `DD_DOGSTATSD_URL` isn't set |
 /// | `STATSD_HOST`, `STATSD_PORT` | the host and the port, if none of the three above is set |
 /// | `DD_ENV`, `DD_SERVICE`, `DD_VERSION` | the tags `env:..`, `service:..` and `version:..`, in this order |

@@ -40,17 +40,28 @@ pub record IsAuthority (text host : List ℕ) (port : ℕ) : Type 0 where
   pub shows : ((shown ≡ host) × All (λ byte. byte ≢ 58) host) ⊎ (shown ≡ 91 ∷ (host ++ 93 ∷ []))
   pub ends : EndsWithPort rest port
 
+-- The text can be the path of a Unix socket, and begins at the root.
+abbrev pub IsAbsolute : List ℕ → Type 0
+IsAbsolute text = IsPath text × (slice_index text 0 ≡ 47)
+
 -- The text is this path of a Unix socket, and begins at the root.
 abbrev pub SaysPath : {A : Type 0} → List ℕ → Destination A → Type 0
 SaysPath text (Udp host port) = ⊥
-SaysPath text (Unix path) = (string_bytes path ≡ text) × IsPath text × (slice_index text 0 ≡ 47)
+SaysPath text (Unix path) = (string_bytes path ≡ text) × IsAbsolute text
 
--- The URL says this destination: udp://HOST, udp://HOST:PORT or unix:///PATH.
+-- The URL has this after `unix://` or `unixgram://`, which mean the same.
+abbrev pub HasAfterUnix : List ℕ → List ℕ → Type 0
+HasAfterUnix url text = (url ≡ codes "unix://" ++ text) ⊎ (url ≡ codes "unixgram://" ++ text)
+
+-- The URL says this path of a Unix socket.
+abbrev pub IsPathUrl : List ℕ → List ℕ → Type 0
+IsPathUrl url path = HasAfterUnix url path × IsAbsolute path
+
+-- The URL says this destination: udp://HOST, udp://HOST:PORT, unix:///PATH or unixgram:///PATH.
 abbrev pub SaysUrl : {A : Type 0} → List ℕ → Destination A → Type 0
 SaysUrl url (Udp host port) =
     (text : List ℕ) × (url ≡ codes "udp://" ++ text) × IsAuthority text (string_bytes host) port
-SaysUrl url (Unix path) =
-    (url ≡ codes "unix://" ++ string_bytes path) × IsPath (string_bytes path) × (slice_index (string_bytes path) 0 ≡ 47)
+SaysUrl url (Unix path) = IsPathUrl url (string_bytes path)
 
 -- The text of a variable says this host. If the variable is not set, the host is this machine.
 pub record SaysHost (text host : List ℕ) : Type 0 where

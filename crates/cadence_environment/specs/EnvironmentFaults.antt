@@ -1,7 +1,9 @@
 -- Why nothing is read from the environment.
 use Rattle.std.specs.Prelude.{◌≡◌, ◌≢◌, ◌⊎◌, ⊤, ℕ, List, []}
+use Rattle.cadence_value.specs.Finds.{HasNone}
 use Rattle.cadence_errors.specs.declared.input_error.InputError.{InputError}
 use Rattle.cadence_errors.specs.declared.input_error.InputError.TheVariants.{Unusable, OutOfMemory}
+use Rattle.cadence_environment.specs.Destinations.{IsPathUrl}
 use Rattle.cadence_environment.specs.declared.variables.Variable.{Variable}
 use Rattle.cadence_environment.specs.declared.variables.Variable.TheVariants.{Url, AgentHost, AgentPort, StatsdHost, StatsdPort}
 use Rattle.cadence_environment.specs.declared.variables.Variable.TheVariants.{Env, Service, Version, Tags, EntityId}
@@ -11,6 +13,11 @@ use Rattle.cadence_environment.specs.declared.variables.Variables.{Variables}
 abbrev pub IsFaultOf : Variable → InputError Variable → Type 0
 IsFaultOf variable (Unusable other) = other ≡ variable
 IsFaultOf variable OutOfMemory = ⊤
+
+-- This holds, or the error says that memory ran out.
+abbrev pub IsMemoryOr : Type 0 → InputError Variable → Type 0
+IsMemoryOr fact (Unusable variable) = fact
+IsMemoryOr fact OutOfMemory = ⊤
 
 -- The variable is set, and no other one overrides it.
 abbrev pub IsRead : Variables → Variable → Type 0
@@ -29,6 +36,11 @@ IsRead v EntityId = v.entity_id.now ≢ []
 abbrev pub IsRefusedVariable : Variables → InputError Variable → Type 0
 IsRefusedVariable v (Unusable variable) = IsRead v variable
 IsRefusedVariable v OutOfMemory = ⊤
+
+-- The error doesn't name a variable that says the path of a Unix socket.
+abbrev pub NamesNoPath : Variables → InputError Variable → Type 0
+NamesNoPath v (Unusable Url) = HasNone (IsPathUrl v.url.now)
+NamesNoPath v _ = ⊤
 
 -- The error names this variable, which is set, or says that memory ran out.
 abbrev pub IsSetFault : Variable → List ℕ → InputError Variable → Type 0

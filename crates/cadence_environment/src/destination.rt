@@ -1,9 +1,9 @@
 //! Where the variables say to send.
-ghost use Rattle.std.specs.Prelude.{◌≡◌, ◌↔◌, IfErr, IfOk, IfSome, IsTrue, OnErr};
+ghost use Rattle.std.specs.Prelude.{◌≡◌, ◌↔◌, IfErr, IfNone, IfOk, IfSome, IsTrue, OnErr};
 ghost use Rattle.cadence_value.specs.Finds.{Finds, HasNone};
-ghost use Rattle.cadence_environment.specs.Destinations.{EndsWithPort, IsAuthority, IsHost, IsHostByte, IsPort, NamesHost};
+ghost use Rattle.cadence_environment.specs.Destinations.{EndsWithPort, HasAfterUnix, IsAbsolute, IsAuthority, IsHost, IsHostByte, IsPathUrl, IsPort, NamesHost};
 ghost use Rattle.cadence_environment.specs.Destinations.{SaysHost, SaysHostAndPort, SaysPath, SaysPlace, SaysPort, SaysUrl};
-ghost use Rattle.cadence_environment.specs.EnvironmentFaults.{IsFaultOf, IsPairFault, IsRefusedVariable, IsSetFault};
+ghost use Rattle.cadence_environment.specs.EnvironmentFaults.{IsFaultOf, IsMemoryOr, IsPairFault, IsRefusedVariable, IsSetFault, NamesNoPath};
 ghost use Rattle.cadence_environment.specs.declared.variables.Variable.TheVariants as variable;
 
 use crate::error::EnvironmentError;
@@ -125,6 +125,7 @@ fn read_authority(text: &str) -> Option<(&str, u16)>
 fn read_path<A: Allocator>(alloc: A, path: &str) -> Result<Destination<A>, EnvironmentError>
     ensures said { IfOk result (SaysPath path.now) }
     ensures refused { IfErr result (IsFaultOf variable.Url) }
+    ensures paths { IfErr result (IsMemoryOr (IsAbsolute path.now → ⊥)) }
 {
     if !path.starts_with('/') || check_path(path).is_err() {
         return Err(EnvironmentError::Unusable(Variable::Url));
@@ -133,12 +134,24 @@ fn read_path<A: Allocator>(alloc: A, path: &str) -> Result<Destination<A>, Envir
     Ok(Destination::Unix { path })
 }
 
-// Reads a URL: udp://HOST, udp://HOST:PORT or unix:///PATH.
+// Returns what a URL has after `unix://` or `unixgram://`, which mean the same.
+fn after_unix(url: &str) -> Option<&str>
+    ensures found { IfSome result (λ text. HasAfterUnix url.now text.now) }
+    ensures none { IfNone result (HasNone (HasAfterUnix url.now)) }
+{
+    match url.strip_prefix("unix://") {
+        Some(text) => Some(text),
+        None => url.strip_prefix("unixgram://"),
+    }
+}
+
+// Reads a URL: udp://HOST, udp://HOST:PORT, unix:///PATH or unixgram:///PATH.
 fn read_url<A: Allocator>(alloc: A, url: &str) -> Result<Destination<A>, EnvironmentError>
     ensures said { IfOk result (SaysUrl url.now) }
     ensures refused { IfErr result (IsFaultOf variable.Url) }
+    ensures paths { IfErr result (IsMemoryOr (HasNone (IsPathUrl url.now))) }
 {
-    if let Some(path) = url.strip_prefix("unix://") {
+    if let Some(path) = after_unix(url) {
         return read_path(alloc, path);
     }
     let Some(authority) = url.strip_prefix("udp://") else {
@@ -203,6 +216,7 @@ pub(crate) fn read_destination<A: Allocator>(
 ) -> Result<Destination<A>, EnvironmentError>
     ensures said { IfOk result (SaysPlace variables.now) }
     ensures refused { IfErr result (IsRefusedVariable variables.now) }
+    ensures paths { IfErr result (NamesNoPath variables.now) }
 {
     if !variables.url.is_empty() {
         return read_url(alloc, variables.url);

@@ -2,7 +2,7 @@
 ghost use Rattle.std.specs.Prelude.{◌≡◌, IfErr, IfOk, map};
 ghost use Rattle.cadence_text.specs.Owned.{tag_of_owned};
 ghost use Rattle.cadence_environment.specs.Destinations.{SaysPlace};
-ghost use Rattle.cadence_environment.specs.EnvironmentFaults.{IsRefusedVariable};
+ghost use Rattle.cadence_environment.specs.EnvironmentFaults.{IsRefusedVariable, NamesNoPath};
 ghost use Rattle.cadence_environment.specs.TagTexts.{tags_said};
 
 use crate::destination::{Destination, read_destination};
@@ -46,7 +46,7 @@ impl<A: Allocator + Clone> Environment<A> {
     ///
     /// # Errors
     /// `Unusable` with a variable that can't be used as it is set, and `OutOfMemory`. A variable that another one
-    /// overrides is never the reason.
+    /// overrides is never the reason, nor is one that says the path of a Unix socket.
     pub fn from_variables(
         alloc: A,
         variables: &Variables<'_>,
@@ -54,6 +54,7 @@ impl<A: Allocator + Clone> Environment<A> {
         ensures place { IfOk result (λ e. SaysPlace variables.now (destination_of e)) }
         ensures tags { IfOk result (λ e. tags_of e ≡ tags_said variables.now) }
         ensures refused { IfErr result (IsRefusedVariable variables.now) }
+        ensures paths { IfErr result (NamesNoPath variables.now) }
     {
         let destination = read_destination(alloc.clone()?, variables)?;
         let tags = read_tags(alloc, variables)?;

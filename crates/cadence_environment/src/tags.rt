@@ -4,7 +4,7 @@ ghost use Rattle.std.specs.Option.{option_copied};
 ghost use Rattle.cadence_text.specs.Owned.{tag_of_owned};
 ghost use Rattle.cadence_text.specs.Record.{tag_of};
 ghost use Rattle.std.specs.List.{flat_map, slice_split};
-ghost use Rattle.cadence_environment.specs.EnvironmentFaults.{IsFaultOf, IsRefusedVariable, IsSetFault};
+ghost use Rattle.cadence_environment.specs.EnvironmentFaults.{IsFaultOf, IsRefusedVariable, IsSetFault, NamesNoPath};
 ghost use Rattle.cadence_environment.specs.declared.variables.Variable.TheVariants as variable;
 ghost use Rattle.cadence_environment.specs.TagTexts.{is_overridden, own_tag, piece_tags, pieces_of, tag_of_text, tags_said};
 
@@ -184,6 +184,7 @@ pub(crate) fn read_tags<A: Allocator + Clone>(
 ) -> Result<Tags<A>, EnvironmentError>
     ensures said { IfOk result (λ tags. map tag_of_owned tags.items ≡ tags_said variables.now) }
     ensures refused { IfErr result (IsRefusedVariable variables.now) }
+    ensures paths { IfErr result (NamesNoPath variables.now) }
 {
     let mut tags = Vec::new(alloc);
     push_own(&mut tags, "env", Variable::Env, variables.env)?;

@@ -51,7 +51,8 @@ impl Reason for Variable {
     // None of these texts is longer than `MAX_DESCRIPTION`, so an error has the whole text.
     fn message(self) -> &'static str {
         match self {
-            Variable::Url => "DD_DOGSTATSD_URL wants udp://HOST, udp://HOST:PORT or unix:///PATH",
+            Variable::Url =>
+                "DD_DOGSTATSD_URL wants udp://HOST[:PORT] or unix:///PATH, datagrams only",
             Variable::AgentHost => "DD_AGENT_HOST wants a host, as in DD_AGENT_HOST=127.0.0.1",
             Variable::AgentPort => "DD_DOGSTATSD_PORT wants a port, as in DD_DOGSTATSD_PORT=8125",
             Variable::StatsdHost => "STATSD_HOST wants a host, as in STATSD_HOST=127.0.0.1",
