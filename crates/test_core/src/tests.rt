@@ -2,6 +2,7 @@
 //!
 //! - `error`: texts and kinds of errors.
 //! - `decimal`, `value`: numbers and values, and their texts.
+//! - `event`: lines of events and of service checks.
 //! - `line`: records of metrics. `draft`: lines that are made in a buffer.
 //! - `io`: packers of lines and their writers.
 //! - `queue`: the shared queue, and the end mark of its worker.
@@ -15,6 +16,7 @@ mod audited;
 mod decimal;
 mod draft;
 mod error;
+mod event;
 mod give_way;
 mod io;
 mod line;

@@ -1,0 +1,18 @@
+use Rattle.std.proofs.Common.{◌+◌, ◌-◌, ◌^◌, [], ◌++◌, ℕ, ap, arith, length}
+use Rattle.std.specs.Prelude.{min}
+use Rattle.std.proofs.lemmas.List.{length-append, length-replicate}
+use Rattle.cadence_events.proofs.writers.counted.Goals as goal
+
+pub returns : goal.returns
+returns g c =
+    let line = g.L.Lined.spelled c.args.source.now in
+    let count = c.push_to.new.line.length in
+    omega (
+      arith,
+      ap length (c.push_to.ensures.taken []),
+      length-replicate {A = ℕ} (min (count + 0) (2 ^ 128 - 1)) 0,
+      length-replicate {A = ℕ} (min (0 + length (line ++ [])) (2 ^ 128 - 1)) 0,
+      length-append line [],
+      c.length.ensures,
+      c.length.type_inv,
+    )

@@ -1,0 +1,6 @@
+pub mod Escapes
+pub mod Fields
+pub mod Event
+pub mod ServiceCheck
+pub mod Refusals
+pub mod LineWriters

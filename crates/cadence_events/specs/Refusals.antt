@@ -1,0 +1,42 @@
+-- Which text of an event or of a service check can't stand in a line, and what a call returns then.
+use Rattle.std.specs.Prelude.{◌≡◌, ℕ, ◌==◌, Bool, true, not, if◌then◌else◌, Option, None, Some, List, [], ◌∷◌, Result, Ok, Err, String}
+use Rattle.std.specs.Prelude.{string_bytes}
+use Rattle.std.specs.List.{list_all, list_any}
+use Rattle.cadence_errors.specs.declared.input_error.InputError.{InputError}
+use Rattle.cadence_errors.specs.declared.input_error.InputError.TheVariants.{Unusable, OutOfMemory}
+use Rattle.cadence_events.specs.declared.refusal.Unfit.{Unfit}
+use Rattle.cadence_events.specs.declared.refusal.Unfit.TheVariants as unfit
+use Rattle.cadence_events.specs.Event.{Event}
+use Rattle.cadence_events.specs.ServiceCheck.{ServiceCheck}
+use Rattle.cadence_text.specs.FreeTexts.{is_free_if_any, is_free_tag, is_free_text}
+
+-- the cause of the first test that failed
+abbrev pub first_failed : List (Bool × Unfit) → Option Unfit
+first_failed [] = None
+first_failed (test ∷ tests) = if test.0 then first_failed tests else Some test.1
+
+-- whether a message has no bar (124), if there is a message
+abbrev pub has_no_bar : Option (List ℕ) → Bool
+has_no_bar None = true
+has_no_bar (Some text) = not (list_any (λ byte. byte == 124) text)
+
+-- why an event has no line, if it has none: the first text with a separator. Its title and its text may have any byte.
+abbrev pub event_refusal : Event → Option Unfit
+event_refusal e =
+    first_failed ((is_free_if_any e.host, unfit.Host) ∷ (is_free_if_any e.key, unfit.AggregationKey) ∷ (is_free_if_any e.source, unfit.SourceType)
+    ∷ (list_all is_free_tag e.tags, unfit.Tags) ∷ (is_free_if_any e.container, unfit.Container) ∷ [])
+
+-- why a service check has no line, if it has none: the first text with a separator, or a message with a bar. A
+-- message may have any other byte.
+abbrev pub check_refusal : ServiceCheck → Option Unfit
+check_refusal c =
+    first_failed ((is_free_text c.name, unfit.Name) ∷ (is_free_if_any c.host, unfit.Host) ∷ (list_all is_free_tag c.tags, unfit.Tags)
+    ∷ (is_free_if_any c.container, unfit.Container) ∷ (has_no_bar c.message, unfit.Message) ∷ [])
+
+-- A call that makes a line returned this line, or memory ran out. If there is a cause to refuse the line, it returned
+-- this cause.
+abbrev pub MakesLine : {Z : Type 0} → Option Unfit → List ℕ → Result (String Z) (InputError Unfit) → Type 0
+MakesLine None line (Ok text) = string_bytes text ≡ line
+MakesLine None line (Err e) = e ≡ OutOfMemory
+MakesLine (Some why) line (Ok text) = ⊥
+MakesLine (Some why) line (Err e) = e ≡ Unusable why

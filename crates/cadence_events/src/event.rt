@@ -1,0 +1,214 @@
+//! Events: something that happened, with a title and a text that people read.
+ghost use Rattle.std.specs.Prelude.{◌≡◌, ◌<◌, ◌^◌, [], None, IfOk, SomeIff, length, string_bytes};
+ghost use Rattle.cadence_events.specs.Escapes.{escaped};
+ghost use Rattle.cadence_events.specs.Event.{Event, IsCutByLengths, alert_text, event_fields, event_head, event_line, event_of, priority_text};
+ghost use Rattle.cadence_events.specs.Refusals.{MakesLine, event_refusal};
+ghost use Rattle.cadence_value.specs.Takes.{Takes};
+
+use crate::escapes::{escaped_len, push_escaped};
+use crate::fields::{push_field, push_seconds, push_tags};
+use crate::refusal::{LineError, Unfit, any_is_free, tags_are_free};
+use crate::writers::{Lined, length_of, line_of};
+use cadence_text::line::Tag;
+use cadence_value::text::PieceWriter;
+use std::alloc::Allocator;
+
+/// How much an event matters. A server takes an event without a priority for a `Normal` one.
+#[derive(Clone, Copy, Debug, PartialEq, Eq)]
+pub enum Priority {
+    /// `low`
+    Low,
+    /// `normal`
+    Normal,
+}
+
+/// What kind of news an event is. A server takes an event without an alert type for an `Info`.
+#[derive(Clone, Copy, Debug, PartialEq, Eq)]
+pub enum AlertType {
+    /// `error`
+    Error,
+    /// `warning`
+    Warning,
+    /// `info`
+    Info,
+    /// `success`
+    Success,
+}
+
+impl Priority {
+    /// Returns the word that a line has.
+    pub fn text(self) -> &'static str
+        ensures { result.now ≡ priority_text self }
+    {
+        match self {
+            Priority::Low => "low",
+            Priority::Normal => "normal",
+        }
+    }
+}
+
+impl AlertType {
+    /// Returns the word that a line has.
+    pub fn text(self) -> &'static str
+        ensures { result.now ≡ alert_text self }
+    {
+        match self {
+            AlertType::Error => "error",
+            AlertType::Warning => "warning",
+            AlertType::Info => "info",
+            AlertType::Success => "success",
+        }
+    }
+}
+
+/// An event of DogStatsD, as data. It borrows its texts.
+///
+/// ```text
+/// let mut event = Event::new("Deploy", "version 2.1");
+/// event.alert = Some(AlertType::Info);
+/// let line = event.line(alloc)?; // _e{6,11}:Deploy|version 2.1|t:info
+/// ```
+#[derive(Clone, Copy, Debug)]
+pub struct Event<'a> {
+    /// The title. It may have any character: a newline is escaped.
+    pub title: &'a str,
+    /// The text. It may have any character: a newline is escaped.
+    pub text: &'a str,
+    /// When it happened, in seconds since 1970. Without it a server takes the time at which the line comes.
+    pub time: Option<u64>,
+    /// The name of the host.
+    pub host: Option<&'a str>,
+    /// The aggregation key: a server groups events that have the same one.
+    pub key: Option<&'a str>,
+    /// The priority.
+    pub priority: Option<Priority>,
+    /// The source type, for example `jenkins`.
+    pub source: Option<&'a str>,
+    /// The alert type.
+    pub alert: Option<AlertType>,
+    /// The tags.
+    pub tags: &'a [Tag<'a>],
+    /// The id of the container in which the sender runs.
+    pub container: Option<&'a str>,
+}
+
+// Writes the head of a line.
+#[tactic(auto, using(std::proofs::lemmas::Grind::common_steps))]
+fn push_head<S: PieceWriter>(line: &mut S, title: &str, text: &str)
+    ensures { Takes S.ends_as line.old
+        (event_head (escaped title.now) (escaped text.now)) line.new }
+{
+    line.take_piece("_e{");
+    line.take_number(escaped_len(title) as u64);
+    line.take_byte(b',');
+    line.take_number(escaped_len(text) as u64);
+    line.take_piece("}:");
+    push_escaped(line, title);
+    line.take_byte(b'|');
+    push_escaped(line, text);
+}
+
+impl<'a> Event<'a> {
+    /// Returns an event without optional fields.
+    pub fn new(title: &'a str, text: &'a str) -> Event<'a>
+        ensures { event_of result ≡ record {
+          title = title.now;
+          text = text.now;
+          time = None;
+          host = None;
+          key = None;
+          priority = None;
+          source = None;
+          alert = None;
+          tags = [];
+          container = None;
+        } }
+    {
+        Event {
+            title,
+            text,
+            time: None,
+            host: None,
+            key: None,
+            priority: None,
+            source: None,
+            alert: None,
+            tags: &[],
+            container: None,
+        }
+    }
+
+    // Writes the fields of a line.
+    #[tactic(auto, using(std::proofs::lemmas::Grind::common_steps))]
+    fn push_fields<S: PieceWriter>(&self, line: &mut S)
+        ensures { Takes S.ends_as line.old (event_fields (event_of self.now)) line.new }
+    {
+        push_seconds(line, self.time);
+        push_field(line, "|h:", self.host);
+        push_field(line, "|k:", self.key);
+        push_field(line, "|p:", self.priority.map(Priority::text));
+        push_field(line, "|s:", self.source);
+        push_field(line, "|t:", self.alert.map(AlertType::text));
+        push_tags(line, self.tags);
+        push_field(line, "|c:", self.container);
+    }
+
+    /// Returns the length of the line in bytes, without making the line: `None` if it passes `usize::MAX`. It takes no
+    /// memory. It is the length also if `line` would refuse the event.
+    pub fn line_len(&self) -> Option<usize>
+        ensures { SomeIff result (length (event_line (event_of self.now)) < 2 ^ 64)
+            (length (event_line (event_of self.now))) }
+    {
+        length_of(self)
+    }
+
+    /// Returns which text can't stand in the line, if there is one: the first one in the order of the line.
+    pub fn refusal(&self) -> Option<Unfit>
+        ensures { result ≡ event_refusal (event_of self.now) }
+    {
+        if !any_is_free(self.host) {
+            return Some(Unfit::Host);
+        }
+        if !any_is_free(self.key) {
+            return Some(Unfit::AggregationKey);
+        }
+        if !any_is_free(self.source) {
+            return Some(Unfit::SourceType);
+        }
+        if !tags_are_free(self.tags) {
+            return Some(Unfit::Tags);
+        }
+        if !any_is_free(self.container) {
+            return Some(Unfit::Container);
+        }
+        None
+    }
+
+    /// Returns the line, without a newline at its end. It takes memory once, as many bytes as the line has
+    /// (`line_len`).
+    ///
+    /// # Errors
+    /// `Unusable` with the text that `refusal` returns, if it returns one, before any memory is taken. Otherwise
+    /// `OutOfMemory`.
+    pub fn line<A: Allocator>(&self, alloc: A) -> Result<String<A>, LineError>
+        ensures line { MakesLine (event_refusal (event_of self.now))
+            (event_line (event_of self.now)) result }
+        ensures lengths { IfOk result (λ line. IsCutByLengths
+            (escaped (event_of self.now).title) (escaped (event_of self.now).text) (string_bytes line)) }
+    {
+        if let Some(why) = self.refusal() {
+            return Err(LineError::Unusable(why));
+        }
+        Ok(line_of(alloc, self)?)
+    }
+}
+
+impl Lined for Event<'_> {
+    ghost spelled = { λ e. event_line (event_of e) };
+
+    #[tactic(auto, unfolding(crate::specs::Event::event_line))]
+    fn push_to<S: PieceWriter>(&self, line: &mut S) {
+        push_head(line, self.title, self.text);
+        self.push_fields(line);
+    }
+}

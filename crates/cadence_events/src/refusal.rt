@@ -1,0 +1,98 @@
+//! Why the line of an event or of a service check was not made.
+//!
+//! A bar ends a field, a comma a tag, and a newline the line. The format has no escape for them, so a text with one of
+//! them would say something else to a server. The test is that of a strict client, which also refuses a colon.
+ghost use Rattle.std.specs.Prelude.{◌≡◌, map};
+ghost use Rattle.std.specs.List.{list_all};
+ghost use Rattle.std.specs.Option.{option_copied};
+ghost use Rattle.cadence_events.specs.Refusals.{has_no_bar};
+ghost use Rattle.cadence_text.specs.FreeTexts.{is_free_if_any, is_free_tag};
+ghost use Rattle.cadence_text.specs.Record.{tag_of};
+
+use cadence_errors::{InputError, Reason};
+use cadence_settings::{tag_is_free, text_is_free};
+use cadence_text::line::Tag;
+use std::fmt;
+
+/// Which text can't stand in a line. All but `Message` have a colon, a comma, a bar or a newline.
+#[derive(Clone, Copy, Debug, PartialEq, Eq)]
+pub enum Unfit {
+    /// The name of a service check.
+    Name,
+    /// The host.
+    Host,
+    /// The aggregation key of an event.
+    AggregationKey,
+    /// The source type of an event.
+    SourceType,
+    /// The key or the text of a tag.
+    Tags,
+    /// The id of the container.
+    Container,
+    /// The message of a service check, which has a bar.
+    Message,
+}
+
+/// Why a line was not made: `Unusable` with the first text that can't stand in it, or `OutOfMemory`. It is
+/// `OutOfMemory` also if the length of the line passes `usize::MAX`.
+pub type LineError = InputError<Unfit>;
+
+impl Reason for Unfit {
+    fn message(self) -> &'static str {
+        match self {
+            Unfit::Name => "separator in the name of a service check",
+            Unfit::Host => "separator in the host",
+            Unfit::AggregationKey => "separator in the aggregation key",
+            Unfit::SourceType => "separator in the source type",
+            Unfit::Tags => "separator in a tag",
+            Unfit::Container => "separator in the container",
+            Unfit::Message => "bar in the message of a service check",
+        }
+    }
+}
+
+/// Prints the text of the reason.
+impl fmt::Display for Unfit {
+    fn fmt<W: fmt::Write>(&self, f: &mut fmt::Formatter<W>) -> fmt::Result {
+        f.write_str(self.message())
+    }
+}
+
+/// Returns whether a text has no separator, if there is a text.
+pub(crate) fn any_is_free(text: Option<&str>) -> bool
+    ensures { result ≡ is_free_if_any (option_copied text.entry) }
+{
+    match text {
+        Some(text) => text_is_free(text),
+        None => true,
+    }
+}
+
+// Returns whether neither the key of a tag, if it has one, nor its text has a separator.
+fn is_free(tag: &Tag<'_>) -> bool
+    ensures { result ≡ is_free_tag (tag_of tag.now) }
+{
+    tag_is_free(tag.key, tag.text)
+}
+
+/// Returns whether no tag of the list has a separator.
+pub(crate) fn tags_are_free(tags: &[Tag<'_>]) -> bool
+    ensures { result ≡ list_all is_free_tag (map tag_of tags.now) }
+{
+    for tag in tags {
+        if !is_free(tag) {
+            return false;
+        }
+    }
+    true
+}
+
+/// Returns whether a message has no bar, if there is a message.
+pub(crate) fn is_without_bar(message: Option<&str>) -> bool
+    ensures { result ≡ has_no_bar (option_copied message.entry) }
+{
+    match message {
+        Some(message) => !message.as_bytes().contains(&b'|'),
+        None => true,
+    }
+}

@@ -1,0 +1,154 @@
+//! Service checks: the state of a service.
+ghost use Rattle.std.specs.Prelude.{◌≡◌, ◌<◌, ◌^◌, [], None, SomeIff, length};
+ghost use Rattle.cadence_events.specs.Refusals.{MakesLine, check_refusal};
+ghost use Rattle.cadence_events.specs.ServiceCheck.{ServiceCheck, check_line, check_of, status_text};
+ghost use Rattle.cadence_value.specs.Takes.{Takes};
+
+use crate::fields::{push_field, push_message_field, push_seconds, push_tags};
+use crate::refusal::{LineError, Unfit, any_is_free, is_without_bar, tags_are_free};
+use crate::writers::{Lined, length_of, line_of};
+use cadence_settings::text_is_free;
+use cadence_text::line::Tag;
+use cadence_value::text::PieceWriter;
+use std::alloc::Allocator;
+
+/// The state of a service.
+#[derive(Clone, Copy, Debug, PartialEq, Eq)]
+pub enum ServiceStatus {
+    /// `0`: it works.
+    Ok,
+    /// `1`: it works, but something is wrong.
+    Warning,
+    /// `2`: it doesn't work.
+    Critical,
+    /// `3`: its state isn't known.
+    Unknown,
+}
+
+impl ServiceStatus {
+    /// Returns the digit that a line has.
+    pub fn text(self) -> &'static str
+        ensures { result.now ≡ status_text self }
+    {
+        match self {
+            ServiceStatus::Ok => "0",
+            ServiceStatus::Warning => "1",
+            ServiceStatus::Critical => "2",
+            ServiceStatus::Unknown => "3",
+        }
+    }
+}
+
+/// A service check of DogStatsD, as data. It borrows its texts.
+///
+/// ```text
+/// let mut check = ServiceCheck::new("web", ServiceStatus::Critical);
+/// check.message = Some("no answer");
+/// let line = check.line(alloc)?; // _sc|web|2|m:no answer
+/// ```
+#[derive(Clone, Copy, Debug)]
+pub struct ServiceCheck<'a> {
+    /// The name of the service.
+    pub name: &'a str,
+    /// The state of the service.
+    pub status: ServiceStatus,
+    /// When it was in this state, in seconds since 1970. Without it a server takes the time at which the line comes.
+    pub time: Option<u64>,
+    /// The name of the host.
+    pub host: Option<&'a str>,
+    /// The tags.
+    pub tags: &'a [Tag<'a>],
+    /// The id of the container in which the sender runs.
+    pub container: Option<&'a str>,
+    /// Why the service is in this state. It may have any character but a bar: a newline and `m:` are escaped.
+    pub message: Option<&'a str>,
+}
+
+impl<'a> ServiceCheck<'a> {
+    /// Returns a service check without optional fields.
+    pub fn new(name: &'a str, status: ServiceStatus) -> ServiceCheck<'a>
+        ensures { check_of result ≡ record {
+          name = name.now;
+          status = status;
+          time = None;
+          host = None;
+          tags = [];
+          container = None;
+          message = None;
+        } }
+    {
+        ServiceCheck {
+            name,
+            status,
+            time: None,
+            host: None,
+            tags: &[],
+            container: None,
+            message: None,
+        }
+    }
+
+    /// Returns the length of the line in bytes, without making the line: `None` if it passes `usize::MAX`. It takes no
+    /// memory. It is the length also if `line` would refuse the service check.
+    pub fn line_len(&self) -> Option<usize>
+        ensures { SomeIff result (length (check_line (check_of self.now)) < 2 ^ 64)
+            (length (check_line (check_of self.now))) }
+    {
+        length_of(self)
+    }
+
+    /// Returns which text can't stand in the line, if there is one: the first one in the order of the line.
+    pub fn refusal(&self) -> Option<Unfit>
+        ensures { result ≡ check_refusal (check_of self.now) }
+    {
+        if !text_is_free(self.name) {
+            return Some(Unfit::Name);
+        }
+        if !any_is_free(self.host) {
+            return Some(Unfit::Host);
+        }
+        if !tags_are_free(self.tags) {
+            return Some(Unfit::Tags);
+        }
+        if !any_is_free(self.container) {
+            return Some(Unfit::Container);
+        }
+        if !is_without_bar(self.message) {
+            return Some(Unfit::Message);
+        }
+        None
+    }
+
+    /// Returns the line, without a newline at its end. It takes memory once, as many bytes as the line has
+    /// (`line_len`).
+    ///
+    /// # Errors
+    /// `Unusable` with the text that `refusal` returns, if it returns one, before any memory is taken. Otherwise
+    /// `OutOfMemory`.
+    pub fn line<A: Allocator>(&self, alloc: A) -> Result<String<A>, LineError>
+        ensures { MakesLine (check_refusal (check_of self.now))
+            (check_line (check_of self.now)) result }
+    {
+        if let Some(why) = self.refusal() {
+            return Err(LineError::Unusable(why));
+        }
+        Ok(line_of(alloc, self)?)
+    }
+}
+
+impl Lined for ServiceCheck<'_> {
+    ghost spelled = { λ c. check_line (check_of c) };
+
+    #[tactic(auto, using(std::proofs::lemmas::Grind::common_steps), unfolding(crate::specs::ServiceCheck::check_line))]
+    fn push_to<S: PieceWriter>(&self, line: &mut S) {
+        line.take_piece("_sc|");
+        line.take_piece(self.name);
+        line.take_byte(b'|');
+        line.take_piece(self.status.text());
+        push_seconds(line, self.time);
+        push_field(line, "|h:", self.host);
+        push_tags(line, self.tags);
+        push_field(line, "|c:", self.container);
+        push_message_field(line, self.message);
+    }
+}
