@@ -9,7 +9,7 @@
 //! - `sinks`: sinks over UDP and over Unix sockets, and queues. `agent`: clients of the environment and of an agent.
 //! - `aggregated`: a sink that adds up lines, and a client whose calls make no line.
 //! - `shop`: a service whose client adds up by keys, over a queue to the place that the environment says.
-//! - `texts`: records, numbers, plans of packets, and packets that are read back.
+//! - `texts`: records, events, service checks, numbers, plans of packets, and packets that are read back.
 //! - `service`: the service of `example_service`, and a sink that reports, with the datagrams that a server receives.
 //! - `ported`: a program of the Rust crate.
 #![tactic(auto)]

@@ -1,10 +1,11 @@
-//! Records, numbers, plans of packets, and packets that are read back.
+//! Records, events, service checks, numbers, plans of packets, and packets that are read back.
 
 use cadence::MetricResult;
 use cadence::decimal::Decimal;
 use cadence::line::{MetricType, Record, Tag};
 use cadence::schedule::plan_packets;
 use cadence::value::MetricValue;
+use cadence_events::{AlertType, Event, ServiceCheck, ServiceStatus};
 use cadence_read::{ReadFault, read_packet};
 use std::alloc::Global;
 
@@ -17,6 +18,22 @@ fn record_line(alloc: Global) -> MetricResult<String> {
         text: "home",
     })?;
     let line = record.format(alloc)?; // app.visits:1|c|#page:home
+    Ok(line)
+}
+
+// The example of `Event`.
+fn event_line(alloc: Global) -> MetricResult<String> {
+    let mut event = Event::new("Deploy", "version 2.1");
+    event.alert = Some(AlertType::Info);
+    let line = event.line(alloc)?; // _e{6,11}:Deploy|version 2.1|t:info
+    Ok(line)
+}
+
+// The example of `ServiceCheck`.
+fn check_line(alloc: Global) -> MetricResult<String> {
+    let mut check = ServiceCheck::new("web", ServiceStatus::Critical);
+    check.message = Some("no answer");
+    let line = check.line(alloc)?; // _sc|web|2|m:no answer
     Ok(line)
 }
 
@@ -45,7 +62,8 @@ fn metrics_in_packet(alloc: Global) -> Result<usize, ReadFault> {
 /// Runs the examples, and returns their results.
 pub fn report(alloc: Global) -> MetricResult<String> {
     let mut text = record_line(alloc)?;
-    text.push('\n')?;
+    writeln!(&mut text, "\n{}", event_line(alloc)?)?;
+    writeln!(&mut text, "{}", check_line(alloc)?)?;
     add_decimals(&mut text)?;
     writeln!(&mut text, "{} packets", packets_of_three(alloc)?)?;
     if let Ok(count) = metrics_in_packet(alloc) {
