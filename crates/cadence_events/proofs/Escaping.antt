@@ -20,7 +20,7 @@ unfolding escaped
 plain_text [] h = refl
 plain_text (b ∷ text) h = ap₂ (λ x y. x ++ y) (plain_byte b h.0) (plain_text text h.1)
 
--- A text without a newline stands in a line as it is.
+-- The escaped form of a text without a newline is the text itself.
 pub escaped_plain : (text : List ℕ) → All (λ b. b ≢ 10) text → escaped text ≡ text
 escaped_plain text h = plain_text text (recursion_from_All (λ b. b ≢ 10) text h)
 
@@ -66,7 +66,7 @@ last_later a b text =
     let next : length (a ∷ b ∷ text) - 1 ≡ suc (length (b ∷ text) - 1) = omega arith in
     sym (ap (λ n. get_or (a ∷ b ∷ text) n 0) next)
 
--- what stands between two bytes if this is whether the second one is a colon
+-- Before a byte that is no colon, nothing more is written.
 unmarked : (m : Bool) → (if (m && false) then codes "\\" else []) ≡ []
 unmarked true = refl
 unmarked false = refl

@@ -1,18 +1,18 @@
--- How a text of an event or of a service check stands in its line. A line ends at a newline, so a text has a
--- backslash and an `n` in its place.
+-- How the texts of events and service checks are escaped. A line ends at its first newline, so each newline of a text
+-- is written as a backslash and an `n`.
 use Rattle.std.specs.Prelude.{ℕ, ◌==◌, ◌&&◌, if◌then◌else◌, List, [], ◌∷◌, ◌++◌, codes}
 use Rattle.std.specs.List.{flat_map}
 
--- a byte as it stands in a line: a newline (10) is a backslash and an `n`
+-- the escaped form of a byte: a backslash and an `n` for a newline (10), and the byte itself for any other
 abbrev pub escaped_byte : ℕ → List ℕ
 escaped_byte byte = if byte == 10 then codes "\\n" else byte ∷ []
 
--- a text as it stands in a line
+-- the text with each byte escaped
 unfoldable pub escaped : List ℕ → List ℕ
 escaped text = flat_map escaped_byte text
 
--- what stands between two bytes of a message: a backslash between an `m` (109) and a colon (58), because a reader looks
--- for `m:`
+-- what is written between two bytes of a message: a backslash if they are an `m` (109) and a colon (58), because a
+-- server takes `m:` for the beginning of a message, and nothing otherwise
 abbrev pub between : ℕ → ℕ → List ℕ
 between a b = if a == 109 && b == 58 then codes "\\" else []
 
@@ -22,6 +22,6 @@ marked [] = []
 marked (a ∷ []) = a ∷ []
 marked (a ∷ b ∷ text) = a ∷ (between a b ++ marked (b ∷ text))
 
--- the message of a service check as it stands in a line
+-- the escaped message of a service check
 unfoldable pub escaped_message : List ℕ → List ℕ
 escaped_message text = escaped (marked text)

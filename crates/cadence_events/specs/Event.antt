@@ -53,8 +53,8 @@ alert_text Warning = codes "warning"
 alert_text Info = codes "info"
 alert_text Success = codes "success"
 
--- the head of a line, with the title and the text as they stand in it: `_e{5,4}:title|text`. The numbers are their
--- lengths in bytes.
+-- the first part of a line, made of the escaped title and the escaped text: `_e{5,4}:title|text`. The two numbers are
+-- the lengths in bytes of these escaped texts.
 abbrev pub event_head : List ℕ → List ℕ → List ℕ
 event_head title text =
     codes "_e{" ++ (decimal_text (length title) ++ (codes "," ++ (decimal_text (length text) ++ (codes "}:"

@@ -1,4 +1,4 @@
--- Which text of an event or of a service check can't stand in a line, and what a call returns then.
+-- Which texts of an event or of a service check are refused, and what a call returns if one of them is.
 use Rattle.std.specs.Prelude.{◌≡◌, ℕ, ◌==◌, Bool, true, not, if◌then◌else◌, Option, None, Some, List, [], ◌∷◌, Result, Ok, Err, String}
 use Rattle.std.specs.Prelude.{string_bytes}
 use Rattle.std.specs.List.{list_all, list_any}

@@ -162,7 +162,8 @@ impl<'a> Event<'a> {
         length_of(self)
     }
 
-    /// Returns which text can't stand in the line, if there is one: the first one in the order of the line.
+    /// Returns which text makes `line` refuse the event, or `None` if it accepts all of them. If there are several, it
+    /// is the one that comes first in the line.
     pub fn refusal(&self) -> Option<Unfit>
         ensures { result ≡ event_refusal (event_of self.now) }
     {
@@ -194,7 +195,8 @@ impl<'a> Event<'a> {
         ensures line { MakesLine (event_refusal (event_of self.now))
             (event_line (event_of self.now)) result }
         ensures lengths { IfOk result (λ line. IsCutByLengths
-            (escaped (event_of self.now).title) (escaped (event_of self.now).text) (string_bytes line)) }
+            (escaped (event_of self.now).title) (escaped (event_of self.now).text)
+            (string_bytes line)) }
     {
         if let Some(why) = self.refusal() {
             return Err(LineError::Unusable(why));
