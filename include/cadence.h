@@ -354,12 +354,15 @@ uint32_t cadence_decimal_of_double(double value, cadence_decimal_number *number)
 /* The same, with the decimal as which cadence_floating prints the double in a timer. */
 uint32_t cadence_rounded_of_double(double value, cadence_decimal_number *number);
 
-/* The values of the variables of the environment: DD_DOGSTATSD_URL, DD_AGENT_HOST, DD_DOGSTATSD_PORT, STATSD_HOST,
- * STATSD_PORT, DD_ENV, DD_SERVICE, DD_VERSION, DD_TAGS and DD_ENTITY_ID. A variable that isn't set has the empty text.
- * The number of a variable is its place here, from 0 on; cadence_variable_name returns its name. */
+/* The values of the variables of the environment: DD_DOGSTATSD_URL, DD_DOGSTATSD_SOCKET, DD_AGENT_HOST,
+ * DD_DOGSTATSD_PORT, STATSD_HOST, STATSD_PORT, DD_ENV, DD_SERVICE, DD_VERSION, DD_TAGS and DD_ENTITY_ID. A variable that
+ * isn't set has the empty text. The number of a variable is its place here, from 0 on; cadence_variable_name returns
+ * its name. */
 typedef struct cadence_variables {
     const uint8_t *url;
     size_t url_len;
+    const uint8_t *socket;
+    size_t socket_len;
     const uint8_t *agent_host;
     size_t agent_host_len;
     const uint8_t *agent_port;
@@ -382,10 +385,10 @@ typedef struct cadence_variables {
 
 /* Writes where the variables say to send into `out`, and sets *length to the length of that text in bytes: a host,
  * which is a name or an address without brackets, with its port in *port; or the absolute path of a Unix datagram
- * socket, with *port 0. DD_DOGSTATSD_URL wins over all others, and DD_AGENT_HOST and DD_DOGSTATSD_PORT over the rest.
- * By default it is 127.0.0.1 and 8125. Needs no client. Returns CADENCE_OK; CADENCE_TOO_SMALL, with the length of the
- * text in *length; or CADENCE_VARIABLE, with the number of the variable in *variable, or CADENCE_NO_MEMORY, with
- * *length 0. A variable that another one overrides is not tested. */
+ * socket, with *port 0. DD_DOGSTATSD_URL wins over all others, DD_DOGSTATSD_SOCKET over the rest, and DD_AGENT_HOST
+ * and DD_DOGSTATSD_PORT over STATSD_HOST and STATSD_PORT. By default it is 127.0.0.1 and 8125. Needs no client. Returns
+ * CADENCE_OK; CADENCE_TOO_SMALL, with the length of the text in *length; or CADENCE_VARIABLE, with the number of the
+ * variable in *variable, or CADENCE_NO_MEMORY, with *length 0. A variable that another one overrides is not tested. */
 uint32_t cadence_destination(const cadence_variables *variables, uint8_t *out, size_t out_len, size_t *length,
                              uint16_t *port, uint32_t *variable);
 
@@ -430,22 +433,22 @@ static inline size_t cadence_length_of(const char *text) {
 
 /* Returns the name of a variable, or null if none has the number. */
 static inline const char *cadence_variable_name(uint32_t variable) {
-    static const char *const names[] = { "DD_DOGSTATSD_URL", "DD_AGENT_HOST", "DD_DOGSTATSD_PORT", "STATSD_HOST",
-                                         "STATSD_PORT",      "DD_ENV",        "DD_SERVICE",        "DD_VERSION",
-                                         "DD_TAGS",          "DD_ENTITY_ID" };
+    static const char *const names[] = { "DD_DOGSTATSD_URL", "DD_DOGSTATSD_SOCKET", "DD_AGENT_HOST", "DD_DOGSTATSD_PORT",
+                                         "STATSD_HOST",      "STATSD_PORT",         "DD_ENV",        "DD_SERVICE",
+                                         "DD_VERSION",       "DD_TAGS",             "DD_ENTITY_ID" };
     return variable < sizeof names / sizeof names[0] ? names[variable] : CADENCE_NULL;
 }
 
 /* Returns the values of the variables, each as a function returns it for its name, or null if it isn't set: for example
  * getenv. They point to the values, so keep these alive. */
 static inline cadence_variables cadence_variables_of(char *(*value_of)(const char *name)) {
-    const char *at[10];
-    for (uint32_t i = 0; i < 10; i++) at[i] = value_of(cadence_variable_name(i));
+    const char *at[11];
+    for (uint32_t i = 0; i < 11; i++) at[i] = value_of(cadence_variable_name(i));
     cadence_variables variables;
 #define CADENCE_SET(field, i) (variables.field = CADENCE_BYTES(at[i]), variables.field##_len = cadence_length_of(at[i]))
-    CADENCE_SET(url, 0), CADENCE_SET(agent_host, 1), CADENCE_SET(agent_port, 2), CADENCE_SET(statsd_host, 3);
-    CADENCE_SET(statsd_port, 4), CADENCE_SET(env, 5), CADENCE_SET(service, 6), CADENCE_SET(version, 7);
-    CADENCE_SET(tags, 8), CADENCE_SET(entity_id, 9);
+    CADENCE_SET(url, 0), CADENCE_SET(socket, 1), CADENCE_SET(agent_host, 2), CADENCE_SET(agent_port, 3);
+    CADENCE_SET(statsd_host, 4), CADENCE_SET(statsd_port, 5), CADENCE_SET(env, 6), CADENCE_SET(service, 7);
+    CADENCE_SET(version, 8), CADENCE_SET(tags, 9), CADENCE_SET(entity_id, 10);
 #undef CADENCE_SET
     return variables;
 }

@@ -26,6 +26,9 @@ def send_to_path(program):
             agent = {**OVERRIDDEN, 'DD_DOGSTATSD_URL': f'unix://{path}', 'DD_ENV': 'prod'}
             got = result_of([program, 'c', 'a', '1'], b'', environment=agent)
             yield 'the path of the environment', (*got, next_datagram(server)), (0, b'', b'', b'a:1|c|#env:prod\n')
+            agent = {**OVERRIDDEN, 'DD_DOGSTATSD_URL': '', 'DD_DOGSTATSD_SOCKET': path}
+            got = result_of([program, *ONE], b'', environment=agent)
+            yield 'the path of a variable alone', (*got, next_datagram(server)), (0, b'', b'', ONE_SENT)
             longest = server.getsockopt(socket.SOL_SOCKET, socket.SO_SNDBUF) - 32
             long = result_of([*command, '--capacity', str(longest + 1)], b'')
             wants = f'--capacity {longest + 1}: wants at most {longest} bytes, the longest datagram to unix:{path}'

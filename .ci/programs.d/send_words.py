@@ -34,6 +34,7 @@ WANTS_LENGTH = b'the metric is longer than a datagram can be'
 WANTS_TEXT = b'not UTF-8: wants text, as in `c visits 1 page:home`'
 WANTED = {
     'DD_DOGSTATSD_URL': 'udp://HOST[:PORT] or unix:///PATH, datagrams only',
+    'DD_DOGSTATSD_SOCKET': 'an absolute path, as in /run/dsd.socket',
     'DD_AGENT_HOST': 'a host, as in DD_AGENT_HOST=127.0.0.1',
     'DD_DOGSTATSD_PORT': 'a port, as in DD_DOGSTATSD_PORT=8125',
     'STATSD_HOST': 'a host, as in STATSD_HOST=127.0.0.1',
@@ -47,11 +48,12 @@ WANTED = {
 # Variables and texts with which they can't be used. What the library's tests show of the others is not shown again.
 MALFORMED = [
     ('DD_DOGSTATSD_URL', 'tcp://host:1'), ('DD_DOGSTATSD_URL', 'udp://:1'), ('DD_DOGSTATSD_URL', f'unix://{LONGEST_PATH}a'),
-    ('DD_AGENT_HOST', '/run/s'), ('DD_DOGSTATSD_PORT', '0'), ('STATSD_HOST', b'\xff'), ('STATSD_PORT', '65536'),
+    ('DD_DOGSTATSD_SOCKET', 'run/s'), ('DD_AGENT_HOST', '/run/s'), ('DD_DOGSTATSD_PORT', '0'), ('STATSD_HOST', b'\xff'), ('STATSD_PORT', '65536'),
     ('STATSD_PORT', 'http'), ('STATSD_PORT', b'\xff'), ('DD_ENV', 'a,b'), ('DD_SERVICE', 'a|b'), ('DD_VERSION', 'a\nb'),
     ('DD_TAGS', ':v'), ('DD_ENTITY_ID', ','),
 ]
-OVERRIDDEN = {'DD_DOGSTATSD_URL': 'x', 'DD_AGENT_HOST': '/', 'DD_DOGSTATSD_PORT': 'x', 'STATSD_HOST': '/', 'STATSD_PORT': 'http'}
+OVERRIDDEN = {'DD_DOGSTATSD_URL': 'x', 'DD_DOGSTATSD_SOCKET': 'x', 'DD_AGENT_HOST': '/', 'DD_DOGSTATSD_PORT': 'x', 'STATSD_HOST': '/',
+              'STATSD_PORT': 'http'}
 WANTS_TARGET = b' wants HOST:PORT or unix:PATH, as in --to 127.0.0.1:8125'
 
 

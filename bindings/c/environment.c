@@ -6,7 +6,7 @@
 #include <stdlib.h>
 #include <string.h>
 
-enum { LONGEST = 4096, VARIABLES = 10 };
+enum { LONGEST = 4096, VARIABLES = 11 };
 
 static char values[VARIABLES][LONGEST];
 static bool is_set[VARIABLES];

@@ -6,9 +6,9 @@
 
 /* Reads the values of the variables, which are bytes, in the order of cadence.h. Returns false if it has set an exception. */
 static bool read_variables(PyObject *values, cadence_variables *to) {
-    return PyArg_ParseTuple(values, "y#y#y#y#y#y#y#y#y#y#", TEXT(url), TEXT(agent_host), TEXT(agent_port), TEXT(statsd_host),
-                            TEXT(statsd_port), TEXT(env), TEXT(service), TEXT(version),
-                            TEXT(tags), TEXT(entity_id));
+    return PyArg_ParseTuple(values, "y#y#y#y#y#y#y#y#y#y#y#", TEXT(url), TEXT(socket), TEXT(agent_host), TEXT(agent_port),
+                            TEXT(statsd_host), TEXT(statsd_port), TEXT(env), TEXT(service), TEXT(version), TEXT(tags),
+                            TEXT(entity_id));
 }
 
 /* Sets a VariableError, or a MemoryError. */

@@ -29,8 +29,9 @@ pub enum Target {
 /// | Variable | What it sets |
 /// |---|---|
 /// | `DD_DOGSTATSD_URL` | where to send: `udp://HOST`, `udp://HOST:PORT`, or `unix:///PATH`, also written `unixgram:///PATH` |
-/// | `DD_AGENT_HOST`, `DD_DOGSTATSD_PORT` | the host and the port, if `DD_DOGSTATSD_URL` isn't set |
-/// | `STATSD_HOST`, `STATSD_PORT` | the host and the port, if none of the three above is set |
+/// | `DD_DOGSTATSD_SOCKET` | the absolute path of a Unix datagram socket, if `DD_DOGSTATSD_URL` isn't set |
+/// | `DD_AGENT_HOST`, `DD_DOGSTATSD_PORT` | the host and the port, if neither of the two above is set |
+/// | `STATSD_HOST`, `STATSD_PORT` | the host and the port, if none of the four above is set |
 /// | `DD_ENV`, `DD_SERVICE`, `DD_VERSION` | the tags `env:..`, `service:..` and `version:..`, in this order |
 /// | `DD_TAGS` | the next tags, separated by commas, or by spaces if it has no comma; each is `K:V`, cut at its first colon, or `V` |
 /// | `DD_ENTITY_ID` | the last tag, `dd.internal.entity_id:..` |

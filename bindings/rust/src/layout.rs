@@ -93,8 +93,9 @@ impl<'a> Settings<'a> {
 }
 
 /// The names of the variables of the environment.
-pub(crate) const VARIABLES: [&str; 10] = [
+pub(crate) const VARIABLES: [&str; 11] = [
     "DD_DOGSTATSD_URL",
+    "DD_DOGSTATSD_SOCKET",
     "DD_AGENT_HOST",
     "DD_DOGSTATSD_PORT",
     "STATSD_HOST",

@@ -9,7 +9,7 @@ use Rattle.cadence_environment.specs.declared.destination.Destination.TheVariant
 use Rattle.cadence_errors.specs.declared.input_error.InputError.{InputError}
 use Rattle.cadence_errors.specs.declared.input_error.InputError.TheVariants.{Unusable, OutOfMemory}
 use Rattle.cadence_environment.specs.declared.variables.Variable.{Variable}
-use Rattle.cadence_environment.specs.declared.variables.Variable.TheVariants.{Url, AgentHost, AgentPort, StatsdHost, StatsdPort}
+use Rattle.cadence_environment.specs.declared.variables.Variable.TheVariants.{Url, Socket, AgentHost, AgentPort, StatsdHost, StatsdPort}
 use Rattle.cadence_environment.specs.declared.variables.Variable.TheVariants.{Env, Service, Version, Tags, EntityId}
 use Rattle.cadence_environment.specs.declared.variables.Variables.{Variables}
 use Rattle.cadence_c.specs.declared.environment.CVariables.{CVariables}
@@ -17,6 +17,7 @@ use Rattle.cadence_c.specs.declared.environment.CVariables.{CVariables}
 -- The variables have these texts.
 pub record HasTexts (c : CVariables) (v : Variables) : Type 0 where
   pub url : v.url.now ≡ c.url.now
+  pub socket : v.socket.now ≡ c.socket.now
   pub agent_host : v.agent_host.now ≡ c.agent_host.now
   pub agent_port : v.agent_port.now ≡ c.agent_port.now
   pub statsd_host : v.statsd_host.now ≡ c.statsd_host.now
@@ -31,16 +32,21 @@ pub record HasTexts (c : CVariables) (v : Variables) : Type 0 where
 abbrev pub unless : Bool → List ℕ → List ℕ
 unless overridden text = if overridden then [] else text
 
+-- whether a variable is set that can say a path, so that those of hosts and ports are overridden
+abbrev pub names_path : CVariables → Bool
+names_path c = has_bytes c.url.now || has_bytes c.socket.now
+
 -- whether a variable that says the agent is set, so that those of the Statsd server are overridden
 abbrev pub names_agent : CVariables → Bool
-names_agent c = has_bytes c.url.now || (has_bytes c.agent_host.now || has_bytes c.agent_port.now)
+names_agent c = names_path c || (has_bytes c.agent_host.now || has_bytes c.agent_port.now)
 
 -- The variables that say where to send have these texts, but for those that another one overrides, which are empty. The
 -- others are empty too.
 pub record ArePlacesRead (c : CVariables) (v : Variables) : Type 0 where
   pub url : v.url.now ≡ c.url.now
-  pub agent_host : v.agent_host.now ≡ unless (has_bytes c.url.now) c.agent_host.now
-  pub agent_port : v.agent_port.now ≡ unless (has_bytes c.url.now) c.agent_port.now
+  pub socket : v.socket.now ≡ unless (has_bytes c.url.now) c.socket.now
+  pub agent_host : v.agent_host.now ≡ unless (names_path c) c.agent_host.now
+  pub agent_port : v.agent_port.now ≡ unless (names_path c) c.agent_port.now
   pub statsd_host : v.statsd_host.now ≡ unless (names_agent c) c.statsd_host.now
   pub statsd_port : v.statsd_port.now ≡ unless (names_agent c) c.statsd_port.now
   pub env : v.env.now ≡ []
@@ -52,6 +58,7 @@ pub record ArePlacesRead (c : CVariables) (v : Variables) : Type 0 where
 -- The variables that say tags have these texts. The others are empty.
 pub record AreTagsRead (c : CVariables) (v : Variables) : Type 0 where
   pub url : v.url.now ≡ []
+  pub socket : v.socket.now ≡ []
   pub agent_host : v.agent_host.now ≡ []
   pub agent_port : v.agent_port.now ≡ []
   pub statsd_host : v.statsd_host.now ≡ []
@@ -74,9 +81,9 @@ SaysTarget v text port = (d : Destination Global) × SaysPlace v d × IsPlaceFou
 -- the variable that has this number in C
 abbrev pub variable_named : ℕ → Option Variable
 variable_named n =
-    if n == 0 then Some Url else if n == 1 then Some AgentHost else if n == 2 then Some AgentPort else if n == 3 then Some StatsdHost
-    else if n == 4 then Some StatsdPort else if n == 5 then Some Env else if n == 6 then Some Service else if n == 7 then Some Version
-    else if n == 8 then Some Tags else if n == 9 then Some EntityId else None
+    if n == 0 then Some Url else if n == 1 then Some Socket else if n == 2 then Some AgentHost else if n == 3 then Some AgentPort
+    else if n == 4 then Some StatsdHost else if n == 5 then Some StatsdPort else if n == 6 then Some Env else if n == 7 then Some Service
+    else if n == 8 then Some Version else if n == 9 then Some Tags else if n == 10 then Some EntityId else None
 
 -- The error names the variable of this number, or says that memory ran out.
 abbrev pub Names : InputError Variable → ℕ → Type 0

@@ -24,6 +24,7 @@ use std::alloc::{AllocError, Global};
 #[derive(Clone, Copy)]
 pub struct CVariables<'a> {
     pub url: &'a [u8],
+    pub socket: &'a [u8],
     pub agent_host: &'a [u8],
     pub agent_port: &'a [u8],
     pub statsd_host: &'a [u8],
@@ -41,15 +42,16 @@ fn number_of(variable: Variable) -> u32
 {
     match variable {
         Variable::Url => 0,
-        Variable::AgentHost => 1,
-        Variable::AgentPort => 2,
-        Variable::StatsdHost => 3,
-        Variable::StatsdPort => 4,
-        Variable::Env => 5,
-        Variable::Service => 6,
-        Variable::Version => 7,
-        Variable::Tags => 8,
-        Variable::EntityId => 9,
+        Variable::Socket => 1,
+        Variable::AgentHost => 2,
+        Variable::AgentPort => 3,
+        Variable::StatsdHost => 4,
+        Variable::StatsdPort => 5,
+        Variable::Env => 6,
+        Variable::Service => 7,
+        Variable::Version => 8,
+        Variable::Tags => 9,
+        Variable::EntityId => 10,
     }
 }
 
@@ -59,15 +61,16 @@ fn variable_of(number: u32) -> Option<Variable>
 {
     match number {
         0 => Some(Variable::Url),
-        1 => Some(Variable::AgentHost),
-        2 => Some(Variable::AgentPort),
-        3 => Some(Variable::StatsdHost),
-        4 => Some(Variable::StatsdPort),
-        5 => Some(Variable::Env),
-        6 => Some(Variable::Service),
-        7 => Some(Variable::Version),
-        8 => Some(Variable::Tags),
-        9 => Some(Variable::EntityId),
+        1 => Some(Variable::Socket),
+        2 => Some(Variable::AgentHost),
+        3 => Some(Variable::AgentPort),
+        4 => Some(Variable::StatsdHost),
+        5 => Some(Variable::StatsdPort),
+        6 => Some(Variable::Env),
+        7 => Some(Variable::Service),
+        8 => Some(Variable::Version),
+        9 => Some(Variable::Tags),
+        10 => Some(Variable::EntityId),
         _ => None,
     }
 }
@@ -96,11 +99,13 @@ fn read_places<'a>(texts: &CVariables<'a>) -> Result<Variables<'a>, EnvironmentE
         HasTexts texts.now v → IsRefusedVariable v e) }
 {
     let no_url = texts.url.is_empty();
-    let no_agent = no_url && texts.agent_host.is_empty() && texts.agent_port.is_empty();
+    let no_path = no_url && texts.socket.is_empty();
+    let no_agent = no_path && texts.agent_host.is_empty() && texts.agent_port.is_empty();
     Ok(Variables {
         url: read_variable(texts.url, Variable::Url, true)?,
-        agent_host: read_variable(texts.agent_host, Variable::AgentHost, no_url)?,
-        agent_port: read_variable(texts.agent_port, Variable::AgentPort, no_url)?,
+        socket: read_variable(texts.socket, Variable::Socket, no_url)?,
+        agent_host: read_variable(texts.agent_host, Variable::AgentHost, no_path)?,
+        agent_port: read_variable(texts.agent_port, Variable::AgentPort, no_path)?,
         statsd_host: read_variable(texts.statsd_host, Variable::StatsdHost, no_agent)?,
         statsd_port: read_variable(texts.statsd_port, Variable::StatsdPort, no_agent)?,
         env: "",
@@ -119,6 +124,7 @@ fn read_tag_texts<'a>(texts: &CVariables<'a>) -> Result<Variables<'a>, Environme
 {
     Ok(Variables {
         url: "",
+        socket: "",
         agent_host: "",
         agent_port: "",
         statsd_host: "",

@@ -78,10 +78,11 @@ abbrev pub SaysHostAndPort : {A : Type 0} → List ℕ → List ℕ → Destinat
 SaysHostAndPort host_text port_text (Udp host port) = SaysHost host_text (string_bytes host) × SaysPort port_text port
 SaysHostAndPort host_text port_text (Unix path) = ⊥
 
--- The variables say this destination. `DD_DOGSTATSD_URL` wins over all others, and `DD_AGENT_HOST` and
--- `DD_DOGSTATSD_PORT` win over the rest, even if only one of the two is set.
+-- The variables say this destination. `DD_DOGSTATSD_URL` wins over all others, and `DD_DOGSTATSD_SOCKET` over the rest.
+-- `DD_AGENT_HOST` and `DD_DOGSTATSD_PORT` win over the last two, even if only one of them is set.
 pub record SaysPlace {A : Type 0} (v : Variables) (d : Destination A) : Type 0 where
   pub url : v.url.now ≢ [] → SaysUrl v.url.now d
-  pub host : v.url.now ≡ [] → v.agent_host.now ≢ [] → SaysHostAndPort v.agent_host.now v.agent_port.now d
-  pub port : v.url.now ≡ [] → v.agent_port.now ≢ [] → SaysHostAndPort v.agent_host.now v.agent_port.now d
-  pub others : v.url.now ≡ [] → v.agent_host.now ≡ [] → v.agent_port.now ≡ [] → SaysHostAndPort v.statsd_host.now v.statsd_port.now d
+  pub socket : v.url.now ≡ [] → v.socket.now ≢ [] → SaysPath v.socket.now d
+  pub host : v.url.now ≡ [] → v.socket.now ≡ [] → v.agent_host.now ≢ [] → SaysHostAndPort v.agent_host.now v.agent_port.now d
+  pub port : v.url.now ≡ [] → v.socket.now ≡ [] → v.agent_port.now ≢ [] → SaysHostAndPort v.agent_host.now v.agent_port.now d
+  pub others : v.url.now ≡ [] → v.socket.now ≡ [] → v.agent_host.now ≡ [] → v.agent_port.now ≡ [] → SaysHostAndPort v.statsd_host.now v.statsd_port.now d

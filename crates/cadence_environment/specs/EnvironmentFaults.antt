@@ -3,9 +3,9 @@ use Rattle.std.specs.Prelude.{◌≡◌, ◌≢◌, ◌⊎◌, ⊤, ℕ, List, [
 use Rattle.cadence_value.specs.Finds.{HasNone}
 use Rattle.cadence_errors.specs.declared.input_error.InputError.{InputError}
 use Rattle.cadence_errors.specs.declared.input_error.InputError.TheVariants.{Unusable, OutOfMemory}
-use Rattle.cadence_environment.specs.Destinations.{IsPathUrl}
+use Rattle.cadence_environment.specs.Destinations.{IsAbsolute, IsPathUrl}
 use Rattle.cadence_environment.specs.declared.variables.Variable.{Variable}
-use Rattle.cadence_environment.specs.declared.variables.Variable.TheVariants.{Url, AgentHost, AgentPort, StatsdHost, StatsdPort}
+use Rattle.cadence_environment.specs.declared.variables.Variable.TheVariants.{Url, Socket, AgentHost, AgentPort, StatsdHost, StatsdPort}
 use Rattle.cadence_environment.specs.declared.variables.Variable.TheVariants.{Env, Service, Version, Tags, EntityId}
 use Rattle.cadence_environment.specs.declared.variables.Variables.{Variables}
 
@@ -22,10 +22,11 @@ IsMemoryOr fact OutOfMemory = ⊤
 -- The variable is set, and no other one overrides it.
 abbrev pub IsRead : Variables → Variable → Type 0
 IsRead v Url = v.url.now ≢ []
-IsRead v AgentHost = (v.url.now ≡ []) × (v.agent_host.now ≢ [])
-IsRead v AgentPort = (v.url.now ≡ []) × (v.agent_port.now ≢ [])
-IsRead v StatsdHost = (v.url.now ≡ []) × (v.agent_host.now ≡ []) × (v.agent_port.now ≡ []) × (v.statsd_host.now ≢ [])
-IsRead v StatsdPort = (v.url.now ≡ []) × (v.agent_host.now ≡ []) × (v.agent_port.now ≡ []) × (v.statsd_port.now ≢ [])
+IsRead v Socket = (v.url.now ≡ []) × (v.socket.now ≢ [])
+IsRead v AgentHost = (v.url.now ≡ []) × (v.socket.now ≡ []) × (v.agent_host.now ≢ [])
+IsRead v AgentPort = (v.url.now ≡ []) × (v.socket.now ≡ []) × (v.agent_port.now ≢ [])
+IsRead v StatsdHost = (v.url.now ≡ []) × (v.socket.now ≡ []) × (v.agent_host.now ≡ []) × (v.agent_port.now ≡ []) × (v.statsd_host.now ≢ [])
+IsRead v StatsdPort = (v.url.now ≡ []) × (v.socket.now ≡ []) × (v.agent_host.now ≡ []) × (v.agent_port.now ≡ []) × (v.statsd_port.now ≢ [])
 IsRead v Env = v.env.now ≢ []
 IsRead v Service = v.service.now ≢ []
 IsRead v Version = v.version.now ≢ []
@@ -40,6 +41,7 @@ IsRefusedVariable v OutOfMemory = ⊤
 -- The error doesn't name a variable that says the path of a Unix socket.
 abbrev pub NamesNoPath : Variables → InputError Variable → Type 0
 NamesNoPath v (Unusable Url) = HasNone (IsPathUrl v.url.now)
+NamesNoPath v (Unusable Socket) = IsAbsolute v.socket.now → ⊥
 NamesNoPath v _ = ⊤
 
 -- The error names this variable, which is set, or says that memory ran out.

@@ -121,14 +121,18 @@ fn read_authority(text: &str) -> Option<(&str, u16)>
     }
 }
 
-// Reads the path of a Unix socket, from the root on.
-fn read_path<A: Allocator>(alloc: A, path: &str) -> Result<Destination<A>, EnvironmentError>
+// Reads the path of a Unix socket, from the root on, which a variable says.
+fn read_path<A: Allocator>(
+    alloc: A,
+    variable: Variable,
+    path: &str,
+) -> Result<Destination<A>, EnvironmentError>
     ensures said { IfOk result (SaysPath path.now) }
-    ensures refused { IfErr result (IsFaultOf variable.Url) }
+    ensures refused { IfErr result (IsFaultOf variable) }
     ensures paths { IfErr result (IsMemoryOr (IsAbsolute path.now → ⊥)) }
 {
     if !path.starts_with('/') || check_path(path).is_err() {
-        return Err(EnvironmentError::Unusable(Variable::Url));
+        return Err(EnvironmentError::Unusable(variable));
     }
     let path = String::from_str(alloc, path)?;
     Ok(Destination::Unix { path })
@@ -152,7 +156,7 @@ fn read_url<A: Allocator>(alloc: A, url: &str) -> Result<Destination<A>, Environ
     ensures paths { IfErr result (IsMemoryOr (HasNone (IsPathUrl url.now))) }
 {
     if let Some(path) = after_unix(url) {
-        return read_path(alloc, path);
+        return read_path(alloc, Variable::Url, path);
     }
     let Some(authority) = url.strip_prefix("udp://") else {
         return Err(EnvironmentError::Unusable(Variable::Url));
@@ -220,6 +224,9 @@ pub(crate) fn read_destination<A: Allocator>(
 {
     if !variables.url.is_empty() {
         return read_url(alloc, variables.url);
+    }
+    if !variables.socket.is_empty() {
+        return read_path(alloc, Variable::Socket, variables.socket);
     }
     if !variables.agent_host.is_empty() || !variables.agent_port.is_empty() {
         let host = (Variable::AgentHost, variables.agent_host);

@@ -117,6 +117,7 @@ fn read_text<R: Env + Alloc>(
 #[derive(Drop)]
 struct PlaceTexts<A: Allocator> {
     url: String<A>,
+    socket: String<A>,
     agent_host: String<A>,
     agent_port: String<A>,
     statsd_host: String<A>,
@@ -128,13 +129,16 @@ impl<A: Allocator> PlaceTexts<A> {
     fn read<R: Env + Alloc<A = A>>(rt: &R) -> Result<PlaceTexts<A>, EnvironmentError> {
         let url = read_text(rt, Variable::Url, true)?;
         let no_url = url.is_empty();
-        let agent_host = read_text(rt, Variable::AgentHost, no_url)?;
-        let agent_port = read_text(rt, Variable::AgentPort, no_url)?;
-        let no_agent = no_url && agent_host.is_empty() && agent_port.is_empty();
+        let socket = read_text(rt, Variable::Socket, no_url)?;
+        let no_path = no_url && socket.is_empty();
+        let agent_host = read_text(rt, Variable::AgentHost, no_path)?;
+        let agent_port = read_text(rt, Variable::AgentPort, no_path)?;
+        let no_agent = no_path && agent_host.is_empty() && agent_port.is_empty();
         let statsd_host = read_text(rt, Variable::StatsdHost, no_agent)?;
         let statsd_port = read_text(rt, Variable::StatsdPort, no_agent)?;
         Ok(PlaceTexts {
             url,
+            socket,
             agent_host,
             agent_port,
             statsd_host,
@@ -146,6 +150,7 @@ impl<A: Allocator> PlaceTexts<A> {
     fn lend<'a>(&'a self, others: Variables<'a>) -> Variables<'a> {
         Variables {
             url: &self.url,
+            socket: &self.socket,
             agent_host: &self.agent_host,
             agent_port: &self.agent_port,
             statsd_host: &self.statsd_host,

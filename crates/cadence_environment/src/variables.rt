@@ -8,6 +8,8 @@ use std::fmt;
 pub enum Variable {
     /// `DD_DOGSTATSD_URL`: the agent, as a URL.
     Url,
+    /// `DD_DOGSTATSD_SOCKET`: the agent, as the path of a Unix socket.
+    Socket,
     /// `DD_AGENT_HOST`: the host of the agent.
     AgentHost,
     /// `DD_DOGSTATSD_PORT`: the port of the agent.
@@ -33,6 +35,7 @@ impl Variable {
     pub fn name(self) -> &'static str {
         match self {
             Variable::Url => "DD_DOGSTATSD_URL",
+            Variable::Socket => "DD_DOGSTATSD_SOCKET",
             Variable::AgentHost => "DD_AGENT_HOST",
             Variable::AgentPort => "DD_DOGSTATSD_PORT",
             Variable::StatsdHost => "STATSD_HOST",
@@ -53,6 +56,7 @@ impl Reason for Variable {
         match self {
             Variable::Url =>
                 "DD_DOGSTATSD_URL wants udp://HOST[:PORT] or unix:///PATH, datagrams only",
+            Variable::Socket => "DD_DOGSTATSD_SOCKET wants an absolute path, as in /run/dsd.socket",
             Variable::AgentHost => "DD_AGENT_HOST wants a host, as in DD_AGENT_HOST=127.0.0.1",
             Variable::AgentPort => "DD_DOGSTATSD_PORT wants a port, as in DD_DOGSTATSD_PORT=8125",
             Variable::StatsdHost => "STATSD_HOST wants a host, as in STATSD_HOST=127.0.0.1",
@@ -81,6 +85,8 @@ impl fmt::Display for Variable {
 pub struct Variables<'a> {
     /// The text of `DD_DOGSTATSD_URL`.
     pub url: &'a str,
+    /// The text of `DD_DOGSTATSD_SOCKET`.
+    pub socket: &'a str,
     /// The text of `DD_AGENT_HOST`.
     pub agent_host: &'a str,
     /// The text of `DD_DOGSTATSD_PORT`.
@@ -106,6 +112,7 @@ impl Variables<'_> {
     pub fn none() -> Variables<'static> {
         Variables {
             url: "",
+            socket: "",
             agent_host: "",
             agent_port: "",
             statsd_host: "",

@@ -43,9 +43,9 @@ const METRICS: &str = "Each metric";
 const PACKETS: &str = "Packets";
 
 const TO: &str = "where to send, also as udp://HOST:PORT or unix:PATH [by default
-DD_DOGSTATSD_URL of the environment, else DD_AGENT_HOST and
-DD_DOGSTATSD_PORT, else STATSD_HOST and STATSD_PORT, else
-127.0.0.1:8125]";
+DD_DOGSTATSD_URL of the environment, else DD_DOGSTATSD_SOCKET, else
+DD_AGENT_HOST and DD_DOGSTATSD_PORT, else STATSD_HOST and
+STATSD_PORT, else 127.0.0.1:8125]";
 
 const PREFIX: &str = "begins each name, with a dot after it";
 

@@ -71,6 +71,7 @@ fn without_brackets(host: &str) -> &str {
 fn source_of(rt: &HostRuntime) -> &'static str {
     for variable in [
         Variable::Url,
+        Variable::Socket,
         Variable::AgentHost,
         Variable::AgentPort,
         Variable::StatsdHost,

@@ -105,8 +105,9 @@ class StatsClient(Metrics):
         counts as not set, and a variable that another one overrides isn't read.
 
         The address is that of DD_DOGSTATSD_URL (udp://HOST, udp://HOST:PORT, or unix:///PATH, also written
-        unixgram:///PATH); otherwise of DD_AGENT_HOST and DD_DOGSTATSD_PORT; otherwise of STATSD_HOST and STATSD_PORT. Of a
-        host and a port, one alone leaves the other as it is by default: 127.0.0.1 and 8125.
+        unixgram:///PATH); otherwise the absolute path of DD_DOGSTATSD_SOCKET; otherwise that of DD_AGENT_HOST and
+        DD_DOGSTATSD_PORT; otherwise of STATSD_HOST and STATSD_PORT. Of a host and a port, one alone leaves the other as it
+        is by default: 127.0.0.1 and 8125.
 
         The tags are `env`, `service` and `version` of DD_ENV, DD_SERVICE and DD_VERSION; then those of DD_TAGS, separated by
         commas, or by spaces if it has no comma; and then `dd.internal.entity_id` of DD_ENTITY_ID. A tag of DD_TAGS with the

@@ -14,8 +14,8 @@ DEFAULT_PORT = 8125
 UNIX = "unix://"
 
 # the names of the variables, in the order of cadence.h
-_NAMES = (b"DD_DOGSTATSD_URL", b"DD_AGENT_HOST", b"DD_DOGSTATSD_PORT", b"STATSD_HOST", b"STATSD_PORT", b"DD_ENV", b"DD_SERVICE",
-          b"DD_VERSION", b"DD_TAGS", b"DD_ENTITY_ID")
+_NAMES = (b"DD_DOGSTATSD_URL", b"DD_DOGSTATSD_SOCKET", b"DD_AGENT_HOST", b"DD_DOGSTATSD_PORT", b"STATSD_HOST", b"STATSD_PORT",
+          b"DD_ENV", b"DD_SERVICE", b"DD_VERSION", b"DD_TAGS", b"DD_ENTITY_ID")
 
 
 class VariableError(ValueError):
