@@ -57,7 +57,8 @@
  * - cadence_format_signed, cadence_format_unsigned, cadence_format_decimal, cadence_format_floating,
  *   cadence_format_duration: the above for the values, the above for the rest of the call, CADENCE_TOO_SMALL.
  * - cadence_decimal_of_double, cadence_rounded_of_double: CADENCE_INVALID.
- * - cadence_destination, cadence_environment_tags: CADENCE_VARIABLE, CADENCE_NO_MEMORY, CADENCE_TOO_SMALL.
+ * - cadence_destination, cadence_environment_tags, cadence_environment_prefix: CADENCE_VARIABLE, CADENCE_NO_MEMORY,
+ *   CADENCE_TOO_SMALL.
  *   cadence_variable_text: CADENCE_INVALID, CADENCE_NO_MEMORY, CADENCE_TOO_SMALL.
  * - cadence_prefix_text: CADENCE_NOT_UTF8, CADENCE_NO_MEMORY, CADENCE_SEPARATOR, CADENCE_TOO_SMALL. cadence_tags_text:
  *   CADENCE_NOT_UTF8, CADENCE_SEPARATOR, CADENCE_NO_MEMORY, CADENCE_TOO_SMALL. cadence_test_text: the first two of
@@ -355,9 +356,9 @@ uint32_t cadence_decimal_of_double(double value, cadence_decimal_number *number)
 uint32_t cadence_rounded_of_double(double value, cadence_decimal_number *number);
 
 /* The values of the variables of the environment: DD_DOGSTATSD_URL, DD_DOGSTATSD_SOCKET, DD_AGENT_HOST,
- * DD_DOGSTATSD_PORT, STATSD_HOST, STATSD_PORT, DD_ENV, DD_SERVICE, DD_VERSION, DD_TAGS and DD_ENTITY_ID. A variable that
- * isn't set has the empty text. The number of a variable is its place here, from 0 on; cadence_variable_name returns
- * its name. */
+ * DD_DOGSTATSD_PORT, STATSD_HOST, STATSD_PORT, DD_ENV, DD_SERVICE, DD_VERSION, DD_TAGS, DD_ENTITY_ID,
+ * DD_DOGSTATSD_DISABLE, STATSD_ENABLED, STATSD_MAXUDPSIZE and STATSD_PREFIX. A variable that isn't set has the empty
+ * text. The number of a variable is its place here, from 0 on; cadence_variable_name returns its name. */
 typedef struct cadence_variables {
     const uint8_t *url;
     size_t url_len;
@@ -381,22 +382,38 @@ typedef struct cadence_variables {
     size_t tags_len;
     const uint8_t *entity_id;
     size_t entity_id_len;
+    const uint8_t *disable;
+    size_t disable_len;
+    const uint8_t *enabled;
+    size_t enabled_len;
+    const uint8_t *max_size;
+    size_t max_size_len;
+    const uint8_t *prefix;
+    size_t prefix_len;
 } cadence_variables;
 
 /* Writes where the variables say to send into `out`, and sets *length to the length of that text in bytes: a host,
  * which is a name or an address without brackets, with its port in *port; or the absolute path of a Unix datagram
- * socket, with *port 0. DD_DOGSTATSD_URL wins over all others, DD_DOGSTATSD_SOCKET over the rest, and DD_AGENT_HOST
- * and DD_DOGSTATSD_PORT over STATSD_HOST and STATSD_PORT. By default it is 127.0.0.1 and 8125. Needs no client. Returns
- * CADENCE_OK; CADENCE_TOO_SMALL, with the length of the text in *length; or CADENCE_VARIABLE, with the number of the
- * variable in *variable, or CADENCE_NO_MEMORY, with *length 0. A variable that another one overrides is not tested. */
+ * socket, with *port 0; or no text, with *port 0, if DD_DOGSTATSD_DISABLE says yes or STATSD_ENABLED says no, and
+ * then nothing is sent. Otherwise DD_DOGSTATSD_URL wins over all others, DD_DOGSTATSD_SOCKET over the rest, and
+ * DD_AGENT_HOST and DD_DOGSTATSD_PORT over STATSD_HOST and STATSD_PORT. By default it is 127.0.0.1 and 8125. Sets
+ * *capacity to how many bytes a packet has: STATSD_MAXUDPSIZE to a host, which is 1432 by default, and 8192
+ * otherwise. Needs no client. Returns CADENCE_OK; CADENCE_TOO_SMALL, with the length of the text in *length; or
+ * CADENCE_VARIABLE, with the number of the variable in *variable, or CADENCE_NO_MEMORY, with *length 0. A variable
+ * that another one overrides is not tested. */
 uint32_t cadence_destination(const cadence_variables *variables, uint8_t *out, size_t out_len, size_t *length,
-                             uint16_t *port, uint32_t *variable);
+                             uint16_t *port, size_t *capacity, uint32_t *variable);
 
 /* Writes the text of the default tags that the variables say into `out`, as cadence_tags_text does, and returns what
  * cadence_destination returns. No text of them has a ',', a '|' or a newline, and no key has a ':', so the text can be
  * cut into the tags again. */
 uint32_t cadence_environment_tags(const cadence_variables *variables, uint8_t *out, size_t out_len, size_t *length,
                                   uint32_t *variable);
+
+/* Writes the prefix that STATSD_PREFIX says into `out`, and returns what cadence_destination returns. The text has no ':',
+ * ',', '|' or newline, and is empty by default. It is meant for a caller that has no prefix of its own. */
+uint32_t cadence_environment_prefix(const cadence_variables *variables, uint8_t *out, size_t out_len, size_t *length,
+                                    uint32_t *variable);
 
 /* Writes the message for a variable that can't be used into `out`: its name, and what its value has to be. Sets *length
  * to the length of that text in bytes. Returns CADENCE_OK; CADENCE_TOO_SMALL, with that length; or CADENCE_INVALID or
@@ -435,20 +452,22 @@ static inline size_t cadence_length_of(const char *text) {
 static inline const char *cadence_variable_name(uint32_t variable) {
     static const char *const names[] = { "DD_DOGSTATSD_URL", "DD_DOGSTATSD_SOCKET", "DD_AGENT_HOST", "DD_DOGSTATSD_PORT",
                                          "STATSD_HOST",      "STATSD_PORT",         "DD_ENV",        "DD_SERVICE",
-                                         "DD_VERSION",       "DD_TAGS",             "DD_ENTITY_ID" };
+                                         "DD_VERSION",       "DD_TAGS",             "DD_ENTITY_ID",  "DD_DOGSTATSD_DISABLE",
+                                         "STATSD_ENABLED",   "STATSD_MAXUDPSIZE",   "STATSD_PREFIX" };
     return variable < sizeof names / sizeof names[0] ? names[variable] : CADENCE_NULL;
 }
 
 /* Returns the values of the variables, each as a function returns it for its name, or null if it isn't set: for example
  * getenv. They point to the values, so keep these alive. */
 static inline cadence_variables cadence_variables_of(char *(*value_of)(const char *name)) {
-    const char *at[11];
-    for (uint32_t i = 0; i < 11; i++) at[i] = value_of(cadence_variable_name(i));
+    const char *at[15];
+    for (uint32_t i = 0; i < 15; i++) at[i] = value_of(cadence_variable_name(i));
     cadence_variables variables;
 #define CADENCE_SET(field, i) (variables.field = CADENCE_BYTES(at[i]), variables.field##_len = cadence_length_of(at[i]))
     CADENCE_SET(url, 0), CADENCE_SET(socket, 1), CADENCE_SET(agent_host, 2), CADENCE_SET(agent_port, 3);
     CADENCE_SET(statsd_host, 4), CADENCE_SET(statsd_port, 5), CADENCE_SET(env, 6), CADENCE_SET(service, 7);
-    CADENCE_SET(version, 8), CADENCE_SET(tags, 9), CADENCE_SET(entity_id, 10);
+    CADENCE_SET(version, 8), CADENCE_SET(tags, 9), CADENCE_SET(entity_id, 10), CADENCE_SET(disable, 11);
+    CADENCE_SET(enabled, 12), CADENCE_SET(max_size, 13), CADENCE_SET(prefix, 14);
 #undef CADENCE_SET
     return variables;
 }

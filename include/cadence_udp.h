@@ -55,7 +55,9 @@ const char *cadence_udp_connect(cadence_udp *to, const char *host, uint16_t port
 const char *cadence_udp_connect_path(cadence_udp *to, const char *path, size_t capacity, uint32_t period_millis);
 
 /* The same, but the client sends where the variables of the environment say, and `settings` have the prefix, which gets
- * a dot at its end if it has none, and the tags of the variables. Their texts stay until the client is closed. */
+ * a dot at its end if it has none, and the tags of the variables. If `prefix` is null, it is that of the variables.
+ * Their texts stay until the client is closed. If `capacity` is 0, it is what cadence_destination says. If the
+ * variables say that nothing is sent, the client drops each packet as if it were sent. */
 const char *cadence_udp_connect_environment(cadence_udp *to, const char *prefix, size_t capacity,
                                             uint32_t period_millis);
 

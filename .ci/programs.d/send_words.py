@@ -39,6 +39,9 @@ WANTED = {
     'DD_DOGSTATSD_PORT': 'a port, as in DD_DOGSTATSD_PORT=8125',
     'STATSD_HOST': 'a host, as in STATSD_HOST=127.0.0.1',
     'STATSD_PORT': 'a port, as in STATSD_PORT=8125',
+    'DD_DOGSTATSD_DISABLE': '1, true or yes, or 0, false or no',
+    'STATSD_ENABLED': '1, true or yes, or 0, false or no',
+    'STATSD_MAXUDPSIZE': '1 to 65507 bytes, as in STATSD_MAXUDPSIZE=1432',
     'DD_ENV': 'no commas, bars or newlines, as in DD_ENV=prod',
     'DD_SERVICE': 'no commas, bars or newlines, as in DD_SERVICE=shop',
     'DD_VERSION': 'no commas, bars or newlines, as in DD_VERSION=1.2.3',
@@ -50,7 +53,7 @@ MALFORMED = [
     ('DD_DOGSTATSD_URL', 'tcp://host:1'), ('DD_DOGSTATSD_URL', 'udp://:1'), ('DD_DOGSTATSD_URL', f'unix://{LONGEST_PATH}a'),
     ('DD_DOGSTATSD_SOCKET', 'run/s'), ('DD_AGENT_HOST', '/run/s'), ('DD_DOGSTATSD_PORT', '0'), ('STATSD_HOST', b'\xff'), ('STATSD_PORT', '65536'),
     ('STATSD_PORT', 'http'), ('STATSD_PORT', b'\xff'), ('DD_ENV', 'a,b'), ('DD_SERVICE', 'a|b'), ('DD_VERSION', 'a\nb'),
-    ('DD_TAGS', ':v'), ('DD_ENTITY_ID', ','),
+    ('DD_TAGS', ':v'), ('DD_ENTITY_ID', ','), ('DD_DOGSTATSD_DISABLE', 'on'), ('STATSD_ENABLED', 'off'), ('STATSD_MAXUDPSIZE', '0'),
 ]
 OVERRIDDEN = {'DD_DOGSTATSD_URL': 'x', 'DD_DOGSTATSD_SOCKET': 'x', 'DD_AGENT_HOST': '/', 'DD_DOGSTATSD_PORT': 'x', 'STATSD_HOST': '/',
               'STATSD_PORT': 'http'}

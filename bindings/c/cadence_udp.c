@@ -21,6 +21,7 @@ struct cadence_udp_socket {
     struct sockaddr_storage address;
     socklen_t address_len;
     bool is_name, is_refused; /* whether a name is looked up, and whether a packet was refused since */
+    bool is_nowhere; /* whether nothing is sent */
     uint64_t looked_up, took; /* when the name was last looked up, and how long that took */
     uint8_t *packet, *texts; /* the packet that is sent, and the texts of the settings */
     size_t room;
@@ -148,17 +149,28 @@ const char *cadence_udp_connect_path(cadence_udp *to, const char *path, size_t c
     return move_to(to->socket, (const struct sockaddr *)&address, sizeof address) ? NULL : fault(to, path, strerror(errno));
 }
 
-/* Makes the settings of a prefix and of the tags of the variables. */
+/* Makes a client that sends nothing. */
+static const char *connect_nowhere(cadence_udp *to, size_t capacity, uint32_t period_millis) {
+    const char *words = begin(to, "", capacity, period_millis);
+    if (words == NULL) to->socket->is_nowhere = true;
+    return words;
+}
+
+/* Makes the settings of a prefix, which is that of the variables if it is null, and of the tags of the variables. */
 static uint32_t make_settings(cadence_udp *to, const char *prefix, const cadence_variables *variables, uint32_t *variable) {
     cadence_settings made = CADENCE_NO_SETTINGS;
-    const size_t room = cadence_length_of(prefix) + 1;
-    uint32_t status = cadence_environment_tags(variables, NULL, 0, &made.tags_len, variable);
+    size_t len = 0;
+    uint32_t status = cadence_environment_prefix(variables, NULL, 0, &len, variable);
+    if (status != CADENCE_OK && status != CADENCE_TOO_SMALL) return status;
+    const uint8_t *const given = prefix != NULL ? CADENCE_BYTES(prefix) : variables->prefix;
+    const size_t room = (prefix != NULL ? strlen(prefix) : len) + 1;
+    status = cadence_environment_tags(variables, NULL, 0, &made.tags_len, variable);
     if (status != CADENCE_OK && status != CADENCE_TOO_SMALL) return status;
     uint8_t *const texts = to->socket->texts = malloc(room + made.tags_len);
     if (texts == NULL) return CADENCE_NO_MEMORY;
     made.prefix = texts;
     made.tags = texts + room;
-    status = cadence_prefix_text(CADENCE_BYTES(prefix), room - 1, false, texts, room, &made.prefix_len);
+    status = cadence_prefix_text(given, room - 1, false, texts, room, &made.prefix_len);
     if (status == CADENCE_OK)
         status = cadence_environment_tags(variables, texts + room, made.tags_len, &made.tags_len, variable);
     if (status == CADENCE_OK) to->settings = made;
@@ -168,15 +180,17 @@ static uint32_t make_settings(cadence_udp *to, const char *prefix, const cadence
 const char *cadence_udp_connect_environment(cadence_udp *to, const char *prefix, size_t capacity, uint32_t period_millis) {
     const cadence_variables variables = cadence_variables_of(getenv);
     char place[1024];
-    size_t len;
+    size_t len, usual;
     uint16_t port;
     uint32_t variable = 0;
     cadence_udp_close(to);
-    uint32_t status = cadence_destination(&variables, (uint8_t *)place, sizeof place - 1, &len, &port, &variable);
+    uint32_t status = cadence_destination(&variables, (uint8_t *)place, sizeof place - 1, &len, &port, &usual, &variable);
     if (status != CADENCE_OK) return bad_environment(to, status, variable);
     place[len] = '\0';
-    const char *words = port != 0 ? cadence_udp_connect(to, place, port, capacity, period_millis)
-                                  : cadence_udp_connect_path(to, place, capacity, period_millis);
+    if (capacity == 0) capacity = usual;
+    const char *words = port != 0  ? cadence_udp_connect(to, place, port, capacity, period_millis)
+                        : len != 0 ? cadence_udp_connect_path(to, place, capacity, period_millis)
+                                   : connect_nowhere(to, capacity, period_millis);
     if (words != NULL) return words;
     status = make_settings(to, prefix, &variables, &variable);
     return status == CADENCE_OK ? NULL : bad_environment(to, status, variable);
@@ -194,6 +208,11 @@ static uint32_t next_packet(cadence_udp *to, size_t *len) {
     return cadence_next(&to->client, packet, it->room, len);
 }
 
+/* Sends the packet of this length, and returns what sendto returns. */
+static ssize_t send_packet(const struct cadence_udp_socket *it, size_t len) {
+    return sendto(it->fd, it->packet, len, MSG_NOSIGNAL, (const struct sockaddr *)&it->address, it->address_len);
+}
+
 /* Sends the packets that wait, and returns how many still wait. */
 static size_t send_waiting(cadence_udp *to) {
     struct cadence_udp_socket *const it = to->socket;
@@ -202,8 +221,7 @@ static size_t send_waiting(cadence_udp *to) {
     uint32_t status = CADENCE_NO_CLIENT;
     while (it != NULL && (status = next_packet(to, &len)) == CADENCE_OK) {
         follow_host(it);
-        const ssize_t sent =
-            sendto(it->fd, it->packet, len, MSG_NOSIGNAL, (const struct sockaddr *)&it->address, it->address_len);
+        const ssize_t sent = it->is_nowhere ? 0 : send_packet(it, len);
         if (sent < 0 && errno != EMSGSIZE) {
             it->is_refused = true;
             break;

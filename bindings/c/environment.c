@@ -6,7 +6,7 @@
 #include <stdlib.h>
 #include <string.h>
 
-enum { LONGEST = 4096, VARIABLES = 11 };
+enum { LONGEST = 4096, VARIABLES = 15 };
 
 static char values[VARIABLES][LONGEST];
 static bool is_set[VARIABLES];
@@ -63,12 +63,14 @@ static void put_tags(char *to, const char *text, size_t len) {
 
 /* Writes what the variables say as a row has it. */
 static void say(char *to) {
-    uint8_t place[256], tags[LONGEST], words[256];
-    size_t place_len, tags_len, words_len;
+    uint8_t place[256], tags[LONGEST], prefix[256], words[256];
+    size_t place_len, tags_len, prefix_len, words_len, capacity = 0;
     uint16_t port = 1;
     uint32_t variable = VARIABLES;
     const cadence_variables variables = cadence_variables_of(value_of);
-    uint32_t status = cadence_destination(&variables, place, sizeof place, &place_len, &port, &variable);
+    uint32_t status = cadence_destination(&variables, place, sizeof place, &place_len, &port, &capacity, &variable);
+    if (status == CADENCE_OK)
+        status = cadence_environment_prefix(&variables, prefix, sizeof prefix, &prefix_len, &variable);
     if (status == CADENCE_OK)
         status = cadence_environment_tags(&variables, tags, sizeof tags, &tags_len, &variable);
     if (status == CADENCE_VARIABLE && cadence_variable_text(variable, words, sizeof words, &words_len) == CADENCE_OK
@@ -77,7 +79,9 @@ static void say(char *to) {
     else if (status != CADENCE_OK) sprintf(to, "status %u", status);
     else {
         to += port != 0 ? sprintf(to, "udp %.*s %u", (int)place_len, (char *)place, port)
-                        : sprintf(to, "unix %.*s", (int)place_len, (char *)place);
+                        : sprintf(to, place_len != 0 ? "unix %.*s" : "nowhere%.*s", (int)place_len, (char *)place);
+        if (capacity != (port != 0 ? 1432 : 8192)) to += sprintf(to, " %zu", capacity);
+        if (prefix_len != 0) to += sprintf(to, " as %.*s", (int)prefix_len, (char *)prefix);
         put_tags(to, (char *)tags, tags_len);
     }
 }

@@ -34,7 +34,9 @@ int main() {
     AT(cadence_variables, env), AT(cadence_variables, env_len), AT(cadence_variables, service);
     AT(cadence_variables, service_len), AT(cadence_variables, version), AT(cadence_variables, version_len);
     AT(cadence_variables, tags), AT(cadence_variables, tags_len), AT(cadence_variables, entity_id);
-    AT(cadence_variables, entity_id_len);
+    AT(cadence_variables, entity_id_len), AT(cadence_variables, disable), AT(cadence_variables, disable_len);
+    AT(cadence_variables, enabled), AT(cadence_variables, enabled_len), AT(cadence_variables, max_size);
+    AT(cadence_variables, max_size_len), AT(cadence_variables, prefix), AT(cadence_variables, prefix_len);
     const cadence_options none = CADENCE_NO_OPTIONS;
     const cadence_settings nothing = CADENCE_NO_SETTINGS;
     const cadence_handle closed = CADENCE_CLOSED;

@@ -258,6 +258,18 @@ static void by_rows(const char *path) {
     if (file != NULL) fclose(file);
 }
 
+/* Tests that a client of the environment whose capacity is 0 packs as many lines of 8 bytes as this many bytes have. */
+static void by_capacity(int server, size_t most) {
+    char wanted[8193], got[8193];
+    cadence_udp out = CADENCE_UDP_CLOSED;
+    for (size_t i = 0; i < most / 8; i++) memcpy(wanted + 8 * i, "abc:1|c\n", 8);
+    CHECK(cadence_udp_connect_environment(&out, NULL, 0, HOUR) == NULL);
+    for (size_t i = 0; i <= most / 8; i++) CHECK(keeps(&out, "abc", 1) && cadence_udp_send(&out) == 0);
+    CHECK(recv(server, got, sizeof got, MSG_DONTWAIT) == (ssize_t)(most / 8 * 8) && memcmp(got, wanted, most / 8 * 8) == 0);
+    cadence_udp_close(&out);
+    CHECK(gets(server, "abc:1|c\n"));
+}
+
 static void by_environment(const char *path) {
     uint16_t port = 0;
     char text[256];
@@ -286,7 +298,33 @@ static void by_environment(const char *path) {
     server = server_at_path(path);
     CHECK(cadence_count(&out.client, &out.settings, "e", 2, NULL) == CADENCE_OK && cadence_udp_flush(&out) == 0);
     CHECK(gets(server, "e:2|c\n"));
+    setenv("DD_DOGSTATSD_DISABLE", "true", 1);
+    for (int capacity = 0; capacity < 2; capacity++) {
+        CHECK(cadence_udp_connect_environment(&out, "p", (size_t)capacity, HOUR) == NULL && out.socket != NULL);
+        for (int i = 0; i < 100; i++)
+            CHECK(cadence_count(&out.client, &out.settings, "e", 2, NULL) == CADENCE_OK && cadence_udp_send(&out) == 0);
+        CHECK(cadence_udp_flush(&out) == 0 && gets_nothing(server) && out.refused == 0);
+    }
     cadence_udp_close(&out);
+    CHECK(unsetenv("DD_DOGSTATSD_DISABLE") == 0);
+    by_capacity(server, 8192);
+    close(server);
+    server = server_at("127.0.0.1", &port);
+    snprintf(text, sizeof text, "udp://127.0.0.1:%u", port);
+    setenv("DD_DOGSTATSD_URL", text, 1);
+    by_capacity(server, 1432);
+    setenv("STATSD_MAXUDPSIZE", "100", 1);
+    by_capacity(server, 100);
+    CHECK(unsetenv("STATSD_MAXUDPSIZE") == 0);
+    setenv("STATSD_PREFIX", "shop", 1);
+    for (int given = 0; given < 3; given++) {
+        const char *const prefixes[] = { NULL, "", "p" }, *const wanted[] = { "shop.e:1|c\n", "e:1|c\n", "p.e:1|c\n" };
+        CHECK(cadence_udp_connect_environment(&out, prefixes[given], 0, HOUR) == NULL);
+        CHECK(cadence_count(&out.client, &out.settings, "e", 1, NULL) == CADENCE_OK && cadence_udp_flush(&out) == 0);
+        CHECK(gets(server, wanted[given]));
+    }
+    cadence_udp_close(&out);
+    CHECK(unsetenv("STATSD_PREFIX") == 0);
     close(server);
     unlink(path);
 }

@@ -352,8 +352,9 @@ static int fill(PyObject *module) {
 static PyModuleDef_Slot parts[] = { { Py_mod_exec, fill }, { 0, NULL }, { 0, NULL } };
 
 static PyMethodDef functions[] = {
-    { "destination", destination, METH_VARARGS, "destination(*values): the host and the port that the variables say, or a path and 0." },
-    { "environment_tags", environment_tags, METH_VARARGS, "environment_tags(*values): the text of the tags that the variables say, and 0." },
+    { "destination", destination, METH_VARARGS, "destination(*values): the host and the port that the variables say, or a path and 0, and how many bytes a packet has." },
+    { "environment_prefix", environment_prefix, METH_VARARGS, "environment_prefix(*values): the prefix that the variables say, 0 and 0." },
+    { "environment_tags", environment_tags, METH_VARARGS, "environment_tags(*values): the text of the tags that the variables say, 0 and 0." },
     { NULL, NULL, 0, NULL },
 };
 

@@ -57,6 +57,7 @@ PyObject *refused_by(const char *module, const char *name, PyObject *arguments);
 
 /* The functions of the module that read variables of the environment. */
 PyObject *destination(PyObject *module, PyObject *values);
+PyObject *environment_prefix(PyObject *module, PyObject *values);
 PyObject *environment_tags(PyObject *module, PyObject *values);
 
 /* process.c: the number of this process, which differs from that of each process of which it is a fork, and what has to be

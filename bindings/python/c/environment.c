@@ -6,9 +6,10 @@
 
 /* Reads the values of the variables, which are bytes, in the order of cadence.h. Returns false if it has set an exception. */
 static bool read_variables(PyObject *values, cadence_variables *to) {
-    return PyArg_ParseTuple(values, "y#y#y#y#y#y#y#y#y#y#y#", TEXT(url), TEXT(socket), TEXT(agent_host), TEXT(agent_port),
+    return PyArg_ParseTuple(values, "y#y#y#y#y#y#y#y#y#y#y#y#y#y#y#", TEXT(url), TEXT(socket), TEXT(agent_host), TEXT(agent_port),
                             TEXT(statsd_host), TEXT(statsd_port), TEXT(env), TEXT(service), TEXT(version), TEXT(tags),
-                            TEXT(entity_id));
+                            TEXT(entity_id), TEXT(disable), TEXT(enabled), TEXT(max_size),
+                            TEXT(prefix));
 }
 
 /* Sets a VariableError, or a MemoryError. */
@@ -21,22 +22,26 @@ static PyObject *refused(uint32_t status, uint32_t variable) {
                       Py_BuildValue("(ss#)", cadence_variable_name(variable), (const char *)text, (Py_ssize_t)len));
 }
 
-/* Returns the text of the tags and 0, or where to send: the host and the port, or a path and 0. */
-static PyObject *said(PyObject *values, bool tags) {
+enum what { PLACE, PREFIX, TAGS };
+
+/* Returns the text of the tags or of the prefix, 0 and 0, or where to send: the host and the port, or a path and 0, or an
+ * empty text and 0, with the number of bytes that a packet has. */
+static PyObject *said(PyObject *values, enum what what) {
     cadence_variables variables;
     uint32_t variable = 0, status = CADENCE_TOO_SMALL;
     uint16_t port = 0;
-    size_t len = 1, room = 0;
+    size_t len = 1, room = 0, capacity = 0;
     PyObject *made = NULL;
     uint8_t *text = NULL, *more;
     if (!read_variables(values, &variables)) return NULL;
     while (status == CADENCE_TOO_SMALL && (more = PyMem_Realloc(text, len)) != NULL) {
         text = more;
         room = len;
-        status = tags ? cadence_environment_tags(&variables, text, room, &len, &variable)
-                      : cadence_destination(&variables, text, room, &len, &port, &variable);
+        status = what == TAGS     ? cadence_environment_tags(&variables, text, room, &len, &variable)
+                 : what == PREFIX ? cadence_environment_prefix(&variables, text, room, &len, &variable)
+                                  : cadence_destination(&variables, text, room, &len, &port, &capacity, &variable);
     }
-    if (status == CADENCE_OK) made = Py_BuildValue("(s#i)", (const char *)text, (Py_ssize_t)len, (int)port);
+    if (status == CADENCE_OK) made = Py_BuildValue("(s#in)", (const char *)text, (Py_ssize_t)len, (int)port, (Py_ssize_t)capacity);
     else refused(status, variable);
     PyMem_Free(text);
     return made;
@@ -44,10 +49,15 @@ static PyObject *said(PyObject *values, bool tags) {
 
 PyObject *destination(PyObject *module, PyObject *values) {
     (void)module;
-    return said(values, false);
+    return said(values, PLACE);
+}
+
+PyObject *environment_prefix(PyObject *module, PyObject *values) {
+    (void)module;
+    return said(values, PREFIX);
 }
 
 PyObject *environment_tags(PyObject *module, PyObject *values) {
     (void)module;
-    return said(values, true);
+    return said(values, TAGS);
 }

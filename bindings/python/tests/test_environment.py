@@ -32,8 +32,13 @@ def variables(text):
 
 def shown(given):
     """Returns what is read from variables, as a row has it."""
-    host, port = environment.address(given)
+    host, port, size = environment.address(given)
     target = f"unix {host.removeprefix('unix://')}" if host.startswith("unix://") else f"udp {host} {port}"
+    target = "nowhere" if host == environment.NOWHERE else target
+    if size != (1432 if target.startswith("udp") else 8192):
+        target += f" {size}"
+    if prefix := environment.prefix(given):
+        target += f" as {prefix}"
     tags = [tag if isinstance(tag, str) else "=".join(tag) for tag in environment.tags(given)]
     return " | ".join([target, *tags]).encode()
 
@@ -81,6 +86,11 @@ class Clients(ClientTest):
         port = self.receiver.address[1]
         self.check(self.made(f"STATSD_PORT={port} & DD_ENV=prod & DD_TAGS=beta,k:v:w", "p"), "p.a:1|c|#env:prod,beta,k:v:w")
 
+    def test_a_prefix_of_the_caller_wins(self):
+        given = f"STATSD_PORT={self.receiver.address[1]} & STATSD_PREFIX=shop."
+        for words, line in (((), "shop.a:1|c"), (("p",), "p.a:1|c"), (("",), "a:1|c")):
+            self.check(self.made(given, *words), line)
+
     def test_no_prefix(self):
         self.check(self.made(f"DD_DOGSTATSD_URL=udp://localhost:{self.receiver.address[1]}"), "a:1|c")
 
@@ -125,6 +135,23 @@ class Clients(ClientTest):
                 client.close()
                 self.assertEqual(receiver.packets(), ["abc:1|c\n" * lines for lines in packets])
             receiver.socket.close()
+
+    def test_a_packet_over_udp_has_1432_bytes(self):
+        given = f"STATSD_PORT={self.receiver.address[1]}"
+        for words, packets in (({}, [179, 1]), ({"maxudpsize": 512}, [64, 64])):
+            client = self.made(given, **words)
+            for _ in range(sum(packets)):
+                client.incr("abc")
+            client.close()
+            self.assertEqual(self.receiver.packets(), ["abc:1|c\n" * lines for lines in packets])
+
+    def test_a_client_that_is_off_sends_nothing(self):
+        for switch in ("DD_DOGSTATSD_DISABLE=True", "STATSD_ENABLED=0"):
+            client = self.made(f"STATSD_PORT={self.receiver.address[1]} & {switch}", "p")
+            client.incr("a")
+            client.flush()
+            client.close()
+            self.assertEqual((self.receiver.packets(), self.faults, client.counts().sent), ([], [], 1))
 
     def test_a_variable_that_cant_be_used_makes_nothing(self):
         for given in ("DD_DOGSTATSD_URL=tcp://agent", "DD_AGENT_HOST=a b", "STATSD_PORT=0", "DD_TAGS=a|b", "DD_ENTITY_ID=\\xff"):

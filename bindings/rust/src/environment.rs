@@ -2,16 +2,13 @@
 //! What the variables of the environment say about a client.
 use crate::client::{StatsdClient, StatsdClientBuilder};
 use crate::layout::{Variables, VARIABLES};
-use crate::raw::{destination, environment_tags, variable_text};
-use crate::sinks::{Buffer, BufferedUnixMetricSink, HostSink, Periods, DEFAULT_CAPACITY};
+use crate::raw::{destination, environment_prefix, environment_tags, variable_text};
+use crate::sinks::{Buffer, BufferedUnixMetricSink, HostSink, NopMetricSink, Periods};
 use crate::types::MetricResult;
 use std::ffi::OsString;
 use std::net::IpAddr;
 use std::os::unix::net::UnixDatagram;
 use std::{env, error, fmt};
-
-/// How many bytes a packet to a Unix socket holds, as in the other languages.
-const UNIX_CAPACITY: usize = 8192;
 
 /// Where a client sends.
 #[derive(Clone, Debug, PartialEq, Eq)]
@@ -20,9 +17,12 @@ pub enum Target {
     Udp(String, u16),
     /// To a Unix datagram socket at an absolute path.
     Unix(String),
+    /// Nowhere: nothing is sent.
+    Nowhere,
 }
 
-/// What the variables of the environment say about a client: where it sends, and its default tags.
+/// What the variables of the environment say about a client: where it sends, how many bytes its packets have, its prefix
+/// and its default tags.
 ///
 /// A variable that is empty counts as not set, and a variable that another one overrides isn't read.
 ///
@@ -32,6 +32,9 @@ pub enum Target {
 /// | `DD_DOGSTATSD_SOCKET` | the absolute path of a Unix datagram socket, if `DD_DOGSTATSD_URL` isn't set |
 /// | `DD_AGENT_HOST`, `DD_DOGSTATSD_PORT` | the host and the port, if neither of the two above is set |
 /// | `STATSD_HOST`, `STATSD_PORT` | the host and the port, if none of the four above is set |
+/// | `DD_DOGSTATSD_DISABLE`, `STATSD_ENABLED` | that nothing is sent, if the first says `1`, `true`, `True` or `yes`, or the second `0`, `false`, `False` or `no` |
+/// | `STATSD_MAXUDPSIZE` | how many bytes a packet has over UDP, from 1 to 65507; by default 1432 |
+/// | `STATSD_PREFIX` | the prefix, for a caller that has none of its own |
 /// | `DD_ENV`, `DD_SERVICE`, `DD_VERSION` | the tags `env:..`, `service:..` and `version:..`, in this order |
 /// | `DD_TAGS` | the next tags, separated by commas, or by spaces if it has no comma; each is `K:V`, cut at its first colon, or `V` |
 /// | `DD_ENTITY_ID` | the last tag, `dd.internal.entity_id:..` |
@@ -51,6 +54,8 @@ pub enum Target {
 #[derive(Clone, Debug, PartialEq, Eq)]
 pub struct Environment {
     target: Target,
+    capacity: usize,
+    prefix: String,
     tags: Vec<(Option<String>, String)>,
 }
 
@@ -106,16 +111,30 @@ impl Environment {
     pub fn read_from(variable: impl Fn(&str) -> Option<OsString>) -> Result<Environment, EnvironmentError> {
         let values = VARIABLES.map(|name| variable(name).map_or(Vec::new(), OsString::into_encoded_bytes));
         let variables = Variables::new(&values);
-        let target = match destination(&variables).map_err(fault_of)? {
-            (path, 0) => Target::Unix(path),
-            (host, port) => Target::Udp(host, port),
+        let (text, port, capacity) = destination(&variables).map_err(fault_of)?;
+        let target = match port {
+            0 if text.is_empty() => Target::Nowhere,
+            0 => Target::Unix(text),
+            port => Target::Udp(text, port),
         };
-        Ok(Environment { target, tags: tags_of(&environment_tags(&variables).map_err(fault_of)?) })
+        let prefix = environment_prefix(&variables).map_err(fault_of)?;
+        let tags = tags_of(&environment_tags(&variables).map_err(fault_of)?);
+        Ok(Environment { target, capacity, prefix, tags })
     }
 
     /// Returns where to send.
     pub fn target(&self) -> &Target {
         &self.target
+    }
+
+    /// Returns how many bytes a packet has.
+    pub fn capacity(&self) -> usize {
+        self.capacity
+    }
+
+    /// Returns the prefix, which is empty by default: `environment.client(environment.prefix())` makes a client with it.
+    pub fn prefix(&self) -> &str {
+        &self.prefix
     }
 
     /// Returns the default tags, in their order, each with its key if it has one.
@@ -124,8 +143,9 @@ impl Environment {
     }
 
     /// Returns the builder of a client, to which other tags and an error handler can be added. The client sends to the
-    /// target from a socket of its own, which never blocks, and packs lines into packets of at most 512 bytes over UDP,
-    /// and 8192 bytes over a Unix socket. The prefix is that of [`StatsdClient::from_sink`].
+    /// target from a socket of its own, which never blocks, and packs lines into packets of
+    /// [`capacity`](Self::capacity). If nothing is sent, its sink is a [`NopMetricSink`](crate::NopMetricSink). The
+    /// prefix is that of [`StatsdClient::from_sink`].
     ///
     /// Of a name the first address of IPv4 is sent to, or if it has none the first one. A thread looks the name up again
     /// after a minute, and after a refused packet, but then at most once in a second. If that fails, the address stays.
@@ -134,8 +154,9 @@ impl Environment {
     /// memory runs out, and with `InvalidInput` if the host has no address.
     pub fn builder(&self, prefix: &str) -> MetricResult<StatsdClientBuilder> {
         let builder = match &self.target {
-            Target::Udp(host, port) => StatsdClient::builder(prefix, udp_sink(host, *port)?),
-            Target::Unix(path) => unix_builder(prefix, path)?,
+            Target::Udp(host, port) => StatsdClient::builder(prefix, udp_sink(host, *port, self.capacity)?),
+            Target::Unix(path) => unix_builder(prefix, path, self.capacity)?,
+            Target::Nowhere => StatsdClient::builder(prefix, NopMetricSink),
         };
         Ok(self.tags.iter().fold(builder, |builder, (key, text)| match key {
             Some(key) => builder.with_tag(key, text),
@@ -160,15 +181,15 @@ impl Environment {
 }
 
 /// Makes a sink over UDP. The name of a host is looked up again and again.
-fn udp_sink(host: &str, port: u16) -> MetricResult<Buffer<HostSink>> {
+fn udp_sink(host: &str, port: u16, capacity: usize) -> MetricResult<Buffer<HostSink>> {
     let periods = if host.parse::<IpAddr>().is_ok() { None } else { Some(Periods::USUAL) };
     let sink = HostSink::new((host.to_string(), port), periods)?;
-    Ok(Buffer::new(sink, DEFAULT_CAPACITY)?)
+    Ok(Buffer::new(sink, capacity)?)
 }
 
 /// Returns the builder of a client over a Unix socket.
-fn unix_builder(prefix: &str, path: &str) -> MetricResult<StatsdClientBuilder> {
+fn unix_builder(prefix: &str, path: &str, capacity: usize) -> MetricResult<StatsdClientBuilder> {
     let socket = UnixDatagram::unbound()?;
     socket.set_nonblocking(true)?;
-    Ok(StatsdClient::builder(prefix, BufferedUnixMetricSink::with_capacity(path, socket, UNIX_CAPACITY)))
+    Ok(StatsdClient::builder(prefix, BufferedUnixMetricSink::with_capacity(path, socket, capacity)))
 }

@@ -93,7 +93,7 @@ impl<'a> Settings<'a> {
 }
 
 /// The names of the variables of the environment.
-pub(crate) const VARIABLES: [&str; 11] = [
+pub(crate) const VARIABLES: [&str; 15] = [
     "DD_DOGSTATSD_URL",
     "DD_DOGSTATSD_SOCKET",
     "DD_AGENT_HOST",
@@ -105,6 +105,10 @@ pub(crate) const VARIABLES: [&str; 11] = [
     "DD_VERSION",
     "DD_TAGS",
     "DD_ENTITY_ID",
+    "DD_DOGSTATSD_DISABLE",
+    "STATSD_ENABLED",
+    "STATSD_MAXUDPSIZE",
+    "STATSD_PREFIX",
 ];
 
 /// The values of the variables of the environment, in the order of their names. One that isn't set is empty.

@@ -129,6 +129,14 @@ unsafe extern "C" {
         room: usize,
         size: *mut usize,
         port: *mut u16,
+        capacity: *mut usize,
+        variable: *mut u32,
+    ) -> u32;
+    fn cadence_environment_prefix(
+        variables: *const Variables<'_>,
+        out: *mut u8,
+        room: usize,
+        size: *mut usize,
         variable: *mut u32,
     ) -> u32;
     fn cadence_environment_tags(
@@ -234,14 +242,22 @@ unsafe fn said(mut call: impl FnMut(*mut u8, usize, &mut usize, &mut u32) -> u32
     })
 }
 
-/// Returns where the variables say to send: a host and its port, or the path of a Unix socket and the port 0.
-pub(crate) fn destination(variables: &Variables<'_>) -> Result<(String, u16), u32> {
-    let mut port = 0;
+/// Returns where the variables say to send: a host and its port, or the path of a Unix socket and the port 0, or an empty
+/// text and the port 0 if nothing is sent. The last number is how many bytes a packet has.
+pub(crate) fn destination(variables: &Variables<'_>) -> Result<(String, u16, usize), u32> {
+    let (mut port, mut capacity) = (0, 0);
     // SAFETY: the call reads the values with their lengths, and only writes to the room and the numbers. It writes a part
     // of a value that is UTF-8.
-    let text =
-        unsafe { said(|out, room, size, variable| cadence_destination(variables, out, room, size, &mut port, variable))? };
-    Ok((text, port))
+    let text = unsafe {
+        said(|out, room, size, variable| cadence_destination(variables, out, room, size, &mut port, &mut capacity, variable))?
+    };
+    Ok((text, port, capacity))
+}
+
+/// Returns the prefix that the variables say.
+pub(crate) fn environment_prefix(variables: &Variables<'_>) -> Result<String, u32> {
+    // SAFETY: as in `destination`.
+    unsafe { said(|out, room, size, variable| cadence_environment_prefix(variables, out, room, size, variable)) }
 }
 
 /// Returns the text of the tags that the variables say.

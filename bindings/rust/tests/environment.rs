@@ -38,7 +38,15 @@ fn shown(environment: &Environment) -> Vec<u8> {
     let mut text = match environment.target() {
         Target::Udp(host, port) => format!("udp {host} {port}"),
         Target::Unix(path) => format!("unix {path}"),
+        Target::Nowhere => "nowhere".to_string(),
     };
+    let usual = if matches!(environment.target(), Target::Udp(..)) { 1432 } else { 8192 };
+    if environment.capacity() != usual {
+        text += &format!(" {}", environment.capacity());
+    }
+    if !environment.prefix().is_empty() {
+        text += &format!(" as {}", environment.prefix());
+    }
     for (key, value) in environment.tags() {
         text += " | ";
         text += &key.as_ref().map_or(value.clone(), |key| format!("{key}={value}"));
@@ -104,6 +112,33 @@ fn a_client_packs_its_lines_and_has_the_tags() {
     client.incr_with_tags("b").with_tag("k", "v").send();
     client.flush().unwrap();
     assert_eq!("p.a:1|c|#env:prod,beta\np.b:1|c|#env:prod,beta,k:v\n", packet!(server));
+}
+
+#[test]
+fn a_client_that_is_off_sends_nothing() {
+    let server = UdpSocket::bind("127.0.0.1:0").unwrap();
+    server.set_nonblocking(true).unwrap();
+    let port = server.local_addr().unwrap().port();
+    let environment = read(&format!("STATSD_PORT={port} & DD_DOGSTATSD_DISABLE=true")).unwrap();
+    assert_eq!(&Target::Nowhere, environment.target());
+    let client = environment.client("p").unwrap();
+    client.incr("a").unwrap();
+    client.flush().unwrap();
+    drop(client);
+    assert_eq!(std::io::ErrorKind::WouldBlock, server.recv(&mut [0; 8]).unwrap_err().kind());
+}
+
+#[test]
+fn a_packet_has_1432_bytes_over_udp() {
+    let server = UdpSocket::bind("127.0.0.1:0").unwrap();
+    let port = server.local_addr().unwrap().port();
+    let client = read(&format!("STATSD_PORT={port}")).unwrap().client("").unwrap();
+    for _ in 0..180 {
+        client.incr("abc").unwrap();
+    }
+    assert_eq!("abc:1|c\n".repeat(179), packet!(server));
+    client.flush().unwrap();
+    assert_eq!("abc:1|c\n", packet!(server));
 }
 
 #[test]

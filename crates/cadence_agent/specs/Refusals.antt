@@ -38,7 +38,8 @@ IsUnixRefusal path _ = ⊥
 -- The destination may be an invalid input. Each host may be one, because it may have no address. A path is one if and
 -- only if it has a fault.
 abbrev pub MayBeInvalid : {A : Type 0} → Destination A → Type 0
-MayBeInvalid (place.Udp host port) = ⊤
+MayBeInvalid place.Nowhere = ⊥
+MayBeInvalid (place.Udp host port capacity) = ⊤
 MayBeInvalid (place.Unix path) = (fault : PathError) × IsFault (string_bytes path) fault
 
 -- A sink to a destination is not made because the destination is an invalid input, because the system refused the

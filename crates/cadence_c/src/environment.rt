@@ -1,21 +1,25 @@
 //! What the variables of the environment say of a client, for a host that read them. The calls need no client, and threads
 //! may make them at the same time.
-ghost use Rattle.std.specs.Prelude.{◌≡◌, ◌≢◌, ◌⊎◌, [], ◌∷◌, IfErr, IfOk, None, Some, if◌then◌else◌, map, true};
+ghost use Rattle.std.specs.Prelude.{◌≡◌, ◌≢◌, ◌⊎◌, ◌&&◌, [], ◌∷◌, IfErr, IfOk, IsFalse, if◌then◌else◌, map, not, true};
 ghost use Rattle.cadence_text.specs.Line.{tags_field};
 ghost use Rattle.cadence_text.specs.Owned.{tag_of_owned};
 ghost use Rattle.cadence_environment.specs.Destinations.{SaysPlace};
 ghost use Rattle.cadence_environment.specs.EnvironmentFaults.{IsRefusedVariable};
 ghost use Rattle.cadence_environment.specs.Shown.{destination_of, tags_of};
-ghost use Rattle.cadence_environment.specs.TagTexts.{tags_said};
+ghost use Rattle.cadence_environment.specs.TagTexts.{has_bytes, tags_said};
+ghost use Rattle.cadence_environment.specs.Switches.{turns_off};
 ghost use Rattle.cadence_errors.specs.declared.input_error.InputError.TheVariants.{Unusable};
 ghost use Rattle.cadence_environment.specs.declared.variables.Variables.{Variables as TheVariables};
-ghost use Rattle.cadence_c.specs.Environment.{ArePlacesRead, AreTagsRead, HasTexts, IsNamed, Names, SaysTarget, variable_named};
+ghost use Rattle.cadence_c.specs.Environment.{ArePlacesRead, AreTagsRead, HasTexts, IsNamed, Names, SaysTarget};
 ghost use Rattle.cadence_c.specs.Results.{WritesOut};
-ghost use Rattle.cadence_c.specs.Status.{CADENCE_INVALID, CADENCE_NO_MEMORY, CADENCE_TOO_SMALL, CADENCE_VARIABLE, IsOkOr};
+ghost use Rattle.cadence_c.specs.Status.{CADENCE_NO_MEMORY, CADENCE_TOO_SMALL, CADENCE_VARIABLE, IsOkOr};
 
 use crate::call::text_of;
 use crate::status::{StatusError, copy_out};
-use cadence_environment::{Destination, Environment, EnvironmentError, Variable, Variables};
+use crate::variable::number_of;
+use cadence_environment::{
+    Destination, Environment, EnvironmentError, Variable, Variables, is_off, read_prefix,
+};
 use cadence_text::line::{OwnedTag, TagsText, lend_tag};
 use std::alloc::{AllocError, Global};
 
@@ -34,45 +38,10 @@ pub struct CVariables<'a> {
     pub version: &'a [u8],
     pub tags: &'a [u8],
     pub entity_id: &'a [u8],
-}
-
-// Returns the number of a variable in C: its place in the struct of the texts.
-fn number_of(variable: Variable) -> u32
-    ensures { variable_named result ≡ Some variable }
-{
-    match variable {
-        Variable::Url => 0,
-        Variable::Socket => 1,
-        Variable::AgentHost => 2,
-        Variable::AgentPort => 3,
-        Variable::StatsdHost => 4,
-        Variable::StatsdPort => 5,
-        Variable::Env => 6,
-        Variable::Service => 7,
-        Variable::Version => 8,
-        Variable::Tags => 9,
-        Variable::EntityId => 10,
-    }
-}
-
-// Returns the variable that has this number in C, if one has it.
-fn variable_of(number: u32) -> Option<Variable>
-    ensures { result ≡ variable_named number }
-{
-    match number {
-        0 => Some(Variable::Url),
-        1 => Some(Variable::Socket),
-        2 => Some(Variable::AgentHost),
-        3 => Some(Variable::AgentPort),
-        4 => Some(Variable::StatsdHost),
-        5 => Some(Variable::StatsdPort),
-        6 => Some(Variable::Env),
-        7 => Some(Variable::Service),
-        8 => Some(Variable::Version),
-        9 => Some(Variable::Tags),
-        10 => Some(Variable::EntityId),
-        _ => None,
-    }
+    pub disable: &'a [u8],
+    pub enabled: &'a [u8],
+    pub max_size: &'a [u8],
+    pub prefix: &'a [u8],
 }
 
 // Returns the text of a variable, or the empty text if it is not wanted, because another variable overrides it.
@@ -91,6 +60,23 @@ fn read_variable(text: &[u8], variable: Variable, is_wanted: bool) -> Result<&st
     }
 }
 
+// Returns whether these texts of two variables don't say that nothing is sent.
+fn is_sending(disable: &str, enabled: &str) -> bool
+    ensures same { result ≡ not (turns_off disable.now enabled.now) }
+    ensures on { result ≡ true → IsFalse (turns_off disable.now enabled.now) }
+{
+    !is_off(disable, enabled)
+}
+
+// Returns whether a variable that is read lets the next one be read, because it is not set.
+fn lets_pass(is_read: bool, text: &[u8]) -> bool
+    ensures same { result ≡ (is_read && not (has_bytes text.now)) }
+    ensures read { result ≡ true → is_read ≡ true }
+    ensures unset { result ≡ true → text.now ≡ [] }
+{
+    is_read && text.is_empty()
+}
+
 // Returns the texts of the variables that say where to send. One that another variable overrides has the empty text, so
 // it is not tested, and so has each other variable.
 fn read_places<'a>(texts: &CVariables<'a>) -> Result<Variables<'a>, EnvironmentError>
@@ -98,11 +84,14 @@ fn read_places<'a>(texts: &CVariables<'a>) -> Result<Variables<'a>, EnvironmentE
     ensures refused { IfErr result (λ e. (v : TheVariables) →
         HasTexts texts.now v → IsRefusedVariable v e) }
 {
-    let no_url = texts.url.is_empty();
-    let no_path = no_url && texts.socket.is_empty();
-    let no_agent = no_path && texts.agent_host.is_empty() && texts.agent_port.is_empty();
+    let disable = read_variable(texts.disable, Variable::Disable, true)?;
+    let enabled = read_variable(texts.enabled, Variable::Enabled, true)?;
+    let is_on = is_sending(disable, enabled);
+    let no_url = lets_pass(is_on, texts.url);
+    let no_path = lets_pass(no_url, texts.socket);
+    let no_agent = lets_pass(lets_pass(no_path, texts.agent_host), texts.agent_port);
     Ok(Variables {
-        url: read_variable(texts.url, Variable::Url, true)?,
+        url: read_variable(texts.url, Variable::Url, is_on)?,
         socket: read_variable(texts.socket, Variable::Socket, no_url)?,
         agent_host: read_variable(texts.agent_host, Variable::AgentHost, no_path)?,
         agent_port: read_variable(texts.agent_port, Variable::AgentPort, no_path)?,
@@ -113,6 +102,10 @@ fn read_places<'a>(texts: &CVariables<'a>) -> Result<Variables<'a>, EnvironmentE
         version: "",
         tags: "",
         entity_id: "",
+        disable,
+        enabled,
+        max_size: read_variable(texts.max_size, Variable::MaxSize, is_on)?,
+        prefix: "",
     })
 }
 
@@ -134,6 +127,10 @@ fn read_tag_texts<'a>(texts: &CVariables<'a>) -> Result<Variables<'a>, Environme
         version: read_variable(texts.version, Variable::Version, true)?,
         tags: read_variable(texts.tags, Variable::Tags, true)?,
         entity_id: read_variable(texts.entity_id, Variable::EntityId, true)?,
+        disable: "",
+        enabled: "",
+        max_size: "",
+        prefix: "",
     })
 }
 
@@ -174,8 +171,9 @@ fn refusal(error: EnvironmentError, variable: &mut u32) -> u32
 }
 
 /// Writes where the variables say to send into the first bytes of `out`, and the length of that text into `size`: a host,
-/// with its port in `port`, or the path of a Unix socket, with the port 0. If a variable can't be used, its number is in
-/// `variable`. The variables that say tags are not tested.
+/// with its port in `port`, or the path of a Unix socket, with the port 0, or no text, with the port 0, if nothing is
+/// sent. How many bytes a packet has is in `capacity`. If a variable can't be used, its number is in `variable`. The
+/// variables that say tags are not tested.
 #[unsafe(no_mangle)]
 pub extern "C" fn cadence_destination(
     alloc: Global,
@@ -183,10 +181,11 @@ pub extern "C" fn cadence_destination(
     out: &mut [u8],
     size: &mut usize,
     port: &mut u16,
+    capacity: &mut usize,
     variable: &mut u32,
 ) -> u32
     ensures target { (v : TheVariables) → HasTexts variables.now v →
-        WritesOut result (λ text. SaysTarget v text port.new) out.new size.new }
+        WritesOut result (λ text. SaysTarget v text port.new capacity.new) out.new size.new }
     ensures refused { result ≡ CADENCE_VARIABLE → (v : TheVariables) → HasTexts variables.now v →
         IsNamed v variable.new }
     ensures statuses { IsOkOr (CADENCE_VARIABLE ∷ CADENCE_NO_MEMORY ∷ CADENCE_TOO_SMALL ∷ [])
@@ -197,8 +196,17 @@ pub extern "C" fn cadence_destination(
         Ok(environment) => environment,
         Err(error) => return refusal(error, variable),
     };
+    *capacity = environment.destination().capacity();
     match environment.destination() {
-        Destination::Udp { host, port: number } => {
+        Destination::Nowhere => {
+            *port = 0;
+            copy_out(&[], out, size)
+        }
+        Destination::Udp {
+            host,
+            port: number,
+            ..
+        } => {
             *port = *number;
             copy_out(host.as_bytes(), out, size)
         }
@@ -207,30 +215,6 @@ pub extern "C" fn cadence_destination(
             copy_out(path.as_bytes(), out, size)
         }
     }
-}
-
-/// Writes the message for a variable that can't be used into the first bytes of `out`, and the length of that text into
-/// `size`. The message begins with the name of the variable, and says what its value has to be. The status is that of
-/// `Invalid` if no variable has the number.
-#[unsafe(no_mangle)]
-pub extern "C" fn cadence_variable_text(
-    alloc: Global,
-    variable: u32,
-    out: &mut [u8],
-    size: &mut usize,
-) -> u32
-    ensures invalid { result ≡ CADENCE_INVALID → variable_named variable ≡ None }
-    ensures statuses { IsOkOr
-        (CADENCE_INVALID ∷ CADENCE_NO_MEMORY ∷ CADENCE_TOO_SMALL ∷ []) result }
-{
-    *size = 0;
-    let Some(variable) = variable_of(variable) else {
-        return StatusError::Invalid.code();
-    };
-    let Ok(text) = format!(in alloc; "{variable}") else {
-        return StatusError::NoMemory.code();
-    };
-    copy_out(text.as_bytes(), out, size)
 }
 
 // Returns the text of tags that own their texts. The error is that memory ran out.
@@ -270,4 +254,36 @@ pub extern "C" fn cadence_environment_tags(
         return StatusError::NoMemory.code();
     };
     copy_out(text.as_str().as_bytes(), out, size)
+}
+
+// Returns the prefix that a variable says, after it was tested.
+fn read_prefix_text<'a>(texts: &CVariables<'a>) -> Result<&'a str, EnvironmentError>
+    ensures same { IfOk result (λ prefix. prefix.now ≡ texts.now.prefix.now) }
+    ensures refused { IfErr result (λ e. (v : TheVariables) → HasTexts texts.now v →
+        IsRefusedVariable v e) }
+{
+    read_prefix(read_variable(texts.prefix, Variable::Prefix, true)?)
+}
+
+/// Writes the prefix that the variables say into the first bytes of `out`, and its length into `size`. If that variable
+/// can't be used, its number is in `variable`. No other one is tested.
+#[unsafe(no_mangle)]
+pub extern "C" fn cadence_environment_prefix(
+    variables: &CVariables<'_>,
+    out: &mut [u8],
+    size: &mut usize,
+    variable: &mut u32,
+) -> u32
+    ensures prefix { (v : TheVariables) → HasTexts variables.now v →
+        WritesOut result (λ text. text ≡ v.prefix.now) out.new size.new }
+    ensures refused { result ≡ CADENCE_VARIABLE → (v : TheVariables) → HasTexts variables.now v →
+        IsNamed v variable.new }
+    ensures statuses { IsOkOr (CADENCE_VARIABLE ∷ CADENCE_NO_MEMORY ∷ CADENCE_TOO_SMALL ∷ [])
+        result }
+{
+    *size = 0;
+    match read_prefix_text(variables) {
+        Ok(prefix) => copy_out(prefix.as_bytes(), out, size),
+        Err(error) => refusal(error, variable),
+    }
 }

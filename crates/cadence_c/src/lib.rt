@@ -5,6 +5,7 @@
 //! - `settings`: the settings, as texts that the host keeps
 //! - `texts`: the calls that make the texts of settings
 //! - `environment`: what the variables of the environment say
+//! - `variable`: the variables by their numbers in C
 //! - `line`: the line of a call
 //! - `format`: the calls that write a line and need no client
 //! - `floats`: the decimals of floats
@@ -33,6 +34,7 @@ mod sums;
 mod sums_handle;
 mod texts;
 mod value;
+mod variable;
 
 ghost use Rattle.std.specs.Prelude.{◌≡◌, ◌≢◌, ◌⊎◌, ◌≤◌, ◌<◌, [], ◌∷◌, None, Some, length, map, take, true};
 ghost use Rattle.cadence_value.specs.Number.{natural, whole};

@@ -1,9 +1,10 @@
 -- Where the variables of the environment say to send.
-use Rattle.std.specs.Prelude.{◌≡◌, ◌≢◌, ◌<◌, ◌^◌, ◌⊎◌, ℕ, List, [], ◌∷◌, ◌++◌, All, codes, slice_index, string_bytes}
+use Rattle.std.specs.Prelude.{◌≡◌, ◌≢◌, ◌<◌, ◌≤◌, ◌^◌, ◌⊎◌, ⊤, ℕ, List, [], ◌∷◌, ◌++◌, All, IsFalse, IsTrue, codes, slice_index, string_bytes}
 use Rattle.std.specs.Str.Parse.{IsNumeral, digits_value}
 use Rattle.cadence_environment.specs.Paths.{IsPath}
+use Rattle.cadence_environment.specs.Switches.{IsSwitch, turns_off}
 use Rattle.cadence_environment.specs.declared.destination.Destination.{Destination}
-use Rattle.cadence_environment.specs.declared.destination.Destination.TheVariants.{Udp, Unix}
+use Rattle.cadence_environment.specs.declared.destination.Destination.TheVariants.{Nowhere, Udp, Unix}
 use Rattle.cadence_environment.specs.declared.variables.Variables.{Variables}
 
 -- The text writes this port in digits: a number from 1 to 65535.
@@ -12,6 +13,13 @@ pub record IsPort (text : List ℕ) (port : ℕ) : Type 0 where
   pub written : port ≡ digits_value 10 text
   pub some : 0 < port
   pub fits : port < 2 ^ 16
+
+-- The text writes this number of bytes in digits: from 1 to 65507, the most that a UDP datagram holds.
+pub record IsSize (text : List ℕ) (size : ℕ) : Type 0 where
+  pub numeral : IsNumeral 10 text
+  pub written : size ≡ digits_value 10 text
+  pub some : 0 < size
+  pub fits : size ≤ 65507
 
 -- The byte can be in a host: it is no space, slash, bracket or control character of ASCII.
 abbrev pub IsHostByte : ℕ → Type 0
@@ -46,7 +54,8 @@ IsAbsolute text = IsPath text × (slice_index text 0 ≡ 47)
 
 -- The text is this path of a Unix socket, and begins at the root.
 abbrev pub SaysPath : {A : Type 0} → List ℕ → Destination A → Type 0
-SaysPath text (Udp host port) = ⊥
+SaysPath text Nowhere = ⊥
+SaysPath text (Udp host port capacity) = ⊥
 SaysPath text (Unix path) = (string_bytes path ≡ text) × IsAbsolute text
 
 -- The URL has this after `unix://` or `unixgram://`, which mean the same.
@@ -59,7 +68,8 @@ IsPathUrl url path = HasAfterUnix url path × IsAbsolute path
 
 -- The URL says this destination: udp://HOST, udp://HOST:PORT, unix:///PATH or unixgram:///PATH.
 abbrev pub SaysUrl : {A : Type 0} → List ℕ → Destination A → Type 0
-SaysUrl url (Udp host port) =
+SaysUrl url Nowhere = ⊥
+SaysUrl url (Udp host port capacity) =
     (text : List ℕ) × (url ≡ codes "udp://" ++ text) × IsAuthority text (string_bytes host) port
 SaysUrl url (Unix path) = IsPathUrl url (string_bytes path)
 
@@ -75,14 +85,48 @@ pub record SaysPort (text : List ℕ) (port : ℕ) : Type 0 where
 
 -- The texts of two variables say this host and this port.
 abbrev pub SaysHostAndPort : {A : Type 0} → List ℕ → List ℕ → Destination A → Type 0
-SaysHostAndPort host_text port_text (Udp host port) = SaysHost host_text (string_bytes host) × SaysPort port_text port
+SaysHostAndPort host_text port_text Nowhere = ⊥
+SaysHostAndPort host_text port_text (Udp host port capacity) = SaysHost host_text (string_bytes host) × SaysPort port_text port
 SaysHostAndPort host_text port_text (Unix path) = ⊥
 
--- The variables say this destination. `DD_DOGSTATSD_URL` wins over all others, and `DD_DOGSTATSD_SOCKET` over the rest.
+-- The text of a variable says this number of bytes. If the variable is not set, it is 1432.
+pub record SaysSize (text : List ℕ) (size : ℕ) : Type 0 where
+  pub unset : text ≡ [] → size ≡ 1432
+  pub set : text ≢ [] → IsSize text size
+
+-- A packet to the destination has as many bytes as the text of a variable says, if it is sent over UDP.
+abbrev pub SaysCapacity : {A : Type 0} → List ℕ → Destination A → Type 0
+SaysCapacity text (Udp host port capacity) = SaysSize text capacity
+SaysCapacity text _ = ⊤
+
+-- A packet to the destination has this number of bytes, if it is sent over UDP.
+abbrev pub HasCapacity : {A : Type 0} → ℕ → Destination A → Type 0
+HasCapacity size (Udp host port capacity) = capacity ≡ size
+HasCapacity size _ = ⊤
+
+-- how many bytes a packet to the destination has
+abbrev pub capacity_of : {A : Type 0} → Destination A → ℕ
+capacity_of (Udp host port capacity) = capacity
+capacity_of _ = 8192
+
+-- The variables say this target. `DD_DOGSTATSD_URL` wins over all others, and `DD_DOGSTATSD_SOCKET` over the rest.
 -- `DD_AGENT_HOST` and `DD_DOGSTATSD_PORT` win over the last two, even if only one of them is set.
-pub record SaysPlace {A : Type 0} (v : Variables) (d : Destination A) : Type 0 where
+pub record SaysTarget {A : Type 0} (v : Variables) (d : Destination A) : Type 0 where
   pub url : v.url.now ≢ [] → SaysUrl v.url.now d
   pub socket : v.url.now ≡ [] → v.socket.now ≢ [] → SaysPath v.socket.now d
   pub host : v.url.now ≡ [] → v.socket.now ≡ [] → v.agent_host.now ≢ [] → SaysHostAndPort v.agent_host.now v.agent_port.now d
   pub port : v.url.now ≡ [] → v.socket.now ≡ [] → v.agent_port.now ≢ [] → SaysHostAndPort v.agent_host.now v.agent_port.now d
   pub others : v.url.now ≡ [] → v.socket.now ≡ [] → v.agent_host.now ≡ [] → v.agent_port.now ≡ [] → SaysHostAndPort v.statsd_host.now v.statsd_port.now d
+  pub capacity : SaysCapacity v.max_size.now d
+
+-- Nothing is sent.
+abbrev pub IsNowhere : {A : Type 0} → Destination A → Type 0
+IsNowhere Nowhere = ⊤
+IsNowhere _ = ⊥
+
+-- The variables say this destination: nowhere if one of them says that nothing is sent, and otherwise their target.
+pub record SaysPlace {A : Type 0} (v : Variables) (d : Destination A) : Type 0 where
+  pub disable : IsSwitch v.disable.now
+  pub enabled : IsSwitch v.enabled.now
+  pub off : IsTrue (turns_off v.disable.now v.enabled.now) → IsNowhere d
+  pub on : IsFalse (turns_off v.disable.now v.enabled.now) → SaysTarget v d

@@ -1,12 +1,13 @@
 -- Why nothing is read from the environment.
-use Rattle.std.specs.Prelude.{◌≡◌, ◌≢◌, ◌⊎◌, ⊤, ℕ, List, []}
+use Rattle.std.specs.Prelude.{◌≡◌, ◌≢◌, ◌⊎◌, ⊤, ℕ, List, [], IsFalse}
 use Rattle.cadence_value.specs.Finds.{HasNone}
 use Rattle.cadence_errors.specs.declared.input_error.InputError.{InputError}
 use Rattle.cadence_errors.specs.declared.input_error.InputError.TheVariants.{Unusable, OutOfMemory}
 use Rattle.cadence_environment.specs.Destinations.{IsAbsolute, IsPathUrl}
+use Rattle.cadence_environment.specs.Switches.{turns_off}
 use Rattle.cadence_environment.specs.declared.variables.Variable.{Variable}
 use Rattle.cadence_environment.specs.declared.variables.Variable.TheVariants.{Url, Socket, AgentHost, AgentPort, StatsdHost, StatsdPort}
-use Rattle.cadence_environment.specs.declared.variables.Variable.TheVariants.{Env, Service, Version, Tags, EntityId}
+use Rattle.cadence_environment.specs.declared.variables.Variable.TheVariants.{Env, Service, Version, Tags, EntityId, Disable, Enabled, MaxSize, Prefix}
 use Rattle.cadence_environment.specs.declared.variables.Variables.{Variables}
 
 -- The error names this variable, or says that memory ran out.
@@ -19,19 +20,27 @@ abbrev pub IsMemoryOr : Type 0 → InputError Variable → Type 0
 IsMemoryOr fact (Unusable variable) = fact
 IsMemoryOr fact OutOfMemory = ⊤
 
+-- The variables don't say that nothing is sent.
+abbrev pub IsOn : Variables → Type 0
+IsOn v = IsFalse (turns_off v.disable.now v.enabled.now)
+
 -- The variable is set, and no other one overrides it.
 abbrev pub IsRead : Variables → Variable → Type 0
-IsRead v Url = v.url.now ≢ []
-IsRead v Socket = (v.url.now ≡ []) × (v.socket.now ≢ [])
-IsRead v AgentHost = (v.url.now ≡ []) × (v.socket.now ≡ []) × (v.agent_host.now ≢ [])
-IsRead v AgentPort = (v.url.now ≡ []) × (v.socket.now ≡ []) × (v.agent_port.now ≢ [])
-IsRead v StatsdHost = (v.url.now ≡ []) × (v.socket.now ≡ []) × (v.agent_host.now ≡ []) × (v.agent_port.now ≡ []) × (v.statsd_host.now ≢ [])
-IsRead v StatsdPort = (v.url.now ≡ []) × (v.socket.now ≡ []) × (v.agent_host.now ≡ []) × (v.agent_port.now ≡ []) × (v.statsd_port.now ≢ [])
+IsRead v Url = IsOn v × (v.url.now ≢ [])
+IsRead v Socket = IsOn v × (v.url.now ≡ []) × (v.socket.now ≢ [])
+IsRead v AgentHost = IsOn v × (v.url.now ≡ []) × (v.socket.now ≡ []) × (v.agent_host.now ≢ [])
+IsRead v AgentPort = IsOn v × (v.url.now ≡ []) × (v.socket.now ≡ []) × (v.agent_port.now ≢ [])
+IsRead v StatsdHost = IsOn v × (v.url.now ≡ []) × (v.socket.now ≡ []) × (v.agent_host.now ≡ []) × (v.agent_port.now ≡ []) × (v.statsd_host.now ≢ [])
+IsRead v StatsdPort = IsOn v × (v.url.now ≡ []) × (v.socket.now ≡ []) × (v.agent_host.now ≡ []) × (v.agent_port.now ≡ []) × (v.statsd_port.now ≢ [])
 IsRead v Env = v.env.now ≢ []
 IsRead v Service = v.service.now ≢ []
 IsRead v Version = v.version.now ≢ []
 IsRead v Tags = v.tags.now ≢ []
 IsRead v EntityId = v.entity_id.now ≢ []
+IsRead v Disable = v.disable.now ≢ []
+IsRead v Enabled = v.enabled.now ≢ []
+IsRead v MaxSize = IsOn v × (v.max_size.now ≢ [])
+IsRead v Prefix = v.prefix.now ≢ []
 
 -- The error names a variable that is set and that no other one overrides, or says that memory ran out.
 abbrev pub IsRefusedVariable : Variables → InputError Variable → Type 0

@@ -1,5 +1,5 @@
 -- What contracts show of an environment, whose fields are private.
-use Rattle.std.specs.Prelude.{List, map}
+use Rattle.std.specs.Prelude.{ℕ, List, map, string_bytes}
 use Rattle.cadence_text.specs.Metric.{Tag}
 use Rattle.cadence_text.specs.Owned.{tag_of_owned}
 use Rattle.cadence_environment.specs.declared.destination.Destination.{Destination}
@@ -8,6 +8,10 @@ use Rattle.cadence_environment.specs.declared.read.Environment.{Environment}
 -- where the environment says to send
 abbrev pub destination_of : {A : Type 0} → Environment A → Destination A
 destination_of e = e.destination
+
+-- the prefix that the environment says
+abbrev pub prefix_of : {A : Type 0} → Environment A → List ℕ
+prefix_of e = string_bytes e.prefix
 
 -- the tags that the environment says, in order
 abbrev pub tags_of : {A : Type 0} → Environment A → List Tag

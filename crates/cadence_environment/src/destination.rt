@@ -1,13 +1,15 @@
 //! Where the variables say to send.
-ghost use Rattle.std.specs.Prelude.{◌≡◌, ◌↔◌, IfErr, IfNone, IfOk, IfSome, IsTrue, OnErr};
-ghost use Rattle.cadence_value.specs.Finds.{Finds, HasNone};
-ghost use Rattle.cadence_environment.specs.Destinations.{EndsWithPort, HasAfterUnix, IsAbsolute, IsAuthority, IsHost, IsHostByte, IsPathUrl, IsPort, NamesHost};
-ghost use Rattle.cadence_environment.specs.Destinations.{SaysHost, SaysHostAndPort, SaysPath, SaysPlace, SaysPort, SaysUrl};
-ghost use Rattle.cadence_environment.specs.EnvironmentFaults.{IsFaultOf, IsMemoryOr, IsPairFault, IsRefusedVariable, IsSetFault, NamesNoPath};
+ghost use Rattle.std.specs.Prelude.{◌≡◌, ◌↔◌, IfErr, IfNone, IfOk, IfSome, IsTrue};
+ghost use Rattle.cadence_value.specs.Finds.{HasNone};
+ghost use Rattle.cadence_environment.specs.Destinations.{EndsWithPort, HasAfterUnix, HasCapacity, IsAbsolute, IsAuthority, IsHost, IsHostByte, IsPathUrl, NamesHost};
+ghost use Rattle.cadence_environment.specs.Destinations.{SaysHost, SaysHostAndPort, SaysPath, SaysPlace, SaysTarget, SaysUrl, capacity_of};
+ghost use Rattle.cadence_environment.specs.EnvironmentFaults.{IsFaultOf, IsMemoryOr, IsOn, IsPairFault, IsRefusedVariable, IsSetFault, NamesNoPath};
 ghost use Rattle.cadence_environment.specs.declared.variables.Variable.TheVariants as variable;
 
 use crate::error::EnvironmentError;
+use crate::numbers::{port_or_default, read_port, size_or_default};
 use crate::path::check_path;
+use crate::switch::{check_switches, is_off};
 use crate::variables::{Variable, Variables};
 use cadence_resolve::DEFAULT_PORT;
 use cadence_value::bytes::split_text_once;
@@ -17,25 +19,36 @@ use std::net::Ipv6Addr;
 // The host to which packets are sent if none is set.
 const DEFAULT_HOST: &str = "127.0.0.1";
 
+// How many bytes a packet to a Unix socket has. The agent reads datagrams of this length unless it is configured
+// otherwise.
+const UNIX_CAPACITY: usize = 8192;
+
 /// Where packets are sent.
 #[derive(Drop)]
 pub enum Destination<A: Allocator = Global> {
-    /// A host, which is a name or an address without brackets, and a UDP port.
-    Udp { host: String<A>, port: u16 },
+    /// Nowhere: nothing is sent.
+    Nowhere,
+    /// A host, which is a name or an address without brackets, a UDP port, and how many bytes a packet has.
+    Udp {
+        host: String<A>,
+        port: u16,
+        capacity: usize,
+    },
     /// The path of a Unix datagram socket, which `check_path` accepts.
-    Unix { path: String<A> },
+    Unix {
+        path: String<A>,
+    },
 }
 
-/// Reads a port: a number from 1 to 65535, in digits. So a text with a sign is no port.
-pub fn read_port(text: &str) -> Option<u16>
-    ensures { Finds (IsPort text.now) result }
-{
-    if text.starts_with('+') {
-        return None;
-    }
-    match text.parse::<u16>() {
-        Ok(port) if port > 0 => Some(port),
-        _ => None,
+impl<A: Allocator> Destination<A> {
+    /// Returns how many bytes a packet has. If nothing is sent, it is as many as to a Unix socket.
+    pub fn capacity(&self) -> usize
+        ensures { result ≡ capacity_of self.now }
+    {
+        match self {
+            Destination::Udp { capacity, .. } => *capacity,
+            _ => UNIX_CAPACITY,
+        }
     }
 }
 
@@ -150,8 +163,13 @@ fn after_unix(url: &str) -> Option<&str>
 }
 
 // Reads a URL: udp://HOST, udp://HOST:PORT, unix:///PATH or unixgram:///PATH.
-fn read_url<A: Allocator>(alloc: A, url: &str) -> Result<Destination<A>, EnvironmentError>
+fn read_url<A: Allocator>(
+    alloc: A,
+    url: &str,
+    capacity: usize,
+) -> Result<Destination<A>, EnvironmentError>
     ensures said { IfOk result (SaysUrl url.now) }
+    ensures capacity { IfOk result (HasCapacity capacity) }
     ensures refused { IfErr result (IsFaultOf variable.Url) }
     ensures paths { IfErr result (IsMemoryOr (HasNone (IsPathUrl url.now))) }
 {
@@ -165,7 +183,11 @@ fn read_url<A: Allocator>(alloc: A, url: &str) -> Result<Destination<A>, Environ
         return Err(EnvironmentError::Unusable(Variable::Url));
     };
     let host = String::from_str(alloc, host)?;
-    Ok(Destination::Udp { host, port })
+    Ok(Destination::Udp {
+        host,
+        port,
+        capacity,
+    })
 }
 
 // Returns the host that a variable says, or that of this machine if the variable is not set.
@@ -182,35 +204,52 @@ fn host_or_default(variable: Variable, text: &str) -> Result<&str, EnvironmentEr
     }
 }
 
-// Returns the port that a variable says, or 8125 if the variable is not set.
-fn port_or_default(variable: Variable, text: &str) -> Result<u16, EnvironmentError>
-    ensures said { IfOk result (SaysPort text.now) }
-    ensures refused { IfErr result (IsSetFault variable text.now) }
-    ensures none { OnErr result (HasNone (SaysPort text.now)) }
-{
-    if text.is_empty() {
-        return Ok(DEFAULT_PORT);
-    }
-    match read_port(text) {
-        Some(port) => Ok(port),
-        None => Err(EnvironmentError::Unusable(variable)),
-    }
-}
-
 // Makes the destination from a host and a port, each given as a variable and the text of this variable.
 fn read_pair<A: Allocator>(
     alloc: A,
     host: (Variable, &str),
     port: (Variable, &str),
+    capacity: usize,
 ) -> Result<Destination<A>, EnvironmentError>
     ensures said { IfOk result (SaysHostAndPort host.entry.1.now port.entry.1.now) }
+    ensures capacity { IfOk result (HasCapacity capacity) }
     ensures refused { IfErr result
         (IsPairFault host.entry.0 host.entry.1.now port.entry.0 port.entry.1.now) }
 {
     let host = host_or_default(host.0, host.1)?;
     let port = port_or_default(port.0, port.1)?;
     let host = String::from_str(alloc, host)?;
-    Ok(Destination::Udp { host, port })
+    Ok(Destination::Udp {
+        host,
+        port,
+        capacity,
+    })
+}
+
+// Returns the target that the variables say, whether or not they say that nothing is sent.
+fn read_target<A: Allocator>(
+    alloc: A,
+    variables: &Variables<'_>,
+) -> Result<Destination<A>, EnvironmentError>
+    ensures said { IfOk result (SaysTarget variables.now) }
+    ensures refused { IfErr result (λ e. IsOn variables.now → IsRefusedVariable variables.now e) }
+    ensures paths { IfErr result (NamesNoPath variables.now) }
+{
+    let capacity = size_or_default(variables.max_size)?;
+    if !variables.url.is_empty() {
+        return read_url(alloc, variables.url, capacity);
+    }
+    if !variables.socket.is_empty() {
+        return read_path(alloc, Variable::Socket, variables.socket);
+    }
+    if !variables.agent_host.is_empty() || !variables.agent_port.is_empty() {
+        let host = (Variable::AgentHost, variables.agent_host);
+        let port = (Variable::AgentPort, variables.agent_port);
+        return read_pair(alloc, host, port, capacity);
+    }
+    let host = (Variable::StatsdHost, variables.statsd_host);
+    let port = (Variable::StatsdPort, variables.statsd_port);
+    read_pair(alloc, host, port, capacity)
 }
 
 // Returns where the variables say to send.
@@ -222,16 +261,9 @@ pub(crate) fn read_destination<A: Allocator>(
     ensures refused { IfErr result (IsRefusedVariable variables.now) }
     ensures paths { IfErr result (NamesNoPath variables.now) }
 {
-    if !variables.url.is_empty() {
-        return read_url(alloc, variables.url);
+    check_switches(variables)?;
+    if is_off(variables.disable, variables.enabled) {
+        return Ok(Destination::Nowhere);
     }
-    if !variables.socket.is_empty() {
-        return read_path(alloc, Variable::Socket, variables.socket);
-    }
-    if !variables.agent_host.is_empty() || !variables.agent_port.is_empty() {
-        let host = (Variable::AgentHost, variables.agent_host);
-        return read_pair(alloc, host, (Variable::AgentPort, variables.agent_port));
-    }
-    let host = (Variable::StatsdHost, variables.statsd_host);
-    read_pair(alloc, host, (Variable::StatsdPort, variables.statsd_port))
+    read_target(alloc, variables)
 }

@@ -2,8 +2,11 @@
 //!
 //! - `destination`: where the variables say to send.
 //! - `error`: why nothing is read from the environment.
+//! - `numbers`: the numbers that the variables say: ports, and how many bytes a packet has.
 //! - `path`: which texts can be the path of a Unix socket.
+//! - `prefix`: the prefix that a variable says.
 //! - `read`: what the environment says, read from a runtime or from texts.
+//! - `switch`: whether the variables say that nothing is sent.
 //! - `tags`: the tags that the variables say.
 //! - `trim`: texts without the spaces round them.
 //! - `variables`: the variables of the environment, and the texts that they have.
@@ -11,14 +14,20 @@
 
 mod destination;
 mod error;
+mod numbers;
 mod path;
+mod prefix;
 mod read;
+mod switch;
 mod tags;
 mod trim;
 mod variables;
 
-pub use destination::{Destination, read_port};
+pub use destination::Destination;
 pub use error::EnvironmentError;
+pub use numbers::read_port;
 pub use path::{MAX_PATH, PathError, check_path};
+pub use prefix::read_prefix;
 pub use read::Environment;
+pub use switch::is_off;
 pub use variables::{Variable, Variables};

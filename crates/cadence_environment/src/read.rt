@@ -7,6 +7,8 @@ ghost use Rattle.cadence_environment.specs.TagTexts.{tags_said};
 
 use crate::destination::{Destination, read_destination};
 use crate::error::EnvironmentError;
+use crate::prefix::read_prefix;
+use crate::switch::is_off;
 use crate::tags::{Tags, read_tags};
 use crate::variables::{Variable, Variables};
 use cadence_text::line::OwnedTag;
@@ -14,21 +16,29 @@ use std::alloc::{Alloc, Allocator, Global};
 use std::env;
 use std::env::{Env, VarError};
 
-/// What the environment says: where to send, and the default tags of the service.
+/// What the environment says: where to send, the prefix of all names, and the default tags of the service.
 #[derive(Drop)]
 pub struct Environment<A: Allocator = Global> {
     destination: Destination<A>,
+    prefix: String<A>,
     tags: Tags<A>,
 }
 
 impl<A: Allocator> Environment<A> {
-    ghost use Rattle.cadence_environment.specs.Shown.{destination_of, tags_of};
+    ghost use Rattle.cadence_environment.specs.Shown.{destination_of, prefix_of, tags_of};
 
     /// Returns where the environment says to send.
     pub fn destination(&self) -> &Destination<A>
         ensures { result.now ≡ destination_of self.now }
     {
         &self.destination
+    }
+
+    /// Returns the prefix that the environment says, which is empty by default. It is meant for a caller that has none.
+    pub fn prefix(&self) -> &str
+        ensures { result.now ≡ prefix_of self.now }
+    {
+        &self.prefix
     }
 
     /// Returns the tags that the environment says, in order.
@@ -40,7 +50,7 @@ impl<A: Allocator> Environment<A> {
 }
 
 impl<A: Allocator + Clone> Environment<A> {
-    ghost use Rattle.cadence_environment.specs.Shown.{destination_of, tags_of};
+    ghost use Rattle.cadence_environment.specs.Shown.{destination_of, prefix_of, tags_of};
 
     /// Returns what these texts of the variables say.
     ///
@@ -52,13 +62,19 @@ impl<A: Allocator + Clone> Environment<A> {
         variables: &Variables<'_>,
     ) -> Result<Environment<A>, EnvironmentError>
         ensures place { IfOk result (λ e. SaysPlace variables.now (destination_of e)) }
+        ensures prefix { IfOk result (λ e. prefix_of e ≡ variables.now.prefix.now) }
         ensures tags { IfOk result (λ e. tags_of e ≡ tags_said variables.now) }
         ensures refused { IfErr result (IsRefusedVariable variables.now) }
         ensures paths { IfErr result (NamesNoPath variables.now) }
     {
         let destination = read_destination(alloc.clone()?, variables)?;
+        let prefix = String::from_str(alloc.clone()?, read_prefix(variables.prefix)?)?;
         let tags = read_tags(alloc, variables)?;
-        Ok(Environment { destination, tags })
+        Ok(Environment {
+            destination,
+            prefix,
+            tags,
+        })
     }
 
     /// Reads the variables of the runtime's environment, and returns what they say. A variable that another one
@@ -67,8 +83,14 @@ impl<A: Allocator + Clone> Environment<A> {
     /// # Errors
     /// `Unusable` with a variable that can't be used as it is set, also because it is not UTF-8, and `OutOfMemory`.
     pub fn read<R: Env + Alloc<A = A>>(rt: &R) -> Result<Environment<A>, EnvironmentError> {
-        let (places, tags) = (PlaceTexts::read(rt)?, TagTexts::read(rt)?);
-        Environment::from_variables(rt.alloc(), &tags.lend(places.lend(Variables::none())))
+        let places = PlaceTexts::read(rt)?;
+        let prefix = read_text(rt, Variable::Prefix, true)?;
+        let tags = TagTexts::read(rt)?;
+        let others = Variables {
+            prefix: &prefix,
+            ..Variables::none()
+        };
+        Environment::from_variables(rt.alloc(), &tags.lend(places.lend(others)))
     }
 
     /// Reads the variables that say where to send, and returns what they say. The tags are not read.
@@ -122,13 +144,19 @@ struct PlaceTexts<A: Allocator> {
     agent_port: String<A>,
     statsd_host: String<A>,
     statsd_port: String<A>,
+    disable: String<A>,
+    enabled: String<A>,
+    max_size: String<A>,
 }
 
 impl<A: Allocator> PlaceTexts<A> {
     // Reads the texts of the variables that no other one overrides.
     fn read<R: Env + Alloc<A = A>>(rt: &R) -> Result<PlaceTexts<A>, EnvironmentError> {
-        let url = read_text(rt, Variable::Url, true)?;
-        let no_url = url.is_empty();
+        let disable = read_text(rt, Variable::Disable, true)?;
+        let enabled = read_text(rt, Variable::Enabled, true)?;
+        let is_on = !is_off(&disable, &enabled);
+        let url = read_text(rt, Variable::Url, is_on)?;
+        let no_url = is_on && url.is_empty();
         let socket = read_text(rt, Variable::Socket, no_url)?;
         let no_path = no_url && socket.is_empty();
         let agent_host = read_text(rt, Variable::AgentHost, no_path)?;
@@ -136,6 +164,7 @@ impl<A: Allocator> PlaceTexts<A> {
         let no_agent = no_path && agent_host.is_empty() && agent_port.is_empty();
         let statsd_host = read_text(rt, Variable::StatsdHost, no_agent)?;
         let statsd_port = read_text(rt, Variable::StatsdPort, no_agent)?;
+        let max_size = read_text(rt, Variable::MaxSize, is_on)?;
         Ok(PlaceTexts {
             url,
             socket,
@@ -143,6 +172,9 @@ impl<A: Allocator> PlaceTexts<A> {
             agent_port,
             statsd_host,
             statsd_port,
+            disable,
+            enabled,
+            max_size,
         })
     }
 
@@ -155,6 +187,9 @@ impl<A: Allocator> PlaceTexts<A> {
             agent_port: &self.agent_port,
             statsd_host: &self.statsd_host,
             statsd_port: &self.statsd_port,
+            disable: &self.disable,
+            enabled: &self.enabled,
+            max_size: &self.max_size,
             ..others
         }
     }

@@ -28,6 +28,14 @@ pub enum Variable {
     Tags,
     /// `DD_ENTITY_ID`: the value of the tag `dd.internal.entity_id`.
     EntityId,
+    /// `DD_DOGSTATSD_DISABLE`: if it says yes, nothing is sent.
+    Disable,
+    /// `STATSD_ENABLED`: if it says no, nothing is sent.
+    Enabled,
+    /// `STATSD_MAXUDPSIZE`: the most bytes of a packet over UDP.
+    MaxSize,
+    /// `STATSD_PREFIX`: the prefix of all names, if the caller gives none.
+    Prefix,
 }
 
 impl Variable {
@@ -45,6 +53,10 @@ impl Variable {
             Variable::Version => "DD_VERSION",
             Variable::Tags => "DD_TAGS",
             Variable::EntityId => "DD_ENTITY_ID",
+            Variable::Disable => "DD_DOGSTATSD_DISABLE",
+            Variable::Enabled => "STATSD_ENABLED",
+            Variable::MaxSize => "STATSD_MAXUDPSIZE",
+            Variable::Prefix => "STATSD_PREFIX",
         }
     }
 }
@@ -70,6 +82,11 @@ impl Reason for Variable {
                 "DD_TAGS wants tags K:V or V, no bars or newlines, as in DD_TAGS=a:b,c",
             Variable::EntityId =>
                 "DD_ENTITY_ID wants no commas, bars or newlines, as in DD_ENTITY_ID=9f2c",
+            Variable::Disable => "DD_DOGSTATSD_DISABLE wants 1, true or yes, or 0, false or no",
+            Variable::Enabled => "STATSD_ENABLED wants 1, true or yes, or 0, false or no",
+            Variable::MaxSize =>
+                "STATSD_MAXUDPSIZE wants 1 to 65507 bytes, as in STATSD_MAXUDPSIZE=1432",
+            Variable::Prefix => "STATSD_PREFIX wants no colons, commas, bars or newlines",
         }
     }
 }
@@ -105,6 +122,14 @@ pub struct Variables<'a> {
     pub tags: &'a str,
     /// The text of `DD_ENTITY_ID`.
     pub entity_id: &'a str,
+    /// The text of `DD_DOGSTATSD_DISABLE`.
+    pub disable: &'a str,
+    /// The text of `STATSD_ENABLED`.
+    pub enabled: &'a str,
+    /// The text of `STATSD_MAXUDPSIZE`.
+    pub max_size: &'a str,
+    /// The text of `STATSD_PREFIX`.
+    pub prefix: &'a str,
 }
 
 impl Variables<'_> {
@@ -122,6 +147,10 @@ impl Variables<'_> {
             version: "",
             tags: "",
             entity_id: "",
+            disable: "",
+            enabled: "",
+            max_size: "",
+            prefix: "",
         }
     }
 }

@@ -36,7 +36,7 @@ use cadence_sinks::SocketWriter;
 use cadence_words::Defaults;
 use std::alloc::{AllocError, Global};
 use std::env;
-use std::io::{ErrorKind, Read};
+use std::io::{self, ErrorKind, Read, Write};
 use std::process::ExitCode;
 
 fn main(rt: HostRuntime) -> ExitCode {
@@ -94,7 +94,7 @@ fn send(rt: &HostRuntime, arguments: &Arguments<'_>) -> ExitCode {
         return exit_with_error(rt, error.status(), error);
     }
     if options.is_printing {
-        return print_packets(rt, arguments, &defaults);
+        return print_packets(rt, arguments, &defaults, rt.stdout());
     }
     // If the standard input is closed, the system gives its number, file descriptor 0, to the next file that is opened.
     // That would be our socket, and the program would wait for input from it. Reading 0 bytes now finds out, since it
@@ -109,16 +109,22 @@ fn send(rt: &HostRuntime, arguments: &Arguments<'_>) -> ExitCode {
         Err(error) => return exit_with_error(rt, error.status(), error),
     };
     match &place.target {
-        Destination::Udp { host, port } => {
+        Destination::Nowhere => print_packets(rt, arguments, &defaults, io::sink()),
+        Destination::Udp { host, port, .. } => {
             send_to_host(rt, arguments, defaults, &place, host, *port)
         }
         Destination::Unix { path } => send_to_path(rt, arguments, defaults, &place, path),
     }
 }
 
-// Prints the packets. Returns the exit status.
-fn print_packets(rt: &HostRuntime, arguments: &Arguments<'_>, defaults: &Defaults) -> ExitCode {
-    let Ok(writer) = PacketPrinter::new(rt.alloc(), rt.stdout()) else {
+// Prints the packets to an output. Returns the exit status.
+fn print_packets<O: Write + Drop>(
+    rt: &HostRuntime,
+    arguments: &Arguments<'_>,
+    defaults: &Defaults,
+    output: O,
+) -> ExitCode {
+    let Ok(writer) = PacketPrinter::new(rt.alloc(), output) else {
         return exit_with_error(rt, 3, OUT_OF_MEMORY);
     };
     let Ok(mut lines) = LineBuffer::new(rt.alloc(), writer, arguments.options.capacity) else {

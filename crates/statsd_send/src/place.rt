@@ -1,6 +1,7 @@
 //! The place to which packets are sent, and where it comes from.
 use cadence_agent::{Destination, Environment, EnvironmentError, PathError, Variable, check_path};
 use cadence_environment::read_port;
+use cadence_flow::io::DEFAULT_CAPACITY;
 use cadence_send::Destination as Asked;
 use std::alloc::AllocError;
 use std::{env, fmt};
@@ -10,7 +11,7 @@ use std::{env, fmt};
 pub struct Place {
     /// Where packets are sent.
     pub target: Destination,
-    /// The target as a text: HOST:PORT or unix:PATH.
+    /// The target as a text: HOST:PORT or unix:PATH, or `nowhere`.
     pub text: String,
     /// The option or the variable that names the target.
     pub source: &'static str,
@@ -86,11 +87,11 @@ fn source_of(rt: &HostRuntime) -> &'static str {
     "by default"
 }
 
-// Returns a host and a port as one place.
+// Returns a host, a port and how many bytes a packet has as one place.
 fn place_of_host(
     rt: &HostRuntime,
     host: &str,
-    port: u16,
+    (port, capacity): (u16, usize),
     source: &'static str,
 ) -> Result<Place, AllocError> {
     let alloc = rt.alloc();
@@ -103,6 +104,7 @@ fn place_of_host(
         target: Destination::Udp {
             host: String::from_str(alloc, host)?,
             port,
+            capacity,
         },
         text,
         source,
@@ -118,6 +120,15 @@ fn place_of_path(rt: &HostRuntime, path: &str, source: &'static str) -> Result<P
         },
         text: format!(in alloc; "unix:{path}")?,
         source,
+    })
+}
+
+// Returns the place at which nothing is sent.
+fn no_place(rt: &HostRuntime) -> Result<Place, AllocError> {
+    Ok(Place {
+        target: Destination::Nowhere,
+        text: String::from_str(rt.alloc(), "nowhere")?,
+        source: "by the environment",
     })
 }
 
@@ -145,13 +156,17 @@ pub fn find_place<'a>(rt: &HostRuntime, to: Option<Asked<'a>>) -> Result<Place, 
         Some(Asked::Host(target)) => {
             let (host, port) = target.rsplit_once(':').unwrap_or((target, ""));
             let port = read_port(port).unwrap_or(8125);
-            Ok(place_of_host(rt, without_brackets(host), port, "--to")?)
+            let numbers = (port, DEFAULT_CAPACITY);
+            Ok(place_of_host(rt, without_brackets(host), numbers, "--to")?)
         }
         None => match Environment::read_destination(rt)? {
-            Destination::Udp { host, port } => {
-                Ok(place_of_host(rt, &host, port, source_of(rt))?)
-            }
+            Destination::Udp {
+                host,
+                port,
+                capacity,
+            } => Ok(place_of_host(rt, &host, (port, capacity), source_of(rt))?),
             Destination::Unix { path } => Ok(place_of_path(rt, &path, source_of(rt))?),
+            Destination::Nowhere => Ok(no_place(rt)?),
         },
     }
 }

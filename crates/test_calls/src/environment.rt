@@ -34,9 +34,20 @@ fn add_tags(text: &mut String, environment: &Environment) -> Result<(), AllocErr
 // Returns what an environment says, as a row has it.
 fn said(alloc: Global, environment: &Environment) -> Result<String, AllocError> {
     let mut text = match environment.destination() {
-        Destination::Udp { host, port } => format!(in alloc; "udp {host} {port}")?,
+        Destination::Udp { host, port, .. } => format!(in alloc; "udp {host} {port}")?,
         Destination::Unix { path } => format!(in alloc; "unix {path}")?,
+        Destination::Nowhere => String::from_str(alloc, "nowhere")?,
     };
+    let (capacity, usual) = match environment.destination() {
+        Destination::Udp { capacity, .. } => (*capacity, 1432),
+        other => (other.capacity(), 8192),
+    };
+    if capacity != usual {
+        write!(&mut text, " {capacity}")?;
+    }
+    if !environment.prefix().is_empty() {
+        write!(&mut text, " as {}", environment.prefix())?;
+    }
     add_tags(&mut text, environment)?;
     Ok(text)
 }

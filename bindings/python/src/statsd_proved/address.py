@@ -10,7 +10,7 @@ import time
 import weakref
 from typing import TYPE_CHECKING, Any
 
-from .environment import UNIX
+from .environment import NOWHERE, UNIX
 
 if TYPE_CHECKING:
     from .client import StatsClient
@@ -79,7 +79,9 @@ def _follow(name: Name, client: weakref.ref[StatsClient]) -> None:
 
 def opened(host: str, port: int, ipv6: bool) -> tuple[socket.socket, Any, Name | None]:
     """Returns a socket that doesn't block, the address that it sends to, which is None if a lookup fails, and the name that
-    has to be looked up again, if the host is one."""
+    has to be looked up again, if the host is one. If nothing is sent, the address is NOWHERE."""
+    if host == NOWHERE:
+        return socket_of(socket.AF_UNIX), NOWHERE, None
     if host.startswith(UNIX):
         path = os.fsencode(host[len(UNIX):])
         return socket_of(socket.AF_UNIX), path, None

@@ -107,25 +107,28 @@ class StatsClient(Metrics):
         The address is that of DD_DOGSTATSD_URL (udp://HOST, udp://HOST:PORT, or unix:///PATH, also written
         unixgram:///PATH); otherwise the absolute path of DD_DOGSTATSD_SOCKET; otherwise that of DD_AGENT_HOST and
         DD_DOGSTATSD_PORT; otherwise of STATSD_HOST and STATSD_PORT. Of a host and a port, one alone leaves the other as it
-        is by default: 127.0.0.1 and 8125.
+        is by default: 127.0.0.1 and 8125. If DD_DOGSTATSD_DISABLE is 1, true, True or yes, or STATSD_ENABLED is 0, false,
+        False or no, the client drops each packet as if it were sent.
 
         The tags are `env`, `service` and `version` of DD_ENV, DD_SERVICE and DD_VERSION; then those of DD_TAGS, separated by
         commas, or by spaces if it has no comma; and then `dd.internal.entity_id` of DD_ENTITY_ID. A tag of DD_TAGS with the
         key `env`, `service` or `version` is left out if the variable of that key is set.
 
-        A packet has at most 512 bytes over UDP, and 8192 bytes over a Unix socket, unless `maxudpsize` says otherwise.
+        A packet has at most 1432 bytes over UDP, unless STATSD_MAXUDPSIZE says otherwise, and 8192 bytes over a Unix socket.
+        `maxudpsize` wins over both.
 
-        The arguments are those of the constructor. With `host` or `port` no variable of an address is read. `tags` come after
+        The arguments are those of the constructor. With `host` or `port` no variable of an address is read, and without
+        `prefix` it is that of STATSD_PREFIX. `tags` come after
         those of the variables. The call raises a VariableError if a variable can't be used, before it makes anything, and
         what the constructor raises."""
         if host is None and port is None:
-            host, port = environment.address(os.environb)
-            if maxudpsize is None and host.startswith(environment.UNIX):
-                maxudpsize = 8192
+            host, port, size = environment.address(os.environb)
+            maxudpsize = size if maxudpsize is None else maxudpsize
+        prefix = environment.prefix(os.environb) if prefix is None else prefix
         own = tags or ()
         tags = [*environment.tags(os.environb), *(own.items() if isinstance(own, Mapping) else own)]
         return cls(host="localhost" if host is None else host, port=8125 if port is None else port, prefix=prefix,
-                   maxudpsize=512 if maxudpsize is None else maxudpsize, ipv6=ipv6, tags=tags, container=container,
+                   maxudpsize=1432 if maxudpsize is None else maxudpsize, ipv6=ipv6, tags=tags, container=container,
                    packets=packets, flush_every=flush_every, on_error=on_error, raises=raises, strict=strict,
                    aggregate=aggregate)
 
@@ -399,7 +402,8 @@ class StatsClient(Metrics):
         try:
             if self._address is None:
                 raise self._no_address()
-            self._socket.sendto(packet, self._address)
+            if self._address is not environment.NOWHERE:
+                self._socket.sendto(packet, self._address)
         except OSError as fault:
             self._refusals += 1
             if self._name is not None and fault.errno != errno.EMSGSIZE:

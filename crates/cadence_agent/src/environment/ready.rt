@@ -9,18 +9,14 @@ use cadence::Runtime;
 use cadence::ready::{buffered_udp_sink, host};
 use cadence_environment::{Destination, Environment};
 use cadence_errors::MetricResult;
-use cadence_flow::io::DEFAULT_CAPACITY;
+use cadence_flow::NopMetricSink;
 use std::alloc::Allocator;
 use std::env::Env;
 
-// How many bytes a datagram to a Unix socket holds. The agent reads datagrams of this length unless it is configured
-// otherwise.
-const UNIX_CAPACITY: usize = 8192;
-
-/// Makes a buffered sink with a socket of its own to this destination. Its buffer has 512 bytes for UDP, and 8192 for a
-/// Unix socket, which are as many as the agent reads at once unless it is configured otherwise. A host's name is looked
-/// up again, as the head of `cadence::ready` says. A path is looked up for each packet, so a packet goes to the socket
-/// that is bound to the path when it is sent.
+/// Makes a buffered sink with a socket of its own to this destination. Its buffer has as many bytes as
+/// `Destination::capacity` says. A host's name is looked up again, as the head of `cadence::ready` says. A path is looked
+/// up for each packet, so a packet goes to the socket that is bound to the path when it is sent. If the destination is
+/// nowhere, the sink takes each line and sends nothing.
 ///
 /// The errors are those of `buffered_udp_sink` or of `buffered_unix_sink`.
 pub fn sink_to<R: Runtime, A: Allocator + Clone + Send + Sync + 'static, B: Allocator>(
@@ -29,16 +25,22 @@ pub fn sink_to<R: Runtime, A: Allocator + Clone + Send + Sync + 'static, B: Allo
     destination: &Destination<B>,
 ) -> MetricResult<EnvironmentSink<R, A>>
     ensures place { IfOk result (GoesTo destination.now) }
+    ensures buffer { IfOk result HasAgentBuffer }
     ensures refused { IfErr result (IsPlaceRefusal destination.now) }
 {
     match destination {
-        Destination::Udp { host: name, port } => {
+        Destination::Nowhere => Ok(EnvironmentSink::Nowhere(NopMetricSink)),
+        Destination::Udp {
+            host: name,
+            port,
+            capacity,
+        } => {
             let target = host(alloc.clone()?, name, *port)?;
-            let sink = buffered_udp_sink(rt, alloc, target, DEFAULT_CAPACITY)?;
+            let sink = buffered_udp_sink(rt, alloc, target, *capacity)?;
             Ok(EnvironmentSink::Udp(sink))
         }
         Destination::Unix { path } => {
-            let sink = buffered_unix_sink(rt, alloc, path, UNIX_CAPACITY)?;
+            let sink = buffered_unix_sink(rt, alloc, path, destination.capacity())?;
             Ok(EnvironmentSink::Unix(sink))
         }
     }

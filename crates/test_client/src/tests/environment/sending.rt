@@ -49,6 +49,14 @@ fn a_server_gets_the_tags_over_udp(rt: HostRuntime) -> Result<(), Fail> {
     assert_receives(&server, "p.k:1|c|#env:prod,beta,a:b\n")
 }
 
+#[test]
+fn a_client_that_is_off_sends_nothing(rt: HostRuntime) -> Result<(), Fail> {
+    let client = client_by(&rt, rt.alloc(), "DD_DOGSTATSD_DISABLE=1;STATSD_HOST=a b")?;
+    send_tagged(&client)?;
+    assert!(rt; client.sink().stats().packets_sent == 0 && client.sink().dropped_lines() == 0);
+    Ok(())
+}
+
 // Asserts that a client to where the environment says sends over UDP, and without tags.
 fn assert_is_untagged<R: Runtime>(client: &Client<R>) -> Result<(), Fail> {
     if client.count("k", 1)?.as_metric_str() != "p.k:1|c" {
@@ -57,6 +65,7 @@ fn assert_is_untagged<R: Runtime>(client: &Client<R>) -> Result<(), Fail> {
     match client.sink() {
         EnvironmentSink::Udp(_) => Ok(()),
         EnvironmentSink::Unix(_) => Err(Fail::new("a path")),
+        EnvironmentSink::Nowhere(_) => Err(Fail::new("nowhere")),
     }
 }
 

@@ -1,0 +1,50 @@
+//! Whether the variables say that nothing is sent.
+ghost use Rattle.std.specs.Prelude.{◌≡◌, IfErr, IfOk};
+ghost use Rattle.cadence_environment.specs.EnvironmentFaults.{IsRefusedVariable, IsSetFault, NamesNoPath};
+ghost use Rattle.cadence_environment.specs.Switches.{IsSwitch, is_no, is_yes, turns_off};
+
+use crate::error::EnvironmentError;
+use crate::variables::{Variable, Variables};
+
+// Returns whether a text says yes.
+fn says_yes(text: &str) -> bool
+    ensures { result ≡ is_yes text.now }
+{
+    text == "1" || (text == "true" || (text == "True" || text == "yes"))
+}
+
+// Returns whether a text says no.
+fn says_no(text: &str) -> bool
+    ensures { result ≡ is_no text.now }
+{
+    text == "0" || (text == "false" || (text == "False" || text == "no"))
+}
+
+/// Returns whether these texts of `DD_DOGSTATSD_DISABLE` and of `STATSD_ENABLED` say that nothing is sent.
+pub fn is_off(disable: &str, enabled: &str) -> bool
+    ensures { result ≡ turns_off disable.now enabled.now }
+{
+    says_yes(disable) || says_no(enabled)
+}
+
+// Tests whether a variable says yes or no, if it is set.
+fn check_switch(variable: Variable, text: &str) -> Result<(), EnvironmentError>
+    ensures said { IfOk result (λ _. IsSwitch text.now) }
+    ensures refused { IfErr result (IsSetFault variable text.now) }
+{
+    if text.is_empty() || says_yes(text) || says_no(text) {
+        return Ok(());
+    }
+    Err(EnvironmentError::Unusable(variable))
+}
+
+// Tests whether the two variables say yes or no, if they are set.
+pub(crate) fn check_switches(variables: &Variables<'_>) -> Result<(), EnvironmentError>
+    ensures disable { IfOk result (λ _. IsSwitch variables.now.disable.now) }
+    ensures enabled { IfOk result (λ _. IsSwitch variables.now.enabled.now) }
+    ensures refused { IfErr result (IsRefusedVariable variables.now) }
+    ensures paths { IfErr result (NamesNoPath variables.now) }
+{
+    check_switch(Variable::Disable, variables.disable)?;
+    check_switch(Variable::Enabled, variables.enabled)
+}
