@@ -151,7 +151,7 @@ class Clients(ClientTest):
             client.incr("a")
             client.flush()
             client.close()
-            self.assertEqual((self.receiver.packets(), self.faults, client.counts().sent), ([], [], 1))
+            self.assertEqual((self.receiver.packets(), self.faults, client.counts()["sent"]), ([], [], 1))
 
     def test_a_variable_that_cant_be_used_makes_nothing(self):
         for given in ("DD_DOGSTATSD_URL=tcp://agent", "DD_AGENT_HOST=a b", "STATSD_PORT=0", "DD_TAGS=a|b", "DD_ENTITY_ID=\\xff"):
