@@ -1,5 +1,5 @@
 -- What contracts see of an aggregator of lines.
-use Rattle.std.specs.Prelude.{ℕ, List, map}
+use Rattle.std.specs.Prelude.{ℕ, List, length, map}
 use Rattle.cadence_aggregate.specs.Aggregate.{held}
 use Rattle.cadence_aggregate.specs.Server.{Sample}
 use Rattle.cadence_aggregate.specs.declared.aggregator.Aggregator.{Aggregator}
@@ -12,6 +12,10 @@ module _ {S : Type 0} where
   -- the lines that were accepted, in order
   abbrev pub lines_accepted : RecordedAggregator S → List (List ℕ)
   lines_accepted a = lines_of_entries a.accepted.items
+
+  -- the lines that the aggregator accepted, each with its length
+  abbrev pub whole_lines : RecordedAggregator S → List (List ℕ × ℕ)
+  whole_lines a = map (λ line. (line, length line)) (lines_accepted a)
 
   -- the lines that the sink took, in order
   abbrev pub lines_taken : RecordedAggregator S → List (List ℕ)

@@ -65,7 +65,8 @@ impl<H: FlushErrorHandler> AggregatingMetricSinkBuilder<H> {
     /// Sets how many contexts of each kind are held. A new context in a full table first sends the oldest one. 0 counts
     /// as 1.
     pub fn with_max_contexts(mut self, contexts: usize) -> Self
-        ensures { options_of result ≡ record (options_of self) { contexts = at_least_one contexts } }
+        ensures { options_of result
+            ≡ record (options_of self) { contexts = at_least_one contexts } }
     {
         self.limits.most_contexts = NonZeroUsize::new(contexts).unwrap_or(NonZeroUsize::MIN);
         self

@@ -43,9 +43,12 @@ impl<W: PacketWriter, A: Allocator + Clone> RecordedPacker<W, A> {
 /// A line is written as `LineBuffer::write` does, and a flush is that of `LineBuffer`. Each call is one more entry of
 /// the log.
 impl<W: PacketWriter, A: Allocator> Stage for RecordedPacker<W, A> {
-    ghost use Rattle.cadence_flow.specs.RecordedPacker.{IsPackerStep};
+    ghost use Rattle.cadence_stage.specs.Past.{taken_in};
+    ghost use Rattle.cadence_flow.specs.RecordedPacker.{IsPackerStep, past_of};
 
     ghost step = { λ old new call. IsPackerStep W.kind W.history old new call };
+
+    ghost taken = { λ p. taken_in (past_of p) };
 
     #[inline(always)]
     fn take_line(&mut self, line: &str, fault: &mut SinkError) -> Option<usize> {

@@ -127,16 +127,18 @@ module _ {T : Type 0} where
   accepted_is_newest q text None r (running, room, is) = newest_in r.waiting q.waiting text (ap (λ z. z.waiting) is)
   accepted_is_newest q text (Some oldest) r (running, full, first, is) = newest_in r.waiting (drop 1 q.waiting) text (ap (λ z. z.waiting) is)
 
-  -- A submit that returned `Ok` adds its text to the past.
-  pub past_submitted : {E : Type 0} (accepted taken : List T) (q : Queue T) (text : T) (answer : Result (Option T) E) (r : Queue T)
-      → IsOk answer → IfOk answer (λ dropped. Accepts q text dropped r) → ∥ IsPast accepted taken q ∥₁
-      → ∥ IsPast (accepted ++ text ∷ []) taken r ∥₁
-  past_submitted accepted taken q text (Ok dropped) r is step past = past_accepted accepted taken q text dropped r step past
-  past_submitted accepted taken q text (Err e) r is step past = absurd cc
-
   same_newest : (q : Queue T) (text found : T) (dropped : Option T) (r : Queue T) → Accepts q text dropped r
       → slice_get r.waiting (length r.waiting - 1) ≡ Some found → text ≡ found
   same_newest q text found dropped r step at = let same : Some text ≡ Some found = sym (accepted_is_newest q text dropped r step) ∙ at in cc
+
+  -- After a submit that returned `Ok` the newest text that waits is the submitted one, and the step is the one that accepted it.
+  pub submitted_newest : {E : Type 0} (q : Queue T) (text : T) (answer : Result (Option T) E) (r : Queue T) → IsOk answer
+      → IfOk answer (λ dropped. Accepts q text dropped r) → (found : T) → slice_get r.waiting (length r.waiting - 1) ≡ Some found
+      → (text ≡ found) × ((dropped : Option T) × Accepts q found dropped r)
+  submitted_newest q text (Ok dropped) r is step found at =
+      let same = same_newest q text found dropped r step at in
+      (same, (dropped, subst (λ t. Accepts q t dropped r) same step))
+  submitted_newest q text (Err e) r is step found at = absurd cc
 
   module _ {P : T → Type 0} (q r : Queue T) (dropped : Option T) (made : (text : T) × P text × Accepts q text dropped r) where
     -- The newest text that waits is one that was made, and the step is the one that accepted it.
@@ -144,9 +146,3 @@ module _ {T : Type 0} where
     newest_is_made found at =
         let (text, is, step) = made in
         subst (λ t. P t × Accepts q t dropped r) (same_newest q text found dropped r step at) (is, step)
-
-    -- After a step that accepted a text there is a newest one that waits.
-    pub newest_is_found : {G : Type 0} → slice_get r.waiting (length r.waiting - 1) ≡ None → G
-    newest_is_found none =
-        let (text, is, step) = made in
-        let no : Some text ≡ None = sym (accepted_is_newest q text dropped r step) ∙ none in absurd cc

@@ -1,4 +1,6 @@
 pub mod Answers
+pub mod End
+pub mod Hand
 pub mod Queue
 pub mod QueueModel
 pub mod QueueRoom

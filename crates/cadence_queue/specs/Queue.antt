@@ -76,6 +76,10 @@ module _ {T : Type 0} where
   IsTaken q Empty r = (q.waiting ≡ []) × (q.stopped ≡ false) × (r ≡ q)
   IsTaken q Ended r = (q.waiting ≡ []) × (q.stopped ≡ true) × (r ≡ q)
 
+  -- The queue is at its end: it is stopped, and no text waits.
+  abbrev pub IsEnd : Queue T → Type 0
+  IsEnd q = (q.stopped ≡ true) × (q.waiting ≡ [])
+
   -- whether no text waits and more may come
   abbrev pub is_idle : Queue T → Bool
   is_idle q = not q.stopped && (length q.waiting == 0)

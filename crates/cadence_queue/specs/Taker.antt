@@ -1,16 +1,17 @@
 -- What contracts say of a taker.
 use Rattle.std.specs.Prelude.{Bool, List, is_some}
-use Rattle.cadence_queue.specs.declared.taking.Taker.{Taker}
+use Rattle.cadence_queue.specs.Hand.{texts_by}
+use Rattle.cadence_queue.specs.declared.taking.taker.Taker.{Taker}
 
-module _ {T A M : Type 0} where
+module _ {T A M N : Type 0} {n : _} where
   -- the texts that the taker moved out of its queue, in order
-  abbrev pub taken_by : Taker T A M → List T
-  taken_by t = t.taken.items
+  abbrev pub taken_by : Taker T A M N n → List T
+  taken_by t = texts_by t.hand
 
   -- the texts that its `next` returned, in order
-  abbrev pub given_by : Taker T A M → List T
+  abbrev pub given_by : Taker T A M N n → List T
   given_by t = t.given.items
 
   -- whether its `next` returned `None`
-  abbrev pub has_ended : Taker T A M → Bool
+  abbrev pub has_ended : Taker T A M N n → Bool
   has_ended t = is_some t.end

@@ -9,10 +9,12 @@
 //! - `shared_queue`: a recorded queue under a lock
 //! - `under_lock`: what lies under that lock, and what a call shows of the step that it made there
 //! - `taking`: how texts are taken out of a shared queue, one by one, or several at a time by a taker
+//! - `named_queue`: what is known of a shared queue whose logs have names
 //! - `latch`: a mark that one thread sets and that others wait for
 #![tactic(auto)]
 
 mod latch;
+mod named_queue;
 mod policy;
 mod queue_core;
 mod queue_error;
@@ -26,7 +28,9 @@ pub use latch::Latch;
 pub use policy::QueuePolicy;
 pub use queue_core::{QueueCore, Taken};
 pub use queue_error::QueueError;
+pub use recorded_queue::{QueueLogs, RecordedQueue};
 pub use shared_queue::SharedQueue;
-pub use taking::{Taker, TakerRoom};
+pub use taking::end::TakerEnd;
+pub use taking::taker::{Taker, TakerRoom};
 pub use text_ring::TextRing;
 pub use under_lock::QueueStep;

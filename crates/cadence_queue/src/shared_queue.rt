@@ -1,5 +1,6 @@
 //! A queue of texts that threads share, with a record of its past that only proofs read.
-ghost use Rattle.std.specs.Prelude.{◌≡◌, ◌≢◌, IfErr, IfOk, OnErr, None, Ok, Err, Option, IsTrue};
+ghost use Rattle.std.specs.Option.{ForSome};
+ghost use Rattle.std.specs.Prelude.{◌≡◌, ◌≢◌, ◌∷◌, [], ◌++◌, IfErr, IfOk, OnErr, None, Ok, Err, List, Option, IsTrue};
 ghost use Rattle.std.specs.declared.alloc.AllocError.{AllocError};
 ghost use Rattle.cadence_errors.specs.declared.SinkError.TheVariants.{ChannelFull};
 ghost use Rattle.cadence_queue.specs.Queue.{Accepts, IsQueueRefusal, after_stop, error_of, is_open, without_handle};
@@ -8,22 +9,30 @@ ghost use Rattle.cadence_queue.specs.declared.policy.QueuePolicy.TheVariants.{Re
 ghost use Rattle.cadence_queue.specs.declared.queue_error.QueueError.TheVariants.{Full};
 ghost use Rattle.cadence_queue.specs.RecordedQueue.{core_of};
 ghost use Rattle.cadence_queue.specs.SharedQueue.{bound_of, rule_of};
-ghost use Rattle.cadence_queue.specs.Shown.{IsRefused, after_of, before_of};
+ghost use Rattle.cadence_queue.specs.Shown.{IsRefused, accepted_after, after_of, before_of, log_after};
+ghost use Rattle.cadence_stage.specs.OwnLog.{name_of};
 
-use super::recorded_queue::RecordedQueue;
+use super::recorded_queue::{QueueLogs, RecordedQueue};
 use super::under_lock::{QueueStep, UnderLock};
 use crate::{QueueError, QueuePolicy};
 use cadence_errors::{MetricResult, SinkError};
-use cadence_stage::{acquire, spin};
+use cadence_stage::{Logs, Seen, Unnamed, acquire, spin};
 use std::alloc::{AllocError, Allocator, Global};
 use std::snapshot::Snapshot;
 use std::sync::{Condvar, Mutex, MutexGuard, Wait};
+use std::thread;
+
+// The two numbers here were chosen by measurement. They decide how fast a caller is, and nothing else: no contract speaks
+// of them.
 
 /// How many turns of an empty loop a caller waits if it finds the queue full. With more turns the queue accepts more
-/// lines, but a burst takes longer. The caller doesn't yield to other threads, because on a busy machine a yield takes
-/// milliseconds. The number was chosen by measurement. It decides how fast a caller is, and nothing else: no contract
-/// speaks of it.
+/// lines, but a burst takes longer.
 const TURNS_TO_GIVE_WAY: u32 = 20;
+
+/// How many callers in a row find the queue full until one of them yields, which lets other threads run. If none yielded,
+/// the worker might get no processor while as many callers as there are processors keep calling, and the queue would stay
+/// full. Not each caller yields, because on a busy machine a yield takes milliseconds.
+const LATE_FOR_A_YIELD: u32 = 16;
 
 /// A queue of texts under a lock, which threads share by reference. Each call takes the lock and does one step of a
 /// `QueueCore`; a `Taker` does several takes in a row. What lies under the lock is a `RecordedQueue`, so whenever the
@@ -34,8 +43,8 @@ const TURNS_TO_GIVE_WAY: u32 = 20;
 /// that can't be dropped. `M` is the type of a text that the worker is done with: `offer` reuses its memory for a later
 /// text.
 #[derive(Drop)]
-pub struct SharedQueue<T, A: Allocator = Global, M = T> {
-    pub(super) state: Mutex<UnderLock<T, A, M>>,
+pub struct SharedQueue<T, A: Allocator = Global, M = T, N: Logs = Unnamed> {
+    pub(super) state: Mutex<UnderLock<T, A, M, N>>,
     // a text came to an idle queue, or the queue was stopped
     pub(super) changed: Condvar,
     capacity: Option<usize>,
@@ -64,9 +73,29 @@ impl<T, A: Allocator + Clone> SharedQueue<T, A> {
     }
 }
 
-impl<T, A: Allocator, M> SharedQueue<T, A, M> {
+impl<T, A: Allocator + Clone, N: Logs> SharedQueue<T, A, T, N> {
+    /// Makes an empty queue with one handle, as `with_policy` does, with these logs.
+    pub fn with_logs(
+        alloc: A,
+        capacity: Option<usize>,
+        policy: QueuePolicy,
+        logs: QueueLogs<T>,
+    ) -> MetricResult<Self>
+        requires unnamed { N.logs ≡ None → logs.own.name ≡ logs.taken.name }
+        requires named { ForSome N.logs (λ names. (name_of logs.accepted ≡ names.accepted)
+            × (logs.taken.name ≡ names.taken) × (name_of logs.ended ≡ names.ended)) }
+        ensures capacity { IfOk result (λ q. bound_of q ≡ capacity) }
+        ensures policy { IfOk result (λ q. rule_of q ≡ policy) }
+        ensures refused { OnlyWantsRoom capacity result }
+    {
+        let queue = RecordedQueue::with_logs(alloc, capacity, policy, logs)?;
+        Ok(SharedQueue::of(queue))
+    }
+}
+
+impl<T, A: Allocator, M, N: Logs> SharedQueue<T, A, M, N> {
     // Puts a queue under a lock. Its capacity and its policy can be read outside the lock.
-    fn of(queue: RecordedQueue<T, A>) -> Self
+    fn of(queue: RecordedQueue<T, A, N>) -> Self
         ensures capacity { bound_of result ≡ (core_of queue).capacity }
         ensures policy { rule_of result ≡ (core_of queue).policy }
     {
@@ -75,6 +104,7 @@ impl<T, A: Allocator, M> SharedQueue<T, A, M> {
             state: Mutex::new(UnderLock {
                 queue,
                 spares: None,
+                late: 0,
             }),
             changed: Condvar::new(),
             capacity,
@@ -105,7 +135,7 @@ impl<T, A: Allocator, M> SharedQueue<T, A, M> {
     }
 }
 
-impl<T, A: Allocator + Clone, M: Drop> SharedQueue<T, A, M> {
+impl<T, A: Allocator + Clone, M: Drop, N: Logs> SharedQueue<T, A, M, N> {
     /// Adds a text at the end, and wakes the threads that wait for one. It doesn't wait for room: if the queue is full, it
     /// gives way to the worker once, for a moment, and then decides.
     ///
@@ -140,9 +170,15 @@ impl<T, A: Allocator + Clone, M: Drop> SharedQueue<T, A, M> {
         let before = Snapshot::of(state.queue.core());
         let answer = state.queue.add(text);
         let after = Snapshot::of(state.queue.core());
+        let accepted = state.queue.accepted();
         drop(state);
         self.wake(idle && answer.is_ok());
-        (answer, QueueStep { before, after })
+        let step = QueueStep {
+            before,
+            after,
+            accepted,
+        };
+        (answer, step)
     }
 
     /// Adds the text that `make` makes at the end, as `submit` does, and shows the step. Returns the text that a full
@@ -164,9 +200,13 @@ impl<T, A: Allocator + Clone, M: Drop> SharedQueue<T, A, M> {
         ensures accepts { IfOk result.0 (λ a.
             Accepts (before_of result.1) a.1.value a.0 (after_of result.1)) }
         ensures refuses { IfErr result.0 (λ e. IsRefused result.1 e) }
+        ensures last { IfOk result.0 (λ a. (earlier : List T)
+            × (accepted_after result.1 ≡ earlier ++ a.1.value ∷ [])) }
+        ensures named { ForSome N.logs (λ names. log_after result.1 ≡ names.accepted) }
         ensures bounded { IsBounded (before_of result.1).capacity →
             IsTrue (is_open (before_of result.1)) →
-            OnErr result.0 ((older : Option M) × (error : AllocError) × F.post make older (Err error)) }
+            OnErr result.0 ((older : Option M) × (error : AllocError)
+            × F.post make older (Err error)) }
     {
         let mut state = self.enter(rt);
         let idle = state.queue.core().is_idle();
@@ -174,15 +214,21 @@ impl<T, A: Allocator + Clone, M: Drop> SharedQueue<T, A, M> {
         let before = Snapshot::of(state.queue.core());
         let answer = state.queue.offer(|| make(spare));
         let after = Snapshot::of(state.queue.core());
+        let accepted = state.queue.accepted();
         drop(state);
         self.wake(idle && answer.is_ok());
-        (answer, QueueStep { before, after })
+        let step = QueueStep {
+            before,
+            after,
+            accepted,
+        };
+        (answer, step)
     }
 }
 
-impl<T, A: Allocator, M> SharedQueue<T, A, M> {
+impl<T, A: Allocator, M, N: Logs> SharedQueue<T, A, M, N> {
     // Takes the lock for a caller that adds a text. If the queue is full, the caller gives way once.
-    fn enter(&self, rt: &impl Wait) -> MutexGuard<'_, UnderLock<T, A, M>> {
+    fn enter(&self, rt: &impl Wait) -> MutexGuard<'_, UnderLock<T, A, M, N>> {
         let state = acquire(&self.state, rt);
         if !state.queue.core().is_full() {
             return state;
@@ -197,13 +243,19 @@ impl<T, A: Allocator, M> SharedQueue<T, A, M> {
     fn enter_late<'a>(
         &'a self,
         rt: &impl Wait,
-        state: MutexGuard<'a, UnderLock<T, A, M>>,
-    ) -> MutexGuard<'a, UnderLock<T, A, M>> {
+        mut state: MutexGuard<'a, UnderLock<T, A, M, N>>,
+    ) -> MutexGuard<'a, UnderLock<T, A, M, N>> {
         if state.queue.core().is_stopped() {
             return state;
         }
+        state.late = state.late.wrapping_add(1);
+        let yields = state.late % LATE_FOR_A_YIELD == 0;
         drop(state);
-        spin(TURNS_TO_GIVE_WAY);
+        if yields {
+            thread::yield_now();
+        } else {
+            spin(TURNS_TO_GIVE_WAY);
+        }
         acquire(&self.state, rt)
     }
 
@@ -223,9 +275,14 @@ impl<T, A: Allocator, M> SharedQueue<T, A, M> {
         let before = Snapshot::of(state.queue.core());
         state.queue.stop();
         let after = Snapshot::of(state.queue.core());
+        let accepted = state.queue.accepted();
         drop(state);
         self.changed.notify_all();
-        QueueStep { before, after }
+        QueueStep {
+            before,
+            after,
+            accepted,
+        }
     }
 
     /// Counts one more handle.
@@ -241,9 +298,14 @@ impl<T, A: Allocator, M> SharedQueue<T, A, M> {
         let before = Snapshot::of(state.queue.core());
         state.queue.drop_handle();
         let after = Snapshot::of(state.queue.core());
+        let accepted = state.queue.accepted();
         drop(state);
         self.changed.notify_all();
-        QueueStep { before, after }
+        QueueStep {
+            before,
+            after,
+            accepted,
+        }
     }
 
     /// Returns how many texts wait.

@@ -8,12 +8,12 @@ ghost use Rattle.std.specs.Prelude.{◌≡◌, ◌≢◌, false};
 ghost use Rattle.cadence_queue.specs.Queue.{IsTaken, is_idle};
 ghost use Rattle.cadence_queue.specs.declared.queue_core.Taken.TheVariants.{Empty};
 ghost use Rattle.cadence_queue.specs.RecordedQueue.{core_of};
-ghost use Rattle.cadence_queue.specs.Shown.{after_of, before_of};
+ghost use Rattle.cadence_queue.specs.Shown.{accepted_after, after_of, before_of, log_after};
 
 use super::recorded_queue::RecordedQueue;
-use super::taking::Hand;
+use super::taking::hand::Hand;
 use crate::{QueueCore, Taken, TextRing};
-use cadence_stage::{Closed, Opener};
+use cadence_stage::{Closed, Logs, Opener, Seen, Unnamed};
 use std::alloc::{Allocator, Global};
 use std::mem;
 use std::snapshot::Snapshot;
@@ -22,17 +22,21 @@ use std::snapshot::Snapshot;
 /// worker has handed on already. A caller makes its next text in the memory of one, which saves a request for memory. It
 /// has a type of its own, so that a text that waits can't become a spare.
 #[derive(Drop)]
-pub struct UnderLock<T, A: Allocator, M> {
-    pub(super) queue: RecordedQueue<T, A>,
+pub struct UnderLock<T, A: Allocator, M, N: Logs = Unnamed> {
+    pub(super) queue: RecordedQueue<T, A, N>,
     // `None` until the queue has a taker
     pub(super) spares: Option<TextRing<M, A>>,
+    // how many callers found the queue full since a taker last took texts, modulo 2^32
+    pub(super) late: u32,
 }
 
-impl<T, A: Allocator, M: Drop> UnderLock<T, A, M> {
-    /// Exchanges the spares for the texts that a taker is done with, if those are more. It takes no memory.
+impl<T, A: Allocator, M: Drop, N: Logs> UnderLock<T, A, M, N> {
+    /// Exchanges the spares for the texts that a taker is done with, if those are more. It takes no memory. No caller counts
+    /// as late any more.
     pub(super) fn take_back(&mut self, done: &mut TextRing<M, A>)
         ensures { self.new.queue ≡ self.old.queue }
     {
+        self.late = 0;
         if let Some(spares) = &mut self.spares {
             if done.len() > spares.len() {
                 mem::swap(done, spares);
@@ -55,22 +59,43 @@ impl<T, A: Allocator, M: Drop> UnderLock<T, A, M> {
     }
 
     /// Takes the oldest text, and shows the step.
-    pub(super) fn take(&mut self, hand: Hand) -> (Taken<T>, QueueStep<T, A>)
+    pub(super) fn take(&mut self, hand: &mut Hand<T, N>) -> (Taken<T>, QueueStep<T, A>)
         ensures taken { IsTaken (before_of result.1) result.0 (after_of result.1) }
         ensures text { is_idle (core_of self.old.queue) ≡ false → result.0 ≢ Empty }
     {
         let before = Snapshot::of(self.queue.core());
         let taken = self.queue.take(hand);
         let after = Snapshot::of(self.queue.core());
-        (taken, QueueStep { before, after })
+        let step = QueueStep {
+            before,
+            after,
+            accepted: self.queue.accepted(),
+        };
+        (taken, step)
     }
 }
 
-/// Shows a step that a queue made under its lock: the state of the queue before the step, and the state after it. Both
-/// exist in proofs only. Only the calls of a shared queue make one.
+/// Shows a step that a queue made under its lock: the state of the queue before the step, the state after it, and what the
+/// queue had accepted by then. All three exist in proofs only. Only the calls of a shared queue make one.
 pub struct QueueStep<T, A: Allocator = Global> {
     pub(super) before: Snapshot<QueueCore<T, A>>,
     pub(super) after: Snapshot<QueueCore<T, A>>,
+    pub(super) accepted: Seen<T>,
+}
+
+impl<T, A: Allocator> QueueStep<T, A> {
+    /// Returns what the queue had accepted by the end of this step.
+    pub fn into_accepted(self) -> Seen<T>
+        ensures name { result.name ≡ log_after self }
+        ensures items { result.items ≡ accepted_after self }
+    {
+        let QueueStep {
+            before: _,
+            after: _,
+            accepted,
+        } = self;
+        accepted
+    }
 }
 
 impl<T, A: Allocator> Drop for QueueStep<T, A> {
@@ -78,6 +103,7 @@ impl<T, A: Allocator> Drop for QueueStep<T, A> {
         let QueueStep {
             before: _,
             after: _,
+            accepted: _,
         } = self;
     }
 }

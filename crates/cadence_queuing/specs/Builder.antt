@@ -34,7 +34,7 @@ abbrev pub options_of : {A Y : Type 0} {G : Y → Type 0} {g : _} → QueuingMet
 options_of b = record { capacity = b.capacity; policy = b.policy; handler = option_map closure_of b.handler; period = b.period }
 
 -- The queuing sink wraps this sink, and has a queue and a worker as these options say.
-pub record IsMadeBy {H S R A : Type 0} (options : QueueOptions H) (sink : S) (q : QueuingMetricSink S R A) : Type 0 where
+pub record IsMadeBy {H S R A N : Type 0} {n : _} (options : QueueOptions H) (sink : S) (q : QueuingMetricSink S R A N n) : Type 0 where
   pub wrapped : wrapped_sink q ≡ sink
   pub capacity : queue_capacity q ≡ options.capacity
   pub policy : queue_policy q ≡ options.policy

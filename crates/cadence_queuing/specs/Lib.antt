@@ -1,5 +1,10 @@
 pub mod Builder
+pub mod Delivered
+pub mod Fed
 pub mod FlushTimes
+pub mod Handed
+pub mod Logs
+pub mod Look
 pub mod Queuing
 pub use Rattle.cadence_errors.specs.Errors
 pub use Rattle.cadence_flow.specs.Handler

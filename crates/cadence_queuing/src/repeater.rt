@@ -131,7 +131,7 @@ impl<W: PeriodicWork, R: Wait + Drop, A: Allocator> Repeater<W, R, A> {
 
 impl<W: PeriodicWork, R: Wait + Drop, A: Allocator> Drop for Repeater<W, R, A> {
     fn drop(self) {
-        self.shared.end.mark(&self.rt);
+        self.shared.end.mark(&self.rt, ());
         let _ = self.work.do_once(&self.rt);
         let share = self.shared.share.lock(&self.rt).take();
         drop(share);

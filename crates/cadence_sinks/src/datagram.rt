@@ -3,6 +3,7 @@ ghost use Rattle.std.specs.Option.{ok_or};
 ghost use Rattle.std.specs.Prelude.{◌≡◌, [], Bool, IfOk, length};
 ghost use Rattle.cadence_errors.specs.Errors.{MayOnlyRunOutOfMemory};
 ghost use Rattle.cadence_errors.specs.declared.SinkError.{SinkError};
+ghost use Rattle.cadence_flow.specs.RecordedPacker.{past_of};
 ghost use Rattle.cadence_flow.specs.Unread.{IsCounted, len_of, count_taken};
 ghost use Rattle.cadence_flow.specs.Writer.{history_of};
 ghost use Rattle.cadence_sinks.specs.Buffers.{buffer_of};
@@ -133,6 +134,23 @@ impl<S: PacketSocket> PacketWriter for SocketWriter<S> {
 /// The packer of a packed socket.
 pub type SocketLines<D, R, A> = RecordedPacker<SocketWriter<CountedSocket<D, R, A>>, A>;
 
+/// Makes the packer of a packed socket, which took no line yet, and the counts of its socket. The only error is
+/// `OutOfMemory`.
+pub fn packed_lines<D: DatagramSocket, R: Wait + Clone + Drop, A: Allocator + Clone>(
+    rt: R,
+    alloc: A,
+    socket: D,
+    capacity: usize,
+) -> MetricResult<(SocketLines<D, R, A>, SocketStats<R, A>)>
+    ensures none { IfOk result (λ s. past_of s.0 ≡ []) }
+    ensures refused { MayOnlyRunOutOfMemory result }
+{
+    let socket = CountedSocket::new(rt, alloc.clone()?, socket)?;
+    let stats = socket.stats.clone()?;
+    let packer = RecordedPacker::new(alloc, SocketWriter::new(socket), capacity)?;
+    Ok((packer, stats))
+}
+
 /// Packs lines, each followed by a newline, into the packets of a counted socket. The packer with the log of its calls,
 /// which only proofs read, is under a lock. The drop of a `PackedSocket` tries one flush.
 #[derive(Drop)]
@@ -148,9 +166,7 @@ impl<D: DatagramSocket, R: Wait + Clone + Drop, A: Allocator + Clone> PackedSock
         ensures buffer { IfOk result (λ s. buffer_of s ≡ capacity) }
         ensures refused { MayOnlyRunOutOfMemory result }
     {
-        let socket = CountedSocket::new(rt.clone()?, alloc.clone()?, socket)?;
-        let stats = socket.stats.clone()?;
-        let packer = RecordedPacker::new(alloc, SocketWriter::new(socket), capacity)?;
+        let (packer, stats) = packed_lines(rt.clone()?, alloc, socket, capacity)?;
         Ok(PackedSocket {
             lines: Locked::new(rt, packer),
             stats,

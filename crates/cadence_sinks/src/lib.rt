@@ -17,8 +17,9 @@ mod unix;
 
 pub use capacity::{MAX_PACKET, check_capacity};
 pub use datagram::{PacketSocket, SocketWriter};
-pub use spy::{BufferedSpyMetricSink, SpyMetricSink, SpyReceiver};
+pub use spy::{BufferedSpyMetricSink, SpyLines, SpyMetricSink, SpyReceiver};
 pub use udp::{
-    BufferedUdpMetricSink, BufferedUdpMetricSinkBuilder, UdpMetricSink, UdpMetricSinkBuilder,
+    BufferedUdpMetricSink, BufferedUdpMetricSinkBuilder, UdpLines, UdpMetricSink,
+    UdpMetricSinkBuilder,
 };
 pub use unix::{BufferedUnixMetricSink, PathSocket, UnixMetricSink};

@@ -4,6 +4,6 @@ mod buffered;
 mod channel;
 mod unbuffered;
 
-pub use buffered::BufferedSpyMetricSink;
+pub use buffered::{BufferedSpyMetricSink, SpyLines};
 pub use channel::SpyReceiver;
 pub use unbuffered::SpyMetricSink;

@@ -1,17 +1,18 @@
 //! Sinks over a UDP socket, and their builders: one sink sends each line as a datagram, the other packs lines into
 //! datagrams.
-ghost use Rattle.std.specs.Prelude.{◌≡◌, false, IfOk, IfErr, Some, None, is_some, unwrap_or};
+ghost use Rattle.std.specs.Prelude.{◌≡◌, [], false, IfOk, IfErr, Some, None, is_some, unwrap_or};
+ghost use Rattle.cadence_flow.specs.RecordedPacker.{past_of};
 ghost use Rattle.cadence_resolve.specs.Refusals.{IsSocketRefusal, IsTargetRefusal};
 ghost use Rattle.cadence_stage.specs.Answered.{IsAnswered, IsFlushAnswered, answered_by_holding_nothing};
 ghost use Rattle.cadence_sinks.specs.Buffers.{udp_buffer};
 ghost use Rattle.cadence_sinks.specs.Sockets.{IsBufferedAnswer, IsBufferedFlush, IsSocketAnswer, is_io};
 ghost use Rattle.cadence_sinks.specs.Udp.{SendsTo, buffered_options, looks_up_again, no_options, options_of};
 
-use crate::datagram::{CountedSocket, DatagramSocket, PackedSocket};
+use crate::datagram::{CountedSocket, DatagramSocket, PackedSocket, SocketLines, packed_lines};
 use cadence_errors::{MetricResult, SinkError};
 use cadence_flow::io::DEFAULT_CAPACITY;
 use cadence_flow::stats::{SinkStats, Unread};
-use cadence_flow::{Handler, MetricSink, SinkErrorHandler};
+use cadence_flow::{Handler, MetricSink, SinkErrorHandler, SocketStats};
 use cadence_resolve::{Family, Resolver, Runtime, StaticResolver, Target};
 use cadence_stage::{OneCall, emit_by, flush_by};
 use std::alloc::{Allocator, Global};
@@ -41,6 +42,9 @@ impl<R: Wait + Drop, A: Allocator> DatagramSocket for UdpPeer<R, A> {
         Unread::of(taken, packet)
     }
 }
+
+/// The packer of a sink over a UDP socket.
+pub type UdpLines<R, A> = SocketLines<UdpPeer<R, A>, R, A>;
 
 /// A sink that sends each line as a UDP datagram, in the thread of the caller.
 ///
@@ -164,7 +168,8 @@ impl UdpMetricSinkBuilder {
         ensures periodic { IfOk result (λ s. looks_up_again s ≡ is_some (options_of self).period) }
         ensures address { IfOk result (λ s. SendsTo s target) }
         ensures refused { IfErr result (λ e. IsSocketRefusal e) }
-        ensures once { (options_of self).period ≡ None → IfErr result (λ e. IsTargetRefusal target e) }
+        ensures once { (options_of self).period ≡ None →
+            IfErr result (λ e. IsTargetRefusal target e) }
     {
         let family = Family::of_socket(&socket);
         let resolver = Resolver::new(&rt, &alloc, target, family, self.period, self.handler)?;
@@ -347,5 +352,24 @@ impl BufferedUdpMetricSinkBuilder {
         let resolver = Resolver::new(&rt, &alloc, target, family, period, handler)?;
         let socket = PackedSocket::new(rt, alloc, UdpPeer { socket, resolver }, capacity)?;
         Ok(BufferedUdpMetricSink { socket })
+    }
+
+    /// Makes the packer of the sink that `build` makes, which took no line yet, and the counts of its socket, for a queue
+    /// whose worker feeds it. The errors are those of `build`.
+    pub fn build_stage<R: Runtime, A: Allocator + Clone + Send + Sync + 'static>(
+        self,
+        rt: R,
+        alloc: A,
+        target: Target<A>,
+        socket: UdpSocket,
+    ) -> MetricResult<(UdpLines<R, A>, SocketStats<R, A>)>
+        ensures none { IfOk result (λ s. past_of s.0 ≡ []) }
+        ensures refused { IfErr result (λ e. IsSocketRefusal e) }
+    {
+        let capacity = self.capacity.unwrap_or(DEFAULT_CAPACITY);
+        let UdpMetricSinkBuilder { period, handler } = self.lookups;
+        let family = Family::of_socket(&socket);
+        let resolver = Resolver::new(&rt, &alloc, target, family, period, handler)?;
+        packed_lines(rt, alloc, UdpPeer { socket, resolver }, capacity)
     }
 }

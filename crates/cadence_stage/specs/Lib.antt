@@ -3,5 +3,7 @@ pub mod Call
 pub mod GhostLog
 pub mod Held
 pub mod Kept
+pub mod Names
 pub mod OneCall
+pub mod OwnLog
 pub mod Past

@@ -13,6 +13,15 @@ taken_by (Flush answer) = []
 abbrev pub taken_in : List Call → List (List ℕ × ℕ)
 taken_in past = flat_map taken_by past
 
+-- the line of a call, whether the stage took it or not
+abbrev pub given_by : Call → List (List ℕ)
+given_by (Line line answer) = line ∷ []
+given_by (Flush answer) = []
+
+-- the lines that a stage was given
+abbrev pub lines_in : List Call → List (List ℕ)
+lines_in past = flat_map given_by past
+
 -- whether a call is a flush that succeeded
 abbrev pub is_flush : Call → Bool
 is_flush (Line line answer) = false

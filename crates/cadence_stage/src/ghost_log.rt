@@ -110,6 +110,57 @@ impl<T> Seen<T> {
     }
 }
 
+/// A log together with its right: whoever has both may add to it.
+pub struct OwnLog<T> {
+    log: Log<T>,
+    right: Right<T>,
+    pub ghost whole: { right.name ≡ log.name },
+}
+
+impl<T> OwnLog<T> {
+    ghost use Rattle.cadence_stage.specs.OwnLog.{items_of, name_of};
+
+    /// Makes an empty log.
+    pub fn new() -> OwnLog<T>
+        ensures { items_of result ≡ [] }
+    {
+        let (log, right) = twins();
+        OwnLog { log, right }
+    }
+
+    /// Adds an item.
+    pub fn note(&mut self, item: &T)
+        ensures items { items_of self.new ≡ items_of self.old ++ item.now ∷ [] }
+        ensures name { name_of self.new ≡ name_of self.old }
+    {
+        self.log.note(&mut self.right, item);
+    }
+
+    /// Returns what the log has now.
+    pub fn seen(&mut self) -> Seen<T>
+        ensures name { result.name ≡ name_of self.old }
+        ensures items { result.items ≡ items_of self.old }
+        ensures same { self.new ≡ self.old }
+    {
+        self.log.seen()
+    }
+
+    /// The log begins with what was seen of it. The call changes nothing.
+    pub fn began(&mut self, seen: &mut Seen<T>)
+        requires { seen.old.name ≡ name_of self.old }
+        ensures begins { IsPrefix seen.old.items (items_of self.old) }
+        ensures same { (self.new ≡ self.old) × (seen.new ≡ seen.old) }
+    {
+        self.log.began(seen);
+    }
+}
+
+impl<T> Drop for OwnLog<T> {
+    fn drop(self) {
+        let OwnLog { log: _, right: _ } = self;
+    }
+}
+
 // A derived drop would want items that can be dropped.
 impl<T> Drop for Log<T> {
     fn drop(self) {

@@ -13,6 +13,7 @@
 //! - `entry`: what the log of a stage keeps of a call
 //! - `ghost_list` and `ghost_texts`: a list and a list of texts that exist in proofs only
 //! - `ghost_log`: such a list that only grows, and the one right to add to it
+//! - `names`: the names of such lists, by which two locks speak of the same ones
 //! - `lock`: how a lock is taken
 #![tactic(auto)]
 
@@ -25,6 +26,7 @@ mod ghost_texts;
 mod kept;
 mod lock;
 mod locked;
+mod names;
 mod one_call;
 mod stage;
 
@@ -33,10 +35,11 @@ pub use emit::closed::{Closed, Opener};
 pub use emit::{emit_by, flush_by};
 pub use entry::Entry;
 pub use ghost_list::GhostList;
-pub use ghost_log::{Log, Right, Seen, twins};
+pub use ghost_log::{Log, OwnLog, Right, Seen, twins};
 pub use ghost_texts::GhostTexts;
 pub use kept::Receipt;
 pub use lock::{acquire, spin};
 pub use locked::Locked;
+pub use names::{Logs, Named, Names, Unnamed};
 pub use one_call::OneCall;
 pub use stage::{LinelessCall, Stage};

@@ -1,4 +1,6 @@
 //! An aggregator of lines as a stage, which lies under the lock of an aggregating sink.
+ghost use Rattle.std.specs.Prelude.{◌≡◌};
+ghost use Rattle.cadence_aggregating.specs.Recorded.{lines_accepted, whole_lines};
 ghost use Rattle.cadence_aggregating.specs.Shown.{EndsFlush, IsSumsStep};
 
 use super::RecordedAggregator;
@@ -9,6 +11,8 @@ use cadence_stage::Stage;
 /// A line is added as `RecordedAggregator::add` does. A flush sends what is held, and then flushes the sink.
 impl<S: MetricSink> Stage for RecordedAggregator<S> {
     ghost step = { λ old new call. IsSumsStep old new S.may_flush call };
+
+    ghost taken = { λ a. whole_lines a };
 
     fn take_line(&mut self, line: &str, fault: &mut SinkError) -> Option<usize> {
         match self.add(line) {
@@ -50,7 +54,8 @@ impl<S: MetricSink> Stage for RecordedAggregator<S> {
 impl<S: MetricSink> RecordedAggregator<S> {
     // Sends what is held, and flushes the sink.
     fn send_all(&mut self) -> Result<(), SinkError>
-        ensures { EndsFlush self.old self.new S.may_flush result }
+        ensures flush { EndsFlush self.old self.new S.may_flush result }
+        ensures accepted { lines_accepted self.new ≡ lines_accepted self.old }
     {
         match self.flush() {
             Ok(()) => self.sink().flush(),

@@ -1,15 +1,23 @@
 //! The builder of a queuing sink, which starts its worker.
-ghost use Rattle.std.specs.Prelude.{◌≡◌, IfOk, IfErr, Some, None};
+ghost use Rattle.std.specs.Option.{ForSome};
+ghost use Rattle.std.specs.Prelude.{◌≡◌, [], IfOk, IfErr, Some, None};
+ghost use Rattle.cadence_queue.specs.SharedQueue.{bound_of, rule_of};
 ghost use Rattle.cadence_queuing.specs.Builder.{IsMadeBy, no_options, options_of, plain_queue};
-ghost use Rattle.cadence_queuing.specs.Queuing.{IsQueuingRefusal};
+ghost use Rattle.cadence_queuing.specs.Logs.{names_of};
+ghost use Rattle.cadence_queuing.specs.Queuing.{IsQueuingRefusal, flush_period, queue_capacity, queue_policy, wrapped_sink};
 
 use super::QueuingMetricSink;
-use super::worker::{Part, Shared, Worker};
+use super::worker::{Part, Shared, Start, Worker};
+use crate::fed_sink::FedSink;
+use crate::feeds::Feeds;
+use crate::logs::WorkerLogs;
 use cadence_errors::MetricResult;
 use cadence_flow::thread::start;
 use cadence_flow::{Handler, MetricSink, SinkErrorHandler};
 use cadence_queue::{Latch, QueuePolicy, SharedQueue};
+use cadence_stage::{Entry, GhostList, Logs, Named, Names, Right, Seen, Stage, twins};
 use std::alloc::{Allocator, Global};
+use std::marker::PhantomData;
 use std::sync::{Arc, Wait};
 use std::thread::Threads;
 use std::time::{Clock, Duration};
@@ -93,21 +101,24 @@ impl<A: Allocator> QueuingMetricSinkBuilder<A> {
     }
 }
 
-// Makes a sink with these settings whose worker is not started yet. If the sink is dropped, its queue is stopped.
-fn make_sink<S: MetricSink, R: Wait + Drop, A: Allocator + Clone>(
+// Makes a sink over this queue whose worker is not started yet. If the sink is dropped, the queue is stopped.
+fn make_sink<S: Drop, R: Wait + Drop, A: Allocator + Clone, N: Logs>(
     rt: R,
     alloc: A,
     sink: S,
-    builder: &QueuingMetricSinkBuilder<A>,
-) -> MetricResult<QueuingMetricSink<S, R, A>>
-    ensures made { IfOk result (IsMadeBy (options_of builder.now) sink) }
+    queue: SharedQueue<String<A>, A, String<A>, N>,
+    period: Option<Duration>,
+) -> MetricResult<QueuingMetricSink<S, R, A, N>>
+    ensures wrapped { IfOk result (λ q. wrapped_sink q ≡ sink) }
+    ensures queue { IfOk result (λ q. (queue_capacity q ≡ bound_of queue)
+        × (queue_policy q ≡ rule_of queue)) }
+    ensures period { IfOk result (λ q. flush_period q ≡ period) }
     ensures refused { IfErr result IsQueuingRefusal }
 {
-    let queue = SharedQueue::with_policy(alloc.clone()?, builder.capacity, builder.policy)?;
     let shared = Shared {
         sink,
         queue,
-        period: builder.period,
+        period,
     };
     let shared = Arc::new(alloc.clone()?, shared)?;
     let end = Arc::new(alloc.clone()?, Latch::new())?;
@@ -120,9 +131,17 @@ fn make_sink<S: MetricSink, R: Wait + Drop, A: Allocator + Clone>(
 }
 
 // Makes what the worker of this sink needs.
-fn make_worker<S: MetricSink, R: Wait + Clone + Drop, A: Allocator + Clone>(
-    sink: &QueuingMetricSink<S, R, A>,
-) -> MetricResult<Worker<S, R, A>>
+fn make_worker<S: Drop, R: Wait + Clone + Drop, A: Allocator + Clone, N: Feeds<S, A>>(
+    sink: &QueuingMetricSink<S, R, A, N>,
+    take: Right<String<A>>,
+    seen: Seen<String<A>>,
+    feed: Right<Entry>,
+    fed: N::Fed,
+) -> MetricResult<Worker<S, R, A, N>>
+    requires named { ForSome N.logs (λ names. (take.name ≡ names.taken)
+        × (seen.name ≡ names.taken) × (feed.name ≡ names.fed)) }
+    requires none { (take.items ≡ []) × (seen.items ≡ []) × (feed.items ≡ []) }
+    requires nothing { N.handed fed ≡ [] }
     ensures { IfErr result IsQueuingRefusal }
 {
     let room = sink.shared.queue.room_of_taker(sink.alloc.clone()?)?;
@@ -131,7 +150,15 @@ fn make_worker<S: MetricSink, R: Wait + Clone + Drop, A: Allocator + Clone>(
         shared: sink.shared.clone()?,
         end: sink.end.clone()?,
     };
-    Ok(Worker { part, room })
+    let start = Start {
+        room,
+        take,
+        seen,
+        feed,
+        fed,
+        of: PhantomData,
+    };
+    Ok(Worker { part, start })
 }
 
 impl<A: Allocator + Clone + Send + Sync + 'static> QueuingMetricSinkBuilder<A> {
@@ -144,8 +171,41 @@ impl<A: Allocator + Clone + Send + Sync + 'static> QueuingMetricSinkBuilder<A> {
         ensures made { IfOk result (IsMadeBy (options_of self) sink) }
         ensures refused { IfErr result IsQueuingRefusal }
     {
-        let sink = make_sink(rt, alloc, sink, &self)?;
-        let worker = make_worker(&sink)?;
+        let queue = SharedQueue::with_policy(alloc.clone()?, self.capacity, self.policy)?;
+        let sink = make_sink(rt, alloc, sink, queue, self.period)?;
+        let (mut taken, take) = twins();
+        let (_fed, feed) = twins();
+        let worker = make_worker(&sink, take, taken.seen(), feed, GhostList::new())?;
+        start(&sink.rt, worker, self.handler)?;
+        Ok(sink)
+    }
+
+    /// Makes a sink whose worker feeds a `FedSink`, and starts the worker. The logs of the three have the names `J`, so
+    /// `look` and `stop_and_look` can say what became of the lines. The errors are those of `build`.
+    pub fn build_fed<
+        S: Stage + Send + 'static,
+        R: Wait + Clock + Threads + Clone + Drop + Send + Sync + 'static,
+        J: Names + Send + Sync + 'static,
+    >(
+        self,
+        rt: R,
+        alloc: A,
+        sink: FedSink<S, R, A, J>,
+        logs: WorkerLogs<A>,
+    ) -> MetricResult<QueuingMetricSink<FedSink<S, R, A, J>, R, A, Named<J>>>
+        requires { names_of logs ≡ J.names }
+        ensures made { IfOk result (IsMadeBy (options_of self) sink) }
+        ensures refused { IfErr result IsQueuingRefusal }
+    {
+        let WorkerLogs {
+            queue,
+            take,
+            seen,
+            feed,
+        } = logs;
+        let queue = SharedQueue::with_logs(alloc.clone()?, self.capacity, self.policy, queue)?;
+        let sink = make_sink(rt, alloc, sink, queue, self.period)?;
+        let worker = make_worker(&sink, take, seen, feed, GhostList::new())?;
         start(&sink.rt, worker, self.handler)?;
         Ok(sink)
     }

@@ -5,12 +5,12 @@ ghost use Rattle.cadence_queue.specs.Answers.{IsCopyQueued};
 ghost use Rattle.cadence_queuing.specs.Queuing.{IsQueuingAnswer, queue_capacity, wrapped_sink};
 ghost use Rattle.cadence_stage.specs.Answered.{IsAnswered};
 
-use super::worker::Shared;
+use super::worker::{Passed, Shared};
 use cadence_errors::SinkError;
 use cadence_flow::MetricSink;
 use cadence_flow::stats::SinkStats;
 use cadence_queue::{Latch, QueueStep};
-use cadence_stage::{AnsweringSink, OneCall, emit_by};
+use cadence_stage::{AnsweringSink, Logs, OneCall, Unnamed, emit_by};
 use std::alloc::{AllocError, Allocator, Global};
 use std::sync::{Arc, Wait};
 
@@ -33,21 +33,21 @@ use std::sync::{Arc, Wait};
 /// client.sink().stop_and_wait();
 /// client.flush()?;
 /// ```
-pub struct QueuingMetricSink<S: MetricSink, R: Wait + Drop, A: Allocator = Global> {
+pub struct QueuingMetricSink<S: Drop, R: Wait + Drop, A: Allocator = Global, N: Logs = Unnamed> {
     pub(super) rt: R,
     pub(super) alloc: A,
-    pub(super) shared: Arc<Shared<S, A>, A>,
-    pub(super) end: Arc<Latch, A>,
+    pub(super) shared: Arc<Shared<S, A, N>, A>,
+    pub(super) end: Arc<Latch<Passed<A, N>>, A>,
 }
 
-impl<S: MetricSink, R: Wait + Drop, A: Allocator> QueuingMetricSink<S, R, A> {
+impl<S: Drop, R: Wait + Drop, A: Allocator, N: Logs> QueuingMetricSink<S, R, A, N> {
     /// Stops the queue for all handles, and waits until the worker has handed on the queued lines, has dropped the error
     /// handler, and has ended. A wrapped sink with a buffer still holds its text then, until it is flushed or the last
     /// handle is dropped. Neither the wrapped sink nor the error handler may call this: they run in the worker, which
     /// would wait for itself.
     pub fn stop_and_wait(&self) {
         drop(self.shared.queue.stop(&self.rt));
-        self.end.wait(&self.rt);
+        let _left = self.end.wait(&self.rt);
     }
 
     /// Returns the number of lines that wait in the queue. Lines that the worker has taken, at most 32 at a time,
@@ -82,7 +82,7 @@ impl<S: MetricSink, R: Wait + Drop, A: Allocator> QueuingMetricSink<S, R, A> {
 }
 
 // Copies a line, into the memory of an older one if that is wide enough.
-fn copy_line<A: Allocator + Clone>(
+pub(super) fn copy_line<A: Allocator + Clone>(
     older: Option<String<A>>,
     alloc: &A,
     line: &str,
@@ -99,8 +99,8 @@ fn copy_line<A: Allocator + Clone>(
     }
 }
 
-impl<S: MetricSink, R: Wait + Drop, A: Allocator + Clone> AnsweringSink
-    for QueuingMetricSink<S, R, A> {
+impl<S: Drop, R: Wait + Drop, A: Allocator + Clone, N: Logs> AnsweringSink
+    for QueuingMetricSink<S, R, A, N> {
     type Receipt = QueueStep<String<A>, A>;
 
     ghost may_answer = { λ q line answer. IsQueuingAnswer (queue_capacity q) line answer };
@@ -127,9 +127,9 @@ impl<S: MetricSink, R: Wait + Drop, A: Allocator + Clone> AnsweringSink
 ///
 /// The errors are `ChannelDisconnected` if the queue is stopped, `ChannelFull` if as many lines wait as its capacity,
 /// and `OutOfMemory`, in this order; nothing is queued then. A caller that finds the queue full gives way to the worker
-/// once, for less than a microsecond, and then tries again. It never waits for the wrapped sink. Under `DropOldest`, a
-/// full queue with a capacity above 0 drops its oldest line instead of returning an error, and doesn't call the
-/// handler.
+/// once and then tries again. That takes less than a microsecond, but each sixteenth such caller lets other threads run,
+/// which may take milliseconds on a busy machine. It never waits for the wrapped sink. Under `DropOldest`, a full queue
+/// with a capacity above 0 drops its oldest line instead of returning an error, and doesn't call the handler.
 ///
 /// An accepted line requests memory at most once, apart from the growth of an unbounded queue: if the worker has handed
 /// on a line with enough memory, the new line is copied into that. The first two errors request no memory. `flush`
@@ -165,8 +165,8 @@ impl<S: MetricSink, R: Wait + Drop, A: Allocator + Clone> MetricSink
 }
 
 /// A clone is one more handle of the same queue.
-impl<S: MetricSink, R: Wait + Clone + Drop, A: Allocator + Clone> Clone
-    for QueuingMetricSink<S, R, A> {
+impl<S: Drop, R: Wait + Clone + Drop, A: Allocator + Clone, N: Logs> Clone
+    for QueuingMetricSink<S, R, A, N> {
     ghost is_clone = { λ q copy. wrapped_sink copy ≡ wrapped_sink q };
 
     fn clone(&self) -> Result<Self, AllocError> {
@@ -184,7 +184,7 @@ impl<S: MetricSink, R: Wait + Clone + Drop, A: Allocator + Clone> Clone
     }
 }
 
-impl<S: MetricSink, R: Wait + Drop, A: Allocator> Drop for QueuingMetricSink<S, R, A> {
+impl<S: Drop, R: Wait + Drop, A: Allocator, N: Logs> Drop for QueuingMetricSink<S, R, A, N> {
     fn drop(self) {
         drop(self.shared.queue.drop_handle(&self.rt));
         let QueuingMetricSink {

@@ -1,20 +1,23 @@
 //! The worker thread of a queue, and what it shares with the handles: it hands the lines of the queue to the wrapped sink,
 //! and flushes that one if the queue has a period.
-ghost use Rattle.std.specs.Prelude.{◌≡◌, [], false, map, true, IfErr, IfOk};
+ghost use Rattle.std.specs.Option.{ForSome};
+ghost use Rattle.std.specs.Prelude.{◌≡◌, [], false, map, string_bytes, true, IfErr, IfOk};
 ghost use Rattle.cadence_queuing.specs.FlushTimes.{CountsAsIfAny};
-ghost use Rattle.cadence_queuing.specs.Queuing.{handed_line};
+ghost use Rattle.cadence_queue.specs.End.{texts_of};
 ghost use Rattle.cadence_queue.specs.Taker.{given_by, has_ended};
+ghost use Rattle.cadence_stage.specs.Call.{call_of};
+ghost use Rattle.cadence_stage.specs.Past.{lines_in};
 
-use super::handed::Handed;
+use crate::feeds::Feeds;
 use crate::flush_timer::FlushTimer;
 use crate::worklist::{Worklist, work};
 use cadence_errors::SinkError;
+use cadence_flow::Handler;
 use cadence_flow::thread::Job;
-use cadence_flow::{Handler, MetricSink};
-use cadence_queue::{Latch, SharedQueue, Taker, TakerRoom};
-use cadence_stage::GhostList;
+use cadence_queue::{Latch, SharedQueue, Taker, TakerEnd, TakerRoom};
+use cadence_stage::{Entry, GhostList, Logs, Right, Seen};
 use std::alloc::Allocator;
-use std::snapshot::Snapshot;
+use std::marker::PhantomData;
 use std::sync::{Arc, Wait};
 use std::thread;
 use std::time::{Clock, Duration, Instant};
@@ -24,9 +27,9 @@ const WIDEST_KEPT: usize = 512;
 
 /// What the handles and the worker share. The lock of the queue is free while the sink works.
 #[derive(Drop)]
-pub struct Shared<S: MetricSink, A: Allocator> {
+pub struct Shared<S: Drop, A: Allocator, N: Logs> {
     pub sink: S,
-    pub queue: SharedQueue<String<A>, A>,
+    pub queue: SharedQueue<String<A>, A, String<A>, N>,
     /// After which time the worker flushes the sink. `None` means that it never does.
     pub period: Option<Duration>,
 }
@@ -34,32 +37,51 @@ pub struct Shared<S: MetricSink, A: Allocator> {
 /// The worker's part of what it shares with the handles. The mark of its end is on its own, because the worker sets it
 /// after it has let go of the sink.
 #[derive(Drop)]
-pub struct Part<S: MetricSink, R: Wait + Drop, A: Allocator> {
+pub struct Part<S: Drop, R: Wait + Drop, A: Allocator, N: Logs> {
     pub rt: R,
-    pub shared: Arc<Shared<S, A>, A>,
-    pub end: Arc<Latch, A>,
+    pub shared: Arc<Shared<S, A, N>, A>,
+    pub end: Arc<Latch<Passed<A, N>>, A>,
 }
 
-impl<S: MetricSink, R: Wait + Drop, A: Allocator> Part<S, R, A> {
-    // Ends the worker: it lets go of the sink and of the handler, and then sets the mark. So after the mark the drop of
-    // the last handle drops the sink, in the thread of that handle.
-    fn end(self, handler: Option<Handler<A>>) {
+impl<S: Drop, R: Wait + Drop, A: Allocator, N: Logs> Part<S, R, A, N> {
+    // Ends the worker: it lets go of the sink and of the handler, and then sets the mark, where it leaves what it passed
+    // on. So after the mark the drop of the last handle drops the sink, in the thread of that handle.
+    fn end(self, handler: Option<Handler<A>>, passed: Passed<A, N>) {
         let Part { rt, shared, end } = self;
         drop(shared);
         drop(handler);
-        end.mark(&rt);
+        end.mark(&rt, passed);
     }
 }
 
-/// The lines that a worker took and those that it handed on. Both lists exist only in proofs.
+/// What a worker begins with: the memory of its taker, and for proofs alone the rights to note what it takes and to feed
+/// its sink, and what it has handed on, which is nothing yet.
 #[derive(Drop)]
-pub struct Passed<S: MetricSink, A: Allocator> {
-    pub taken: GhostList<String<A>>,
-    pub handed: GhostList<Handed<S, A>>,
+pub struct Start<S, A: Allocator, N: Feeds<S, A>> {
+    pub room: TakerRoom<String<A>, A>,
+    pub take: Right<String<A>>,
+    pub seen: Seen<String<A>>,
+    pub feed: Right<Entry>,
+    pub fed: N::Fed,
+    pub of: PhantomData<S>,
+    pub ghost named: { ForSome N.logs (λ names. (take.name ≡ names.taken)
+        × (seen.name ≡ names.taken) × (feed.name ≡ names.fed)) },
+    pub ghost none: { (take.items ≡ []) × (seen.items ≡ []) × (feed.items ≡ []) },
+    pub ghost nothing: { N.handed fed ≡ [] },
 }
 
-// Receives the errors of the wrapped sink. It is a trait, because a type that holds a `Handed`, whose fact names the
-// bound of its sink, can't hold a handler, which has a `dyn`.
+/// What a worker leaves at its end, for proofs alone: the texts that it took, and its right to feed the sink. If the queue
+/// has names, these are all texts that were ever taken, and the sink was given the same lines in the same order.
+#[derive(Drop)]
+pub struct Passed<A: Allocator, N: Logs> {
+    pub taken: TakerEnd<String<A>, N>,
+    pub feed: Right<Entry>,
+    pub ghost handed: { ForSome N.logs (λ names. (feed.name ≡ names.fed)
+        × (lines_in (map call_of feed.items) ≡ map string_bytes (texts_of taken))) },
+}
+
+// Receives the errors of the sink. It is a trait, because a type that holds a `Handed`, whose fact names the bound of its
+// sink, can't hold a handler, which has a `dyn`.
 trait Report {
     fn report(&self, fault: SinkError);
 }
@@ -73,43 +95,54 @@ impl<A: Allocator> Report for Option<Handler<A>> {
     }
 }
 
-// The list that `work` goes through: its texts are the lines of the queue, and `hand` emits a line into the sink. If
-// the queue has a period and a flush is due, the sink is flushed before the next look at the queue. The clock is read
-// once for the lines that a look brings, at most 32.
-struct QueueWorklist<'a, S: MetricSink, R: Wait + Clock + Drop, A: Allocator, H: Report> {
+// The list that `work` goes through: its texts are the lines of the queue, and `hand` hands a line to the sink. If the
+// queue has a period and a flush is due, the sink is flushed before the next look at the queue. The clock is read once for
+// the lines that a look brings, at most 32.
+struct QueueWorklist<'a, S: Drop, R: Wait + Clock + Drop, A: Allocator, N: Feeds<S, A>, H: Report> {
     rt: &'a R,
     sink: &'a S,
     handler: &'a H,
-    taker: Taker<'a, String<A>, A>,
-    handed: GhostList<Handed<S, A>>,
+    taker: Taker<'a, String<A>, A, String<A>, N>,
+    handed: GhostList<String<A>>,
+    fed: N::Fed,
+    feed: Right<Entry>,
     timer: FlushTimer,
+    ghost same: { N.handed fed ≡ map string_bytes handed.items },
+    ghost given: { ForSome N.logs (λ names. (feed.name ≡ names.fed)
+        × (lines_in (map call_of feed.items) ≡ map string_bytes handed.items)) },
 }
 
-impl<'a, S: MetricSink, R: Wait + Clock + Drop, A: Allocator + Clone, H: Report> QueueWorklist<
+impl<
     'a,
-    S,
-    R,
-    A,
-    H,
-> {
+    S: Drop,
+    R: Wait + Clock + Drop,
+    A: Allocator + Clone,
+    N: Feeds<S, A>,
+    H: Report,
+> QueueWorklist<'a, S, R, A, N, H> {
     // Makes a list that has given no text yet. Its timer has the period of the queue.
-    fn new(
-        rt: &'a R,
-        shared: &'a Shared<S, A>,
-        handler: &'a H,
-        room: TakerRoom<String<A>, A>,
-    ) -> Self
+    fn new(rt: &'a R, shared: &'a Shared<S, A, N>, handler: &'a H, start: Start<S, A, N>) -> Self
         ensures given { given_by result.taker ≡ [] }
         ensures handed { result.handed.items ≡ [] }
         ensures ended { has_ended result.taker ≡ false }
         ensures period { CountsAsIfAny shared.now.period result.timer.period }
     {
+        let Start {
+            room,
+            take,
+            seen,
+            feed,
+            fed,
+            of: _,
+        } = start;
         QueueWorklist {
             rt,
             sink: &shared.sink,
             handler,
-            taker: shared.queue.taker(rt, room),
+            taker: shared.queue.taker_by(rt, room, take, seen),
             handed: GhostList::new(),
+            fed,
+            feed,
             timer: FlushTimer::start(shared.period, Instant::now(rt).ok()),
         }
     }
@@ -137,7 +170,7 @@ impl<'a, S: MetricSink, R: Wait + Clock + Drop, A: Allocator + Clone, H: Report>
         ensures ended { has_ended self.new.taker ≡ has_ended self.old.taker }
         ensures handed { self.new.handed ≡ self.old.handed }
     {
-        let answer = self.sink.flush();
+        let answer = N::flush(self.sink);
         self.note_flush(answer);
     }
 
@@ -196,33 +229,34 @@ impl<'a, S: MetricSink, R: Wait + Clock + Drop, A: Allocator + Clone, H: Report>
     }
 
     // Ends the list, after all its texts have been handed on.
-    fn finish(self) -> Passed<S, A>
-        requires { has_ended self.taker ≡ true }
-        ensures taken { result.taken.items ≡ given_by self.entry.taker }
-        ensures handed { result.handed.items ≡ self.entry.handed.items }
+    fn finish(self) -> Passed<A, N>
+        requires ended { has_ended self.taker ≡ true }
+        requires all { self.handed.items ≡ given_by self.taker }
     {
         let QueueWorklist {
             rt: _,
             sink: _,
             handler: _,
             taker,
-            handed,
+            handed: _,
+            fed: _,
+            feed,
             timer: _,
         } = self;
         Passed {
             taken: taker.finish(),
-            handed,
+            feed,
         }
     }
 }
 
-impl<S: MetricSink, R: Wait + Clock + Drop, A: Allocator + Clone, H: Report> Worklist
-    for QueueWorklist<'_, S, R, A, H> {
+impl<S: Drop, R: Wait + Clock + Drop, A: Allocator + Clone, N: Feeds<S, A>, H: Report> Worklist
+    for QueueWorklist<'_, S, R, A, N, H> {
     type Text = String<A>;
 
     ghost given = { λ w. given_by w.taker };
 
-    ghost handed = { λ w. map handed_line w.handed.items };
+    ghost handed = { λ w. w.handed.items };
 
     ghost ended = { λ w. has_ended w.taker };
 
@@ -236,12 +270,9 @@ impl<S: MetricSink, R: Wait + Clock + Drop, A: Allocator + Clone, H: Report> Wor
     }
 
     fn hand(&mut self, text: String<A>) {
-        let answer = self.sink.emit(text.as_str());
-        self.handed = self.handed.and(&Handed {
-            sink: Snapshot::of(self.sink),
-            line: Snapshot::of(&text),
-            answer: Snapshot::of(&answer),
-        });
+        let mut from = self.taker.seen();
+        let answer = N::hand(self.sink, &mut self.fed, &mut self.feed, &text, &mut from);
+        self.handed = self.handed.and(&text);
         if let Err(fault) = answer {
             self.handler.report(fault);
         }
@@ -254,15 +285,13 @@ impl<S: MetricSink, R: Wait + Clock + Drop, A: Allocator + Clone, H: Report> Wor
 
 // Goes through the queue to its end, and hands on each line that it takes, in order. If the queue has a period, it
 // flushes the sink whenever a flush is due, and at the end if one is owed.
-fn pass_on<S: MetricSink, R: Wait + Clock + Drop, A: Allocator + Clone, H: Report>(
+fn pass_on<S: Drop, R: Wait + Clock + Drop, A: Allocator + Clone, N: Feeds<S, A>, H: Report>(
     rt: &R,
-    shared: &Shared<S, A>,
+    shared: &Shared<S, A, N>,
     handler: &H,
-    room: TakerRoom<String<A>, A>,
-) -> Passed<S, A>
-    ensures { map handed_line result.handed.items ≡ result.taken.items }
-{
-    let mut list = QueueWorklist::new(rt, shared, handler, room);
+    start: Start<S, A, N>,
+) -> Passed<A, N> {
+    let mut list = QueueWorklist::new(rt, shared, handler, start);
     work(rt, &mut list);
     if list.timer.owes_flush {
         list.flush();
@@ -272,16 +301,16 @@ fn pass_on<S: MetricSink, R: Wait + Clock + Drop, A: Allocator + Clone, H: Repor
 
 /// What the worker thread needs besides the handler.
 #[derive(Drop)]
-pub struct Worker<S: MetricSink, R: Wait + Drop, A: Allocator> {
-    pub part: Part<S, R, A>,
-    pub room: TakerRoom<String<A>, A>,
+pub struct Worker<S: Drop, R: Wait + Drop, A: Allocator, N: Feeds<S, A>> {
+    pub part: Part<S, R, A, N>,
+    pub start: Start<S, A, N>,
 }
 
-impl<S: MetricSink, R: Wait + Clock + Drop, A: Allocator + Clone> Job<Option<Handler<A>>>
-    for Worker<S, R, A> {
+impl<S: Drop, R: Wait + Clock + Drop, A: Allocator + Clone, N: Feeds<S, A>> Job<Option<Handler<A>>>
+    for Worker<S, R, A, N> {
     fn run(self, handler: Option<Handler<A>>) {
-        let Worker { part, room } = self;
-        let _passed = pass_on(&part.rt, &part.shared, &handler, room);
-        part.end(handler);
+        let Worker { part, start } = self;
+        let passed = pass_on(&part.rt, &part.shared, &handler, start);
+        part.end(handler, passed);
     }
 }

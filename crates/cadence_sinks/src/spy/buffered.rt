@@ -1,6 +1,7 @@
 //! A sink for tests that packs lines, and makes each packet a message of its receiver.
 ghost use Rattle.std.specs.Prelude.{◌≡◌, [], IfOk, unwrap_or};
 ghost use Rattle.cadence_errors.specs.Errors.{MayOnlyRunOutOfMemory};
+ghost use Rattle.cadence_flow.specs.RecordedPacker.{past_of};
 ghost use Rattle.cadence_flow.specs.Writer.{history_of};
 ghost use Rattle.cadence_queue.specs.Answers.{IsQueueAnswer, IsQueueFlush, queue_kind};
 ghost use Rattle.cadence_stage.specs.Answered.{IsAnswered, IsFlushAnswered, answered_by_holding_nothing};
@@ -34,8 +35,8 @@ impl<R: Wait + Drop, A: Allocator + Clone> PacketWriter for MessageWriter<R, A> 
     }
 }
 
-// The packer of a spy.
-type SpyLines<R, A> = RecordedPacker<MessageWriter<R, A>, A>;
+/// The packer of a spy.
+pub type SpyLines<R, A> = RecordedPacker<MessageWriter<R, A>, A>;
 
 /// A sink for tests that buffers lines, each followed by a newline, and makes the held text a message of its receiver
 /// when the next line doesn't fit, at a flush, and when it is dropped.
@@ -80,18 +81,32 @@ impl<R: Wait + Clone + Drop, A: Allocator + Clone> BufferedSpyMetricSink<R, A> {
         ensures buffer { IfOk result (λ p. spy_buffer p.1 ≡ unwrap_or buffer 512) }
         ensures refused { MayOnlyRunOutOfMemory result }
     {
-        let (receiver, sender) = new_channel(rt.clone()?, alloc.clone()?, queue)?;
-        let inner = MessageWriter {
-            sender,
-            refusals: Refusals::none(),
-        };
         let capacity = buffer.unwrap_or(DEFAULT_CAPACITY);
-        let packer = RecordedPacker::new(alloc, inner, capacity)?;
+        let (receiver, packer) = Self::stage(rt.clone()?, alloc, queue, capacity)?;
         let sink = BufferedSpyMetricSink {
             lines: Locked::new(rt, packer),
             capacity,
         };
         Ok((receiver, sink))
+    }
+
+    /// Makes a receiver and the packer of a spy, which took no line yet, for a queue whose worker feeds it. The queue of the
+    /// receiver and the buffer are those of `with_capacity`. The only error is `OutOfMemory`.
+    pub fn stage(
+        rt: R,
+        alloc: A,
+        queue: Option<usize>,
+        buffer: usize,
+    ) -> MetricResult<(SpyReceiver<R, A>, SpyLines<R, A>)>
+        ensures none { IfOk result (λ s. past_of s.1 ≡ []) }
+        ensures refused { MayOnlyRunOutOfMemory result }
+    {
+        let (receiver, sender) = new_channel(rt, alloc.clone()?, queue)?;
+        let inner = MessageWriter {
+            sender,
+            refusals: Refusals::none(),
+        };
+        Ok((receiver, RecordedPacker::new(alloc, inner, buffer)?))
     }
 }
 

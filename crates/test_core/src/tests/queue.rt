@@ -149,7 +149,7 @@ fn an_end_mark_is_waited_for(rt: HostRuntime) -> Result<(), Fail> {
             || {
                 sleep_a_while(&rt);
                 is_marked.store(true, Ordering::SeqCst);
-                end.mark(&rt);
+                end.mark(&rt, ());
             },
         );
         assert!(rt; was_marked && end.wait_within(&rt, moment));

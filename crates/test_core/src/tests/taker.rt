@@ -35,7 +35,12 @@ fn are_left<R: Wait>(rt: &R, mut taker: Taker<'_, u64>, first: u64, end: u64) ->
 }
 
 // A capacity, how many texts are submitted, and how many of them the taker moves with the first one.
-const MOVED: [(Option<usize>, u64, u64); 3] = [(Some(3), 3, 1), (Some(64), 5, 2), (None, 36, 32)];
+const MOVED: [(Option<usize>, u64, u64); 4] = [
+    (Some(3), 3, 1),
+    (Some(20), 12, 10),
+    (Some(80), 36, 32),
+    (None, 36, 32),
+];
 
 #[test]
 fn a_taker_moves_a_part_of_the_queue(rt: HostRuntime) -> Result<(), Fail> {

@@ -1,8 +1,7 @@
 use Rattle.std.proofs.Common.{rules, ◌≡◌, length}
 use Rattle.cadence_queue.proofs.TakenTexts.{all_given, none_left}
-use Rattle.cadence_queue.proofs.taking.Taker.is_empty.Goals as goal
+use Rattle.cadence_queue.proofs.taking.taker.Taker.is_empty.Goals as goal
 
--- src/taking.rt:275:5
 pub returns : goal.returns
 returns g c = (
   λ empty.

@@ -12,8 +12,8 @@ use std::snapshot::Snapshot;
 /// answered so. So whoever makes a `Handed` has given this line to a sink.
 #[derive(Drop)]
 pub struct Handed<S: MetricSink, A: Allocator> {
-    pub(super) sink: Snapshot<S>,
-    pub(super) line: Snapshot<String<A>>,
-    pub(super) answer: Snapshot<Result<usize, SinkError>>,
+    pub(crate) sink: Snapshot<S>,
+    pub(crate) line: Snapshot<String<A>>,
+    pub(crate) answer: Snapshot<Result<usize, SinkError>>,
     pub ghost answered: { ∥ S.may_answer sink.value (string_bytes line.value) answer.value ∥₁ },
 }

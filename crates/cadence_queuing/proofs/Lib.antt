@@ -1,0 +1,2 @@
+-- `Looks` is about what a look at a queue shows.
+pub mod Looks

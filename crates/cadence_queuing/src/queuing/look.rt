@@ -1,0 +1,149 @@
+//! What is known of the lines of a queuing sink whose logs have names: at any moment, and after a stop. What these calls
+//! return exists in proofs only.
+ghost use Rattle.std.proofs.Common.{inr};
+ghost use Rattle.std.specs.Prelude.{◌≡◌, ◌∷◌, [], ◌++◌, ◌⊎◌, IfOk, List, String, map, string_bytes};
+ghost use mathlib.Core.List.{IsPrefix};
+ghost use Rattle.cadence_queuing.specs.Delivered.{AreDelivered};
+ghost use Rattle.cadence_queuing.specs.Queuing.{IsQueuingAnswer, queue_capacity};
+ghost use Rattle.cadence_queuing.specs.Look.{calls_at, policy_at, stage_at, texts_accepted, texts_taken};
+ghost use Rattle.cadence_stage.specs.Answered.{IsAnswered};
+ghost use Rattle.cadence_stage.specs.Call.{Flush};
+ghost use Rattle.cadence_stage.specs.Held.{NothingIsHeld};
+ghost use Rattle.cadence_stage.specs.Kept.{IsStep};
+ghost use Rattle.cadence_stage.specs.Past.{lines_in, taken_in};
+
+use super::look_of::Look;
+use super::sink::{QueuingMetricSink, copy_line};
+use super::worker::Passed;
+use crate::fed_sink::FedSink;
+use cadence_errors::SinkError;
+use cadence_flow::MetricSink;
+use cadence_flow::stats::SinkStats;
+use cadence_stage::{Named, Names, OneCall, Seen, Stage, emit_by};
+use std::alloc::Allocator;
+use std::sync::Wait;
+
+impl<S: Stage, R: Wait + Drop, A: Allocator, J: Names> QueuingMetricSink<
+    FedSink<S, R, A, J>,
+    R,
+    A,
+    Named<J>,
+> {
+    /// Returns a receipt of all lines that the queue has accepted so far.
+    pub fn accepted(&self) -> Seen<String<A>>
+        ensures { result.name ≡ J.names.accepted }
+    {
+        self.shared.queue.accepted(&self.rt)
+    }
+
+    /// Looks at the stage and then at the queue, at any moment. The lines that the stage was given by then are the first
+    /// ones that were taken from the queue, in order, and it took just those of them that it answered with a number. The
+    /// lines of the receipt were accepted first.
+    pub fn look(&self, receipt: &mut Seen<String<A>>) -> Look<S, A, J>
+        requires { receipt.old.name ≡ J.names.accepted }
+        ensures begins { ∥ IsPrefix (lines_in (calls_at result))
+            (map string_bytes (texts_taken result)) ∥₁ }
+        ensures took { S.taken (stage_at result) ≡ taken_in (calls_at result) }
+        ensures found { IsPrefix receipt.old.items (texts_accepted result) }
+        ensures same { receipt.new ≡ receipt.old }
+    {
+        let (stage, mut seen) = self.shared.sink.look();
+        let queue = self.shared.queue.look_again(&self.rt, &mut seen, receipt);
+        Look::new(queue, stage)
+    }
+
+    /// Stops the queue for all handles, and waits for the worker, as `stop_and_wait` does. Then each line that the queue
+    /// accepted and didn't drop was handed to the stage once, in the order of acceptance, and nobody else gave it a line
+    /// (`delivered`, `given`). It took just those of them that it answered with a number. The lines of the receipt were
+    /// accepted first.
+    pub fn stop_and_look(&self, receipt: &mut Seen<String<A>>) -> Look<S, A, J>
+        requires { receipt.old.name ≡ J.names.accepted }
+        ensures delivered { ∥ AreDelivered (policy_at result)
+            (texts_accepted result) (texts_taken result) ∥₁ }
+        ensures given { lines_in (calls_at result) ≡ map string_bytes (texts_taken result) }
+        ensures took { S.taken (stage_at result) ≡ taken_in (calls_at result) }
+        ensures found { IsPrefix receipt.old.items (texts_accepted result) }
+        ensures same { receipt.new ≡ receipt.old }
+    {
+        drop(self.shared.queue.stop(&self.rt));
+        let mut left = self.end.wait(&self.rt);
+        match &mut *left {
+            Some(passed) => self.look_at_end(passed, receipt),
+            None => unreachable!(),
+        }
+    }
+
+    // Looks at the queue and at the stage of a worker that has ended.
+    fn look_at_end(
+        &self,
+        passed: &mut Passed<A, Named<J>>,
+        receipt: &mut Seen<String<A>>,
+    ) -> Look<S, A, J>
+        requires { receipt.old.name ≡ J.names.accepted }
+        ensures delivered { ∥ AreDelivered (policy_at result)
+            (texts_accepted result) (texts_taken result) ∥₁ }
+        ensures given { lines_in (calls_at result) ≡ map string_bytes (texts_taken result) }
+        ensures took { S.taken (stage_at result) ≡ taken_in (calls_at result) }
+        ensures found { IsPrefix receipt.old.items (texts_accepted result) }
+        ensures same { receipt.new ≡ receipt.old }
+    {
+        let queue = self
+            .shared
+            .queue
+            .look_at_end(&self.rt, &mut passed.taken, receipt);
+        let stage = self.shared.sink.look_by(&mut passed.feed);
+        Look::new(queue, stage)
+    }
+}
+
+impl<S: Stage, R: Wait + Drop, A: Allocator + Clone, J: Names> QueuingMetricSink<
+    FedSink<S, R, A, J>,
+    R,
+    A,
+    Named<J>,
+> {
+    /// Queues a line, as `emit` does, and returns its receipt: what the queue had accepted by then, which ends with this
+    /// line. After an error nothing is queued.
+    pub fn emit_seen(&self, line: &str) -> Result<Seen<String<A>>, SinkError>
+        ensures { IfOk result (λ receipt. (receipt.name ≡ J.names.accepted)
+            × ((before : List (String A)) × (text : String A)
+            × (receipt.items ≡ before ++ text ∷ []) × (string_bytes text ≡ line.now))) }
+    {
+        let alloc = &self.alloc;
+        let queue = &self.shared.queue;
+        let (answer, step) = queue.offer(&self.rt, |older| copy_line(older, alloc, line));
+        match answer {
+            Ok((_dropped, _copy)) => Ok(step.into_accepted()),
+            Err(error) => Err(queue.why(error).into()),
+        }
+    }
+}
+
+/// The same calls of a queue whose worker feeds a stage.
+impl<S: Stage, R: Wait + Drop, A: Allocator + Clone, J: Names> MetricSink
+    for QueuingMetricSink<FedSink<S, R, A, J>, R, A, Named<J>> {
+    ghost may_answer = { λ q line answer.
+        IsQueuingAnswer (queue_capacity q) line answer × IsAnswered line answer };
+
+    ghost may_flush = { λ _ answer. IsStep S.step (Flush answer) ⊎ NothingIsHeld };
+
+    #[inline(always)]
+    fn emit(&self, line: &str) -> Result<usize, SinkError> {
+        let mut fault = SinkError::NothingWritten;
+        emit_by(OneCall::of(self), line, &mut fault).ok_or(fault)
+    }
+
+    fn flush(&self) -> Result<(), SinkError> {
+        self.shared.sink.flush()
+    }
+
+    fn stats(&self) -> SinkStats {
+        self.shared.sink.stats()
+    }
+
+    fn dropped_lines(&self) -> u64 {
+        self.dropped()
+    }
+
+    ghost flush_may_succeed = { λ _ held. inr held };
+}
