@@ -30,7 +30,7 @@ def send_to_path(program):
             got = result_of([program, *ONE], b'', environment=agent)
             yield 'the path of a variable alone', (*got, next_datagram(server)), (0, b'', b'', ONE_SENT)
             for switch in ({'DD_DOGSTATSD_DISABLE': 'true'}, {'STATSD_ENABLED': '0'}):
-                got = result_of([program], ONE_SENT, environment={**OVERRIDDEN, **switch})
+                got = result_of([program, *ONE], b'', environment={**OVERRIDDEN, **switch})
                 yield f'nothing is sent by {switch}', got, (0, b'', b'')
             longest = server.getsockopt(socket.SOL_SOCKET, socket.SO_SNDBUF) - 32
             long = result_of([*command, '--capacity', str(longest + 1)], b'')
