@@ -166,8 +166,8 @@ impl<A: Allocator + Clone> ClientSettings<A> {
         Ok(())
     }
 
-    // Returns the default container.
-    fn container(&self) -> Option<&str>
+    /// Returns the default container, or `None` if there is none.
+    pub fn default_container(&self) -> Option<&str>
         ensures { option_copied result ≡ (self.now).container }
     {
         self.container.as_ref().map(|id| id.as_str())
@@ -222,7 +222,13 @@ impl<A: Allocator + Clone> ClientSettings<A> {
             kind,
         };
         let alloc = self.tags.allocator().clone()?;
-        DraftLine::new(alloc, &head, self.text.as_str(), self.container(), room)
+        DraftLine::new(
+            alloc,
+            &head,
+            self.text.as_str(),
+            self.default_container(),
+            room,
+        )
     }
 
     /// Returns what `draft` returns, but writes it into a buffer of the caller's, whose text is lost. It takes memory
@@ -251,7 +257,7 @@ impl<A: Allocator + Clone> ClientSettings<A> {
             kind,
         };
         let tags = self.text.as_str();
-        let draft = DraftLine::in_buffer(buffer, &head, tags, self.container(), OWN_BYTES)?;
+        let draft = DraftLine::in_buffer(buffer, &head, tags, self.default_container(), OWN_BYTES)?;
         Ok(draft)
     }
 

@@ -1,6 +1,7 @@
 //! Records of calls, for a caller who needs the fields of a metric and not its line.
-ghost use Rattle.std.specs.Prelude.{◌≡◌, OnOk, map};
+ghost use Rattle.std.specs.Prelude.{◌≡◌, IfOk, OnOk, map};
 ghost use Rattle.std.specs.List.{fold};
+ghost use Rattle.cadence_text.specs.Record.{tag_of};
 ghost use Rattle.cadence_settings.specs.Call.{chosen};
 ghost use Rattle.cadence_settings.specs.CallData.{choice_of};
 
@@ -41,6 +42,14 @@ impl<A: Allocator + Clone> ClientSettings<A> {
         self.record_with(key, kind, value)
     }
 
+    /// Returns the default tags in their order, as tags that borrow the texts of the settings. It takes memory for one
+    /// list, and only if there are default tags. The only error is that memory ran out.
+    pub fn default_tags(&self) -> Result<Vec<Tag<'_>, A>, AllocError>
+        ensures { IfOk result (λ tags. map tag_of tags.items ≡ (self.now).tags) }
+    {
+        lend_tags(self.tags.allocator().clone()?, &self.tags)
+    }
+
     // Returns the record of a call without options. It tests no text.
     fn record_with<'a>(
         &'a self,
@@ -51,8 +60,9 @@ impl<A: Allocator + Clone> ClientSettings<A> {
         ensures { Makes (metric_of_call self.now (plain_call kind key.now (numbers_of value)))
             result }
     {
-        let tags = lend_tags(self.tags.allocator().clone()?, &self.tags)?;
-        Ok(Record::with_defaults(&self.prefix, key, kind, value, tags, self.container()))
+        let tags = self.default_tags()?;
+        let container = self.default_container();
+        Ok(Record::with_defaults(&self.prefix, key, kind, value, tags, container))
     }
 
     /// Returns the record of a call that is kept as data, to which the prefix and the defaults of these settings and

@@ -117,7 +117,7 @@ impl<A: Allocator + Clone> ClientSettings<A> {
         if !text_is_free(&self.prefix) || !tags_are_free(&self.tags) {
             return false;
         }
-        any_is_free(self.container())
+        any_is_free(self.default_container())
     }
 
     /// Returns the error of a call without options whose value could not be made because of `error`. That is `error`

@@ -17,8 +17,8 @@ returns-clause-draft g c =
     let call = plain_call c.args.kind c.args.key.now (numbers_of c.args.value) in
     let prefix : c.deref.result.now ≡ string_bytes inside.prefix = search rules in
     let tags : c.as_str-tags.result.now ≡ tags_field (map tag_of_owned inside.tags.items) = search rules in
-    let container : option_copied c.container.result ≡ option_map string_bytes inside.container = search rules in
+    let container : option_copied c.default_container.result ≡ option_map string_bytes inside.container = search rules in
     let same =
-    draft_of_call (settings_seen inside) c.args.kind c.deref.result.now c.args.key.now c.as_str-tags.result.now (option_copied c.container.result)
+    draft_of_call (settings_seen inside) c.args.kind c.deref.result.now c.args.key.now c.as_str-tags.result.now (option_copied c.default_container.result)
     (numbers_of c.args.value) prefix tags container in
     subst (λ (s : Settings). c.in_ok-draft.draft ≡ draft_of (metric_of_call s call)) c.self.view_is (c.in_ok-draft.ensures.draft ∙ same)

@@ -1,4 +1,4 @@
-use Rattle.std.proofs.Common.{◌≡◌, ◌∙◌, ◌++◌, None, ap, map, rules, string_bytes, subst}
+use Rattle.std.proofs.Common.{◌≡◌, ◌∙◌, ◌++◌, None, ap, map, rules, string_bytes, subst, sym}
 use Rattle.std.specs.Option.{option_copied, option_map}
 use Rattle.cadence_text.specs.Owned.{tag_of_owned}
 use Rattle.cadence_text.specs.Record.{tag_of}
@@ -14,10 +14,10 @@ returns g c =
     let inside = c.self.inside in
     let key = c.args.key.now in
     let numbers = numbers_of c.args.value in
-    let prefix : c.deref-2.result.now ≡ string_bytes inside.prefix = search rules in
+    let prefix : c.deref.result.now ≡ string_bytes inside.prefix = search rules in
     let tags : map tag_of c.in_ok-tags.tags.items ≡ map tag_of_owned inside.tags.items = c.in_ok-tags.ensures
-    ∙ ap (map tag_of_owned) c.deref.ensures.value in
-    let container : option_copied c.container.result ≡ option_map string_bytes inside.container = search rules in
+    ∙ ap (λ (s : Settings). s.tags) (sym c.self.view_is) in
+    let container : option_copied c.default_container-container.result ≡ option_map string_bytes inside.container = search rules in
     let parts : c.with_defaults.result ≡ record {
       name = string_bytes inside.prefix ++ key;
       numbers = numbers;
