@@ -1,3 +1,4 @@
+pub mod Events
 pub mod Metrics
 pub mod Own
 pub mod Sending

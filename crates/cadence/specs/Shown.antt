@@ -1,10 +1,17 @@
--- What contracts show of a client, of its builder and of the builder of a metric, whose fields are private.
-use Rattle.std.specs.Prelude.{◌≡◌, Bool, IsTrue, Result, Ok, Err}
+-- What contracts show of a client, of its builder and of the builders of metrics, events and service checks, whose fields
+-- are private.
+use Rattle.std.specs.Prelude.{◌≡◌, Bool, IsTrue, Option, Result, Ok, Err, map}
+use Rattle.std.specs.Option.{option_map}
 use Rattle.std.specs.declared.dyn_box.DynBox.{DynBox}
 use Rattle.cadence_errors.specs.declared.MetricError.{MetricError}
+use Rattle.cadence_events.specs.Event.{Event, event_of}
+use Rattle.cadence_events.specs.ServiceCheck.{ServiceCheck, check_of}
 use Rattle.cadence_text.specs.Draft.{Draft}
 use Rattle.cadence_text.specs.Metric.{Tag}
+use Rattle.cadence_text.specs.Record.{tag_of}
 use Rattle.cadence.specs.declared.client.builder.MetricBuilder.{MetricBuilder}
+use Rattle.cadence.specs.declared.client.service_check_builder.ServiceCheckBuilder.{ServiceCheckBuilder}
+use Rattle.cadence.specs.declared.client.event_builder.EventBuilder.{EventBuilder}
 use Rattle.cadence.specs.declared.client.handler.BoxedErrorHandler.{BoxedErrorHandler}
 use Rattle.cadence.specs.declared.client.statsd_client.StatsdClient.{StatsdClient}
 use Rattle.cadence.specs.declared.client.client_builder.StatsdClientBuilder.{StatsdClientBuilder}
@@ -26,6 +33,23 @@ module _ {T C Z : Type 0} where
   -- the client by which a metric's builder sends
   abbrev pub backend_of : MetricBuilder T C Z → C
   backend_of b = b.client.now
+
+module _ {C Z : Type 0} where
+  -- the event that a builder has so far, or none if memory ran out for a tag
+  abbrev pub event_of_builder : EventBuilder C Z → Option Event
+  event_of_builder b = option_map (λ tags. record (event_of b.event) { tags = map tag_of tags.items }) b.tags
+
+  -- the client by which a builder of an event sends
+  abbrev pub client_of_event : EventBuilder C Z → C
+  client_of_event b = b.client.now
+
+  -- the service check that a builder has so far, or none if memory ran out for a tag
+  abbrev pub check_of_builder : ServiceCheckBuilder C Z → Option ServiceCheck
+  check_of_builder b = option_map (λ tags. record (check_of b.check) { tags = map tag_of tags.items }) b.tags
+
+  -- the client by which a builder of a service check sends
+  abbrev pub client_of_check : ServiceCheckBuilder C Z → C
+  client_of_check b = b.client.now
 
 module _ {Z Y : Type 0} {G : Y → Type 0} {g : _} where
   -- the boxed closure that a handler stores

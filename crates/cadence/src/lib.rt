@@ -25,7 +25,10 @@ pub use cadence_flow::io;
 pub use cadence_resolve::{DEFAULT_PORT, Runtime};
 pub use cadence_text::line;
 pub use cadence_value::value;
-pub use client::{BoxedHandler, ErrorHandler, MetricBuilder, StatsdClient, StatsdClientBuilder};
+pub use client::{
+    AlertType, BoxedHandler, ErrorHandler, EventBuilder, MetricBuilder, Priority,
+    ServiceCheckBuilder, ServiceStatus, StatsdClient, StatsdClientBuilder,
+};
 pub use decimal::Decimal;
 pub use prelude::{
     Counted, CountedExt, Distributed, Gauged, Histogrammed, Metered, MetricClient, Setted, Timed,

@@ -86,6 +86,7 @@ fn add_packet<R: Runtime>(rt: &R, alloc: Global, text: &mut String) -> MetricRes
 fn send_all<S: MetricSink>(alloc: Global, client: &StatsdClient<Global, S>) -> MetricResult<()> {
     kinds::send_each_kind(alloc, client)?;
     kinds::send_with_options(client)?;
+    kinds::send_news(client)?;
     kinds::send_seven(client)?;
     kinds::send_tenth(client)?;
     let line = String::from_str(alloc, "_e{1,1}:a|b")?;

@@ -1,8 +1,9 @@
 //! Each kind of metric, and what a metric may have besides its value: tags, a container, a timestamp, a sampling rate.
+//! And events and service checks.
 
 use cadence::decimal::Decimal;
 use cadence::prelude::*;
-use cadence::{MetricResult, MetricSink, StatsdClient};
+use cadence::{AlertType, MetricResult, MetricSink, ServiceStatus, StatsdClient};
 use std::alloc::Global;
 use std::time::Duration;
 
@@ -34,6 +35,20 @@ pub fn send_with_options<S: MetricSink>(client: &StatsdClient<Global, S>) -> Met
         .with_timestamp(1_700_000_000)
         .with_sampling_rate(half)
         .try_send()?;
+    Ok(())
+}
+
+/// Sends an event and a service check.
+pub fn send_news<S: MetricSink>(client: &StatsdClient<Global, S>) -> MetricResult<()> {
+    client
+        .event("Deploy", "version 2.1")
+        .with_alert_type(AlertType::Info)
+        .with_tag("env", "prod")
+        .try_send()?; // _e{6,11}:Deploy|version 2.1|t:info|#env:prod
+    client
+        .service_check("web", ServiceStatus::Critical)
+        .with_message("no answer")
+        .try_send()?; // _sc|web|2|m:no answer
     Ok(())
 }
 

@@ -20,8 +20,8 @@ use std::marker::PhantomData;
 
 // A line, as a metric that can be sent.
 #[derive(Clone, Copy)]
-struct Line<'a> {
-    text: &'a str,
+pub(super) struct Line<'a> {
+    pub(super) text: &'a str,
 }
 
 impl Metric for Line<'_> {

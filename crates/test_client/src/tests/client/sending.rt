@@ -4,7 +4,7 @@ ghost use Rattle.std.specs.Prelude.{◌≡◌, Err, Ok, length};
 ghost use Rattle.cadence_errors.specs.declared.SinkError.TheVariants.{PacketRefused};
 
 use crate::tests::own::{Event, Nothing, Seven};
-use cadence::client::{BoxedErrorHandler, BoxedHandler, BoxedSink, StatsdClient};
+use cadence::client::{BoxedErrorHandler, BoxedHandler, BoxedSink, ServiceStatus, StatsdClient};
 use cadence::ext::MetricBackend;
 use cadence::prelude::*;
 use cadence::sinks::{MetricSink, NopMetricSink};
@@ -190,14 +190,16 @@ fn is_flush_error(answer: MetricResult<()>) -> bool {
 fn each_returns_its_error(client: &RefusedClient) -> Result<bool, Fail> {
     let plain = is_sink_error(client.count("k", 1))?;
     let built = is_sink_error(client.count_with_tags("k", 1).try_send())?;
-    Ok(plain && built && is_flush_error(client.flush()))
+    let event = is_sink_error(client.event("k", "text").try_send())?;
+    let check = is_sink_error(client.service_check("k", ServiceStatus::Ok).try_send())?;
+    Ok(plain && built && event && check && is_flush_error(client.flush()))
 }
 
 #[test]
 fn an_error_that_is_returned_is_not_handled(rt: HostRuntime) -> Result<(), Fail> {
     let counts = CallCounts::zero(rt.alloc())?;
     let client = make_refused_client(rt.alloc(), &counts)?;
-    assert!(rt; each_returns_its_error(&client)? && counts.are(2, 0));
+    assert!(rt; each_returns_its_error(&client)? && counts.are(4, 0));
     Ok(())
 }
 
@@ -208,7 +210,11 @@ fn each_is_handled(client: &RefusedClient, counts: &CallCounts) -> bool {
     client.consume_error(MetricError::from(SinkError::ChannelFull));
     let of_caller = counts.are(1, 11);
     client.count_with_tags("k", Nothing).send();
-    of_sink && of_caller && counts.are(1, 1_011)
+    let of_value = counts.are(1, 1_011);
+    client.event("k", "text").send();
+    let of_event = counts.are(2, 1_012);
+    client.service_check("a|b", ServiceStatus::Ok).send();
+    of_sink && of_caller && of_value && of_event && counts.are(2, 2_012)
 }
 
 #[test]
