@@ -1,13 +1,13 @@
 -- Events of DogStatsD and their lines.
 use Rattle.std.specs.Prelude.{◌≡◌, ℕ, ◌+◌, Option, List, ◌++◌, codes, drop, length, map, take}
-use Rattle.std.specs.Option.{option_copied, option_map}
+use Rattle.std.specs.Option.{option_copied, option_map, option_or}
 use Rattle.cadence_events.specs.declared.event.AlertType.{AlertType}
 use Rattle.cadence_events.specs.declared.event.AlertType.TheVariants.{Error, Warning, Info, Success}
 use Rattle.cadence_events.specs.declared.event.Priority.{Priority}
 use Rattle.cadence_events.specs.declared.event.Priority.TheVariants.{Low, Normal}
 use Rattle.cadence_events.specs.declared.event.Event.{Event as EventParts}
 use Rattle.cadence_events.specs.Escapes.{escaped}
-use Rattle.cadence_events.specs.Fields.{field, seconds_field}
+use Rattle.cadence_events.specs.Fields.{field, seconds_field, tags_after}
 use Rattle.cadence_text.specs.Line.{container_field, tags_field}
 use Rattle.cadence_text.specs.Metric.{Tag}
 use Rattle.cadence_text.specs.Record.{tag_of}
@@ -60,16 +60,29 @@ event_head title text =
     codes "_e{" ++ (decimal_text (length title) ++ (codes "," ++ (decimal_text (length text) ++ (codes "}:"
     ++ (title ++ (codes "|" ++ text))))))
 
--- the fields of an event, each one that it has
-abbrev pub event_fields : Event → List ℕ
-event_fields e =
+-- the fields of an event, each one that it has, with this field of tags
+abbrev pub event_fields : Event → List ℕ → List ℕ
+event_fields e tags =
     seconds_field e.time ++ (field (codes "|h:") e.host ++ (field (codes "|k:") e.key
     ++ (field (codes "|p:") (option_map priority_text e.priority) ++ (field (codes "|s:") e.source
-    ++ (field (codes "|t:") (option_map alert_text e.alert) ++ (tags_field e.tags ++ container_field e.container))))))
+    ++ (field (codes "|t:") (option_map alert_text e.alert) ++ (tags ++ container_field e.container))))))
+
+-- the line of an event with this field of tags
+unfoldable pub event_text : Event → List ℕ → List ℕ
+event_text e tags = event_head (escaped e.title) (escaped e.text) ++ event_fields e tags
 
 -- the line of an event
-unfoldable pub event_line : Event → List ℕ
-event_line e = event_head (escaped e.title) (escaped e.text) ++ event_fields e
+abbrev pub event_line : Event → List ℕ
+event_line e = event_text e (tags_field e.tags)
+
+-- the line of an event with the text of default tags, which comes before its own tags, and with this default container
+-- if it has none
+abbrev pub event_line_with : List ℕ → Option (List ℕ) → Event → List ℕ
+event_line_with tags container e = event_text (record e { container = option_or e.container container }) (tags_after tags e.tags)
+
+-- the event with these default tags, which come before its own, and with this default container if it has none
+abbrev pub event_with : List Tag → Option (List ℕ) → Event → Event
+event_with tags container e = record e { tags = tags ++ e.tags; container = option_or e.container container }
 
 -- The two numbers of the head are the lengths in bytes of this title and of this text. A reader that takes as many
 -- bytes as the first number says, skips a bar, and takes as many as the second one says, has them, whatever bytes

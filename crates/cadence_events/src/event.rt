@@ -1,12 +1,16 @@
 //! Events: something that happened, with a title and a text that people read.
-ghost use Rattle.std.specs.Prelude.{◌≡◌, ◌<◌, ◌^◌, [], None, IfOk, SomeIff, length, string_bytes};
+ghost use Rattle.std.specs.Prelude.{◌≡◌, ◌<◌, ◌^◌, [], List, None, IfOk, SomeIff, length, string_bytes};
+ghost use Rattle.std.specs.Option.{option_copied};
 ghost use Rattle.cadence_events.specs.Escapes.{escaped};
-ghost use Rattle.cadence_events.specs.Event.{Event, IsCutByLengths, alert_text, event_fields, event_head, event_line, event_of, priority_text};
+ghost use Rattle.cadence_events.specs.Event.{Event, IsCutByLengths, alert_text, event_fields, event_head, event_line, event_line_with, event_of, event_text, event_with, priority_text};
+ghost use Rattle.cadence_events.specs.Fields.{tags_after};
 ghost use Rattle.cadence_events.specs.Refusals.{MakesLine, event_refusal};
+ghost use Rattle.cadence_text.specs.Line.{tags_field};
+ghost use Rattle.cadence_text.specs.Metric.{Tag as MetricTag};
 ghost use Rattle.cadence_value.specs.Takes.{Takes};
 
 use crate::escapes::{escaped_len, push_escaped};
-use crate::fields::{push_field, push_seconds, push_tags};
+use crate::fields::{container_or, push_field, push_seconds, push_tags};
 use crate::refusal::{LineError, Unfit, any_is_free, tags_are_free};
 use crate::writers::{Lined, length_of, line_of};
 use cadence_text::line::Tag;
@@ -138,10 +142,11 @@ impl<'a> Event<'a> {
         }
     }
 
-    // Writes the fields of a line.
+    // Writes the fields of a line, with this text of default tags.
     #[tactic(auto, using(std::proofs::lemmas::Grind::common_steps))]
-    fn push_fields<S: PieceWriter>(&self, line: &mut S)
-        ensures { Takes S.ends_as line.old (event_fields (event_of self.now)) line.new }
+    fn push_fields<S: PieceWriter>(&self, line: &mut S, tags: &str)
+        ensures { Takes S.ends_as line.old (event_fields (event_of self.now)
+            (tags_after tags.now (event_of self.now).tags)) line.new }
     {
         push_seconds(line, self.time);
         push_field(line, "|h:", self.host);
@@ -149,7 +154,7 @@ impl<'a> Event<'a> {
         push_field(line, "|p:", self.priority.map(Priority::text));
         push_field(line, "|s:", self.source);
         push_field(line, "|t:", self.alert.map(AlertType::text));
-        push_tags(line, self.tags);
+        push_tags(line, tags, self.tags);
         push_field(line, "|c:", self.container);
     }
 
@@ -159,7 +164,7 @@ impl<'a> Event<'a> {
         ensures { SomeIff result (length (event_line (event_of self.now)) < 2 ^ 64)
             (length (event_line (event_of self.now))) }
     {
-        length_of(self)
+        length_of(self, "")
     }
 
     /// Returns which text makes `line` refuse the event, or `None` if it accepts all of them. If there are several, it
@@ -198,19 +203,45 @@ impl<'a> Event<'a> {
             (escaped (event_of self.now).title) (escaped (event_of self.now).text)
             (string_bytes line)) }
     {
+        self.line_with(alloc, "", None)
+    }
+
+    /// Returns the line of the event of a client that has default tags and a default container. `tags` is the text of
+    /// the default tags, as `TagsText` has it: they come before the tags of the event. The event's own container, if it
+    /// has one, replaces the default one. Neither of these defaults is tested.
+    ///
+    /// # Errors
+    /// Those of `line`.
+    pub fn line_with<A: Allocator>(
+        &self,
+        alloc: A,
+        tags: &str,
+        container: Option<&str>,
+    ) -> Result<String<A>, LineError>
+        ensures line { MakesLine (event_refusal (event_of self.now))
+            (event_line_with tags.now (option_copied container.entry) (event_of self.now)) result }
+        ensures defaults { (defaults : List MetricTag) → tags.now ≡ tags_field defaults →
+            event_line_with tags.now (option_copied container.entry) (event_of self.now)
+            ≡ event_line
+            (event_with defaults (option_copied container.entry) (event_of self.now)) }
+    {
         if let Some(why) = self.refusal() {
             return Err(LineError::Unusable(why));
         }
-        Ok(line_of(alloc, self)?)
+        let event = Event {
+            container: container_or(self.container, container),
+            ..*self
+        };
+        Ok(line_of(alloc, &event, tags)?)
     }
 }
 
 impl Lined for Event<'_> {
-    ghost spelled = { λ e. event_line (event_of e) };
+    ghost spelled = { λ e tags. event_text (event_of e) (tags_after tags (event_of e).tags) };
 
-    #[tactic(auto, unfolding(crate::specs::Event::event_line))]
-    fn push_to<S: PieceWriter>(&self, line: &mut S) {
+    #[tactic(auto, unfolding(crate::specs::Event::event_text))]
+    fn push_to<S: PieceWriter>(&self, line: &mut S, tags: &str) {
         push_head(line, self.title, self.text);
-        self.push_fields(line);
+        self.push_fields(line, tags);
     }
 }

@@ -1,9 +1,10 @@
 //! The optional fields that events and service checks share.
-ghost use Rattle.std.specs.Prelude.{◌++◌, codes, map};
-ghost use Rattle.std.specs.Option.{option_copied, option_map};
+ghost use Rattle.std.specs.Prelude.{◌≡◌, ◌++◌, codes, map};
+ghost use Rattle.std.specs.Option.{option_copied, option_map, option_or};
 ghost use Rattle.cadence_events.specs.Escapes.{escaped_message};
-ghost use Rattle.cadence_events.specs.Fields.{field, seconds_field};
-ghost use Rattle.cadence_text.specs.Line.{tag_text, tags_field};
+ghost use Rattle.cadence_events.specs.Fields.{field, seconds_field, tags_after};
+ghost use Rattle.cadence_text.specs.Draft.{has_text, lead};
+ghost use Rattle.cadence_text.specs.Line.{tag_text};
 ghost use Rattle.cadence_text.specs.Record.{tag_of};
 ghost use Rattle.cadence_value.specs.Takes.{Takes};
 
@@ -43,16 +44,35 @@ fn push_tag<S: PieceWriter>(line: &mut S, lead: &str, tag: &Tag<'_>)
     line.take_piece(tag.text);
 }
 
-/// Writes the field of the tags, or nothing if there are no tags.
-pub(crate) fn push_tags<S: PieceWriter>(line: &mut S, tags: &[Tag<'_>])
-    ensures { Takes S.ends_as line.old (tags_field (map tag_of tags.now)) line.new }
+// Returns what is written between this text of default tags and the next tag.
+fn lead_after(defaults: &str) -> &'static str
+    ensures { result.now ≡ lead (has_text defaults.now) }
 {
+    if defaults.is_empty() { "|#" } else { "," }
+}
+
+/// Writes the field of the tags: this text of default tags, and then the tags.
+pub(crate) fn push_tags<S: PieceWriter>(line: &mut S, defaults: &str, tags: &[Tag<'_>])
+    ensures { Takes S.ends_as line.old (tags_after defaults.now (map tag_of tags.now)) line.new }
+{
+    line.take_piece(defaults);
     let Some((first, others)) = tags.split_first() else {
         return;
     };
-    push_tag(line, "|#", first);
+    push_tag(line, lead_after(defaults), first);
     for tag in others {
         push_tag(line, ",", tag);
+    }
+}
+
+/// Returns a container, or the default one if there is none.
+pub(crate) fn container_or<'a>(own: Option<&'a str>, default: Option<&'a str>) -> Option<&'a str>
+    ensures { option_copied result
+        ≡ option_or (option_copied own.entry) (option_copied default.entry) }
+{
+    match own {
+        Some(own) => Some(own),
+        None => default,
     }
 }
 

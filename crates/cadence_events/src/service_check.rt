@@ -1,10 +1,14 @@
 //! Service checks: the state of a service.
-ghost use Rattle.std.specs.Prelude.{◌≡◌, ◌<◌, ◌^◌, [], None, SomeIff, length};
+ghost use Rattle.std.specs.Prelude.{◌≡◌, ◌<◌, ◌^◌, [], List, None, SomeIff, length};
+ghost use Rattle.std.specs.Option.{option_copied};
+ghost use Rattle.cadence_events.specs.Fields.{tags_after};
 ghost use Rattle.cadence_events.specs.Refusals.{MakesLine, check_refusal};
-ghost use Rattle.cadence_events.specs.ServiceCheck.{ServiceCheck, check_line, check_of, status_text};
+ghost use Rattle.cadence_events.specs.ServiceCheck.{ServiceCheck, check_line, check_line_with, check_of, check_text, check_with, status_text};
+ghost use Rattle.cadence_text.specs.Line.{tags_field};
+ghost use Rattle.cadence_text.specs.Metric.{Tag as MetricTag};
 ghost use Rattle.cadence_value.specs.Takes.{Takes};
 
-use crate::fields::{push_field, push_message_field, push_seconds, push_tags};
+use crate::fields::{container_or, push_field, push_message_field, push_seconds, push_tags};
 use crate::refusal::{LineError, Unfit, any_is_free, is_without_bar, tags_are_free};
 use crate::writers::{Lined, length_of, line_of};
 use cadence_settings::text_is_free;
@@ -94,7 +98,7 @@ impl<'a> ServiceCheck<'a> {
         ensures { SomeIff result (length (check_line (check_of self.now)) < 2 ^ 64)
             (length (check_line (check_of self.now))) }
     {
-        length_of(self)
+        length_of(self, "")
     }
 
     /// Returns which text can't stand in the line, if there is one: the first one in the order of the line.
@@ -129,25 +133,51 @@ impl<'a> ServiceCheck<'a> {
         ensures { MakesLine (check_refusal (check_of self.now))
             (check_line (check_of self.now)) result }
     {
+        self.line_with(alloc, "", None)
+    }
+
+    /// Returns the line of the service check of a client that has default tags and a default container. `tags` is the
+    /// text of the default tags, as `TagsText` has it: they come before the tags of the service check. Its own
+    /// container, if it has one, replaces the default one. Neither of these defaults is tested.
+    ///
+    /// # Errors
+    /// Those of `line`.
+    pub fn line_with<A: Allocator>(
+        &self,
+        alloc: A,
+        tags: &str,
+        container: Option<&str>,
+    ) -> Result<String<A>, LineError>
+        ensures line { MakesLine (check_refusal (check_of self.now))
+            (check_line_with tags.now (option_copied container.entry) (check_of self.now)) result }
+        ensures defaults { (defaults : List MetricTag) → tags.now ≡ tags_field defaults →
+            check_line_with tags.now (option_copied container.entry) (check_of self.now)
+            ≡ check_line
+            (check_with defaults (option_copied container.entry) (check_of self.now)) }
+    {
         if let Some(why) = self.refusal() {
             return Err(LineError::Unusable(why));
         }
-        Ok(line_of(alloc, self)?)
+        let check = ServiceCheck {
+            container: container_or(self.container, container),
+            ..*self
+        };
+        Ok(line_of(alloc, &check, tags)?)
     }
 }
 
 impl Lined for ServiceCheck<'_> {
-    ghost spelled = { λ c. check_line (check_of c) };
+    ghost spelled = { λ c tags. check_text (check_of c) (tags_after tags (check_of c).tags) };
 
-    #[tactic(auto, using(std::proofs::lemmas::Grind::common_steps), unfolding(crate::specs::ServiceCheck::check_line))]
-    fn push_to<S: PieceWriter>(&self, line: &mut S) {
+    #[tactic(auto, using(std::proofs::lemmas::Grind::common_steps), unfolding(crate::specs::ServiceCheck::check_text))]
+    fn push_to<S: PieceWriter>(&self, line: &mut S, tags: &str) {
         line.take_piece("_sc|");
         line.take_piece(self.name);
         line.take_byte(b'|');
         line.take_piece(self.status.text());
         push_seconds(line, self.time);
         push_field(line, "|h:", self.host);
-        push_tags(line, self.tags);
+        push_tags(line, tags, self.tags);
         push_field(line, "|c:", self.container);
         push_message_field(line, self.message);
     }

@@ -10,12 +10,12 @@ use std::alloc::{AllocError, Allocator};
 
 /// What has a line: an event or a service check.
 pub(crate) trait Lined {
-    ghost spelled: { Self → List ℕ };
+    ghost spelled: { Self → List ℕ → List ℕ };
 
-    // Writes the line, which is never empty.
-    fn push_to<S: PieceWriter>(&self, line: &mut S)
-        ensures taken { Takes S.ends_as line.old (Self.spelled self.now) line.new }
-        ensures some { 0 < length (Self.spelled self.now) };
+    // Writes the line, which is never empty. Its own tags come after this text of default tags.
+    fn push_to<S: PieceWriter>(&self, line: &mut S, tags: &str)
+        ensures taken { Takes S.ends_as line.old (Self.spelled self.now tags.now) line.new }
+        ensures some { 0 < length (Self.spelled self.now tags.now) };
 }
 
 /// A `PieceWriter` that only counts the bytes. It stops at `u128::MAX`.
@@ -117,31 +117,36 @@ impl<A: Allocator> PieceWriter for LineText<A> {
 }
 
 // Returns the length of a line in bytes, or `u128::MAX` if it passes that.
-fn counted<L: Lined>(source: &L) -> u128
-    ensures { result ≡ min (length (L.spelled source.now)) (2 ^ 128 - 1) }
+fn counted<L: Lined>(source: &L, tags: &str) -> u128
+    ensures { result ≡ min (length (L.spelled source.now tags.now)) (2 ^ 128 - 1) }
 {
     let mut counter = ByteCounter { length: 0 };
-    source.push_to(&mut counter);
+    source.push_to(&mut counter, tags);
     counter.length()
 }
 
-/// Returns the length of a line in bytes, or `None` if it passes `usize::MAX`. It takes no memory.
-pub(crate) fn length_of<L: Lined>(source: &L) -> Option<usize>
-    ensures { SomeIff result (length (L.spelled source.now) < 2 ^ 64)
-        (length (L.spelled source.now)) }
+/// Returns the length of a line with this text of default tags in bytes, or `None` if it passes `usize::MAX`. It takes no
+/// memory.
+pub(crate) fn length_of<L: Lined>(source: &L, tags: &str) -> Option<usize>
+    ensures { SomeIff result (length (L.spelled source.now tags.now) < 2 ^ 64)
+        (length (L.spelled source.now tags.now)) }
 {
-    usize::try_from(counted(source)).ok()
+    usize::try_from(counted(source, tags)).ok()
 }
 
-/// Returns a line. It takes memory once, as many bytes as the line has. The only error is that memory ran out, or
-/// that the length passes `usize::MAX`.
-pub(crate) fn line_of<L: Lined, A: Allocator>(alloc: A, source: &L) -> Result<String<A>, AllocError>
-    ensures { IfOk result (λ text. string_bytes text ≡ L.spelled source.now) }
+/// Returns a line with this text of default tags. It takes memory once, as many bytes as the line has. The only error is
+/// that memory ran out, or that the length passes `usize::MAX`.
+pub(crate) fn line_of<L: Lined, A: Allocator>(
+    alloc: A,
+    source: &L,
+    tags: &str,
+) -> Result<String<A>, AllocError>
+    ensures { IfOk result (λ text. string_bytes text ≡ L.spelled source.now tags.now) }
 {
-    let Some(length) = length_of(source) else {
+    let Some(length) = length_of(source, tags) else {
         return Err(AllocError);
     };
     let mut line = LineText::with_room(alloc, length)?;
-    source.push_to(&mut line);
+    source.push_to(&mut line, tags);
     Ok(line.text)
 }

@@ -215,3 +215,70 @@ fn new_ones_have_no_fields(rt: HostRuntime) -> Result<(), Fail> {
     assert!(rt; check.as_str() == "_sc|web|0");
     Ok(())
 }
+
+// The text of default tags, and a default container.
+const DEFAULTS: (&str, Option<&str>) = ("|#env:prod,x", Some("4bb1"));
+
+// Events, and the lines that they have with the defaults: own tags come last, and an own container replaces the default.
+const EVENTS_OF_A_CLIENT: &[EventRow] = &[
+    (PLAIN, Ok("_e{1,1}:a|b|#env:prod,x|c:4bb1")),
+    (
+        Event {
+            tags: &[PROD, BETA],
+            container: Some("77"),
+            ..PLAIN
+        },
+        Ok("_e{1,1}:a|b|#env:prod,x,env:prod,beta|c:77"),
+    ),
+    (
+        Event {
+            host: Some("a|b"),
+            ..PLAIN
+        },
+        Err(Unfit::Host),
+    ),
+];
+
+// The same for service checks.
+const CHECKS_OF_A_CLIENT: &[CheckRow] = &[
+    (WEB, Ok("_sc|web|0|#env:prod,x|c:4bb1")),
+    (
+        ServiceCheck {
+            tags: &[BETA],
+            container: Some("77"),
+            ..WEB
+        },
+        Ok("_sc|web|0|#env:prod,x,beta|c:77"),
+    ),
+    (
+        ServiceCheck {
+            message: Some("a|b"),
+            ..WEB
+        },
+        Err(Unfit::Message),
+    ),
+];
+
+#[test]
+fn events_of_a_client_have_its_defaults(rt: HostRuntime) -> Result<(), Fail> {
+    let (tags, container) = DEFAULTS;
+    for row in EVENTS_OF_A_CLIENT {
+        let granted = each_refused(rt.alloc(), |heap: RefusingAllocator<Global>| {
+            is_made(row.0.line_with(heap, tags, container), &row.1)
+        })?;
+        assert!(rt; granted == requests_of(&row.1));
+    }
+    Ok(())
+}
+
+#[test]
+fn service_checks_of_a_client_have_its_defaults(rt: HostRuntime) -> Result<(), Fail> {
+    let (tags, container) = DEFAULTS;
+    for row in CHECKS_OF_A_CLIENT {
+        let granted = each_refused(rt.alloc(), |heap: RefusingAllocator<Global>| {
+            is_made(row.0.line_with(heap, tags, container), &row.1)
+        })?;
+        assert!(rt; granted == requests_of(&row.1));
+    }
+    Ok(())
+}

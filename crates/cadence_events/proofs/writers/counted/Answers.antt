@@ -5,7 +5,7 @@ use Rattle.cadence_events.proofs.writers.counted.Goals as goal
 
 pub returns : goal.returns
 returns g c =
-    let line = g.L.Lined.spelled c.args.source.now in
+    let line = g.L.Lined.spelled c.args.source.now c.args.tags.now in
     let count = c.push_to.new.line.length in
     omega (
       arith,

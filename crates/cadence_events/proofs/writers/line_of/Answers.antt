@@ -5,7 +5,7 @@ use Rattle.cadence_events.proofs.writers.line_of.Goals as goal
 
 pub returns : goal.returns
 returns g c =
-    let line = g.L.Lined.spelled c.args.source.now in
+    let line = g.L.Lined.spelled c.args.source.now c.args.tags.now in
     let begun = c.in_ok-line.line in
     let ended = c.push_to.new.line in
     let end : begun.end ≡ length line = search rules in
