@@ -14,7 +14,8 @@
  * texts in memory of the host, so any number of threads and clients may read them at the same time. A client packs the
  * lines of metrics into packets. It starts no thread, takes no lock and opens no socket: the host asks for the oldest
  * finished packet (cadence_next), sends it, and then drops it (cadence_sent). A host that packs lines by itself needs
- * no client: cadence_format_signed and the calls after it write one line each.
+ * no client: cadence_format_signed and the calls after it write one line each. cadence_event and cadence_service_check
+ * keep the lines of events and of service checks, which are packed among those of metrics.
  *
  * Sums (cadence_open_sums) add lines up before a client keeps them: cadence_add_line in place of cadence_line, and then
  * cadence_flush_sums before cadence_flush. With a key (cadence_make_key) a call adds a number up and makes no line:
@@ -50,6 +51,9 @@
  * - cadence_line, cadence_flush, cadence_flush_sums: CADENCE_NO_CLIENT, CADENCE_FULL, CADENCE_NO_MEMORY.
  *   cadence_add_line and cadence_add_number: CADENCE_NO_CLIENT for the sums, then CADENCE_NOT_UTF8 for the line or
  *   CADENCE_INVALID for the key, CADENCE_NO_CLIENT for the handle, CADENCE_FULL, CADENCE_NO_MEMORY.
+ * - cadence_event, cadence_service_check: CADENCE_NOT_UTF8 for the settings, CADENCE_NO_MEMORY for the tags,
+ *   CADENCE_NOT_UTF8 for a tag, CADENCE_INVALID for a number, CADENCE_NOT_UTF8 for another text, CADENCE_UNFIT_NAME and
+ *   those after it, CADENCE_NO_MEMORY for the line, and then those of cadence_line.
  * - cadence_make_key: CADENCE_NO_CLIENT, CADENCE_NOT_UTF8, CADENCE_INVALID, CADENCE_NO_MEMORY.
  * - cadence_next: CADENCE_NO_CLIENT, CADENCE_NO_PACKET, CADENCE_TOO_SMALL. cadence_sent: the first two.
  * - cadence_held: CADENCE_NO_CLIENT, CADENCE_TOO_SMALL. cadence_drop_held: CADENCE_NO_CLIENT, CADENCE_FULL.
@@ -110,12 +114,22 @@ enum {
     CADENCE_NO_CLIENT = 1, /* the handle is closed: it has no client; or the sums are closed */
     CADENCE_NO_MEMORY = 2, /* memory ran out */
     CADENCE_FULL = 3,      /* there is no room for the packets that the call makes: send a packet, then try again */
-    CADENCE_INVALID = 4,   /* no such kind, policy or key, fewer than 2 packets, a kind without durations, a bad number */
+    CADENCE_INVALID = 4,   /* no such kind, policy, key, priority, alert type or status of a service, fewer than 2 packets,
+                              a kind without durations, a bad number */
     CADENCE_NOT_UTF8 = 5,  /* a text is not UTF-8 */
     CADENCE_NO_PACKET = 6, /* no packet waits */
     CADENCE_TOO_SMALL = 7, /* the buffer is too small: *length is the size that is needed, in bytes */
     CADENCE_SEPARATOR = 8, /* the settings are strict, and a text has a ':', a ',', a '|' or a newline */
-    CADENCE_VARIABLE = 9   /* a variable of the environment can't be used: *variable is its number */
+    CADENCE_VARIABLE = 9,  /* a variable of the environment can't be used: *variable is its number */
+    /* Of an event or a service check, the first text in the line that can't stand there. All but the message have a ':',
+     * a ',', a '|' or a newline. */
+    CADENCE_UNFIT_NAME = 10, /* the name of a service check */
+    CADENCE_UNFIT_HOST = 11,
+    CADENCE_UNFIT_KEY = 12,
+    CADENCE_UNFIT_SOURCE = 13,
+    CADENCE_UNFIT_TAGS = 14, /* the key or the text of a tag */
+    CADENCE_UNFIT_CONTAINER = 15,
+    CADENCE_UNFIT_MESSAGE = 16 /* the message of a service check, which has a '|' */
 };
 
 /* What a client does if its queue of packets is full, and a call makes one more. */
@@ -193,6 +207,80 @@ typedef struct cadence_options {
 
 #define CADENCE_NO_OPTIONS { CADENCE_NULL, 0, CADENCE_NULL, 0, { 0, 0 }, 0, false, false, false, false }
 
+/* How much an event matters. A server takes an event without a priority for a normal one. */
+enum {
+    CADENCE_NO_PRIORITY = 0,
+    CADENCE_PRIORITY_LOW = 1,
+    CADENCE_PRIORITY_NORMAL = 2
+};
+
+/* What kind of news an event is. A server takes an event without an alert type for an information. */
+enum {
+    CADENCE_NO_ALERT = 0,
+    CADENCE_ALERT_ERROR = 1,
+    CADENCE_ALERT_WARNING = 2,
+    CADENCE_ALERT_INFO = 3,
+    CADENCE_ALERT_SUCCESS = 4
+};
+
+/* The state of a service. */
+enum {
+    CADENCE_SERVICE_OK = 0,
+    CADENCE_SERVICE_WARNING = 1, /* it works, but something is wrong */
+    CADENCE_SERVICE_CRITICAL = 2, /* it doesn't work */
+    CADENCE_SERVICE_UNKNOWN = 3
+};
+
+/* An event of DogStatsD: something that happened. The title and the text may have any character: a newline is escaped.
+ * The other texts are left out if they are empty: the host, the key by which a server groups events, the source type,
+ * as "jenkins", and the container, which replaces the default one. The tags come after the default ones. If `timed` is
+ * set, the event has a time, in seconds since 1970. The lengths are in bytes. */
+typedef struct cadence_event_data {
+    const uint8_t *title;
+    size_t title_len;
+    const uint8_t *text;
+    size_t text_len;
+    const uint8_t *host;
+    size_t host_len;
+    const uint8_t *key;
+    size_t key_len;
+    const uint8_t *source;
+    size_t source_len;
+    const uint8_t *container;
+    size_t container_len;
+    const cadence_tag *tags;
+    size_t tags_len;
+    uint64_t time;
+    uint32_t priority;
+    uint32_t alert;
+    bool timed;
+} cadence_event_data;
+
+#define CADENCE_NO_EVENT                                                                                               \
+    { CADENCE_NULL, 0, CADENCE_NULL, 0, CADENCE_NULL, 0, CADENCE_NULL, 0, CADENCE_NULL, 0, CADENCE_NULL, 0,            \
+      CADENCE_NULL, 0, 0, CADENCE_NO_PRIORITY, CADENCE_NO_ALERT, false }
+
+/* A service check of DogStatsD: the state of a service. The host, the message and the container are left out if they are
+ * empty. The message says why the service is in this state: a newline and `m:` are escaped. The rest is as in an event. */
+typedef struct cadence_check_data {
+    const uint8_t *name;
+    size_t name_len;
+    const uint8_t *host;
+    size_t host_len;
+    const uint8_t *message;
+    size_t message_len;
+    const uint8_t *container;
+    size_t container_len;
+    const cadence_tag *tags;
+    size_t tags_len;
+    uint64_t time;
+    uint32_t status;
+    bool timed;
+} cadence_check_data;
+
+#define CADENCE_NO_CHECK                                                                                               \
+    { CADENCE_NULL, 0, CADENCE_NULL, 0, CADENCE_NULL, 0, CADENCE_NULL, 0, CADENCE_NULL, 0, 0, CADENCE_SERVICE_OK, false }
+
 /* The counts of a client: `held` is how many bytes are held for the next packet, and `waiting` is how many packets
  * wait. `made` is how many packets the client made in all, `sent` how many cadence_sent dropped, and `dropped` how many
  * were dropped to make room; these three are modulo 2 to the 64. */
@@ -241,6 +329,18 @@ uint32_t cadence_duration(cadence_handle *handle, const cadence_settings *settin
 /* Keeps a line that the host has made, without testing its bytes. The line is packed like the lines of the calls above.
  * Returns CADENCE_OK, CADENCE_NO_CLIENT, CADENCE_NO_MEMORY or CADENCE_FULL. */
 uint32_t cadence_line(cadence_handle *handle, const uint8_t *line, size_t line_len);
+
+/* These two calls keep the line of an event or of a service check, which is packed like that of a metric. It has the
+ * default tags and the default container of the settings, and no prefix. Sums never get it. The grammar of DogStatsD has
+ * no escape for a separator, so a text that can't stand in the line is refused, also if the settings are not strict. The
+ * texts of the settings are not tested for that: they are tested when they are made, if the settings are strict. Texts
+ * are always tested for UTF-8. They return CADENCE_OK, CADENCE_NO_CLIENT, CADENCE_NOT_UTF8 for a text of the settings or
+ * of the struct, CADENCE_INVALID for the priority, the alert type or the status of the service, CADENCE_UNFIT_HOST or
+ * another CADENCE_UNFIT_ for the text that can't stand in the line, CADENCE_NO_MEMORY or CADENCE_FULL. If it is not
+ * CADENCE_OK, nothing of the line is kept. */
+uint32_t cadence_event(cadence_handle *handle, const cadence_settings *settings, const cadence_event_data *event);
+uint32_t cadence_service_check(cadence_handle *handle, const cadence_settings *settings,
+                               const cadence_check_data *check);
 
 /* Makes a packet of the held text, if there is any. Returns CADENCE_OK, CADENCE_NO_CLIENT, CADENCE_NO_MEMORY or
  * CADENCE_FULL. */
@@ -434,12 +534,19 @@ static inline const char *cadence_status_text(uint32_t status) {
     case CADENCE_NO_CLIENT: return "the client is closed (CADENCE_NO_CLIENT)";
     case CADENCE_NO_MEMORY: return "out of memory (CADENCE_NO_MEMORY)";
     case CADENCE_FULL: return "too many packets wait: send them, then try again (CADENCE_FULL)";
-    case CADENCE_INVALID: return "an unknown kind, policy or key, or a number out of range (CADENCE_INVALID)";
+    case CADENCE_INVALID: return "an unknown kind, policy, key or the like, or a number out of range (CADENCE_INVALID)";
     case CADENCE_NOT_UTF8: return "a text is not UTF-8 (CADENCE_NOT_UTF8)";
     case CADENCE_NO_PACKET: return "no packet waits (CADENCE_NO_PACKET)";
     case CADENCE_TOO_SMALL: return "the buffer is too small (CADENCE_TOO_SMALL)";
     case CADENCE_SEPARATOR: return "a text has a separator, and the settings are strict (CADENCE_SEPARATOR)";
     case CADENCE_VARIABLE: return "a variable of the environment can't be used (CADENCE_VARIABLE)";
+    case CADENCE_UNFIT_NAME: return "separator in the name of a service check (CADENCE_UNFIT_NAME)";
+    case CADENCE_UNFIT_HOST: return "separator in the host (CADENCE_UNFIT_HOST)";
+    case CADENCE_UNFIT_KEY: return "separator in the aggregation key (CADENCE_UNFIT_KEY)";
+    case CADENCE_UNFIT_SOURCE: return "separator in the source type (CADENCE_UNFIT_SOURCE)";
+    case CADENCE_UNFIT_TAGS: return "separator in a tag (CADENCE_UNFIT_TAGS)";
+    case CADENCE_UNFIT_CONTAINER: return "separator in the container (CADENCE_UNFIT_CONTAINER)";
+    case CADENCE_UNFIT_MESSAGE: return "bar in the message of a service check (CADENCE_UNFIT_MESSAGE)";
     default: return "no status of cadence.h";
     }
 }
@@ -587,6 +694,28 @@ static inline uint32_t cadence_time_nanos(cadence_handle *handle, const cadence_
 /* Keeps a line that the host has made, like cadence_line. */
 static inline uint32_t cadence_raw(cadence_handle *handle, const char *line) {
     return cadence_line(handle, CADENCE_BYTES(line), cadence_length_of(line));
+}
+
+/* Returns an event of a title and a text that has nothing else. It points to both, so keep them alive. */
+static inline cadence_event_data cadence_event_of(const char *title, const char *text) {
+    cadence_event_data event = CADENCE_NO_EVENT;
+    event.title = CADENCE_BYTES(title);
+    event.title_len = cadence_length_of(title);
+    event.text = CADENCE_BYTES(text);
+    event.text_len = cadence_length_of(text);
+    return event;
+}
+
+/* Returns a service check of a name, a status and a message, which may be null. It points to the texts, so keep them
+ * alive. */
+static inline cadence_check_data cadence_check_of(const char *name, uint32_t status, const char *message) {
+    cadence_check_data check = CADENCE_NO_CHECK;
+    check.name = CADENCE_BYTES(name);
+    check.name_len = cadence_length_of(name);
+    check.status = status;
+    check.message = CADENCE_BYTES(message);
+    check.message_len = cadence_length_of(message);
+    return check;
 }
 
 /* Adds up a metric of one whole number: it makes the line of cadence_signed, and adds it like cadence_add_line. A line

@@ -46,13 +46,13 @@ static void texts(void) {
     snprintf(version, sizeof version, "%d.%d.%d", CADENCE_VERSION_MAJOR, CADENCE_VERSION_MINOR, CADENCE_VERSION_PATCH);
     CHECK(strcmp(version, CADENCE_VERSION) == 0);
     CHECK(strcmp(version, cadence_version()) == 0);
-    for (uint32_t status = 0; status <= 10; status++) {
+    for (uint32_t status = 0; status <= 17; status++) {
         CHECK(strlen(cadence_status_text(status)) != 0);
         for (uint32_t other = 0; other < status; other++)
             CHECK(strcmp(cadence_status_text(status), cadence_status_text(other)) != 0);
     }
     CHECK(strstr(cadence_status_text(CADENCE_FULL), "(CADENCE_FULL)") != NULL);
-    CHECK(strcmp(cadence_status_text(10), cadence_status_text(UINT32_MAX)) == 0);
+    CHECK(strcmp(cadence_status_text(17), cadence_status_text(UINT32_MAX)) == 0);
 }
 
 static void helpers(void) {

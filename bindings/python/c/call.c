@@ -2,6 +2,15 @@
 /* Reads the arguments of a call that makes a metric. */
 #include "core.h"
 
+bool time_of(PyObject *time, bool *timed, uint64_t *to) {
+    *timed = time != Py_None;
+    if (!*timed) return true;
+    PyObject *whole = PyFloat_Check(time) ? PyNumber_Long(time) : PyNumber_Index(time); /* without parts of a second */
+    if (whole != NULL) *to = PyLong_AsUnsignedLongLong(whole);
+    Py_XDECREF(whole);
+    return !PyErr_Occurred();
+}
+
 /* Reads the options of a call: its rate if that isn't 1, its container, and its time. Returns false if it has set an
  * exception. */
 static bool read_options(call *c, PyObject *parts, PyObject *rate, PyObject *container, PyObject *time) {
@@ -11,12 +20,7 @@ static bool read_options(call *c, PyObject *parts, PyObject *rate, PyObject *con
     c->options.contained = container != Py_None;
     if (c->options.contained && !text_of(container, &c->tags.texts, &c->options.container, &c->options.container_len))
         return false;
-    c->options.timed = time != Py_None;
-    if (!c->options.timed) return true;
-    PyObject *whole = PyFloat_Check(time) ? PyNumber_Long(time) : PyNumber_Index(time); /* without parts of a second */
-    if (whole != NULL) c->options.time = PyLong_AsUnsignedLongLong(whole);
-    Py_XDECREF(whole);
-    return !PyErr_Occurred();
+    return time_of(time, &c->options.timed, &c->options.time);
 }
 
 bool call_begin(call *c, PyObject *parts, PyObject *const *args, Py_ssize_t count) {

@@ -251,6 +251,18 @@ static PyObject *packer_keep(packer *self, PyObject *const *args, Py_ssize_t cou
     return made;
 }
 
+static PyObject *packer_event(packer *self, PyObject *const *args, Py_ssize_t count) {
+    uint32_t status;
+    if (!follow_fork(self)) return NULL;
+    return keep_event(&self->handle, &self->settings, args, count, &status) ? answer(self, status) : NULL;
+}
+
+static PyObject *packer_check(packer *self, PyObject *const *args, Py_ssize_t count) {
+    uint32_t status;
+    if (!follow_fork(self)) return NULL;
+    return keep_check(&self->handle, &self->settings, args, count, &status) ? answer(self, status) : NULL;
+}
+
 static PyObject *packer_line(packer *self, PyObject *line) {
     const uint8_t *at;
     size_t len;
@@ -314,6 +326,10 @@ static PyObject *packer_counts(packer *self, PyObject *unused) {
 static PyMethodDef methods[] = {
     { "keep", (PyCFunction)(void (*)(void))packer_keep, METH_FASTCALL,
       "keep(kind, form, stat, value, rate, tags, container, timestamp): keeps a metric, and returns whether that made a packet." },
+    { "event", (PyCFunction)(void (*)(void))packer_event, METH_FASTCALL,
+      "event(title, text, timestamp, hostname, key, priority, source, alert, tags, container): keeps an event, as keep does." },
+    { "check", (PyCFunction)(void (*)(void))packer_check, METH_FASTCALL,
+      "check(name, status, timestamp, hostname, message, tags, container): keeps a service check, as keep does." },
     { "line", (PyCFunction)packer_line, METH_O, "Keeps a line as it is, and returns whether that made a packet." },
     { "flush", (PyCFunction)packer_flush, METH_NOARGS, "Makes packets of all that is held, and returns whether there was any." },
     { "take", (PyCFunction)packer_take, METH_NOARGS, "Removes and returns the oldest packet, or returns None." },

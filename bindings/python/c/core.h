@@ -30,6 +30,7 @@ bool decimal_of(PyObject *value, PyObject *parts, bool in_millis, cadence_decima
 bool values_begin(values_of_call *values, PyObject *value, PyObject *parts, bool in_millis);
 void values_end(values_of_call *values);
 bool text_of(PyObject *value, PyObject **texts, const uint8_t **at, size_t *len);
+bool time_of(PyObject *time, bool *timed, uint64_t *to);
 bool tags_begin(tags_of_call *tags, PyObject *given);
 void tags_end(tags_of_call *tags);
 
@@ -48,6 +49,11 @@ typedef struct {
  * `parts` is the function of statsd_proved.decimals. call_end has to be called in any case. */
 bool call_begin(call *c, PyObject *parts, PyObject *const *args, Py_ssize_t count);
 void call_end(call *c);
+
+/* events.c: keep the line of an event or of a service check of these arguments, and set the status. Return false if they have
+ * set an exception. */
+bool keep_event(cadence_handle *handle, const cadence_settings *settings, PyObject *const *args, Py_ssize_t count, uint32_t *status);
+bool keep_check(cadence_handle *handle, const cadence_settings *settings, PyObject *const *args, Py_ssize_t count, uint32_t *status);
 
 /* Returns what a module of the package has under this name. Each interpreter of the process has objects of its own. */
 PyObject *object_of(const char *module, const char *name);

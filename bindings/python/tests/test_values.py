@@ -196,9 +196,8 @@ class Statuses(ClientTest):
             StatsClient(*self.receiver.address, packets=2 ** 60)
 
     def test_names_are_the_headers(self):
-        found = re.findall(r"^    CADENCE_(\w+) = (\d),? +/\* ", HEADER.read_text().partition("/* What a client does")[0], re.M)
-        self.assertEqual({name: int(value) for name, value in found},
-                         {status.name: status.value for status in Status if status})
+        found = re.findall(r"^    CADENCE_(\w+) = (\d+),?(?: +/\*|$)", HEADER.read_text().partition("/* What a client does")[0], re.M)
+        self.assertEqual({name: int(value) for name, value in found}, {status.name: status.value for status in Status})
 
 
 if __name__ == "__main__":

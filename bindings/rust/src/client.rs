@@ -1,7 +1,7 @@
 // SPDX-License-Identifier: MIT OR Apache-2.0
 //! The client, its builder and the traits of its calls.
 use crate::builder::MetricBuilder;
-use crate::layout::{Kind, Options, Tag};
+use crate::layout::{Kind, Options, Settings, Tag};
 use crate::line::Record;
 use crate::raw::{call_refusal, Numbers, OwnedSettings, Parts, OK};
 use crate::sealed::Sealed;
@@ -163,6 +163,11 @@ impl StatsdClient {
             OK => Ok(()),
             status => Err(call_refusal(status)),
         }
+    }
+
+    /// Returns the settings as the library reads them.
+    pub(crate) fn settings(&self) -> &Settings<'_> {
+        self.settings.lend()
     }
 
     /// Makes the line of a record, sends it, and returns its metric.

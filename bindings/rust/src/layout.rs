@@ -191,6 +191,93 @@ impl<'a> Options<'a> {
     }
 }
 
+/// An event as the library reads it. A text that is empty is left out, but for the title and the text.
+#[repr(C)]
+#[derive(Clone, Copy)]
+pub(crate) struct EventData<'a> {
+    title: Slice<'a, u8>,
+    text: Slice<'a, u8>,
+    host: Slice<'a, u8>,
+    key: Slice<'a, u8>,
+    source: Slice<'a, u8>,
+    container: Slice<'a, u8>,
+    tags: Slice<'a, Tag<'a>>,
+    time: u64,
+    priority: u32,
+    alert: u32,
+    timed: bool,
+}
+
+/// A service check as the library reads it. A text that is empty is left out, but for the name.
+#[repr(C)]
+#[derive(Clone, Copy)]
+pub(crate) struct CheckData<'a> {
+    name: Slice<'a, u8>,
+    host: Slice<'a, u8>,
+    message: Slice<'a, u8>,
+    container: Slice<'a, u8>,
+    tags: Slice<'a, Tag<'a>>,
+    time: u64,
+    status: u32,
+    timed: bool,
+}
+
+macro_rules! setters {
+    ($data:ident: $($set:ident of $field:ident)*) => {
+        impl<'a> $data<'a> {
+            $(pub(crate) fn $set(&mut self, text: &'a str) {
+                self.$field = Slice::new(text.as_bytes());
+            })*
+
+            pub(crate) fn set_time(&mut self, time: u64) {
+                (self.time, self.timed) = (time, true);
+            }
+
+            /// Returns the same with these tags.
+            pub(crate) fn with_tags<'b>(&'b self, tags: &'b [Tag<'a>]) -> $data<'b> {
+                $data { tags: Slice::new(tags), ..*self }
+            }
+        }
+    };
+}
+
+setters!(EventData: set_host of host set_key of key set_source of source set_container of container);
+setters!(CheckData: set_host of host set_message of message set_container of container);
+
+impl<'a> EventData<'a> {
+    pub(crate) fn new(title: &'a str, text: &'a str) -> Self {
+        let (none, [title, text]) = (Slice::new(&[]), [title, text].map(|text| Slice::new(text.as_bytes())));
+        EventData {
+            title,
+            text,
+            host: none,
+            key: none,
+            source: none,
+            container: none,
+            tags: Slice::new(&[]),
+            time: 0,
+            priority: 0,
+            alert: 0,
+            timed: false,
+        }
+    }
+
+    pub(crate) fn set_priority(&mut self, priority: u32) {
+        self.priority = priority;
+    }
+
+    pub(crate) fn set_alert(&mut self, alert: u32) {
+        self.alert = alert;
+    }
+}
+
+impl<'a> CheckData<'a> {
+    pub(crate) fn new(name: &'a str, status: u32) -> Self {
+        let (name, none) = (Slice::new(name.as_bytes()), Slice::new(&[]));
+        CheckData { name, host: none, message: none, container: none, tags: Slice::new(&[]), time: 0, status, timed: false }
+    }
+}
+
 #[cfg(test)]
 #[path = "../tests/unit/layout.rs"]
 mod tests;

@@ -44,7 +44,8 @@
 //! waits until queued lines are sent, before the process ends. [`StatsdClient::timer`] times a scope. A queue's builder
 //! has a [policy](QueuingMetricSinkBuilder::with_policy) and a [period](QueuingMetricSinkBuilder::with_flush_period).
 //! [`AggregatingMetricSink`] adds lines up before it sends them, and adds numbers up by a [`LineKey`] without making a
-//! line. [`Environment`] is what the variables of the process, such as `DD_AGENT_HOST`, say about a client.
+//! line. [`StatsdClient::event`] and [`StatsdClient::service_check`] send what DogStatsD has beside metrics. [`Environment`] is
+//! what the variables of the process, such as `DD_AGENT_HOST`, say about a client.
 //!
 //! # The library
 //!
@@ -62,6 +63,7 @@ pub use self::client::{
     Timed,
 };
 pub use self::environment::{Environment, EnvironmentError, Target};
+pub use self::event::{AlertType, Event, EventBuilder, Priority, ServiceCheck, ServiceCheckBuilder, ServiceStatus};
 pub use self::guard::TimingGuard;
 pub use self::sinks::{
     AggregatingMetricSink, AggregatingMetricSinkBuilder, BufferedSpyMetricSink, BufferedUdpMetricSink,
@@ -75,6 +77,7 @@ pub use self::types::{
 mod builder;
 mod client;
 mod environment;
+mod event;
 pub mod ext;
 mod guard;
 mod io;

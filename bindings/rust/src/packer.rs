@@ -2,8 +2,9 @@
 //! The packer of the library, which needs one call at a time.
 //!
 //! Its `unsafe` code is safe for the reasons of `raw.rs`, and because each call that uses a handle takes `&mut self`.
-use crate::layout::Handle;
-use crate::raw::{checked, OK, TOO_SMALL};
+use crate::layout::{CheckData, EventData, Handle, Settings};
+use crate::raw::{call_refusal, checked, OK, TOO_SMALL};
+use crate::types::MetricResult;
 use std::{fmt, io};
 
 /// What the library does if a packet is made and as many wait as may: it refuses the call.
@@ -13,6 +14,8 @@ unsafe extern "C" {
     fn cadence_open(handle: *mut Handle, capacity: usize, packets: usize, policy: u32) -> u32;
     fn cadence_free(handle: *mut Handle);
     fn cadence_line(handle: *mut Handle, line: *const u8, len: usize) -> u32;
+    fn cadence_event(handle: *mut Handle, settings: *const Settings<'_>, event: *const EventData<'_>) -> u32;
+    fn cadence_service_check(handle: *mut Handle, settings: *const Settings<'_>, check: *const CheckData<'_>) -> u32;
     fn cadence_held(handle: *mut Handle, buf: *mut u8, room: usize, size: *mut usize) -> u32;
     fn cadence_drop_held(handle: *mut Handle) -> u32;
     fn cadence_next(handle: *mut Handle, buf: *mut u8, room: usize, size: *mut usize) -> u32;
@@ -98,6 +101,38 @@ impl Packer {
     pub(crate) fn drop_oldest(&mut self) {
         // SAFETY: as in `keep`.
         unsafe { cadence_sent(&mut self.handle) };
+    }
+}
+
+/// What the library makes a line of and keeps it.
+pub(crate) trait Kept {
+    /// Keeps the line in a handle, and returns the status.
+    fn keep(&self, handle: &mut Handle, settings: &Settings<'_>) -> u32;
+}
+
+impl Kept for EventData<'_> {
+    fn keep(&self, handle: &mut Handle, settings: &Settings<'_>) -> u32 {
+        // SAFETY: the handle is open and borrowed by this call alone, and each pointer in a struct comes with the length of
+        // its slice.
+        unsafe { cadence_event(handle, settings, self) }
+    }
+}
+
+impl Kept for CheckData<'_> {
+    fn keep(&self, handle: &mut Handle, settings: &Settings<'_>) -> u32 {
+        // SAFETY: as above.
+        unsafe { cadence_service_check(handle, settings, self) }
+    }
+}
+
+/// Returns the line of an event or a service check. It fails with `InvalidInput` if a text can't stand in the line.
+pub(crate) fn line_kept_by(settings: &Settings<'_>, kept: &impl Kept) -> MetricResult<String> {
+    // a packer whose packets have no room makes a packet of the line alone, without a newline
+    let mut packer = Packer::with_packets(0, 2)?;
+    match kept.keep(&mut packer.handle, settings) {
+        // SAFETY: the line consists of texts, each of which was a `&str`, and ASCII characters.
+        OK => Ok(unsafe { std::str::from_utf8_unchecked(packer.next().unwrap_or_default()) }.to_string()),
+        status => Err(call_refusal(status)),
     }
 }
 

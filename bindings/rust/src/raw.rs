@@ -98,6 +98,19 @@ pub(crate) const INVALID: u32 = 4;
 pub(crate) const TOO_SMALL: u32 = 7;
 const SEPARATOR: u32 = 8;
 const VARIABLE: u32 = 9;
+const UNFIT: u32 = 10;
+
+/// What is wrong with a text that can't stand in the line of an event or a service check: that of the status `UNFIT`, and of
+/// those after it.
+const UNFIT_TEXTS: [&str; 7] = [
+    "separator in the name of a service check",
+    "separator in the host",
+    "separator in the aggregation key",
+    "separator in the source type",
+    "separator in a tag",
+    "separator in the container",
+    "bar in the message of a service check",
+];
 
 /// Declares the calls that write a line, and their type. `values` points to numbers of the type that the call expects.
 macro_rules! formats {
@@ -174,7 +187,10 @@ pub(crate) fn call_refusal(status: u32) -> MetricError {
     match status {
         SEPARATOR => (ErrorKind::InvalidInput, "separator in a text").into(),
         INVALID => (ErrorKind::InvalidInput, "a float is NaN, infinite or too large").into(),
-        status => refusal(status).into(),
+        status => match UNFIT_TEXTS.get(status.wrapping_sub(UNFIT) as usize) {
+            Some(text) => (ErrorKind::InvalidInput, *text).into(),
+            None => refusal(status).into(),
+        },
     }
 }
 

@@ -8,4 +8,5 @@ pub mod Lists
 pub mod Runs
 mod Variables
 mod Results
+mod EventLines
 mod GivenLines

@@ -8,6 +8,7 @@ pub mod Results
 pub mod Slot
 pub mod Run
 pub mod Handle
+pub mod Events
 pub mod Sums
 pub mod SumsHandle
 pub mod SumsKeys

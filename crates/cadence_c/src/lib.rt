@@ -4,6 +4,7 @@
 //! - `value`: the values of a call
 //! - `settings`: the settings, as texts that the host keeps
 //! - `texts`: the calls that make the texts of settings
+//! - `events`: the calls for events and service checks
 //! - `environment`: what the variables of the environment say
 //! - `variable`: the variables by their numbers in C
 //! - `line`: the line of a call
@@ -22,6 +23,7 @@ mod box_parts;
 mod call;
 mod client;
 mod environment;
+mod events;
 mod floats;
 mod format;
 mod handle;

@@ -16,6 +16,13 @@ class Status(enum.IntEnum):
     TOO_SMALL = 7
     SEPARATOR = 8
     VARIABLE = 9
+    UNFIT_NAME = 10
+    UNFIT_HOST = 11
+    UNFIT_KEY = 12
+    UNFIT_SOURCE = 13
+    UNFIT_TAGS = 14
+    UNFIT_CONTAINER = 15
+    UNFIT_MESSAGE = 16
 
 
 class StatusError(ValueError):

@@ -6,8 +6,8 @@ import abc
 import datetime
 import decimal
 import random
-from collections.abc import Iterator, Mapping
-from typing import Any, Protocol, TypeVar, Union
+from collections.abc import Callable, Iterator, Mapping
+from typing import Any, Literal, Protocol, TypeVar, Union
 
 from ._core import Packer
 from .timer import Timer
@@ -30,6 +30,9 @@ Tags = Union[Mapping[str, object], tuple[Tag, ...], Several[Tag]]
 """Tags: a dict, or a list whose elements are texts ("page:home", "beta") or pairs of a key and a text. An object that is no
 str is printed as `str` does, but bytes and objects that have others in them are refused."""
 
+Priority = Literal["low", "normal"]
+AlertType = Literal["error", "warning", "info", "success"]
+
 COUNTER, TIMER, GAUGE, METER, HISTOGRAM, SET, DISTRIBUTION = range(7)
 PLAIN, CHANGE, LEVEL = range(3)  # forms of a gauge: as any metric, a change by a value, a value that may be below 0
 
@@ -40,13 +43,15 @@ def _millis(time: Any) -> Any:
 
 
 class Metrics(abc.ABC):
-    """Calls that make metrics.
+    """Calls that make metrics, events and service checks.
 
-    Each call takes a `rate`. If the rate is below 1, only this share of the calls is kept, chosen at random, and the
-    line has the rate, by which the server scales. Each call also takes `tags`, a `container` and a `timestamp` (seconds
-    since 1970, rounded down), which servers with the Datadog fields read. A value is an int, a float or a Decimal. An
-    empty list of values is refused, because no server reads a metric without a value.
+    Each call of a metric takes a `rate`. If the rate is below 1, only this share of the calls is kept, chosen at random,
+    and the line has the rate, by which the server scales. Each call also takes `tags`, a `container` and a `timestamp`
+    (seconds since 1970, rounded down), which servers with the Datadog fields read. A value is an int, a float or a
+    Decimal. An empty list of values is refused, because no server reads a metric without a value.
     """
+
+    OK, WARNING, CRITICAL, UNKNOWN = range(4)  # the states of a service
 
     _packer: Packer
 
@@ -105,13 +110,23 @@ class Metrics(abc.ABC):
 
     def raw(self, line: str) -> None:
         """Keeps a line as it is, without the prefix and the tags of the client. A strict client doesn't test it either."""
-        try:
-            made_packet = self._packer.line(line)
-        except Exception as fault:
-            if self._bad(fault):
-                raise
-            return
-        self._kept(made_packet)
+        self._keep_by(self._packer.line, line)
+
+    def event(self, title: str, text: str, *, timestamp: float | None = None, hostname: str | None = None,
+              aggregation_key: str | None = None, priority: Priority | None = None, source_type: str | None = None,
+              alert_type: AlertType | None = None, tags: Tags | None = None, container: str | None = None) -> None:
+        """Sends an event of DogStatsD: something that happened, with a title and a text that people read. Both may have any
+        character: a newline is escaped. Another text with a colon, a comma, a bar or a newline is refused, also if the client
+        isn't strict. A tag that is a text, as "page:home", is cut at its first colon unless the client is strict. The line
+        has the tags and the container of the client, but not the prefix."""
+        self._keep_by(self._packer.event, title, text, timestamp, hostname, aggregation_key, priority, source_type, alert_type,
+                      tags, container)
+
+    def service_check(self, name: str, status: int, *, tags: Tags | None = None, timestamp: float | None = None,
+                      hostname: str | None = None, message: str | None = None, container: str | None = None) -> None:
+        """Sends a service check of DogStatsD: the state of a service, which is OK, WARNING, CRITICAL or UNKNOWN of this class.
+        The message may have any character but a bar: a newline and `m:` are escaped. The rest is as in `event`."""
+        self._keep_by(self._packer.check, name, status, timestamp, hostname, message, tags, container)
 
     def timer(self, stat: str, rate: float = 1, *, tags: Tags | None = None, container: str | None = None,
               timestamp: float | None = None) -> Timer:
@@ -128,6 +143,15 @@ class Metrics(abc.ABC):
             else:
                 rate = 1
             made_packet = self._packer.keep(kind, form, stat, value, rate, tags, container, timestamp)
+        except Exception as fault:
+            if self._bad(fault):
+                raise
+            return
+        self._kept(made_packet)
+
+    def _keep_by(self, keep: Callable[..., bool], *arguments: Any) -> None:
+        try:
+            made_packet = keep(*arguments)
         except Exception as fault:
             if self._bad(fault):
                 raise

@@ -23,6 +23,10 @@ fn layouts_are_those_of_the_header() {
         layout!("settings" Settings<'_>: prefix.at prefix.len tags.at tags.len container.at container.len contained strict),
         layout!("decimal" Decimal: mantissa places),
         layout!("options" Options<'_>: tags.at tags.len container.at container.len rate time contained rated timed known),
+        layout!("event" EventData<'_>: title.at title.len text.at text.len host.at host.len key.at key.len source.at source.len
+            container.at container.len tags.at tags.len time priority alert timed),
+        layout!("check" CheckData<'_>: name.at name.len host.at host.len message.at message.len container.at container.len
+            tags.at tags.len time status timed),
     ];
     for line in ours {
         assert!(header.lines().any(|theirs| theirs == line), "{line}");
